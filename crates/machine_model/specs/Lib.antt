@@ -1,0 +1,7 @@
+pub mod Areas
+pub mod Causes
+pub mod States
+pub mod Images
+pub mod Moments
+pub mod Calls
+pub mod Pushes

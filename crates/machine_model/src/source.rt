@@ -1,0 +1,34 @@
+ghost use Rattle.std.specs.Prelude.{◌≡◌, ◌≤◌, ◌^◌, ◌-◌, ◌++◌, [], length, take, IfOk, OnErr};
+ghost use Rattle.machine_model.specs.States.{SourceState};
+ghost use Rattle.machine_model.specs.Causes.{HasCause};
+
+use crate::Failed;
+
+/// A stream of bytes that come in, as standard input.
+pub trait Source {
+    /// Whether the source tells what it has left: then clauses on content hold.
+    ghost source_tells: { Type 0 };
+
+    /// The bytes left and the count of faults.
+    ghost source: { Self → SourceState };
+
+    /// The source came from the first state to the second by calls of this trait alone.
+    ghost only: { Self → Self → Type 0 };
+
+    /// Takes the next bytes into the front of `buf`, and answers how many. With an empty buffer it
+    /// answers 0; with another one, 0 is the end of the input. `Failed` takes nothing.
+    fn pull(&mut self, buf: &mut [u8]) -> Result<usize, Failed>
+        ensures only { only self.old self.new }
+        ensures cause { HasCause (source self.old).faults (source self.new).faults result }
+        ensures count { IfOk result (λ n. n ≤ length buf.new) }
+        ensures bytes { source_tells → IfOk result (λ n. (source self.old).left ≡ take n buf.new ++ (source self.new).left) }
+        // 0 is the end of the input
+        ensures end { source_tells → IfOk result (λ n. n ≡ 0 → 1 ≤ length buf.new → (source self.old).left ≡ []) }
+        ensures failed { source_tells → OnErr result ((source self.new).left ≡ (source self.old).left) };
+
+    ghost only_same: { (x : Self) → only x x };
+    ghost only_joins: { (x y z : Self) → only x y → only y z → only x z };
+    ghost only_faults: { (x y : Self) → only x y → (source x).faults ≤ (source y).faults };
+    // the count is that of a real machine's counter
+    ghost faults_limit: { (x : Self) → (source x).faults ≤ 2 ^ 64 - 1 };
+}
