@@ -1,0 +1,16 @@
+use crate::text::VersionText;
+use time_base::{DocId, Time};
+
+/// An entry of an archive's history.
+#[derive(Debug, Drop)]
+pub enum Entry {
+    /// A new version of a document.
+    Arrive {
+        /// The document.
+        doc: DocId,
+        /// When the version is created.
+        at: Time,
+        /// Its text, of at most `MOST_TEXT_BYTES` bytes.
+        text: VersionText,
+    },
+}
