@@ -49,17 +49,26 @@ fn extents_take_whole_pages(rt: HostRuntime) {
 }
 
 #[test]
-fn postings_come_by_document_and_then_by_start(rt: HostRuntime) {
-    let mut list = [(2, 10, 1), (1, 30, 1), (1, 20, 9)].map(|(doc, from, tf)| {
-        Span::new(from, 40).map(|span| Posting {
-            doc: DocId(doc),
-            tf,
-            span,
-        })
-    });
-    list.sort_unstable();
-    let starts = list.map(|p| p.map(|p| (p.doc.0, p.span.from)));
-    assert_eq!(rt; starts, [Some((1, 20)), Some((1, 30)), Some((2, 10))]);
+fn postings_come_by_document_and_then_by_start(rt: HostRuntime) -> Result<(), Fail> {
+    let early = Span::new(20, 40).ok_or("the span [20, 40)")?;
+    let late = Span::new(30, 40).ok_or("the span [30, 40)")?;
+    let first = Posting {
+        doc: DocId(1),
+        span: early,
+        tf: 9,
+    };
+    let second = Posting {
+        doc: DocId(1),
+        span: late,
+        tf: 1,
+    };
+    let third = Posting {
+        doc: DocId(2),
+        span: early,
+        tf: 1,
+    };
+    assert!(rt; first < second && second < third);
+    Ok(())
 }
 
 #[test]
