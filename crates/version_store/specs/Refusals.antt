@@ -1,12 +1,12 @@
 -- Why a change of a document isn't allowed after others, by a list of tests in their order.
-use Rattle.std.specs.Prelude.{◌==◌, ◌&&◌, nat_lt, nat_le, List, [], ◌∷◌, length, Option, is_none, option_and_then}
+use Rattle.std.specs.Prelude.{◌==◌, ◌&&◌, nat_lt, nat_le, List, [], ◌∷◌, length, Option, is_none, is_some, not, option_and_then}
 use Rattle.time_base.specs.Limits.{limit_of}
 use Rattle.time_base.specs.declared.ids.DocId.{DocId}
 use Rattle.time_base.specs.declared.time.Time.{Time}
 use Rattle.time_base.specs.declared.which.Which.TheVariants.{Documents, Versions}
 use Rattle.version_store.specs.declared.change.Change.{Change}
 use Rattle.version_store.specs.declared.refusal.VersionRefusal.{VersionRefusal}
-use Rattle.version_store.specs.declared.refusal.VersionRefusal.TheVariants.{TimeBack, SameTime, Full}
+use Rattle.version_store.specs.declared.refusal.VersionRefusal.TheVariants.{TimeBack, SameTime, NoDocument, Full}
 use Rattle.version_store.specs.Changes.{last_time, latest, documents}
 use Rattle.version_store.specs.Tests.{first_of, when}
 
@@ -29,3 +29,11 @@ full_versions changes = when (nat_le (limit_of Versions) (length changes)) (Full
 -- why an arrival isn't allowed after these changes: the first cause in order
 abbrev pub arrive_refusal : {A : Type 0} → DocId → Time → List (Change A) → Option VersionRefusal
 arrive_refusal doc at changes = first_of (time_back at changes ∷ same_time doc at changes ∷ full_documents doc changes ∷ full_versions changes ∷ [])
+
+-- the document has no change, or its latest is a tombstone
+abbrev pub no_document : {A : Type 0} → DocId → List (Change A) → Option VersionRefusal
+no_document doc changes = when (is_none (option_and_then (λ c. c.held) (latest doc changes))) NoDocument
+
+-- why a deletion isn't allowed after these changes: the first cause in order
+abbrev pub delete_refusal : {A : Type 0} → DocId → Time → List (Change A) → Option VersionRefusal
+delete_refusal doc at changes = first_of (time_back at changes ∷ no_document doc changes ∷ same_time doc at changes ∷ full_versions changes ∷ [])

@@ -1,0 +1,34 @@
+//! Why a call of an archive didn't do its work.
+ghost use Rattle.std.specs.Prelude.{◌≡◌};
+ghost use Rattle.archive_core.specs.declared.error.LoadError.TheVariants as load_errors;
+ghost use Rattle.archive_core.specs.declared.error.ChangeError.TheVariants as change_errors;
+
+use archive_state::Refusal;
+use std::alloc::{AllocError, AllocFailed};
+
+/// Why an archive was not loaded.
+#[derive(Clone, Copy, Debug, PartialEq, Eq)]
+pub enum LoadError {
+    /// A call of the disk failed.
+    Failed,
+    /// The journal is no archive's, which shows at that place: of a byte that differs from the
+    /// header, of an open gate whose record lies past the end or isn't legal, or of the first field
+    /// of an entry that isn't allowed.
+    NotArchive {
+        /// The place in the journal.
+        at: u64,
+    },
+    /// There was no memory.
+    Memory,
+}
+
+/// Why a change was not made.
+#[derive(Clone, Copy, Debug, PartialEq, Eq)]
+pub enum ChangeError {
+    /// It isn't allowed; nothing was changed.
+    Refused(Refusal),
+    /// A call of the disk failed. The archive is spent: whether it has the change shows when it is loaded again.
+    Failed,
+    /// There was no memory. The archive is spent; loaded again, it is as before the change.
+    Memory,
+}
