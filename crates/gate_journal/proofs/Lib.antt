@@ -1,0 +1,5 @@
+pub mod SpellingLemmas
+pub mod WriteLemmas
+pub mod TornLemmas
+pub mod AppendLemmas
+pub mod PagesLemmas
