@@ -1,0 +1,4 @@
+pub mod Listed
+pub mod Latest
+pub mod Known
+pub mod Indexed
