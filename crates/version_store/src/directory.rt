@@ -2,7 +2,7 @@
 ghost use Rattle.std.specs.Prelude.{◌≡◌, ◌+◌, ◌≤◌, ◌<◌, [], ◌∷◌, ◌++◌, length, Some, None, IfOk, OnOk, MatchResult};
 ghost use Rattle.time_base.specs.Limits.{limit_of};
 ghost use Rattle.version_store.specs.Changes.{last_time, latest, documents};
-ghost use Rattle.version_store.specs.Refusals.{arrive_refusal, time_back};
+ghost use Rattle.version_store.specs.Refusals.{arrive_refusal, delete_refusal, time_back};
 
 use crate::change::Change;
 use crate::link::Link;
@@ -117,6 +117,35 @@ impl Directory {
         Ok(())
     }
 
+    /// Whether the document may be deleted at that time, or the first cause why not. It costs one
+    /// look-up.
+    pub fn may_delete(&self, doc: DocId, at: Time) -> Result<(), VersionRefusal>
+        ensures { MatchResult result (λ _. delete_refusal doc at self.now.changes ≡ None) (λ e. delete_refusal doc at self.now.changes ≡ Some e) }
+    {
+        if let Some(last) = self.last() {
+            if at.seconds < last.seconds {
+                return Err(VersionRefusal::TimeBack { last });
+            }
+        }
+        let Some(
+            Change {
+                at: since,
+                held: Some(_),
+                ..
+            },
+        ) = self.latest(doc)
+        else {
+            return Err(VersionRefusal::NoDocument);
+        };
+        if since.seconds == at.seconds {
+            return Err(VersionRefusal::SameTime);
+        }
+        if Which::Versions.limit() <= self.len() as u64 {
+            return Err(full(Which::Versions));
+        }
+        Ok(())
+    }
+
     /// Makes room for one change of any document, so that it takes no memory. Its cost is constant
     /// on average over the changes; an `Err` leaves the changes as they were.
     pub fn reserve(&mut self, _doc: DocId) -> Result<(), AllocError>
@@ -139,6 +168,19 @@ impl Directory {
             doc,
             at,
             held: Some(text),
+        });
+    }
+
+    /// Adds the document's deletion. It takes no memory. It costs two look-ups.
+    pub fn delete(&mut self, doc: DocId, at: Time)
+        requires allowed { delete_refusal doc at self.old.changes ≡ None }
+        requires room { 1 ≤ self.old.room }
+        ensures { self.new.changes ≡ self.old.changes ++ record { doc = doc; at = at; held = None } ∷ [] }
+    {
+        self.note(Change {
+            doc,
+            at,
+            held: None,
         });
     }
 
