@@ -2,3 +2,4 @@ pub mod Listed
 pub mod Latest
 pub mod Known
 pub mod Indexed
+pub mod Mapped
