@@ -23,13 +23,15 @@ abbrev pub IsPlace : ℕ → ℕ → Option TextPlace → Type 0
 IsPlace at bytes None = ⊥
 IsPlace at bytes (Some place) = (place.at ≡ at) × (place.bytes ≡ bytes)
 
--- these are the changes that the entries make, with the places of the texts; the first entry's gate is at this place
+-- this is the change that an entry makes, with the place of its text; the entry's gate is at this place
+abbrev pub IsPlaced : ℕ → Entry → Change TextPlace → Type 0
+IsPlaced gate (Arrive doc at text) change = (change.doc ≡ doc) × (change.at ≡ at) × IsPlace (gate + 18) (length text) change.held
+IsPlaced gate (Delete doc at) change = (change.doc ≡ doc) × (change.at ≡ at) × (change.held ≡ None)
+
+-- these are the changes that entries make, with the places of the texts; the first entry's gate is at this place
 abbrev pub ArePlaced : ℕ → History → List (Change TextPlace) → Type 0
 ArePlaced gate [] [] = Unit {0}
-ArePlaced gate (Arrive doc at text ∷ entries) (change ∷ changes) = (change.doc ≡ doc) × (change.at ≡ at) × IsPlace (gate + 18) (length text) change.held
-    × ArePlaced (gate + 5 + length (spelling (Arrive doc at text))) entries changes
-ArePlaced gate (Delete doc at ∷ entries) (change ∷ changes) = (change.doc ≡ doc) × (change.at ≡ at) × (change.held ≡ None)
-    × ArePlaced (gate + 5 + length (spelling (Delete doc at))) entries changes
+ArePlaced gate (entry ∷ entries) (change ∷ changes) = IsPlaced gate entry change × ArePlaced (gate + 5 + length (spelling entry)) entries changes
 ArePlaced gate [] (change ∷ changes) = ⊥
 ArePlaced gate (entry ∷ entries) [] = ⊥
 

@@ -1,7 +1,5 @@
 //! Why a call of an archive didn't do its work.
 ghost use Rattle.std.specs.Prelude.{◌≡◌};
-ghost use Rattle.archive_core.specs.declared.error.LoadError.TheVariants as load_errors;
-ghost use Rattle.archive_core.specs.declared.error.ChangeError.TheVariants as change_errors;
 
 use archive_state::Refusal;
 use std::alloc::{AllocError, AllocFailed};
@@ -31,4 +29,15 @@ pub enum ChangeError {
     Failed,
     /// There was no memory. The archive is spent; loaded again, it is as before the change.
     Memory,
+}
+
+impl From<AllocError> for ChangeError {
+    ghost use Rattle.archive_core.specs.declared.error.ChangeError.TheVariants.{Memory};
+    ghost use Rattle.std.specs.Prelude.{◌≡◌};
+
+    ghost from_gives = { λ _ e. e ≡ Memory };
+
+    fn from(_: AllocError) -> Self {
+        ChangeError::Memory
+    }
 }

@@ -8,6 +8,7 @@
 
 mod archive;
 mod error;
+mod text;
 
 pub use archive::Archive;
 pub use error::{ChangeError, LoadError};
