@@ -1,5 +1,5 @@
 -- One entry more: what the archive stands for then, and what each image left stands for.
-use Rattle.std.proofs.Common.{◌≡◌, ◌⊎◌, ℕ, ◌+◌, ◌-◌, ◌<◌, ◌≤◌, List, [], ◌∷◌, ◌++◌, length, Option, Some, None, inl, inr, refl, ap, subst, sym, ◌∙◌, arith}
+use Rattle.std.proofs.Common.{◌≡◌, ◌⊎◌, ℕ, ◌+◌, ◌-◌, ◌<◌, ◌≤◌, List, [], ◌∷◌, ◌++◌, length, Option, Some, None, Result, Ok, Err, IfOk, OnOk, IsUtf8, ◌^◌, inl, inr, refl, ap, subst, sym, ◌∙◌, arith}
 use Rattle.std.proofs.lemmas.List.{length_push}
 use Rattle.machine_model.specs.Areas.{Bytes}
 use Rattle.machine_model.specs.States.{DiskState}
@@ -14,16 +14,23 @@ use Rattle.version_store.specs.declared.change.Change.{Change}
 use Rattle.gate_journal.specs.Spelled.{Spells}
 use Rattle.gate_journal.specs.InStep.{IsInStep}
 use Rattle.gate_journal.specs.Crash.{Appends, KeepsPages}
-use Rattle.record_codec.specs.Spelling.{spelling}
+use Rattle.version_store.specs.declared.refusal.VersionRefusal.{VersionRefusal}
+use Rattle.version_store.specs.Refusals.{arrive_refusal, delete_refusal}
+use Rattle.record_codec.specs.Spelling.{spelling, most_text}
 use Rattle.record_codec.specs.declared.entry.Entry.{Entry}
 use Rattle.record_codec.specs.declared.entry.Entry.TheVariants.{Arrive, Delete}
 use Rattle.archive_state.specs.Histories.{History, IsLegal, IsLegalEntry, end_of}
 use Rattle.archive_state.specs.Stands.{bodies_of, Stands, EachStands}
-use Rattle.archive_state.proofs.HistoryLemmas.{bodies_of-push, end_of-push, legal-push}
+use Rattle.archive_state.proofs.HistoryLemmas.{bodies_of-push, end_of-push, end_of-least, legal-push}
+use Rattle.archive_state.specs.declared.refusal.Refusal.{Refusal}
+use Rattle.archive_state.specs.declared.refusal.Refusal.TheVariants.{Full}
+use Rattle.archive_state.specs.Refusals.{refusal_of}
+use Rattle.archive_state.specs.Steps.{arrival_refusal, deletion_refusal}
+use Rattle.archive_state.proofs.RefusalLemmas.{arrival_refused-good, cause, cause-not_allowed, cause-full, cause-none}
 use Rattle.archive_core.specs.States.{ArchiveState, IsPlace, IsPlaced, ArePlaced, StandsFor, IsKept}
-use Rattle.archive_core.specs.Adding.{IsNext, IsHeld, Makes}
+use Rattle.archive_core.specs.Adding.{IsNext, IsHeld, IsMore, Makes}
 use Rattle.archive_core.specs.Changing.{LeadsTo}
-use Rattle.archive_core.proofs.PlaceLemmas.{placed_push}
+use Rattle.archive_core.proofs.PlaceLemmas.{placed_push, placed_arrive_refusal, placed_delete_refusal}
 
 -- a change that an entry makes, with its text's place
 makes_placed : (e : Entry) (gate : ℕ) (bytes : Option ℕ) (c : Change TextPlace) → Makes e c.doc c.at bytes → IsHeld (gate + 18) bytes c.held → IsPlaced gate e c
@@ -32,17 +39,10 @@ makes_placed (Arrive doc at text) gate bytes c makes held =
 makes_placed (Delete doc at) gate bytes c makes held =
     (sym makes.0, sym makes.1, let P : Option ℕ → Type 0 = λ n. IsHeld (gate + 18) n c.held in subst P makes.2 held)
 
--- an archive with one entry more
-pub record IsMore (a b : ArchiveState) (doc : DocId) (at : Time) (bytes : Option ℕ) (body : List ℕ) : Type 0 where
-  pub end_is : b.end ≡ a.end + 5 + length body
-  pub length_is : b.length ≡ a.length + 1
-  pub held : Option TextPlace
-  pub held_is : IsHeld (a.end + 17) bytes held
-  pub changes_are : b.changes ≡ a.changes ++ record { doc = doc; at = at; held = held } ∷ []
-
 pub stands_more : (a b : ArchiveState) (h : History) (e : Entry) (doc : DocId) (at : Time) (bytes : Option ℕ) (body : List ℕ)
-    → StandsFor a h → IsNext h e doc at bytes body → 17 ≤ a.end → IsMore a b doc at bytes body → StandsFor b (h ++ e ∷ [])
-stands_more a b h e doc at bytes body stands next least more =
+    → StandsFor a h → IsNext h e doc at bytes body → IsMore a b doc at bytes body → StandsFor b (h ++ e ∷ [])
+stands_more a b h e doc at bytes body stands next more =
+    let least : 17 ≤ end_of h = omega (arith, end_of-least h) in
     let c : Change TextPlace = record { doc = doc; at = at; held = more.held } in
     let gate : ℕ = end_of h - 1 in
     let P : ℕ → Type 0 = λ n. IsHeld n bytes more.held in
@@ -100,3 +100,75 @@ kept_more d b h e body stands same in_step =
     let bodies : bodies_of h ++ body ∷ [] ≡ bodies_of (h ++ e ∷ []) = ap (λ (l : List ℕ). bodies_of h ++ l ∷ []) same ∙ sym (bodies_of-push h e) in
     let P : List (List ℕ) → Type 0 = λ l. IsInStep d b.end l in
     record { stands = stands; in_step = subst P bodies in_step }
+
+pub appends_nowhere : (d : DiskState) (end : ℕ) (bodies : List (List ℕ)) (body : List ℕ) → IsInStep d end bodies → Appends bodies body d d
+appends_nowhere d end bodies body step = record {
+  goes_on = goes_on_same d;
+  images = left_now d (λ image beside. (Spells image.journal bodies ⊎ Spells image.journal (bodies ++ body ∷ [])) × (beside ≡ d.now.beside)) (λ image allowed.
+      let is = step.images image allowed in
+      (inl (inr (record { gate = step.gate; rest = is.0; shut = step.shut; fit = step.fit; whole = is.1 })), refl));
+}
+
+-- an arrival that isn't refused may come next
+pub arrive_next : (a : ArchiveState) (h : History) (doc : DocId) (at : Time) (text str body : List ℕ) → StandsFor a h → doc.0 < 2 ^ 32
+    → length text ≤ most_text → IsUtf8 text → str ≡ text → arrive_refusal doc at a.changes ≡ None → body ≡ spelling (Arrive doc at str)
+    → IsNext h (Arrive doc at text) doc at (Some (length str)) body
+arrive_next a h doc at text str body stands fits short good same allowed spelled = record {
+  legal = record {
+    ranges = (fits, at.before_now, short, good);
+    allowed = sym (placed_arrive_refusal doc at 16 h a.changes stands.changes_are) ∙ allowed;
+  };
+  makes = (refl, refl, ap (λ (l : List ℕ). Some (length l)) same);
+  spelled = spelled ∙ ap (λ (l : List ℕ). spelling (Arrive doc at l)) same;
+}
+
+-- a deletion that isn't refused may come next
+pub delete_next : (a : ArchiveState) (h : History) (doc : DocId) (at : Time) (body : List ℕ) → StandsFor a h → doc.0 < 2 ^ 32
+    → delete_refusal doc at a.changes ≡ None → body ≡ spelling (Delete doc at) → IsNext h (Delete doc at) doc at None body
+delete_next a h doc at body stands fits allowed spelled = record {
+  legal = record { ranges = (fits, at.before_now); allowed = sym (placed_delete_refusal doc at 16 h a.changes stands.changes_are) ∙ allowed };
+  makes = (refl, refl, refl);
+  spelled = spelled;
+}
+
+-- the directory's refusal of an arrival is the history's
+pub arrive_refused : (a : ArchiveState) (h : History) (doc : DocId) (at : Time) (text : List ℕ) (v : VersionRefusal) (why : Refusal) → StandsFor a h
+    → length text ≤ most_text → IsUtf8 text → arrive_refusal doc at a.changes ≡ Some v → why ≡ refusal_of v → arrival_refusal h doc at text ≡ Some why
+arrive_refused a h doc at text v why stands short good refused same =
+    arrival_refused-good h doc at text short good
+    ∙ cause-not_allowed h (Arrive doc at text) v (sym (placed_arrive_refusal doc at 16 h a.changes stands.changes_are) ∙ refused)
+    ∙ ap (λ (w : Refusal). Some w) (sym same)
+
+pub delete_refused : (a : ArchiveState) (h : History) (doc : DocId) (at : Time) (v : VersionRefusal) (why : Refusal) → StandsFor a h
+    → delete_refusal doc at a.changes ≡ Some v → why ≡ refusal_of v → deletion_refusal h doc at ≡ Some why
+delete_refused a h doc at v why stands refused same =
+    cause-not_allowed h (Delete doc at) v (sym (placed_delete_refusal doc at 16 h a.changes stands.changes_are) ∙ refused)
+    ∙ ap (λ (w : Refusal). Some w) (sym same)
+
+-- where the journal has no room, that is the cause
+pub next_refused : (a : ArchiveState) (h : History) (e : Entry) (doc : DocId) (at : Time) (bytes : Option ℕ) (body : List ℕ) (why : Refusal)
+    → StandsFor a h → IsNext h e doc at bytes body → (why ≡ Full Journal (limit_of Journal)) × (limit_of Journal < a.end + 5 + length body) → cause h e ≡ Some why
+next_refused a h e doc at bytes body why stands next full =
+    cause-full h e next.legal.allowed (omega (arith, full.1, stands.end_is, end_of-push h e, ap length next.spelled)) ∙ ap (λ (w : Refusal). Some w) (sym full.0)
+
+pub next_allowed : (a : ArchiveState) (h : History) (e : Entry) (doc : DocId) (at : Time) (bytes : Option ℕ) (body : List ℕ)
+    → StandsFor a h → IsNext h e doc at bytes body → a.end + 5 + length body ≤ limit_of Journal → cause h e ≡ None
+next_allowed a h e doc at bytes body stands next room =
+    cause-none h e next.legal.allowed (omega (arith, room, stands.end_is, end_of-push h e, ap length next.spelled))
+
+-- what Ok says
+pub stands_ok : {E : Type 0} (r : Result ℕ E) (a b : ArchiveState) (h : History) (e : Entry) (doc : DocId) (at : Time) (bytes : Option ℕ) (body : List ℕ)
+    → StandsFor a h → IsNext h e doc at bytes body → IfOk r (λ n. IsMore a b doc at bytes body × (n ≡ b.length))
+    → IfOk r (λ n. StandsFor b (h ++ e ∷ []) × (n ≡ length h + 1))
+stands_ok (Ok n) a b h e doc at bytes body stands next more =
+    (stands_more a b h e doc at bytes body stands next more.0, omega (arith, more.1, more.0.length_is, stands.length_is))
+stands_ok (Err x) a b h e doc at bytes body stands next more = tt
+
+pub kept_ok : {E : Type 0} (r : Result ℕ E) (a b : ArchiveState) (new : DiskState) (h : History) (e : Entry) (doc : DocId) (at : Time) (bytes : Option ℕ) (body : List ℕ)
+    → StandsFor a h → IsNext h e doc at bytes body → IfOk r (λ n. IsMore a b doc at bytes body × (n ≡ b.length))
+    → OnOk r (IsInStep new b.end (bodies_of h ++ body ∷ [])) → OnOk r (IsKept new b (h ++ e ∷ []))
+kept_ok (Ok n) a b new h e doc at bytes body stands next more step = kept_more new b h e body (stands_more a b h e doc at bytes body stands next more.0) next.spelled step
+kept_ok (Err x) a b new h e doc at bytes body stands next more step = tt
+
+pub step_at : {d : DiskState} {end : ℕ} {bodies : List (List ℕ)} (other : ℕ) → end ≡ other → IsInStep d end bodies → IsInStep d other bodies
+step_at {d} {end} {bodies} other same step = let P : ℕ → Type 0 = λ n. IsInStep d n bodies in subst P same step
