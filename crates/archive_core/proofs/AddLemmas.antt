@@ -33,21 +33,22 @@ use Rattle.archive_core.specs.Changing.{LeadsTo}
 use Rattle.archive_core.proofs.PlaceLemmas.{placed_push, placed_arrive_refusal, placed_delete_refusal}
 
 -- a change that an entry makes, with its text's place
-makes_placed : (e : Entry) (gate : ℕ) (bytes : Option ℕ) (c : Change TextPlace) → Makes e c.doc c.at bytes → IsHeld (gate + 18) bytes c.held → IsPlaced gate e c
-makes_placed (Arrive doc at text) gate bytes c makes held =
-    (sym makes.0, sym makes.1, let P : Option ℕ → Type 0 = λ n. IsHeld (gate + 18) n c.held in subst P makes.2 held)
-makes_placed (Delete doc at) gate bytes c makes held =
-    (sym makes.0, sym makes.1, let P : Option ℕ → Type 0 = λ n. IsHeld (gate + 18) n c.held in subst P makes.2 held)
+makes_placed : (e : Entry) (gate : ℕ) (x : Change ℕ) (held : Option TextPlace) → Makes e x → IsHeld (gate + 18) x.held held
+    → IsPlaced gate e (record { doc = x.doc; at = x.at; held = held })
+makes_placed (Arrive doc at text) gate x held makes is =
+    (sym makes.0, sym makes.1, let P : Option ℕ → Type 0 = λ n. IsHeld (gate + 18) n held in subst P makes.2 is)
+makes_placed (Delete doc at) gate x held makes is =
+    (sym makes.0, sym makes.1, let P : Option ℕ → Type 0 = λ n. IsHeld (gate + 18) n held in subst P makes.2 is)
 
-pub stands_more : (a b : ArchiveState) (h : History) (e : Entry) (doc : DocId) (at : Time) (bytes : Option ℕ) (body : List ℕ)
-    → StandsFor a h → IsNext h e doc at bytes body → IsMore a b doc at bytes body → StandsFor b (h ++ e ∷ [])
-stands_more a b h e doc at bytes body stands next more =
+pub stands_more : (a b : ArchiveState) (h : History) (e : Entry) (x : Change ℕ) (body : List ℕ)
+    → StandsFor a h → IsNext h e x body → IsMore a b x body → StandsFor b (h ++ e ∷ [])
+stands_more a b h e x body stands next more =
     let least : 17 ≤ end_of h = omega (arith, end_of-least h) in
-    let c : Change TextPlace = record { doc = doc; at = at; held = more.held } in
+    let c : Change TextPlace = record { doc = x.doc; at = x.at; held = more.held } in
     let gate : ℕ = end_of h - 1 in
-    let P : ℕ → Type 0 = λ n. IsHeld n bytes more.held in
-    let held : IsHeld (gate + 18) bytes more.held = subst P (omega (arith, least, stands.end_is)) more.held_is in
-    let placed = placed_push h a.changes e c gate stands.changes_are (omega (arith, least, stands.end_is)) (makes_placed e gate bytes c next.makes held) in
+    let P : ℕ → Type 0 = λ n. IsHeld n x.held more.held in
+    let held : IsHeld (gate + 18) x.held more.held = subst P (omega (arith, least, stands.end_is)) more.held_is in
+    let placed = placed_push h a.changes e c gate stands.changes_are (omega (arith, least, stands.end_is)) (makes_placed e gate x more.held next.makes held) in
     let Q : List (Change TextPlace) → Type 0 = λ cs. ArePlaced 16 (h ++ e ∷ []) cs in
     record {
       legal = legal-push h e stands.legal next.legal;
@@ -112,7 +113,7 @@ appends_nowhere d end bodies body step = record {
 -- an arrival that isn't refused may come next
 pub arrive_next : (a : ArchiveState) (h : History) (doc : DocId) (at : Time) (text str body : List ℕ) → StandsFor a h → doc.0 < 2 ^ 32
     → length text ≤ most_text → IsUtf8 text → str ≡ text → arrive_refusal doc at a.changes ≡ None → body ≡ spelling (Arrive doc at str)
-    → IsNext h (Arrive doc at text) doc at (Some (length str)) body
+    → IsNext h (Arrive doc at text) (record { doc = doc; at = at; held = Some (length str) }) body
 arrive_next a h doc at text str body stands fits short good same allowed spelled = record {
   legal = record {
     ranges = (fits, at.before_now, short, good);
@@ -124,7 +125,7 @@ arrive_next a h doc at text str body stands fits short good same allowed spelled
 
 -- a deletion that isn't refused may come next
 pub delete_next : (a : ArchiveState) (h : History) (doc : DocId) (at : Time) (body : List ℕ) → StandsFor a h → doc.0 < 2 ^ 32
-    → delete_refusal doc at a.changes ≡ None → body ≡ spelling (Delete doc at) → IsNext h (Delete doc at) doc at None body
+    → delete_refusal doc at a.changes ≡ None → body ≡ spelling (Delete doc at) → IsNext h (Delete doc at) (record { doc = doc; at = at; held = None }) body
 delete_next a h doc at body stands fits allowed spelled = record {
   legal = record { ranges = (fits, at.before_now); allowed = sym (placed_delete_refusal doc at 16 h a.changes stands.changes_are) ∙ allowed };
   makes = (refl, refl, refl);
@@ -146,29 +147,29 @@ delete_refused a h doc at v why stands refused same =
     ∙ ap (λ (w : Refusal). Some w) (sym same)
 
 -- where the journal has no room, that is the cause
-pub next_refused : (a : ArchiveState) (h : History) (e : Entry) (doc : DocId) (at : Time) (bytes : Option ℕ) (body : List ℕ) (why : Refusal)
-    → StandsFor a h → IsNext h e doc at bytes body → (why ≡ Full Journal (limit_of Journal)) × (limit_of Journal < a.end + 5 + length body) → cause h e ≡ Some why
-next_refused a h e doc at bytes body why stands next full =
+pub next_refused : (a : ArchiveState) (h : History) (e : Entry) (x : Change ℕ) (body : List ℕ) (why : Refusal)
+    → StandsFor a h → IsNext h e x body → (why ≡ Full Journal (limit_of Journal)) × (limit_of Journal < a.end + 5 + length body) → cause h e ≡ Some why
+next_refused a h e x body why stands next full =
     cause-full h e next.legal.allowed (omega (arith, full.1, stands.end_is, end_of-push h e, ap length next.spelled)) ∙ ap (λ (w : Refusal). Some w) (sym full.0)
 
-pub next_allowed : (a : ArchiveState) (h : History) (e : Entry) (doc : DocId) (at : Time) (bytes : Option ℕ) (body : List ℕ)
-    → StandsFor a h → IsNext h e doc at bytes body → a.end + 5 + length body ≤ limit_of Journal → cause h e ≡ None
-next_allowed a h e doc at bytes body stands next room =
+pub next_allowed : (a : ArchiveState) (h : History) (e : Entry) (x : Change ℕ) (body : List ℕ)
+    → StandsFor a h → IsNext h e x body → a.end + 5 + length body ≤ limit_of Journal → cause h e ≡ None
+next_allowed a h e x body stands next room =
     cause-none h e next.legal.allowed (omega (arith, room, stands.end_is, end_of-push h e, ap length next.spelled))
 
 -- what Ok says
-pub stands_ok : {E : Type 0} (r : Result ℕ E) (a b : ArchiveState) (h : History) (e : Entry) (doc : DocId) (at : Time) (bytes : Option ℕ) (body : List ℕ)
-    → StandsFor a h → IsNext h e doc at bytes body → IfOk r (λ n. IsMore a b doc at bytes body × (n ≡ b.length))
+pub stands_ok : {E : Type 0} (r : Result ℕ E) (a b : ArchiveState) (h : History) (e : Entry) (x : Change ℕ) (body : List ℕ)
+    → StandsFor a h → IsNext h e x body → IfOk r (λ n. IsMore a b x body × (n ≡ b.length))
     → IfOk r (λ n. StandsFor b (h ++ e ∷ []) × (n ≡ length h + 1))
-stands_ok (Ok n) a b h e doc at bytes body stands next more =
-    (stands_more a b h e doc at bytes body stands next more.0, omega (arith, more.1, more.0.length_is, stands.length_is))
-stands_ok (Err x) a b h e doc at bytes body stands next more = tt
+stands_ok (Ok n) a b h e x body stands next more =
+    (stands_more a b h e x body stands next more.0, omega (arith, more.1, more.0.length_is, stands.length_is))
+stands_ok (Err failed) a b h e x body stands next more = tt
 
-pub kept_ok : {E : Type 0} (r : Result ℕ E) (a b : ArchiveState) (new : DiskState) (h : History) (e : Entry) (doc : DocId) (at : Time) (bytes : Option ℕ) (body : List ℕ)
-    → StandsFor a h → IsNext h e doc at bytes body → IfOk r (λ n. IsMore a b doc at bytes body × (n ≡ b.length))
+pub kept_ok : {E : Type 0} (r : Result ℕ E) (a b : ArchiveState) (new : DiskState) (h : History) (e : Entry) (x : Change ℕ) (body : List ℕ)
+    → StandsFor a h → IsNext h e x body → IfOk r (λ n. IsMore a b x body × (n ≡ b.length))
     → OnOk r (IsInStep new b.end (bodies_of h ++ body ∷ [])) → OnOk r (IsKept new b (h ++ e ∷ []))
-kept_ok (Ok n) a b new h e doc at bytes body stands next more step = kept_more new b h e body (stands_more a b h e doc at bytes body stands next more.0) next.spelled step
-kept_ok (Err x) a b new h e doc at bytes body stands next more step = tt
+kept_ok (Ok n) a b new h e x body stands next more step = kept_more new b h e body (stands_more a b h e x body stands next more.0) next.spelled step
+kept_ok (Err failed) a b new h e x body stands next more step = tt
 
 pub step_at : {d : DiskState} {end : ℕ} {bodies : List (List ℕ)} (other : ℕ) → end ≡ other → IsInStep d end bodies → IsInStep d other bodies
 step_at {d} {end} {bodies} other same step = let P : ℕ → Type 0 = λ n. IsInStep d n bodies in subst P same step

@@ -12,15 +12,15 @@ use Rattle.record_codec.specs.declared.entry.Entry.TheVariants.{Arrive, Delete}
 use Rattle.archive_core.specs.States.{ArchiveState, IsPlace}
 use Rattle.archive_state.specs.Histories.{History, IsLegalEntry}
 
--- an entry changes this document at this time: to a text of so many bytes, or to none
-abbrev pub Makes : Entry → DocId → Time → Option ℕ → Type 0
-Makes (Arrive d t text) doc at bytes = (d ≡ doc) × (t ≡ at) × (bytes ≡ Some (length text))
-Makes (Delete d t) doc at bytes = (d ≡ doc) × (t ≡ at) × (bytes ≡ None)
+-- the change that an entry makes, with the length of its text
+abbrev pub Makes : Entry → Change ℕ → Type 0
+Makes (Arrive doc at text) change = (doc ≡ change.doc) × (at ≡ change.at) × (change.held ≡ Some (length text))
+Makes (Delete doc at) change = (doc ≡ change.doc) × (at ≡ change.at) × (change.held ≡ None)
 
 -- an entry may come next after a history, makes this change, and has this spelling
-pub record IsNext (history : History) (entry : Entry) (doc : DocId) (at : Time) (bytes : Option ℕ) (body : List ℕ) : Type 0 where
+pub record IsNext (history : History) (entry : Entry) (change : Change ℕ) (body : List ℕ) : Type 0 where
   pub legal : IsLegalEntry history entry
-  pub makes : Makes entry doc at bytes
+  pub makes : Makes entry change
   pub spelled : body ≡ spelling entry
 
 -- what is held of a text of so many bytes that lies at this place, or of none
@@ -28,15 +28,18 @@ abbrev pub IsHeld : ℕ → Option ℕ → Option TextPlace → Type 0
 IsHeld at (Some bytes) held = IsPlace at bytes held
 IsHeld at None held = held ≡ None
 
--- why a change may not come after these: to a text, or to none
-abbrev pub change_refusal : {A B : Type 0} → DocId → Time → Option A → List (Change B) → Option VersionRefusal
-change_refusal doc at (Some held) changes = arrive_refusal doc at changes
-change_refusal doc at None changes = delete_refusal doc at changes
+-- why a change may not come after others: an arrival, of whose text something is held, or a deletion
+abbrev pub refusal_by : {A B : Type 0} → Option A → DocId → Time → List (Change B) → Option VersionRefusal
+refusal_by (Some held) doc at changes = arrive_refusal doc at changes
+refusal_by None doc at changes = delete_refusal doc at changes
 
--- an archive with one entry more
-pub record IsMore (a b : ArchiveState) (doc : DocId) (at : Time) (bytes : Option ℕ) (body : List ℕ) : Type 0 where
-  pub end_is : b.end ≡ a.end + 5 + length body
-  pub length_is : b.length ≡ a.length + 1
+abbrev pub change_refusal : {A B : Type 0} → Change A → List (Change B) → Option VersionRefusal
+change_refusal change changes = refusal_by change.held change.doc change.at changes
+
+-- an archive with one entry more, which makes this change and has this spelling
+pub record IsMore (old new : ArchiveState) (change : Change ℕ) (body : List ℕ) : Type 0 where
+  pub end_is : new.end ≡ old.end + 5 + length body
+  pub length_is : new.length ≡ old.length + 1
   pub held : Option TextPlace
-  pub held_is : IsHeld (a.end + 17) bytes held
-  pub changes_are : b.changes ≡ a.changes ++ record { doc = doc; at = at; held = held } ∷ []
+  pub held_is : IsHeld (old.end + 17) change.held held
+  pub changes_are : new.changes ≡ old.changes ++ record { doc = change.doc; at = change.at; held = held } ∷ []

@@ -8,9 +8,10 @@ ghost use Rattle.archive_state.specs.Histories.{History};
 ghost use Rattle.archive_state.specs.Steps.{arrival_refusal, deletion_refusal};
 ghost use Rattle.archive_core.specs.States.{StandsFor, IsKept};
 ghost use Rattle.archive_core.specs.Changing.{LeadsTo};
-ghost use Rattle.archive_core.specs.Adding.{IsHeld, IsMore, change_refusal};
+ghost use Rattle.archive_core.specs.Adding.{IsMore, change_refusal};
 ghost use Rattle.record_codec.specs.declared.entry.Entry.TheVariants as entries;
 
+use crate::change::{may_come, note, placed};
 use crate::error::ChangeError;
 use crate::text::text_of;
 use archive_state::Refusal;
@@ -19,8 +20,8 @@ use machine_model::Disk;
 use record_codec::{encode_arrival, encode_deletion};
 use std::alloc::Global;
 use std::marker::Model;
-use time_base::{DocId, TextPlace, Time, Which};
-use version_store::Directory;
+use time_base::{DocId, Time, Which};
+use version_store::{Change, Directory};
 
 /// Where the text of an arrival begins in its spelling, behind the tag, the document and the time.
 const TEXT_AT: u64 = 13;
@@ -99,12 +100,17 @@ impl Archive {
             Ok(text) => text,
             Err(why) => return Err(ChangeError::Refused(why)),
         };
-        match self.directory.may_arrive(doc, at) {
+        let change = Change {
+            doc,
+            at,
+            held: Some(text.len() as u32),
+        };
+        match may_come(&self.directory, change) {
             Ok(()) => {}
             Err(why) => return Err(ChangeError::Refused(why.into())),
         }
         match encode_arrival(alloc, doc, at, text) {
-            Ok(body) => self.commit(alloc, disk, doc, at, Some(text.len() as u32), &body),
+            Ok(body) => self.commit(alloc, disk, change, &body),
             Err(_) => self.spend(),
         }
     }
@@ -143,30 +149,33 @@ impl Archive {
         ensures kept { D.disk_tells → (h : History) → IsKept (D.disk disk.old) self.old h → OnOk result (IsKept (D.disk disk.new) self.new (h ++ entries.Delete doc at ∷ [])) }
         ensures pages { D.disk_tells → KeepsPages (D.disk disk.old) (D.disk disk.new) }
     {
-        match self.directory.may_delete(doc, at) {
+        let change = Change {
+            doc,
+            at,
+            held: None,
+        };
+        match may_come(&self.directory, change) {
             Ok(()) => {}
             Err(why) => return Err(ChangeError::Refused(why.into())),
         }
         match encode_deletion(alloc, doc, at) {
-            Ok(body) => self.commit(alloc, disk, doc, at, None, &body),
+            Ok(body) => self.commit(alloc, disk, change, &body),
             Err(_) => self.spend(),
         }
     }
 
-    // Makes a change that is allowed: to a text of so many bytes, or to none. The body is its entry's spelling.
+    // Makes a change that may come. The body is its entry's spelling.
     fn commit<D: Disk>(
         &mut self,
         alloc: Global,
         disk: &mut D,
-        doc: DocId,
-        at: Time,
-        bytes: Option<u32>,
+        change: Change<u32>,
         body: &[u8],
     ) -> Result<u64, ChangeError>
         requires live { IsTrue self.old.live }
         requires within { self.old.end ≤ (D.disk disk.old).reach.journal }
         requires fits { length body.now < 2 ^ 32 }
-        requires allowed { change_refusal doc at bytes self.old.changes ≡ None }
+        requires allowed { change_refusal change self.old.changes ≡ None }
         ensures only { D.Disk.only disk.old disk.new }
         ensures failed { IsErrOf result ChangeError.Failed → Rose (D.disk disk.old).faults (D.disk disk.new).faults }
         ensures within { IsTrue self.new.live → self.new.end ≤ (D.disk disk.new).reach.journal }
@@ -174,17 +183,17 @@ impl Archive {
         ensures refused { (why : Refusal) → IsErrOf result (ChangeError.Refused why) → (why ≡ Refusal.Full Which.Journal (limit_of Which.Journal)) × (limit_of Which.Journal < self.old.end + 5 + length body.now) }
         ensures allowed { (IsOk result ⊎ IsErrOf result ChangeError.Failed) → self.old.end + 5 + length body.now ≤ limit_of Which.Journal }
         ensures same { (why : Refusal) → IsErrOf result (ChangeError.Refused why) → (self.new ≡ self.old) × (disk.new ≡ disk.old) }
-        ensures more { IfOk result (λ n. IsMore self.old self.new doc at bytes body.now × (n ≡ self.new.length)) }
+        ensures more { IfOk result (λ n. IsMore self.old self.new change body.now × (n ≡ self.new.length)) }
         ensures crash { D.disk_tells → (bodies : List (List ℕ)) → IsInStep (D.disk disk.old) self.old.end bodies → Appends bodies body.now (D.disk disk.old) (D.disk disk.new) }
         ensures in_step { D.disk_tells → (bodies : List (List ℕ)) → IsInStep (D.disk disk.old) self.old.end bodies → OnOk result (IsInStep (D.disk disk.new) self.new.end (bodies ++ body.now ∷ [])) }
         ensures pages { D.disk_tells → KeepsPages (D.disk disk.old) (D.disk disk.new) }
     {
         self.live = false;
         let frame = Frame::new(alloc, body)?;
-        self.directory.reserve(doc)?;
+        self.directory.reserve(change.doc)?;
         match self.journal.append(disk, &frame) {
             Ok(place) => {
-                note(&mut self.directory, doc, at, held_at(place + TEXT_AT, bytes));
+                note(&mut self.directory, placed(change, place + TEXT_AT));
                 self.entries += 1;
                 self.live = true;
                 Ok(self.entries)
@@ -214,27 +223,5 @@ fn full_journal() -> Refusal
     Refusal::Full {
         which: Which::Journal,
         limit: Which::Journal.limit(),
-    }
-}
-
-// What is held of a text of so many bytes that lies at this place, or of none.
-fn held_at(at: u64, bytes: Option<u32>) -> Option<TextPlace>
-    ensures { IsHeld at bytes result }
-{
-    match bytes {
-        Some(bytes) => Some(TextPlace { at, bytes }),
-        None => None,
-    }
-}
-
-// Adds a change that is allowed, for which there is room.
-fn note(directory: &mut Directory, doc: DocId, at: Time, held: Option<TextPlace>)
-    requires allowed { change_refusal doc at held directory.old.changes ≡ None }
-    requires room { 1 ≤ directory.old.room }
-    ensures { directory.new.changes ≡ directory.old.changes ++ record { doc = doc; at = at; held = held } ∷ [] }
-{
-    match held {
-        Some(text) => directory.arrive(doc, at, text),
-        None => directory.delete(doc, at),
     }
 }

@@ -7,6 +7,7 @@
 #![tactic(auto)]
 
 mod archive;
+mod change;
 mod error;
 mod text;
 
