@@ -33,7 +33,7 @@ use Rattle.archive_core.specs.Changing.{LeadsTo}
 use Rattle.archive_core.proofs.PlaceLemmas.{placed_push, placed_arrive_refusal, placed_delete_refusal}
 
 -- a change that an entry makes, with its text's place
-makes_placed : (e : Entry) (gate : ℕ) (x : Change ℕ) (held : Option TextPlace) → Makes e x → IsHeld (gate + 18) x.held held
+pub makes_placed : (e : Entry) (gate : ℕ) (x : Change ℕ) (held : Option TextPlace) → Makes e x → IsHeld (gate + 18) x.held held
     → IsPlaced gate e (record { doc = x.doc; at = x.at; held = held })
 makes_placed (Arrive doc at text) gate x held makes is =
     (sym makes.0, sym makes.1, let P : Option ℕ → Type 0 = λ n. IsHeld (gate + 18) n held in subst P makes.2 is)

@@ -1,2 +1,4 @@
 pub mod PlaceLemmas
 pub mod AddLemmas
+pub mod HeadLemmas
+pub mod ReplayLemmas

@@ -11,7 +11,7 @@ ghost use Rattle.archive_core.specs.Changing.{LeadsTo};
 ghost use Rattle.archive_core.specs.Adding.{IsMore, change_refusal};
 ghost use Rattle.record_codec.specs.declared.entry.Entry.TheVariants as entries;
 
-use crate::change::{may_come, note, placed};
+use crate::change::{TEXT_AT, may_come, note, placed};
 use crate::error::ChangeError;
 use crate::text::text_of;
 use archive_state::Refusal;
@@ -22,9 +22,6 @@ use std::alloc::Global;
 use std::marker::Model;
 use time_base::{DocId, Time, Which};
 use version_store::{Change, Directory};
-
-/// Where the text of an arrival begins in its spelling, behind the tag, the document and the time.
-const TEXT_AT: u64 = 13;
 
 /// An archive in hand.
 #[derive(Drop)]

@@ -7,6 +7,9 @@ use record_codec::Entry;
 use time_base::TextPlace;
 use version_store::{Change, Directory, VersionRefusal};
 
+/// Where the text of an arrival begins in its spelling, behind the tag, the document and the time.
+pub(crate) const TEXT_AT: u64 = 13;
+
 /// The change that an entry makes, with the length of its text. Constant cost.
 pub(crate) fn change_of(entry: &Entry) -> Change<u32>
     requires { HasShortText entry.now }

@@ -2,7 +2,9 @@
 ghost use Rattle.std.specs.Prelude.{◌≡◌};
 
 use archive_state::Refusal;
-use std::alloc::{AllocError, AllocFailed};
+use gate_journal::JournalError;
+use machine_model::Failed;
+use std::alloc::AllocError;
 
 /// Why an archive was not loaded.
 #[derive(Clone, Copy, Debug, PartialEq, Eq)]
@@ -39,5 +41,42 @@ impl From<AllocError> for ChangeError {
 
     fn from(_: AllocError) -> Self {
         ChangeError::Memory
+    }
+}
+
+impl From<AllocError> for LoadError {
+    ghost use Rattle.archive_core.specs.declared.error.LoadError.TheVariants.{Memory};
+    ghost use Rattle.std.specs.Prelude.{◌≡◌};
+
+    ghost from_gives = { λ _ e. e ≡ Memory };
+
+    fn from(_: AllocError) -> Self {
+        LoadError::Memory
+    }
+}
+
+impl From<Failed> for LoadError {
+    ghost use Rattle.archive_core.specs.declared.error.LoadError.TheVariants.{Failed};
+    ghost use Rattle.std.specs.Prelude.{◌≡◌};
+
+    ghost from_gives = { λ _ e. e ≡ Failed };
+
+    fn from(_: machine_model::Failed) -> Self {
+        LoadError::Failed
+    }
+}
+
+impl From<JournalError> for LoadError {
+    ghost use Rattle.archive_core.specs.Causes.{load_error_of};
+    ghost use Rattle.std.specs.Prelude.{◌≡◌};
+
+    ghost from_gives = { λ why e. e ≡ load_error_of why };
+
+    fn from(why: JournalError) -> Self {
+        match why {
+            JournalError::Failed => LoadError::Failed,
+            JournalError::NotJournal { at } => LoadError::NotArchive { at },
+            JournalError::Memory => LoadError::Memory,
+        }
     }
 }

@@ -9,7 +9,9 @@
 mod archive;
 mod change;
 mod error;
+mod replaying;
 mod text;
+mod window;
 
 pub use archive::Archive;
 pub use error::{ChangeError, LoadError};
