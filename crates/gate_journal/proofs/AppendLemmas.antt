@@ -28,7 +28,7 @@ pub front_more : (bodies : List (List ℕ)) (body : List ℕ) → front (bodies 
 front_more bodies body = ap (λ (l : List ℕ). header ++ l) (flat_map-append record_bytes bodies (body ∷ []) ∙ ap (λ (l : List ℕ). records bodies ++ l) (append-nil (record_bytes body)))
     ∙ sym (append_assoc header (records bodies) (record_bytes body))
 
-fit_more : (bodies : List (List ℕ)) (body : List ℕ) → Fit bodies → length body < 2 ^ 32 → Fit (bodies ++ body ∷ [])
+pub fit_more : (bodies : List (List ℕ)) (body : List ℕ) → Fit bodies → length body < 2 ^ 32 → Fit (bodies ++ body ∷ [])
 fit_more bodies body fit fits = All-append (λ b. length b < 2 ^ 32) bodies (body ∷ []) fit (All-cons (λ b. length b < 2 ^ 32) body [] fits (λ k d inside. absurd (omega (arith, inside))))
 
 pub step_at : {at end : ℕ} {d : DiskState} {bodies : List (List ℕ)} → at ≡ end → IsInStep d end bodies → IsInStep d at bodies

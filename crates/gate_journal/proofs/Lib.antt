@@ -3,3 +3,5 @@ pub mod WriteLemmas
 pub mod TornLemmas
 pub mod AppendLemmas
 pub mod PagesLemmas
+pub mod GateLemmas
+pub mod ScanLemmas

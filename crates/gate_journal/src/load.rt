@@ -9,10 +9,10 @@ ghost use Rattle.gate_journal.specs.Refused.{IsNotJournal, IsCutShort};
 ghost use Rattle.gate_journal.specs.Found.{IsFound, IsLaidOut};
 ghost use Rattle.gate_journal.specs.InStep.{IsInStep};
 ghost use Rattle.gate_journal.specs.Crash.{KeepsBodies, KeepsPages};
-ghost use Rattle.gate_journal.specs.Scanning.{IsView, IsWindow, IsScanned, IsShutAt};
+ghost use Rattle.gate_journal.specs.Scanning.{IsView, IsWindow};
 
 use crate::durable::write_through;
-use crate::gate::Gate;
+use crate::gate::{GATE_BYTES, Gate};
 use crate::header::{HEADER_BYTES, NEW_BYTES, NEW_JOURNAL, first_wrong};
 use crate::window::Window;
 use crate::{Head, Journal, JournalError};
@@ -113,7 +113,7 @@ fn scan<D: Disk>(
         (at : ℕ) → IsErrOf result (JournalError.NotJournal at) → IsCutShort (D.disk disk.old).holds.journal at }
     ensures found { D.disk_tells → IsView window.bytes.items window.from (D.disk disk.old).holds.journal →
         take 16 (D.disk disk.old).holds.journal ≡ header →
-        IfOk result (λ p. IsScanned (D.disk disk.old).holds.journal p.0 p.1.items × IsShutAt (D.disk disk.old).holds.journal p.0) }
+        IfOk result (λ p. IsFound (D.disk disk.old).holds.journal (p.0 + 1) p.1.items) }
     ensures pages_read { D.disk_tells → (D.disk disk.new).bytes_read.pages ≡ (D.disk disk.old).bytes_read.pages }
 {
     let mut window = window;
@@ -124,7 +124,7 @@ fn scan<D: Disk>(
             Gate::Closed => return Ok((gate, heads)),
             Gate::CutShort => return Err(JournalError::NotJournal { at: gate }),
             Gate::Open(bytes) => {
-                let body = gate + 5;
+                let body = gate + GATE_BYTES;
                 heads.push(Head { gate, body, bytes })?;
                 gate = body + u64::from(bytes);
             }
