@@ -5,3 +5,4 @@ pub mod AppendLemmas
 pub mod PagesLemmas
 pub mod GateLemmas
 pub mod ScanLemmas
+pub mod LoadLemmas

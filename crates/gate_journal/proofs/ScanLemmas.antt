@@ -102,6 +102,9 @@ scanned_closed bytes gate heads s stands =
     record { bodies = s.bodies; spelled = spells; laid_out = record { end_is = ap (λ n. n + 1) s.gate_is; heads_are = s.heads_are };
       not_refused = λ at. spelled_not_refused bytes s.bodies at spells }
 
+pub found_at : {bytes : List ℕ} {at end : ℕ} {heads : List Head} → at ≡ end → IsFound bytes end heads → IsFound bytes at heads
+found_at {bytes} {at} {end} {heads} same found = subst (λ (n : ℕ). IsFound bytes n heads) (sym same) found
+
 -- at a gate that is cut short the bytes are refused
 pub scanned_cut : (bytes : List ℕ) (gate : ℕ) (heads : List Head) → IsScanned bytes gate heads → StandsAt (drop gate bytes) CutShort → IsCutShort bytes gate
 scanned_cut bytes gate heads s stands = record { bodies = s.bodies; rest = stands.0; fit = s.fit;

@@ -1,8 +1,9 @@
 use Rattle.std.proofs.Common.{◌≡◌, ◌+◌, ◌<◌, ◌^◌, ℕ, ◌∙◌, subst, arith, rules}
 use Rattle.machine_model.proofs.MomentLemmas.{reads_join}
+use Rattle.machine_model.specs.declared.area.Area.TheVariants.{Journal}
 use Rattle.gate_journal.specs.declared.gate.Gate.TheVariants.{Closed, Open, CutShort}
 use Rattle.gate_journal.specs.Refused.{IsCutShort}
-use Rattle.gate_journal.proofs.ScanLemmas.{row_more, scanned_none, scanned_next, scanned_closed, scanned_cut, view_read, view_before, stands_before}
+use Rattle.gate_journal.proofs.ScanLemmas.{row_more, found_at, scanned_none, scanned_next, scanned_closed, scanned_cut, view_read, view_before, stands_before}
 use Rattle.gate_journal.proofs.load.scan.Goals as goal
 
 pub loop-heads-init : goal.loop-heads-init
@@ -14,8 +15,11 @@ returns-in-Closed-clause-found g c = λ tells view right.
     let so_far = c.loop-heads.invariant in
     let a = g.D.Disk.disk c.args.disk.now in
     let b = g.D.Disk.disk c.loop-heads.disk in
-    scanned_closed a.holds.journal _ _ (so_far.scanned tells view right)
-      (stands_before a b _ _ Closed so_far.same c.in-Closed.is (c.in_ok-gate_at.ensures.stands tells (view_read a b _ _ so_far.same (so_far.view tells view))))
+    found_at c.at.ensures.end (scanned_closed a.holds.journal _ _ (so_far.scanned tells view right)
+      (stands_before a b _ _ Closed so_far.same c.in-Closed.is (c.in_ok-gate_at.ensures.stands tells (view_read a b _ _ so_far.same (so_far.view tells view)))))
+
+pub at-requires-clause-high : goal.at-requires-clause-high
+at-requires-clause-high g c = omega (arith, c.loop-heads.invariant.inside, g.met.D.Disk.reach_limit c.args.disk.now Journal)
 
 pub returns-in-CutShort-clause-not_journal : goal.returns-in-CutShort-clause-not_journal
 returns-in-CutShort-clause-not_journal g c = λ tells view right at is.
