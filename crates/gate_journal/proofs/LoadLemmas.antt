@@ -20,6 +20,7 @@ use Rattle.gate_journal.specs.Crash.{KeepsBodies, KeepsPages}
 use Rattle.gate_journal.specs.Scanning.{IsView}
 use Rattle.gate_journal.proofs.SpellingLemmas.{length-header, spells_once}
 use Rattle.gate_journal.proofs.TornLemmas.{written_behind}
+use Rattle.gate_journal.proofs.AppendLemmas.{step_spells}
 
 -- a call that changes nothing but the count of faults only reads
 pub fails_read : (a b : DiskState) → OnlyFails a b → OnlyReads a b
@@ -49,7 +50,7 @@ unfolding KeptBodies
 kept_sync bodies a b each syncs = record { goes_on = syncs.goes_on; images = λ image beside left.
     let was = syncs.during image beside left in (each image was.0, was.1) }
 
-pub kept_join : {bodies : List (List ℕ)} {a b c : DiskState} → KeepsBodies bodies a b → b.now.beside ≡ a.now.beside → KeepsBodies bodies b c → KeepsBodies bodies a c
+kept_join : {bodies : List (List ℕ)} {a b c : DiskState} → KeepsBodies bodies a b → b.now.beside ≡ a.now.beside → KeepsBodies bodies b c → KeepsBodies bodies a c
 unfolding KeptBodies
 kept_join {bodies} {a} {b} {c} first same second = record {
   goes_on = goes_on_joins first.goes_on second.goes_on;
@@ -87,13 +88,32 @@ length-front_none : length (front []) ≡ 16
 length-front_none = omega (arith, length-append header [], length-header)
 
 -- and then the disk is in step with it
-pub begun_in_step : (a b : DiskState) (bytes : List ℕ) → bytes ≡ header ++ 0 ∷ [] → Stays Journal 0 bytes a b → IsInStep b 17 []
-begun_in_step a b bytes new stays =
+pub begun_in_step : (a b : DiskState) (bytes : List ℕ) (end : ℕ) (heads : List Head) → bytes ≡ header ++ 0 ∷ [] → Stays Journal 0 bytes a b → end ≡ 17 → heads ≡ [] → IsLaidOut [] end heads × IsInStep b end []
+begun_in_step a b bytes end heads new stays here none =
     let rest = drop (length bytes) a.holds.journal in
     let journal : b.holds.journal ≡ front [] ++ 0 ∷ rest = ap (λ (i : Bytes). i.journal) stays.holds ∙ written_behind 0 bytes [] a.holds.journal refl
         ∙ ap (λ (l : List ℕ). l ++ rest) new ∙ append_assoc header (0 ∷ []) rest ∙ ap (λ (l : List ℕ). l ++ 0 ∷ rest) (sym (append-nil header)) in
-    record { gate = 0; shut = λ same. cc; fit = λ k d inside. absurd (omega (arith, inside)); end_is = omega (arith, length-front_none);
-      images = λ image allowed. (rest, ap (λ (i : Bytes). i.journal) (stays.only image allowed) ∙ journal) }
+    (record { end_is = omega (arith, here, length-front_none); heads_are = none },
+     record { gate = 0; shut = λ same. cc; fit = λ k d inside. absurd (omega (arith, inside)); end_is = omega (arith, here, length-front_none);
+       images = λ image allowed. (rest, ap (λ (i : Bytes). i.journal) (stays.only image allowed) ∙ journal) })
+
+-- a journal of at most 17 bytes spells no body
+pub none_spelled : (bytes : List ℕ) (bodies : List (List ℕ)) → length bytes ≤ 17 → Spells bytes bodies → bodies ≡ []
+none_spelled bytes bodies few spells = spells_once bytes bodies [] spells (inl (few, refl))
+
+-- and nothing is found in it
+pub none_found : (bytes : List ℕ) (end : ℕ) (heads : List Head) → length bytes ≤ 17 → IsLaidOut [] end heads → IsFound bytes end heads
+none_found bytes end heads few laid_out = record { bodies = []; spelled = inl (few, refl); laid_out = laid_out; not_refused = λ at refused. omega (arith, few, refused.0) }
+
+pub none_in_step : (b : DiskState) (end : ℕ) (heads : List Head) (bodies : List (List ℕ)) → bodies ≡ [] → MayLeave b.now b.holds → IsLaidOut [] end heads × IsInStep b end [] → IsLaidOut bodies end heads × IsInStep b end bodies × Spells b.holds.journal bodies
+none_in_step b end heads bodies none now begun =
+    let S : List (List ℕ) → Type 0 = λ l. IsLaidOut l end heads × IsInStep b end l × Spells b.holds.journal l in
+    subst S (sym none) (begun.0, begun.1, step_spells b end [] begun.1 b.holds now)
+
+pub kept_begun : (bodies : List (List ℕ)) (a b c : DiskState) → bodies ≡ [] → EachSpells a bodies → Syncs a b → KeepsBodies [] b c → KeepsBodies bodies a c
+kept_begun bodies a b c none each syncs second =
+    let K : List (List ℕ) → Type 0 = λ l. KeepsBodies l b c in
+    kept_join (kept_sync bodies a b each syncs) syncs.beside (subst K (sym none) second)
 
 -- a wrong byte in the first window is wrong in the journal
 pub wrong_in_view : (bytes window journal : List ℕ) (from at : ℕ) → bytes ≡ window → from ≡ 0 → IsView window from journal → 16 ≤ length window → 17 < length journal → IsFirstWrong bytes at → IsNotJournal journal at

@@ -162,7 +162,7 @@ fn begin<D: Disk>(alloc: Global, disk: &mut D) -> Result<(Journal, Vec<Head>), J
     ensures end { IfOk result (λ p. p.0.end ≡ 17) }
     ensures none { IfOk result (λ p. p.1.items ≡ []) }
     ensures within { OnOk result (17 ≤ (D.disk disk.new).reach.journal) }
-    ensures in_step { D.disk_tells → OnOk result (IsInStep (D.disk disk.new) 17 []) }
+    ensures in_step { D.disk_tells → IfOk result (λ p. IsLaidOut [] p.0.end p.1.items × IsInStep (D.disk disk.new) p.0.end []) }
     ensures crash { D.disk_tells → KeepsBodies [] (D.disk disk.old) (D.disk disk.new) }
     ensures pages { D.disk_tells → KeepsPages (D.disk disk.old) (D.disk disk.new) }
     ensures pages_hold { D.disk_tells → OnOk result ((D.disk disk.new).holds.pages ≡ (D.disk disk.old).holds.pages) }

@@ -19,4 +19,4 @@ returns-clause-crash g c = λ tells. begun _ _ (omega (arith, g.met.D.Disk.reach
 
 pub returns-clause-in_step : goal.returns-clause-in_step
 unfolding header
-returns-clause-in_step g c = λ tells. begun_in_step _ _ _ refl (c.in_ok-write_through.ensures.stays tells)
+returns-clause-in_step g c = λ tells. begun_in_step _ _ _ _ _ refl (c.in_ok-write_through.ensures.stays tells) c.at.ensures.end c.new.ensures.items
