@@ -33,9 +33,9 @@ stands_open bytes all count enough view is_open spelled room =
     let is : length body ≡ count = omega (arith, length-take count tail, long, room) in
     let lb = to_be_bytes w32 (length body) in
     let whole : all ≡ record_bytes body ++ drop count tail =
-        counted bytes all count enough view is_open spelled ∙ ap (λ n. open_gate ∷ (to_be_bytes w32 n ++ tail)) (sym is)
-        ∙ ap (λ (l : List ℕ). open_gate ∷ (lb ++ l)) (sym (take-append-drop count tail))
-        ∙ ap (λ (l : List ℕ). open_gate ∷ l) (sym (append_assoc lb body (drop count tail))) in
+    counted bytes all count enough view is_open spelled ∙ ap (λ n. open_gate ∷ (to_be_bytes w32 n ++ tail)) (sym is)
+    ∙ ap (λ (l : List ℕ). open_gate ∷ (lb ++ l)) (sym (take-append-drop count tail))
+    ∙ ap (λ (l : List ℕ). open_gate ∷ l) (sym (append_assoc lb body (drop count tail))) in
     (body, (drop count tail, whole, is, omega (arith, length-drop count tail, long, room)))
 
 -- the part of a view from a later place on is a view from there
@@ -48,7 +48,7 @@ view_from d bytes journal from gate same view low high =
     let split : length bytes ≡ k + left = omega (arith, long, low, high) in
     let there : drop k (drop from journal) ≡ drop gate journal = drop-drop k from journal ∙ ap (λ n. drop n journal) (omega (arith, low)) in
     let later : drop k d ≡ take left (drop gate journal) =
-        ap (drop k) (same ∙ view) ∙ ap (λ n. drop k (take n (drop from journal))) split ∙ drop-take k left (drop from journal) ∙ ap (take left) there in
+    ap (drop k) (same ∙ view) ∙ ap (λ n. drop k (take n (drop from journal))) split ∙ drop-take k left (drop from journal) ∙ ap (take left) there in
     let is : take left (drop k d) ≡ take left (drop gate journal) = ap (take left) later ∙ take-take left left (drop gate journal) (omega arith) in
     let count : length (take left (drop k d)) ≡ left = omega (arith, length-take left (drop k d), length-drop k d) in
     is ∙ ap (λ n. take n (drop gate journal)) (sym count)

@@ -6,3 +6,5 @@ pub mod PagesLemmas
 pub mod GateLemmas
 pub mod ScanLemmas
 pub mod LoadLemmas
+pub mod StepLemmas
+pub mod Examples

@@ -1,18 +1,18 @@
 -- What a load does to the disk, and what it finds.
-use Rattle.std.proofs.Common.{◌≡◌, ◌⊎◌, ℕ, ◌+◌, ◌<◌, ◌≤◌, List, [], ◌∷◌, ◌++◌, length, take, drop, get_or, refl, inl, inr, ap, subst, sym, ◌∙◌, arith, append_assoc, length-append}
-use Rattle.std.proofs.lemmas.List.{append-nil, take-take, get_or-take, length-take}
+use Rattle.std.proofs.Common.{◌≡◌, ℕ, ◌<◌, ◌≤◌, List, [], ◌∷◌, ◌++◌, length, take, drop, get_or, refl, inl, inr, ap, subst, sym, ◌∙◌, arith, append_assoc, length-append}
+use Rattle.std.proofs.lemmas.List.{append-nil, take-take, get_or-take}
 use Rattle.machine_model.specs.Areas.{Bytes}
 use Rattle.machine_model.specs.States.{DiskState, moment}
-use Rattle.machine_model.specs.Images.{MayLeave, Leaves, Only, Torn, TornFrom}
-use Rattle.machine_model.specs.Moments.{GoesOn, LeavesOnly, LeftSince}
-use Rattle.machine_model.specs.Calls.{OnlyReads, OnlyFails, Syncs, IsSynced, WritesThrough, Stays, written}
-use Rattle.machine_model.specs.declared.area.Area.TheVariants.{Journal, Pages}
+use Rattle.machine_model.specs.Images.{MayLeave, Leaves, Only}
+use Rattle.machine_model.specs.Moments.{LeavesOnly, LeftSince}
+use Rattle.machine_model.specs.Calls.{OnlyReads, OnlyFails, Syncs, IsSynced, WritesThrough, Stays}
+use Rattle.machine_model.specs.declared.area.Area.TheVariants.{Journal}
 use Rattle.machine_model.proofs.MomentLemmas.{joined, goes_on_joins, goes_on_reads, since_now, allowed_left}
 use Rattle.machine_model.proofs.ImageLemmas.{only_synced}
 use Rattle.gate_journal.specs.declared.head.Head.{Head}
 use Rattle.gate_journal.specs.Header.{header}
 use Rattle.gate_journal.specs.Records.{front}
-use Rattle.gate_journal.specs.Spelled.{SpellsLong, Spells, EachSpells}
+use Rattle.gate_journal.specs.Spelled.{Spells, EachSpells}
 use Rattle.gate_journal.specs.Refused.{IsFirstWrong, IsCutShort, IsNotJournal}
 use Rattle.gate_journal.specs.Found.{IsLaidOut, IsFound}
 use Rattle.gate_journal.specs.InStep.{IsInStep}
@@ -47,42 +47,57 @@ KeptBodies bodies old image beside = Spells image.journal bodies × (beside ≡ 
 
 pub kept_sync : (bodies : List (List ℕ)) (a b : DiskState) → EachSpells a bodies → Syncs a b → KeepsBodies bodies a b
 unfolding KeptBodies
-kept_sync bodies a b each syncs = record { goes_on = syncs.goes_on; images = λ image beside left.
-    let was = syncs.during image beside left in (each image was.0, was.1) }
+kept_sync bodies a b each syncs = record {
+  goes_on = syncs.goes_on;
+  images = λ image beside left.
+      let was = syncs.during image beside left in (each image was.0, was.1);
+}
 
 kept_join : {bodies : List (List ℕ)} {a b c : DiskState} → KeepsBodies bodies a b → b.now.beside ≡ a.now.beside → KeepsBodies bodies b c → KeepsBodies bodies a c
 unfolding KeptBodies
 kept_join {bodies} {a} {b} {c} first same second = record {
   goes_on = goes_on_joins first.goes_on second.goes_on;
   images = joined (KeptBodies bodies a) first.goes_on first.images second.goes_on (λ image beside left.
-    let later = second.images image beside left in (later.0, later.1 ∙ same)) }
+      let later = second.images image beside left in (later.0, later.1 ∙ same));
+}
 
 pub kept_reads : (bodies : List (List ℕ)) (a b c : DiskState) → KeepsBodies bodies a b → OnlyReads b c → KeepsBodies bodies a c
 unfolding KeptBodies
 kept_reads bodies a b c first same = record {
   goes_on = goes_on_joins first.goes_on (goes_on_reads b c same);
   images = joined (KeptBodies bodies a) first.goes_on first.images (goes_on_reads b c same) (λ image beside left.
-    let now = reads_leave b c same image beside left in
-    let was = first.images image b.now.beside (allowed_left b (moment a) image now.0) in
-    (was.0, now.1 ∙ was.1)) }
+      let now = reads_leave b c same image beside left in
+      let was = first.images image b.now.beside (allowed_left b (moment a) image now.0) in
+      (was.0, now.1 ∙ was.1));
+}
 
 pub pages_sync : (a b : DiskState) → Syncs a b → KeepsPages a b
-pages_sync a b syncs = record { goes_on = syncs.goes_on; images = λ image beside left.
-    let was = syncs.during image beside left in (image, was.0, refl, was.1) }
+pages_sync a b syncs = record {
+  goes_on = syncs.goes_on;
+  images = λ image beside left.
+      let was = syncs.during image beside left in (image, was.0, refl, was.1);
+}
 
 pub pages_read : (a b : DiskState) → OnlyReads a b → KeepsPages a b
-pages_read a b same = record { goes_on = goes_on_reads a b same; images = λ image beside left.
-    let now = reads_leave a b same image beside left in (image, now.0, refl, now.1) }
+pages_read a b same = record {
+  goes_on = goes_on_reads a b same;
+  images = λ image beside left.
+      let now = reads_leave a b same image beside left in (image, now.0, refl, now.1);
+}
 
 -- while a new journal is written each image has at most 17 bytes
 pub begun : (a b : DiskState) → length a.holds.journal ≤ 17 → Only a.holds a → WritesThrough Journal 0 17 a b → KeepsBodies [] a b
-begun a b short one through = record { goes_on = through.goes_on; images = λ image beside left.
-    let w = through.images image beside left in
-    let was : length w.0.journal ≤ 17 = omega (arith, short, ap (λ (i : Bytes). length i.journal) (one w.0 w.1)) in
-    let few : length image.journal ≤ 17 = elim w.2 as (λ _. length image.journal ≤ 17) [
-        inl equal ↦ omega (arith, was, ap (λ (i : Bytes). length i.journal) equal)
-      | inr torn ↦ omega (arith, was, torn.here.no_longer) ] in
-    (inl (few, refl), w.3) }
+begun a b short one through = record {
+  goes_on = through.goes_on;
+  images = λ image beside left.
+      let w = through.images image beside left in
+      let was : length w.0.journal ≤ 17 = omega (arith, short, ap (λ (i : Bytes). length i.journal) (one w.0 w.1)) in
+      let few : length image.journal ≤ 17 = elim w.2 as (λ _. length image.journal ≤ 17) [
+        | inl equal ↦ omega (arith, was, ap (λ (i : Bytes). length i.journal) equal)
+        | inr torn ↦ omega (arith, was, torn.here.no_longer)
+      ] in
+      (inl (few, refl), w.3);
+}
 
 length-front_none : length (front []) ≡ 16
 length-front_none = omega (arith, length-append header [], length-header)
@@ -92,10 +107,16 @@ pub begun_in_step : (a b : DiskState) (bytes : List ℕ) (end : ℕ) (heads : Li
 begun_in_step a b bytes end heads new stays here none =
     let rest = drop (length bytes) a.holds.journal in
     let journal : b.holds.journal ≡ front [] ++ 0 ∷ rest = ap (λ (i : Bytes). i.journal) stays.holds ∙ written_behind 0 bytes [] a.holds.journal refl
-        ∙ ap (λ (l : List ℕ). l ++ rest) new ∙ append_assoc header (0 ∷ []) rest ∙ ap (λ (l : List ℕ). l ++ 0 ∷ rest) (sym (append-nil header)) in
-    (record { end_is = omega (arith, here, length-front_none); heads_are = none },
-     record { gate = 0; shut = λ same. cc; fit = λ k d inside. absurd (omega (arith, inside)); end_is = omega (arith, here, length-front_none);
-       images = λ image allowed. (rest, ap (λ (i : Bytes). i.journal) (stays.only image allowed) ∙ journal) })
+    ∙ ap (λ (l : List ℕ). l ++ rest) new ∙ append_assoc header (0 ∷ []) rest ∙ ap (λ (l : List ℕ). l ++ 0 ∷ rest) (sym (append-nil header)) in (
+      record { end_is = omega (arith, here, length-front_none); heads_are = none },
+      record {
+        gate = 0;
+        shut = λ same. cc;
+        fit = λ k d inside. absurd (omega (arith, inside));
+        end_is = omega (arith, here, length-front_none);
+        images = λ image allowed. (rest, ap (λ (i : Bytes). i.journal) (stays.only image allowed) ∙ journal);
+      },
+    )
 
 -- a journal of at most 17 bytes spells no body
 pub none_spelled : (bytes : List ℕ) (bodies : List (List ℕ)) → length bytes ≤ 17 → Spells bytes bodies → bodies ≡ []
@@ -146,14 +167,21 @@ found_in_step : (d : DiskState) (end : ℕ) (heads : List Head) (bodies : List (
     → IsFound d.holds.journal end heads → Spells d.holds.journal bodies → IsLaidOut bodies end heads × IsInStep d end bodies × Spells d.holds.journal bodies
 found_in_step d end heads bodies one longer found (inl few) = absurd (omega (arith, longer, few.0))
 found_in_step d end heads bodies one longer found (inr long) =
-    let laid_out = found_are d.holds.journal end heads bodies found (inr long) in
-    (laid_out,
-     record { gate = long.gate; shut = long.shut; fit = long.fit; end_is = laid_out.end_is; images = λ image allowed. (long.rest, ap (λ (i : Bytes). i.journal) (one image allowed) ∙ long.whole) },
-     inr long)
+    let laid_out = found_are d.holds.journal end heads bodies found (inr long) in (
+      laid_out,
+      record { gate = long.gate; shut = long.shut; fit = long.fit; end_is = laid_out.end_is; images = λ image allowed. (long.rest, ap (λ (i : Bytes). i.journal) (one image allowed) ∙ long.whole) },
+      inr long,
+    )
 
 step_read : (a b : DiskState) (end : ℕ) (bodies : List (List ℕ)) → OnlyReads a b → IsInStep a end bodies → IsInStep b end bodies
-step_read a b end bodies same step = record { gate = step.gate; shut = step.shut; fit = step.fit; end_is = step.end_is; images = λ image allowed.
-    let M : DiskState → Type 0 = λ d. MayLeave d.now image in step.images image (subst M same allowed) }
+step_read a b end bodies same step = record {
+  gate = step.gate;
+  shut = step.shut;
+  fit = step.fit;
+  end_is = step.end_is;
+  images = λ image allowed.
+      let M : DiskState → Type 0 = λ d. MayLeave d.now image in step.images image (subst M same allowed);
+}
 
 pub in_step_after : (a b : DiskState) (end : ℕ) (heads : List Head) (bodies : List (List ℕ)) → OnlyReads a b → Only a.holds a → 17 < length a.holds.journal
     → IsFound a.holds.journal end heads → Spells a.holds.journal bodies → IsLaidOut bodies end heads × IsInStep b end bodies × Spells b.holds.journal bodies

@@ -1,7 +1,7 @@
 -- How a scan goes over the records.
-use Rattle.std.proofs.Common.{◌≡◌, ◌≢◌, ◌⊎◌, ℕ, ◌+◌, ◌<◌, ◌≤◌, ◌^◌, List, [], ◌∷◌, ◌++◌, length, take, drop, All, refl, inl, inr, ap, subst, sym, ◌∙◌, arith, append_assoc, length-append}
+use Rattle.std.proofs.Common.{◌≡◌, ℕ, ◌+◌, ◌<◌, ◌^◌, List, [], ◌∷◌, ◌++◌, length, take, drop, All, refl, inr, ap, subst, sym, ◌∙◌, arith, append_assoc, length-append}
 use Rattle.std.specs.Int.{w32, to_be_bytes}
-use Rattle.std.proofs.lemmas.List.{append-nil, take-append-drop, append_cancel_left}
+use Rattle.std.proofs.lemmas.List.{append-nil, take-append-drop}
 use Rattle.std.proofs.lemmas.List.Elements.{All-cons}
 use Rattle.std.proofs.Math.Seq.{drop-append_seam}
 use Rattle.machine_model.specs.States.{DiskState}
@@ -10,11 +10,11 @@ use Rattle.gate_journal.specs.declared.head.Head.{Head}
 use Rattle.gate_journal.specs.declared.gate.Gate.{Gate}
 use Rattle.gate_journal.specs.declared.gate.Gate.TheVariants.{Closed, Open, CutShort}
 use Rattle.gate_journal.specs.Header.{header}
-use Rattle.gate_journal.specs.Records.{open_gate, framed, record_bytes, records, front, Fit}
-use Rattle.gate_journal.specs.Spelled.{SpellsLong, Spells}
-use Rattle.gate_journal.specs.Refused.{IsCut, IsCutShort}
+use Rattle.gate_journal.specs.Records.{record_bytes, records, front}
+use Rattle.gate_journal.specs.Spelled.{Spells}
+use Rattle.gate_journal.specs.Refused.{IsCutShort}
 use Rattle.gate_journal.specs.Heads.{heads_of, AreInRow, LiesBefore}
-use Rattle.gate_journal.specs.Found.{IsLaidOut, IsFound}
+use Rattle.gate_journal.specs.Found.{IsFound}
 use Rattle.gate_journal.specs.Scanning.{IsView, StandsAt, IsScanned}
 use Rattle.gate_journal.proofs.SpellingLemmas.{length-header, spelled_not_refused}
 use Rattle.gate_journal.proofs.AppendLemmas.{front_more, fit_more}
@@ -53,9 +53,14 @@ heads_more from gate (first ∷ bodies) body here = ap (λ (heads : List Head). 
 
 -- before the first gate no record was passed
 pub scanned_none : (bytes : List ℕ) → take 16 bytes ≡ header → IsScanned bytes 16 []
-scanned_none bytes right = record { bodies = []; rest = drop 16 bytes; fit = λ k d inside. absurd (omega (arith, inside));
+scanned_none bytes right = record {
+  bodies = [];
+  rest = drop 16 bytes;
+  fit = λ k d inside. absurd (omega (arith, inside));
   whole = sym (take-append-drop 16 bytes) ∙ ap (λ (l : List ℕ). l ++ drop 16 bytes) (right ∙ sym (append-nil header));
-  gate_is = sym (length-front []); heads_are = refl }
+  gate_is = sym (length-front []);
+  heads_are = refl;
+}
 
 -- what is left from the gate on
 left_at : (bytes : List ℕ) (gate : ℕ) (heads : List Head) (s : IsScanned bytes gate heads) → drop gate bytes ≡ s.rest
@@ -70,12 +75,16 @@ scanned_and bytes gate count heads fits s stands =
     let left : s.rest ≡ record_bytes body ++ rest = sym (left_at bytes gate heads s) ∙ stands.1.1 in
     let long : length body ≡ count = stands.1.2 in
     let short : length body < 2 ^ 32 = omega (arith, long, fits) in
-    record { bodies = s.bodies ++ body ∷ []; rest = rest; fit = fit_more s.bodies body s.fit short;
+    record {
+      bodies = s.bodies ++ body ∷ [];
+      rest = rest;
+      fit = fit_more s.bodies body s.fit short;
       whole = s.whole ∙ ap (λ (l : List ℕ). front s.bodies ++ l) left ∙ sym (append_assoc (front s.bodies) (record_bytes body) rest) ∙ ap (λ (l : List ℕ). l ++ rest) (sym (front_more s.bodies body));
       gate_is = omega (arith, long, s.gate_is, ap length (front_more s.bodies body), length-append (front s.bodies) (record_bytes body), length-append (to_be_bytes w32 (length body)) body);
       heads_are = ap (λ (h : List Head). h ++ record { gate = gate; body = gate + 5; bytes = count } ∷ []) s.heads_are
-        ∙ ap (λ n. heads_of 16 s.bodies ++ record { gate = gate; body = gate + 5; bytes = n } ∷ []) (sym long)
-        ∙ sym (heads_more 16 gate s.bodies body (s.gate_is ∙ length-front s.bodies)) }
+          ∙ ap (λ n. heads_of 16 s.bodies ++ record { gate = gate; body = gate + 5; bytes = n } ∷ []) (sym long)
+          ∙ sym (heads_more 16 gate s.bodies body (s.gate_is ∙ length-front s.bodies));
+    }
 
 pub scanned_next : {bytes : List ℕ} {gate count next : ℕ} {heads more : List Head} → count < 2 ^ 32 → IsScanned bytes gate heads → StandsAt (drop gate bytes) (Open count)
     → more ≡ heads ++ record { gate = gate; body = gate + 5; bytes = count } ∷ [] → next ≡ gate + 5 + count → IsScanned bytes next more
@@ -97,15 +106,30 @@ stands_before a b gate found wanted same is stands =
 -- at a closed gate the bodies are found
 pub scanned_closed : (bytes : List ℕ) (gate : ℕ) (heads : List Head) → IsScanned bytes gate heads → StandsAt (drop gate bytes) Closed → IsFound bytes (gate + 1) heads
 scanned_closed bytes gate heads s stands =
-    let spells : Spells bytes s.bodies = inr (record { gate = stands.0; rest = stands.1.0; shut = stands.1.2; fit = s.fit;
-        whole = s.whole ∙ ap (λ (l : List ℕ). front s.bodies ++ l) (sym (left_at bytes gate heads s) ∙ stands.1.1) }) in
-    record { bodies = s.bodies; spelled = spells; laid_out = record { end_is = ap (λ n. n + 1) s.gate_is; heads_are = s.heads_are };
-      not_refused = λ at. spelled_not_refused bytes s.bodies at spells }
+    let spells : Spells bytes s.bodies = inr (record {
+      gate = stands.0;
+      rest = stands.1.0;
+      shut = stands.1.2;
+      fit = s.fit;
+      whole = s.whole ∙ ap (λ (l : List ℕ). front s.bodies ++ l) (sym (left_at bytes gate heads s) ∙ stands.1.1);
+    }) in
+    record {
+      bodies = s.bodies;
+      spelled = spells;
+      laid_out = record { end_is = ap (λ n. n + 1) s.gate_is; heads_are = s.heads_are };
+      not_refused = λ at. spelled_not_refused bytes s.bodies at spells;
+    }
 
 pub found_at : {bytes : List ℕ} {at end : ℕ} {heads : List Head} → at ≡ end → IsFound bytes end heads → IsFound bytes at heads
 found_at {bytes} {at} {end} {heads} same found = subst (λ (n : ℕ). IsFound bytes n heads) (sym same) found
 
 -- at a gate that is cut short the bytes are refused
 pub scanned_cut : (bytes : List ℕ) (gate : ℕ) (heads : List Head) → IsScanned bytes gate heads → StandsAt (drop gate bytes) CutShort → IsCutShort bytes gate
-scanned_cut bytes gate heads s stands = record { bodies = s.bodies; rest = stands.0; fit = s.fit;
-  whole = s.whole ∙ ap (λ (l : List ℕ). front s.bodies ++ l) (sym (left_at bytes gate heads s) ∙ stands.1); at_is = s.gate_is; cut = stands.2 }
+scanned_cut bytes gate heads s stands = record {
+  bodies = s.bodies;
+  rest = stands.0;
+  fit = s.fit;
+  whole = s.whole ∙ ap (λ (l : List ℕ). front s.bodies ++ l) (sym (left_at bytes gate heads s) ∙ stands.1);
+  at_is = s.gate_is;
+  cut = stands.2;
+}

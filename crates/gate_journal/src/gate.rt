@@ -44,5 +44,9 @@ pub(crate) fn gate_in(bytes: &[u8], left: u64) -> Gate
         return Gate::CutShort;
     }
     let count = spelled_count(&bytes[1..5]);
-    if GATE_BYTES + u64::from(count) < left { Gate::Open(count) } else { Gate::CutShort }
+    if GATE_BYTES + u64::from(count) < left {
+        Gate::Open(count)
+    } else {
+        Gate::CutShort
+    }
 }

@@ -44,7 +44,7 @@ impl Journal {
         // If they spell bodies, these are what was found, and the disk is in step with them.
         ensures in_step { D.disk_tells → (bodies : List (List ℕ)) → Spells (D.disk disk.old).holds.journal bodies →
             IfOk result (λ p. IsLaidOut bodies p.0.end p.1.items × IsInStep (D.disk disk.new) p.0.end bodies
-                × Spells (D.disk disk.new).holds.journal bodies) }
+            × Spells (D.disk disk.new).holds.journal bodies) }
         // Where each image spells one list of bodies, each image left since spells it, and it is what was found.
         ensures crash { D.disk_tells → (bodies : List (List ℕ)) → EachSpells (D.disk disk.old) bodies →
             KeepsBodies bodies (D.disk disk.old) (D.disk disk.new) }
@@ -99,7 +99,7 @@ fn open<D: Disk>(
     ensures in_step { D.disk_tells → Only (D.disk disk.old).holds (D.disk disk.old) →
         (bodies : List (List ℕ)) → Spells (D.disk disk.old).holds.journal bodies →
         IfOk result (λ p. IsLaidOut bodies p.0.end p.1.items × IsInStep (D.disk disk.new) p.0.end bodies
-            × Spells (D.disk disk.new).holds.journal bodies) }
+        × Spells (D.disk disk.new).holds.journal bodies) }
     ensures pages_read { D.disk_tells → (D.disk disk.new).bytes_read.pages ≡ (D.disk disk.old).bytes_read.pages }
 {
     let window = Window::first(alloc, disk, total)?;

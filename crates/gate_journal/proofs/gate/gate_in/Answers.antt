@@ -1,4 +1,4 @@
-use Rattle.std.proofs.Common.{arith, rules, sym, ◌∙◌}
+use Rattle.std.proofs.Common.{arith, rules}
 use Rattle.gate_journal.proofs.GateLemmas.{stands_open}
 use Rattle.gate_journal.proofs.gate.gate_in.Goals as goal
 

@@ -1,4 +1,4 @@
-use Rattle.std.proofs.Common.{◌≡◌, ℕ, ◌+◌, ◌-◌, ◌<◌, ◌≤◌, take, vec_len}
+use Rattle.std.proofs.Common.{◌≡◌, ◌+◌, ◌-◌, ◌<◌, ◌≤◌, take, vec_len}
 use Rattle.machine_model.specs.Calls.{OnlyReads}
 use Rattle.gate_journal.specs.Header.{header}
 use Rattle.gate_journal.specs.Heads.{AreInRow}
@@ -22,4 +22,5 @@ invariant-loop-heads g l = record {
   view : g.D.Disk.disk_tells → IsView l.fn.window.bytes.items l.fn.window.from (g.D.Disk.disk l.fn.disk).holds.journal
       → IsView l.window.bytes.items l.window.from (g.D.Disk.disk l.fn.disk).holds.journal;
   scanned : g.D.Disk.disk_tells → IsView l.fn.window.bytes.items l.fn.window.from (g.D.Disk.disk l.fn.disk).holds.journal
-      → take 16 (g.D.Disk.disk l.fn.disk).holds.journal ≡ header → IsScanned (g.D.Disk.disk l.fn.disk).holds.journal l.gate l.heads.items }
+      → take 16 (g.D.Disk.disk l.fn.disk).holds.journal ≡ header → IsScanned (g.D.Disk.disk l.fn.disk).holds.journal l.gate l.heads.items;
+}

@@ -1,4 +1,4 @@
-use Rattle.std.proofs.Common.{◌≡◌, ◌≤◌, ℕ, List, [], length, ap, subst, sym, arith}
+use Rattle.std.proofs.Common.{◌≤◌, ℕ, length, ap, subst, sym, arith}
 use Rattle.std.proofs.lemmas.Result.{IfOk-weaker}
 use Rattle.machine_model.specs.Areas.{Both, Bytes}
 use Rattle.machine_model.specs.declared.area.Area.TheVariants.{Journal}
@@ -27,7 +27,7 @@ pub returns-then-total-gt-NEW_BYTES-clause-finds : goal.returns-then-total-gt-NE
 returns-then-total-gt-NEW_BYTES-clause-finds g c = λ tells bodies each.
     let spells : Spells (g.D.Disk.disk c.args.disk.now).holds.journal bodies = each _ (g.met.D.Disk.holds_allowed _ tells) in
     IfOk-weaker c.open.result _ _ (λ p there. (there.0, there.1)) (c.open.ensures.in_step tells (c.in_ok-total.ensures.one tells) bodies
-      (subst (λ (h : Bytes). Spells h.journal bodies) (sym (c.settle.ensures.images tells).holds) spells))
+    (subst (λ (h : Bytes). Spells h.journal bodies) (sym (c.settle.ensures.images tells).holds) spells))
 
 pub returns-else-total-gt-NEW_BYTES-clause-found : goal.returns-else-total-gt-NEW_BYTES-clause-found
 returns-else-total-gt-NEW_BYTES-clause-found g c = λ tells.
