@@ -12,7 +12,7 @@ use Rattle.machine_model.specs.Calls.{WritesThrough, Stays, written}
 use Rattle.machine_model.specs.declared.area.Area.TheVariants.{Journal}
 use Rattle.machine_model.proofs.MomentLemmas.{joined, goes_on_joins, goes_on_same, left_now}
 use Rattle.gate_journal.specs.Header.{header}
-use Rattle.gate_journal.specs.Records.{open_gate, framed, frame_bytes, record_bytes, records, front, Fit}
+use Rattle.gate_journal.specs.Records.{open_gate, framed, behind_gate, record_bytes, records, front, Fit}
 use Rattle.gate_journal.specs.Spelled.{SpellsLong, Spells, EachSpells}
 use Rattle.gate_journal.specs.InStep.{IsInStep}
 use Rattle.gate_journal.specs.Crash.{Appends}
@@ -92,12 +92,12 @@ pub record IsStaged (d : DiskState) (end : ℕ) (bodies : List (List ℕ)) (body
   pub only : Only d.holds d
   pub journal : d.holds.journal ≡ front bodies ++ gate ∷ (framed body ++ 0 ∷ rest)
 
-pub staged : {at end : ℕ} {bodies : List (List ℕ)} {body bytes : List ℕ} {a b : DiskState} → at ≡ end → length body < 2 ^ 32 → bytes ≡ frame_bytes body → IsInStep a end bodies → MayLeave a.now a.holds
+pub staged : {at end : ℕ} {bodies : List (List ℕ)} {body bytes : List ℕ} {a b : DiskState} → at ≡ end → length body < 2 ^ 32 → bytes ≡ behind_gate body → IsInStep a end bodies → MayLeave a.now a.holds
     → Stays Journal at bytes a b → IsStaged b at bodies body
 staged {at} {end} {bodies} {body} {bytes} {a} {b} same fits spelled step now stays =
     let is = step.images a.holds now in
     let p = front bodies ++ step.gate ∷ [] in
-    let rest = drop (length (frame_bytes body)) is.0 in
+    let rest = drop (length (behind_gate body)) is.0 in
     let here : at ≡ length p = omega (arith, same, step.end_is, length-append (front bodies) (step.gate ∷ [])) in
     record {
       gate = step.gate;
@@ -107,8 +107,8 @@ staged {at} {end} {bodies} {body} {bytes} {a} {b} same fits spelled step now sta
       fits = fits;
       end_is = same ∙ step.end_is;
       only = stays.only;
-      journal = ap (λ (i : Bytes). i.journal) stays.holds ∙ ap (λ (l : List ℕ). written at l a.holds.journal) spelled ∙ ap (written at (frame_bytes body)) (is.1 ∙ sym (append_assoc (front bodies) (step.gate ∷ []) is.0))
-          ∙ written_behind at (frame_bytes body) p is.0 here ∙ append_assoc (front bodies) (step.gate ∷ []) (frame_bytes body ++ rest)
+      journal = ap (λ (i : Bytes). i.journal) stays.holds ∙ ap (λ (l : List ℕ). written at l a.holds.journal) spelled ∙ ap (written at (behind_gate body)) (is.1 ∙ sym (append_assoc (front bodies) (step.gate ∷ []) is.0))
+          ∙ written_behind at (behind_gate body) p is.0 here ∙ append_assoc (front bodies) (step.gate ∷ []) (behind_gate body ++ rest)
           ∙ ap (λ (l : List ℕ). front bodies ++ step.gate ∷ l) (append_assoc (framed body) (0 ∷ []) rest);
     }
 
@@ -146,21 +146,22 @@ gate_written {end} {bodies} {body} {b} {c} s through = record {
 }
 
 -- both writes
-pub both_written : {at end n : ℕ} {bodies : List (List ℕ)} {body bytes : List ℕ} {a b c : DiskState} → at ≡ end → length body < 2 ^ 32 → bytes ≡ frame_bytes body → IsInStep a end bodies → MayLeave a.now a.holds
-    → WritesThrough Journal at n a b → Stays Journal at bytes a b → b.now.beside ≡ a.now.beside → WritesThrough Journal (at - 1) 1 b c → Appends bodies body a c
-both_written {body = body} same fits spelled step now first stays beside second =
-    appends_join (record_written body same step first) beside (gate_written (staged same fits spelled step now stays) second)
+pub both_written : {at end n : ℕ} {bodies : List (List ℕ)} {body bytes gate : List ℕ} {a b c : DiskState} → at ≡ end → length body < 2 ^ 32 → bytes ≡ behind_gate body → gate ≡ open_gate ∷ []
+    → IsInStep a end bodies → MayLeave a.now a.holds → WritesThrough Journal at n a b → Stays Journal at bytes a b → b.now.beside ≡ a.now.beside → WritesThrough Journal (at - 1) (length gate) b c → Appends bodies body a c
+both_written {at = at} {body = body} {b = b} {c = c} same fits spelled is_open step now first stays beside second =
+    let W : ℕ → Type 0 = λ n. WritesThrough Journal (at - 1) n b c in
+    appends_join (record_written body same step first) beside (gate_written (staged same fits spelled step now stays) (subst W (ap length is_open) second))
 
-pub length-frame_bytes : (body : List ℕ) → length (frame_bytes body) ≡ 5 + length body
-length-frame_bytes body = omega (arith, length-append (framed body) (0 ∷ []), length-append (to_be_bytes w32 (length body)) body)
+pub length-behind_gate : (body : List ℕ) → length (behind_gate body) ≡ 5 + length body
+length-behind_gate body = omega (arith, length-append (framed body) (0 ∷ []), length-append (to_be_bytes w32 (length body)) body)
 
 -- and then the disk is in step with one body more
-pub appended : {end : ℕ} {bodies : List (List ℕ)} {body : List ℕ} {b c : DiskState} → IsStaged b end bodies body → Stays Journal (end - 1) (open_gate ∷ []) b c
+pub appended : {end : ℕ} {bodies : List (List ℕ)} {body gate : List ℕ} {b c : DiskState} → IsStaged b end bodies body → gate ≡ open_gate ∷ [] → Stays Journal (end - 1) gate b c
     → IsInStep c (end + 5 + length body) (bodies ++ body ∷ [])
-appended {end} {bodies} {body} {b} {c} s stays =
+appended {end} {bodies} {body} {gate} {b} {c} s is_open stays =
     let behind = framed body ++ 0 ∷ s.rest in
     let journal : c.holds.journal ≡ front (bodies ++ body ∷ []) ++ 0 ∷ s.rest =
-    ap (λ (i : Bytes). i.journal) stays.holds ∙ ap (written (end - 1) (open_gate ∷ [])) s.journal
+    ap (λ (i : Bytes). i.journal) stays.holds ∙ ap (λ (l : List ℕ). written (end - 1) l b.holds.journal) is_open ∙ ap (written (end - 1) (open_gate ∷ [])) s.journal
     ∙ written_behind (end - 1) (open_gate ∷ []) (front bodies) (s.gate ∷ behind) (omega (arith, s.end_is)) ∙ opened bodies body s.rest in
     record {
       gate = 0;
