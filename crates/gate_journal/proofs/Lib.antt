@@ -3,3 +3,8 @@ pub mod WriteLemmas
 pub mod TornLemmas
 pub mod AppendLemmas
 pub mod PagesLemmas
+pub mod GateLemmas
+pub mod ScanLemmas
+pub mod LoadLemmas
+pub mod StepLemmas
+pub mod Examples

@@ -1,13 +1,12 @@
 -- That bytes spell one list of bodies at most, and are refused at one place at most.
-use Rattle.std.proofs.Common.{◌≡◌, ◌≢◌, ◌⊎◌, ℕ, ◌+◌, ◌<◌, ◌≤◌, ◌^◌, List, [], ◌∷◌, ◌++◌, length, take, drop, get_or, All, suc, refl, inl, inr, ap, subst, sym, ◌∙◌, arith, append_assoc, length-append}
-use Rattle.std.specs.List.{flat_map}
+use Rattle.std.proofs.Common.{◌≡◌, ◌≢◌, ◌⊎◌, ℕ, ◌+◌, ◌<◌, ◌≤◌, ◌^◌, List, [], ◌∷◌, ◌++◌, length, take, drop, get_or, suc, refl, inl, inr, ap, subst, sym, ◌∙◌, arith, append_assoc, length-append}
 use Rattle.std.specs.Int.{w32, to_be_bytes, from_be_bytes}
 use Rattle.std.proofs.lemmas.Nat.{from_be_bytes-to_be_bytes_4}
-use Rattle.std.proofs.lemmas.Bool.{cases_lt, cases_order}
+use Rattle.std.proofs.lemmas.Bool.{cases_lt}
 use Rattle.std.proofs.lemmas.List.{append_cancel_left, get_or_append_left, get_or-take}
 use Rattle.std.proofs.Math.Seq.{take-append_seam, drop-append_seam}
 use Rattle.gate_journal.specs.Header.{header}
-use Rattle.gate_journal.specs.Records.{open_gate, framed, record_bytes, records, front, Fit}
+use Rattle.gate_journal.specs.Records.{open_gate, record_bytes, records, front, Fit}
 use Rattle.gate_journal.specs.Spelled.{SpellsLong, Spells}
 use Rattle.gate_journal.specs.Refused.{IsFirstWrong, IsCut, IsCutShort, IsNotJournal}
 
@@ -21,8 +20,9 @@ length-length n = refl
 -- two lists of one length in front are the same if the whole is
 same_front : (a b s t : List ℕ) → length a ≡ length b → a ++ s ≡ b ++ t → (a ≡ b) × (s ≡ t)
 same_front a b s t long same = (
-    sym (take-append_seam a s) ∙ ap (take (length a)) same ∙ ap (λ n. take n (b ++ t)) long ∙ take-append_seam b t,
-    sym (drop-append_seam a s) ∙ ap (drop (length a)) same ∙ ap (λ n. drop n (b ++ t)) long ∙ drop-append_seam b t)
+  sym (take-append_seam a s) ∙ ap (take (length a)) same ∙ ap (λ n. take n (b ++ t)) long ∙ take-append_seam b t,
+  sym (drop-append_seam a s) ∙ ap (drop (length a)) same ∙ ap (λ n. drop n (b ++ t)) long ∙ drop-append_seam b t,
+)
 
 -- a record in front is read in one way
 same_record : (x y s t : List ℕ) → length x < 2 ^ 32 → length y < 2 ^ 32 → record_bytes x ++ s ≡ record_bytes y ++ t → (x ≡ y) × (s ≡ t)
@@ -52,7 +52,7 @@ goes_on body tail fits some (inr cut) =
     let rest : cut.0 ≡ lb ++ (body ++ tail) = ap (drop 1) (sym cut.1) ∙ append_assoc lb body tail in
     let long : length cut.0 ≡ 4 + (length body + length tail) = ap length rest ∙ length-append lb (body ++ tail) ∙ ap (λ n. 4 + n) (length-append body tail) in
     let told : from_be_bytes w32 (take 4 cut.0) ≡ length body =
-        ap (λ (l : List ℕ). from_be_bytes w32 (take 4 l)) rest ∙ ap (from_be_bytes w32) (take-append_seam lb (body ++ tail)) ∙ from_be_bytes-to_be_bytes_4 (length body) fits in
+    ap (λ (l : List ℕ). from_be_bytes w32 (take 4 l)) rest ∙ ap (from_be_bytes w32) (take-append_seam lb (body ++ tail)) ∙ from_be_bytes-to_be_bytes_4 (length body) fits in
     elim cut.2 as (λ _. ⊥) [ inl few ↦ omega (arith, few, long) | inr short ↦ omega (arith, short, long, told) ]
 
 fits_first : (y : List ℕ) (b : List (List ℕ)) → Fit (y ∷ b) → length y < 2 ^ 32
@@ -117,8 +117,9 @@ ends_right {bytes} {bodies} {tail} at ends wrong = header_right bytes (records b
 pub spelled_not_refused : (bytes : List ℕ) (bodies : List (List ℕ)) (at : ℕ) → Spells bytes bodies → IsNotJournal bytes at → ⊥
 spelled_not_refused bytes bodies at (inl few) refused = omega (arith, few.0, refused.0)
 spelled_not_refused bytes bodies at (inr long) refused = elim refused.1 as (λ _. ⊥) [
-    inl wrong ↦ ends_right at (ends_spelled long) wrong
-  | inr cut ↦ long.shut (ap (λ (l : List ℕ). get_or l 0 0) (ends_once (ends_spelled long) (ends_cut cut)).1) ]
+  | inl wrong ↦ ends_right at (ends_spelled long) wrong
+  | inr cut ↦ long.shut (ap (λ (l : List ℕ). get_or l 0 0) (ends_once (ends_spelled long) (ends_cut cut)).1)
+]
 
 -- the first of two wrong bytes isn't wrong
 first_not_later : (bytes : List ℕ) (one other : ℕ) → IsFirstWrong bytes one → IsFirstWrong bytes other → one < other → ⊥
@@ -127,17 +128,22 @@ first_not_later bytes one other first second before = first.wrong
 
 first_once : (bytes : List ℕ) (one other : ℕ) → IsFirstWrong bytes one → IsFirstWrong bytes other → one ≡ other
 first_once bytes one other first second = elim (cases_lt one other) as (λ _. one ≡ other) [
-    inl before ↦ absurd (first_not_later bytes one other first second before)
+  | inl before ↦ absurd (first_not_later bytes one other first second before)
   | inr behind ↦ elim (cases_lt other one) as (λ _. one ≡ other) [
-      inl after ↦ absurd (first_not_later bytes other one second first after)
-    | inr here ↦ omega (arith, behind, here) ] ]
+    | inl after ↦ absurd (first_not_later bytes other one second first after)
+    | inr here ↦ omega (arith, behind, here)
+  ]
+]
 
 -- bytes are refused at one place at most
 pub refused_once : (bytes : List ℕ) (one other : ℕ) → IsNotJournal bytes one → IsNotJournal bytes other → one ≡ other
 refused_once bytes one other first second = elim first.1 as (λ _. one ≡ other) [
-    inl wrong ↦ elim second.1 as (λ _. one ≡ other) [
-        inl later ↦ first_once bytes one other wrong later
-      | inr cut ↦ absurd (ends_right one (ends_cut cut) wrong) ]
+  | inl wrong ↦ elim second.1 as (λ _. one ≡ other) [
+    | inl later ↦ first_once bytes one other wrong later
+    | inr cut ↦ absurd (ends_right one (ends_cut cut) wrong)
+  ]
   | inr cut ↦ elim second.1 as (λ _. one ≡ other) [
-        inl wrong ↦ absurd (ends_right other (ends_cut cut) wrong)
-      | inr again ↦ cut.at_is ∙ ap (λ (l : List (List ℕ)). length (front l)) (ends_once (ends_cut cut) (ends_cut again)).0 ∙ sym again.at_is ] ]
+    | inl wrong ↦ absurd (ends_right other (ends_cut cut) wrong)
+    | inr again ↦ cut.at_is ∙ ap (λ (l : List (List ℕ)). length (front l)) (ends_once (ends_cut cut) (ends_cut again)).0 ∙ sym again.at_is
+  ]
+]

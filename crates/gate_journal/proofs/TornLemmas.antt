@@ -1,5 +1,5 @@
 -- What a write leaves of a list of bytes, by the part in front of it.
-use Rattle.std.proofs.Common.{◌≡◌, ◌⊎◌, ℕ, ◌+◌, ◌-◌, ◌<◌, ◌≤◌, max, min, List, [], ◌∷◌, ◌++◌, length, take, drop, get_or, zero, suc, refl, inl, inr, ap, subst, sym, ◌∙◌, arith, append_assoc, length-append}
+use Rattle.std.proofs.Common.{◌≡◌, ◌⊎◌, ℕ, ◌+◌, ◌-◌, ◌<◌, ◌≤◌, List, [], ◌∷◌, ◌++◌, length, take, drop, get_or, zero, suc, refl, inl, inr, ap, sym, ◌∙◌, arith, append_assoc, length-append}
 use Rattle.std.specs.Prelude.{replicate}
 use Rattle.std.proofs.lemmas.Bool.{cases_lt}
 use Rattle.std.proofs.lemmas.List.{append-nil, get_or_append_left, get_or-take, length-take, take-append-drop, ext_get_or}
@@ -11,7 +11,7 @@ use Rattle.machine_model.specs.Calls.{written}
 fronted : (p c : List ℕ) → length p ≤ length c → ((k : ℕ) → k < length p → get_or c k 0 ≡ get_or p k 0) → c ≡ p ++ drop (length p) c
 fronted p c long same =
     let front : take (length p) c ≡ p = ext_get_or 0 (take (length p) c) p (omega (arith, length-take (length p) c)) (λ k inside.
-        let here : k < length p = omega (arith, length-take (length p) c) in get_or-take (length p) c k 0 here ∙ same k here) in
+    let here : k < length p = omega (arith, length-take (length p) c) in get_or-take (length p) c k 0 here ∙ same k here) in
     sym (take-append-drop (length p) c) ∙ ap (λ (l : List ℕ). l ++ drop (length p) c) front
 
 -- what stands before a write that was cut short stays
@@ -35,15 +35,17 @@ torn_byte at p rest c g here torn =
     let long_now : length (p ++ x ∷ rest) ≡ length p + (1 + length rest) = omega (arith, length-append p (x ∷ rest)) in
     let same : length c ≡ length p + (1 + length rest) = omega (arith, long, here, torn.no_shorter, torn.no_longer) in
     ext_get_or 0 c (p ++ x ∷ rest) (omega (arith, same, long_now)) (λ k inside.
-      let out : (k < length p) ⊎ (length p + 1 ≤ k) → get_or c k 0 ≡ get_or (p ++ x ∷ rest) k 0 = λ where_is.
-          torn.kept k (omega (arith, inside, same, long)) (elim where_is as (λ _. (k < at) ⊎ (at + 1 ≤ k)) [ inl low ↦ inl (omega (arith, low, here)) | inr high ↦ inr (omega (arith, high, here)) ])
-          ∙ other_bytes p rest g x k where_is in
-      elim (cases_lt k (length p)) as (λ _. get_or c k 0 ≡ get_or (p ++ x ∷ rest) k 0) [
-        inl low ↦ out (inl low)
+    let out : (k < length p) ⊎ (length p + 1 ≤ k) → get_or c k 0 ≡ get_or (p ++ x ∷ rest) k 0 = λ where_is.
+    torn.kept k (omega (arith, inside, same, long)) (elim where_is as (λ _. (k < at) ⊎ (at + 1 ≤ k)) [ inl low ↦ inl (omega (arith, low, here)) | inr high ↦ inr (omega (arith, high, here)) ])
+    ∙ other_bytes p rest g x k where_is in
+    elim (cases_lt k (length p)) as (λ _. get_or c k 0 ≡ get_or (p ++ x ∷ rest) k 0) [
+      | inl low ↦ out (inl low)
       | inr past ↦ elim (cases_lt k (length p + 1)) as (λ _. get_or c k 0 ≡ get_or (p ++ x ∷ rest) k 0) [
-          inl near ↦ (let is : k ≡ length p = omega (arith, past, near) in
+        | inl near ↦ (let is : k ≡ length p = omega (arith, past, near) in
             ap (λ n. get_or c n 0) (is ∙ sym here) ∙ sym (ap (λ n. get_or (p ++ x ∷ rest) n 0) is ∙ get_or-append_seam p x rest 0))
-        | inr high ↦ out (inr high) ] ])
+        | inr high ↦ out (inr high)
+      ]
+    ])
 
 -- a write right behind what stands in front
 pub written_behind : (at : ℕ) (bytes p rest : List ℕ) → at ≡ length p → written at bytes (p ++ rest) ≡ p ++ (bytes ++ drop (length bytes) rest)

@@ -12,13 +12,13 @@ open_gate = 165
 abbrev pub framed : List ℕ → List ℕ
 framed body = to_be_bytes w32 (length body) ++ body
 
--- what stands behind a gate before it is opened: the framed body, and the next gate, closed
-abbrev pub frame_bytes : List ℕ → List ℕ
-frame_bytes body = framed body ++ 0 ∷ []
-
 -- a record: its gate, open, and the framed body
 abbrev pub record_bytes : List ℕ → List ℕ
 record_bytes body = open_gate ∷ framed body
+
+-- what stands behind the gate of the last record: the framed body, and the next gate, closed
+abbrev pub behind_gate : List ℕ → List ℕ
+behind_gate body = framed body ++ 0 ∷ []
 
 -- the records of these bodies, in order
 abbrev pub records : List (List ℕ) → List ℕ

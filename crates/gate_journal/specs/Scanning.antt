@@ -31,7 +31,3 @@ pub record IsScanned (bytes : List ℕ) (gate : ℕ) (heads : List Head) : Type 
   pub whole : bytes ≡ front bodies ++ rest
   pub gate_is : gate ≡ length (front bodies)
   pub heads_are : heads ≡ heads_of 16 bodies
-
--- a closed gate stands at this place
-abbrev pub IsShutAt : List ℕ → ℕ → Type 0
-IsShutAt bytes gate = (byte : ℕ) × ((rest : List ℕ) × (drop gate bytes ≡ byte ∷ rest) × (byte ≢ open_gate))

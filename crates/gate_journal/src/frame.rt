@@ -1,10 +1,11 @@
-ghost use Rattle.std.specs.Prelude.{◌≡◌, ◌+◌, ◌<◌, ◌^◌, List, ℕ, length, IfOk};
+ghost use Rattle.std.specs.Prelude.{◌≡◌, ◌+◌, ◌<◌, ◌^◌, ◌∷◌, [], List, ℕ, length, IfOk};
 
-use crate::gate::CLOSED_GATE;
+use crate::gate::{CLOSED_GATE, OPEN_GATE};
 use std::alloc::{AllocError, Global};
 use std::marker::Model;
 
-/// A record in memory, as it is written: its length, its body and a closed gate. To contracts it is the body.
+/// A record in memory, as it stands in a journal: an open gate, the length of the body, the body, and the
+/// next gate, closed. To contracts it is the body.
 #[derive(Debug, Drop)]
 pub struct Frame {
     bytes: Vec<u8>,
@@ -22,14 +23,15 @@ impl Model for Frame {
 }
 
 impl Frame {
-    ghost use Rattle.gate_journal.specs.Records.{frame_bytes};
+    ghost use Rattle.gate_journal.specs.Records.{open_gate, behind_gate};
 
-    /// Makes the record of a body, with all the memory that `append` needs: the body's length and 5 bytes.
+    /// Makes the record of a body, with all the memory that `append` needs: the length of the body and 6 bytes.
     pub fn new(alloc: Global, body: &[u8]) -> Result<Frame, AllocError>
         requires { length body.now < 2 ^ 32 }
         ensures body { IfOk result (λ frame. frame ≡ body.now) }
     {
-        let mut bytes = Vec::with_capacity(alloc, body.len() + 5)?;
+        let mut bytes = Vec::with_capacity(alloc, body.len() + 6)?;
+        bytes.push(OPEN_GATE)?;
         bytes.extend_from_slice(&(body.len() as u32).to_be_bytes())?;
         bytes.extend_from_slice(body)?;
         bytes.push(CLOSED_GATE)?;
@@ -37,9 +39,18 @@ impl Frame {
     }
 
     pub(crate) fn as_bytes(&self) -> &[u8]
-        ensures bytes { result.now ≡ frame_bytes self.now }
+        ensures bytes { result.now ≡ open_gate ∷ behind_gate self.now }
         ensures fit { length self.now < 2 ^ 32 }
     {
         &self.bytes
+    }
+
+    // The gate, and what stands behind it.
+    pub(crate) fn parts(&self) -> (&[u8], &[u8])
+        ensures gate { result.0.now ≡ open_gate ∷ [] }
+        ensures behind { result.1.now ≡ behind_gate self.now }
+        ensures fit { length self.now < 2 ^ 32 }
+    {
+        self.as_bytes().split_at(1)
     }
 }

@@ -1,4 +1,5 @@
 ghost use Rattle.std.specs.Prelude.{◌≡◌, ◌⊎◌, ◌+◌, ◌<◌, ◌≤◌, ℕ, List, length, take};
+ghost use Rattle.std.specs.Int.{w32, to_be_bytes};
 ghost use Rattle.gate_journal.specs.Scanning.{StandsAt};
 
 /// The byte of a gate that is open. With every other byte it is closed.
@@ -17,7 +18,18 @@ pub(crate) enum Gate {
     CutShort,
 }
 
-// What stands at a gate, from the bytes from there on: the gate and its length, or all the bytes that are left.
+/// The bytes of a gate and of the length behind it.
+pub(crate) const GATE_BYTES: u64 = 5;
+
+// The length that stands behind a gate.
+fn spelled_count(bytes: &[u8]) -> u32
+    requires { length bytes.now ≡ 4 }
+    ensures { to_be_bytes w32 result ≡ bytes.now }
+{
+    u32::from_be_bytes([bytes[0], bytes[1], bytes[2], bytes[3]])
+}
+
+// What stands at a gate, from the bytes from there on: the gate and its length, or all that are left.
 pub(crate) fn gate_in(bytes: &[u8], left: u64) -> Gate
     requires some { 1 ≤ length bytes.now }
     requires within { length bytes.now ≤ left }
@@ -25,16 +37,16 @@ pub(crate) fn gate_in(bytes: &[u8], left: u64) -> Gate
     ensures stands { (all : List ℕ) → length all ≡ left → bytes.now ≡ take (length bytes.now) all → StandsAt all result }
     ensures fits { (count : ℕ) → result ≡ Gate.Open count → 5 + count < left }
 {
-    match bytes {
-        [OPEN_GATE, a, b, c, d, ..] => {
-            let count = u32::from_be_bytes([*a, *b, *c, *d]);
-            if 5 + u64::from(count) < left {
-                Gate::Open(count)
-            } else {
-                Gate::CutShort
-            }
-        }
-        [OPEN_GATE, ..] => Gate::CutShort,
-        _ => Gate::Closed,
+    if bytes[0] != OPEN_GATE {
+        return Gate::Closed;
+    }
+    if bytes.len() < 5 {
+        return Gate::CutShort;
+    }
+    let count = spelled_count(&bytes[1..5]);
+    if GATE_BYTES + u64::from(count) < left {
+        Gate::Open(count)
+    } else {
+        Gate::CutShort
     }
 }

@@ -14,6 +14,7 @@ pub(crate) const NEW_JOURNAL: [u8; 17] = *b"TIMETRAVELTEXT\x00\x01\x00";
 /// The length of a new journal. One that has no more bytes is new too, whatever they are.
 pub(crate) const NEW_BYTES: u64 = 17;
 
+#[tactic(auto, unfolding(crate::specs::Header::header))]
 // The place of the first byte that differs from the header's.
 pub(crate) fn first_wrong(bytes: &[u8]) -> Option<u64>
     requires { 16 ≤ length bytes.now }

@@ -6,7 +6,6 @@ ghost use Rattle.gate_journal.specs.InStep.{IsInStep};
 ghost use Rattle.gate_journal.specs.Crash.{Appends, KeepsPages};
 
 use crate::durable::write_through;
-use crate::gate::OPEN_GATE;
 use crate::{AppendError, Frame};
 use machine_model::{Area, Disk, Failed};
 use std::marker::Model;
@@ -88,14 +87,14 @@ impl Journal {
         ensures pages_reach { (D.disk disk.new).reach.pages ≡ (D.disk disk.old).reach.pages }
         ensures read { D.disk_tells → (D.disk disk.new).bytes_read ≡ (D.disk disk.old).bytes_read }
     {
-        let bytes = frame.as_bytes();
-        let grown = bytes.len() as u64;
+        let (gate, behind) = frame.parts();
+        let grown = behind.len() as u64;
         if MOST_BYTES - self.end < grown {
             return Err(AppendError::Full);
         }
         self.live = false;
-        write_through(disk, self.end, bytes)?;
-        write_through(disk, self.end - 1, &[OPEN_GATE])?;
+        write_through(disk, self.end, behind)?;
+        write_through(disk, self.end - 1, gate)?;
         let body = self.end + 4;
         self.end += grown;
         self.live = true;

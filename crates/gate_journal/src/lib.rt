@@ -26,4 +26,6 @@ pub use error::{AppendError, JournalError};
 pub use frame::Frame;
 pub use head::Head;
 pub use journal::Journal;
-pub use laws::{a_journal_is_refused_at_one_place, a_journal_spells_one_list};
+pub use laws::{
+    a_disk_stays_in_step, a_journal_is_refused_at_one_place, a_journal_spells_one_list,
+};

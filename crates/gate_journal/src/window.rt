@@ -4,15 +4,12 @@ ghost use Rattle.machine_model.specs.Calls.{OnlyReads};
 ghost use Rattle.gate_journal.specs.Scanning.{IsView, IsWindow, StandsAt};
 
 use crate::JournalError;
-use crate::gate::{Gate, gate_in};
+use crate::gate::{GATE_BYTES, Gate, gate_in};
 use machine_model::{Area, Disk, Failed};
 use std::alloc::Global;
 
 /// The most bytes of a journal that are read at once.
 const WINDOW_BYTES: u64 = 65_536;
-
-/// The bytes of a gate and of the length behind it.
-const GATE_BYTES: u64 = 5;
 
 // The bytes of a journal from a place on: as many as a window has, or all that are left.
 #[derive(Drop)]
@@ -66,7 +63,30 @@ impl Window {
         disk.read(Area::Journal, at, &mut self.bytes)
     }
 
-    // What stands at a gate. Moves the window there where the gate and a length behind it aren't in it.
+    // Moves the window to a gate where the gate and a length behind it aren't in it.
+    fn cover<D: Disk>(&mut self, disk: &mut D, gate: u64, total: u64) -> Result<(), Failed>
+        requires window { IsWindow self.old.from (vec_len self.old.bytes) total }
+        requires further { self.old.from ≤ gate }
+        requires inside { gate < total }
+        requires long { total ≡ (D.disk disk.old).reach.journal }
+        ensures only { D.Disk.only disk.old disk.new }
+        ensures cause { HasCause (D.disk disk.old).faults (D.disk disk.new).faults result }
+        ensures window { IsWindow self.new.from (vec_len self.new.bytes) total }
+        ensures from { self.new.from ≤ gate }
+        ensures some { gate < self.new.from + vec_len self.new.bytes }
+        ensures enough { (gate + 5 ≤ self.new.from + vec_len self.new.bytes) ⊎ (self.new.from + vec_len self.new.bytes ≡ total) }
+        ensures view { D.disk_tells → IsView self.old.bytes.items self.old.from (D.disk disk.old).holds.journal →
+            OnOk result (IsView self.new.bytes.items self.new.from (D.disk disk.new).holds.journal) }
+        ensures pages_read { D.disk_tells → (D.disk disk.new).bytes_read.pages ≡ (D.disk disk.old).bytes_read.pages }
+        ensures same { OnlyReads (D.disk disk.old) (D.disk disk.new) }
+    {
+        if gate + GATE_BYTES <= self.from + self.bytes.len() as u64 {
+            return Ok(());
+        }
+        self.move_to(disk, gate, total)
+    }
+
+    // What stands at a gate.
     pub(crate) fn gate_at<D: Disk>(
         &mut self,
         disk: &mut D,
@@ -89,9 +109,7 @@ impl Window {
         ensures pages_read { D.disk_tells → (D.disk disk.new).bytes_read.pages ≡ (D.disk disk.old).bytes_read.pages }
         ensures same { OnlyReads (D.disk disk.old) (D.disk disk.new) }
     {
-        if gate + GATE_BYTES > self.from + self.bytes.len() as u64 {
-            self.move_to(disk, gate, total)?;
-        }
+        self.cover(disk, gate, total)?;
         let start = (gate - self.from) as usize;
         Ok(gate_in(&self.bytes[start..], total - gate))
     }

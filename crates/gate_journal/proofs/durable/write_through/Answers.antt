@@ -1,5 +1,5 @@
 use Rattle.std.proofs.lemmas.Result.{on_ok_weaker}
-use Rattle.machine_model.specs.declared.area.Area.TheVariants.{Journal, Pages}
+use Rattle.machine_model.specs.declared.area.Area.TheVariants.{Pages}
 use Rattle.gate_journal.proofs.WriteLemmas.{through_write, through_sync, stays_synced}
 use Rattle.gate_journal.proofs.durable.write_through.Goals as goal
 
