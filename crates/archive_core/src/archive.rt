@@ -44,6 +44,23 @@ impl Model for Archive {
 }
 
 impl Archive {
+    // The archive of a loaded journal, by the changes of its entries.
+    pub(crate) fn of(journal: Journal, directory: Directory, entries: u64) -> Archive
+        requires live { IsTrue journal.live }
+        requires few { entries + 17 ≤ journal.end }
+        ensures end { result.end ≡ journal.end }
+        ensures live { IsTrue result.live }
+        ensures length { result.length ≡ entries }
+        ensures changes { result.changes ≡ directory.changes }
+    {
+        Archive {
+            journal,
+            directory,
+            entries,
+            live: true,
+        }
+    }
+
     /// Whether changes may be made: from the load until a change answers `Failed` or `Memory`.
     /// Constant cost.
     pub fn is_live(&self) -> bool
@@ -86,6 +103,8 @@ impl Archive {
         ensures refused { (h : History) → StandsFor self.old h → (why : Refusal) → IsErrOf result (ChangeError.Refused why) → arrival_refusal h doc at text.now ≡ Some why }
         ensures allowed { (h : History) → StandsFor self.old h → (IsOk result ⊎ IsErrOf result ChangeError.Failed) → arrival_refusal h doc at text.now ≡ None }
         ensures same { (why : Refusal) → IsErrOf result (ChangeError.Refused why) → (self.new ≡ self.old) × (disk.new ≡ disk.old) }
+        // All memory is taken before the first call of the disk.
+        ensures memory { IsErrOf result ChangeError.Memory → disk.new ≡ disk.old }
         // At Ok it stands for the history with the new entry, and answers how many entries there are.
         ensures stands { (h : History) → StandsFor self.old h → IfOk result (λ n. StandsFor self.new (h ++ entries.Arrive doc at text.now ∷ []) × (n ≡ length h + 1)) }
         // In step, each image left since stands for the history, or for it and the new entry; after Ok for the latter.
@@ -139,6 +158,8 @@ impl Archive {
         ensures refused { (h : History) → StandsFor self.old h → (why : Refusal) → IsErrOf result (ChangeError.Refused why) → deletion_refusal h doc at ≡ Some why }
         ensures allowed { (h : History) → StandsFor self.old h → (IsOk result ⊎ IsErrOf result ChangeError.Failed) → deletion_refusal h doc at ≡ None }
         ensures same { (why : Refusal) → IsErrOf result (ChangeError.Refused why) → (self.new ≡ self.old) × (disk.new ≡ disk.old) }
+        // All memory is taken before the first call of the disk.
+        ensures memory { IsErrOf result ChangeError.Memory → disk.new ≡ disk.old }
         // At Ok it stands for the history with the new entry, and answers how many entries there are.
         ensures stands { (h : History) → StandsFor self.old h → IfOk result (λ n. StandsFor self.new (h ++ entries.Delete doc at ∷ []) × (n ≡ length h + 1)) }
         // In step, each image left since stands for the history, or for it and the new entry; after Ok for the latter.
@@ -180,6 +201,8 @@ impl Archive {
         ensures refused { (why : Refusal) → IsErrOf result (ChangeError.Refused why) → (why ≡ Refusal.Full Which.Journal (limit_of Which.Journal)) × (limit_of Which.Journal < self.old.end + 5 + length body.now) }
         ensures allowed { (IsOk result ⊎ IsErrOf result ChangeError.Failed) → self.old.end + 5 + length body.now ≤ limit_of Which.Journal }
         ensures same { (why : Refusal) → IsErrOf result (ChangeError.Refused why) → (self.new ≡ self.old) × (disk.new ≡ disk.old) }
+        // All memory is taken before the first call of the disk.
+        ensures memory { IsErrOf result ChangeError.Memory → disk.new ≡ disk.old }
         ensures more { IfOk result (λ n. IsMore self.old self.new change body.now × (n ≡ self.new.length)) }
         ensures crash { D.disk_tells → (bodies : List (List ℕ)) → IsInStep (D.disk disk.old) self.old.end bodies → Appends bodies body.now (D.disk disk.old) (D.disk disk.new) }
         ensures in_step { D.disk_tells → (bodies : List (List ℕ)) → IsInStep (D.disk disk.old) self.old.end bodies → OnOk result (IsInStep (D.disk disk.new) self.new.end (bodies ++ body.now ∷ [])) }

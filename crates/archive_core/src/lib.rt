@@ -9,9 +9,12 @@
 mod archive;
 mod change;
 mod error;
+mod laws;
+mod loading;
 mod replaying;
 mod text;
 mod window;
 
 pub use archive::Archive;
 pub use error::{ChangeError, LoadError};
+pub use laws::an_archive_in_step_stands;
