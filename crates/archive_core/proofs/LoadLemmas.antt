@@ -22,6 +22,11 @@ use Rattle.archive_state.proofs.HistoryLemmas.{end_of_is, end_of-least}
 use Rattle.archive_state.proofs.StandsLemmas.{spells_one_history, spelled_is_archive}
 use Rattle.archive_core.specs.States.{ArchiveState, ArePlaced, StandsFor, IsKept}
 use Rattle.archive_core.specs.Changing.{KeepsHistory}
+use Rattle.gate_journal.specs.declared.error.JournalError.{JournalError}
+use Rattle.gate_journal.specs.declared.error.JournalError.TheVariants.{Failed, NotJournal, Memory}
+use Rattle.archive_core.specs.declared.error.LoadError.{LoadError}
+use Rattle.archive_core.specs.declared.error.LoadError.TheVariants.{NotArchive}
+use Rattle.archive_core.specs.Causes.{load_error_of}
 use Rattle.archive_core.specs.Replaying.{IsReplayed, IsBadAmong}
 use Rattle.archive_core.proofs.HeadLemmas.{row_end, length_front, length_heads}
 
@@ -97,3 +102,27 @@ pub finds_it : (a : ArchiveState) (d : DiskState) (image : Bytes) (g h : History
 finds_it a d image g h kept spelled stands =
     let P : History → Type 0 = λ x. IsKept d a x in
     subst P (spells_one_history image.journal g h spelled kept.stands.legal stands.spelled stands.legal) kept
+
+-- the archive is in step with the disk for the history that was found
+pub found_all : (a : ArchiveState) (mid new : DiskState) (bytes : List ℕ) (end : ℕ) (heads : List Head) (changes : List (Change TextPlace)) (bodies : List (List ℕ)) (h : History)
+    → IsMadeOf a end heads changes → AreInRow 16 heads end → IsReplayed h heads changes → bodies_of h ≡ bodies → IsInStep mid end bodies → OnlyReads mid new → Spells bytes bodies
+    → (g : History) × IsKept new a g × Spells bytes (bodies_of g)
+found_all a mid new bytes end heads changes bodies h made row replayed same step reads spelled =
+    let P : List (List ℕ) → Type 0 = λ l. IsInStep new a.end l in
+    let Q : ℕ → Type 0 = λ n. IsInStep new n bodies in
+    let R : List (List ℕ) → Type 0 = λ l. Spells bytes l in
+    (
+      h,
+      record {
+        stands = stands_replayed a h heads changes end made row replayed;
+        in_step = subst P (sym same) (subst Q (sym made.end_is) (step_reads mid new end bodies step reads));
+      },
+      subst R (sym same) spelled,
+    )
+
+-- what the journal's error is where a load hands it on
+pub journal_exit : {T U : Type 0} (r : Result T JournalError) (s : Result U LoadError) (e : JournalError) (y : LoadError) (at : ℕ) → r ≡ Err e → s ≡ Err y → y ≡ load_error_of e
+    → s ≡ Err (NotArchive at) → r ≡ Err (NotJournal at)
+journal_exit r s Failed y at was made same is = absurd cc
+journal_exit r s (NotJournal n) y at was made same is = cc
+journal_exit r s Memory y at was made same is = absurd cc
