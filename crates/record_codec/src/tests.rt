@@ -1,4 +1,5 @@
 use super::*;
+use std::alloc::{AllocError, Global};
 use std::test::*;
 use time_base::{DocId, Time};
 
@@ -77,14 +78,22 @@ fn a_field_cut_short_is_named(rt: HostRuntime) {
     assert!(rt; decode(rt.alloc(), &ARRIVAL[..13]).is_ok(), "an empty text");
 }
 
+/// An arrival with a text of so many letters.
+fn long_arrival(alloc: Global, text_bytes: u32) -> Result<Vec<u8>, AllocError> {
+    let mut body = Vec::from_slice(alloc, &ARRIVAL[..13])?;
+    body.resize(13 + text_bytes as usize, b'a')?;
+    Ok(body)
+}
+
 #[test]
 fn a_text_has_at_most_four_mebibytes(rt: HostRuntime) -> Result<(), Fail> {
-    let mut body = vec![in rt.alloc(); b'a'; 13 + 4_194_305]?;
-    body[..13].copy_from_slice(&ARRIVAL[..13]);
-    assert_eq!(rt;
-        decode(rt.alloc(), &body).err(),
-        Some(CodecError::Form { at: 13 })
-    );
-    assert!(rt; decode(rt.alloc(), &body[..13 + 4_194_304]).is_ok());
+    for (text_bytes, at) in [(4_194_304, None), (4_194_305, Some(13))] {
+        let body = long_arrival(rt.alloc(), text_bytes)?;
+        let named = match decode(rt.alloc(), &body) {
+            Err(CodecError::Form { at }) => Some(at),
+            _ => None,
+        };
+        assert_eq!(rt; named, at, "a text of {text_bytes} bytes");
+    }
     Ok(())
 }
