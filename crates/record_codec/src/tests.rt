@@ -14,14 +14,17 @@ const DELETION: [u8; 13] = [2, 0, 0, 0, 7, 0, 0, 0, 255, 255, 255, 255, 255];
 #[test]
 fn an_arrival_has_eighteen_bytes(rt: HostRuntime) -> Result<(), Fail> {
     let at = Time::new(10).ok_or("a time")?;
-    let written = encode_arrival(rt.alloc(), DocId(7), at, "red a")?;
-    assert_eq!(rt; written.as_slice(), ARRIVAL.as_slice());
-    let entry = decode(rt.alloc(), &ARRIVAL)?;
-    match &entry {
+    let doc = DocId(7);
+    let spelled = encode_arrival(rt.alloc(), doc, at, "red a")?;
+    assert_eq!(rt; spelled.as_slice(), ARRIVAL.as_slice());
+    let text = VersionText::new(String::from_str(rt.alloc(), "red a")?);
+    let spelled = encode(rt.alloc(), &Entry::Arrive { doc, at, text })?;
+    assert_eq!(rt; spelled.as_slice(), ARRIVAL.as_slice());
+    match decode(rt.alloc(), &ARRIVAL)? {
         Entry::Arrive { doc, at, text } => {
             assert_eq!(rt; doc.0, 7);
             assert_eq!(rt; at.seconds(), 10);
-            assert_eq!(rt; text.as_str(), "red a");
+            assert_eq!(rt; text.into_string().as_str(), "red a");
         }
         Entry::Delete { .. } => assert!(rt; false, "a deletion was read"),
     }
@@ -30,16 +33,15 @@ fn an_arrival_has_eighteen_bytes(rt: HostRuntime) -> Result<(), Fail> {
 
 #[test]
 fn a_deletion_has_thirteen_bytes(rt: HostRuntime) -> Result<(), Fail> {
-    let entry = decode(rt.alloc(), &DELETION)?;
-    match &entry {
+    match decode(rt.alloc(), &DELETION)? {
         Entry::Delete { doc, at } => {
             assert_eq!(rt; doc.0, 7);
             assert_eq!(rt; at.seconds(), 1_099_511_627_775);
+            let spelled = encode_deletion(rt.alloc(), doc, at)?;
+            assert_eq!(rt; spelled.as_slice(), DELETION.as_slice());
         }
         Entry::Arrive { .. } => assert!(rt; false, "an arrival was read"),
     }
-    let written = encode(rt.alloc(), &entry)?;
-    assert_eq!(rt; written.as_slice(), DELETION.as_slice());
     Ok(())
 }
 
