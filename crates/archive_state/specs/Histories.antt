@@ -6,10 +6,10 @@ use Rattle.time_base.specs.declared.ids.DocId.{DocId}
 use Rattle.version_store.specs.declared.change.Change.{Change}
 use Rattle.version_store.specs.declared.refusal.VersionRefusal.{VersionRefusal}
 use Rattle.version_store.specs.Changes.{held_at, documents}
-use Rattle.version_store.specs.Refusals.{arrive_refusal}
+use Rattle.version_store.specs.Refusals.{arrive_refusal, delete_refusal}
 use Rattle.record_codec.specs.Spelling.{spelling, IsEntry}
 use Rattle.record_codec.specs.declared.entry.Entry.{Entry}
-use Rattle.record_codec.specs.declared.entry.Entry.TheVariants.{Arrive}
+use Rattle.record_codec.specs.declared.entry.Entry.TheVariants.{Arrive, Delete}
 
 -- a history: the entries of an archive, in order
 abbrev pub History : Type 0
@@ -18,6 +18,7 @@ History = List Entry
 -- the changes of documents that an entry makes, with the texts
 abbrev pub acts : Entry → List (Change (List ℕ))
 acts (Arrive doc at text) = record { doc = doc; at = at; held = Some text } ∷ []
+acts (Delete doc at) = record { doc = doc; at = at; held = None } ∷ []
 
 -- the changes of documents that a history makes
 abbrev pub changes : History → List (Change (List ℕ))
@@ -26,6 +27,7 @@ changes history = flat_map acts history
 -- why an entry may not come after a history: the first cause in order
 abbrev pub entry_refusal : History → Entry → Option VersionRefusal
 entry_refusal before (Arrive doc at text) = arrive_refusal doc at (changes before)
+entry_refusal before (Delete doc at) = delete_refusal doc at (changes before)
 
 -- an entry is legal after a history: its fields are in their ranges, and nothing refuses it
 pub record IsLegalEntry (before : History) (entry : Entry) : Type 0 where

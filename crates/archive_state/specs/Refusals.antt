@@ -18,4 +18,5 @@ number_of (refusals.Full which limit) = 10
 abbrev pub refusal_of : VersionRefusal → Refusal
 refusal_of (versions.TimeBack last) = refusals.TimeBack last
 refusal_of versions.SameTime = refusals.SameTime
+refusal_of versions.NoDocument = refusals.NoDocument
 refusal_of (versions.Full which limit) = refusals.Full which limit

@@ -20,6 +20,8 @@ use Rattle.archive_state.specs.Refusals.{refusal_of}
 pub data Command : Type 0 where
   -- a new version of a document: the document, its time, and its text as it came
   Arrive : DocId → Time → List ℕ → Command
+  -- a tombstone for a document
+  Delete : DocId → Time → Command
 
 -- what a command is answered
 pub data Reply : Type 0 where
@@ -48,6 +50,11 @@ abbrev pub arrival_refusal : History → DocId → Time → List ℕ → Option 
 arrival_refusal history doc at text = let entry = entries.Arrive doc at text in
     first_of (too_long text ∷ bad_text text ∷ not_allowed history entry ∷ full_journal history entry ∷ [])
 
+-- why a deletion is refused: the first cause in order
+abbrev pub deletion_refusal : History → DocId → Time → Option Refusal
+deletion_refusal history doc at = let entry = entries.Delete doc at in
+    first_of (not_allowed history entry ∷ full_journal history entry ∷ [])
+
 -- an entry that is accepted comes behind the history; one that is refused changes nothing
 abbrev pub Adds : History → Entry → Option Refusal → Reply → History → Type 0
 Adds old entry None reply new = (new ≡ old ++ entry ∷ []) × (reply ≡ Accepted (length new))
@@ -56,3 +63,4 @@ Adds old entry (Some why) reply new = (new ≡ old) × (reply ≡ Refused why)
 -- From the old history, the archive may give this reply to the command and go on to the new one.
 abbrev pub Step : History → Command → Reply → History → Type 0
 Step old (Arrive doc at text) reply new = Adds old (entries.Arrive doc at text) (arrival_refusal old doc at text) reply new
+Step old (Delete doc at) reply new = Adds old (entries.Delete doc at) (deletion_refusal old doc at) reply new

@@ -59,6 +59,7 @@ impl From<VersionRefusal> for Refusal {
         match why {
             VersionRefusal::TimeBack { last } => Refusal::TimeBack { last },
             VersionRefusal::SameTime => Refusal::SameTime,
+            VersionRefusal::NoDocument => Refusal::NoDocument,
             VersionRefusal::Full { which, limit } => Refusal::Full { which, limit },
         }
     }
