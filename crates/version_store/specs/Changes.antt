@@ -43,3 +43,7 @@ documents changes = fold (λ found c. put c.doc found) [] changes
 -- the documents alive at a time, ascending
 abbrev pub alive : {A : Type 0} → ℕ → List (Change A) → List DocId
 alive t changes = filter (λ doc. is_some (held_at doc t changes)) (documents changes)
+
+-- the same change, which holds something else
+abbrev pub mapped : {A B : Type 0} → (A → B) → Change A → Change B
+mapped f c = record { doc = c.doc; at = c.at; held = option_map f c.held }

@@ -6,7 +6,10 @@
 #![tactic(auto)]
 
 mod change;
+mod directory;
+mod link;
 mod refusal;
 
 pub use change::Change;
+pub use directory::Directory;
 pub use refusal::VersionRefusal;

@@ -10,6 +10,8 @@ pub enum VersionRefusal {
     },
     /// The document's latest version or tombstone has the change's time.
     SameTime,
+    /// The document never came, or its latest change is its deletion.
+    NoDocument,
     /// The archive would have too many documents, or too many versions and tombstones.
     Full {
         /// Which limit would be passed.
