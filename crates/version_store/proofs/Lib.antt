@@ -3,3 +3,5 @@ pub mod Latest
 pub mod Known
 pub mod Indexed
 pub mod Mapped
+pub mod Valid
+pub mod Steps

@@ -9,6 +9,7 @@ mod change;
 mod directory;
 mod link;
 mod refusal;
+mod walk;
 
 pub use change::Change;
 pub use directory::Directory;
