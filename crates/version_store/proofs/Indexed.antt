@@ -90,7 +90,7 @@ pub AreLinked-push : (log : List (Change TextPlace)) (links : List Link) (c : Ch
 AreLinked-push log links c link h up new = record {
   ascending = IsNonDecreasingBy-push (λ d. d.at.seconds) log c h.ascending up;
   as_many = omega (arith, length-append links (link ∷ []), length-append log (c ∷ []), h.as_many);
-  linked = λ i d l at to. each i d l (slice_get-either log c i d at) (slice_get-either links link i l to)
+  linked = λ i d l at to. each i d l (slice_get-either log c i d at) (slice_get-either links link i l to);
 }
   where
     each : (i : ℕ) (d : Change TextPlace) (l : Link) → (slice_get log i ≡ Some d) ⊎ ((i ≡ length log) × (d ≡ c)) → (slice_get links i ≡ Some l) ⊎ ((i ≡ length links) × (l ≡ link)) → IsLinked (log ++ c ∷ []) i d.doc l
@@ -165,6 +165,6 @@ IsIndexed-entered log log2 links links2 m n c link (Ok old) h up new is_log is_l
     rw (is_log, is_links) (record {
       way = AreLinked-push log links c link h.way (not_back log c.at up) new;
       found = found-push log c m n h.found u;
-      each_once = each_once-push log c m n h.each_once (subst (λ (o : Option ℕ). PutsEntry same m n c.doc (length log) o) is_old puts)
+      each_once = each_once-push log c m n h.each_once (subst (λ (o : Option ℕ). PutsEntry same m n c.doc (length log) o) is_old puts);
     })
 IsIndexed-entered log log2 links links2 m n c link (Err e) h up new is_log is_links k is_old u puts = absurd (false≢true k)

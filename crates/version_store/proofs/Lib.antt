@@ -5,3 +5,4 @@ pub mod Indexed
 pub mod Mapped
 pub mod Valid
 pub mod Steps
+pub mod Ascending

@@ -1,6 +1,6 @@
 -- The walk back through a document's changes.
 use Rattle.std.specs.Prelude.{◌≡◌, ℕ, ◌+◌, ◌<◌, ◌≤◌, List, [], ◌∷◌, ◌++◌, length, take, drop, ◌==◌, slice_get, Option, Some, None, IfSome, get_or, refl}
-use Rattle.std.proofs.Common.{arith, ap, sym, ◌∙◌, subst, length-append}
+use Rattle.std.proofs.Common.{arith, ap, sym, ◌∙◌, subst}
 use Rattle.std.proofs.lemmas.List.{length-take, take-append-drop, take-append-le}
 use Rattle.std.proofs.lemmas.Bool.{eq-eqb}
 use Rattle.version_store.proofs.Latest.{changes_of-same}
@@ -24,7 +24,7 @@ start doc t log i h =
     let at = some_of (slice_get log i) _ h in
     record {
       of = rw at.1 at.2.0;
-      rest = ap (valid_at t) (at.2.1 ∙ sym (up_to doc log i at.0 at.1 at.2.0))
+      rest = ap (valid_at t) (at.2.1 ∙ sym (up_to doc log i at.0 at.1 at.2.0));
     }
 
 -- a change that isn't behind the time is the one that is valid
@@ -76,7 +76,7 @@ module _ (log : List (Change TextPlace)) (links : List Link) (w : AreLinked log 
         let front : take b (take i log) ≡ take b log = sym (take-append-le b (take i log) (drop i log) (omega arith)) ∙ ap (take b) (take-append-drop i log) in
         record {
           of = rw in_log at.2.0;
-          rest = held_at-cut doc t log i there.0 w.ascending there.1 late ∙ ap (valid_at t) (at.2.1 ∙ ap (λ xs. changes_of doc xs ++ at.0 ∷ []) front ∙ sym (up_to doc log b at.0 in_log at.2.0))
+          rest = held_at-cut doc t log i there.0 w.ascending there.1 late ∙ ap (valid_at t) (at.2.1 ∙ ap (λ xs. changes_of doc xs ++ at.0 ∷ []) front ∙ sym (up_to doc log b at.0 in_log at.2.0));
         }
 
     -- where the jump leads, if that is behind the time too
@@ -85,5 +85,5 @@ module _ (log : List (Change TextPlace)) (links : List Link) (w : AreLinked log 
         let to = some_of (slice_get log (get_or links i d).jump) _ there.2.same in
         record {
           of = rw to.1 (to.2 ∙ mine);
-          rest = held_at-passed doc t log (get_or links i d).jump _ w.ascending (slice_get-get_or log (get_or links i d).jump x jump_within) later
+          rest = held_at-passed doc t log (get_or links i d).jump _ w.ascending (slice_get-get_or log (get_or links i d).jump x jump_within) later;
         }

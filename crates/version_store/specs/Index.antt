@@ -1,5 +1,5 @@
 -- How a directory finds the changes of one document among those of all.
-use Rattle.std.specs.Prelude.{◌≡◌, ℕ, ◌+◌, ◌≤◌, List, [], ◌∷◌, ◌++◌, length, take, slice_get, Option, Some, IsSome, IsSomeAnd, MatchOption, ◌==◌, IsPermutation}
+use Rattle.std.specs.Prelude.{◌≡◌, ℕ, ◌+◌, ◌≤◌, List, [], ◌∷◌, ◌++◌, length, take, slice_get, Option, Some, IsSome, IsSomeAnd, MatchOption, ◌==◌, IsPermutation, count_by}
 use Rattle.std.specs.List.Sorted.{IsNonDecreasingBy}
 use Rattle.std.specs.HashMap.{HashMap, get, keys}
 use Rattle.std.specs.declared.hash.FoldHasher.{FoldHasher}
@@ -43,3 +43,7 @@ pub record IsIndexed (log : List (Change TextPlace)) (links : List Link) (latest
 pub record Leads (doc : DocId) (t : ℕ) (log : List (Change TextPlace)) (i : ℕ) : Type 0 where
   pub of : IsSomeAnd (slice_get log i) (λ c. c.doc ≡ doc)
   pub rest : held_at doc t log ≡ held_at doc t (take (i + 1) log)
+
+-- how often a document is in a list
+abbrev pub times : DocId → List DocId → ℕ
+times doc docs = count_by (λ d. doc.0 == d.0) docs

@@ -1,12 +1,15 @@
 //! The directory of an archive's changes, and the index by which it finds a document's versions.
-ghost use Rattle.std.specs.Prelude.{◌≡◌, ◌+◌, ◌≤◌, ◌<◌, [], ◌∷◌, ◌++◌, length, Some, None, IfOk, OnOk, MatchResult};
+ghost use Rattle.std.specs.Prelude.{◌≡◌, ◌+◌, ◌≤◌, ◌<◌, [], ◌∷◌, ◌++◌, length, Some, None, IfOk, OnOk, MatchResult, IsTrue, IsSome, ◌↔◌};
 ghost use Rattle.time_base.specs.Limits.{limit_of};
-ghost use Rattle.version_store.specs.Changes.{last_time, latest, documents};
+ghost use Rattle.time_base.specs.declared.ids.DocId.{DocId as Document};
+ghost use Rattle.version_store.specs.Index.{times};
+ghost use Rattle.version_store.specs.Changes.{last_time, latest, documents, held_at, alive};
 ghost use Rattle.version_store.specs.Refusals.{arrive_refusal, delete_refusal, time_back};
 
 use crate::change::Change;
 use crate::link::Link;
 use crate::refusal::VersionRefusal;
+use crate::walk::held_from;
 use std::alloc::{AllocError, Global};
 use std::collections::HashMap;
 use std::marker::Model;
@@ -144,6 +147,48 @@ impl Directory {
             return Err(full(Which::Versions));
         }
         Ok(())
+    }
+
+    /// Where the text lies of the document's version that is valid at the time; None exactly where
+    /// the document isn't alive then. It costs one look-up, and steps in the logarithm of the
+    /// document's changes.
+    pub fn place(&self, doc: DocId, t: Time) -> Option<TextPlace>
+        ensures { result ≡ held_at doc t.seconds self.now.changes }
+    {
+        match self.latest.get(&doc) {
+            Some(latest) => held_from(&self.log, &self.links, *latest, t),
+            None => None,
+        }
+    }
+
+    /// Whether the document is alive at the time. It costs what `place` does.
+    pub fn alive_at(&self, doc: DocId, t: Time) -> bool
+        ensures { IsTrue result ↔ IsSome (held_at doc t.seconds self.now.changes) }
+    {
+        self.place(doc, t).is_some()
+    }
+
+    /// The documents alive at the time, ascending. It costs what `place` does for each document
+    /// that ever changed, and a sort.
+    pub fn alive(&self, alloc: Global, t: Time) -> Result<Vec<DocId>, AllocError>
+        ensures { IfOk result (λ docs. docs.items ≡ alive t.seconds self.now.changes) }
+    {
+        let mut docs = self.unsorted(alloc, t)?;
+        docs.sort_unstable();
+        Ok(docs)
+    }
+
+    /// The documents alive at the time, in the index's order.
+    fn unsorted(&self, alloc: Global, t: Time) -> Result<Vec<DocId>, AllocError>
+        ensures { IfOk result (λ docs. (doc : Document) → times doc docs.items ≡ times doc (alive t.seconds self.now.changes)) }
+    {
+        let docs: Vec<DocId> = self
+            .latest
+            .keys()
+            .copied()
+            .filter(|doc| self.place(*doc, t).is_some())
+            .collect(alloc)?;
+        Ok(docs)
     }
 
     /// Makes room for one change of any document, so that it takes no memory. Its cost is constant

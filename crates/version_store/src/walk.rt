@@ -4,10 +4,9 @@ ghost use Rattle.time_base.specs.declared.ids.DocId.{DocId as Document};
 ghost use Rattle.version_store.specs.Changes.{held_at};
 ghost use Rattle.version_store.specs.Index.{AreLinked, Leads};
 
-use time_base::{TextPlace, Time};
-
 use crate::change::Change;
 use crate::link::Link;
+use time_base::{TextPlace, Time};
 
 /// What the document of the change at the place `latest` holds at the time, where none of its
 /// changes behind that place counts then. Its steps are in the logarithm of the document's changes.
@@ -33,12 +32,7 @@ pub(crate) fn held_from(
 
 /// The place to go on with from a change behind the time: where its jump leads if that is behind
 /// the time too, else the change before it; None where it is the document's first. Constant cost.
-fn step_back(
-    log: &[Change<TextPlace>],
-    links: &[Link],
-    place: usize,
-    t: Time,
-) -> Option<usize>
+fn step_back(log: &[Change<TextPlace>], links: &[Link], place: usize, t: Time) -> Option<usize>
     requires linked { AreLinked log.now links.now }
     requires there { place < length log.now }
     requires behind { IfSome (slice_get log.now place) (λ c. t.seconds < c.at.seconds) }

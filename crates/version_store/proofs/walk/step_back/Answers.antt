@@ -1,4 +1,4 @@
-use Rattle.std.proofs.Common.{arith, None, sym, ◌≡◌, ◌∙◌, ap}
+use Rattle.std.proofs.Common.{arith, None}
 use Rattle.version_store.specs.declared.link.Link.{Link}
 use Rattle.version_store.proofs.Steps.{jump_within, jump_back, before_back, none_left, to_before, to_jump}
 use Rattle.version_store.proofs.walk.step_back.Goals as goal
