@@ -4,5 +4,6 @@ pub mod Known
 pub mod Indexed
 pub mod Mapped
 pub mod Valid
+pub mod Law
 pub mod Steps
 pub mod Ascending

@@ -1,5 +1,6 @@
 //! The directory of an archive's changes, and the index by which it finds a document's versions.
 ghost use Rattle.std.specs.Prelude.{◌≡◌, ◌+◌, ◌≤◌, ◌<◌, [], ◌∷◌, ◌++◌, length, Some, None, IfOk, OnOk, MatchResult, IsTrue, IsSome, ◌↔◌};
+ghost use Rattle.std.specs.List.Sorted.{IsNonDecreasingBy};
 ghost use Rattle.time_base.specs.Limits.{limit_of};
 ghost use Rattle.time_base.specs.declared.ids.DocId.{DocId as Document};
 ghost use Rattle.version_store.specs.Index.{times};
@@ -51,9 +52,10 @@ impl Directory {
         })
     }
 
-    /// The changes in their order. Constant cost.
+    /// The changes in their order; their times don't fall. Constant cost.
     pub fn changes(&self) -> &[Change<TextPlace>]
-        ensures { result.now ≡ self.now.changes }
+        ensures all { result.now ≡ self.now.changes }
+        ensures ascending { IsNonDecreasingBy (λ c. c.at.seconds) result.now }
     {
         self.log.as_slice()
     }
@@ -95,7 +97,9 @@ impl Directory {
     /// Whether a version of the document may come at that time, or the first cause why not. It
     /// costs one look-up.
     pub fn may_arrive(&self, doc: DocId, at: Time) -> Result<(), VersionRefusal>
-        ensures { MatchResult result (λ _. arrive_refusal doc at self.now.changes ≡ None) (λ e. arrive_refusal doc at self.now.changes ≡ Some e) }
+        ensures { MatchResult result
+            (λ _. arrive_refusal doc at self.now.changes ≡ None)
+            (λ e. arrive_refusal doc at self.now.changes ≡ Some e) }
     {
         if let Some(last) = self.last() {
             if at.seconds < last.seconds {
@@ -123,7 +127,9 @@ impl Directory {
     /// Whether the document may be deleted at that time, or the first cause why not. It costs one
     /// look-up.
     pub fn may_delete(&self, doc: DocId, at: Time) -> Result<(), VersionRefusal>
-        ensures { MatchResult result (λ _. delete_refusal doc at self.now.changes ≡ None) (λ e. delete_refusal doc at self.now.changes ≡ Some e) }
+        ensures { MatchResult result
+            (λ _. delete_refusal doc at self.now.changes ≡ None)
+            (λ e. delete_refusal doc at self.now.changes ≡ Some e) }
     {
         if let Some(last) = self.last() {
             if at.seconds < last.seconds {
@@ -180,7 +186,8 @@ impl Directory {
 
     /// The documents alive at the time, in the index's order.
     fn unsorted(&self, alloc: Global, t: Time) -> Result<Vec<DocId>, AllocError>
-        ensures { IfOk result (λ docs. (doc : Document) → times doc docs.items ≡ times doc (alive t.seconds self.now.changes)) }
+        ensures { IfOk result (λ docs. (doc : Document) →
+            times doc docs.items ≡ times doc (alive t.seconds self.now.changes)) }
     {
         let docs: Vec<DocId> = self
             .latest
@@ -196,6 +203,7 @@ impl Directory {
     pub fn reserve(&mut self, _doc: DocId) -> Result<(), AllocError>
         ensures room { OnOk result (1 ≤ self.new.room) }
         ensures same { self.new.changes ≡ self.old.changes }
+        ensures kept { self.old.room ≤ self.new.room }
     {
         self.log.reserve(1)?;
         self.links.reserve(1)?;
@@ -207,7 +215,9 @@ impl Directory {
     pub fn arrive(&mut self, doc: DocId, at: Time, text: TextPlace)
         requires allowed { arrive_refusal doc at self.old.changes ≡ None }
         requires room { 1 ≤ self.old.room }
-        ensures { self.new.changes ≡ self.old.changes ++ record { doc = doc; at = at; held = Some text } ∷ [] }
+        ensures arrived { self.new.changes
+            ≡ self.old.changes ++ record { doc = doc; at = at; held = Some text } ∷ [] }
+        ensures room { self.old.room ≤ self.new.room + 1 }
     {
         self.note(Change {
             doc,
@@ -220,7 +230,9 @@ impl Directory {
     pub fn delete(&mut self, doc: DocId, at: Time)
         requires allowed { delete_refusal doc at self.old.changes ≡ None }
         requires room { 1 ≤ self.old.room }
-        ensures { self.new.changes ≡ self.old.changes ++ record { doc = doc; at = at; held = None } ∷ [] }
+        ensures deleted { self.new.changes
+            ≡ self.old.changes ++ record { doc = doc; at = at; held = None } ∷ [] }
+        ensures room { self.old.room ≤ self.new.room + 1 }
     {
         self.note(Change {
             doc,
@@ -233,7 +245,8 @@ impl Directory {
     fn note(&mut self, change: Change<TextPlace>)
         requires in_order { time_back change.at self.old.changes ≡ None }
         requires room { 1 ≤ self.old.room }
-        ensures { self.new.changes ≡ self.old.changes ++ change ∷ [] }
+        ensures noted { self.new.changes ≡ self.old.changes ++ change ∷ [] }
+        ensures room { self.old.room ≤ self.new.room + 1 }
     {
         let place = self.log.len();
         let link = match self.latest.get(&change.doc) {
