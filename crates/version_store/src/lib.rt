@@ -9,6 +9,8 @@ mod change;
 mod directory;
 mod link;
 mod refusal;
+#[cfg(test)]
+mod tests;
 mod walk;
 
 pub use change::Change;
