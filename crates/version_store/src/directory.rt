@@ -5,7 +5,7 @@ ghost use Rattle.time_base.specs.Limits.{limit_of};
 ghost use Rattle.time_base.specs.declared.ids.DocId.{DocId as Document};
 ghost use Rattle.version_store.specs.Index.{times};
 ghost use Rattle.version_store.specs.Changes.{last_time, latest, documents, held_at, alive};
-ghost use Rattle.version_store.specs.Refusals.{arrive_refusal, delete_refusal, time_back};
+ghost use Rattle.version_store.specs.Refusals.{arrive_refusal, delete_refusal, time_back, full_versions};
 
 use crate::change::Change;
 use crate::link::Link;
@@ -17,6 +17,10 @@ use std::marker::Model;
 use time_base::{DocId, TextPlace, Time, Which};
 
 /// The changes of all documents, with each text's place in the journal.
+///
+/// A document's changes are found without a look at other documents': its latest one by a hash
+/// table, and earlier ones by links back from it. A look-up below is one in that table, constant on
+/// average.
 #[derive(Drop)]
 pub struct Directory {
     /// The changes in their order.
@@ -35,7 +39,12 @@ impl Model for Directory {
 
     ghost Value = { Held };
 
-    ghost view = { λ a. record { changes = a.log.items; room = min (min (vec_capacity a.log - vec_len a.log) (vec_capacity a.links - vec_len a.links)) (spare a.latest) } };
+    ghost view = { λ a. record {
+      changes = a.log.items;
+      room =
+          min (min (vec_capacity a.log - vec_len a.log) (vec_capacity a.links - vec_len a.links))
+          (spare a.latest);
+    } };
 
     ghost invariant = { λ a. IsIndexed a.log.items a.links.items a.latest };
 }
@@ -94,17 +103,16 @@ impl Directory {
         self.latest.len()
     }
 
-    /// Whether a version of the document may come at that time, or the first cause why not. It
-    /// costs one look-up.
+    /// Whether a version of the document may come at that time, or the first cause why not: the
+    /// time lies before the last change; the document's latest change has that time; it would be
+    /// one document, or one version or tombstone, too many. It costs one look-up.
     pub fn may_arrive(&self, doc: DocId, at: Time) -> Result<(), VersionRefusal>
         ensures { MatchResult result
             (λ _. arrive_refusal doc at self.now.changes ≡ None)
             (λ e. arrive_refusal doc at self.now.changes ≡ Some e) }
     {
-        if let Some(last) = self.last() {
-            if at.seconds < last.seconds {
-                return Err(VersionRefusal::TimeBack { last });
-            }
+        if let Some(why) = self.time_back(at) {
+            return Err(why);
         }
         match self.latest(doc) {
             Some(change) => {
@@ -118,41 +126,55 @@ impl Directory {
                 }
             }
         }
-        if Which::Versions.limit() <= self.len() as u64 {
-            return Err(full(Which::Versions));
+        match self.full_versions() {
+            Some(why) => Err(why),
+            None => Ok(()),
         }
-        Ok(())
     }
 
-    /// Whether the document may be deleted at that time, or the first cause why not. It costs one
-    /// look-up.
+    /// Whether the document may be deleted at that time, or the first cause why not: the time lies
+    /// before the last change; the document never came, or is deleted; its latest version has that
+    /// time; it would be one version or tombstone too many. It costs one look-up.
     pub fn may_delete(&self, doc: DocId, at: Time) -> Result<(), VersionRefusal>
         ensures { MatchResult result
             (λ _. delete_refusal doc at self.now.changes ≡ None)
             (λ e. delete_refusal doc at self.now.changes ≡ Some e) }
     {
-        if let Some(last) = self.last() {
-            if at.seconds < last.seconds {
-                return Err(VersionRefusal::TimeBack { last });
-            }
+        if let Some(why) = self.time_back(at) {
+            return Err(why);
         }
-        let Some(
-            Change {
-                at: since,
-                held: Some(_),
-                ..
-            },
-        ) = self.latest(doc)
-        else {
-            return Err(VersionRefusal::NoDocument);
+        let since = match self.latest(doc) {
+            Some(change) if change.held.is_some() => change.at,
+            _ => return Err(VersionRefusal::NoDocument),
         };
         if since.seconds == at.seconds {
             return Err(VersionRefusal::SameTime);
         }
-        if Which::Versions.limit() <= self.len() as u64 {
-            return Err(full(Which::Versions));
+        match self.full_versions() {
+            Some(why) => Err(why),
+            None => Ok(()),
         }
-        Ok(())
+    }
+
+    /// The refusal of a time that lies before the last change's.
+    fn time_back(&self, at: Time) -> Option<VersionRefusal>
+        ensures { result ≡ time_back at self.now.changes }
+    {
+        match self.last() {
+            Some(last) if at.seconds < last.seconds => Some(VersionRefusal::TimeBack { last }),
+            _ => None,
+        }
+    }
+
+    /// The refusal of one change more than there may be.
+    fn full_versions(&self) -> Option<VersionRefusal>
+        ensures { result ≡ full_versions self.now.changes }
+    {
+        if Which::Versions.limit() <= self.len() as u64 {
+            Some(full(Which::Versions))
+        } else {
+            None
+        }
     }
 
     /// Where the text lies of the document's version that is valid at the time; None exactly where

@@ -18,7 +18,8 @@ pub(crate) fn held_from(
 ) -> Option<TextPlace>
     requires linked { AreLinked log.now links.now }
     requires there { latest < length log.now }
-    ensures { (doc : Document) → Leads doc t.seconds log.now latest → result ≡ held_at doc t.seconds log.now }
+    ensures { (doc : Document) → Leads doc t.seconds log.now latest →
+        result ≡ held_at doc t.seconds log.now }
 {
     let mut place = latest;
     while t.seconds < log[place].at.seconds {
@@ -37,7 +38,10 @@ fn step_back(log: &[Change<TextPlace>], links: &[Link], place: usize, t: Time) -
     requires there { place < length log.now }
     requires behind { IfSome (slice_get log.now place) (λ c. t.seconds < c.at.seconds) }
     ensures earlier { IfSome result (λ i. i < place) }
-    ensures leads { (doc : Document) → Leads doc t.seconds log.now place → MatchOption result (None ≡ held_at doc t.seconds log.now) (Leads doc t.seconds log.now) }
+    ensures leads { (doc : Document) → Leads doc t.seconds log.now place →
+        MatchOption result
+        (None ≡ held_at doc t.seconds log.now)
+        (Leads doc t.seconds log.now) }
 {
     let link = links[place];
     let Some(before) = link.before else {
