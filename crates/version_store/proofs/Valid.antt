@@ -79,3 +79,11 @@ module _ {A : Type 0} where
   -- a change of the document behind the time: only those before it count, and they are those up to it
   pub held_at-passed : (doc : DocId) (t : ℕ) (log : List (Change A)) (i : ℕ) (c : Change A) → IsNonDecreasingBy (λ d. d.at.seconds) log → slice_get log i ≡ Some c → t < c.at.seconds → held_at doc t log ≡ held_at doc t (take (i + 1) log)
   held_at-passed doc t log i c up e h = held_at-cut doc t log i c up e h ∙ sym (ap (held_at doc t) (take-next log i c e) ∙ held_at-later doc t (take i log) c h)
+
+  -- a change of another document leaves what the document holds
+  pub held_at-other : (doc : DocId) (t : ℕ) (changes : List (Change A)) (c : Change A) → c.doc.0 == doc.0 ≡ false → held_at doc t (changes ++ c ∷ []) ≡ held_at doc t changes
+  held_at-other doc t changes c e = ap (valid_at t) (changes_of-other doc changes c e)
+
+  -- a change of the document holds from its time on
+  pub held_at-same : (doc : DocId) (t : ℕ) (changes : List (Change A)) (c : Change A) → c.doc.0 == doc.0 ≡ true → All (λ d. d.at.seconds ≤ t) changes → c.at.seconds ≤ t → held_at doc t (changes ++ c ∷ []) ≡ c.held
+  held_at-same doc t changes c e a h = ap (valid_at t) (changes_of-same doc changes c e) ∙ valid_at-last t (changes_of doc changes) c (All-filter (λ d. d.doc.0 == doc.0) (λ d. d.at.seconds ≤ t) changes a) h
