@@ -13,4 +13,11 @@ pub enum Entry {
         /// Its text, of at most `MOST_TEXT_BYTES` bytes.
         text: VersionText,
     },
+    /// The end of a document's newest version, without a new one.
+    Delete {
+        /// The document.
+        doc: DocId,
+        /// When the version ends.
+        at: Time,
+    },
 }

@@ -36,7 +36,7 @@ impl Extent {
     /// How many pages the bytes take, the last one in part. Constant cost.
     pub fn pages(self) -> u64
         ensures value { result ≡ (self.bytes + 4095) / 4096 }
-        ensures bound { result ≤ 2 ^ 28 }
+        ensures in_pages { self.first + result ≤ 2 ^ 28 }
     {
         self.bytes.div_ceil(PAGE_BYTES)
     }

@@ -30,14 +30,16 @@ impl Fraction {
 
     /// The numerator. Constant cost.
     pub fn over(self) -> u32
-        ensures { result ≡ self.over }
+        ensures value { result ≡ self.over }
+        ensures at_least_under { self.under ≤ result }
     {
         self.over
     }
 
-    /// The denominator, at least 1. Constant cost.
+    /// The denominator. Constant cost.
     pub fn under(self) -> u32
-        ensures { result ≡ self.under }
+        ensures value { result ≡ self.under }
+        ensures not_zero { 1 ≤ result }
     {
         self.under
     }

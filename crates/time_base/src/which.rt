@@ -16,7 +16,7 @@ pub const MOST_WORDS: u64 = 1 << 20;
 /// The most bytes of a journal.
 pub const MOST_JOURNAL_BYTES: u64 = 1 << 40;
 
-/// What of an archive is full.
+/// What of an archive can become full.
 #[derive(Clone, Copy, Debug, PartialEq, Eq, PartialOrd, Ord, Hash)]
 pub enum Which {
     /// The documents, deleted ones among them.
