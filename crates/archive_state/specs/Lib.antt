@@ -1,0 +1,6 @@
+pub mod Histories
+pub mod Refusals
+pub mod Replies
+pub mod Rows
+pub mod Runs
+pub mod Steps

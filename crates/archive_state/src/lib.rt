@@ -1,0 +1,11 @@
+//! The history of an archive and the machine that an archive is, as definitions.
+//!
+//! A history is a list of entries, each allowed after those before it (`specs/Histories.antt`). An
+//! abstract machine carries out commands on it, one step after another (`specs/Steps.antt`), and
+//! each reply has a text (`specs/Replies.antt`). What a stopped run has acknowledged, and what the
+//! images that it left stand for, is said of any such machine (`specs/Runs.antt`).
+#![tactic(auto)]
+
+mod refusal;
+
+pub use refusal::Refusal;

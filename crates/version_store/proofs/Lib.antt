@@ -1,0 +1,5 @@
+pub mod Listed
+pub mod Latest
+pub mod Known
+pub mod Indexed
+pub mod Mapped
