@@ -1,0 +1,5 @@
+pub mod WrittenLemmas
+pub mod FaultLemmas
+pub mod GrowthLemmas
+pub mod CallLemmas
+pub mod PushLemmas

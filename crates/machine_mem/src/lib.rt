@@ -1,0 +1,13 @@
+//! The machine in memory: a source, a sink and a disk that tell all that they hold, for tests.
+#![tactic(auto)]
+
+mod counter;
+mod faults;
+mod history;
+mod input;
+mod machine;
+mod store;
+mod tally;
+
+pub use faults::{CallKind, Fault};
+pub use machine::MemMachine;

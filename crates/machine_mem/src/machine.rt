@@ -1,0 +1,172 @@
+ghost use Rattle.std.specs.Prelude.{◌≡◌, ◌+◌, ◌^◌, ◌≤◌, [], ◌++◌, length, take, IfOk, OnOk, OnErr};
+ghost use Rattle.machine_model.specs.Areas.{part};
+ghost use Rattle.machine_model.specs.States.{DiskState};
+ghost use Rattle.machine_mem.specs.Moments.{along};
+ghost use Rattle.machine_mem.specs.Machines.{wrote, synced, passed, showed};
+ghost use Rattle.machine_mem.specs.Meaning.{meaning, source_state, sink_state, disk_state};
+
+use crate::counter::Counter;
+use crate::faults::{Counts, Fault, Script};
+use crate::history::{History, Shot};
+use crate::input::Input;
+use crate::store::Store;
+use crate::tally::Tally;
+use machine_model::{Area, Image};
+use std::alloc::{AllocError, Global};
+
+/// A machine in memory. It tells all that it holds, and its calls fail where its script says so,
+/// or where it finds no memory for its record.
+#[derive(Drop)]
+pub struct MemMachine {
+    pub(crate) alloc: Global,
+    pub(crate) input: Input,
+    pub(crate) shown: Vec<u8>,
+    pub(crate) journal: Store,
+    pub(crate) pages: Store,
+    pub(crate) read_journal: Tally,
+    pub(crate) read_pages: Tally,
+    pub(crate) source_faults: Counter,
+    pub(crate) sink_faults: Counter,
+    pub(crate) disk_faults: Counter,
+    pub(crate) history: History,
+    pub(crate) script: Script,
+    pub(crate) starved: Counter,
+}
+
+impl MemMachine {
+    /// A machine with this input left and nothing shown, whose disk is this image, just synced.
+    /// The calls that the faults name will fail. Cost: three copies of the image.
+    pub fn new(
+        alloc: Global,
+        input: Vec<u8>,
+        image: Image,
+        faults: Vec<Fault>,
+    ) -> Result<MemMachine, AllocError>
+        requires journal { length image.journal.items ≤ 2 ^ 40 }
+        requires pages { length image.pages.items ≤ 2 ^ 40 }
+        ensures source { IfOk result (λ x. source_state x ≡ record { left = input.items; faults = 0 }) }
+        ensures sink { IfOk result (λ x. sink_state x ≡ record { shown = []; faults = 0 }) }
+        ensures disk { IfOk result (λ x. disk_state x ≡ record {
+            reach = record { journal = length image.journal.items; pages = length image.pages.items };
+            holds = record { journal = image.journal.items; pages = image.pages.items };
+            faults = 0;
+            bytes_read = record { journal = 0; pages = 0 };
+            past = [];
+            now = record {
+                stable = record { journal = image.journal.items; pages = image.pages.items };
+                pending = record { journal = []; pages = [] };
+                beside = [] } }) }
+    {
+        let journal = Store::new(alloc, &image.journal)?;
+        let pages = Store::new(alloc, &image.pages)?;
+        Ok(MemMachine {
+            alloc,
+            input: Input {
+                bytes: input,
+                at: 0,
+            },
+            shown: Vec::new(alloc),
+            journal,
+            pages,
+            read_journal: Tally::new(alloc),
+            read_pages: Tally::new(alloc),
+            source_faults: Counter::new(),
+            sink_faults: Counter::new(),
+            disk_faults: Counter::new(),
+            history: History::new(alloc),
+            script: Script {
+                faults,
+                counts: Counts::new(),
+            },
+            starved: Counter::new(),
+        })
+    }
+
+    /// The bytes shown so far.
+    pub fn shown(&self) -> &[u8]
+        ensures { result.now ≡ (sink_state self.now).shown }
+    {
+        &self.shown
+    }
+
+    /// One area.
+    pub(crate) fn store(&self, area: Area) -> &Store
+        ensures { result.now ≡ part (record { journal = self.now.journal; pages = self.now.pages }) area }
+    {
+        match area {
+            Area::Journal => &self.journal,
+            Area::Pages => &self.pages,
+        }
+    }
+
+    /// Records a call that shows a piece, with the state before it. Without memory nothing changes.
+    /// Cost: a copy of the disk and of the bytes shown.
+    pub(crate) fn record(&mut self, piece: &[u8]) -> Result<(), AllocError>
+        ensures others { self.new ≡ record self.old { history = self.new.history } }
+        ensures past { OnOk result ((disk_state self.new).past ≡ (disk_state self.old).past ++ along (disk_state self.old).now piece.now) }
+        ensures err { OnErr result (self.new.history.shots.items ≡ self.old.history.shots.items) }
+    {
+        let shot = Shot {
+            journal: self.journal.remains.copy(self.alloc)?,
+            pages: self.pages.remains.copy(self.alloc)?,
+            shown: Vec::from_slice(self.alloc, &self.shown)?,
+            piece: Vec::from_slice(self.alloc, piece)?,
+            until: self.history.calls,
+        };
+        self.history.record(shot)
+    }
+
+    /// A write of which the first `kept` bytes come through. Without memory nothing changes.
+    pub(crate) fn try_write(
+        &mut self,
+        area: Area,
+        at: u64,
+        bytes: &[u8],
+        kept: usize,
+    ) -> Result<(), AllocError>
+        requires fits { at + length bytes.now ≤ 2 ^ 40 }
+        requires within { kept ≤ length bytes.now }
+        ensures ok { OnOk result (meaning self.new ≡ wrote area at bytes.now kept (meaning self.old)) }
+        ensures err { OnErr result (meaning self.new ≡ meaning self.old) }
+    {
+        let next = self.store(area).after_write(self.alloc, at, bytes, kept)?;
+        self.record(&[])?;
+        match area {
+            Area::Journal => self.journal = next,
+            Area::Pages => self.pages = next,
+        }
+        Ok(())
+    }
+
+    /// A sync that comes through. Without memory nothing changes.
+    pub(crate) fn try_sync(&mut self) -> Result<(), AllocError>
+        ensures ok { OnOk result (meaning self.new ≡ synced (meaning self.old)) }
+        ensures err { OnErr result (meaning self.new ≡ meaning self.old) }
+    {
+        let journal = self.journal.after_sync(self.alloc)?;
+        let pages = self.pages.after_sync(self.alloc)?;
+        self.record(&[])?;
+        self.journal = journal;
+        self.pages = pages;
+        Ok(())
+    }
+
+    /// A push that comes through. Without memory nothing changes.
+    pub(crate) fn try_push(&mut self, piece: &[u8]) -> Result<(), AllocError>
+        ensures ok { OnOk result (meaning self.new ≡ showed piece.now (meaning self.old)) }
+        ensures err { OnErr result (meaning self.new ≡ meaning self.old) }
+    {
+        self.shown.reserve(piece.len())?;
+        self.record(piece)?;
+        self.shown.extend_from_slice(piece)?;
+        Ok(())
+    }
+
+    /// Counts a write, a sync or a push that found no memory.
+    pub(crate) fn starve(&mut self)
+        ensures { meaning self.new ≡ meaning self.old }
+    {
+        self.history.skip();
+        self.starved.rise();
+    }
+}
