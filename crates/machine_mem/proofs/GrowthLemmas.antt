@@ -1,10 +1,10 @@
 -- How a disk's past grows by calls, and what was left since.
-use Rattle.std.proofs.Common.{◌≡◌, ◌⊎◌, ℕ, zero, suc, ◌+◌, ◌≤◌, List, [], ◌∷◌, ◌++◌, length, take, drop, refl, inl, inr, ap, subst, sym, ◌∙◌, arith, append_assoc, length-append}
+use Rattle.std.proofs.Common.{◌≡◌, ◌⊎◌, ℕ, zero, suc, ◌≤◌, List, [], ◌∷◌, ◌++◌, length, take, drop, refl, inl, inr, ap, subst, sym, ◌∙◌, arith, append_assoc, length-append}
 use Rattle.std.proofs.lemmas.List.{drop-append-le, append-nil, drop_at}
 use Rattle.machine_model.specs.Areas.{Bytes}
 use Rattle.machine_model.specs.States.{Moment, DiskState, moment}
 use Rattle.machine_model.specs.Images.{MayLeave, Leaves}
-use Rattle.machine_model.specs.Moments.{SomeLeaves, LeftSince, LeavesOnly, GoesOn}
+use Rattle.machine_model.specs.Moments.{SomeLeaves, LeftSince, GoesOn}
 use Rattle.machine_mem.specs.Moments.{along}
 
 -- what one of these moments leaves: an image of the first, beside its bytes and a front of the piece
@@ -69,19 +69,24 @@ pub grown : (more : List Moment) (old new : DiskState) → Grows more old new �
 grown more old new grows = record {
   later = let e = ap (λ (l : List Moment). length l) grows.past in omega (arith, length-append old.past more);
   nothing_else = λ since image beside early left. elim left as (λ _. LeftSince old since image beside ⊎ LeftSince new (moment old) image beside) [
-      inl now ↦ inr (inl now)
+    | inl now ↦ inr (inl now)
     | inr past ↦
         let P : List Moment → Type 0 = λ moments. SomeLeaves moments image beside in
         let split : SomeLeaves (drop since old.past ++ more) image beside = subst P (ap (λ (l : List Moment). drop since l) grows.past ∙ drop-append-le since old.past more early) past in
         elim (some_left (drop since old.past) more image beside split) as (λ _. LeftSince old since image beside ⊎ LeftSince new (moment old) image beside) [
-          inl before ↦ inl (inr before)
-        | inr during ↦ inr (since_left more old new grows image beside during) ] ];
+          | inl before ↦ inl (inr before)
+          | inr during ↦ inr (since_left more old new grows image beside during)
+        ]
+  ];
   keeps = λ since image beside early left.
-    let P : List Moment → Type 0 = λ moments. SomeLeaves moments image beside in
-    let whole : drop since new.past ≡ drop since old.past ++ more = ap (λ (l : List Moment). drop since l) grows.past ∙ drop-append-le since old.past more early in
-    let late : SomeLeaves more image beside → LeftSince new since image beside = λ left. inr (subst P (sym whole) (left_late (drop since old.past) more image beside left)) in
-    elim left as (λ _. LeftSince new since image beside) [
-      inl was ↦ elim was as (λ _. LeftSince new since image beside) [
-        inl now ↦ elim (grows.keeps image beside now) as (λ _. LeftSince new since image beside) [ inl still ↦ inl still | inr during ↦ late during ]
-      | inr past ↦ inr (subst P (sym whole) (left_early (drop since old.past) more image beside past)) ]
-    | inr is ↦ elim (left_since more old new grows image beside is) as (λ _. LeftSince new since image beside) [ inl still ↦ inl still | inr during ↦ late during ] ] }
+      let P : List Moment → Type 0 = λ moments. SomeLeaves moments image beside in
+      let whole : drop since new.past ≡ drop since old.past ++ more = ap (λ (l : List Moment). drop since l) grows.past ∙ drop-append-le since old.past more early in
+      let late : SomeLeaves more image beside → LeftSince new since image beside = λ left. inr (subst P (sym whole) (left_late (drop since old.past) more image beside left)) in
+      elim left as (λ _. LeftSince new since image beside) [
+        | inl was ↦ elim was as (λ _. LeftSince new since image beside) [
+          | inl now ↦ elim (grows.keeps image beside now) as (λ _. LeftSince new since image beside) [ inl still ↦ inl still | inr during ↦ late during ]
+          | inr past ↦ inr (subst P (sym whole) (left_early (drop since old.past) more image beside past))
+        ]
+        | inr is ↦ elim (left_since more old new grows image beside is) as (λ _. LeftSince new since image beside) [ inl still ↦ inl still | inr during ↦ late during ]
+      ];
+}

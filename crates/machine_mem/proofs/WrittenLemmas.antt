@@ -1,9 +1,8 @@
 -- What a write leaves of an area's bytes.
-use Rattle.std.proofs.Common.{◌≡◌, ◌⊎◌, ℕ, ◌+◌, ◌-◌, ◌<◌, ◌≤◌, ◌^◌, max, List, ◌∷◌, ◌++◌, length, take, drop, replicate, slice_index, get_or, refl, arith, inl, inr, sym, ◌∙◌, ap, length-append, length-drop, append_assoc, Fits, w8}
-use Rattle.std.proofs.lemmas.List.{length-take, length-replicate, get_or_append_left, get_or-take, get_or-append_right, get_or-drop, places}
+use Rattle.std.proofs.Common.{◌≡◌, ◌⊎◌, ℕ, ◌+◌, ◌-◌, ◌<◌, ◌≤◌, ◌^◌, max, List, ◌∷◌, ◌++◌, length, take, drop, replicate, slice_index, get_or, arith, inl, inr, ◌∙◌, ap, length-append, length-drop, Fits, w8}
+use Rattle.std.proofs.lemmas.List.{length-take, length-replicate, get_or-append_right, get_or-drop, places}
 use Rattle.std.proofs.lemmas.List.Elements.{All-append, All-take, All-drop, All-replicate, All-from_get_or}
-use Rattle.std.proofs.lemmas.Grind.{common_steps}
-use Rattle.machine_model.specs.Images.{IsAllowed, IsUntouched, AreBytes, furthest}
+use Rattle.machine_model.specs.Images.{IsAllowed, AreBytes}
 use Rattle.machine_model.specs.Calls.{written}
 use Rattle.machine_model.specs.declared.range.Range.{Range}
 use Rattle.machine_mem.specs.Stores.{IsSound}
@@ -20,7 +19,7 @@ get_or-written at bytes old k within (inr behind) =
     let long : length front ≡ at + length bytes = simp (length-append, length-take, length-replicate) (omega arith) in
     let place : at + length bytes + (k - (at + length bytes)) ≡ k = omega arith in
     get_or-append_right front (drop (at + length bytes) old) (at + length bytes) k 0 long behind
-      ∙ get_or-drop (at + length bytes) old (k - (at + length bytes)) 0 ∙ ap (λ i. get_or old i 0) place
+    ∙ get_or-drop (at + length bytes) old (k - (at + length bytes)) 0 ∙ ap (λ i. get_or old i 0) place
 
 pub AreBytes-written : (at : ℕ) (bytes old : List ℕ) → AreBytes bytes → AreBytes old → AreBytes (written at bytes old)
 AreBytes-written at bytes old new was =
@@ -41,9 +40,10 @@ written_allowed_lem stable pending old at n bytes was new short = record {
   no_shorter = omega (arith, length-written at bytes old, was.no_shorter);
   no_longer = omega (arith, length-written at bytes old, was.no_longer);
   kept = λ k within untouched.
-    let outside : (k < at) ⊎ (at + length bytes ≤ k) = elim untouched.0 [ inl before ↦ inl before | inr behind ↦ inr (omega arith) ] in
-    get_or-written at bytes old k (omega (arith, was.no_shorter)) outside ∙ was.kept k within untouched.1;
-  bytes = AreBytes-written at bytes old new was.bytes }
+      let outside : (k < at) ⊎ (at + length bytes ≤ k) = elim untouched.0 [ inl before ↦ inl before | inr behind ↦ inr (omega arith) ] in
+      get_or-written at bytes old k (omega (arith, was.no_shorter)) outside ∙ was.kept k within untouched.1;
+  bytes = AreBytes-written at bytes old new was.bytes;
+}
 
 written_sound_lem : (stable : List ℕ) (pending : List Range) (old : List ℕ) (at : ℕ) (bytes : List ℕ) → IsSound stable pending old
     → AreBytes bytes → at + length bytes ≤ 2 ^ 40 → IsSound stable (record { at = at; count = length bytes } ∷ pending) (written at bytes old)
@@ -51,7 +51,8 @@ written_sound_lem stable pending old at bytes was new fits = record {
   bytes = was.bytes;
   allowed = written_allowed_lem stable pending old at (length bytes) bytes was.allowed new (omega arith);
   whole = length-written at bytes old ∙ omega (arith, was.whole);
-  limit = omega (arith, length-written at bytes old, was.limit) }
+  limit = omega (arith, length-written at bytes old, was.limit);
+}
 
 -- the same of lists that are equal to these
 pub written_allowed : {stable : List ℕ} {pending : List Range} {old : List ℕ} (at n : ℕ) (bytes : List ℕ) {stable' : List ℕ} {pending' : List Range} {new : List ℕ}

@@ -1,12 +1,10 @@
 -- The laws of the calls of one trait: over no call, and over calls in a row.
-use Rattle.std.proofs.Common.{◌≡◌, ℕ, ◌≤◌, List, [], ◌++◌, refl, sym, ap, ◌∙◌, subst, arith, append_assoc}
+use Rattle.std.proofs.Common.{◌≡◌, ℕ, List, [], ◌++◌, refl, sym, ap, ◌∙◌, subst, arith, append_assoc}
 use Rattle.std.proofs.lemmas.List.{append-nil}
 use Rattle.machine_model.specs.Areas.{Both, Bytes, part}
-use Rattle.machine_model.specs.States.{DiskState, Moment}
+use Rattle.machine_model.specs.States.{DiskState}
 use Rattle.machine_model.specs.Images.{IsAllowed, MayLeave}
-use Rattle.machine_model.specs.Moments.{GoesOn, LeavesOnly}
 use Rattle.machine_model.specs.Pushes.{IsPrefix, IsSameBeside, OnlyShows}
-use Rattle.machine_model.specs.declared.area.Area.{Area}
 use Rattle.machine_model.specs.declared.range.Range.{Range}
 use Rattle.machine_model.proofs.MomentLemmas.{joined, goes_on_joins, goes_on_same, left_now}
 use Rattle.machine_mem.specs.Machines.{MachineState, OnlySource, OnlySink, OnlyDisk}
@@ -28,7 +26,8 @@ OnlyDisk-joins x y z one two = record {
   reach = λ area. omega (arith, one.reach area, two.reach area);
   read = λ area. omega (arith, one.read area, two.read area);
   beside = two.beside ∙ one.beside;
-  goes_on = goes_on_joins one.goes_on two.goes_on }
+  goes_on = goes_on_joins one.goes_on two.goes_on;
+}
 
 IsPrefix-joins : (a b c : List ℕ) → IsPrefix a b → IsPrefix b c → IsPrefix a c
 IsPrefix-joins a b c one two = (one.0 ++ two.0, two.1 ∙ ap (λ (l : List ℕ). l ++ two.0) one.1 ∙ append_assoc a one.0 two.0)
@@ -41,7 +40,8 @@ OnlyShows-same d shown is =
     record {
       goes_on = goes_on_same d;
       grows = none;
-      since = left_now d (λ (image : Bytes) (beside : List ℕ). MayLeave d.now image × IsPrefix shown beside × IsPrefix beside shown) (λ image may. (may, beside.0, beside.1)) }
+      since = left_now d (λ (image : Bytes) (beside : List ℕ). MayLeave d.now image × IsPrefix shown beside × IsPrefix beside shown) (λ image may. (may, beside.0, beside.1));
+    }
 
 still_allowed : (a b : DiskState) → IsSameBeside a b → (image : Bytes) → MayLeave b.now image → MayLeave a.now image
 still_allowed a b same image may = λ area.
@@ -56,25 +56,29 @@ OnlyShows-joins a b c s t u same one two = record {
   since = joined (λ (image : Bytes) (beside : List ℕ). MayLeave a.now image × IsPrefix s beside × IsPrefix beside u)
       one.goes_on (λ image beside left. let h = one.since image beside left in (h.0, h.1, IsPrefix-joins beside t u h.2 two.grows))
       two.goes_on (λ image beside left.
-        let h = two.since image beside left in
-        (still_allowed a b same image h.0, IsPrefix-joins s t beside one.grows h.1, h.2)) }
+      let h = two.since image beside left in
+      (still_allowed a b same image h.0, IsPrefix-joins s t beside one.grows h.1, h.2));
+}
 
 pub IsSameBeside-joins : (a b c : DiskState) → IsSameBeside a b → IsSameBeside b c → IsSameBeside a c
 IsSameBeside-joins a b c one two = record {
   same = ap (λ (d : DiskState). record d { past = a.past; now = a.now }) two.same ∙ one.same;
   stable = two.stable ∙ one.stable;
-  pending = two.pending ∙ one.pending }
+  pending = two.pending ∙ one.pending;
+}
 
 pub OnlySink-joins : (x y z : MachineState) → OnlySink x y → OnlySink y z → OnlySink x z
 OnlySink-joins x y z one two = record {
   source = two.source ∙ one.source;
   beside = IsSameBeside-joins x.disk y.disk z.disk one.beside two.beside;
   shows = OnlyShows-joins x.disk y.disk z.disk x.sink.shown y.sink.shown z.sink.shown one.beside one.shows two.shows;
-  faults = omega (arith, one.faults, two.faults) }
+  faults = omega (arith, one.faults, two.faults);
+}
 
 pub OnlySink-same : (x : MachineState) → x.disk.now.beside ≡ x.sink.shown → OnlySink x x
 OnlySink-same x is = record {
   source = refl;
   beside = record { same = refl; stable = refl; pending = refl };
   shows = OnlyShows-same x.disk x.sink.shown is;
-  faults = omega arith }
+  faults = omega arith;
+}

@@ -1,7 +1,6 @@
 -- What a machine in memory means: a source, a sink and a disk.
-use Rattle.std.specs.Prelude.{ℕ, List, [], ◌∷◌, ◌++◌, length, sum}
+use Rattle.std.specs.Prelude.{List, length, sum}
 use Rattle.std.specs.List.{flat_map}
-use Rattle.machine_model.specs.Areas.{Both, Bytes}
 use Rattle.machine_model.specs.States.{SourceState, SinkState, Moment, DiskState}
 use Rattle.machine_mem.specs.Inputs.{bytes_left}
 use Rattle.machine_mem.specs.Moments.{along}
@@ -14,7 +13,8 @@ abbrev pub shot_moment : Shot → Moment
 shot_moment shot = record {
   stable = record { journal = shot.journal.stable.items; pages = shot.pages.stable.items };
   pending = record { journal = shot.journal.pending.items; pages = shot.pages.pending.items };
-  beside = shot.shown.items }
+  beside = shot.shown.items;
+}
 
 -- the moment that a shot keeps, and those inside the push after it
 abbrev pub shot_moments : Shot → List Moment
@@ -25,7 +25,8 @@ abbrev pub moment_of : MemMachine → Moment
 moment_of x = record {
   stable = record { journal = x.journal.remains.stable.items; pages = x.pages.remains.stable.items };
   pending = record { journal = x.journal.remains.pending.items; pages = x.pages.remains.pending.items };
-  beside = x.shown.items }
+  beside = x.shown.items;
+}
 
 abbrev pub source_state : MemMachine → SourceState
 source_state x = record { left = bytes_left x.input; faults = x.source_faults.value }
@@ -40,7 +41,8 @@ disk_state x = record {
   faults = x.disk_faults.value;
   bytes_read = record { journal = sum x.read_journal.parts.items; pages = sum x.read_pages.parts.items };
   past = flat_map shot_moments x.history.shots.items;
-  now = moment_of x }
+  now = moment_of x;
+}
 
 abbrev pub meaning : MemMachine → MachineState
 meaning x = record { source = source_state x; sink = sink_state x; disk = disk_state x }

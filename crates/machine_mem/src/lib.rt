@@ -2,10 +2,13 @@
 #![tactic(auto)]
 
 mod counter;
+mod disk;
 mod faults;
 mod history;
 mod input;
 mod machine;
+mod sink;
+mod source;
 mod store;
 mod tally;
 

@@ -2,7 +2,7 @@ ghost use Rattle.std.specs.Prelude.{◌≡◌, ◌+◌, ◌^◌, ◌≤◌, [], 
 ghost use Rattle.machine_model.specs.Areas.{part};
 ghost use Rattle.machine_model.specs.States.{DiskState};
 ghost use Rattle.machine_mem.specs.Moments.{along};
-ghost use Rattle.machine_mem.specs.Machines.{wrote, synced, passed, showed};
+ghost use Rattle.machine_mem.specs.Machines.{wrote, synced, passed, showed, did_read};
 ghost use Rattle.machine_mem.specs.Meaning.{meaning, source_state, sink_state, disk_state};
 
 use crate::counter::Counter;
@@ -11,7 +11,7 @@ use crate::history::{History, Shot};
 use crate::input::Input;
 use crate::store::Store;
 use crate::tally::Tally;
-use machine_model::{Area, Image};
+use machine_model::{Area, Image, Machine};
 use std::alloc::{AllocError, Global};
 
 /// A machine in memory. It tells all that it holds, and its calls fail where its script says so,
@@ -47,15 +47,17 @@ impl MemMachine {
         ensures source { IfOk result (λ x. source_state x ≡ record { left = input.items; faults = 0 }) }
         ensures sink { IfOk result (λ x. sink_state x ≡ record { shown = []; faults = 0 }) }
         ensures disk { IfOk result (λ x. disk_state x ≡ record {
-            reach = record { journal = length image.journal.items; pages = length image.pages.items };
-            holds = record { journal = image.journal.items; pages = image.pages.items };
-            faults = 0;
-            bytes_read = record { journal = 0; pages = 0 };
-            past = [];
-            now = record {
-                stable = record { journal = image.journal.items; pages = image.pages.items };
-                pending = record { journal = []; pages = [] };
-                beside = [] } }) }
+          reach = record { journal = length image.journal.items; pages = length image.pages.items };
+          holds = record { journal = image.journal.items; pages = image.pages.items };
+          faults = 0;
+          bytes_read = record { journal = 0; pages = 0 };
+          past = [];
+          now = record {
+            stable = record { journal = image.journal.items; pages = image.pages.items };
+            pending = record { journal = []; pages = [] };
+            beside = [];
+          };
+        }) }
     {
         let journal = Store::new(alloc, &image.journal)?;
         let pages = Store::new(alloc, &image.pages)?;
@@ -99,6 +101,17 @@ impl MemMachine {
         }
     }
 
+    /// Counts bytes that were read. Without memory nothing changes.
+    pub(crate) fn count_read(&mut self, area: Area, bytes: u64) -> Result<(), AllocError>
+        ensures ok { OnOk result (meaning self.new ≡ did_read area bytes (meaning self.old)) }
+        ensures err { OnErr result (meaning self.new ≡ meaning self.old) }
+    {
+        match area {
+            Area::Journal => self.read_journal.add(bytes),
+            Area::Pages => self.read_pages.add(bytes),
+        }
+    }
+
     /// Records a call that shows a piece, with the state before it. Without memory nothing changes.
     /// Cost: a copy of the disk and of the bytes shown.
     pub(crate) fn record(&mut self, piece: &[u8]) -> Result<(), AllocError>
@@ -114,6 +127,14 @@ impl MemMachine {
             until: self.history.calls,
         };
         self.history.record(shot)
+    }
+
+    /// Records a call that changes nothing. Without memory nothing changes.
+    pub(crate) fn try_pass(&mut self) -> Result<(), AllocError>
+        ensures ok { OnOk result (meaning self.new ≡ passed (meaning self.old)) }
+        ensures err { OnErr result (meaning self.new ≡ meaning self.old) }
+    {
+        self.record(&[])
     }
 
     /// A write of which the first `kept` bytes come through. Without memory nothing changes.
@@ -169,4 +190,20 @@ impl MemMachine {
         self.history.skip();
         self.starved.rise();
     }
+}
+
+impl Machine for MemMachine {
+    ghost use Rattle.std.specs.Prelude.{refl};
+
+    ghost source_alone = { λ x y one. (one.sink, one.disk) };
+
+    ghost disk_alone = { λ x y one. (one.source, one.sink) };
+
+    ghost sink_alone = { λ x y one. (one.source, one.beside) };
+
+    ghost beside_shown = { λ x sink_tells disk_tells. refl };
+
+    ghost shows = { λ x y sink_tells disk_tells one. one.shows };
+
+    ghost shows_piece = { λ x y piece answer sink_tells disk_tells one. one.moments };
 }

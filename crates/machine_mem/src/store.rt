@@ -26,6 +26,7 @@ pub struct Store {
     /// The bytes that reads give.
     pub held: Vec<u8>,
     ghost kept: { IsAllowed remains.stable.items remains.pending.items held.items },
+    ghost limit: { length held.items ≤ 2 ^ 40 },
 }
 
 impl Remains {
