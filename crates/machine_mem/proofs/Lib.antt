@@ -3,3 +3,4 @@ pub mod FaultLemmas
 pub mod GrowthLemmas
 pub mod CallLemmas
 pub mod PushLemmas
+pub mod PickLemmas

@@ -5,3 +5,5 @@ pub mod Moments
 pub mod Machines
 pub mod Meaning
 pub mod MachineLaws
+pub mod Stamps
+pub mod Tails

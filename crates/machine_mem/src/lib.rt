@@ -7,6 +7,7 @@ mod faults;
 mod history;
 mod input;
 mod machine;
+mod picks;
 mod sink;
 mod source;
 mod store;
@@ -14,3 +15,4 @@ mod tally;
 
 pub use faults::{CallKind, Fault};
 pub use machine::MemMachine;
+pub use picks::{Fill, Pick, Picked, Tail};
