@@ -41,12 +41,12 @@ some_left (m ∷ first) more image beside (inl here) = inl (inl here)
 some_left (m ∷ first) more image beside (inr later) =
     elim (some_left first more image beside later) [ inl early ↦ inl (inr early) | inr late ↦ inr late ]
 
-left_early : (first more : List Moment) (image : Bytes) (beside : List ℕ) → SomeLeaves first image beside → SomeLeaves (first ++ more) image beside
+pub left_early : (first more : List Moment) (image : Bytes) (beside : List ℕ) → SomeLeaves first image beside → SomeLeaves (first ++ more) image beside
 left_early [] more image beside left = absurd left
 left_early (m ∷ first) more image beside (inl here) = inl here
 left_early (m ∷ first) more image beside (inr later) = inr (left_early first more image beside later)
 
-left_late : (first more : List Moment) (image : Bytes) (beside : List ℕ) → SomeLeaves more image beside → SomeLeaves (first ++ more) image beside
+pub left_late : (first more : List Moment) (image : Bytes) (beside : List ℕ) → SomeLeaves more image beside → SomeLeaves (first ++ more) image beside
 left_late [] more image beside left = left
 left_late (m ∷ first) more image beside left = inr (left_late first more image beside left)
 

@@ -4,3 +4,4 @@ pub mod GrowthLemmas
 pub mod CallLemmas
 pub mod PushLemmas
 pub mod PickLemmas
+pub mod RecallLemmas

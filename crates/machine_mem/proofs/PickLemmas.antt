@@ -80,18 +80,7 @@ cut_length : (stable : List ℕ) (written : List ℕ) (extra wanted len : ℕ) �
 cut_length stable written extra wanted len wanted_is len_is small =
     length-take-le len written (omega arith) ∙ omega arith
 
--- the bytes as last written, cut to that length
-pub tail_written : (stable : List ℕ) (pending : List Range) (written : List ℕ) (tail : Tail) (wanted len : ℕ) (image : List ℕ) → IsSound stable pending written
-    → wanted ≡ min (length stable + tail.extra) (2 ^ 64 - 1) → len ≡ min wanted (length written) → tail.fill ≡ Written
-    → image ≡ take len written → AreBytes image → IsTail stable pending written tail image
-tail_written stable pending written tail wanted len image sound wanted_is len_is fill image_is bytes =
-    let long = ap (λ (l : List ℕ). length l) image_is ∙ cut_length stable written tail.extra wanted len wanted_is len_is sound.limit in
-    let there : (k : ℕ) → k < length image → slice_index image k ≡ slice_index written k =
-      λ k within. ap (λ (l : List ℕ). slice_index l k) image_is ∙ get_or-take len written k 0 (omega arith) in
-    tail_made stable pending written tail image sound long bytes (λ k within low out. there k within)
-      (λ k within loose. there k within ∙ ap (λ f. filled f written k) (sym fill))
-
--- the same with one byte in each open place
+-- the bytes as last written, cut to that length, with one byte in each open place
 tail_byte_lem : (stable : List ℕ) (pending : List Range) (written : List ℕ) (tail : Tail) (wanted len byte : ℕ) (image : List ℕ) → IsSound stable pending written
     → wanted ≡ min (length stable + tail.extra) (2 ^ 64 - 1) → len ≡ min wanted (length written) → tail.fill ≡ Byte byte
     → IsFilled pending (length stable) byte (take len written) image → AreBytes image → IsTail stable pending written tail image

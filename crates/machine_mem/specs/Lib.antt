@@ -3,7 +3,9 @@ pub mod Inputs
 pub mod Faults
 pub mod Moments
 pub mod Machines
+pub mod Snapshots
 pub mod Meaning
+pub mod Outcomes
 pub mod MachineLaws
 pub mod Stamps
 pub mod Tails

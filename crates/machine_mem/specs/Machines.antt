@@ -1,6 +1,6 @@
 -- What the calls of one trait do to a machine.
-use Rattle.std.specs.Prelude.{◌≡◌, ℕ, ◌+◌, ◌≤◌, max, List, [], ◌∷◌, ◌++◌, take, length, Result}
-use Rattle.machine_model.specs.Areas.{part, replaced}
+use Rattle.std.specs.Prelude.{◌≡◌, ℕ, ◌+◌, ◌-◌, ◌^◌, ◌≤◌, min, max, List, [], ◌∷◌, ◌++◌, take, drop, length, Result}
+use Rattle.machine_model.specs.Areas.{Bytes, part, replaced}
 use Rattle.machine_model.specs.States.{SourceState, SinkState, DiskState}
 use Rattle.machine_model.specs.Moments.{GoesOn}
 use Rattle.machine_model.specs.Calls.{written}
@@ -9,10 +9,12 @@ use Rattle.machine_mem.specs.Moments.{along}
 use Rattle.machine_model.specs.declared.area.Area.{Area}
 use Rattle.machine_model.specs.declared.area.Failed.{Failed}
 
+-- the meanings of the three traits, and the bytes of both areas as last written, by failed writes too
 pub record MachineState : Type 0 where
   pub source : SourceState
   pub sink : SinkState
   pub disk : DiskState
+  pub last : Bytes
 
 -- the calls of the source alone
 pub record OnlySource (x y : MachineState) : Type 0 where
@@ -42,6 +44,10 @@ pub record Pushed (x : MachineState) (piece : List ℕ) (answer : Result ℕ Fai
   pub shown : y.sink.shown ≡ x.sink.shown ++ take (taken answer) piece
   pub moments : IsShownByPiece x.sink.shown piece (taken answer) x.disk y.disk
 
+-- a machine after so many bytes were pulled
+abbrev pub pulled : ℕ → MachineState → MachineState
+pulled n x = record x { source = record x.source { left = drop n x.source.left } }
+
 -- a machine after so many bytes of an area were read
 abbrev pub did_read : Area → ℕ → MachineState → MachineState
 did_read area n x = record x { disk = record x.disk { bytes_read = replaced x.disk.bytes_read area (part x.disk.bytes_read area + n) } }
@@ -55,6 +61,7 @@ wrote area at bytes kept x = record x {
     past = x.disk.past ++ x.disk.now ∷ [];
     now = record x.disk.now { pending = replaced x.disk.now.pending area (record { at = at; count = length bytes } ∷ part x.disk.now.pending area) };
   };
+  last = replaced x.last area (written at bytes (part x.last area));
 }
 
 -- a machine after a good sync
@@ -64,6 +71,7 @@ synced x = record x {
     past = x.disk.past ++ x.disk.now ∷ [];
     now = record x.disk.now { stable = x.disk.holds; pending = record { journal = []; pages = [] } };
   };
+  last = x.disk.holds;
 }
 
 -- a machine after a piece was shown
@@ -79,3 +87,17 @@ showed piece x = record x {
 -- a machine after a call that failed and may have changed nothing
 abbrev pub passed : MachineState → MachineState
 passed x = record x { disk = record x.disk { past = x.disk.past ++ x.disk.now ∷ [] } }
+
+-- a count after one more; it stays at its last value
+abbrev pub risen : ℕ → ℕ
+risen n = min (n + 1) (2 ^ 64 - 1)
+
+-- a machine after a call of one trait failed once more
+abbrev pub failed_source : MachineState → MachineState
+failed_source x = record x { source = record x.source { faults = risen x.source.faults } }
+
+abbrev pub failed_sink : MachineState → MachineState
+failed_sink x = record x { sink = record x.sink { faults = risen x.sink.faults } }
+
+abbrev pub failed_disk : MachineState → MachineState
+failed_disk x = record x { disk = record x.disk { faults = risen x.disk.faults } }

@@ -1,9 +1,12 @@
 ghost use Rattle.std.specs.Prelude.{◌≡◌, ◌+◌, ◌^◌, ◌≤◌, [], ◌++◌, length, take, IfOk, OnOk, OnErr};
 ghost use Rattle.machine_model.specs.Areas.{part};
 ghost use Rattle.machine_model.specs.States.{DiskState};
+ghost use Rattle.machine_model.specs.Causes.{Rose};
 ghost use Rattle.machine_mem.specs.Moments.{along};
 ghost use Rattle.machine_mem.specs.Machines.{wrote, synced, passed, showed, did_read};
-ghost use Rattle.machine_mem.specs.Meaning.{meaning, source_state, sink_state, disk_state};
+ghost use Rattle.machine_mem.specs.Snapshots.{shot_snapshot};
+ghost use Rattle.machine_mem.specs.Outcomes.{calls_of, Recalls, Remembers, Stays};
+ghost use Rattle.machine_mem.specs.Meaning.{after_calls, snapshot_of, meaning, source_state, sink_state, disk_state};
 
 use crate::counter::Counter;
 use crate::faults::{Counts, Fault, Script};
@@ -105,6 +108,8 @@ impl MemMachine {
     pub(crate) fn count_read(&mut self, area: Area, bytes: u64) -> Result<(), AllocError>
         ensures ok { OnOk result (meaning self.new ≡ did_read area bytes (meaning self.old)) }
         ensures err { OnErr result (meaning self.new ≡ meaning self.old) }
+        ensures history { self.new.history ≡ self.old.history }
+        ensures rest { (self.new.script ≡ self.old.script) × (self.new.starved ≡ self.old.starved) }
     {
         match area {
             Area::Journal => self.read_journal.add(bytes),
@@ -117,22 +122,36 @@ impl MemMachine {
     pub(crate) fn record(&mut self, piece: &[u8]) -> Result<(), AllocError>
         ensures others { self.new ≡ record self.old { history = self.new.history } }
         ensures past { OnOk result ((disk_state self.new).past ≡ (disk_state self.old).past ++ along (disk_state self.old).now piece.now) }
-        ensures err { OnErr result (self.new.history.shots.items ≡ self.old.history.shots.items) }
+        ensures recalls { OnOk result (Recalls self.old self.new.history.shots.items self.new.history.calls) }
+        ensures err { OnErr result ((self.new.history.shots.items ≡ self.old.history.shots.items) × (self.new.history.calls ≡ self.old.history.calls)) }
     {
-        let shot = Shot {
+        let shot = self.shot(piece)?;
+        self.history.record(shot)?;
+        Ok(())
+    }
+
+    /// The state now, and the piece that the next call shows.
+    fn shot(&self, piece: &[u8]) -> Result<Shot, AllocError>
+        ensures snapshot { IfOk result (λ shot. shot_snapshot shot ≡ snapshot_of self.now) }
+        ensures piece { IfOk result (λ shot. shot.piece.items ≡ piece.now) }
+        ensures until { IfOk result (λ shot. shot.until ≡ calls_of self.now) }
+    {
+        Ok(Shot {
             journal: self.journal.remains.copy(self.alloc)?,
             pages: self.pages.remains.copy(self.alloc)?,
             shown: Vec::from_slice(self.alloc, &self.shown)?,
             piece: Vec::from_slice(self.alloc, piece)?,
             until: self.history.calls,
-        };
-        self.history.record(shot)
+        })
     }
 
     /// Records a call that changes nothing. Without memory nothing changes.
     pub(crate) fn try_pass(&mut self) -> Result<(), AllocError>
         ensures ok { OnOk result (meaning self.new ≡ passed (meaning self.old)) }
         ensures err { OnErr result (meaning self.new ≡ meaning self.old) }
+        ensures recalls { OnOk result (Recalls self.old self.new.history.shots.items self.new.history.calls) }
+        ensures stays { OnErr result (Stays self.old self.new) }
+        ensures rest { (self.new.script ≡ self.old.script) × (self.new.starved ≡ self.old.starved) }
     {
         self.record(&[])
     }
@@ -149,6 +168,9 @@ impl MemMachine {
         requires within { kept ≤ length bytes.now }
         ensures ok { OnOk result (meaning self.new ≡ wrote area at bytes.now kept (meaning self.old)) }
         ensures err { OnErr result (meaning self.new ≡ meaning self.old) }
+        ensures recalls { OnOk result (Recalls self.old self.new.history.shots.items self.new.history.calls) }
+        ensures stays { OnErr result (Stays self.old self.new) }
+        ensures rest { (self.new.script ≡ self.old.script) × (self.new.starved ≡ self.old.starved) }
     {
         let next = self.store(area).after_write(self.alloc, at, bytes, kept)?;
         self.record(&[])?;
@@ -163,6 +185,9 @@ impl MemMachine {
     pub(crate) fn try_sync(&mut self) -> Result<(), AllocError>
         ensures ok { OnOk result (meaning self.new ≡ synced (meaning self.old)) }
         ensures err { OnErr result (meaning self.new ≡ meaning self.old) }
+        ensures recalls { OnOk result (Recalls self.old self.new.history.shots.items self.new.history.calls) }
+        ensures stays { OnErr result (Stays self.old self.new) }
+        ensures rest { (self.new.script ≡ self.old.script) × (self.new.starved ≡ self.old.starved) }
     {
         let journal = self.journal.after_sync(self.alloc)?;
         let pages = self.pages.after_sync(self.alloc)?;
@@ -176,6 +201,9 @@ impl MemMachine {
     pub(crate) fn try_push(&mut self, piece: &[u8]) -> Result<(), AllocError>
         ensures ok { OnOk result (meaning self.new ≡ showed piece.now (meaning self.old)) }
         ensures err { OnErr result (meaning self.new ≡ meaning self.old) }
+        ensures recalls { OnOk result (Recalls self.old self.new.history.shots.items self.new.history.calls) }
+        ensures stays { OnErr result (Stays self.old self.new) }
+        ensures rest { (self.new.script ≡ self.old.script) × (self.new.starved ≡ self.old.starved) }
     {
         self.shown.reserve(piece.len())?;
         self.record(piece)?;
@@ -185,7 +213,10 @@ impl MemMachine {
 
     /// Counts a write, a sync or a push that found no memory.
     pub(crate) fn starve(&mut self)
-        ensures { meaning self.new ≡ meaning self.old }
+        ensures same { meaning self.new ≡ meaning self.old }
+        ensures script { self.new.script ≡ self.old.script }
+        ensures starved { Rose self.old.starved.value self.new.starved.value }
+        ensures remembers { Remembers self.old self.new }
     {
         self.history.skip();
         self.starved.rise();
