@@ -1,14 +1,13 @@
 -- Bytes filled range by range, and the image of an area that comes of it.
-use Rattle.std.proofs.Common.{◌≡◌, ◌⊎◌, ℕ, ◌+◌, ◌-◌, ◌<◌, ◌≤◌, ◌^◌, min, max, List, [], ◌∷◌, ◌++◌, length, take, drop, slice_index, get_or, refl, inl, inr, ap, sym, ◌∙◌, subst, arith, Fits, w8}
+use Rattle.std.proofs.Common.{◌≡◌, ◌⊎◌, ℕ, ◌+◌, ◌-◌, ◌<◌, ◌≤◌, ◌^◌, min, List, [], ◌∷◌, ◌++◌, length, take, drop, slice_index, get_or, inl, inr, ap, sym, ◌∙◌, subst, arith}
 use Rattle.std.proofs.lemmas.List.{take_more, take_at, get_or-take, length-take-le}
 use Rattle.std.proofs.lemmas.Bool.{cases_lt}
-use Rattle.machine_model.specs.Images.{IsAllowed, IsUntouched, AreBytes, furthest}
+use Rattle.machine_model.specs.Images.{IsUntouched, AreBytes}
 use Rattle.machine_model.specs.declared.range.Range.{Range}
 use Rattle.machine_mem.specs.Stores.{IsSound}
 use Rattle.machine_mem.specs.Stamps.{IsStamped, IsStampedOver, IsFilled}
 use Rattle.machine_mem.specs.Tails.{IsOpen, IsTail, filled}
-use Rattle.machine_mem.specs.declared.picks.Fill.{Fill}
-use Rattle.machine_mem.specs.declared.picks.Fill.TheVariants.{Written, Byte}
+use Rattle.machine_mem.specs.declared.picks.Fill.TheVariants.{Byte}
 use Rattle.machine_mem.specs.declared.picks.Tail.{Tail}
 
 -- outside some ranges and one more
@@ -28,17 +27,20 @@ stamped_push : (ranges : List Range) (range : Range) (byte end : ℕ) (first old
 stamped_push ranges range byte end first old new so_far small end_is step = record {
   long = step.long ∙ so_far.long;
   outside = λ k within out.
-    let both = untouched_pop ranges range k out in
-    let there : k < length old = omega (arith, so_far.long) in
-    let beyond : (k < range.at) ⊎ (end ≤ k) = elim both.1 [ inl before ↦ inl before | inr behind ↦ inr (omega arith) ] in
-    step.outside k there beyond ∙ so_far.outside k within both.0;
+      let both = untouched_pop ranges range k out in
+      let there : k < length old = omega (arith, so_far.long) in
+      let beyond : (k < range.at) ⊎ (end ≤ k) = elim both.1 [ inl before ↦ inl before | inr behind ↦ inr (omega arith) ] in
+      step.outside k there beyond ∙ so_far.outside k within both.0;
   inside = λ k within touched.
-    let there : k < length old = omega (arith, so_far.long) in
-    elim (cases_lt k range.at) [
-      inl before ↦ step.outside k there (inl before) ∙ so_far.inside k within (λ out. touched (untouched_push ranges range k out (inl before)))
-    | inr at ↦ elim (cases_lt k (range.at + range.count)) [
-        inl here ↦ step.inside k there at (omega arith)
-      | inr behind ↦ step.outside k there (inr (omega arith)) ∙ so_far.inside k within (λ out. touched (untouched_push ranges range k out (inr behind))) ] ] }
+      let there : k < length old = omega (arith, so_far.long) in
+      elim (cases_lt k range.at) [
+        | inl before ↦ step.outside k there (inl before) ∙ so_far.inside k within (λ out. touched (untouched_push ranges range k out (inl before)))
+        | inr at ↦ elim (cases_lt k (range.at + range.count)) [
+          | inl here ↦ step.inside k there at (omega arith)
+          | inr behind ↦ step.outside k there (inr (omega arith)) ∙ so_far.inside k within (λ out. touched (untouched_push ranges range k out (inr behind)))
+        ]
+      ];
+}
 
 pub stamped_more : (ranges : List Range) (i byte end : ℕ) (d : Range) (first old new : List ℕ) → i < length ranges → IsStampedOver (take i ranges) byte first old
     → length first ≤ 2 ^ 40 → end ≡ min ((get_or ranges i d).at + (get_or ranges i d).count) (2 ^ 64 - 1) → IsStamped (get_or ranges i d).at end byte old new
@@ -53,8 +55,10 @@ filled_both ranges least byte old mid new one two = record {
   long = two.long ∙ one.long;
   outside = λ k within low out. two.outside k (omega (arith, one.long)) (inl low) ∙ one.outside k within out;
   inside = λ k within loose. elim (cases_lt k least) [
-      inl low ↦ two.outside k (omega (arith, one.long)) (inl low) ∙ one.inside k within (loose low)
-    | inr high ↦ two.inside k (omega (arith, one.long)) high (omega (arith, one.long)) ] }
+    | inl low ↦ two.outside k (omega (arith, one.long)) (inl low) ∙ one.inside k within (loose low)
+    | inr high ↦ two.inside k (omega (arith, one.long)) high (omega (arith, one.long))
+  ];
+}
 
 -- what makes bytes the image that a tail takes
 tail_made : (stable : List ℕ) (pending : List Range) (written : List ℕ) (tail : Tail) (image : List ℕ) → IsSound stable pending written
@@ -69,10 +73,12 @@ tail_made stable pending written tail image sound long bytes shut loose =
         no_shorter = least;
         no_longer = omega (arith, sound.whole);
         kept = λ k within out. shut k (omega arith) within out ∙ sound.allowed.kept k within out;
-        bytes = bytes };
+        bytes = bytes;
+      };
       long = long ∙ ap (λ n. min (length stable + tail.extra) n) sound.whole;
       limit = omega (arith, sound.limit);
-      filling = loose }
+      filling = loose;
+    }
 
 -- the length that a tail asks for
 cut_length : (stable : List ℕ) (written : List ℕ) (extra wanted len : ℕ) → wanted ≡ min (length stable + extra) (2 ^ 64 - 1) → len ≡ min wanted (length written)
@@ -88,8 +94,8 @@ tail_byte_lem stable pending written tail wanted len byte image sound wanted_is 
     let cut = cut_length stable written tail.extra wanted len wanted_is len_is sound.limit in
     let long = filling.long ∙ cut in
     tail_made stable pending written tail image sound long bytes
-      (λ k within low out. filling.outside k (omega (arith, filling.long)) low out ∙ get_or-take len written k 0 (omega arith))
-      (λ k within loose. filling.inside k (omega (arith, filling.long)) loose ∙ ap (λ f. filled f written k) (sym fill))
+    (λ k within low out. filling.outside k (omega (arith, filling.long)) low out ∙ get_or-take len written k 0 (omega arith))
+    (λ k within loose. filling.inside k (omega (arith, filling.long)) loose ∙ ap (λ f. filled f written k) (sym fill))
 
 -- the same, for bytes that were filled in place
 pub tail_byte : (stable : List ℕ) (pending : List Range) (written : List ℕ) (tail : Tail) (wanted len byte least n : ℕ) (ranges : List Range) (first new : List ℕ)
@@ -104,4 +110,4 @@ tail_byte stable pending written tail wanted len byte least n ranges first new s
     let H : List ℕ → Type 0 = λ l. IsFilled pending (length stable) byte l new in
     let all : take n (new ++ drop (length new) first) ≡ new = take_at new (drop (length new) first) n (filling.long ∙ n_is) in
     subst P (sym all) (tail_byte_lem stable pending written tail wanted len byte new sound wanted_is len_is fill
-      (subst H first_is (subst G least_is (subst F ranges_are filling))) bytes)
+    (subst H first_is (subst G least_is (subst F ranges_are filling))) bytes)

@@ -1,5 +1,5 @@
 -- What a machine remembers of the states between its calls.
-use Rattle.std.proofs.Common.{◌≡◌, ◌⊎◌, ℕ, ◌+◌, ◌-◌, ◌^◌, ◌<◌, ◌≤◌, min, Bool, true, false, cond, Option, Some, List, [], ◌∷◌, ◌++◌, length, refl, ap, sym, ◌∙◌, arith, find, nat_le, inl, inr, All}
+use Rattle.std.proofs.Common.{◌≡◌, ◌⊎◌, ℕ, ◌+◌, ◌-◌, ◌^◌, ◌<◌, ◌≤◌, min, Bool, true, false, cond, Option, Some, List, [], ◌∷◌, ◌++◌, refl, ap, subst, sym, ◌∙◌, arith, find, nat_le, inl, inr, All}
 use Rattle.std.specs.Option.{option_map_or}
 use Rattle.std.specs.List.{flat_map}
 use Rattle.std.proofs.lemmas.List.{append-nil}
@@ -11,6 +11,9 @@ use Rattle.machine_model.specs.Moments.{SomeLeaves, LeftSince}
 use Rattle.machine_mem.specs.declared.history.Shot.{Shot}
 use Rattle.machine_mem.specs.declared.machine.MemMachine.{MemMachine}
 use Rattle.machine_mem.specs.Snapshots.{Snapshot, shot_snapshot, snapshot_after}
+use Rattle.machine_mem.specs.declared.picks.Pick.{Pick}
+use Rattle.machine_mem.specs.declared.picks.Picked.{Picked}
+use Rattle.machine_mem.specs.Picks.{IsPicked, bytes_of}
 use Rattle.machine_mem.specs.Meaning.{shot_moments, snapshot_of, after_calls, disk_state}
 use Rattle.machine_mem.specs.Outcomes.{calls_of, Recalls, Remembers, Stays}
 use Rattle.machine_mem.proofs.GrowthLemmas.{leaves_along, left_early, left_late}
@@ -40,7 +43,7 @@ after_all (s ∷ shots) now n early =
     let rest : option_map_or shot_snapshot found now ≡ now = after_all shots now n (All-tail (λ (shot : Shot). shot.until < n) s shots early) in
     let first = All-head (λ (shot : Shot). shot.until < n) s shots early in
     let by : (b : Bool) → nat_le n s.until ≡ b → picked b s found now ≡ now =
-      λ b. elim b as (λ b. nat_le n s.until ≡ b → picked b s found now ≡ now) [ true ↦ λ test. absurd (omega (arith, leb-true n s.until test)) | false ↦ λ test. rest ] in
+    λ b. elim b as (λ b. nat_le n s.until ≡ b → picked b s found now ≡ now) [ true ↦ λ test. absurd (omega (arith, leb-true n s.until test)) | false ↦ λ test. rest ] in
     by (nat_le n s.until) refl
 
 pub after_calls-now : (x : MemMachine) → after_calls x (calls_of x) ≡ snapshot_of x
@@ -50,7 +53,8 @@ pub Recalls-push : (x : MemMachine) (shots : List Shot) (calls : ℕ) (shot : Sh
     → shot_snapshot shot ≡ snapshot_of x → shot.until ≡ x.history.calls → Recalls x shots calls
 Recalls-push x shots calls shot shots_are calls_are is until = record {
   one_more = calls_are;
-  before = λ now n low. ap (λ l. snapshot_after l now n) shots_are ∙ after_push x.history.shots.items shot (snapshot_of x) now n is (omega arith) }
+  before = λ now n low. ap (λ l. snapshot_after l now n) shots_are ∙ after_push x.history.shots.items shot (snapshot_of x) now n is (omega arith);
+}
 
 pub Remembers-recalls : (x y : MemMachine) → Recalls x y.history.shots.items y.history.calls → Remembers x y
 Remembers-recalls x y recalls =
@@ -60,18 +64,21 @@ Remembers-recalls x y recalls =
 pub Stays-same : (x y : MemMachine) → y.history.shots.items ≡ x.history.shots.items → y.history.calls ≡ x.history.calls → snapshot_of y ≡ snapshot_of x → Stays x y
 Stays-same x y shots calls now = record {
   calls = calls;
-  before = λ n. ap (λ l. snapshot_after l (snapshot_of y) n) shots ∙ ap (λ s. snapshot_after x.history.shots.items s n) now }
+  before = λ n. ap (λ l. snapshot_after l (snapshot_of y) n) shots ∙ ap (λ s. snapshot_after x.history.shots.items s n) now;
+}
 
 pub Remembers-skip : (x y : MemMachine) → y.history.shots.items ≡ x.history.shots.items → y.history.calls ≡ min (x.history.calls + 1) (2 ^ 64 - 2)
     → snapshot_of y ≡ snapshot_of x → Remembers x y
 Remembers-skip x y shots calls now = record {
   calls = calls;
-  before = λ n low. ap (λ l. snapshot_after l (snapshot_of y) n) shots ∙ ap (λ s. snapshot_after x.history.shots.items s n) now }
+  before = λ n low. ap (λ l. snapshot_after l (snapshot_of y) n) shots ∙ ap (λ s. snapshot_after x.history.shots.items s n) now;
+}
 
 pub Remembers-stays : (x y z : MemMachine) → Stays x y → Remembers y z → Remembers x z
 Remembers-stays x y z one two = record {
   calls = omega (arith, one.calls, two.calls);
-  before = λ n low. two.before n (omega (arith, one.calls)) ∙ one.before n }
+  before = λ n low. two.before n (omega (arith, one.calls)) ∙ one.before n;
+}
 
 -- what was allowed after so many calls was left at some moment, beside the bytes shown then
 left_after : (shots : List Shot) (now : Snapshot) (n : ℕ) (image : Bytes) → MayLeave (snapshot_after shots now n).moment image
@@ -82,14 +89,19 @@ left_after (s ∷ shots) now n image may =
     let later = flat_map shot_moments shots in
     let Left : Snapshot → Type 0 = λ at. Leaves now.moment image at.moment.beside ⊎ SomeLeaves (shot_moments s ++ later) image at.moment.beside in
     let by : (b : Bool) → MayLeave (picked b s found now).moment image → Left (picked b s found now) =
-      λ b. elim b as (λ b. MayLeave (picked b s found now).moment image → Left (picked b s found now)) [
-          true ↦ λ here. inr (left_early (shot_moments s) later image s.shown.items
-            (leaves_along (shot_snapshot s).moment s.piece.items image s.shown.items 0 here (omega arith) (sym (append-nil s.shown.items))))
-        | false ↦ λ there. elim (left_after shots now n image there) [
-            inl is ↦ inl is
-          | inr was ↦ inr (left_late (shot_moments s) later image (option_map_or shot_snapshot found now).moment.beside was) ] ] in
+    λ b. elim b as (λ b. MayLeave (picked b s found now).moment image → Left (picked b s found now)) [
+      | true ↦ λ here. inr (left_early (shot_moments s) later image s.shown.items
+          (leaves_along (shot_snapshot s).moment s.piece.items image s.shown.items 0 here (omega arith) (sym (append-nil s.shown.items))))
+      | false ↦ λ there. elim (left_after shots now n image there) [
+        | inl is ↦ inl is
+        | inr was ↦ inr (left_late (shot_moments s) later image (option_map_or shot_snapshot found now).moment.beside was)
+      ]
+    ] in
     by (nat_le n s.until) may
 
 -- and so since the beginning
-pub left_at : (x : MemMachine) (n : ℕ) (image : Bytes) → MayLeave (after_calls x n).moment image → LeftSince (disk_state x) 0 image (after_calls x n).moment.beside
-left_at x n image may = left_after x.history.shots.items (snapshot_of x) n image may
+pub left_at : (x : MemMachine) (n : ℕ) (at : Snapshot) (pick : Pick) (picked : Picked) → at ≡ after_calls x n → IsPicked at pick picked
+    → LeftSince (disk_state x) 0 (bytes_of picked.image) (after_calls x n).moment.beside
+left_at x n at pick picked is by =
+    let P : Snapshot → Type 0 = λ s. MayLeave s.moment (bytes_of picked.image) in
+    left_after x.history.shots.items (snapshot_of x) n (bytes_of picked.image) (subst P is by.allowed)

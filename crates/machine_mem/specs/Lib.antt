@@ -9,3 +9,5 @@ pub mod Outcomes
 pub mod MachineLaws
 pub mod Stamps
 pub mod Tails
+pub mod Picks
+pub mod Slices

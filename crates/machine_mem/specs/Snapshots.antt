@@ -16,8 +16,10 @@ snapshot_from journal pages shown = record {
   moment = record {
     stable = record { journal = journal.stable.items; pages = pages.stable.items };
     pending = record { journal = journal.pending.items; pages = pages.pending.items };
-    beside = shown };
-  last = record { journal = journal.written.items; pages = pages.written.items } }
+    beside = shown;
+  };
+  last = record { journal = journal.written.items; pages = pages.written.items };
+}
 
 abbrev pub shot_snapshot : Shot → Snapshot
 shot_snapshot shot = snapshot_from shot.journal shot.pages shot.shown.items

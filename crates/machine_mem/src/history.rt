@@ -1,4 +1,5 @@
-ghost use Rattle.std.specs.Prelude.{◌≡◌, ◌+◌, ◌-◌, ◌^◌, ◌<◌, ◌≤◌, [], ◌∷◌, ◌++◌, min, All, OnOk, OnErr};
+ghost use Rattle.std.specs.Prelude.{◌≡◌, ◌+◌, ◌-◌, ◌^◌, ◌<◌, ◌≤◌, [], ◌∷◌, ◌++◌, min, nat_le, find, All, OnOk, OnErr};
+ghost use Rattle.std.specs.Option.{option_copied};
 
 use crate::store::Remains;
 use std::alloc::{AllocError, Global};
@@ -67,5 +68,12 @@ impl History {
         if self.calls < MOST_CALLS {
             self.calls += 1;
         }
+    }
+
+    /// The first state that lasted until so many calls, where it isn't the one now.
+    pub fn at(&self, calls: u64) -> Option<&Shot>
+        ensures { option_copied result ≡ find (λ shot. nat_le calls shot.until) self.now.shots.items }
+    {
+        self.shots.iter().find(|shot| calls <= shot.until)
     }
 }

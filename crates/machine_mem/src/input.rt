@@ -11,13 +11,14 @@ pub struct Input {
 }
 
 impl Input {
-    ghost use Rattle.std.specs.Prelude.{◌≡◌, ◌++◌, min, length, take};
+    ghost use Rattle.std.specs.Prelude.{◌≡◌, ◌++◌, min, length, take, drop};
     ghost use Rattle.machine_mem.specs.Inputs.{bytes_left};
 
     /// Moves as many of the bytes left into the front of `buf` as fit there.
     pub fn pull(&mut self, buf: &mut [u8]) -> usize
         ensures count { result ≡ min (length buf.old) (length (bytes_left self.old)) }
         ensures bytes { bytes_left self.old ≡ take result buf.new ++ bytes_left self.new }
+        ensures rest { bytes_left self.new ≡ drop result (bytes_left self.old) }
     {
         let count = fill(buf, &self.bytes[self.at..]);
         self.at += count;

@@ -1,10 +1,12 @@
-ghost use Rattle.std.specs.Prelude.{◌≡◌, ◌+◌, ◌^◌, ◌≤◌, [], ◌++◌, length, take, IfOk, OnOk, OnErr};
+ghost use Rattle.std.specs.Prelude.{◌≡◌, ◌+◌, ◌-◌, ◌^◌, ◌<◌, ◌≤◌, [], ◌++◌, min, length, take, IfOk, OnOk, OnErr};
 ghost use Rattle.machine_model.specs.Areas.{part};
 ghost use Rattle.machine_model.specs.States.{DiskState};
 ghost use Rattle.machine_model.specs.Causes.{Rose};
 ghost use Rattle.machine_mem.specs.Moments.{along};
 ghost use Rattle.machine_mem.specs.Machines.{wrote, synced, passed, showed, did_read};
-ghost use Rattle.machine_mem.specs.Snapshots.{shot_snapshot};
+ghost use Rattle.machine_model.specs.Moments.{LeftSince};
+ghost use Rattle.machine_mem.specs.Snapshots.{shot_snapshot, snapshot_from};
+ghost use Rattle.machine_mem.specs.Picks.{IsPicked, bytes_of};
 ghost use Rattle.machine_mem.specs.Outcomes.{calls_of, Recalls, Remembers, Stays};
 ghost use Rattle.machine_mem.specs.Meaning.{after_calls, snapshot_of, meaning, source_state, sink_state, disk_state};
 
@@ -12,7 +14,8 @@ use crate::counter::Counter;
 use crate::faults::{Counts, Fault, Script};
 use crate::history::{History, Shot};
 use crate::input::Input;
-use crate::store::Store;
+use crate::picks::{Pick, Picked, pick_image};
+use crate::store::{Remains, Store};
 use crate::tally::Tally;
 use machine_model::{Area, Image, Machine};
 use std::alloc::{AllocError, Global};
@@ -92,6 +95,54 @@ impl MemMachine {
         ensures { result.now ≡ (sink_state self.now).shown }
     {
         &self.shown
+    }
+
+    /// How many bytes of an area were read, or 2^64 - 1 where there were more.
+    pub fn read_of(&self, area: Area) -> u64
+        ensures { result ≡ min (part (disk_state self.now).bytes_read area) (2 ^ 64 - 1) }
+    {
+        match area {
+            Area::Journal => self.read_journal.capped(),
+            Area::Pages => self.read_pages.capped(),
+        }
+    }
+
+    /// How many calls failed because the machine found no memory for its record or its bytes.
+    pub fn starved(&self) -> u64
+        ensures { result ≡ self.now.starved.value }
+    {
+        self.starved.value
+    }
+
+    /// The number of moments that `image_at` knows: 1, and one for each write, sync and push so far,
+    /// failed ones too.
+    pub fn moments(&self) -> usize
+        ensures value { result ≡ calls_of self.now + 1 }
+        ensures last { after_calls self.now (calls_of self.now) ≡ snapshot_of self.now }
+    {
+        self.history.calls as usize + 1
+    }
+
+    /// An image that was allowed after so many writes, syncs and pushes, and how many bytes were shown
+    /// then. Cost: the number of those calls, and the image.
+    pub fn image_at(&self, alloc: Global, moment: usize, pick: Pick) -> Result<Picked, AllocError>
+        requires { moment < calls_of self.now + 1 }
+        ensures picked { IfOk result (λ p. IsPicked (after_calls self.now moment) pick p) }
+        ensures left { IfOk result (λ p. LeftSince (disk_state self.now) 0 (bytes_of p.image) (after_calls self.now moment).moment.beside) }
+    {
+        let (journal, pages, shown) = self.remains_after(moment as u64);
+        let picked = pick_image(alloc, journal, pages, shown, pick)?;
+        Ok(picked)
+    }
+
+    /// What a stop might have left after so many calls, and the bytes shown then.
+    fn remains_after(&self, calls: u64) -> (&Remains, &Remains, &[u8])
+        ensures { snapshot_from result.0.now result.1.now result.2.now ≡ after_calls self.now calls }
+    {
+        match self.history.at(calls) {
+            Some(shot) => (&shot.journal, &shot.pages, &shot.shown),
+            None => (&self.journal.remains, &self.pages.remains, &self.shown),
+        }
     }
 
     /// One area.

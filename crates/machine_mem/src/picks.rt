@@ -2,6 +2,8 @@ ghost use Rattle.std.specs.Prelude.{◌≡◌, ◌+◌, ◌^◌, ◌≤◌, min,
 ghost use Rattle.machine_model.specs.Images.{AreBytes};
 ghost use Rattle.machine_mem.specs.Stamps.{IsFilled, IsStamped, IsStampedOver};
 ghost use Rattle.machine_mem.specs.Tails.{IsTail};
+ghost use Rattle.machine_mem.specs.Picks.{IsPicked};
+ghost use Rattle.machine_mem.specs.Snapshots.{snapshot_from};
 
 use crate::store::Remains;
 use machine_model::{Image, Range};
@@ -61,6 +63,24 @@ impl Remains {
             }
         }
     }
+}
+
+/// An image of both areas, and how many bytes are shown.
+pub fn pick_image(
+    alloc: Global,
+    journal: &Remains,
+    pages: &Remains,
+    shown: &[u8],
+    pick: Pick,
+) -> Result<Picked, AllocError>
+    ensures { IfOk result (λ p. IsPicked (snapshot_from journal.now pages.now shown.now) pick p) }
+{
+    let journal = journal.pick(alloc, pick.journal)?;
+    let pages = pages.pick(alloc, pick.pages)?;
+    Ok(Picked {
+        image: Image { journal, pages },
+        shown: shown.len(),
+    })
 }
 
 /// Puts a byte into each place of the ranges, and into each from `least` on.

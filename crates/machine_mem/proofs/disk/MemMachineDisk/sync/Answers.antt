@@ -7,7 +7,7 @@ pub returns-in-Ok-clause-only : goal.returns-in-Ok-clause-only
 returns-in-Ok-clause-only c = OnlyDisk-synced _ _ _ c.in-Ok.ensures.ok (omega arith)
 
 pub returns-in-Ok-clause-images : goal.returns-in-Ok-clause-images
-returns-in-Ok-clause-images c = λ tells.
+returns-in-Ok-clause-images c =
     let disk = disk_state c.args.self.now in
     Syncs-synced (meaning c.args.self.now) _ _ c.in-Ok.ensures.ok (allowed_by_area disk.now disk.holds c.args.self.now.journal.kept c.args.self.now.pages.kept)
 
@@ -15,16 +15,16 @@ pub returns-in-Err-clause-only : goal.returns-in-Err-clause-only
 returns-in-Err-clause-only c = OnlyDisk-stayed _ _ _ (c.starve.ensures.same ∙ c.in-Err.ensures.err) (omega arith)
 
 pub returns-in-Err-clause-images : goal.returns-in-Err-clause-images
-returns-in-Err-clause-images c = λ tells. Syncs-stayed _ _ _ (c.starve.ensures.same ∙ c.in-Err.ensures.err)
+returns-in-Err-clause-images c = Syncs-stayed _ _ _ (c.starve.ensures.same ∙ c.in-Err.ensures.err)
 
 pub returns-in-Ok-try_pass-clause-only : goal.returns-in-Ok-try_pass-clause-only
 returns-in-Ok-try_pass-clause-only c = OnlyDisk-passed _ _ _ c.in-Ok-try_pass.ensures.ok (omega arith)
 
 pub returns-in-Ok-try_pass-clause-images : goal.returns-in-Ok-try_pass-clause-images
-returns-in-Ok-try_pass-clause-images c = λ tells. Syncs-passed _ _ _ c.in-Ok-try_pass.ensures.ok
+returns-in-Ok-try_pass-clause-images c = Syncs-passed _ _ _ c.in-Ok-try_pass.ensures.ok
 
 pub returns-in-Err-try_pass-clause-only : goal.returns-in-Err-try_pass-clause-only
 returns-in-Err-try_pass-clause-only c = OnlyDisk-stayed _ _ _ (c.starve-in-Err-try_pass.ensures.same ∙ c.in-Err-try_pass.ensures.err) (omega arith)
 
 pub returns-in-Err-try_pass-clause-images : goal.returns-in-Err-try_pass-clause-images
-returns-in-Err-try_pass-clause-images c = λ tells. Syncs-stayed _ _ _ (c.starve-in-Err-try_pass.ensures.same ∙ c.in-Err-try_pass.ensures.err)
+returns-in-Err-try_pass-clause-images c = Syncs-stayed _ _ _ (c.starve-in-Err-try_pass.ensures.same ∙ c.in-Err-try_pass.ensures.err)
