@@ -10,9 +10,17 @@ use Rattle.machine_mem.specs.Machines.{MachineState}
 use Rattle.machine_mem.specs.Snapshots.{Snapshot, snapshot_after}
 use Rattle.machine_mem.specs.Meaning.{meaning, after_calls}
 
+-- the faults of a machine, and how many calls of each kind there were
+abbrev pub script_of : MemMachine → Script
+script_of x = x.script
+
+-- how many calls found no memory
+abbrev pub starved_of : MemMachine → ℕ
+starved_of x = x.starved.value
+
 -- a fault names the next call of this kind, with so many bytes kept
 abbrev pub IsDue : MemMachine → CallKind → ℕ → Type 0
-IsDue x kind kept = IsNamed x.script.faults.items kind (next_of x.script.counts kind) kept
+IsDue x kind kept = IsNamed (script_of x).faults.items kind (next_of (script_of x).counts kind) kept
 
 -- the script after one call more of a kind
 abbrev pub called : CallKind → Script → Script
@@ -21,12 +29,12 @@ called kind script = record script { counts = counts_with script.counts kind (ne
 -- a call found memory: the machine is what this makes of it
 pub record Serves (after : MachineState → MachineState) (x y : MemMachine) : Type 0 where
   pub state : meaning y ≡ after (meaning x)
-  pub starved : y.starved.value ≡ x.starved.value
+  pub starved : starved_of y ≡ starved_of x
 
 -- a call found no memory: the machine is what this makes of it
 pub record Starves (after : MachineState → MachineState) (x y : MemMachine) : Type 0 where
   pub state : meaning y ≡ after (meaning x)
-  pub starved : Rose x.starved.value y.starved.value
+  pub starved : Rose (starved_of x) (starved_of y)
 
 -- how many calls there were that may change the disk or show bytes
 abbrev pub calls_of : MemMachine → ℕ

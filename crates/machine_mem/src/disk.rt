@@ -10,7 +10,7 @@ impl Disk for MemMachine {
     ghost use Rattle.machine_model.specs.declared.area.Area.TheVariants.{Journal, Pages};
     ghost use Rattle.machine_mem.specs.Machines.{MachineState, OnlyDisk, did_read, wrote, synced, passed, failed_disk};
     ghost use Rattle.machine_mem.specs.MachineLaws.{OnlyDisk-same, OnlyDisk-joins};
-    ghost use Rattle.machine_mem.specs.Outcomes.{IsDue, called, Serves, Starves, Remembers, Stays};
+    ghost use Rattle.machine_mem.specs.Outcomes.{IsDue, called, script_of, Serves, Starves, Remembers, Stays};
     ghost use Rattle.machine_mem.specs.Meaning.{meaning, disk_state};
 
     ghost disk_tells = { Unit {0} };
@@ -53,7 +53,7 @@ impl Disk for MemMachine {
         ensures done { OnOk result (Serves (λ x. x) self.old self.new) }
         ensures why { OnErr result (((kept : ℕ) × IsDue self.old CallKind.Length kept) × Serves failed_disk self.old self.new) }
         ensures named { (kept : ℕ) → IsDue self.old CallKind.Length kept → IsErr result }
-        ensures counted { self.new.script ≡ called CallKind.Length self.old.script }
+        ensures counted { script_of self.new ≡ called CallKind.Length (script_of self.old) }
         ensures stays { Stays self.old self.new }
     {
         if self.script.due(CallKind::Length).is_some() {
@@ -76,7 +76,7 @@ impl Disk for MemMachine {
         ensures done { OnOk result (Serves (did_read area (length buf.old)) self.old self.new) }
         ensures why { OnErr result ((((kept : ℕ) × IsDue self.old CallKind.Read kept) × Serves failed_disk self.old self.new) ⊎ Starves failed_disk self.old self.new) }
         ensures named { (kept : ℕ) → IsDue self.old CallKind.Read kept → IsErr result }
-        ensures counted { self.new.script ≡ called CallKind.Read self.old.script }
+        ensures counted { script_of self.new ≡ called CallKind.Read (script_of self.old) }
         ensures stays { Stays self.old self.new }
     {
         if self.script.due(CallKind::Read).is_some() {
@@ -112,7 +112,7 @@ impl Disk for MemMachine {
         ensures done { OnOk result (Serves (wrote area at bytes.now (length bytes.now)) self.old self.new) }
         ensures why { OnErr result (((kept : ℕ) × IsDue self.old CallKind.Write kept × Serves (λ x. failed_disk (wrote area at bytes.now (min kept (length bytes.now)) x)) self.old self.new) ⊎ Starves failed_disk self.old self.new) }
         ensures named { (kept : ℕ) → IsDue self.old CallKind.Write kept → IsErr result }
-        ensures counted { self.new.script ≡ called CallKind.Write self.old.script }
+        ensures counted { script_of self.new ≡ called CallKind.Write (script_of self.old) }
         ensures remembers { Remembers self.old self.new }
     {
         match self.script.due(CallKind::Write) {
@@ -156,7 +156,7 @@ impl Disk for MemMachine {
         ensures done { OnOk result (Serves synced self.old self.new) }
         ensures why { OnErr result ((((kept : ℕ) × IsDue self.old CallKind.Sync kept) × Serves (λ x. failed_disk (passed x)) self.old self.new) ⊎ Starves failed_disk self.old self.new) }
         ensures named { (kept : ℕ) → IsDue self.old CallKind.Sync kept → IsErr result }
-        ensures counted { self.new.script ≡ called CallKind.Sync self.old.script }
+        ensures counted { script_of self.new ≡ called CallKind.Sync (script_of self.old) }
         ensures remembers { Remembers self.old self.new }
     {
         match self.script.due(CallKind::Sync) {

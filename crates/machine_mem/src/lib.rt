@@ -18,3 +18,6 @@ pub use faults::{CallKind, Fault};
 pub use machine::MemMachine;
 pub use picks::{Fill, Pick, Picked, Tail};
 pub use slice_source::SliceSource;
+
+#[cfg(test)]
+mod tests;

@@ -7,7 +7,8 @@ ghost use Rattle.machine_mem.specs.Machines.{wrote, synced, passed, showed, did_
 ghost use Rattle.machine_model.specs.Moments.{LeftSince};
 ghost use Rattle.machine_mem.specs.Snapshots.{shot_snapshot, snapshot_from};
 ghost use Rattle.machine_mem.specs.Picks.{IsPicked, bytes_of};
-ghost use Rattle.machine_mem.specs.Outcomes.{calls_of, Recalls, Remembers, Stays};
+ghost use Rattle.machine_mem.specs.Faults.{count_of};
+ghost use Rattle.machine_mem.specs.Outcomes.{script_of, starved_of, calls_of, Recalls, Remembers, Stays};
 ghost use Rattle.machine_mem.specs.Meaning.{after_calls, snapshot_of, meaning, source_state, sink_state, disk_state};
 
 use crate::counter::Counter;
@@ -64,6 +65,11 @@ impl MemMachine {
             beside = [];
           };
         }) }
+        ensures snapshot { IfOk result (λ x. (snapshot_of x).last ≡ bytes_of image) }
+        ensures calls { IfOk result (λ x. calls_of x ≡ 0) }
+        ensures faults { IfOk result (λ x. (script_of x).faults ≡ faults) }
+        ensures counts { IfOk result (λ x. (kind : _) → count_of (script_of x).counts kind ≡ 0) }
+        ensures starved { IfOk result (λ x. starved_of x ≡ 0) }
     {
         let journal = Store::new(alloc, &image.journal)?;
         let pages = Store::new(alloc, &image.pages)?;
@@ -109,7 +115,7 @@ impl MemMachine {
 
     /// How many calls failed because the machine found no memory for its record or its bytes.
     pub fn starved(&self) -> u64
-        ensures { result ≡ self.now.starved.value }
+        ensures { result ≡ starved_of self.now }
     {
         self.starved.value
     }

@@ -6,6 +6,7 @@ use crate::input::fill;
 use machine_model::{Failed, Source};
 
 /// A source over bytes that lie in memory. It tells them, and it never fails.
+#[derive(Debug, Drop)]
 pub struct SliceSource<'a> {
     left: &'a [u8],
 }

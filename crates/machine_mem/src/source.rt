@@ -7,7 +7,7 @@ impl Source for MemMachine {
     ghost use Rattle.machine_model.specs.Causes.{HasCause};
     ghost use Rattle.machine_mem.specs.Machines.{OnlySource, pulled, failed_source};
     ghost use Rattle.machine_mem.specs.MachineLaws.{OnlySource-same, OnlySource-joins};
-    ghost use Rattle.machine_mem.specs.Outcomes.{IsDue, called, Serves, Stays};
+    ghost use Rattle.machine_mem.specs.Outcomes.{IsDue, called, script_of, Serves, Stays};
     ghost use Rattle.machine_mem.specs.Meaning.{meaning, source_state};
 
     ghost source_tells = { Unit {0} };
@@ -36,7 +36,7 @@ impl Source for MemMachine {
         ensures done { IfOk result (λ n. (n ≡ min (length buf.old) (length (source_state self.old).left)) × Serves (pulled n) self.old self.new) }
         ensures why { OnErr result (((kept : ℕ) × IsDue self.old CallKind.Pull kept) × Serves failed_source self.old self.new) }
         ensures named { (kept : ℕ) → IsDue self.old CallKind.Pull kept → IsErr result }
-        ensures counted { self.new.script ≡ called CallKind.Pull self.old.script }
+        ensures counted { script_of self.new ≡ called CallKind.Pull (script_of self.old) }
         ensures stays { Stays self.old self.new }
     {
         if self.script.due(CallKind::Pull).is_some() {
