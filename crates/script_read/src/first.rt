@@ -1,0 +1,83 @@
+//! What bytes begin with.
+ghost use Rattle.std.specs.Prelude.{◌≡◌, ◌≤◌, true, length, IfOk};
+ghost use Rattle.script_read.specs.Items.{begins, first, item_of};
+ghost use Rattle.script_read.specs.Reading.{IsWithin};
+
+use crate::command::Command;
+use crate::line::{Meaning, meaning_of};
+use crate::text::Text;
+use std::alloc::{AllocError, Global};
+
+/// The most bytes of a line, without its LF.
+const MOST_LINE_BYTES: usize = 4096;
+
+/// What the bytes since the last item begin with.
+#[derive(Debug, Drop)]
+pub enum First {
+    /// A command that takes so many bytes.
+    Whole(Command, usize),
+    /// No item, as the byte so far from the first shows.
+    Broken(usize),
+    /// No whole item yet.
+    More,
+    /// Nothing, at the end of the input.
+    End,
+}
+
+/// What bytes begin with whose first line says this and takes so many of them, its LF among them.
+/// Costs the length of the text where it is whole.
+fn item_behind(
+    alloc: Global,
+    meaning: Meaning,
+    used: usize,
+    bytes: &[u8],
+) -> Result<First, AllocError>
+    requires { used ≤ length bytes.now }
+    ensures value { IfOk result (λ f. f ≡ item_of meaning used bytes.now) }
+    ensures within { IfOk result (λ f. IsWithin (length bytes.now) f) }
+{
+    let Meaning::Arrival {
+        doc,
+        at,
+        bytes: size,
+    } = meaning
+    else {
+        return Ok(First::Broken(0));
+    };
+    let rest = &bytes[used..];
+    if rest.len() <= size {
+        return Ok(First::More);
+    }
+    let text = &rest[..size];
+    if rest[size] != b'\n' || !text.iter().all(|b| *b < 128) {
+        return Ok(First::Broken(0));
+    }
+    let text = Text::new(Vec::from_slice(alloc, text)?);
+    Ok(First::Whole(Command::Arrive { doc, at, text }, used + size + 1))
+}
+
+/// What bytes begin with, where more may come. Costs the first line, at most `MOST_LINE_BYTES`,
+/// and the length of its text where that is whole.
+pub(crate) fn first_of(alloc: Global, bytes: &[u8]) -> Result<First, AllocError>
+    ensures value { IfOk result (λ f. f ≡ begins bytes.now) }
+    ensures within { IfOk result (λ f. IsWithin (length bytes.now) f) }
+{
+    let window = &bytes[..bytes.len().min(MOST_LINE_BYTES + 1)];
+    match window.iter().position(|b| *b == b'\n') {
+        Some(n) => item_behind(alloc, meaning_of(&bytes[..n]), n + 1, bytes),
+        None if bytes.len() > MOST_LINE_BYTES => Ok(First::Broken(0)),
+        None => Ok(First::More),
+    }
+}
+
+/// What bytes begin with, at the end of the input. Costs as `first_of`.
+pub(crate) fn last_of(alloc: Global, bytes: &[u8]) -> Result<First, AllocError>
+    ensures value { IfOk result (λ f. f ≡ first true bytes.now) }
+    ensures within { IfOk result (λ f. IsWithin (length bytes.now) f) }
+{
+    match first_of(alloc, bytes)? {
+        First::More if bytes.is_empty() => Ok(First::End),
+        First::More => Ok(First::Broken(0)),
+        found => Ok(found),
+    }
+}
