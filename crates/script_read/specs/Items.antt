@@ -21,13 +21,13 @@ is_plain text = list_all (λ b. nat_lt b 128) text
 
 -- A text of n bytes and its LF, at the front of these bytes.
 abbrev pub is_text : ℕ → List ℕ → Bool
-is_text n bytes = is_plain (take n bytes) && (slice_index bytes n == 10)
+is_text n bytes = (slice_index bytes n == 10) && is_plain (take n bytes)
 
 -- What bytes begin with whose first line says this and takes so many of them, its LF among them.
 abbrev pub item_of : Meaning → ℕ → List ℕ → First
 item_of Faulty used bytes = Broken 0
 item_of (Arrival doc at n) used bytes =
-    if nat_lt (used + n) (length bytes)
+    if nat_lt n (length (drop used bytes))
     then (if is_text n (drop used bytes) then Whole (Arrive doc at (take n (drop used bytes))) (used + n + 1) else Broken 0)
     else More
 

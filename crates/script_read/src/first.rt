@@ -1,10 +1,11 @@
 //! What bytes begin with.
-ghost use Rattle.std.specs.Prelude.{◌≡◌, ◌≤◌, true, length, IfOk};
-ghost use Rattle.script_read.specs.Items.{begins, first, item_of};
+ghost use Rattle.std.specs.Prelude.{◌≡◌, ◌==◌, ◌<◌, ◌≤◌, min, true, length, IfOk};
+ghost use Rattle.std.specs.List.{position_or_len};
+ghost use Rattle.script_read.specs.Items.{begins, first, is_plain, is_text, item_of};
 ghost use Rattle.script_read.specs.Reading.{IsWithin};
 
 use crate::command::Command;
-use crate::line::{Meaning, meaning_of};
+use crate::line::{Meaning, meaning_of, place_of};
 use crate::text::Text;
 use std::alloc::{AllocError, Global};
 
@@ -22,6 +23,20 @@ pub enum First {
     More,
     /// Nothing, at the end of the input.
     End,
+}
+
+/// Whether a text of that length and its LF stand at the front of these bytes. Costs the text.
+fn is_text_at(size: usize, bytes: &[u8]) -> bool
+    requires { size < length bytes.now }
+    ensures { result ≡ is_text size bytes.now }
+{
+    bytes[size] == b'\n' && is_plain_text(&bytes[..size])
+}
+
+fn is_plain_text(text: &[u8]) -> bool
+    ensures { result ≡ is_plain text.now }
+{
+    text.iter().all(|b| *b < 128)
 }
 
 /// What bytes begin with whose first line says this and takes so many of them, its LF among them.
@@ -48,12 +63,20 @@ fn item_behind(
     if rest.len() <= size {
         return Ok(First::More);
     }
-    let text = &rest[..size];
-    if rest[size] != b'\n' || !text.iter().all(|b| *b < 128) {
+    if !is_text_at(size, rest) {
         return Ok(First::Broken(0));
     }
-    let text = Text::new(Vec::from_slice(alloc, text)?);
+    let text = Text::new(Vec::from_slice(alloc, &rest[..size])?);
     Ok(First::Whole(Command::Arrive { doc, at, text }, used + size + 1))
+}
+
+/// The length of the first line without its LF, or `MOST_LINE_BYTES + 1` where it is longer. Costs
+/// so many bytes.
+fn line_length(bytes: &[u8]) -> usize
+    ensures value { result ≡ min 4097 (position_or_len (λ b. b == 10) bytes.now) }
+    ensures within { result ≤ length bytes.now }
+{
+    place_of(b'\n', &bytes[..bytes.len().min(MOST_LINE_BYTES + 1)])
 }
 
 /// What bytes begin with, where more may come. Costs the first line, at most `MOST_LINE_BYTES`,
@@ -62,12 +85,14 @@ pub(crate) fn first_of(alloc: Global, bytes: &[u8]) -> Result<First, AllocError>
     ensures value { IfOk result (λ f. f ≡ begins bytes.now) }
     ensures within { IfOk result (λ f. IsWithin (length bytes.now) f) }
 {
-    let window = &bytes[..bytes.len().min(MOST_LINE_BYTES + 1)];
-    match window.iter().position(|b| *b == b'\n') {
-        Some(n) => item_behind(alloc, meaning_of(&bytes[..n]), n + 1, bytes),
-        None if bytes.len() > MOST_LINE_BYTES => Ok(First::Broken(0)),
-        None => Ok(First::More),
+    let n = line_length(bytes);
+    if n > MOST_LINE_BYTES {
+        return Ok(First::Broken(0));
     }
+    if n == bytes.len() {
+        return Ok(First::More);
+    }
+    item_behind(alloc, meaning_of(&bytes[..n]), n + 1, bytes)
 }
 
 /// What bytes begin with, at the end of the input. Costs as `first_of`.

@@ -1,5 +1,6 @@
 //! What the lines of a script say.
-ghost use Rattle.std.specs.Prelude.{◌≡◌};
+ghost use Rattle.std.specs.Prelude.{◌≡◌, ◌==◌, ◌≤◌, length, position};
+ghost use Rattle.std.specs.List.{position_or_len};
 ghost use Rattle.script_read.specs.Lines.{word, after_word, document, time, size, meaning};
 
 use crate::number::number_below;
@@ -24,15 +25,32 @@ pub enum Meaning {
     Faulty,
 }
 
+/// The place of the first such byte, or the number of bytes where none is. Costs as many bytes.
+pub(crate) fn place_of(byte: u8, bytes: &[u8]) -> usize
+    ensures place { result ≡ position_or_len (λ b. b == byte) bytes.now }
+    ensures within { result ≤ length bytes.now }
+{
+    find_byte(byte, bytes).unwrap_or(bytes.len())
+}
+
+fn find_byte(byte: u8, bytes: &[u8]) -> Option<usize>
+    ensures { result ≡ position (λ b. b == byte) bytes.now }
+{
+    bytes.iter().position(|b| *b == byte)
+}
+
 /// The first word of a line, and what stands behind the one space after it.
 fn next_word(line: &[u8]) -> (&[u8], &[u8])
     ensures word { result.0.now ≡ word line.now }
     ensures rest { result.1.now ≡ after_word line.now }
 {
-    match line.iter().position(|b| *b == b' ') {
-        Some(n) => (&line[..n], &line[n + 1..]),
-        None => (line, &[]),
-    }
+    let n = place_of(b' ', line);
+    let rest = if n < line.len() {
+        &line[n + 1..]
+    } else {
+        &line[n..]
+    };
+    (&line[..n], rest)
 }
 
 fn read_document(word: &[u8]) -> Option<DocId>

@@ -4,7 +4,8 @@ ghost use Rattle.script_read.specs.Numbers.{number};
 
 /// The number that a word spells, where it spells one below the limit. Costs the word's length.
 pub(crate) fn number_below(limit: u64, word: &[u8]) -> Option<u64>
-    requires { limit ≤ 2 ^ 40 }
+    requires some { 1 ≤ limit }
+    requires small { limit ≤ 2 ^ 40 }
     ensures { result ≡ number limit word.now }
 {
     if word.is_empty() {
