@@ -18,8 +18,8 @@ number-above limit i word h = go (are_digits word) (nat_lt (value_of word) limit
   where
     least : value_of (take i word) ≤ value_of word
     least = rw take-append-drop at (value_of-append (take i word) (drop i word))
+
     go : (a b : Bool) → b ≡ false → (if a && b then Some (value_of word) else None) ≡ None
     go true false e = refl
     go false false e = refl
     go a true e = cc
-

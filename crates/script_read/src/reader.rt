@@ -1,5 +1,5 @@
 //! The reader of a script.
-ghost use Rattle.std.specs.Prelude.{◌≡◌, ◌≢◌, ◌≤◌, ◌+◌, ◌<◌, ◌^◌, ◌++◌, List, [], ℕ, true, false, length, drop, IfOk, IfErr, OnOk, OnErr, IsErrOf};
+ghost use Rattle.std.specs.Prelude.{◌≡◌, ◌≢◌, ◌≤◌, ◌+◌, ◌<◌, ◌^◌, ◌++◌, List, [], ℕ, true, false, length, vec_len, vec_capacity, drop, IfOk, IfErr, OnOk, OnErr, IsErrOf};
 ghost use Rattle.machine_model.specs.Causes.{Rose};
 ghost use Rattle.script_read.specs.Items.{first};
 ghost use Rattle.script_read.specs.Reading.{Held, fresh, StandsFor, Says, LeavesBe, IsWithin, IsPullError, IsMissing, turns};
@@ -82,7 +82,7 @@ impl Reader {
         // The end, once told, is the source's.
         ensures end { S.source_tells → (self.old.ended ≡ true → (S.source source.old).left ≡ []) → self.new.ended ≡ true → (S.source source.new).left ≡ [] }
     {
-        loop {
+        'turns: loop {
             match self.front(alloc)? {
                 First::Whole(command, n) => {
                     self.advance(n);
@@ -145,7 +145,7 @@ impl Reader {
         let most = (MOST_INPUT_BYTES - taken).min(BLOCK_BYTES as u64) as usize;
         drop_front(&mut self.buffer, self.start);
         self.start = 0;
-        let count = take_block(source, &mut self.buffer, &mut self.block, most)?;
+        let count = take_block(source, &mut self.buffer, self.block.as_mut_slice(), most)?;
         self.ended = count == 0;
         Ok(())
     }
@@ -167,11 +167,11 @@ fn drop_front(buffer: &mut Vec<u8>, n: usize)
 fn take_block<S: Source>(
     source: &mut S,
     buffer: &mut Vec<u8>,
-    block: &mut Vec<u8>,
+    block: &mut [u8],
     most: usize,
 ) -> Result<usize, ScriptError>
     requires some { 1 ≤ most }
-    requires room { most ≤ length block.old.items }
+    requires room { most ≤ length block.old }
     ensures only { S.only source.old source.new }
     ensures rose { IsErrOf result ScriptError.Failed → Rose (S.source source.old).faults (S.source source.new).faults }
     ensures bytes { (pulled : List ℕ) × (S.source_tells → (S.source source.old).left ≡ pulled ++ (S.source source.new).left)
@@ -179,12 +179,19 @@ fn take_block<S: Source>(
     ensures count { IfOk result (λ n. n ≤ most) }
     ensures end { S.source_tells → IfOk result (λ n. n ≡ 0 → (S.source source.new).left ≡ []) }
     ensures why { IfErr result (λ e. IsMissing e) }
-    ensures block { length block.new.items ≡ length block.old.items }
 {
     buffer.reserve(most)?;
     let Ok(count) = source.pull(&mut block[..most]) else {
         return Err(ScriptError::Failed);
     };
-    buffer.extend_from_slice(&block[..count]).unwrap();
+    put_behind(buffer, &block[..count]);
     Ok(count)
+}
+
+/// Puts bytes behind those of a buffer that has room for them.
+fn put_behind(buffer: &mut Vec<u8>, bytes: &[u8])
+    requires { vec_len buffer.old + length bytes.now ≤ vec_capacity buffer.old }
+    ensures { buffer.new.items ≡ buffer.old.items ++ bytes.now }
+{
+    buffer.extend_from_slice(bytes).unwrap();
 }
