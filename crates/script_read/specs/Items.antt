@@ -23,17 +23,16 @@ is_plain text = list_all (λ b. nat_lt b 128) text
 abbrev pub is_text : ℕ → List ℕ → Bool
 is_text n bytes = (slice_index bytes n == 10) && is_plain (take n bytes)
 
--- What bytes begin with whose first line says this and takes so many of them, its LF among them.
+-- What a line begins that says this and takes so many bytes, its LF among them, with the rest behind it.
 abbrev pub item_of : Meaning → ℕ → List ℕ → First
-item_of Faulty used bytes = Broken 0
-item_of (Arrival doc at n) used bytes =
-    if nat_lt n (length (drop used bytes))
-    then (if is_text n (drop used bytes) then Whole (Arrive doc at (take n (drop used bytes))) (used + n + 1) else Broken 0)
-    else More
+item_of Faulty used rest = Broken 0
+item_of (Arrival doc at n) used rest =
+    if nat_lt n (length rest) then (if is_text n rest then Whole (Arrive doc at (take n rest)) (used + n + 1) else Broken 0) else More
 
 -- What bytes begin with whose first LF stands at n, or that have none and are n.
 abbrev pub from_line : ℕ → List ℕ → First
-from_line n bytes = if nat_lt most_line n then Broken 0 else (if nat_lt n (length bytes) then item_of (meaning (take n bytes)) (n + 1) bytes else More)
+from_line n bytes = if nat_lt most_line n then Broken 0
+    else (if nat_lt n (length bytes) then item_of (meaning (take n bytes)) (n + 1) (drop (n + 1) bytes) else More)
 
 -- What bytes begin with, where more may come.
 abbrev pub begins : List ℕ → First

@@ -1,6 +1,6 @@
 -- What a reader holds, and what its answers say.
-use Rattle.std.specs.Prelude.{◌≡◌, ℕ, ◌+◌, ◌-◌, ◌<◌, ◌≤◌, ◌^◌, Bool, true, false, if◌then◌else◌, List, [], ◌∷◌, ◌++◌, length, drop, Result, Ok, Err}
-use Rattle.script_read.specs.Items.{first, Items}
+use Rattle.std.specs.Prelude.{◌≡◌, ◌≢◌, ℕ, ◌+◌, ◌-◌, ◌<◌, ◌≤◌, ◌^◌, Bool, true, false, if◌then◌else◌, List, [], ◌∷◌, ◌++◌, length, drop, Result, Ok, Err}
+use Rattle.script_read.specs.Items.{first, Items, Splits, IsBrokenAt}
 use Rattle.script_read.specs.declared.command.Command.{Command}
 use Rattle.script_read.specs.declared.first.First.{First}
 use Rattle.script_read.specs.declared.first.First.TheVariants.{Whole, Broken, More, End}
@@ -83,9 +83,9 @@ IsPullError errors.Memory = Unit {0}
 IsPullError errors.Budget = Unit {0}
 IsPullError (errors.Broken at) = ⊥
 
--- A call pulled nothing and learned nothing.
-abbrev pub LeavesBe : List ℕ → Held → Held → Type 0
-LeavesBe pulled old new = (pulled ≡ []) × (new.ended ≡ old.ended)
+-- Where an item, a fault or the end stood in the bytes since the last item, a call pulled nothing and learned nothing.
+abbrev pub IsCalm : List ℕ → Held → List ℕ → Held → Type 0
+IsCalm since old pulled new = first old.ended since ≢ More → (pulled ≡ []) × (new.ended ≡ old.ended)
 
 -- These bytes, with this word on their end, may come behind those pulled so far: nothing once the end was told.
 abbrev pub MayFollow : Bool → Bool → List ℕ → Type 0
@@ -97,3 +97,12 @@ pub record Reads (pulled : List ℕ) (items : List Command) (since : List ℕ) (
   pub stands : StandsFor held since
   pub split : (ended : Bool) (more : List ℕ) → MayFollow held.ended ended more → Items ended (pulled ++ more) items (since ++ more)
   pub before : held.passed + length since ≡ length pulled
+
+-- What the last answer of a run says of all bytes pulled and of the items given out before it.
+abbrev pub EndsWith : Result Item ScriptError → Bool → List ℕ → List Command → List ℕ → Type 0
+EndsWith (Ok (item.Command c)) ended bytes items rest = Unit {0}
+EndsWith (Ok item.Finished) ended bytes items rest = (ended ≡ true) × Items true bytes items []
+EndsWith (Err (errors.Broken at)) ended bytes items rest = Splits ended bytes items rest × IsBrokenAt ended bytes at
+EndsWith (Err errors.Budget) ended bytes items rest = Splits ended bytes items rest × (first ended rest ≡ More) × (length bytes ≡ 2 ^ 40)
+EndsWith (Err errors.Failed) ended bytes items rest = Splits ended bytes items rest × (first ended rest ≡ More)
+EndsWith (Err errors.Memory) ended bytes items rest = Items ended bytes items rest

@@ -1,5 +1,5 @@
 //! What bytes begin with.
-ghost use Rattle.std.specs.Prelude.{◌≡◌, ◌==◌, ◌<◌, ◌≤◌, min, true, length, IfOk};
+ghost use Rattle.std.specs.Prelude.{◌≡◌, ◌==◌, ◌+◌, ◌^◌, ◌<◌, ◌≤◌, min, true, length, IfOk};
 ghost use Rattle.std.specs.List.{position_or_len};
 ghost use Rattle.script_read.specs.Items.{begins, first, is_plain, is_text, item_of};
 ghost use Rattle.script_read.specs.Reading.{IsWithin};
@@ -39,17 +39,17 @@ fn is_plain_text(text: &[u8]) -> bool
     text.iter().all(|b| *b < 128)
 }
 
-/// What bytes begin with whose first line says this and takes so many of them, its LF among them.
-/// Costs the length of the text where it is whole.
+/// What a line begins that says this and takes so many bytes, its LF among them, with the rest
+/// behind it. Costs the length of the text where it is whole.
 fn item_behind(
     alloc: Global,
     meaning: Meaning,
     used: usize,
-    bytes: &[u8],
+    rest: &[u8],
 ) -> Result<First, AllocError>
-    requires { used ≤ length bytes.now }
-    ensures value { IfOk result (λ f. f ≡ item_of meaning used bytes.now) }
-    ensures within { IfOk result (λ f. IsWithin (length bytes.now) f) }
+    requires { used + length rest.now < 2 ^ 64 }
+    ensures value { IfOk result (λ f. f ≡ item_of meaning used rest.now) }
+    ensures within { IfOk result (λ f. IsWithin (used + length rest.now) f) }
 {
     let Meaning::Arrival {
         doc,
@@ -59,7 +59,6 @@ fn item_behind(
     else {
         return Ok(First::Broken(0));
     };
-    let rest = &bytes[used..];
     if rest.len() <= size {
         return Ok(First::More);
     }
@@ -92,7 +91,7 @@ pub(crate) fn first_of(alloc: Global, bytes: &[u8]) -> Result<First, AllocError>
     if n == bytes.len() {
         return Ok(First::More);
     }
-    item_behind(alloc, meaning_of(&bytes[..n]), n + 1, bytes)
+    item_behind(alloc, meaning_of(&bytes[..n]), n + 1, &bytes[n + 1..])
 }
 
 /// What bytes begin with, at the end of the input. Costs as `first_of`.

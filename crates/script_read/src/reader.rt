@@ -2,7 +2,7 @@
 ghost use Rattle.std.specs.Prelude.{◌≡◌, ◌≢◌, ◌≤◌, ◌+◌, ◌<◌, ◌^◌, ◌++◌, List, [], ℕ, true, false, length, vec_len, vec_capacity, drop, IfOk, IfErr, OnOk, OnErr, IsErrOf};
 ghost use Rattle.machine_model.specs.Causes.{Rose};
 ghost use Rattle.script_read.specs.Items.{first};
-ghost use Rattle.script_read.specs.Reading.{Held, fresh, StandsFor, Says, LeavesBe, IsWithin, IsPullError, IsMissing, turns};
+ghost use Rattle.script_read.specs.Reading.{Held, fresh, StandsFor, Says, IsCalm, IsWithin, IsPullError, IsMissing, turns};
 
 use crate::first::{First, first_of, last_of};
 use crate::item::{Item, ScriptError};
@@ -74,7 +74,7 @@ impl Reader {
         // There are bytes that the source gave, and those since the last item with these say the answer.
         ensures says { (since : List ℕ) → StandsFor self.old since → ((pulled : List ℕ)
             × (S.source_tells → (S.source source.old).left ≡ pulled ++ (S.source source.new).left)
-            × (first self.old.ended since ≢ First.More → LeavesBe pulled self.old self.new)
+            × IsCalm since self.old pulled self.new
             × Says self.old.passed (since ++ pulled) result self.new) }
         // Nothing is pulled while an item, a fault or the end stands in the bytes taken before.
         ensures calm { (since : List ℕ) → StandsFor self.old since → first self.old.ended since ≢ First.More → source.new ≡ source.old }
@@ -103,6 +103,7 @@ impl Reader {
     fn front(&self, alloc: Global) -> Result<First, AllocError>
         ensures value { IfOk result (λ f. f ≡ first self.now.ended self.now.bytes) }
         ensures within { IfOk result (λ f. IsWithin (length self.now.bytes) f) }
+        ensures bound { self.now.passed + length self.now.bytes ≤ 2 ^ 40 }
     {
         let since = &self.buffer[self.start..];
         if self.ended {
@@ -133,7 +134,7 @@ impl Reader {
         ensures bound { self.new.passed + length self.new.bytes ≤ 2 ^ 40 }
         ensures nearer { OnOk result (turns self.new < turns self.old) }
         ensures end { S.source_tells → self.new.ended ≡ true → (S.source source.new).left ≡ [] }
-        ensures untold { OnErr result (self.new.ended ≡ false) }
+        ensures err { OnErr result (self.new ≡ self.old) }
         ensures failed { IsErrOf result ScriptError.Failed → self.new.passed + length self.new.bytes < 2 ^ 40 }
         ensures spent { IsErrOf result ScriptError.Budget → self.new.passed + length self.new.bytes ≡ 2 ^ 40 }
         ensures why { IfErr result (λ e. IsPullError e) }

@@ -39,3 +39,9 @@ impl Text {
         self.content
     }
 }
+
+fn probe(x: u8) -> u8
+    ensures { result ≡ x }
+{
+    x
+}
