@@ -68,6 +68,7 @@ item_of-append (Arrival doc at n) used rest x settled = go (nat_lt n (length res
     same : (n < length rest) → (if is_text n (rest ++ x) then Whole (Arrive doc at (take n (rest ++ x))) (used + n + 1) else Broken 0)
         ≡ (if is_text n rest then Whole (Arrive doc at (take n rest)) (used + n + 1) else Broken 0)
     same h = rw (is_text-append n rest x h, take-append-le n rest x (omega arith))
+
     go : (b : Bool) → nat_lt n (length rest) ≡ b → (if b then (if is_text n rest then Whole (Arrive doc at (take n rest)) (used + n + 1) else Broken 0) else More) ≢ More
         → item_of (Arrival doc at n) used (rest ++ x) ≡ (if b then (if is_text n rest then Whole (Arrive doc at (take n rest)) (used + n + 1) else Broken 0) else More)
     go true h settled = let lt : n < length rest = ltb-true _ _ h in rw (lt-ltb n (length (rest ++ x)) (omega (arith, length-append rest x))) (same lt)
@@ -80,6 +81,7 @@ place-append p bs x = go (nat_eq n (length bs)) refl (prefix_len-append (λ b. n
   where
     n : ℕ
     n = position_or_len p bs
+
     go : (b : Bool) → nat_eq n (length bs) ≡ b → position_or_len p (bs ++ x) ≡ cond b (length bs + position_or_len p x) n
         → (n ≤ position_or_len p (bs ++ x)) × (n < length bs → position_or_len p (bs ++ x) ≡ n)
     go true h e = (omega (arith, prefix_len-le-length (λ b. not (p b)) bs), λ lt. absurd (omega (arith, eqb-true _ _ h)))
@@ -97,6 +99,7 @@ begins-append bs x settled = go (nat_lt 4096 n) (nat_lt n (length bs)) refl refl
   where
     n : ℕ
     n = position_or_len (λ b. b == 10) bs
+
     go : (a b : Bool) → nat_lt 4096 n ≡ a → nat_lt n (length bs) ≡ b
         → (if a then Broken 0 else (if b then item_of (meaning (take n bs)) (n + 1) (drop (n + 1) bs) else More)) ≢ More
         → begins (bs ++ x) ≡ (if a then Broken 0 else (if b then item_of (meaning (take n bs)) (n + 1) (drop (n + 1) bs) else More))
@@ -138,6 +141,7 @@ begins-within bs = go (nat_lt 4096 n) (nat_lt n (length bs)) refl
   where
     n : ℕ
     n = position_or_len (λ b. b == 10) bs
+
     go : (a b : Bool) → nat_lt n (length bs) ≡ b
         → IsWithin (length bs) (if a then Broken 0 else (if b then item_of (meaning (take n bs)) (n + 1) (drop (n + 1) bs) else More))
     go true b k = omega arith
@@ -167,7 +171,7 @@ whole-within ended bs c n whole = subst (IsWithin (length bs)) whole (first-with
 -- items stay so under more bytes
 pub Items-append : (ended : Bool) (bs x : List ℕ) (items : List Command) (rest : List ℕ) → Items false bs items rest → Items ended (bs ++ x) items (rest ++ x)
 Items-append ended bs x [] rest same = ap (λ l. l ++ x) same
-Items-append ended bs x (c ∷ items) rest (n, whole, more) = 
+Items-append ended bs x (c ∷ items) rest (n, whole, more) =
     (n, first-append ended bs x (λ e. cc) ∙ whole, rw (drop-append-le n bs x (whole-within false bs c n whole).1) (Items-append ended (drop n bs) x items rest more))
 
 -- Bytes are split into items and a rest in one way.
@@ -186,7 +190,7 @@ pub script-whole : (front more : List ℕ) (at : ℕ) → IsScript (front ++ mor
 script-whole front more at (items, read) b =
     let broken : first true (b.rest ++ more) ≡ Broken b.within = first-append true b.rest more (λ e. cc) ∙ b.broken in
     let one = Splits-one true (front ++ more) items b.items [] (b.rest ++ more) (read, tt)
-        (Items-append true front more b.items b.rest b.before, subst IsNoItem (sym broken) tt) in
+    (Items-append true front more b.items b.rest b.before, subst IsNoItem (sym broken) tt) in
     let none : first true [] ≡ Broken b.within = ap (first true) one.1 ∙ broken in
     cc
 

@@ -39,9 +39,3 @@ impl Text {
         self.content
     }
 }
-
-fn probe(x: u8) -> u8
-    ensures { result ≡ x }
-{
-    x
-}
