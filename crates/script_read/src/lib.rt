@@ -15,6 +15,8 @@ mod item;
 mod line;
 mod number;
 mod reader;
+#[cfg(test)]
+mod tests;
 mod text;
 
 pub use command::Command;
