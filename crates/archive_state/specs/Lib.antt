@@ -3,4 +3,5 @@ pub mod Refusals
 pub mod Replies
 pub mod Rows
 pub mod Runs
+pub mod Stands
 pub mod Steps

@@ -6,6 +6,11 @@
 //! images that it left stand for, is said of any such machine (`specs/Runs.antt`).
 #![tactic(auto)]
 
+mod laws;
 mod refusal;
 
+pub use laws::{
+    a_history_is_legal_entry_by_entry, an_archive_is_refused_at_one_place,
+    an_image_stands_for_one_history,
+};
 pub use refusal::Refusal;
