@@ -78,6 +78,9 @@ pub(crate) fn read_front<F: FileExt>(file: &F, at: u64, buf: &mut [u8]) -> usize
 {
     let mut done = 0;
     'parts: for _ in 0..buf.len() {
+        if done == buf.len() {
+            break;
+        }
         match read_at_once(file, at + done as u64, &mut buf[done..]) {
             Ok(0) | Err(_) => break,
             Ok(count) => done += count,
@@ -94,6 +97,9 @@ pub(crate) fn write_front<F: FileExt>(file: &F, at: u64, bytes: &[u8]) -> usize
 {
     let mut done = 0;
     'parts: for _ in 0..bytes.len() {
+        if done == bytes.len() {
+            break;
+        }
         match write_at_once(file, at + done as u64, &bytes[done..]) {
             Ok(0) | Err(_) => break,
             Ok(count) => done += count,
@@ -107,4 +113,74 @@ pub(crate) fn whole(moved: usize, wanted: usize) -> Result<(), Failed>
     ensures { IsOk result ↔ (moved ≡ wanted) }
 {
     if moved == wanted { Ok(()) } else { Err(Failed) }
+}
+
+#[cfg(test)]
+mod tests {
+    use super::*;
+    use std::cell::Cell;
+    use std::test::Fail;
+
+    /// A file of eight bytes. Each other call is interrupted, and none moves more than two bytes.
+    #[derive(Drop)]
+    struct Halting {
+        bytes: Cell<[u8; 8]>,
+        is_ready: Cell<bool>,
+    }
+
+    impl Halting {
+        /// How many bytes a call moves.
+        fn count(&self, offset: u64, wanted: usize) -> io::Result<usize> {
+            let is_ready = self.is_ready.get();
+            self.is_ready.set(!is_ready);
+            if !is_ready {
+                return Err(io::Error::from(ErrorKind::Interrupted));
+            }
+            Ok(wanted.min(2).min(8usize.saturating_sub(offset as usize)))
+        }
+    }
+
+    impl FileExt for Halting {
+        fn read_at(&self, buf: &mut [u8], offset: u64) -> io::Result<usize> {
+            let count = self.count(offset, buf.len())?;
+            let bytes = self.bytes.get();
+            for (to, from) in buf
+                .iter_mut()
+                .zip(bytes.iter().skip(offset as usize))
+                .take(count)
+            {
+                *to = *from;
+            }
+            Ok(count.min(buf.len()))
+        }
+
+        fn write_at(&self, buf: &[u8], offset: u64) -> io::Result<usize> {
+            let count = self.count(offset, buf.len())?;
+            let mut bytes = self.bytes.get();
+            for (to, from) in bytes
+                .iter_mut()
+                .skip(offset as usize)
+                .zip(buf.iter())
+                .take(count)
+            {
+                *to = *from;
+            }
+            self.bytes.set(bytes);
+            Ok(count.min(buf.len()))
+        }
+    }
+
+    #[test]
+    fn parts_are_joined_and_interrupted_calls_made_again(rt: HostRuntime) {
+        let file = Halting {
+            bytes: Cell::new([0; 8]),
+            is_ready: Cell::new(false),
+        };
+        assert_eq!(rt; write_front(&file, 1, b"abcde"), 5);
+        assert_eq!(rt; file.bytes.get(), *b"\0abcde\0\0");
+        let mut buf = [0; 4];
+        assert_eq!(rt; read_front(&file, 2, &mut buf), 4);
+        assert_eq!(rt; buf, *b"bcde");
+        assert_eq!(rt; read_front(&file, 6, &mut buf), 2, "the file ends");
+    }
 }

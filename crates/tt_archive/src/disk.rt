@@ -1,4 +1,7 @@
 //! The files as the disk.
+ghost use Rattle.std.specs.Prelude.{◌≡◌, ◌≤◌, OnErr};
+ghost use Rattle.machine_model.specs.Causes.{Rose};
+
 use crate::machine::FileMachine;
 use machine_model::{Area, Disk, Failed};
 use std::fs::OpenFile;
@@ -46,32 +49,32 @@ impl<F: FileExt + Seek + OpenFile, I: Read, O: Write> Disk for FileMachine<F, I,
     }
 
     fn read(&mut self, area: Area, at: u64, buf: &mut [u8]) -> Result<(), Failed> {
-        match self.store.read(area, at, buf) {
-            Ok(()) => Ok(()),
-            Err(Failed) => {
-                self.disk_faults.rise();
-                Err(Failed)
-            }
-        }
+        let read = self.store.read(area, at, buf);
+        self.counted(read)
     }
 
     fn write(&mut self, area: Area, at: u64, bytes: &[u8]) -> Result<(), Failed> {
-        match self.store.write(area, at, bytes) {
-            Ok(()) => Ok(()),
-            Err(Failed) => {
-                self.disk_faults.rise();
-                Err(Failed)
-            }
-        }
+        let written = self.store.write(area, at, bytes);
+        self.counted(written)
     }
 
     fn sync(&mut self) -> Result<(), Failed> {
-        match self.store.sync() {
-            Ok(()) => Ok(()),
-            Err(Failed) => {
-                self.disk_faults.rise();
-                Err(Failed)
-            }
+        let synced = self.store.sync();
+        self.counted(synced)
+    }
+}
+
+impl<F, I, O> FileMachine<F, I, O> {
+    /// Counts a call of the disk that failed, and passes on its answer.
+    fn counted(&mut self, answer: Result<(), Failed>) -> Result<(), Failed>
+        ensures answer { result ≡ answer }
+        ensures later { self.old.disk_faults.value ≤ self.new.disk_faults.value }
+        ensures risen { OnErr answer (Rose self.old.disk_faults.value self.new.disk_faults.value) }
+        ensures rest { self.new ≡ record self.old { disk_faults = self.new.disk_faults } }
+    {
+        if answer.is_err() {
+            self.disk_faults.rise();
         }
+        answer
     }
 }

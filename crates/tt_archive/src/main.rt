@@ -6,6 +6,10 @@
 //! and the words, the status line and the exit status.
 #![tactic(auto)]
 
+ghost use Rattle.std.specs.Prelude.{◌≡◌};
+ghost use Rattle.std.specs.Process.{exit_status};
+ghost use Rattle.archive_shell.specs.Statuses.{code_of};
+
 mod area_file;
 mod calls;
 mod disk;
@@ -25,9 +29,16 @@ use std::process::ExitCode;
 
 fn main(rt: HostRuntime) -> ExitCode {
     let status = run_here(&rt);
+    finish(&rt, status)
+}
+
+/// Prints the line of a status other than `Done`, and gives the exit status. Where standard error
+/// fails too, the exit status still tells.
+fn finish<R: Eprint>(rt: &R, status: Status) -> ExitCode
+    ensures { exit_status result ≡ code_of status }
+{
     let code = status.code();
     if code != 0 {
-        // Where standard error fails too, the exit status still tells.
         let _ = rt.eprintln(status);
     }
     ExitCode::from(code)
