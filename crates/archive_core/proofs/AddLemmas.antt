@@ -65,11 +65,13 @@ leads_to h e body old new legal next same appends = record {
   images = λ image beside left.
       let was = appends.images image beside left in
       let P : List (List ℕ) → Type 0 = λ l. Spells image.journal l in
-      let bodies : bodies_of h ++ body ∷ [] ≡ bodies_of (h ++ e ∷ []) = ap (λ (l : List ℕ). bodies_of h ++ l ∷ []) same ∙ sym (bodies_of-push h e) in
-      (elim was.0 [
-        | inl spelled ↦ inl (record { spelled = spelled; legal = legal })
-        | inr spelled ↦ inr (record { spelled = subst P bodies spelled; legal = legal-push h e legal next })
-      ], was.1);
+      let bodies : bodies_of h ++ body ∷ [] ≡ bodies_of (h ++ e ∷ []) = ap (λ (l : List ℕ). bodies_of h ++ l ∷ []) same ∙ sym (bodies_of-push h e) in (
+        elim was.0 [
+          | inl spelled ↦ inl (record { spelled = spelled; legal = legal })
+          | inr spelled ↦ inr (record { spelled = subst P bodies spelled; legal = legal-push h e legal next })
+        ],
+        was.1,
+      );
 }
 
 -- an archive in step: each image stands for its history

@@ -110,8 +110,7 @@ pub found_all : (a : ArchiveState) (mid new : DiskState) (bytes : List ℕ) (end
 found_all a mid new bytes end heads changes bodies h made row replayed same step reads spelled =
     let P : List (List ℕ) → Type 0 = λ l. IsInStep new a.end l in
     let Q : ℕ → Type 0 = λ n. IsInStep new n bodies in
-    let R : List (List ℕ) → Type 0 = λ l. Spells bytes l in
-    (
+    let R : List (List ℕ) → Type 0 = λ l. Spells bytes l in (
       h,
       record {
         stands = stands_replayed a h heads changes end made row replayed;

@@ -80,6 +80,9 @@ same_entries (x ∷ a) (y ∷ b) one other p q same =
 pub same_history : (a b : History) → IsLegal a → IsLegal b → bodies_of a ≡ bodies_of b → a ≡ b
 same_history a b p q same = same_entries a b [] [] p q same
 
+behind : (x : Entry) (h other : History) → h ≡ other → x ∷ h ≡ x ∷ other
+behind x h other same = ap (λ (l : History). x ∷ l) same
+
 -- the entries behind some of the bodies of a history
 pub split_bodies : (h : History) (bodies : List (List ℕ)) (body : List ℕ) (rest : List (List ℕ)) → bodies_of h ≡ bodies ++ body ∷ rest
     → (first : History) × (e : Entry) × (more : History) × (h ≡ first ++ e ∷ more) × (bodies_of first ≡ bodies) × (spelling e ≡ body)
@@ -90,4 +93,4 @@ split_bodies (x ∷ h) (b ∷ bodies) body rest same =
     let first : spelling x ≡ b = cc in
     let tail : bodies_of h ≡ bodies ++ body ∷ rest = cc in
     let more = split_bodies h bodies body rest tail in
-    (x ∷ more.0, more.1, more.2, ap (λ (l : History). x ∷ l) more.3, let rest = more.4 in cc, more.5)
+    (x ∷ more.0, more.1, more.2, behind x h (more.0 ++ more.1 ∷ more.2) more.3, let rest = more.4 in cc, more.5)
