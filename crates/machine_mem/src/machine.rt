@@ -210,7 +210,7 @@ impl MemMachine {
         ensures stays { OnErr result (Stays self.old self.new) }
         ensures rest { (self.new.script ≡ self.old.script) × (self.new.starved ≡ self.old.starved) }
     {
-        self.record(&[])
+        self.record(b"")
     }
 
     /// A write of which the first `kept` bytes come through. Without memory nothing changes.
