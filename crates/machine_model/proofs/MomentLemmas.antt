@@ -1,10 +1,10 @@
 -- How clauses on what was left are joined over calls in a row.
-use Rattle.std.proofs.Common.{◌≡◌, ◌⊎◌, ℕ, ◌≤◌, List, [], ◌∷◌, length, drop, refl, inl, inr, ap, subst, sym, ◌∙◌, arith}
+use Rattle.std.proofs.Common.{◌⊎◌, ℕ, ◌≤◌, List, [], ◌∷◌, length, drop, refl, inl, inr, ap, subst, sym, ◌∙◌, arith}
 use Rattle.machine_model.specs.Areas.{Bytes}
 use Rattle.machine_model.specs.States.{Moment, DiskState, moment}
 use Rattle.machine_model.specs.Images.{MayLeave, Leaves}
 use Rattle.machine_model.specs.Moments.{SomeLeaves, LeftSince, LeavesOnly, GoesOn}
-use Rattle.machine_model.specs.Calls.{OnlyReads, OnlyFails}
+use Rattle.machine_model.specs.Calls.{OnlyReads}
 
 -- what is left since a first call is left since that call, or since the next one
 pub joined : {a b c : DiskState} (P : Bytes → List ℕ → Type 0) → GoesOn a b → LeavesOnly a b P → GoesOn b c → LeavesOnly b c P → LeavesOnly a c P
@@ -16,19 +16,24 @@ pub goes_on_joins : {a b c : DiskState} → GoesOn a b → GoesOn b c → GoesOn
 goes_on_joins {a} {b} {c} first second = record {
   later = omega (arith, first.later, second.later);
   nothing_else = λ since image beside early left.
-    let late : since ≤ moment b = omega (arith, first.later) in
-    elim (second.nothing_else since image beside late left) as (λ _. LeftSince a since image beside ⊎ LeftSince c (moment a) image beside) [
-      inl was ↦ elim (first.nothing_else since image beside early was) as (λ _. LeftSince a since image beside ⊎ LeftSince c (moment a) image beside) [
-        inl begun ↦ inl begun
-      | inr during ↦ inr (second.keeps (moment a) image beside first.later (inl during)) ]
-    | inr is ↦ inr (second.keeps (moment a) image beside first.later (inr is)) ];
+      let late : since ≤ moment b = omega (arith, first.later) in
+      elim (second.nothing_else since image beside late left) as (λ _. LeftSince a since image beside ⊎ LeftSince c (moment a) image beside) [
+        | inl was ↦ elim (first.nothing_else since image beside early was) as (λ _. LeftSince a since image beside ⊎ LeftSince c (moment a) image beside) [
+          | inl begun ↦ inl begun
+          | inr during ↦ inr (second.keeps (moment a) image beside first.later (inl during))
+        ]
+        | inr is ↦ inr (second.keeps (moment a) image beside first.later (inr is))
+      ];
   keeps = λ since image beside early left.
-    let late : since ≤ moment b = omega (arith, first.later) in
-    elim left as (λ _. LeftSince c since image beside) [
-      inl begun ↦ second.keeps since image beside late (inl (first.keeps since image beside early (inl begun)))
-    | inr is ↦ elim (second.nothing_else (moment a) image beside first.later is) as (λ _. LeftSince c since image beside) [
-        inl during ↦ second.keeps since image beside late (inl (first.keeps since image beside early (inr during)))
-      | inr after ↦ second.keeps since image beside late (inr after) ] ] }
+      let late : since ≤ moment b = omega (arith, first.later) in
+      elim left as (λ _. LeftSince c since image beside) [
+        | inl begun ↦ second.keeps since image beside late (inl (first.keeps since image beside early (inl begun)))
+        | inr is ↦ elim (second.nothing_else (moment a) image beside first.later is) as (λ _. LeftSince c since image beside) [
+          | inl during ↦ second.keeps since image beside late (inl (first.keeps since image beside early (inr during)))
+          | inr after ↦ second.keeps since image beside late (inr after)
+        ]
+      ];
+}
 
 none_left : (moments : List Moment) (image : Bytes) (beside : List ℕ) → SomeLeaves (drop (length moments) moments) image beside → ⊥
 none_left [] image beside left = left
@@ -52,8 +57,10 @@ goes_on_same d = record {
   later = omega arith;
   nothing_else = λ since image beside early left. inl left;
   keeps = λ since image beside early left. elim left as (λ _. LeftSince d since image beside) [
-      inl was ↦ was
-    | inr now ↦ inl (since_now d image beside now) ] }
+    | inl was ↦ was
+    | inr now ↦ inl (since_now d image beside now)
+  ];
+}
 
 -- what is allowed now was left since any moment up to now
 pub allowed_left : (d : DiskState) (since : ℕ) (image : Bytes) → MayLeave d.now image → LeftSince d since image d.now.beside

@@ -62,17 +62,26 @@ pub trait Disk {
         ensures read { disk_tells → (disk self.new).bytes_read ≡ (disk self.old).bytes_read };
 
     ghost only_same: { (x : Self) → only x x };
+
     ghost only_joins: { (x y z : Self) → only x y → only y z → only x z };
+
     ghost only_faults: { (x y : Self) → only x y → (disk x).faults ≤ (disk y).faults };
+
     ghost only_reach: { (x y : Self) (a : Area) → only x y → part (disk x).reach a ≤ part (disk y).reach a };
+
     ghost only_goes_on: { (x y : Self) → disk_tells → only x y → GoesOn (disk x) (disk y) };
+
     ghost only_beside: { (x y : Self) → disk_tells → only x y → (disk y).now.beside ≡ (disk x).now.beside };
+
     ghost only_read: { (x y : Self) (a : Area) → disk_tells → only x y → part (disk x).bytes_read a ≤ part (disk y).bytes_read a };
     // the count is that of a real machine's counter
     ghost faults_limit: { (x : Self) → (disk x).faults ≤ 2 ^ 64 - 1 };
+
     ghost reach_limit: { (x : Self) (a : Area) → part (disk x).reach a ≤ 2 ^ 40 };
+
     ghost reach_holds: { (x : Self) (a : Area) → disk_tells → length (part (disk x).holds a) ≡ part (disk x).reach a };
     // what reads give is one of the allowed images, and so it is bytes
     ghost holds_allowed: { (x : Self) → disk_tells → MayLeave (disk x).now (disk x).holds };
+
     ghost stable_bytes: { (x : Self) (a : Area) → disk_tells → AreBytes (part (disk x).now.stable a) };
 }

@@ -9,7 +9,9 @@ pub trait Machine: Source + Sink + Disk {
     ghost use Rattle.machine_model.specs.declared.area.Failed.{Failed};
 
     ghost source_alone: { (x y : Self) → Self.Source.only x y → (Self.sink y ≡ Self.sink x) × (Self.disk y ≡ Self.disk x) };
+
     ghost disk_alone: { (x y : Self) → Self.Disk.only x y → (Self.source y ≡ Self.source x) × (Self.sink y ≡ Self.sink x) };
+
     ghost sink_alone: { (x y : Self) → Self.Sink.only x y → (Self.source y ≡ Self.source x) × IsSameBeside (Self.disk x) (Self.disk y) };
     // beside the images stand the bytes shown
     ghost beside_shown: { (x : Self) → Self.sink_tells → Self.disk_tells → (Self.disk x).now.beside ≡ (Self.sink x).shown };

@@ -32,7 +32,9 @@ pub trait Sink {
         ensures shown { sink_tells → (sink self.new).shown ≡ (sink self.old).shown ++ take (taken result) bytes.now };
 
     ghost only_same: { (x : Self) → only x x };
+
     ghost only_joins: { (x y z : Self) → only x y → only y z → only x z };
+
     ghost only_faults: { (x y : Self) → only x y → (sink x).faults ≤ (sink y).faults };
     // the count is that of a real machine's counter
     ghost faults_limit: { (x : Self) → (sink x).faults ≤ 2 ^ 64 - 1 };

@@ -27,7 +27,9 @@ pub trait Source {
         ensures failed { source_tells → OnErr result ((source self.new).left ≡ (source self.old).left) };
 
     ghost only_same: { (x : Self) → only x x };
+
     ghost only_joins: { (x y z : Self) → only x y → only y z → only x z };
+
     ghost only_faults: { (x y : Self) → only x y → (source x).faults ≤ (source y).faults };
     // the count is that of a real machine's counter
     ghost faults_limit: { (x : Self) → (source x).faults ≤ 2 ^ 64 - 1 };

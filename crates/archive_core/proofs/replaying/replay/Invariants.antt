@@ -1,0 +1,13 @@
+use Rattle.std.proofs.Common.{◌≡◌, ◌≤◌}
+use Rattle.machine_model.specs.Calls.{OnlyReads}
+use Rattle.gate_journal.specs.Scanning.{IsView}
+use Rattle.archive_core.specs.Replaying.{IsReplaying}
+use Rattle.archive_core.proofs.replaying.replay.Given as goal
+
+abbrev pub invariant-loop-head : goal.invariant-loop-head
+invariant-loop-head g l = record {
+  only : g.D.Disk.only l.fn.disk l.disk;
+  same : OnlyReads (g.D.Disk.disk l.fn.disk) (g.D.Disk.disk l.disk);
+  view : g.D.Disk.disk_tells → IsView l.window.bytes.items l.window.from (g.D.Disk.disk l.fn.disk).holds.journal;
+  replaying : IsReplaying g.D.Disk.disk_tells (g.D.Disk.disk l.fn.disk).holds.journal l.heads l.head-index l.directory.changes;
+}

@@ -1,0 +1,11 @@
+-- Why a load answers what it does.
+use Rattle.gate_journal.specs.declared.error.JournalError.{JournalError}
+use Rattle.gate_journal.specs.declared.error.JournalError.TheVariants as journals
+use Rattle.archive_core.specs.declared.error.LoadError.{LoadError}
+use Rattle.archive_core.specs.declared.error.LoadError.TheVariants as loads
+
+-- a journal's error, as one of an archive: bytes that are no journal are no archive
+abbrev pub load_error_of : JournalError → LoadError
+load_error_of journals.Failed = loads.Failed
+load_error_of (journals.NotJournal at) = loads.NotArchive at
+load_error_of journals.Memory = loads.Memory

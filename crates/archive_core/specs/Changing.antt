@@ -1,0 +1,17 @@
+-- What a stop at any moment of a call leaves.
+use Rattle.std.specs.Prelude.{◌≡◌, ◌⊎◌, List, ℕ}
+use Rattle.machine_model.specs.Areas.{Bytes}
+use Rattle.machine_model.specs.States.{DiskState}
+use Rattle.machine_model.specs.Moments.{GoesOn, LeavesOnly}
+use Rattle.archive_state.specs.Histories.{History}
+use Rattle.archive_state.specs.Stands.{Stands}
+
+-- each image left since stands for the history before or the one after; what stands beside it is as it was
+pub record LeadsTo (before after : History) (old new : DiskState) : Type 0 where
+  pub goes_on : GoesOn old new
+  pub images : LeavesOnly old new (λ image beside. (Stands before image ⊎ Stands after image) × (beside ≡ old.now.beside))
+
+-- each image left since stands for this history; what stands beside it is as it was
+pub record KeepsHistory (history : History) (old new : DiskState) : Type 0 where
+  pub goes_on : GoesOn old new
+  pub images : LeavesOnly old new (λ image beside. Stands history image × (beside ≡ old.now.beside))

@@ -1,0 +1,5 @@
+pub mod States
+pub mod Changing
+pub mod Adding
+pub mod Replaying
+pub mod Causes

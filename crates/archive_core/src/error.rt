@@ -1,0 +1,82 @@
+//! Why a call of an archive didn't do its work.
+ghost use Rattle.std.specs.Prelude.{◌≡◌};
+
+use archive_state::Refusal;
+use gate_journal::JournalError;
+use machine_model::Failed;
+use std::alloc::AllocError;
+
+/// Why an archive was not loaded.
+#[derive(Clone, Copy, Debug, PartialEq, Eq)]
+pub enum LoadError {
+    /// A call of the disk failed.
+    Failed,
+    /// The journal is no archive's, which shows at that place: of a byte that differs from the
+    /// header, of an open gate whose record lies past the end or isn't legal, or of the first field
+    /// of an entry that isn't allowed.
+    NotArchive {
+        /// The place in the journal.
+        at: u64,
+    },
+    /// There was no memory.
+    Memory,
+}
+
+/// Why a change was not made.
+#[derive(Clone, Copy, Debug, PartialEq, Eq)]
+pub enum ChangeError {
+    /// It isn't allowed; nothing was changed.
+    Refused(Refusal),
+    /// A call of the disk failed. The archive is spent: whether it has the change shows when it is loaded again.
+    Failed,
+    /// There was no memory. The archive is spent; loaded again, it is as before the change.
+    Memory,
+}
+
+impl From<AllocError> for ChangeError {
+    ghost use Rattle.archive_core.specs.declared.error.ChangeError.TheVariants.{Memory};
+    ghost use Rattle.std.specs.Prelude.{◌≡◌};
+
+    ghost from_gives = { λ _ e. e ≡ Memory };
+
+    fn from(_: AllocError) -> Self {
+        ChangeError::Memory
+    }
+}
+
+impl From<AllocError> for LoadError {
+    ghost use Rattle.archive_core.specs.declared.error.LoadError.TheVariants.{Memory};
+    ghost use Rattle.std.specs.Prelude.{◌≡◌};
+
+    ghost from_gives = { λ _ e. e ≡ Memory };
+
+    fn from(_: AllocError) -> Self {
+        LoadError::Memory
+    }
+}
+
+impl From<Failed> for LoadError {
+    ghost use Rattle.archive_core.specs.declared.error.LoadError.TheVariants.{Failed};
+    ghost use Rattle.std.specs.Prelude.{◌≡◌};
+
+    ghost from_gives = { λ _ e. e ≡ Failed };
+
+    fn from(_: machine_model::Failed) -> Self {
+        LoadError::Failed
+    }
+}
+
+impl From<JournalError> for LoadError {
+    ghost use Rattle.archive_core.specs.Causes.{load_error_of};
+    ghost use Rattle.std.specs.Prelude.{◌≡◌};
+
+    ghost from_gives = { λ why e. e ≡ load_error_of why };
+
+    fn from(why: JournalError) -> Self {
+        match why {
+            JournalError::Failed => LoadError::Failed,
+            JournalError::NotJournal { at } => LoadError::NotArchive { at },
+            JournalError::Memory => LoadError::Memory,
+        }
+    }
+}

@@ -1,0 +1,20 @@
+//! The archive: a history of documents on any disk, safe at any stop.
+//!
+//! An archive in hand stands for a history (`specs/States.antt`). Each call that changes it leaves
+//! images that stand for the history before it or for that and the new entry, and after Ok for the
+//! latter alone (`specs/Changing.antt`); a refused call changes nothing. A load gives the history
+//! for which the images of its disk stand.
+#![tactic(auto)]
+
+mod archive;
+mod change;
+mod error;
+mod laws;
+mod loading;
+mod replaying;
+mod text;
+mod window;
+
+pub use archive::Archive;
+pub use error::{ChangeError, LoadError};
+pub use laws::an_archive_in_step_stands;

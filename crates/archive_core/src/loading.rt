@@ -1,0 +1,49 @@
+//! Loading an archive.
+ghost use Rattle.std.specs.Prelude.{◌≡◌, ◌+◌, ◌≤◌, ℕ, length, IsTrue, IfOk, OnOk, IsErrOf};
+ghost use Rattle.machine_model.specs.Causes.{Rose};
+ghost use Rattle.gate_journal.specs.Spelled.{Spells};
+ghost use Rattle.gate_journal.specs.Crash.{KeepsPages};
+ghost use Rattle.archive_state.specs.Histories.{History};
+ghost use Rattle.archive_state.specs.Stands.{EachStands, IsNotArchive, bodies_of};
+ghost use Rattle.archive_core.specs.States.{StandsFor, IsKept};
+ghost use Rattle.archive_core.specs.Changing.{KeepsHistory};
+
+use crate::archive::Archive;
+use crate::error::LoadError;
+use crate::replaying::replay;
+use gate_journal::Journal;
+use machine_model::Disk;
+use std::alloc::Global;
+
+impl Archive {
+    /// Loads the archive of a disk. A journal of at most 17 bytes is new, whatever they are, and
+    /// stands for an archive without entries; no other one is written to.
+    ///
+    /// `NotArchive`: the journal is no archive's, which shows at that place: the first byte that
+    /// differs from the header, an open gate whose record lies past the end, the first field of an
+    /// entry that is cut short or not allowed, or the gate of an entry that may not come after those
+    /// before it. `Failed`: the disk failed. `Memory`: there was none.
+    /// Costs time in the length of the journal, which is read in pieces of 64 KiB or a whole body,
+    /// and two look-ups an entry.
+    pub fn load<D: Disk>(alloc: Global, disk: &mut D) -> Result<Archive, LoadError>
+        ensures only { D.Disk.only disk.old disk.new }
+        ensures failed { IsErrOf result LoadError.Failed → Rose (D.disk disk.old).faults (D.disk disk.new).faults }
+        // On any disk: it is live, the disk reaches as far as its journal, and it stands for a history.
+        ensures live { IfOk result (λ a. IsTrue a.live) }
+        ensures within { IfOk result (λ a. a.end ≤ (D.disk disk.new).reach.journal) }
+        ensures stands { IfOk result (λ a. (h : History) × StandsFor a h) }
+        // What it answers of the journal that reads gave at the start.
+        ensures not_archive { D.disk_tells → (at : ℕ) → IsErrOf result (LoadError.NotArchive at) → IsNotArchive (D.disk disk.old).holds.journal at }
+        ensures found { D.disk_tells → IfOk result (λ a. (h : History) × IsKept (D.disk disk.new) a h × Spells (D.disk disk.old).holds.journal (bodies_of h)) }
+        ensures exact { D.disk_tells → OnOk result ((at : ℕ) → IsNotArchive (D.disk disk.old).holds.journal at → ⊥) }
+        // Where each image stands for one history, each image left since stands for it, and it is the one loaded.
+        ensures crash { D.disk_tells → (h : History) → EachStands (D.disk disk.old) h → KeepsHistory h (D.disk disk.old) (D.disk disk.new) }
+        ensures finds { D.disk_tells → (h : History) → EachStands (D.disk disk.old) h → IfOk result (λ a. IsKept (D.disk disk.new) a h) }
+        ensures never { D.disk_tells → (h : History) → EachStands (D.disk disk.old) h → (at : ℕ) → IsErrOf result (LoadError.NotArchive at) → ⊥ }
+        ensures pages { D.disk_tells → KeepsPages (D.disk disk.old) (D.disk disk.new) }
+    {
+        let (journal, heads) = Journal::load(alloc, disk)?;
+        let directory = replay(alloc, disk, &journal, &heads)?;
+        Ok(Archive::of(journal, directory, heads.len() as u64))
+    }
+}

@@ -1,0 +1,93 @@
+-- One entry more: the end of the journal, the bodies, and what makes a longer history legal.
+use Rattle.std.proofs.Common.{◌≡◌, ℕ, ◌+◌, ◌≤◌, ◌<◌, ◌^◌, List, [], ◌∷◌, ◌++◌, length, map, All, sum_by, Option, None, refl, ap, subst, sym, ◌∙◌, arith, append_assoc, length-append}
+use Rattle.std.proofs.lemmas.List.{append-nil, map-append}
+use Rattle.std.proofs.lemmas.List.Concat.{flat_map-append}
+use Rattle.std.proofs.lemmas.List.Sums.{sum_by-cons, sum_by_push}
+use Rattle.gate_journal.specs.Header.{header}
+use Rattle.std.specs.Int.{w32, to_be_bytes}
+use Rattle.gate_journal.specs.Records.{record_bytes, records, front}
+use Rattle.gate_journal.proofs.SpellingLemmas.{length-header}
+use Rattle.record_codec.specs.Spelling.{spelling, IsEntry}
+use Rattle.record_codec.specs.declared.entry.Entry.{Entry}
+use Rattle.record_codec.proofs.EntryLemmas.{one_entry}
+use Rattle.archive_state.specs.Histories.{History, changes, acts, entry_refusal, IsLegalEntry, AreLegalAfter, IsLegal, end_of}
+use Rattle.archive_state.specs.Stands.{bodies_of}
+
+pub bodies_of-push : (h : History) (e : Entry) → bodies_of (h ++ e ∷ []) ≡ bodies_of h ++ spelling e ∷ []
+bodies_of-push h e = map-append spelling h (e ∷ [])
+
+pub changes-push : (h : History) (e : Entry) → changes (h ++ e ∷ []) ≡ changes h ++ acts e
+changes-push h e = flat_map-append acts h (e ∷ []) ∙ ap (λ l. changes h ++ l) (append-nil (acts e))
+
+pub end_of-push : (h : History) (e : Entry) → end_of (h ++ e ∷ []) ≡ end_of h + 5 + length (spelling e)
+end_of-push h e = omega (arith, sum_by_push (λ (x : Entry). length (spelling x) + 5) h e)
+
+pub length_record : (body : List ℕ) → length (record_bytes body) ≡ 5 + length body
+length_record body = omega (arith, length-append (to_be_bytes w32 (length body)) body)
+
+length_records : (h : History) → length (records (bodies_of h)) ≡ sum_by (λ (x : Entry). length (spelling x) + 5) h
+length_records [] = refl
+length_records (e ∷ h) = omega (
+  arith,
+  length_records h,
+  length_record (spelling e),
+  sum_by-cons (λ (x : Entry). length (spelling x) + 5) e h,
+  length-append (record_bytes (spelling e)) (records (bodies_of h)),
+)
+
+-- the end is the place behind the closed gate that ends the records
+pub end_of_is : (h : History) → end_of h ≡ length (front (bodies_of h)) + 1
+end_of_is h = omega (arith, length_records h, length-header, length-append header (records (bodies_of h)))
+
+-- each entry takes bytes
+pub end_of-least : (h : History) → 17 + length h ≤ end_of h
+end_of-least [] = omega arith
+end_of-least (e ∷ h) = omega (arith, end_of-least h, sum_by-cons (λ (x : Entry). length (spelling x) + 5) e h)
+
+-- an entry more is legal behind a legal history
+legal_after_push : (before h : History) (e : Entry) → AreLegalAfter before h → IsLegalEntry (before ++ h) e → AreLegalAfter before (h ++ e ∷ [])
+legal_after_push before [] e legal next = (let P : History → Type 0 = λ g. IsLegalEntry g e in subst P (append-nil before) next, tt)
+legal_after_push before (x ∷ h) e legal next = (
+  legal.0,
+  legal_after_push (before ++ x ∷ []) h e legal.1 (let P : History → Type 0 = λ g. IsLegalEntry g e in subst P (sym (append_assoc before (x ∷ []) h)) next),
+)
+
+pub legal-push : (h : History) (e : Entry) → IsLegal h → IsLegalEntry h e → IsLegal (h ++ e ∷ [])
+legal-push h e legal next = legal_after_push [] h e legal next
+
+-- an entry in the middle of a legal history is legal behind those before it, which are a legal history
+legal_after_middle : (before h : History) (e : Entry) (rest : History) → AreLegalAfter before (h ++ e ∷ rest) → AreLegalAfter before h × IsLegalEntry (before ++ h) e
+legal_after_middle before [] e rest legal = (tt, let P : History → Type 0 = λ g. IsLegalEntry g e in subst P (sym (append-nil before)) legal.0)
+legal_after_middle before (x ∷ h) e rest legal =
+    let more = legal_after_middle (before ++ x ∷ []) h e rest legal.1 in
+    ((legal.0, more.0), let P : History → Type 0 = λ g. IsLegalEntry g e in subst P (append_assoc before (x ∷ []) h) more.1)
+
+pub legal-middle : (h : History) (e : Entry) (rest : History) → IsLegal (h ++ e ∷ rest) → IsLegal h × IsLegalEntry h e
+legal-middle h e rest legal = legal_after_middle [] h e rest legal
+
+-- two legal histories with one list of bodies are one
+same_entries : (a b one other : History) → AreLegalAfter one a → AreLegalAfter other b → bodies_of a ≡ bodies_of b → a ≡ b
+same_entries [] [] one other p q same = refl
+same_entries [] (y ∷ b) one other p q same = absurd (omega (arith, ap length same))
+same_entries (x ∷ a) [] one other p q same = absurd (omega (arith, ap length same))
+same_entries (x ∷ a) (y ∷ b) one other p q same =
+    let first : spelling x ≡ spelling y = cc in
+    let rest : bodies_of a ≡ bodies_of b = cc in
+    let head = one_entry x y p.0.ranges q.0.ranges first in
+    let tail = same_entries a b (one ++ x ∷ []) (other ++ y ∷ []) p.1 q.1 rest in
+    cc
+
+pub same_history : (a b : History) → IsLegal a → IsLegal b → bodies_of a ≡ bodies_of b → a ≡ b
+same_history a b p q same = same_entries a b [] [] p q same
+
+-- the entries behind some of the bodies of a history
+pub split_bodies : (h : History) (bodies : List (List ℕ)) (body : List ℕ) (rest : List (List ℕ)) → bodies_of h ≡ bodies ++ body ∷ rest
+    → (first : History) × (e : Entry) × (more : History) × (h ≡ first ++ e ∷ more) × (bodies_of first ≡ bodies) × (spelling e ≡ body)
+split_bodies [] [] body rest same = absurd (omega (arith, ap length same))
+split_bodies [] (b ∷ bodies) body rest same = absurd (omega (arith, ap length same))
+split_bodies (x ∷ h) [] body rest same = ([], x, h, refl, refl, cc)
+split_bodies (x ∷ h) (b ∷ bodies) body rest same =
+    let first : spelling x ≡ b = cc in
+    let tail : bodies_of h ≡ bodies ++ body ∷ rest = cc in
+    let more = split_bodies h bodies body rest tail in
+    (x ∷ more.0, more.1, more.2, ap (λ (l : History). x ∷ l) more.3, let rest = more.4 in cc, more.5)

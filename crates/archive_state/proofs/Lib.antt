@@ -1,0 +1,4 @@
+pub mod RunLemmas
+pub mod HistoryLemmas
+pub mod StandsLemmas
+pub mod RefusalLemmas

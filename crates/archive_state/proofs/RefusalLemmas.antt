@@ -1,0 +1,81 @@
+-- Which refusal comes first.
+use Rattle.std.proofs.Common.{◌≡◌, ℕ, ◌<◌, ◌≤◌, Bool, true, false, not, cond, List, [], ◌∷◌, ◌++◌, length, Option, Some, None, IsUtf8, refl, ap, sym, ◌∙◌, arith}
+use Rattle.std.specs.Str.{is_utf8}
+use Rattle.std.specs.Str.Lossy.{utf8_valid_len}
+use Rattle.std.specs.Option.{option_map}
+use Rattle.std.proofs.lemmas.Str.{IsUtf8-from_is_utf8, is_utf8-from_IsUtf8}
+use Rattle.std.proofs.lemmas.Bool.{lt-ltb, le-ltb, false_from_ne_true}
+use Rattle.time_base.specs.Limits.{limit_of}
+use Rattle.time_base.specs.declared.ids.DocId.{DocId}
+use Rattle.time_base.specs.declared.time.Time.{Time}
+use Rattle.time_base.specs.declared.which.Which.TheVariants.{Journal}
+use Rattle.version_store.specs.Tests.{first_of, when}
+use Rattle.version_store.specs.declared.refusal.VersionRefusal.{VersionRefusal}
+use Rattle.record_codec.specs.Spelling.{most_text}
+use Rattle.record_codec.specs.declared.entry.Entry.{Entry}
+use Rattle.record_codec.specs.declared.entry.Entry.TheVariants.{Arrive}
+use Rattle.archive_state.specs.declared.refusal.Refusal.{Refusal}
+use Rattle.archive_state.specs.declared.refusal.Refusal.TheVariants.{TooLong, BadText, Full}
+use Rattle.archive_state.specs.Refusals.{refusal_of}
+use Rattle.archive_state.specs.Histories.{History, entry_refusal, end_of}
+use Rattle.archive_state.specs.Steps.{too_long, bad_text, not_allowed, full_journal, arrival_refusal}
+
+-- the first cause of a list that goes on
+pub first_of-found : {W : Type 0} (tests more : List (Option W)) (why : W) → first_of tests ≡ Some why → first_of (tests ++ more) ≡ Some why
+first_of-found [] more why found = absurd cc
+first_of-found (None ∷ tests) more why found = first_of-found tests more why found
+first_of-found (Some x ∷ tests) more why found = found
+
+pub first_of-none : {W : Type 0} (tests more : List (Option W)) → first_of tests ≡ None → first_of (tests ++ more) ≡ first_of more
+first_of-none [] more none = refl
+first_of-none (None ∷ tests) more none = first_of-none tests more none
+first_of-none (Some x ∷ tests) more none = absurd cc
+
+pub when_true : {W : Type 0} (test : Bool) (why : W) → test ≡ true → when test why ≡ Some why
+when_true test why holds = rw holds refl
+
+pub when_false : {W : Type 0} (test : Bool) (why : W) → test ≡ false → when test why ≡ None
+when_false test why fails = rw fails refl
+
+-- a text that is too long, bad, or neither
+pub too_long-yes : (text : List ℕ) → most_text < length text → too_long text ≡ Some (TooLong most_text)
+too_long-yes text long = when_true _ (TooLong most_text) (lt-ltb most_text (length text) long)
+
+pub too_long-no : (text : List ℕ) → length text ≤ most_text → too_long text ≡ None
+too_long-no text short = when_false _ (TooLong most_text) (le-ltb most_text (length text) short)
+
+pub bad_text-yes : (text : List ℕ) → (IsUtf8 text → ⊥) → bad_text text ≡ Some (BadText (utf8_valid_len text))
+bad_text-yes text bad = when_true _ (BadText (utf8_valid_len text)) (ap not (false_from_ne_true (is_utf8 text) (λ e. bad (IsUtf8-from_is_utf8 text e))))
+
+pub bad_text-no : (text : List ℕ) → IsUtf8 text → bad_text text ≡ None
+bad_text-no text good = when_false _ (BadText (utf8_valid_len text)) (ap not (is_utf8-from_IsUtf8 text good))
+
+-- a text that is refused is refused before all else
+pub arrival_refused-text : (h : History) (doc : DocId) (at : Time) (text : List ℕ) (why : Refusal) → first_of (too_long text ∷ bad_text text ∷ []) ≡ Some why
+    → arrival_refusal h doc at text ≡ Some why
+arrival_refused-text h doc at text why found =
+    first_of-found (too_long text ∷ bad_text text ∷ []) (not_allowed h (Arrive doc at text) ∷ full_journal h (Arrive doc at text) ∷ []) why found
+
+-- why an entry is refused whose text is good
+abbrev pub cause : History → Entry → Option Refusal
+cause h e = first_of (not_allowed h e ∷ full_journal h e ∷ [])
+
+pub arrival_refused-good : (h : History) (doc : DocId) (at : Time) (text : List ℕ) → length text ≤ most_text → IsUtf8 text
+    → arrival_refusal h doc at text ≡ cause h (Arrive doc at text)
+arrival_refused-good h doc at text short good =
+    first_of-none (too_long text ∷ bad_text text ∷ []) (not_allowed h (Arrive doc at text) ∷ full_journal h (Arrive doc at text) ∷ [])
+        (let one = too_long-no text short in let two = bad_text-no text good in rw (one, two) refl)
+
+pub cause-not_allowed : (h : History) (e : Entry) (why : VersionRefusal) → entry_refusal h e ≡ Some why → cause h e ≡ Some (refusal_of why)
+cause-not_allowed h e why refused = ap (λ (o : Option VersionRefusal). first_of (option_map refusal_of o ∷ full_journal h e ∷ [])) refused
+
+pub cause-allowed : (h : History) (e : Entry) → entry_refusal h e ≡ None → cause h e ≡ first_of (full_journal h e ∷ [])
+cause-allowed h e allowed = ap (λ (o : Option VersionRefusal). first_of (option_map refusal_of o ∷ full_journal h e ∷ [])) allowed
+
+pub cause-full : (h : History) (e : Entry) → entry_refusal h e ≡ None → limit_of Journal < end_of (h ++ e ∷ []) → cause h e ≡ Some (Full Journal (limit_of Journal))
+cause-full h e allowed over =
+    cause-allowed h e allowed ∙ ap (λ (o : Option Refusal). first_of (o ∷ [])) (when_true _ (Full Journal (limit_of Journal)) (lt-ltb (limit_of Journal) (end_of (h ++ e ∷ [])) over))
+
+pub cause-none : (h : History) (e : Entry) → entry_refusal h e ≡ None → end_of (h ++ e ∷ []) ≤ limit_of Journal → cause h e ≡ None
+cause-none h e allowed within =
+    cause-allowed h e allowed ∙ ap (λ (o : Option Refusal). first_of (o ∷ [])) (when_false _ (Full Journal (limit_of Journal)) (le-ltb (limit_of Journal) (end_of (h ++ e ∷ [])) within))

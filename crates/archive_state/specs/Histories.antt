@@ -1,0 +1,57 @@
+-- The history of an archive: what it is, when it is legal, and which texts are alive at a time.
+use Rattle.std.specs.Prelude.{◌≡◌, ℕ, ◌+◌, List, [], ◌∷◌, ◌++◌, length, sum_by, Option, Some, None}
+use Rattle.std.specs.List.{flat_map, filter_map}
+use Rattle.std.specs.Option.{option_map}
+use Rattle.time_base.specs.declared.ids.DocId.{DocId}
+use Rattle.version_store.specs.declared.change.Change.{Change}
+use Rattle.version_store.specs.declared.refusal.VersionRefusal.{VersionRefusal}
+use Rattle.version_store.specs.Changes.{held_at, documents}
+use Rattle.version_store.specs.Refusals.{arrive_refusal, delete_refusal}
+use Rattle.record_codec.specs.Spelling.{spelling, IsEntry}
+use Rattle.record_codec.specs.declared.entry.Entry.{Entry}
+use Rattle.record_codec.specs.declared.entry.Entry.TheVariants.{Arrive, Delete}
+
+-- a history: the entries of an archive, in order
+abbrev pub History : Type 0
+History = List Entry
+
+-- the changes of documents that an entry makes, with the texts
+abbrev pub acts : Entry → List (Change (List ℕ))
+acts (Arrive doc at text) = record { doc = doc; at = at; held = Some text } ∷ []
+acts (Delete doc at) = record { doc = doc; at = at; held = None } ∷ []
+
+-- the changes of documents that a history makes
+abbrev pub changes : History → List (Change (List ℕ))
+changes history = flat_map acts history
+
+-- why an entry may not come after a history: the first cause in order
+abbrev pub entry_refusal : History → Entry → Option VersionRefusal
+entry_refusal before (Arrive doc at text) = arrive_refusal doc at (changes before)
+entry_refusal before (Delete doc at) = delete_refusal doc at (changes before)
+
+-- an entry is legal after a history: its fields are in their ranges, and nothing refuses it
+pub record IsLegalEntry (before : History) (entry : Entry) : Type 0 where
+  pub ranges : IsEntry entry
+  pub allowed : entry_refusal before entry ≡ None
+
+-- each of these entries is legal after those before it, which begin with a history
+abbrev pub AreLegalAfter : History → List Entry → Type 0
+AreLegalAfter before [] = Unit {0}
+AreLegalAfter before (entry ∷ entries) = IsLegalEntry before entry × AreLegalAfter (before ++ entry ∷ []) entries
+
+-- a history is legal: each entry is legal after the entries before it
+abbrev pub IsLegal : History → Type 0
+IsLegal history = AreLegalAfter [] history
+
+-- the text of a document that is alive at a time
+abbrev pub text_at : History → DocId → ℕ → Option (List ℕ)
+text_at history doc t = held_at doc t (changes history)
+
+-- the documents alive at a time with their texts, ascending
+abbrev pub alive : History → ℕ → List (DocId × List ℕ)
+alive history t = filter_map (λ doc. option_map (λ text. (doc, text)) (text_at history doc t)) (documents (changes history))
+
+-- where the journal of a history ends: behind the header of 16 bytes, for each entry its gate, its length in four bytes and its
+-- spelling, and one closed gate
+abbrev pub end_of : History → ℕ
+end_of history = 17 + sum_by (λ entry. length (spelling entry) + 5) history

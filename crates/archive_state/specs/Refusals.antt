@@ -1,0 +1,22 @@
+-- The refusals by number, and those of the directory of versions among them.
+use Rattle.std.specs.Prelude.{ℕ}
+use Rattle.archive_state.specs.declared.refusal.Refusal.{Refusal}
+use Rattle.archive_state.specs.declared.refusal.Refusal.TheVariants as refusals
+use Rattle.version_store.specs.declared.refusal.VersionRefusal.{VersionRefusal}
+use Rattle.version_store.specs.declared.refusal.VersionRefusal.TheVariants as versions
+
+-- the number by which a reply names a refusal
+abbrev pub number_of : Refusal → ℕ
+number_of (refusals.TimeBack last) = 2
+number_of refusals.SameTime = 3
+number_of refusals.NoDocument = 4
+number_of (refusals.TooLong limit) = 5
+number_of (refusals.BadText offset) = 6
+number_of (refusals.Full which limit) = 10
+
+-- a refusal of the directory of versions, as one of the archive
+abbrev pub refusal_of : VersionRefusal → Refusal
+refusal_of (versions.TimeBack last) = refusals.TimeBack last
+refusal_of versions.SameTime = refusals.SameTime
+refusal_of versions.NoDocument = refusals.NoDocument
+refusal_of (versions.Full which limit) = refusals.Full which limit

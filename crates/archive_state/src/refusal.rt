@@ -1,0 +1,66 @@
+//! Why a command is refused.
+ghost use Rattle.std.specs.Prelude.{◌≡◌, ◌<◌, ◌≤◌};
+ghost use Rattle.archive_state.specs.Refusals.{number_of, refusal_of};
+
+use time_base::{Time, Which};
+use version_store::VersionRefusal;
+
+/// Why a command is refused. A refused command changes nothing.
+#[derive(Clone, Copy, Debug, PartialEq, Eq)]
+pub enum Refusal {
+    /// The time lies before the last time of the archive.
+    TimeBack {
+        /// The last time.
+        last: Time,
+    },
+    /// The document's latest version or tombstone has this time.
+    SameTime,
+    /// The document has no version, or its latest is a tombstone.
+    NoDocument,
+    /// The text has too many bytes.
+    TooLong {
+        /// The most bytes that a text may have.
+        limit: u64,
+    },
+    /// The text isn't UTF-8.
+    BadText {
+        /// The length of its longest prefix that is UTF-8, in bytes.
+        offset: u64,
+    },
+    /// A limit of the archive would be passed.
+    Full {
+        /// What is full.
+        which: Which,
+        /// How many of these there may be.
+        limit: u64,
+    },
+}
+
+impl Refusal {
+    /// The refusal's number, by which a reply names it. Constant cost.
+    pub fn number(&self) -> u32
+        ensures { result ≡ number_of self.now }
+    {
+        match self {
+            Refusal::TimeBack { .. } => 2,
+            Refusal::SameTime => 3,
+            Refusal::NoDocument => 4,
+            Refusal::TooLong { .. } => 5,
+            Refusal::BadText { .. } => 6,
+            Refusal::Full { .. } => 10,
+        }
+    }
+}
+
+impl From<VersionRefusal> for Refusal {
+    ghost from_gives = { λ why refusal. refusal ≡ refusal_of why };
+
+    fn from(why: VersionRefusal) -> Refusal {
+        match why {
+            VersionRefusal::TimeBack { last } => Refusal::TimeBack { last },
+            VersionRefusal::SameTime => Refusal::SameTime,
+            VersionRefusal::NoDocument => Refusal::NoDocument,
+            VersionRefusal::Full { which, limit } => Refusal::Full { which, limit },
+        }
+    }
+}

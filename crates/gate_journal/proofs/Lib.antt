@@ -1,0 +1,11 @@
+pub mod SpellingLemmas
+pub mod WriteLemmas
+pub mod TornLemmas
+pub mod AppendLemmas
+pub mod PagesLemmas
+pub mod HeadLemmas
+pub mod GateLemmas
+pub mod ScanLemmas
+pub mod LoadLemmas
+pub mod StepLemmas
+pub mod Examples

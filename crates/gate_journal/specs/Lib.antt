@@ -1,0 +1,11 @@
+pub mod Header
+pub mod Records
+pub mod Framed
+pub mod Heads
+pub mod Spelled
+pub mod Refused
+pub mod Found
+pub mod InStep
+pub mod Crash
+pub mod State
+pub mod Scanning

@@ -1,0 +1,76 @@
+ghost use Rattle.std.specs.Prelude.{◌≡◌};
+
+use machine_model::Failed;
+use std::alloc::{AllocError, AllocFailed};
+use thiserror::Error;
+
+/// Why a journal was not loaded.
+#[derive(Clone, Copy, Debug, PartialEq, Eq, Error)]
+pub enum JournalError {
+    /// A call of the disk failed.
+    #[error("the disk failed")]
+    Failed,
+    /// The bytes are no journal. `at` is the place of the first byte that differs from the header,
+    /// or of an open gate whose record lies past the end.
+    #[error("no journal: byte {at}")]
+    NotJournal { at: u64 },
+    /// There was no memory.
+    #[error("out of memory")]
+    Memory,
+}
+
+/// Why a record was not appended.
+#[derive(Clone, Copy, Debug, PartialEq, Eq, Error)]
+pub enum AppendError {
+    /// A call of the disk failed. The journal is spent: whether it has the record shows only when it
+    /// is loaded again.
+    #[error("the disk failed")]
+    Failed,
+    /// The journal would have more than 2^40 bytes. Nothing was changed.
+    #[error("the journal is full")]
+    Full,
+}
+
+impl From<Failed> for JournalError {
+    ghost use Rattle.gate_journal.specs.declared.error.JournalError.TheVariants.{Failed};
+    ghost use Rattle.std.specs.Prelude.{◌≡◌};
+
+    ghost from_gives = { λ _ e. e ≡ Failed };
+
+    fn from(_: Failed) -> Self {
+        JournalError::Failed
+    }
+}
+
+impl From<AllocError> for JournalError {
+    ghost use Rattle.gate_journal.specs.declared.error.JournalError.TheVariants.{Memory};
+    ghost use Rattle.std.specs.Prelude.{◌≡◌};
+
+    ghost from_gives = { λ _ e. e ≡ Memory };
+
+    fn from(_: AllocError) -> Self {
+        JournalError::Memory
+    }
+}
+
+impl<T: Drop> From<AllocFailed<T>> for JournalError {
+    ghost use Rattle.gate_journal.specs.declared.error.JournalError.TheVariants.{Memory};
+    ghost use Rattle.std.specs.Prelude.{◌≡◌};
+
+    ghost from_gives = { λ _ e. e ≡ Memory };
+
+    fn from(_: AllocFailed<T>) -> Self {
+        JournalError::Memory
+    }
+}
+
+impl From<Failed> for AppendError {
+    ghost use Rattle.gate_journal.specs.declared.error.AppendError.TheVariants.{Failed};
+    ghost use Rattle.std.specs.Prelude.{◌≡◌};
+
+    ghost from_gives = { λ _ e. e ≡ Failed };
+
+    fn from(_: Failed) -> Self {
+        AppendError::Failed
+    }
+}

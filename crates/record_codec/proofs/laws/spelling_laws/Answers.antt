@@ -1,0 +1,14 @@
+use Rattle.record_codec.specs.Spelling.{spelling}
+use Rattle.record_codec.proofs.EntryLemmas.{one_entry, entry_none, a_fault}
+use Rattle.record_codec.proofs.FieldLemmas.{IsBytes-from_all}
+use Rattle.std.specs.Prelude.{refl}
+use Rattle.record_codec.proofs.laws.spelling_laws.Goals as goal
+
+pub returns-clause-one_entry : goal.returns-clause-one_entry
+returns-clause-one_entry c = one_entry
+
+pub returns-clause-no_fault : goal.returns-clause-no_fault
+returns-clause-no_fault c = λ e fits at fault. entry_none (spelling e) fault.0 e fault.2 fits refl
+
+pub returns-clause-a_fault : goal.returns-clause-a_fault
+returns-clause-a_fault c = λ bytes fits none. a_fault bytes (IsBytes-from_all bytes fits) none

@@ -1,0 +1,26 @@
+//! The entries of an archive's history, and how they are spelled as bytes in the journal.
+//!
+//! Each entry has one spelling (`specs/Spelling.antt`): a tag byte, fields of fixed width, numbers
+//! big-endian, and last a text to the end of the body. Contracts see an entry as a plain value and
+//! a text as its bytes. What is decoded is spelled by exactly the bytes that were given, and bytes
+//! that spell no entry are refused at the first field that is wrong (`specs/Reading.antt`).
+#![tactic(auto)]
+
+mod entry;
+mod error;
+mod fields;
+mod laws;
+mod reading;
+mod tags;
+mod text;
+mod writing;
+
+pub use entry::Entry;
+pub use error::CodecError;
+pub use laws::spelling_laws;
+pub use reading::decode;
+pub use text::{MOST_TEXT_BYTES, VersionText};
+pub use writing::{encode, encode_arrival, encode_deletion};
+
+#[cfg(test)]
+mod tests;

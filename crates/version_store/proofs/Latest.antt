@@ -1,0 +1,55 @@
+-- Where a document's latest change lies, and how that goes on as changes come.
+use Rattle.std.specs.Prelude.{◌≡◌, ℕ, ◌≤◌, Bool, true, false, cond, ◌==◌, List, [], ◌∷◌, ◌++◌, length, take, slice_get, Option, Some, None, refl}
+use Rattle.std.proofs.Common.{arith, ap, sym, ◌∙◌}
+use Rattle.std.proofs.lemmas.Option.{slice_get_within}
+use Rattle.std.proofs.lemmas.List.{take-append-le, append-nil}
+use Rattle.std.proofs.lemmas.List.Elements.{filter-append}
+use Rattle.std.proofs.Math.Seq.{take-append_seam}
+use Rattle.time_base.specs.declared.ids.DocId.{DocId}
+use Rattle.version_store.specs.declared.change.Change.{Change}
+use Rattle.version_store.specs.Changes.{changes_of, latest, last_of, last_time}
+use Rattle.std.specs.Option.{option_map}
+use Rattle.version_store.specs.Index.{IsLatest}
+use Rattle.version_store.proofs.Listed.{some_of, slice_get-end, slice_get-grown, last_of-push}
+
+module _ {A : Type 0} where
+  -- one more change of the document
+  pub changes_of-same : (doc : DocId) (changes : List (Change A)) (c : Change A) → c.doc.0 == doc.0 ≡ true → changes_of doc (changes ++ c ∷ []) ≡ changes_of doc changes ++ c ∷ []
+  changes_of-same doc changes c e = filter-append (λ d. d.doc.0 == doc.0) changes (c ∷ []) ∙ ap (λ b. changes_of doc changes ++ cond b (c ∷ []) []) e
+
+  -- one more change of another document
+  pub changes_of-other : (doc : DocId) (changes : List (Change A)) (c : Change A) → c.doc.0 == doc.0 ≡ false → changes_of doc (changes ++ c ∷ []) ≡ changes_of doc changes
+  changes_of-other doc changes c e = filter-append (λ d. d.doc.0 == doc.0) changes (c ∷ []) ∙ ap (λ b. changes_of doc changes ++ cond b (c ∷ []) []) e ∙ append-nil (changes_of doc changes)
+
+  -- where no change is known there is none
+  pub latest-none : (doc : DocId) (changes : List (Change A)) → IsLatest doc changes None → latest doc changes ≡ None
+  latest-none doc changes h = ap last_of h
+
+  -- the change at the place is the latest
+  pub latest-some : (doc : DocId) (changes : List (Change A)) (i : ℕ) → IsLatest doc changes (Some i) → latest doc changes ≡ slice_get changes i
+  latest-some doc changes i h = let at = some_of (slice_get changes i) _ h in ap last_of at.2.1 ∙ last_of-push (changes_of doc (take i changes)) at.0 ∙ sym at.1
+
+  -- a change of another document leaves it
+  pub IsLatest-other : (doc : DocId) (changes : List (Change A)) (place : Option ℕ) (c : Change A) → c.doc.0 == doc.0 ≡ false → IsLatest doc changes place → IsLatest doc (changes ++ c ∷ []) place
+  IsLatest-other doc changes None c e h = changes_of-other doc changes c e ∙ h
+  IsLatest-other doc changes (Some i) c e h =
+      let at = some_of (slice_get changes i) _ h in
+      let n : i ≤ length changes = omega (arith, slice_get_within changes i at.0 at.1) in
+      rw (slice_get-grown changes (c ∷ []) i at.0 at.1) (at.2.0, changes_of-other doc changes c e ∙ at.2.1 ∙ ap (λ xs. changes_of doc xs ++ at.0 ∷ []) (sym (take-append-le i changes (c ∷ []) n)))
+
+  -- a change of the document takes its place
+  pub IsLatest-same : (doc : DocId) (changes : List (Change A)) (c : Change A) → c.doc ≡ doc → c.doc.0 == doc.0 ≡ true → IsLatest doc (changes ++ c ∷ []) (Some (length changes))
+  IsLatest-same doc changes c is e =
+      rw (slice_get-end changes c) (is, changes_of-same doc changes c e ∙ ap (λ xs. changes_of doc xs ++ c ∷ []) (sym (take-append_seam changes (c ∷ []))))
+
+  -- the latest change, as one more comes
+  pub latest-push : (doc : DocId) (changes : List (Change A)) (c : Change A) → latest doc (changes ++ c ∷ []) ≡ cond (c.doc.0 == doc.0) (Some c) (latest doc changes)
+  latest-push doc changes c = go (c.doc.0 == doc.0) refl
+    where
+      go : (b : Bool) → c.doc.0 == doc.0 ≡ b → latest doc (changes ++ c ∷ []) ≡ cond b (Some c) (latest doc changes)
+      go true e = ap last_of (changes_of-same doc changes c e) ∙ last_of-push (changes_of doc changes) c
+      go false e = ap last_of (changes_of-other doc changes c e)
+
+  -- the time of the last change, as one more comes
+  pub last_time-push : (changes : List (Change A)) (c : Change A) → last_time (changes ++ c ∷ []) ≡ Some c.at
+  last_time-push changes c = ap (option_map (λ d. d.at)) (last_of-push changes c)

@@ -1,0 +1,16 @@
+use Rattle.std.proofs.Common.{◌∙◌, sym, ap, arith, Some, ◌<◌, vec_len}
+use Rattle.std.proofs.lemmas.Option.{slice_get_read}
+use Rattle.std.specs.Option.{option_copied}
+use Rattle.version_store.proofs.Latest.{latest-some}
+use Rattle.version_store.proofs.Indexed.{known, known-within}
+use Rattle.version_store.proofs.directory.Directory.latest.Goals as goal
+
+pub index-requires : goal.index-requires
+index-requires c = omega (arith, known-within _ _ _ c.args.doc _ c.self.invariant (sym c.get.ensures.value ∙ ap option_copied c.in-Some.is))
+
+pub returns-in-Some : goal.returns-in-Some
+returns-in-Some c =
+    let at = sym c.get.ensures.value ∙ ap option_copied c.in-Some.is in
+    let within : c.in-Some.place.now < vec_len c.self.inside.log = omega (arith, known-within _ _ _ c.args.doc _ c.self.invariant at) in
+    rw (← c.self.view_is) (sym (latest-some c.args.doc c.self.inside.log.items c.in-Some.place.now (known _ _ _ c.args.doc (Some c.in-Some.place.now) c.self.invariant at)
+    ∙ slice_get_read c.self.inside.log.items (vec_len c.self.inside.log) c.in-Some.place.now c.index.result.now (omega arith) within c.index.ensures))

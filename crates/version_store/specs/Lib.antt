@@ -1,0 +1,6 @@
+pub mod Changes
+pub mod Held
+pub mod Index
+pub mod Links
+pub mod Refusals
+pub mod Tests
