@@ -6,8 +6,18 @@
 #![tactic(auto)]
 
 #[cfg(test)]
+mod broken;
+#[cfg(test)]
+mod deletions;
+#[cfg(test)]
+mod faults;
+#[cfg(test)]
+mod foreign;
+#[cfg(test)]
 mod replies;
 #[cfg(test)]
 mod rig;
 #[cfg(test)]
 mod statuses;
+#[cfg(test)]
+mod stops;
