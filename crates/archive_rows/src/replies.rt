@@ -47,9 +47,7 @@ fn an_arrival_is_in_the_journal_and_a_second_of_its_time_is_refused(
 }
 
 #[test]
-fn a_refused_arrival_changes_nothing_and_a_later_run_goes_on(
-    rt: HostRuntime,
-) -> Result<(), Fail> {
+fn a_refused_arrival_changes_nothing_and_a_later_run_goes_on(rt: HostRuntime) -> Result<(), Fail> {
     let alloc = rt.alloc();
     let first = expect_replies(
         &rt,
