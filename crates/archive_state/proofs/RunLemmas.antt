@@ -1,5 +1,4 @@
--- Where a run stands, as a recursion on its turns: this is what a loop carries. It joins over turns in a row, and gives what the
--- definitions of specs/Runs say of an image.
+-- Where a run stands joins over turns in a row, and gives what the definitions of specs/Runs say of an image.
 use Rattle.std.proofs.Common.{◌≡◌, ◌⊎◌, ℕ, ◌+◌, ◌<◌, ◌≤◌, zero, suc, List, [], ◌∷◌, ◌++◌, length, take, refl, inl, inr, ap, subst, sym, ◌∙◌, arith, append_assoc, length-append}
 use Rattle.std.proofs.lemmas.Bool.{cases_lt}
 use Rattle.std.proofs.lemmas.List.{append-nil, append_cancel_left}
@@ -10,19 +9,7 @@ use Rattle.machine_model.specs.Moments.{LeavesOnly, GoesOn}
 use Rattle.machine_model.specs.Pushes.{IsPrefix, OnlyShows}
 use Rattle.machine_model.proofs.MomentLemmas.{joined, goes_on_joins}
 use Rattle.archive_state.specs.Runs.{Turn, IsRun, state_after, shown_by, IsAcknowledged, Reopens}
-
--- An image, with the bytes that the run has shown then: at the state before the turns with nothing shown, at the next state with a
--- part of the first reply shown, or further on.
-abbrev pub Stood : {S R : Type 0} → (R → List ℕ) → (S → Bytes → Type 0) → S → List (Turn R S) → Bytes → List ℕ → Type 0
-Stood text stands state [] image shown = stands state image × (shown ≡ [])
-Stood text stands state (turn ∷ turns) image shown = (stands state image × (shown ≡ []))
-    ⊎ ((stands turn.next image × IsPrefix shown (text turn.reply))
-    ⊎ ((rest : List ℕ) × (shown ≡ text turn.reply ++ rest) × Stood text stands turn.next turns image rest))
-
--- the state after all turns
-abbrev pub last_state : {S R : Type 0} → S → List (Turn R S) → S
-last_state state [] = state
-last_state state (turn ∷ turns) = last_state turn.next turns
+use Rattle.archive_state.specs.Standing.{Stood, last_state, Carried}
 
 pub state_after_all : {S R : Type 0} (state : S) (turns : List (Turn R S)) → state_after state turns (length turns) ≡ last_state state turns
 state_after_all state [] = refl
@@ -60,10 +47,13 @@ stood_late text stands state [] further image shown stood = stood
 stood_late text stands state (t ∷ turns) further image shown stood =
     inr (inr (shown_by text turns ++ shown, append_assoc (text t.reply) (shown_by text turns) shown, stood_late text stands t.next turns further image shown stood))
 
--- Turns that were carried out: each image left since the start stands by what was shown of the run then.
-pub record Carried {S R : Type 0} (text : R → List ℕ) (stands : S → Bytes → Type 0) (state : S) (turns : List (Turn R S)) (before : List ℕ) (old new : DiskState) : Type 0 where
-  pub goes_on : GoesOn old new
-  pub images : LeavesOnly old new (λ image beside. (shown : List ℕ) × (beside ≡ before ++ shown) × Stood text stands state turns image shown)
+-- where more turns follow, turns that were carried out are still so
+pub carried_on : {S R : Type 0} (text : R → List ℕ) (stands : S → Bytes → Type 0) (state : S) (turns further : List (Turn R S)) (before : List ℕ) (old new : DiskState)
+    → Carried text stands state turns before old new → Carried text stands state (turns ++ further) before old new
+carried_on text stands state turns further before old new carried = record {
+  goes_on = carried.goes_on;
+  images = λ image beside left. let was = carried.images image beside left in (was.0, was.1, stood_early text stands state turns further image was.0 was.2);
+}
 
 -- turns in a row
 pub carried_joins : {S R : Type 0} {text : R → List ℕ} {stands : S → Bytes → Type 0} {state : S} {turns : List (Turn R S)} {before : List ℕ} {old mid : DiskState} (further : List (Turn R S)) (new : DiskState)

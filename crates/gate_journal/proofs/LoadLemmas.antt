@@ -35,6 +35,18 @@ reads_leave a b same = λ image beside left.
     let L : DiskState → Type 0 = λ d. LeftSince d (moment a) image beside in
     since_now a image beside (subst L same left)
 
+-- a sync, and then reads
+pub sync_reads : (a b c : DiskState) → Syncs a b → OnlyReads b c → Syncs a c
+sync_reads a b c syncs same = record {
+  goes_on = goes_on_joins syncs.goes_on (goes_on_reads b c same);
+  holds = ap (λ (d : DiskState). d.holds) same ∙ syncs.holds;
+  beside = ap (λ (d : DiskState). d.now.beside) same ∙ syncs.beside;
+  during = joined (λ image beside. Leaves a.now image beside) syncs.goes_on syncs.during (goes_on_reads b c same) (λ image beside left.
+      let now = reads_leave b c same image beside left in
+      let B : List ℕ → Type 0 = λ x. Leaves a.now image x in
+      subst B (sym now.1) (syncs.during image b.now.beside (allowed_left b (moment a) image now.0)));
+}
+
 -- after a good sync, and a call that only fails, there is one image
 pub one_settled : (a b c : DiskState) → Syncs a b → IsSynced a b → OnlyFails b c → Only c.holds c
 one_settled a b c syncs synced same =

@@ -1,4 +1,4 @@
-ghost use Rattle.std.specs.Prelude.{◌≡◌, ◌+◌, ◌<◌, ◌≤◌, ◌∷◌, [], List, ℕ, All, take, IsTrue, IfOk, OnOk, IsErrOf, vec_len};
+ghost use Rattle.std.specs.Prelude.{◌≡◌, ◌+◌, ◌<◌, ◌≤◌, ◌∷◌, [], List, ℕ, All, length, take, IsTrue, IfOk, OnOk, IsErrOf, vec_len};
 ghost use Rattle.machine_model.specs.Causes.{HasCause, Rose};
 ghost use Rattle.machine_model.specs.Calls.{OnlyReads, Syncs};
 ghost use Rattle.machine_model.specs.Images.{Only};
@@ -22,13 +22,13 @@ use std::alloc::Global;
 impl Journal {
     /// Loads the journal of a disk, and answers where its records lie, in order.
     ///
-    /// It syncs first. A journal of at most 17 bytes is new, whatever they are: the header and a closed gate are
-    /// written and synced. No other journal is written to.
-    /// `NotJournal`: the bytes are no journal, which shows at that place. `Failed`: the disk failed. `Memory`: there
-    /// was none for the window or the heads.
-    /// Costs time in the length of the journal, or in the number of its records where their bodies are long:
-    /// it is read in pieces of 64 KiB (or what is left), each from a gate on, and never a call a record. Takes
-    /// 24 bytes a record and the window.
+    /// It syncs first. A journal of at most 17 bytes is new, whatever they are: the header and a closed
+    /// gate are written and synced.
+    /// `NotJournal`: the bytes are no journal, which shows at that place. `Failed`: the disk failed.
+    /// `Memory`: there was none for a piece of the journal, or for the heads.
+    /// Costs time in the length of the journal. It is read once, in pieces of 64 KiB (or what is left) that
+    /// begin at least 65,532 bytes apart; a body past the end of a piece is passed over. Takes 64 KiB, and 24
+    /// bytes a record.
     pub fn load<D: Disk>(alloc: Global, disk: &mut D) -> Result<(Journal, Vec<Head>), JournalError>
         ensures only { D.Disk.only disk.old disk.new }
         ensures failed { IsErrOf result JournalError.Failed → Rose (D.disk disk.old).faults (D.disk disk.new).faults }
@@ -50,6 +50,8 @@ impl Journal {
             KeepsBodies bodies (D.disk disk.old) (D.disk disk.new) }
         ensures finds { D.disk_tells → (bodies : List (List ℕ)) → EachSpells (D.disk disk.old) bodies →
             IfOk result (λ p. IsLaidOut bodies p.0.end p.1.items × IsInStep (D.disk disk.new) p.0.end bodies) }
+        // A journal that isn't new is synced and read, and nothing else.
+        ensures longer { D.disk_tells → 17 < length (D.disk disk.old).holds.journal → Syncs (D.disk disk.old) (D.disk disk.new) }
         ensures pages { D.disk_tells → KeepsPages (D.disk disk.old) (D.disk disk.new) }
         ensures pages_hold { D.disk_tells → OnOk result ((D.disk disk.new).holds.pages ≡ (D.disk disk.old).holds.pages) }
         ensures pages_reach { (D.disk disk.new).reach.pages ≡ (D.disk disk.old).reach.pages }

@@ -18,7 +18,10 @@ abbrev pub ◌>>=◌ : {A B : Type 0} → Result A ℕ → (A → Result B ℕ) 
 
 -- a number of so many bytes, and the bytes after it
 abbrev pub number_at : Width → List ℕ → Result (ℕ × List ℕ) ℕ
-number_at w bytes = if nat_lt (length bytes) (byte_len w) then Err (length bytes) else Ok (from_be_bytes w (take (byte_len w) bytes), drop (byte_len w) bytes)
+number_at w bytes =
+    if nat_lt (length bytes) (byte_len w)
+    then Err (length bytes)
+    else Ok (from_be_bytes w (take (byte_len w) bytes), drop (byte_len w) bytes)
 
 -- a document, and the bytes after it
 abbrev pub doc_at : List ℕ → Result (DocId × List ℕ) ℕ
@@ -40,7 +43,10 @@ time_at bytes = do
 
 -- a text that takes all the bytes
 abbrev pub text_at : List ℕ → Result (List ℕ) ℕ
-text_at bytes = if nat_le (length bytes) most_text && is_utf8 bytes then Ok bytes else Err (length bytes)
+text_at bytes =
+    if nat_le (length bytes) most_text && is_utf8 bytes
+    then Ok bytes
+    else Err (length bytes)
 
 -- the end, where no byte is left
 abbrev pub end_at : List ℕ → Result (Unit {0}) ℕ

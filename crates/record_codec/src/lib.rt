@@ -11,6 +11,7 @@ mod error;
 mod fields;
 mod laws;
 mod reading;
+mod tags;
 mod text;
 mod writing;
 
@@ -20,3 +21,6 @@ pub use laws::spelling_laws;
 pub use reading::decode;
 pub use text::{MOST_TEXT_BYTES, VersionText};
 pub use writing::{encode, encode_arrival, encode_deletion};
+
+#[cfg(test)]
+mod tests;

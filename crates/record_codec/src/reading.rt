@@ -9,6 +9,7 @@ ghost use Rattle.record_codec.specs.Decoding.{Decodes, IsReadAs};
 use crate::entry::Entry;
 use crate::error::CodecError;
 use crate::fields::{FieldError, change_at, end_at, fault, text_at};
+use crate::tags::{ARRIVE, DELETE};
 use std::alloc::Global;
 
 #[tactic(auto, unfolding(crate::specs::Reading::arrive_at))]
@@ -34,8 +35,8 @@ fn entry_at(alloc: Global, bytes: &[u8]) -> Result<Entry, FieldError>
     ensures { Gives (λ e. e) result (entry_at bytes.now) }
 {
     match bytes {
-        [1, rest @ ..] => arrive_at(alloc, rest),
-        [2, rest @ ..] => delete_at(rest),
+        [ARRIVE, rest @ ..] => arrive_at(alloc, rest),
+        [DELETE, rest @ ..] => delete_at(rest),
         _ => Err(fault(bytes)),
     }
 }

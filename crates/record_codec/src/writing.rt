@@ -1,22 +1,13 @@
 //! Spelling an entry.
 ghost use Rattle.std.specs.Prelude.{◌≡◌, ◌<◌, ◌≤◌, ◌^◌, length, vec_len, IfOk};
 ghost use Rattle.record_codec.specs.declared.entry.Entry.TheVariants.{Arrive, Delete};
-ghost use Rattle.record_codec.specs.Spelling.{spelling, HasShortText};
+ghost use Rattle.record_codec.specs.Spelling.{spelling, IsEntry, HasShortText};
 
 use crate::entry::Entry;
+use crate::tags::{ARRIVE, CHANGE_BYTES, DELETE};
 use crate::text::MOST_TEXT_BYTES;
 use std::alloc::{AllocError, Global};
 use time_base::{DocId, Time};
-
-/// The tag of an arrival, an entry's first byte.
-const ARRIVE: u8 = 1;
-
-/// The tag of a deletion.
-const DELETE: u8 = 2;
-
-/// The bytes of the tag, the document and the time, with which each entry begins that changes a
-/// document.
-const HEAD_BYTES: usize = 13;
 
 /// The spelling of an arrival. Costs the text's length; the text is copied once.
 pub fn encode_arrival(
@@ -26,11 +17,12 @@ pub fn encode_arrival(
     text: &str,
 ) -> Result<Vec<u8>, AllocError>
     requires { length text.now ≤ MOST_TEXT_BYTES }
+    ensures in_range { IsEntry (Arrive doc at text.now) }
     ensures spelled { IfOk result (λ v. v.items ≡ spelling (Arrive doc at text.now)) }
     ensures at_least { IfOk result (λ v. 13 ≤ length v.items) }
     ensures at_most { IfOk result (λ v. length v.items < 2 ^ 32) }
 {
-    let mut out = Vec::with_capacity(alloc, HEAD_BYTES + text.len())?;
+    let mut out = Vec::with_capacity(alloc, CHANGE_BYTES + text.len())?;
     out.push(ARRIVE)?;
     out.extend_from_slice(&doc.0.to_be_bytes())?;
     out.extend_from_slice(&at.seconds().to_be_bytes())?;
@@ -40,10 +32,11 @@ pub fn encode_arrival(
 
 /// The spelling of a deletion, of 13 bytes. Constant cost.
 pub fn encode_deletion(alloc: Global, doc: DocId, at: Time) -> Result<Vec<u8>, AllocError>
+    ensures in_range { IsEntry (Delete doc at) }
     ensures spelled { IfOk result (λ v. v.items ≡ spelling (Delete doc at)) }
     ensures len { IfOk result (λ v. length v.items ≡ 13) }
 {
-    let mut out = Vec::with_capacity(alloc, HEAD_BYTES)?;
+    let mut out = Vec::with_capacity(alloc, CHANGE_BYTES)?;
     out.push(DELETE)?;
     out.extend_from_slice(&doc.0.to_be_bytes())?;
     out.extend_from_slice(&at.seconds().to_be_bytes())?;
@@ -53,6 +46,7 @@ pub fn encode_deletion(alloc: Global, doc: DocId, at: Time) -> Result<Vec<u8>, A
 /// The spelling of an entry. Costs its length.
 pub fn encode(alloc: Global, entry: &Entry) -> Result<Vec<u8>, AllocError>
     requires { HasShortText entry.now }
+    ensures in_range { IsEntry entry.now }
     ensures spelled { IfOk result (λ v. v.items ≡ spelling entry.now) }
     ensures at_least { IfOk result (λ v. 13 ≤ length v.items) }
     ensures at_most { IfOk result (λ v. length v.items < 2 ^ 32) }

@@ -18,7 +18,7 @@ use Rattle.time_base.specs.declared.time.Time.{Time}
 use Rattle.version_store.specs.declared.refusal.VersionRefusal.TheVariants.{TimeBack}
 use Rattle.version_store.specs.Changes.{put, documents}
 use Rattle.version_store.specs.Refusals.{time_back}
-use Rattle.version_store.specs.Index.{Places, IsLatest, IsLinked, IsIndexed}
+use Rattle.version_store.specs.Index.{Places, IsLatest, IsLinked, AreLinked, IsIndexed}
 use Rattle.version_store.specs.Links.{AreBack, IsJump}
 use Rattle.version_store.proofs.Listed.{some_of, slice_get-end, slice_get-grown, slice_get-either}
 use Rattle.version_store.proofs.Latest.{IsLatest-other, IsLatest-same}
@@ -35,9 +35,7 @@ same-is a b e = ap (λ (n : ℕ). let d : DocId = record { 0 = n } in d) (eqb-tr
 -- entries in another order
 pub IsIndexed-reordered : (log : List (Change TextPlace)) (links : List Link) (m n : Places) → IsReordered same m n → IsIndexed log links m → IsIndexed log links n
 IsIndexed-reordered log links m n r h = record {
-  ascending = h.ascending;
-  as_many = h.as_many;
-  linked = h.linked;
+  way = h.way;
   found = λ doc. rw (r.2 doc) (h.found doc);
   each_once = IsPermutation-trans (keys n) (keys m) (documents log) (IsPermutation-map (λ e. e.0) n.entries m.entries (IsPermutation-sym m.entries n.entries r.0)) h.each_once;
 }
@@ -52,8 +50,8 @@ IsLinked-push log c i doc link n h = let to = some_of (slice_get log link.jump) 
 }
 
 -- each place of the log has a link
-pub linked-at : (log : List (Change TextPlace)) (links : List Link) (m : Places) → IsIndexed log links m → (i : ℕ) (c : Change TextPlace) → slice_get log i ≡ Some c → (link : Link) × (slice_get links i ≡ Some link) × IsLinked log i c.doc link
-linked-at log links m h i c e =
+pub linked-at : (log : List (Change TextPlace)) (links : List Link) → AreLinked log links → (i : ℕ) (c : Change TextPlace) → slice_get log i ≡ Some c → (link : Link) × (slice_get links i ≡ Some link) × IsLinked log i c.doc link
+linked-at log links h i c e =
     let n : i < length links = omega (arith, slice_get_within log i c e, h.as_many) in
     go (slice_get links i) refl n
   where
@@ -87,14 +85,12 @@ each_once-push log c m n p puts = rw (documents-push log c) (go (get same m c.do
         rw (put-there 0 c.doc (documents log) (documents-above log) (sym is ∙ ap is_some e))
         (subst (λ (ks : List DocId). IsPermutation ks (documents log)) (sym (ap keys_of q ∙ keys-set_value (same c.doc) m.entries (length log))) p)
 
--- the index as one more change comes
-pub IsIndexed-push : (log : List (Change TextPlace)) (links : List Link) (m n : Places) (c : Change TextPlace) (link : Link) → IsIndexed log links m → ((d : Change TextPlace) → 0 < length log → (get_or log (length log - 1) d).at.seconds ≤ c.at.seconds) → IsLinked (log ++ c ∷ []) (length log) c.doc link → Updates same m n c.doc (Some (length log)) → PutsEntry same m n c.doc (length log) (get same m c.doc) → IsIndexed (log ++ c ∷ []) (links ++ link ∷ []) n
-IsIndexed-push log links m n c link h up new u puts = record {
+-- the links as one more change comes
+pub AreLinked-push : (log : List (Change TextPlace)) (links : List Link) (c : Change TextPlace) (link : Link) → AreLinked log links → ((d : Change TextPlace) → 0 < length log → (get_or log (length log - 1) d).at.seconds ≤ c.at.seconds) → IsLinked (log ++ c ∷ []) (length log) c.doc link → AreLinked (log ++ c ∷ []) (links ++ link ∷ [])
+AreLinked-push log links c link h up new = record {
   ascending = IsNonDecreasingBy-push (λ d. d.at.seconds) log c h.ascending up;
   as_many = omega (arith, length-append links (link ∷ []), length-append log (c ∷ []), h.as_many);
   linked = λ i d l at to. each i d l (slice_get-either log c i d at) (slice_get-either links link i l to);
-  found = found-push log c m n h.found u;
-  each_once = each_once-push log c m n h.each_once puts;
 }
   where
     each : (i : ℕ) (d : Change TextPlace) (l : Link) → (slice_get log i ≡ Some d) ⊎ ((i ≡ length log) × (d ≡ c)) → (slice_get links i ≡ Some l) ⊎ ((i ≡ length links) × (l ≡ link)) → IsLinked (log ++ c ∷ []) i d.doc l
@@ -112,8 +108,8 @@ pub known-within : (log : List (Change TextPlace)) (links : List Link) (m : Plac
 known-within log links m doc i h e = let at = some_of (slice_get log i) _ (known log links m doc (Some i) h e) in slice_get_within log i at.0 at.1
 
 -- no link leads forward
-pub back : (log : List (Change TextPlace)) (links : List Link) (m : Places) → IsIndexed log links m → AreBack links
-back log links m h i link e =
+pub back : (log : List (Change TextPlace)) (links : List Link) → AreLinked log links → AreBack links
+back log links h i link e =
     let n : i < length log = omega (arith, slice_get_within links i link e, h.as_many) in
     go (slice_get log i) refl n
   where
@@ -144,9 +140,9 @@ IsLinked-behind log links m c link i h e before back moves jump = record {
     target (inr to) =
         let at = some_of (slice_get log i) _ (known log links m c.doc (Some i) h e) in
         let last = some_of (slice_get links i) _ to in
-        let there = some_of (slice_get log last.0.jump) _ (h.linked i at.0 last.0 at.1 last.1).same in
+        let there = some_of (slice_get log last.0.jump) _ (h.way.linked i at.0 last.0 at.1 last.1).same in
         let far = some_of (slice_get links last.0.jump) _ last.2 in
-        let end = some_of (slice_get log far.0.jump) _ (h.linked last.0.jump there.0 far.0 there.1 far.1).same in
+        let end = some_of (slice_get log far.0.jump) _ (h.way.linked last.0.jump there.0 far.0 there.1 far.1).same in
         let doc : end.0.doc ≡ c.doc = cc (end.2, there.2, at.2.0) in
         (end.0, ap (slice_get log) far.2 ∙ end.1, doc)
 
@@ -166,5 +162,9 @@ not_back log at h d n =
 -- the index after the calls that enter a change
 pub IsIndexed-entered : {E : Type 0} (log log2 : List (Change TextPlace)) (links links2 : List Link) (m n : Places) (c : Change TextPlace) (link : Link) (r : Result (Option ℕ) E) → IsIndexed log links m → time_back c.at log ≡ None → IsLinked (log ++ c ∷ []) (length log) c.doc link → log2 ≡ log ++ c ∷ [] → links2 ≡ links ++ link ∷ [] → IsOk r → IfOk r (λ old. old ≡ get same m c.doc) → OnOk r (Updates same m n c.doc (Some (length log))) → IfOk r (PutsEntry same m n c.doc (length log)) → IsIndexed log2 links2 n
 IsIndexed-entered log log2 links links2 m n c link (Ok old) h up new is_log is_links k is_old u puts =
-    rw (is_log, is_links) (IsIndexed-push log links m n c link h (not_back log c.at up) new u (subst (λ (o : Option ℕ). PutsEntry same m n c.doc (length log) o) is_old puts))
+    rw (is_log, is_links) (record {
+      way = AreLinked-push log links c link h.way (not_back log c.at up) new;
+      found = found-push log c m n h.found u;
+      each_once = each_once-push log c m n h.each_once (subst (λ (o : Option ℕ). PutsEntry same m n c.doc (length log) o) is_old puts);
+    })
 IsIndexed-entered log log2 links links2 m n c link (Err e) h up new is_log is_links k is_old u puts = absurd (false≢true k)

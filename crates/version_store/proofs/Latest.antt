@@ -1,5 +1,5 @@
 -- Where a document's latest change lies, and how that goes on as changes come.
-use Rattle.std.specs.Prelude.{◌≡◌, ℕ, ◌≤◌, true, false, cond, ◌==◌, List, [], ◌∷◌, ◌++◌, length, take, slice_get, Option, Some, None}
+use Rattle.std.specs.Prelude.{◌≡◌, ℕ, ◌≤◌, Bool, true, false, cond, ◌==◌, List, [], ◌∷◌, ◌++◌, length, take, slice_get, Option, Some, None, refl}
 use Rattle.std.proofs.Common.{arith, ap, sym, ◌∙◌}
 use Rattle.std.proofs.lemmas.Option.{slice_get_within}
 use Rattle.std.proofs.lemmas.List.{take-append-le, append-nil}
@@ -7,7 +7,8 @@ use Rattle.std.proofs.lemmas.List.Elements.{filter-append}
 use Rattle.std.proofs.Math.Seq.{take-append_seam}
 use Rattle.time_base.specs.declared.ids.DocId.{DocId}
 use Rattle.version_store.specs.declared.change.Change.{Change}
-use Rattle.version_store.specs.Changes.{changes_of, latest, last_of}
+use Rattle.version_store.specs.Changes.{changes_of, latest, last_of, last_time}
+use Rattle.std.specs.Option.{option_map}
 use Rattle.version_store.specs.Index.{IsLatest}
 use Rattle.version_store.proofs.Listed.{some_of, slice_get-end, slice_get-grown, last_of-push}
 
@@ -40,3 +41,15 @@ module _ {A : Type 0} where
   pub IsLatest-same : (doc : DocId) (changes : List (Change A)) (c : Change A) → c.doc ≡ doc → c.doc.0 == doc.0 ≡ true → IsLatest doc (changes ++ c ∷ []) (Some (length changes))
   IsLatest-same doc changes c is e =
       rw (slice_get-end changes c) (is, changes_of-same doc changes c e ∙ ap (λ xs. changes_of doc xs ++ c ∷ []) (sym (take-append_seam changes (c ∷ []))))
+
+  -- the latest change, as one more comes
+  pub latest-push : (doc : DocId) (changes : List (Change A)) (c : Change A) → latest doc (changes ++ c ∷ []) ≡ cond (c.doc.0 == doc.0) (Some c) (latest doc changes)
+  latest-push doc changes c = go (c.doc.0 == doc.0) refl
+    where
+      go : (b : Bool) → c.doc.0 == doc.0 ≡ b → latest doc (changes ++ c ∷ []) ≡ cond b (Some c) (latest doc changes)
+      go true e = ap last_of (changes_of-same doc changes c e) ∙ last_of-push (changes_of doc changes) c
+      go false e = ap last_of (changes_of-other doc changes c e)
+
+  -- the time of the last change, as one more comes
+  pub last_time-push : (changes : List (Change A)) (c : Change A) → last_time (changes ++ c ∷ []) ≡ Some c.at
+  last_time-push changes c = ap (option_map (λ d. d.at)) (last_of-push changes c)

@@ -3,3 +3,7 @@ pub mod Latest
 pub mod Known
 pub mod Indexed
 pub mod Mapped
+pub mod Valid
+pub mod Law
+pub mod Steps
+pub mod Ascending

@@ -1,5 +1,5 @@
 -- Elements of lists by their places.
-use Rattle.std.specs.Prelude.{◌≡◌, ◌⊎◌, ℕ, zero, suc, ◌-◌, List, [], ◌∷◌, ◌++◌, length, slice_get, Option, Some, None, IsSomeAnd, refl}
+use Rattle.std.specs.Prelude.{◌≡◌, ◌⊎◌, ℕ, zero, suc, ◌-◌, ◌<◌, List, [], ◌∷◌, ◌++◌, length, slice_get, Option, Some, None, IsSomeAnd, refl}
 use Rattle.std.proofs.Common.{arith, ap, inl, inr, length-append}
 use Rattle.version_store.specs.Changes.{last_of}
 
@@ -29,3 +29,9 @@ slice_get-either [] y zero x h = inr (refl, cc)
 slice_get-either [] y (suc i) x h = absurd (cc)
 slice_get-either (z ∷ xs) y zero x h = inl h
 slice_get-either (z ∷ xs) y (suc i) x h = elim (slice_get-either xs y i x h) [ inl e ↦ inl e | inr e ↦ inr (ap suc e.0, e.1) ]
+
+-- an element at a place of the list
+pub element_at : {A : Type 0} (xs : List A) (i : ℕ) → i < length xs → (x : A) × (slice_get xs i ≡ Some x)
+element_at [] i n = absurd (omega arith)
+element_at (x ∷ xs) zero n = (x, refl)
+element_at (x ∷ xs) (suc i) n = element_at xs i (omega arith)

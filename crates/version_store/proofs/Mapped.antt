@@ -1,7 +1,7 @@
 -- Changes that hold something else are the same changes otherwise.
-use Rattle.std.specs.Prelude.{◌≡◌, ℕ, ◌-◌, ◌==◌, ◌&&◌, nat_lt, nat_le, Bool, true, false, cond, if◌then◌else◌, List, [], ◌∷◌, ◌++◌, map, filter, fold, length, slice_get, Option, Some, None, is_some, is_none, option_and_then, refl}
+use Rattle.std.specs.Prelude.{◌≡◌, ℕ, ◌-◌, ◌==◌, ◌&&◌, nat_lt, nat_le, Bool, true, false, cond, List, [], ◌∷◌, map, filter, length, Option, Some, None, is_some, is_none, option_and_then, refl}
 use Rattle.std.specs.Option.{option_map}
-use Rattle.std.proofs.Common.{ap, sym, ◌∙◌}
+use Rattle.std.proofs.Common.{ap, ◌∙◌}
 use Rattle.std.proofs.lemmas.List.{length-map}
 use Rattle.std.proofs.lemmas.List.Folds.{fold-map}
 use Rattle.std.proofs.lemmas.Option.{slice_get-map}
@@ -14,7 +14,7 @@ use Rattle.time_base.specs.declared.which.Which.TheVariants.{Documents, Versions
 use Rattle.version_store.specs.declared.refusal.VersionRefusal.{VersionRefusal}
 use Rattle.version_store.specs.declared.refusal.VersionRefusal.TheVariants.{TimeBack, SameTime, NoDocument, Full}
 use Rattle.version_store.specs.Refusals.{arrive_refusal, delete_refusal, no_document, time_back, same_time, full_documents, full_versions}
-use Rattle.version_store.specs.Tests.{first_of, when}
+use Rattle.version_store.specs.Tests.{when}
 
 -- a choice under a function
 pub cond_under : {X Y : Type 0} (g : X → Y) (b : Bool) (x y : X) → cond b (g x) (g y) ≡ g (cond b x y)
@@ -59,6 +59,7 @@ module _ {A B : Type 0} (f : A → B) where
     where
       one : (doc : DocId) → is_some (held_at doc t (map (mapped f) changes)) ≡ is_some (held_at doc t changes)
       one doc = ap is_some (held_at-mapped doc t changes) ∙ is_some-mapped (held_at doc t changes)
+
       go : (docs : List DocId) → filter (λ doc. is_some (held_at doc t (map (mapped f) changes))) docs ≡ filter (λ doc. is_some (held_at doc t changes)) docs
       go [] = refl
       go (d ∷ docs) = rw (one d, go docs) refl
@@ -79,6 +80,7 @@ module _ {A B : Type 0} (f : A → B) where
       held : (o : Option A) → is_none (option_map f o) ≡ is_none o
       held None = refl
       held (Some x) = refl
+
       go : (o : Option (Change A)) → is_none (option_and_then (λ c. c.held) (option_map (mapped f) o)) ≡ is_none (option_and_then (λ c. c.held) o)
       go None = refl
       go (Some c) = held c.held
@@ -88,6 +90,7 @@ module _ {A B : Type 0} (f : A → B) where
     where
       cause : Bool → Option VersionRefusal
       cause b = when (b && nat_le (limit_of Documents) (length (documents changes))) (Full Documents (limit_of Documents))
+
       go : (o : Option (Change A)) → cause (is_none (option_map (mapped f) o)) ≡ cause (is_none o)
       go None = refl
       go (Some c) = refl

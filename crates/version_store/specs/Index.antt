@@ -1,5 +1,5 @@
 -- How a directory finds the changes of one document among those of all.
-use Rattle.std.specs.Prelude.{◌≡◌, ℕ, ◌+◌, ◌≤◌, List, [], ◌∷◌, ◌++◌, length, take, slice_get, Option, Some, IsSome, IsSomeAnd, MatchOption, ◌==◌, IsPermutation}
+use Rattle.std.specs.Prelude.{◌≡◌, ℕ, ◌+◌, ◌≤◌, List, [], ◌∷◌, ◌++◌, length, take, slice_get, Option, Some, IsSome, IsSomeAnd, MatchOption, ◌==◌, IsPermutation, count_by}
 use Rattle.std.specs.List.Sorted.{IsNonDecreasingBy}
 use Rattle.std.specs.HashMap.{HashMap, get, keys}
 use Rattle.std.specs.declared.hash.FoldHasher.{FoldHasher}
@@ -8,7 +8,7 @@ use Rattle.time_base.specs.declared.ids.DocId.{DocId}
 use Rattle.time_base.specs.declared.text_place.TextPlace.{TextPlace}
 use Rattle.version_store.specs.declared.change.Change.{Change}
 use Rattle.version_store.specs.declared.link.Link.{Link}
-use Rattle.version_store.specs.Changes.{changes_of, documents}
+use Rattle.version_store.specs.Changes.{changes_of, documents, held_at}
 
 -- a map from documents to places
 abbrev pub Places : Type 0
@@ -27,10 +27,23 @@ pub record IsLinked (log : List (Change TextPlace)) (i : ℕ) (doc : DocId) (lin
   pub moves : IsSome link.before → 1 ≤ link.span
   pub same : IsSomeAnd (slice_get log link.jump) (λ c. c.doc ≡ doc)
 
--- the links and the map lead to each document's changes, whose times don't fall
-pub record IsIndexed (log : List (Change TextPlace)) (links : List Link) (latest : Places) : Type 0 where
+-- the times of the log don't fall, and each of its places has a link
+pub record AreLinked (log : List (Change TextPlace)) (links : List Link) : Type 0 where
   pub ascending : IsNonDecreasingBy (λ c. c.at.seconds) log
   pub as_many : length links ≡ length log
   pub linked : (i : ℕ) (c : Change TextPlace) (link : Link) → slice_get log i ≡ Some c → slice_get links i ≡ Some link → IsLinked log i c.doc link
+
+-- the map leads to each document's latest change, and has each document once
+pub record IsIndexed (log : List (Change TextPlace)) (links : List Link) (latest : Places) : Type 0 where
+  pub way : AreLinked log links
   pub found : (doc : DocId) → IsLatest doc log (get (λ a b. a.0 == b.0) latest doc)
   pub each_once : IsPermutation (keys latest) (documents log)
+
+-- a place of a document's changes such that none behind it counts at a time
+pub record Leads (doc : DocId) (t : ℕ) (log : List (Change TextPlace)) (i : ℕ) : Type 0 where
+  pub of : IsSomeAnd (slice_get log i) (λ c. c.doc ≡ doc)
+  pub rest : held_at doc t log ≡ held_at doc t (take (i + 1) log)
+
+-- how often a document is in a list
+abbrev pub times : DocId → List DocId → ℕ
+times doc docs = count_by (λ d. doc.0 == d.0) docs

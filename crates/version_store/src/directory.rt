@@ -1,18 +1,26 @@
 //! The directory of an archive's changes, and the index by which it finds a document's versions.
-ghost use Rattle.std.specs.Prelude.{◌≡◌, ◌+◌, ◌≤◌, ◌<◌, [], ◌∷◌, ◌++◌, length, Some, None, IfOk, OnOk, MatchResult};
+ghost use Rattle.std.specs.Prelude.{◌≡◌, ◌+◌, ◌≤◌, ◌<◌, [], ◌∷◌, ◌++◌, length, Some, None, IfOk, OnOk, MatchResult, IsTrue, IsSome, ◌↔◌};
+ghost use Rattle.std.specs.List.Sorted.{IsNonDecreasingBy};
 ghost use Rattle.time_base.specs.Limits.{limit_of};
-ghost use Rattle.version_store.specs.Changes.{last_time, latest, documents};
-ghost use Rattle.version_store.specs.Refusals.{arrive_refusal, delete_refusal, time_back};
+ghost use Rattle.time_base.specs.declared.ids.DocId.{DocId as Document};
+ghost use Rattle.version_store.specs.Index.{times};
+ghost use Rattle.version_store.specs.Changes.{last_time, latest, documents, held_at, alive};
+ghost use Rattle.version_store.specs.Refusals.{arrive_refusal, delete_refusal, time_back, full_versions};
 
 use crate::change::Change;
 use crate::link::Link;
 use crate::refusal::VersionRefusal;
+use crate::walk::held_from;
 use std::alloc::{AllocError, Global};
 use std::collections::HashMap;
 use std::marker::Model;
 use time_base::{DocId, TextPlace, Time, Which};
 
 /// The changes of all documents, with each text's place in the journal.
+///
+/// A document's changes are found without a look at other documents': its latest one by a hash
+/// table, and earlier ones by links back from it. A look-up below is one in that table, constant on
+/// average.
 #[derive(Drop)]
 pub struct Directory {
     /// The changes in their order.
@@ -31,7 +39,12 @@ impl Model for Directory {
 
     ghost Value = { Held };
 
-    ghost view = { λ a. record { changes = a.log.items; room = min (min (vec_capacity a.log - vec_len a.log) (vec_capacity a.links - vec_len a.links)) (spare a.latest) } };
+    ghost view = { λ a. record {
+      changes = a.log.items;
+      room =
+          min (min (vec_capacity a.log - vec_len a.log) (vec_capacity a.links - vec_len a.links))
+          (spare a.latest);
+    } };
 
     ghost invariant = { λ a. IsIndexed a.log.items a.links.items a.latest };
 }
@@ -48,9 +61,10 @@ impl Directory {
         })
     }
 
-    /// The changes in their order. Constant cost.
+    /// The changes in their order; their times don't fall. Constant cost.
     pub fn changes(&self) -> &[Change<TextPlace>]
-        ensures { result.now ≡ self.now.changes }
+        ensures all { result.now ≡ self.now.changes }
+        ensures ascending { IsNonDecreasingBy (λ c. c.at.seconds) result.now }
     {
         self.log.as_slice()
     }
@@ -89,15 +103,16 @@ impl Directory {
         self.latest.len()
     }
 
-    /// Whether a version of the document may come at that time, or the first cause why not. It
-    /// costs one look-up.
+    /// Whether a version of the document may come at that time, or the first cause why not: the
+    /// time lies before the last change; the document's latest change has that time; it would be
+    /// one document, or one version or tombstone, too many. It costs one look-up.
     pub fn may_arrive(&self, doc: DocId, at: Time) -> Result<(), VersionRefusal>
-        ensures { MatchResult result (λ _. arrive_refusal doc at self.now.changes ≡ None) (λ e. arrive_refusal doc at self.now.changes ≡ Some e) }
+        ensures { MatchResult result
+            (λ _. arrive_refusal doc at self.now.changes ≡ None)
+            (λ e. arrive_refusal doc at self.now.changes ≡ Some e) }
     {
-        if let Some(last) = self.last() {
-            if at.seconds < last.seconds {
-                return Err(VersionRefusal::TimeBack { last });
-            }
+        if let Some(why) = self.time_back(at) {
+            return Err(why);
         }
         match self.latest(doc) {
             Some(change) => {
@@ -111,39 +126,98 @@ impl Directory {
                 }
             }
         }
-        if Which::Versions.limit() <= self.len() as u64 {
-            return Err(full(Which::Versions));
+        match self.full_versions() {
+            Some(why) => Err(why),
+            None => Ok(()),
         }
-        Ok(())
     }
 
-    /// Whether the document may be deleted at that time, or the first cause why not. It costs one
-    /// look-up.
+    /// Whether the document may be deleted at that time, or the first cause why not: the time lies
+    /// before the last change; the document never came, or is deleted; its latest version has that
+    /// time; it would be one version or tombstone too many. It costs one look-up.
     pub fn may_delete(&self, doc: DocId, at: Time) -> Result<(), VersionRefusal>
-        ensures { MatchResult result (λ _. delete_refusal doc at self.now.changes ≡ None) (λ e. delete_refusal doc at self.now.changes ≡ Some e) }
+        ensures { MatchResult result
+            (λ _. delete_refusal doc at self.now.changes ≡ None)
+            (λ e. delete_refusal doc at self.now.changes ≡ Some e) }
     {
-        if let Some(last) = self.last() {
-            if at.seconds < last.seconds {
-                return Err(VersionRefusal::TimeBack { last });
-            }
+        if let Some(why) = self.time_back(at) {
+            return Err(why);
         }
-        let Some(
-            Change {
-                at: since,
-                held: Some(_),
-                ..
-            },
-        ) = self.latest(doc)
-        else {
-            return Err(VersionRefusal::NoDocument);
+        let since = match self.latest(doc) {
+            Some(change) if change.held.is_some() => change.at,
+            _ => return Err(VersionRefusal::NoDocument),
         };
         if since.seconds == at.seconds {
             return Err(VersionRefusal::SameTime);
         }
-        if Which::Versions.limit() <= self.len() as u64 {
-            return Err(full(Which::Versions));
+        match self.full_versions() {
+            Some(why) => Err(why),
+            None => Ok(()),
         }
-        Ok(())
+    }
+
+    /// The refusal of a time that lies before the last change's.
+    fn time_back(&self, at: Time) -> Option<VersionRefusal>
+        ensures { result ≡ time_back at self.now.changes }
+    {
+        match self.last() {
+            Some(last) if at.seconds < last.seconds => Some(VersionRefusal::TimeBack { last }),
+            _ => None,
+        }
+    }
+
+    /// The refusal of one change more than there may be.
+    fn full_versions(&self) -> Option<VersionRefusal>
+        ensures { result ≡ full_versions self.now.changes }
+    {
+        if Which::Versions.limit() <= self.len() as u64 {
+            Some(full(Which::Versions))
+        } else {
+            None
+        }
+    }
+
+    /// Where the text lies of the document's version that is valid at the time; None exactly where
+    /// the document isn't alive then. It costs one look-up, and steps in the logarithm of the
+    /// document's changes.
+    pub fn place(&self, doc: DocId, t: Time) -> Option<TextPlace>
+        ensures { result ≡ held_at doc t.seconds self.now.changes }
+    {
+        match self.latest.get(&doc) {
+            Some(latest) => held_from(&self.log, &self.links, *latest, t),
+            None => None,
+        }
+    }
+
+    /// Whether the document is alive at the time. It costs what `place` does.
+    pub fn alive_at(&self, doc: DocId, t: Time) -> bool
+        ensures { IsTrue result ↔ IsSome (held_at doc t.seconds self.now.changes) }
+    {
+        self.place(doc, t).is_some()
+    }
+
+    /// The documents alive at the time, ascending. It costs what `place` does for each document
+    /// that ever changed, and a sort.
+    pub fn alive(&self, alloc: Global, t: Time) -> Result<Vec<DocId>, AllocError>
+        ensures { IfOk result (λ docs. docs.items ≡ alive t.seconds self.now.changes) }
+    {
+        let mut docs = self.unsorted(alloc, t)?;
+        docs.sort_unstable();
+        Ok(docs)
+    }
+
+    /// The documents alive at the time, in the index's order.
+    fn unsorted(&self, alloc: Global, t: Time) -> Result<Vec<DocId>, AllocError>
+        ensures { IfOk result (λ docs. (doc : Document) →
+            times doc docs.items ≡ times doc (alive t.seconds self.now.changes)) }
+    {
+        let docs: Vec<DocId> = self
+            .latest
+            .keys()
+            .copied()
+            .filter(|doc| self.place(*doc, t).is_some())
+            .collect(alloc)?;
+        Ok(docs)
     }
 
     /// Makes room for one change of any document, so that it takes no memory. Its cost is constant
@@ -151,6 +225,7 @@ impl Directory {
     pub fn reserve(&mut self, _doc: DocId) -> Result<(), AllocError>
         ensures room { OnOk result (1 ≤ self.new.room) }
         ensures same { self.new.changes ≡ self.old.changes }
+        ensures kept { self.old.room ≤ self.new.room }
     {
         self.log.reserve(1)?;
         self.links.reserve(1)?;
@@ -162,7 +237,9 @@ impl Directory {
     pub fn arrive(&mut self, doc: DocId, at: Time, text: TextPlace)
         requires allowed { arrive_refusal doc at self.old.changes ≡ None }
         requires room { 1 ≤ self.old.room }
-        ensures { self.new.changes ≡ self.old.changes ++ record { doc = doc; at = at; held = Some text } ∷ [] }
+        ensures arrived { self.new.changes
+            ≡ self.old.changes ++ record { doc = doc; at = at; held = Some text } ∷ [] }
+        ensures room { self.old.room ≤ self.new.room + 1 }
     {
         self.note(Change {
             doc,
@@ -175,7 +252,9 @@ impl Directory {
     pub fn delete(&mut self, doc: DocId, at: Time)
         requires allowed { delete_refusal doc at self.old.changes ≡ None }
         requires room { 1 ≤ self.old.room }
-        ensures { self.new.changes ≡ self.old.changes ++ record { doc = doc; at = at; held = None } ∷ [] }
+        ensures deleted { self.new.changes
+            ≡ self.old.changes ++ record { doc = doc; at = at; held = None } ∷ [] }
+        ensures room { self.old.room ≤ self.new.room + 1 }
     {
         self.note(Change {
             doc,
@@ -188,7 +267,8 @@ impl Directory {
     fn note(&mut self, change: Change<TextPlace>)
         requires in_order { time_back change.at self.old.changes ≡ None }
         requires room { 1 ≤ self.old.room }
-        ensures { self.new.changes ≡ self.old.changes ++ change ∷ [] }
+        ensures noted { self.new.changes ≡ self.old.changes ++ change ∷ [] }
+        ensures room { self.old.room ≤ self.new.room + 1 }
     {
         let place = self.log.len();
         let link = match self.latest.get(&change.doc) {

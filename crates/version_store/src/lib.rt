@@ -2,13 +2,18 @@
 //!
 //! Its model is the list of changes in their order: each a new text of a document, or its deletion.
 //! A change holds something of the text (its place in the journal, or in the definitions of a
-//! history the text itself), so that one set of definitions serves both.
+//! history the text itself), so that one set of definitions serves both. A `Directory` keeps changes
+//! with places. It promises the layer above the exact answer for every document and time, the first
+//! cause of a refusal in a fixed order, and that a change for which room was made takes no memory.
 #![tactic(auto)]
 
 mod change;
 mod directory;
 mod link;
 mod refusal;
+#[cfg(test)]
+mod tests;
+mod walk;
 
 pub use change::Change;
 pub use directory::Directory;

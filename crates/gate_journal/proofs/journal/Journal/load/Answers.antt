@@ -6,7 +6,7 @@ use Rattle.gate_journal.specs.Spelled.{Spells}
 use Rattle.gate_journal.specs.Refused.{IsNotJournal}
 use Rattle.gate_journal.proofs.ScanLemmas.{row_before}
 use Rattle.gate_journal.proofs.PagesLemmas.{pages_join}
-use Rattle.gate_journal.proofs.LoadLemmas.{kept_sync, kept_reads, kept_begun, pages_sync, none_spelled, none_found, none_in_step}
+use Rattle.gate_journal.proofs.LoadLemmas.{sync_reads, kept_sync, kept_reads, kept_begun, pages_sync, none_spelled, none_found, none_in_step}
 use Rattle.gate_journal.proofs.journal.Journal.load.Goals as goal
 
 pub returns-in_err-total-clause-pages : goal.returns-in_err-total-clause-pages
@@ -18,6 +18,13 @@ returns-then-total-gt-NEW_BYTES-clause-heads g c = IfOk-weaker c.open.result _ _
 pub returns-then-total-gt-NEW_BYTES-clause-not_journal : goal.returns-then-total-gt-NEW_BYTES-clause-not_journal
 returns-then-total-gt-NEW_BYTES-clause-not_journal g c = λ tells at is.
     subst (λ (h : Bytes). IsNotJournal h.journal at) (c.settle.ensures.images tells).holds (c.open.ensures.not_journal tells at is)
+
+pub returns-then-total-gt-NEW_BYTES-clause-longer : goal.returns-then-total-gt-NEW_BYTES-clause-longer
+returns-then-total-gt-NEW_BYTES-clause-longer g c = λ tells longer. sync_reads _ _ _ (c.settle.ensures.images tells) c.open.ensures.same
+
+pub returns-else-total-gt-NEW_BYTES-clause-longer : goal.returns-else-total-gt-NEW_BYTES-clause-longer
+returns-else-total-gt-NEW_BYTES-clause-longer g c = λ tells longer. absurd
+    (omega (arith, g.met.D.Disk.reach_holds c.args.disk.now Journal tells, c.in_ok-total.ensures.total, ap (λ (r : Both ℕ). r.journal) c.settle.ensures.reach))
 
 pub returns-then-total-gt-NEW_BYTES-clause-crash : goal.returns-then-total-gt-NEW_BYTES-clause-crash
 returns-then-total-gt-NEW_BYTES-clause-crash g c = λ tells bodies each.

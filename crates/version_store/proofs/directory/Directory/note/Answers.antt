@@ -7,10 +7,10 @@ use Rattle.version_store.proofs.directory.Directory.note.Goals.{in-Some, in-None
 
 pub behind-link-requires-clause-there : goal.behind-link-requires-clause-there
 behind-link-requires-clause-there c =
-    rw (c.deref.ensures.value, c.self.invariant.as_many) (known-within _ _ _ c.args.change.doc _ c.self.invariant (sym c.get.ensures.value ∙ ap option_copied c.in-Some.is))
+    rw (c.deref.ensures.value, c.self.invariant.way.as_many) (known-within _ _ _ c.args.change.doc _ c.self.invariant (sym c.get.ensures.value ∙ ap option_copied c.in-Some.is))
 
 pub behind-link-requires-clause-back : goal.behind-link-requires-clause-back
-behind-link-requires-clause-back c = rw c.deref.ensures.value (back _ _ _ c.self.invariant)
+behind-link-requires-clause-back c = rw c.deref.ensures.value (back _ _ c.self.invariant.way)
 
 pub invariant_of-self : goal.invariant_of-self
 invariant_of-self c =

@@ -1,0 +1,151 @@
+//! A page on which replies are written.
+ghost use Rattle.std.specs.Prelude.{◌≡◌, ◌+◌, ◌≤◌, [], ◌++◌, length, codes, decimal, IfOk};
+ghost use Rattle.archive_replies.specs.Pages.{reply_room};
+ghost use Rattle.archive_state.specs.Replies.{detail_text, reply_text, which_text};
+ghost use Rattle.archive_state.specs.Steps.{Accepted, Refused};
+
+use archive_state::Refusal;
+use itoa::Buffer;
+use std::alloc::{AllocError, Global};
+use std::marker::Model;
+use time_base::Which;
+
+/// The bytes that a page has room for at least: more than the longest reply that takes no memory.
+pub const REPLY_ROOM: usize = 128;
+
+/// A page on which one reply at a time is written. Its memory is taken when it is made.
+#[derive(Drop)]
+pub struct ReplyPage {
+    bytes: Vec<u8>,
+}
+
+impl Model for ReplyPage {
+    ghost use Rattle.std.specs.Prelude.{◌-◌, ◌≤◌, vec_len, vec_capacity};
+    ghost use Rattle.archive_replies.specs.Pages.{Page, reply_room};
+
+    ghost Value = { Page };
+
+    ghost view = { λ p. record { bytes = p.bytes.items; room = vec_capacity p.bytes - vec_len p.bytes } };
+
+    ghost invariant = { λ p. reply_room ≤ vec_capacity p.bytes };
+}
+
+impl ReplyPage {
+    /// An empty page. It takes `REPLY_ROOM` bytes of memory; an error means that there were none.
+    /// Constant cost.
+    pub fn new(alloc: Global) -> Result<ReplyPage, AllocError>
+        ensures empty { IfOk result (λ page. page.bytes ≡ []) }
+        ensures room { IfOk result (λ page. reply_room ≤ page.room) }
+    {
+        let bytes = Vec::with_capacity(alloc, REPLY_ROOM)?;
+        Ok(ReplyPage { bytes })
+    }
+
+    /// The bytes of the reply. Constant cost.
+    pub fn as_bytes(&self) -> &[u8]
+        ensures { result.now ≡ self.now.bytes }
+    {
+        self.bytes.as_slice()
+    }
+
+    /// Writes the reply to a command that is carried out, in place of what the page held. `length`
+    /// is the number of entries of the history. It takes no memory. Constant cost.
+    pub fn accepted(&mut self, length: u64)
+        ensures { self.new.bytes ≡ reply_text (Accepted length) }
+    {
+        self.clear();
+        self.put_named(b"ok ", length);
+        self.put(b"\n");
+    }
+
+    /// Writes the reply to a command that is refused, in place of what the page held. It takes no
+    /// memory. Constant cost.
+    pub fn refused(&mut self, refusal: Refusal)
+        ensures { self.new.bytes ≡ reply_text (Refused refusal) }
+    {
+        self.clear();
+        self.put_named(b"no ", u64::from(refusal.number()));
+        self.put(b" ");
+        self.put_detail(refusal);
+        self.put(b"\n");
+    }
+
+    /// Empties the page. Constant cost.
+    fn clear(&mut self)
+        ensures bytes { self.new.bytes ≡ [] }
+        ensures room { reply_room ≤ self.new.room }
+    {
+        self.bytes.clear();
+    }
+
+    /// Adds some bytes. It takes no memory. The cost is linear in the bytes.
+    fn put(&mut self, text: &[u8])
+        requires { length text.now ≤ self.old.room }
+        ensures bytes { self.new.bytes ≡ self.old.bytes ++ text.now }
+        ensures room { self.old.room ≤ self.new.room + length text.now }
+    {
+        self.bytes.extend_from_slice(text).unwrap();
+    }
+
+    /// Adds a number, in decimal. It takes no memory. Constant cost.
+    fn put_number(&mut self, n: u64)
+        requires { 20 ≤ self.old.room }
+        ensures bytes { self.new.bytes ≡ self.old.bytes ++ decimal n }
+        ensures room { self.old.room ≤ self.new.room + 20 }
+    {
+        let mut buffer = Buffer::new();
+        self.put(buffer.format(n).as_bytes());
+    }
+
+    /// Adds a name and a number behind it. It takes no memory. Constant cost.
+    fn put_named(&mut self, name: &[u8], n: u64)
+        requires { length name.now + 20 ≤ self.old.room }
+        ensures bytes { self.new.bytes ≡ self.old.bytes ++ name.now ++ decimal n }
+        ensures room { self.old.room ≤ self.new.room + (length name.now + 20) }
+    {
+        self.put(name);
+        self.put_number(n);
+    }
+
+    /// Adds the name of a refusal, and its detail. It takes no memory. Constant cost.
+    fn put_detail(&mut self, refusal: Refusal)
+        requires { 40 ≤ self.old.room }
+        ensures bytes { self.new.bytes ≡ self.old.bytes ++ detail_text refusal }
+        ensures room { self.old.room ≤ self.new.room + 40 }
+    {
+        match refusal {
+            Refusal::TimeBack { last } => self.put_named(b"TimeBack ", last.seconds()),
+            Refusal::SameTime => self.put(b"SameTime"),
+            Refusal::NoDocument => self.put(b"NoDocument"),
+            Refusal::TooLong { limit } => self.put_named(b"TooLong ", limit),
+            Refusal::BadText { offset } => self.put_named(b"BadText ", offset),
+            Refusal::Full { which, limit } => self.put_full(which, limit),
+        }
+    }
+
+    /// Adds what is full, and its limit. It takes no memory. Constant cost.
+    fn put_full(&mut self, which: Which, limit: u64)
+        requires { 40 ≤ self.old.room }
+        ensures bytes { self.new.bytes
+            ≡ self.old.bytes ++ codes "Full " ++ which_text which ++ codes " " ++ decimal limit }
+        ensures room { self.old.room ≤ self.new.room + 40 }
+    {
+        self.put(b"Full ");
+        self.put(which_name(which));
+        self.put_named(b" ", limit);
+    }
+}
+
+/// The name of a limit. Constant cost.
+fn which_name(which: Which) -> &'static [u8]
+    ensures name { result.now ≡ which_text which }
+    ensures short { length result.now ≤ 9 }
+{
+    match which {
+        Which::Documents => b"documents",
+        Which::Versions => b"versions",
+        Which::Words => b"words",
+        Which::Journal => b"journal",
+        Which::Pages => b"pages",
+    }
+}

@@ -1,0 +1,5 @@
+pub mod EndLemmas
+pub mod ServeLemmas
+pub mod ShowLemmas
+pub mod StepLemmas
+pub mod TurnLemmas

@@ -1,0 +1,109 @@
+-- One command carried out.
+use Rattle.std.proofs.Common.{◌≡◌, ◌⊎◌, ℕ, ◌+◌, List, [], ◌∷◌, ◌++◌, length, Option, Some, None, Result, Ok, Err, IsOk, OnOk, refl, inl, inr, ap, subst, sym, ◌∙◌, arith, length-append}
+use Rattle.machine_model.specs.States.{DiskState}
+use Rattle.machine_model.proofs.MomentLemmas.{goes_on_same, left_now}
+use Rattle.time_base.specs.declared.ids.DocId.{DocId}
+use Rattle.time_base.specs.declared.time.Time.{Time}
+use Rattle.record_codec.specs.declared.entry.Entry.{Entry}
+use Rattle.record_codec.specs.declared.entry.Entry.TheVariants as entries
+use Rattle.archive_state.specs.declared.refusal.Refusal.{Refusal}
+use Rattle.archive_state.specs.Histories.{History}
+use Rattle.archive_state.specs.Steps.{Command, Arrive, Delete, Reply, Accepted, Refused, Adds, Step, arrival_refusal, deletion_refusal}
+use Rattle.archive_state.specs.Replies.{reply_text}
+use Rattle.archive_state.specs.Runs.{Turn}
+use Rattle.archive_state.specs.Stands.{Stands, EachStands}
+use Rattle.archive_core.specs.States.{ArchiveState, IsKept}
+use Rattle.archive_core.specs.Changing.{LeadsTo}
+use Rattle.archive_core.specs.declared.error.ChangeError.{ChangeError}
+use Rattle.archive_core.specs.declared.error.ChangeError.TheVariants as errors
+use Rattle.archive_shell.specs.Turns.{Answers, Refuses}
+use Rattle.archive_shell.specs.declared.stop.Stop.{Stop}
+
+-- each image of an archive in step stands for its history
+pub each_stands : {d : DiskState} {archive : ArchiveState} {history : History} → IsKept d archive history → EachStands d history
+each_stands {d} {archive} {history} kept = λ image allowed. let e = kept.in_step.images image allowed in
+    record { spelled = inr (record { gate = kept.in_step.gate; rest = e.0; shut = kept.in_step.shut; fit = kept.in_step.fit; whole = e.1 }); legal = kept.stands.legal }
+
+-- where nothing is done, each image left stands for the history
+leads_nowhere : {d : DiskState} {archive : ArchiveState} {history : History} (other : History) → IsKept d archive history → LeadsTo history other d d
+leads_nowhere {d} {archive} {history} other kept = record {
+  goes_on = goes_on_same d;
+  images = left_now d (λ image beside. (Stands history image ⊎ Stands other image) × (beside ≡ d.now.beside)) (λ image allowed. (inl (each_stands kept image allowed), refl));
+}
+
+-- whether an entry is refused or not, there is a turn
+adds_some : (history : History) (entry : Entry) (refusal : Option Refusal) → (turn : Turn Reply History) × Adds history entry refusal turn.reply turn.next
+adds_some history entry None = (record { reply = Accepted (length (history ++ entry ∷ [])); next = history ++ entry ∷ [] }, (refl, refl))
+adds_some history entry (Some why) = (record { reply = Refused why; next = history }, (refl, refl))
+
+-- each command has a turn
+pub each_steps : (history : History) (command : Command) → (turn : Turn Reply History) × Step history command turn.reply turn.next
+each_steps history (Arrive doc at text) = adds_some history (entries.Arrive doc at text) (arrival_refusal history doc at text)
+each_steps history (Delete doc at) = adds_some history (entries.Delete doc at) (deletion_refusal history doc at)
+
+-- an entry that is accepted
+pub accepted : (history : History) (entry : Entry) (refusal : Option Refusal) (n : ℕ) (page : List ℕ) → refusal ≡ None → n ≡ length history + 1 → page ≡ reply_text (Accepted n)
+    → (turn : Turn Reply History) × Adds history entry refusal turn.reply turn.next × (turn.next ≡ history ++ entry ∷ []) × (page ≡ reply_text turn.reply)
+accepted history entry refusal n page none count shown =
+    let P : Option Refusal → Type 0 = λ r. Adds history entry r (Accepted (length (history ++ entry ∷ []))) (history ++ entry ∷ []) in (
+      record { reply = Accepted (length (history ++ entry ∷ [])); next = history ++ entry ∷ [] },
+      subst P (sym none) (refl, refl),
+      refl,
+      shown ∙ ap (λ (m : ℕ). reply_text (Accepted m)) (omega (arith, count, length-append history (entry ∷ []))),
+    )
+
+-- what is known of a change that was not made, for each error
+pub record NotMade (history : History) (entry : Entry) (refusal : Option Refusal) (error : ChangeError) (old new : DiskState) (archive archive_now : ArchiveState) : Type 0 where
+  pub refused : (why : Refusal) → error ≡ errors.Refused why → refusal ≡ Some why
+  pub same : (why : Refusal) → error ≡ errors.Refused why → (archive_now ≡ archive) × (new ≡ old)
+  pub allowed : error ≡ errors.Failed → refusal ≡ None
+  pub memory : error ≡ errors.Memory → new ≡ old
+  pub leads : LeadsTo history (history ++ entry ∷ []) old new
+  pub kept : IsKept old archive history
+
+-- it has a turn all the same, and leaves images that stand for the history before or after it
+pub not_made : (history : History) (entry : Entry) (refusal : Option Refusal) (error : ChangeError) (old new : DiskState) (archive archive_now : ArchiveState) (result : Result (Unit {0}) Stop) (page : List ℕ)
+    → NotMade history entry refusal error old new archive archive_now → Refuses error result page
+    → (turn : Turn Reply History) × Adds history entry refusal turn.reply turn.next × LeadsTo history turn.next old new × OnOk result (IsKept new archive_now turn.next × (page ≡ reply_text turn.reply))
+not_made history entry refusal (errors.Refused why) old new archive archive_now result page known refuses =
+    let P : Option Refusal → Type 0 = λ r. Adds history entry r (Refused why) history in
+    let same = known.same why refl in
+    let L : DiskState → Type 0 = λ d. LeadsTo history history old d in
+    let K : DiskState → Type 0 = λ d. IsKept d archive_now history in
+    let A : ArchiveState → Type 0 = λ a. IsKept old a history in (
+      record { reply = Refused why; next = history },
+      subst P (sym (known.refused why refl)) (refl, refl),
+      subst L (sym same.1) (leads_nowhere history known.kept),
+      on_ok result refuses.0 (subst K (sym same.1) (subst A (sym same.0) known.kept), refuses.1),
+    )
+  where
+    on_ok : {Q : Type 0} (result : Result (Unit {0}) Stop) → IsOk result → Q → OnOk result Q
+    on_ok (Ok u) is q = q
+    on_ok (Err e) is q = tt
+not_made history entry refusal errors.Failed old new archive archive_now result page known refuses =
+    let P : Option Refusal → Type 0 = λ r. Adds history entry r (Accepted (length (history ++ entry ∷ []))) (history ++ entry ∷ []) in
+    let N : Result (Unit {0}) Stop → Type 0 = λ r. OnOk r (IsKept new archive_now (history ++ entry ∷ []) × (page ≡ reply_text (Accepted (length (history ++ entry ∷ []))))) in
+    (record { reply = Accepted (length (history ++ entry ∷ [])); next = history ++ entry ∷ [] }, subst P (sym (known.allowed refl)) (refl, refl), known.leads, subst N (sym refuses) tt)
+not_made history entry refusal errors.Memory old new archive archive_now result page known refuses =
+    let turn = adds_some history entry refusal in
+    let L : DiskState → Type 0 = λ d. LeadsTo history turn.0.next old d in
+    let N : Result (Unit {0}) Stop → Type 0 = λ r. OnOk r (IsKept new archive_now turn.0.next × (page ≡ reply_text turn.0.reply)) in
+    (turn.0, turn.1, subst L (sym (known.memory refl)) (leads_nowhere turn.0.next known.kept), subst N (sym refuses) tt)
+
+-- an arrival that is accepted
+pub arrived : (history : History) (doc : DocId) (at : Time) (text : List ℕ) (n : ℕ) (old new : DiskState) (archive_now : ArchiveState) (page : List ℕ)
+    → arrival_refusal history doc at text ≡ None → n ≡ length history + 1 → page ≡ reply_text (Accepted n) → LeadsTo history (history ++ entries.Arrive doc at text ∷ []) old new
+    → IsKept new archive_now (history ++ entries.Arrive doc at text ∷ []) → Answers history (Arrive doc at text) (Ok tt) old new archive_now page
+arrived history doc at text n old new archive_now page none count shown leads kept =
+    let made = accepted history (entries.Arrive doc at text) (arrival_refusal history doc at text) n page none count shown in
+    let L : History → Type 0 = λ next. LeadsTo history next old new in
+    let K : History → Type 0 = λ next. IsKept new archive_now next in
+    record { turn = made.0; step = made.1; leads = subst L (sym made.2) leads; kept = (subst K (sym made.2) kept, made.3) }
+
+-- an arrival that is not made
+pub not_arrived : (history : History) (doc : DocId) (at : Time) (text : List ℕ) (error : ChangeError) (old new : DiskState) (archive archive_now : ArchiveState) (result : Result (Unit {0}) Stop) (page : List ℕ)
+    → NotMade history (entries.Arrive doc at text) (arrival_refusal history doc at text) error old new archive archive_now → Refuses error result page
+    → Answers history (Arrive doc at text) result old new archive_now page
+not_arrived history doc at text error old new archive archive_now result page known refuses =
+    let made = not_made history (entries.Arrive doc at text) (arrival_refusal history doc at text) error old new archive archive_now result page known refuses in
+    record { turn = made.0; step = made.1; leads = made.2; kept = made.3 }

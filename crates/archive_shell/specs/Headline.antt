@@ -1,0 +1,69 @@
+-- What a run of the program without words is: one run of the abstract machine over the commands of the bytes pulled, what was shown of
+-- it, what each image left at any moment stands for, and where the input stood at the end.
+use Rattle.std.specs.Prelude.{◌≡◌, ◌⊎◌, ℕ, ◌^◌, ◌<◌, Bool, true, false, List, [], ◌++◌, length, map}
+use Rattle.machine_model.specs.States.{SourceState, SinkState, DiskState}
+use Rattle.machine_model.specs.Moments.{LeavesOnly}
+use Rattle.machine_model.specs.Pushes.{IsPrefix}
+use Rattle.script_read.specs.Items.{first, Splits, IsBrokenAt}
+use Rattle.script_read.specs.declared.command.Command as script
+use Rattle.script_read.specs.declared.first.First.TheVariants.{More}
+use Rattle.archive_state.specs.Histories.{History}
+use Rattle.archive_state.specs.Steps.{Reply, Step}
+use Rattle.archive_state.specs.Replies.{reply_text}
+use Rattle.archive_state.specs.Runs.{Turn, IsRun, state_after, shown_by, Reopens}
+use Rattle.archive_state.specs.Stands.{Stands, EachStands}
+use Rattle.archive_shell.specs.Commands.{command_of}
+use Rattle.archive_shell.specs.declared.status.Status.{Status}
+use Rattle.archive_shell.specs.declared.status.Status.TheVariants.{Done, Usage, NotArchive, Disk, Source, Sink, Script, Budget, Memory}
+
+-- the statuses before which each whole item of the bytes pulled is carried out and its reply shown
+abbrev pub CarriesOutAll : Status → Type 0
+CarriesOutAll Done = Unit {0}
+CarriesOutAll Source = Unit {0}
+CarriesOutAll (Script at) = Unit {0}
+CarriesOutAll Budget = Unit {0}
+CarriesOutAll Usage = ⊥
+CarriesOutAll (NotArchive at) = ⊥
+CarriesOutAll Disk = ⊥
+CarriesOutAll Sink = ⊥
+CarriesOutAll Memory = ⊥
+
+-- the statuses of an event that may end a run before its input is gone over: a fault of the disk or the sink, and want of memory
+abbrev pub EndsEarly : Status → Type 0
+EndsEarly status = (status ≡ Disk) ⊎ ((status ≡ Sink) ⊎ (status ≡ Memory))
+
+-- Where the input stood when the run ended: whether its end was told, the bytes pulled, and what is left of them behind the last whole item.
+pub record StoodAt (status : Status) (ended : Bool) (pulled rest : List ℕ) : Type 0 where
+  -- the end was told, and nothing is left
+  pub done : status ≡ Done → (ended ≡ true) × (rest ≡ [])
+  -- no item is whole in what is left, and it isn't broken so far
+  pub source : status ≡ Source → (first ended rest ≡ More) × (ended ≡ false) × (length pulled < 2 ^ 40)
+  pub budget : status ≡ Budget → (first ended rest ≡ More) × (ended ≡ false) × (length pulled ≡ 2 ^ 40)
+  -- the script is broken there; and where it is broken, this is the status unless another event came first
+  pub script : (at : ℕ) → status ≡ Script at → IsBrokenAt ended pulled at
+  pub broken : (at : ℕ) → IsBrokenAt ended pulled at → (status ≡ Script at) ⊎ EndsEarly status
+
+-- A run from this history: its status, and the input, the output and the disk before and after.
+pub record Headline (history : History) (status : Status) (input input_now : SourceState) (output output_now : SinkState) (old new : DiskState) : Type 0 where
+  -- the bytes pulled, and whether the end of the input was told
+  pub pulled : List ℕ
+  pub pulled_are : input.left ≡ pulled ++ input_now.left
+  pub ended : Bool
+  pub ended_is : ended ≡ true → input_now.left ≡ []
+  -- the items of these bytes, and what is left behind the last whole one
+  pub items : List script.Command
+  pub rest : List ℕ
+  pub split : Splits ended pulled items rest
+  pub stood : StoodAt status ended pulled rest
+  -- one run of the abstract machine over all these commands
+  pub turns : List (Turn Reply History)
+  pub run : IsRun Step history (map command_of items) turns
+  -- what was shown is a front of the joined texts of its replies, and all of them where all items are carried out
+  pub shown : List ℕ
+  pub shown_is : output_now.shown ≡ output.shown ++ shown
+  pub front : IsPrefix shown (shown_by reply_text turns)
+  pub whole : CarriesOutAll status → shown ≡ shown_by reply_text turns
+  -- each image left since, with the bytes shown then, stands for the history after as many turns as these acknowledge, or one more
+  pub images : EachStands old history → LeavesOnly old new (Reopens reply_text Stands history turns output.shown)
+  -- where all items are carried out, each image stands for the last history
+  pub last : CarriesOutAll status → EachStands new (state_after history turns (length turns))

@@ -1,0 +1,5 @@
+pub mod Commands
+pub mod Headline
+pub mod Serving
+pub mod Statuses
+pub mod Turns

@@ -1,0 +1,54 @@
+-- How a run ends: its exit status, and the line that is printed of it.
+use Rattle.std.specs.Prelude.{ℕ, List, ◌++◌, codes}
+use Rattle.std.specs.Fmt.{decimal}
+use Rattle.script_read.specs.declared.item.ScriptError.{ScriptError}
+use Rattle.script_read.specs.declared.item.ScriptError.TheVariants as errors
+use Rattle.archive_core.specs.declared.error.LoadError.{LoadError}
+use Rattle.archive_core.specs.declared.error.LoadError.TheVariants as loads
+use Rattle.archive_shell.specs.declared.stop.Stop.{Stop}
+use Rattle.archive_shell.specs.declared.stop.Stop.TheVariants as stops
+use Rattle.archive_shell.specs.declared.status.Status.{Status}
+use Rattle.archive_shell.specs.declared.status.Status.TheVariants.{Done, Usage, NotArchive, Disk, Source, Sink, Script, Budget, Memory}
+
+-- the exit status
+abbrev pub code_of : Status → ℕ
+code_of Done = 0
+code_of Usage = 2
+code_of (NotArchive at) = 3
+code_of Disk = 4
+code_of Source = 5
+code_of Sink = 6
+code_of (Script at) = 7
+code_of Budget = 9
+code_of Memory = 12
+
+-- the line, without its end
+abbrev pub status_text : Status → List ℕ
+status_text Done = codes "tt_archive: done"
+status_text Usage = codes "tt_archive: usage: tt_archive [--generate SEED --count COUNT]"
+status_text (NotArchive at) = codes "tt_archive: not an archive at byte " ++ decimal at ++ codes " of the journal"
+status_text Disk = codes "tt_archive: disk fault"
+status_text Source = codes "tt_archive: source fault"
+status_text Sink = codes "tt_archive: sink fault"
+status_text (Script at) = codes "tt_archive: script fault at byte " ++ decimal at
+status_text Budget = codes "tt_archive: no end after 1099511627776 bytes"
+status_text Memory = codes "tt_archive: no memory"
+
+-- how a run ends where there is no next item
+abbrev pub status_of_script : ScriptError → Status
+status_of_script (errors.Broken at) = Script at
+status_of_script errors.Budget = Budget
+status_of_script errors.Failed = Source
+status_of_script errors.Memory = Memory
+
+-- how a run ends that was stopped at a command
+abbrev pub status_of_stop : Stop → Status
+status_of_stop stops.Disk = Disk
+status_of_stop stops.Sink = Sink
+status_of_stop stops.Memory = Memory
+
+-- how a run ends where there is no archive
+abbrev pub status_of_load : LoadError → Status
+status_of_load loads.Failed = Disk
+status_of_load (loads.NotArchive at) = NotArchive at
+status_of_load loads.Memory = Memory

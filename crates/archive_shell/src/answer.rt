@@ -1,0 +1,82 @@
+//! Answering one command.
+ghost use Rattle.std.specs.Prelude.{◌≡◌, ◌≤◌, IsTrue, OnOk, IsErrOf};
+ghost use Rattle.machine_model.specs.Causes.{Rose};
+ghost use Rattle.archive_state.specs.Histories.{History};
+ghost use Rattle.archive_core.specs.States.{IsKept};
+ghost use Rattle.archive_state.specs.Steps.{Arrive};
+ghost use Rattle.archive_shell.specs.Commands.{command_of};
+ghost use Rattle.archive_shell.specs.Turns.{Answers, Refuses};
+
+use crate::stop::Stop;
+use archive_core::{Archive, ChangeError};
+use archive_replies::ReplyPage;
+use machine_model::Disk;
+use script_read::{Command, Text};
+use std::alloc::Global;
+use time_base::{DocId, Time};
+
+/// Carries out a command on the archive and its disk, and writes its reply on the page.
+pub(crate) fn answer<D: Disk>(
+    alloc: Global,
+    disk: &mut D,
+    archive: &mut Archive,
+    page: &mut ReplyPage,
+    command: Command,
+) -> Result<(), Stop>
+    requires live { IsTrue archive.old.live }
+    requires within { archive.old.end ≤ (D.disk disk.old).reach.journal }
+    ensures only { D.Disk.only disk.old disk.new }
+    ensures disk_fault { IsErrOf result Stop.Disk → Rose (D.disk disk.old).faults (D.disk disk.new).faults }
+    ensures no_sink { IsErrOf result Stop.Sink → ⊥ }
+    ensures live { OnOk result (IsTrue archive.new.live) }
+    ensures within { OnOk result (archive.new.end ≤ (D.disk disk.new).reach.journal) }
+    ensures turn { D.disk_tells → (h : History) → IsKept (D.disk disk.old) archive.old h →
+        Answers h (command_of command) result (D.disk disk.old) (D.disk disk.new) archive.new page.new.bytes }
+{
+    match command {
+        Command::Arrive { doc, at, text } => arrive(alloc, disk, archive, page, doc, at, text),
+    }
+}
+
+/// Carries out an arrival, and writes its reply on the page.
+fn arrive<D: Disk>(
+    alloc: Global,
+    disk: &mut D,
+    archive: &mut Archive,
+    page: &mut ReplyPage,
+    doc: DocId,
+    at: Time,
+    text: Text,
+) -> Result<(), Stop>
+    requires live { IsTrue archive.old.live }
+    requires within { archive.old.end ≤ (D.disk disk.old).reach.journal }
+    ensures only { D.Disk.only disk.old disk.new }
+    ensures disk_fault { IsErrOf result Stop.Disk → Rose (D.disk disk.old).faults (D.disk disk.new).faults }
+    ensures no_sink { IsErrOf result Stop.Sink → ⊥ }
+    ensures live { OnOk result (IsTrue archive.new.live) }
+    ensures within { OnOk result (archive.new.end ≤ (D.disk disk.new).reach.journal) }
+    ensures turn { D.disk_tells → (h : History) → IsKept (D.disk disk.old) archive.old h →
+        Answers h (Arrive doc at text) result (D.disk disk.old) (D.disk disk.new) archive.new page.new.bytes }
+{
+    match archive.arrive(alloc, disk, doc, at, text.as_slice()) {
+        Ok(length) => {
+            page.accepted(length);
+            Ok(())
+        }
+        Err(error) => refuse(page, error),
+    }
+}
+
+/// Writes the reply to a change that is refused; any other error stops the run.
+fn refuse(page: &mut ReplyPage, error: ChangeError) -> Result<(), Stop>
+    ensures { Refuses error result page.new.bytes }
+{
+    match error {
+        ChangeError::Refused(why) => {
+            page.refused(why);
+            Ok(())
+        }
+        ChangeError::Failed => Err(Stop::Disk),
+        ChangeError::Memory => Err(Stop::Memory),
+    }
+}

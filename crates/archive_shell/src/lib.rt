@@ -1,0 +1,20 @@
+//! The program's run: the words of the command line, the archive of a machine's disk, the commands
+//! of its source and the replies on its sink.
+//!
+//! A run without words is one run of the abstract machine over the commands of the bytes pulled
+//! (`specs/Headline.antt`). Stopped at any moment, it leaves images that stand for the history after
+//! as many commands as were acknowledged, or one more. Its status says why it ended, and each cause
+//! is in the contract of `run`.
+#![tactic(auto)]
+
+mod answer;
+mod carry_out;
+mod desk;
+mod program;
+mod serve;
+mod show;
+mod status;
+mod stop;
+
+pub use program::run;
+pub use status::Status;

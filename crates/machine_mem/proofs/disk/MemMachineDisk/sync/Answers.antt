@@ -1,0 +1,30 @@
+use Rattle.std.proofs.Common.{arith, ◌∙◌}
+use Rattle.machine_mem.proofs.CallLemmas.{OnlyDisk-synced, Syncs-synced, OnlyDisk-passed, Syncs-passed, OnlyDisk-stayed, Syncs-stayed, allowed_by_area}
+use Rattle.machine_mem.specs.Meaning.{meaning, disk_state}
+use Rattle.machine_mem.proofs.disk.MemMachineDisk.sync.Goals as goal
+
+pub returns-in-Ok-clause-only : goal.returns-in-Ok-clause-only
+returns-in-Ok-clause-only c = OnlyDisk-synced _ _ _ c.in-Ok.ensures.ok (omega arith)
+
+pub returns-in-Ok-clause-images : goal.returns-in-Ok-clause-images
+returns-in-Ok-clause-images c =
+    let disk = disk_state c.args.self.now in
+    Syncs-synced (meaning c.args.self.now) _ _ c.in-Ok.ensures.ok (allowed_by_area disk.now disk.holds c.args.self.now.journal.kept c.args.self.now.pages.kept)
+
+pub returns-in-Err-clause-only : goal.returns-in-Err-clause-only
+returns-in-Err-clause-only c = OnlyDisk-stayed _ _ _ (c.starve.ensures.same ∙ c.in-Err.ensures.err) (omega arith)
+
+pub returns-in-Err-clause-images : goal.returns-in-Err-clause-images
+returns-in-Err-clause-images c = Syncs-stayed _ _ _ (c.starve.ensures.same ∙ c.in-Err.ensures.err)
+
+pub returns-in-Ok-try_pass-clause-only : goal.returns-in-Ok-try_pass-clause-only
+returns-in-Ok-try_pass-clause-only c = OnlyDisk-passed _ _ _ c.in-Ok-try_pass.ensures.ok (omega arith)
+
+pub returns-in-Ok-try_pass-clause-images : goal.returns-in-Ok-try_pass-clause-images
+returns-in-Ok-try_pass-clause-images c = Syncs-passed _ _ _ c.in-Ok-try_pass.ensures.ok
+
+pub returns-in-Err-try_pass-clause-only : goal.returns-in-Err-try_pass-clause-only
+returns-in-Err-try_pass-clause-only c = OnlyDisk-stayed _ _ _ (c.starve-in-Err-try_pass.ensures.same ∙ c.in-Err-try_pass.ensures.err) (omega arith)
+
+pub returns-in-Err-try_pass-clause-images : goal.returns-in-Err-try_pass-clause-images
+returns-in-Err-try_pass-clause-images c = Syncs-stayed _ _ _ (c.starve-in-Err-try_pass.ensures.same ∙ c.in-Err-try_pass.ensures.err)

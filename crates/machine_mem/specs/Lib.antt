@@ -1,0 +1,13 @@
+pub mod Stores
+pub mod Inputs
+pub mod Faults
+pub mod Moments
+pub mod Machines
+pub mod Snapshots
+pub mod Meaning
+pub mod Outcomes
+pub mod MachineLaws
+pub mod Stamps
+pub mod Tails
+pub mod Picks
+pub mod Slices

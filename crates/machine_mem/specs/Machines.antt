@@ -1,0 +1,103 @@
+-- What the calls of one trait do to a machine.
+use Rattle.std.specs.Prelude.{◌≡◌, ℕ, ◌+◌, ◌-◌, ◌^◌, ◌≤◌, min, max, List, [], ◌∷◌, ◌++◌, take, drop, length, Result}
+use Rattle.machine_model.specs.Areas.{Bytes, part, replaced}
+use Rattle.machine_model.specs.States.{SourceState, SinkState, DiskState}
+use Rattle.machine_model.specs.Moments.{GoesOn}
+use Rattle.machine_model.specs.Calls.{written}
+use Rattle.machine_model.specs.Pushes.{IsSameBeside, OnlyShows, IsShownByPiece, taken}
+use Rattle.machine_mem.specs.Moments.{along}
+use Rattle.machine_model.specs.declared.area.Area.{Area}
+use Rattle.machine_model.specs.declared.area.Failed.{Failed}
+
+-- the meanings of the three traits, and the bytes of both areas as last written, by failed writes too
+pub record MachineState : Type 0 where
+  pub source : SourceState
+  pub sink : SinkState
+  pub disk : DiskState
+  pub last : Bytes
+
+-- the calls of the source alone
+pub record OnlySource (x y : MachineState) : Type 0 where
+  pub sink : y.sink ≡ x.sink
+  pub disk : y.disk ≡ x.disk
+  pub faults : x.source.faults ≤ y.source.faults
+
+-- the calls of the sink alone
+pub record OnlySink (x y : MachineState) : Type 0 where
+  pub source : y.source ≡ x.source
+  pub beside : IsSameBeside x.disk y.disk
+  pub shows : OnlyShows x.disk y.disk x.sink.shown y.sink.shown
+  pub faults : x.sink.faults ≤ y.sink.faults
+
+-- the calls of the disk alone
+pub record OnlyDisk (x y : MachineState) : Type 0 where
+  pub source : y.source ≡ x.source
+  pub sink : y.sink ≡ x.sink
+  pub faults : x.disk.faults ≤ y.disk.faults
+  pub reach : (area : Area) → part x.disk.reach area ≤ part y.disk.reach area
+  pub read : (area : Area) → part x.disk.bytes_read area ≤ part y.disk.bytes_read area
+  pub beside : y.disk.now.beside ≡ x.disk.now.beside
+  pub goes_on : GoesOn x.disk y.disk
+
+-- one push
+pub record Pushed (x : MachineState) (piece : List ℕ) (answer : Result ℕ Failed) (y : MachineState) : Type 0 where
+  pub shown : y.sink.shown ≡ x.sink.shown ++ take (taken answer) piece
+  pub moments : IsShownByPiece x.sink.shown piece (taken answer) x.disk y.disk
+
+-- a machine after so many bytes were pulled
+abbrev pub pulled : ℕ → MachineState → MachineState
+pulled n x = record x { source = record x.source { left = drop n x.source.left } }
+
+-- a machine after so many bytes of an area were read
+abbrev pub did_read : Area → ℕ → MachineState → MachineState
+did_read area n x = record x { disk = record x.disk { bytes_read = replaced x.disk.bytes_read area (part x.disk.bytes_read area + n) } }
+
+-- a machine after a write of which so many bytes came through
+abbrev pub wrote : Area → ℕ → List ℕ → ℕ → MachineState → MachineState
+wrote area at bytes kept x = record x {
+  disk = record x.disk {
+    reach = replaced x.disk.reach area (max (part x.disk.reach area) (at + kept));
+    holds = replaced x.disk.holds area (written at (take kept bytes) (part x.disk.holds area));
+    past = x.disk.past ++ x.disk.now ∷ [];
+    now = record x.disk.now { pending = replaced x.disk.now.pending area (record { at = at; count = length bytes } ∷ part x.disk.now.pending area) };
+  };
+  last = replaced x.last area (written at bytes (part x.last area));
+}
+
+-- a machine after a good sync
+abbrev pub synced : MachineState → MachineState
+synced x = record x {
+  disk = record x.disk {
+    past = x.disk.past ++ x.disk.now ∷ [];
+    now = record x.disk.now { stable = x.disk.holds; pending = record { journal = []; pages = [] } };
+  };
+  last = x.disk.holds;
+}
+
+-- a machine after a piece was shown
+abbrev pub showed : List ℕ → MachineState → MachineState
+showed piece x = record x {
+  sink = record x.sink { shown = x.sink.shown ++ piece };
+  disk = record x.disk {
+    past = x.disk.past ++ along x.disk.now piece;
+    now = record x.disk.now { beside = x.disk.now.beside ++ piece };
+  };
+}
+
+-- a machine after a call that failed and may have changed nothing
+abbrev pub passed : MachineState → MachineState
+passed x = record x { disk = record x.disk { past = x.disk.past ++ x.disk.now ∷ [] } }
+
+-- a count after one more; it stays at its last value
+abbrev pub risen : ℕ → ℕ
+risen n = min (n + 1) (2 ^ 64 - 1)
+
+-- a machine after a call of one trait failed once more
+abbrev pub failed_source : MachineState → MachineState
+failed_source x = record x { source = record x.source { faults = risen x.source.faults } }
+
+abbrev pub failed_sink : MachineState → MachineState
+failed_sink x = record x { sink = record x.sink { faults = risen x.sink.faults } }
+
+abbrev pub failed_disk : MachineState → MachineState
+failed_disk x = record x { disk = record x.disk { faults = risen x.disk.faults } }

@@ -1,0 +1,56 @@
+-- What the calls of a machine in memory do, exactly.
+use Rattle.std.specs.Prelude.{◌≡◌, ℕ, ◌+◌, ◌-◌, ◌^◌, ◌≤◌, min, List}
+use Rattle.machine_model.specs.Causes.{Rose}
+use Rattle.machine_mem.specs.declared.faults.CallKind.{CallKind}
+use Rattle.machine_mem.specs.declared.faults.Script.{Script}
+use Rattle.machine_mem.specs.declared.history.Shot.{Shot}
+use Rattle.machine_mem.specs.declared.machine.MemMachine.{MemMachine}
+use Rattle.machine_mem.specs.Faults.{next_of, counts_with, IsNamed}
+use Rattle.machine_mem.specs.Machines.{MachineState}
+use Rattle.machine_mem.specs.Snapshots.{Snapshot, snapshot_after}
+use Rattle.machine_mem.specs.Meaning.{meaning, after_calls}
+
+-- the faults of a machine, and how many calls of each kind there were
+abbrev pub script_of : MemMachine → Script
+script_of x = x.script
+
+-- how many calls found no memory
+abbrev pub starved_of : MemMachine → ℕ
+starved_of x = x.starved.value
+
+-- a fault names the next call of this kind, with so many bytes kept
+abbrev pub IsDue : MemMachine → CallKind → ℕ → Type 0
+IsDue x kind kept = IsNamed (script_of x).faults.items kind (next_of (script_of x).counts kind) kept
+
+-- the script after one call more of a kind
+abbrev pub called : CallKind → Script → Script
+called kind script = record script { counts = counts_with script.counts kind (next_of script.counts kind) }
+
+-- a call found memory: the machine is what this makes of it
+pub record Serves (after : MachineState → MachineState) (x y : MemMachine) : Type 0 where
+  pub state : meaning y ≡ after (meaning x)
+  pub starved : starved_of y ≡ starved_of x
+
+-- a call found no memory: the machine is what this makes of it
+pub record Starves (after : MachineState → MachineState) (x y : MemMachine) : Type 0 where
+  pub state : meaning y ≡ after (meaning x)
+  pub starved : Rose (starved_of x) (starved_of y)
+
+-- how many calls there were that may change the disk or show bytes
+abbrev pub calls_of : MemMachine → ℕ
+calls_of x = x.history.calls
+
+-- after one such call more, these shots and this count keep what a stop might have left before
+pub record Recalls (x : MemMachine) (shots : List Shot) (calls : ℕ) : Type 0 where
+  pub one_more : calls ≡ calls_of x + 1
+  pub before : (now : Snapshot) (n : ℕ) → n ≤ calls_of x → snapshot_after shots now n ≡ after_calls x n
+
+-- one such call more was counted, and what a stop might have left before is as it was
+pub record Remembers (x y : MemMachine) : Type 0 where
+  pub calls : calls_of y ≡ min (calls_of x + 1) (2 ^ 64 - 2)
+  pub before : (n : ℕ) → n ≤ calls_of x → after_calls y n ≡ after_calls x n
+
+-- no such call was counted
+pub record Stays (x y : MemMachine) : Type 0 where
+  pub calls : calls_of y ≡ calls_of x
+  pub before : (n : ℕ) → after_calls y n ≡ after_calls x n

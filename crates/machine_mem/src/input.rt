@@ -1,0 +1,37 @@
+ghost use Rattle.std.specs.Prelude.{◌≡◌, ◌≤◌, ◌++◌, min, length, take, vec_len};
+
+/// Bytes to be pulled, with the place of the next one.
+#[derive(Drop)]
+pub struct Input {
+    /// All bytes, those that were pulled too.
+    pub bytes: Vec<u8>,
+    /// How many were pulled.
+    pub at: usize,
+    ghost within: { at ≤ vec_len bytes },
+}
+
+impl Input {
+    ghost use Rattle.std.specs.Prelude.{◌≡◌, ◌++◌, min, length, take, drop};
+    ghost use Rattle.machine_mem.specs.Inputs.{bytes_left};
+
+    /// Moves as many of the bytes left into the front of `buf` as fit there.
+    pub fn pull(&mut self, buf: &mut [u8]) -> usize
+        ensures count { result ≡ min (length buf.old) (length (bytes_left self.old)) }
+        ensures bytes { bytes_left self.old ≡ take result buf.new ++ bytes_left self.new }
+        ensures rest { bytes_left self.new ≡ drop result (bytes_left self.old) }
+    {
+        let count = fill(buf, &self.bytes[self.at..]);
+        self.at += count;
+        count
+    }
+}
+
+/// Copies as many of the bytes into the front of `buf` as fit there.
+pub fn fill(buf: &mut [u8], bytes: &[u8]) -> usize
+    ensures count { result ≡ min (length buf.old) (length bytes.now) }
+    ensures bytes { take result buf.new ≡ take result bytes.now }
+{
+    let count = buf.len().min(bytes.len());
+    buf[..count].copy_from_slice(&bytes[..count]);
+    count
+}

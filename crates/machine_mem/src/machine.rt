@@ -1,0 +1,297 @@
+ghost use Rattle.std.specs.Prelude.{◌≡◌, ◌+◌, ◌-◌, ◌^◌, ◌<◌, ◌≤◌, [], ◌++◌, min, length, take, IfOk, OnOk, OnErr};
+ghost use Rattle.machine_model.specs.Areas.{part};
+ghost use Rattle.machine_model.specs.States.{DiskState};
+ghost use Rattle.machine_model.specs.Causes.{Rose};
+ghost use Rattle.machine_mem.specs.Moments.{along};
+ghost use Rattle.machine_mem.specs.Machines.{wrote, synced, passed, showed, did_read};
+ghost use Rattle.machine_model.specs.Moments.{LeftSince};
+ghost use Rattle.machine_mem.specs.Snapshots.{shot_snapshot, snapshot_from};
+ghost use Rattle.machine_mem.specs.Picks.{IsPicked, bytes_of};
+ghost use Rattle.machine_mem.specs.Faults.{count_of};
+ghost use Rattle.machine_mem.specs.Outcomes.{script_of, starved_of, calls_of, Recalls, Remembers, Stays};
+ghost use Rattle.machine_mem.specs.Meaning.{after_calls, snapshot_of, meaning, source_state, sink_state, disk_state};
+
+use crate::counter::Counter;
+use crate::faults::{Counts, Fault, Script};
+use crate::history::{History, Shot};
+use crate::input::Input;
+use crate::picks::{Pick, Picked, pick_image};
+use crate::store::{Remains, Store};
+use crate::tally::Tally;
+use machine_model::{Area, Image, Machine};
+use std::alloc::{AllocError, Global};
+
+/// A machine in memory. It tells all that it holds, and its calls fail where its script says so,
+/// or where it finds no memory for its record.
+#[derive(Drop)]
+pub struct MemMachine {
+    pub(crate) alloc: Global,
+    pub(crate) input: Input,
+    pub(crate) shown: Vec<u8>,
+    pub(crate) journal: Store,
+    pub(crate) pages: Store,
+    pub(crate) read_journal: Tally,
+    pub(crate) read_pages: Tally,
+    pub(crate) source_faults: Counter,
+    pub(crate) sink_faults: Counter,
+    pub(crate) disk_faults: Counter,
+    pub(crate) history: History,
+    pub(crate) script: Script,
+    pub(crate) starved: Counter,
+}
+
+impl MemMachine {
+    /// A machine with this input left and nothing shown, whose disk is this image, just synced.
+    /// The calls that the faults name will fail. Cost: three copies of the image.
+    pub fn new(
+        alloc: Global,
+        input: Vec<u8>,
+        image: Image,
+        faults: Vec<Fault>,
+    ) -> Result<MemMachine, AllocError>
+        requires journal { length image.journal.items ≤ 2 ^ 40 }
+        requires pages { length image.pages.items ≤ 2 ^ 40 }
+        ensures source { IfOk result (λ x. source_state x ≡ record { left = input.items; faults = 0 }) }
+        ensures sink { IfOk result (λ x. sink_state x ≡ record { shown = []; faults = 0 }) }
+        ensures disk { IfOk result (λ x. disk_state x ≡ record {
+          reach = record { journal = length image.journal.items; pages = length image.pages.items };
+          holds = record { journal = image.journal.items; pages = image.pages.items };
+          faults = 0;
+          bytes_read = record { journal = 0; pages = 0 };
+          past = [];
+          now = record {
+            stable = record { journal = image.journal.items; pages = image.pages.items };
+            pending = record { journal = []; pages = [] };
+            beside = [];
+          };
+        }) }
+        ensures last { IfOk result (λ x. (snapshot_of x).last ≡ bytes_of image) }
+        ensures calls { IfOk result (λ x. calls_of x ≡ 0) }
+        ensures faults { IfOk result (λ x. (script_of x).faults ≡ faults) }
+        ensures counts { IfOk result (λ x. (kind : _) → count_of (script_of x).counts kind ≡ 0) }
+        ensures starved { IfOk result (λ x. starved_of x ≡ 0) }
+    {
+        let journal = Store::new(alloc, &image.journal)?;
+        let pages = Store::new(alloc, &image.pages)?;
+        Ok(MemMachine {
+            alloc,
+            input: Input {
+                bytes: input,
+                at: 0,
+            },
+            shown: Vec::new(alloc),
+            journal,
+            pages,
+            read_journal: Tally::new(alloc),
+            read_pages: Tally::new(alloc),
+            source_faults: Counter::new(),
+            sink_faults: Counter::new(),
+            disk_faults: Counter::new(),
+            history: History::new(alloc),
+            script: Script {
+                faults,
+                counts: Counts::new(),
+            },
+            starved: Counter::new(),
+        })
+    }
+
+    /// The bytes shown so far. Cost: none.
+    pub fn shown(&self) -> &[u8]
+        ensures { result.now ≡ (sink_state self.now).shown }
+    {
+        &self.shown
+    }
+
+    /// How many bytes of an area were read, or 2^64 - 1 where there were more.
+    pub fn read_of(&self, area: Area) -> u64
+        ensures { result ≡ min (part (disk_state self.now).bytes_read area) (2 ^ 64 - 1) }
+    {
+        match area {
+            Area::Journal => self.read_journal.capped(),
+            Area::Pages => self.read_pages.capped(),
+        }
+    }
+
+    /// How many calls failed because the machine found no memory for its record or its bytes.
+    pub fn starved(&self) -> u64
+        ensures { result ≡ starved_of self.now }
+    {
+        self.starved.value
+    }
+
+    /// The number of moments that `image_at` knows: 1, and one for each write, sync and push so far,
+    /// failed ones too.
+    pub fn moments(&self) -> usize
+        ensures value { result ≡ calls_of self.now + 1 }
+        ensures last { after_calls self.now (calls_of self.now) ≡ snapshot_of self.now }
+    {
+        self.history.calls as usize + 1
+    }
+
+    /// An image that was allowed after so many writes, syncs and pushes, and how many bytes were shown
+    /// then. Cost: the number of those calls, and the image.
+    pub fn image_at(&self, alloc: Global, moment: usize, pick: Pick) -> Result<Picked, AllocError>
+        requires { moment < calls_of self.now + 1 }
+        ensures picked { IfOk result (λ p. IsPicked (after_calls self.now moment) pick p) }
+        ensures left { IfOk result (λ p. LeftSince (disk_state self.now) 0 (bytes_of p.image) (after_calls self.now moment).moment.beside) }
+    {
+        let (journal, pages, shown) = self.remains_after(moment as u64);
+        let picked = pick_image(alloc, journal, pages, shown, pick)?;
+        Ok(picked)
+    }
+
+    /// What a stop might have left after so many calls, and the bytes shown then.
+    fn remains_after(&self, calls: u64) -> (&Remains, &Remains, &[u8])
+        ensures { snapshot_from result.0.now result.1.now result.2.now ≡ after_calls self.now calls }
+    {
+        match self.history.at(calls) {
+            Some(shot) => (&shot.journal, &shot.pages, &shot.shown),
+            None => (&self.journal.remains, &self.pages.remains, &self.shown),
+        }
+    }
+
+    /// One area.
+    pub(crate) fn store(&self, area: Area) -> &Store
+        ensures { result.now ≡ part (record { journal = self.now.journal; pages = self.now.pages }) area }
+    {
+        match area {
+            Area::Journal => &self.journal,
+            Area::Pages => &self.pages,
+        }
+    }
+
+    /// Counts bytes that were read. Without memory nothing changes.
+    pub(crate) fn count_read(&mut self, area: Area, bytes: u64) -> Result<(), AllocError>
+        ensures ok { OnOk result (meaning self.new ≡ did_read area bytes (meaning self.old)) }
+        ensures err { OnErr result (meaning self.new ≡ meaning self.old) }
+        ensures history { self.new.history ≡ self.old.history }
+        ensures rest { (self.new.script ≡ self.old.script) × (self.new.starved ≡ self.old.starved) }
+    {
+        match area {
+            Area::Journal => self.read_journal.add(bytes),
+            Area::Pages => self.read_pages.add(bytes),
+        }
+    }
+
+    /// Records a call that shows a piece, with the state before it. Without memory nothing changes.
+    /// Cost: a copy of the disk and of the bytes shown.
+    pub(crate) fn record(&mut self, piece: &[u8]) -> Result<(), AllocError>
+        ensures others { self.new ≡ record self.old { history = self.new.history } }
+        ensures past { OnOk result ((disk_state self.new).past ≡ (disk_state self.old).past ++ along (disk_state self.old).now piece.now) }
+        ensures recalls { OnOk result (Recalls self.old self.new.history.shots.items self.new.history.calls) }
+        ensures err { OnErr result ((self.new.history.shots.items ≡ self.old.history.shots.items) × (self.new.history.calls ≡ self.old.history.calls)) }
+    {
+        let shot = self.shot(piece)?;
+        self.history.record(shot)?;
+        Ok(())
+    }
+
+    /// The state now, and the piece that the next call shows.
+    fn shot(&self, piece: &[u8]) -> Result<Shot, AllocError>
+        ensures snapshot { IfOk result (λ shot. shot_snapshot shot ≡ snapshot_of self.now) }
+        ensures piece { IfOk result (λ shot. shot.piece.items ≡ piece.now) }
+        ensures until { IfOk result (λ shot. shot.until ≡ calls_of self.now) }
+    {
+        Ok(Shot {
+            journal: self.journal.remains.copy(self.alloc)?,
+            pages: self.pages.remains.copy(self.alloc)?,
+            shown: Vec::from_slice(self.alloc, &self.shown)?,
+            piece: Vec::from_slice(self.alloc, piece)?,
+            until: self.history.calls,
+        })
+    }
+
+    /// Records a call that changes nothing. Without memory nothing changes.
+    pub(crate) fn try_pass(&mut self) -> Result<(), AllocError>
+        ensures ok { OnOk result (meaning self.new ≡ passed (meaning self.old)) }
+        ensures err { OnErr result (meaning self.new ≡ meaning self.old) }
+        ensures recalls { OnOk result (Recalls self.old self.new.history.shots.items self.new.history.calls) }
+        ensures stays { OnErr result (Stays self.old self.new) }
+        ensures rest { (self.new.script ≡ self.old.script) × (self.new.starved ≡ self.old.starved) }
+    {
+        self.record(b"")
+    }
+
+    /// A write of which the first `kept` bytes come through. Without memory nothing changes.
+    pub(crate) fn try_write(
+        &mut self,
+        area: Area,
+        at: u64,
+        bytes: &[u8],
+        kept: usize,
+    ) -> Result<(), AllocError>
+        requires fits { at + length bytes.now ≤ 2 ^ 40 }
+        requires within { kept ≤ length bytes.now }
+        ensures ok { OnOk result (meaning self.new ≡ wrote area at bytes.now kept (meaning self.old)) }
+        ensures err { OnErr result (meaning self.new ≡ meaning self.old) }
+        ensures recalls { OnOk result (Recalls self.old self.new.history.shots.items self.new.history.calls) }
+        ensures stays { OnErr result (Stays self.old self.new) }
+        ensures rest { (self.new.script ≡ self.old.script) × (self.new.starved ≡ self.old.starved) }
+    {
+        let next = self.store(area).after_write(self.alloc, at, bytes, kept)?;
+        self.record(&[])?;
+        match area {
+            Area::Journal => self.journal = next,
+            Area::Pages => self.pages = next,
+        }
+        Ok(())
+    }
+
+    /// A sync that comes through. Without memory nothing changes.
+    pub(crate) fn try_sync(&mut self) -> Result<(), AllocError>
+        ensures ok { OnOk result (meaning self.new ≡ synced (meaning self.old)) }
+        ensures err { OnErr result (meaning self.new ≡ meaning self.old) }
+        ensures recalls { OnOk result (Recalls self.old self.new.history.shots.items self.new.history.calls) }
+        ensures stays { OnErr result (Stays self.old self.new) }
+        ensures rest { (self.new.script ≡ self.old.script) × (self.new.starved ≡ self.old.starved) }
+    {
+        let journal = self.journal.after_sync(self.alloc)?;
+        let pages = self.pages.after_sync(self.alloc)?;
+        self.record(&[])?;
+        self.journal = journal;
+        self.pages = pages;
+        Ok(())
+    }
+
+    /// A push that comes through. Without memory nothing changes.
+    pub(crate) fn try_push(&mut self, piece: &[u8]) -> Result<(), AllocError>
+        ensures ok { OnOk result (meaning self.new ≡ showed piece.now (meaning self.old)) }
+        ensures err { OnErr result (meaning self.new ≡ meaning self.old) }
+        ensures recalls { OnOk result (Recalls self.old self.new.history.shots.items self.new.history.calls) }
+        ensures stays { OnErr result (Stays self.old self.new) }
+        ensures rest { (self.new.script ≡ self.old.script) × (self.new.starved ≡ self.old.starved) }
+    {
+        self.shown.reserve(piece.len())?;
+        self.record(piece)?;
+        self.shown.extend_from_slice(piece)?;
+        Ok(())
+    }
+
+    /// Counts a write, a sync or a push that found no memory.
+    pub(crate) fn starve(&mut self)
+        ensures same { meaning self.new ≡ meaning self.old }
+        ensures script { self.new.script ≡ self.old.script }
+        ensures starved { Rose self.old.starved.value self.new.starved.value }
+        ensures remembers { Remembers self.old self.new }
+    {
+        self.history.skip();
+        self.starved.rise();
+    }
+}
+
+impl Machine for MemMachine {
+    ghost use Rattle.std.specs.Prelude.{refl};
+
+    ghost source_alone = { λ x y one. (one.sink, one.disk) };
+
+    ghost disk_alone = { λ x y one. (one.source, one.sink) };
+
+    ghost sink_alone = { λ x y one. (one.source, one.beside) };
+
+    ghost beside_shown = { λ x sink_tells disk_tells. refl };
+
+    ghost shows = { λ x y sink_tells disk_tells one. one.shows };
+
+    ghost shows_piece = { λ x y piece answer sink_tells disk_tells one. one.moments };
+}

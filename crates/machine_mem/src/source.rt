@@ -1,0 +1,48 @@
+use crate::MemMachine;
+use crate::faults::CallKind;
+use machine_model::{Failed, Source};
+
+impl Source for MemMachine {
+    ghost use Rattle.std.specs.Prelude.{◌≡◌, ℕ, ◌≤◌, ◌++◌, [], min, length, take, IfOk, OnErr, IsErr};
+    ghost use Rattle.machine_model.specs.Causes.{HasCause};
+    ghost use Rattle.machine_mem.specs.Machines.{OnlySource, pulled, failed_source};
+    ghost use Rattle.machine_mem.specs.MachineLaws.{OnlySource-same, OnlySource-joins};
+    ghost use Rattle.machine_mem.specs.Outcomes.{IsDue, called, script_of, Serves, Stays};
+    ghost use Rattle.machine_mem.specs.Meaning.{meaning, source_state};
+
+    ghost source_tells = { Unit {0} };
+
+    ghost source = { source_state };
+
+    ghost only = { λ x y. OnlySource (meaning x) (meaning y) };
+
+    ghost only_same = { λ x. OnlySource-same (meaning x) };
+
+    ghost only_joins = { λ x y z one two. OnlySource-joins (meaning x) (meaning y) (meaning z) one two };
+
+    ghost only_faults = { λ x y one. one.faults };
+
+    ghost faults_limit = { λ x. x.source_faults.small };
+
+    fn pull(&mut self, buf: &mut [u8]) -> Result<usize, Failed>
+        ensures only { OnlySource (meaning self.old) (meaning self.new) }
+        ensures cause { HasCause (source_state self.old).faults (source_state self.new).faults result }
+        ensures count { IfOk result (λ n. n ≤ length buf.new) }
+        ensures bytes { IfOk result (λ n. (source_state self.old).left ≡ take n buf.new ++ (source_state self.new).left) }
+        ensures end { IfOk result (λ n. n ≡ 0 → 1 ≤ length buf.new → (source_state self.old).left ≡ []) }
+        ensures failed { OnErr result ((source_state self.new).left ≡ (source_state self.old).left) }
+
+        // exactly; as many bytes as there are and as fit into the buffer
+        ensures done { IfOk result (λ n. (n ≡ min (length buf.old) (length (source_state self.old).left)) × Serves (pulled n) self.old self.new) }
+        ensures why { OnErr result (((kept : ℕ) × IsDue self.old CallKind.Pull kept) × Serves failed_source self.old self.new) }
+        ensures named { (kept : ℕ) → IsDue self.old CallKind.Pull kept → IsErr result }
+        ensures counted { script_of self.new ≡ called CallKind.Pull (script_of self.old) }
+        ensures stays { Stays self.old self.new }
+    {
+        if self.script.due(CallKind::Pull).is_some() {
+            self.source_faults.rise();
+            return Err(Failed);
+        }
+        Ok(self.input.pull(buf))
+    }
+}

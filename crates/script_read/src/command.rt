@@ -1,0 +1,17 @@
+//! What a script may ask for.
+use crate::text::Text;
+use time_base::{DocId, Time};
+
+/// A command of a script.
+#[derive(Debug, Drop)]
+pub enum Command {
+    /// A new version of a document.
+    Arrive {
+        /// The document.
+        doc: DocId,
+        /// When the version is created.
+        at: Time,
+        /// Its text, of at most 4,194,304 bytes.
+        text: Text,
+    },
+}

@@ -1,0 +1,25 @@
+//! The commands of a script, read from a source that gives its bytes in any pieces.
+//!
+//! A script is a list of items, each taken off the front of the bytes (`specs/Items.antt`). Now an
+//! item is a line `arrive DOCUMENT TIME BYTES` and then the text, of so many bytes below 128, and
+//! an LF. Contracts see a command as a plain value, a text as its bytes, and a reader as the bytes
+//! since the last item, how many came before them, and whether the end of the input was told.
+//!
+//! To the layer above it promises the items of the bytes pulled, however the source cuts them, and
+//! that it says of a script that is broken exactly where.
+#![tactic(auto)]
+
+mod command;
+mod first;
+mod item;
+mod line;
+mod number;
+mod reader;
+#[cfg(test)]
+mod tests;
+mod text;
+
+pub use command::Command;
+pub use item::{Item, ScriptError};
+pub use reader::{BLOCK_BYTES, MOST_INPUT_BYTES, Reader};
+pub use text::Text;

@@ -1,0 +1,90 @@
+//! What the lines of a script say.
+ghost use Rattle.std.specs.Prelude.{◌≡◌, ◌==◌, ◌≤◌, length, position};
+ghost use Rattle.std.specs.List.{position_or_len};
+ghost use Rattle.script_read.specs.Lines.{word, after_word, document, time, size, meaning};
+
+use crate::number::number_below;
+use time_base::{DocId, NOW, Time};
+
+/// The most bytes of an arrival's text.
+const MOST_TEXT_BYTES: u64 = 4_194_304;
+
+/// What a line says.
+#[derive(Clone, Copy, Debug)]
+pub enum Meaning {
+    /// A version arrives; its text comes behind the line.
+    Arrival {
+        /// The document.
+        doc: DocId,
+        /// When the version is created.
+        at: Time,
+        /// The length of its text.
+        bytes: usize,
+    },
+    /// Nothing that a script may say.
+    Faulty,
+}
+
+/// The place of the first such byte, or the number of bytes where none is. Costs as many bytes.
+pub(crate) fn place_of(byte: u8, bytes: &[u8]) -> usize
+    ensures place { result ≡ position_or_len (λ b. b == byte) bytes.now }
+    ensures within { result ≤ length bytes.now }
+{
+    find_byte(byte, bytes).unwrap_or(bytes.len())
+}
+
+fn find_byte(byte: u8, bytes: &[u8]) -> Option<usize>
+    ensures { result ≡ position (λ b. b == byte) bytes.now }
+{
+    bytes.iter().position(|b| *b == byte)
+}
+
+/// The first word of a line, and what stands behind the one space after it.
+fn next_word(line: &[u8]) -> (&[u8], &[u8])
+    ensures word { result.0.now ≡ word line.now }
+    ensures rest { result.1.now ≡ after_word line.now }
+{
+    let n = place_of(b' ', line);
+    let rest = if n < line.len() {
+        &line[n + 1..]
+    } else {
+        &line[n..]
+    };
+    (&line[..n], rest)
+}
+
+fn read_document(word: &[u8]) -> Option<DocId>
+    ensures { result ≡ document word.now }
+{
+    let number = number_below(1 << 32, word)?;
+    Some(DocId(number as u32))
+}
+
+fn read_time(word: &[u8]) -> Option<Time>
+    ensures { result ≡ time word.now }
+{
+    Time::new(number_below(NOW, word)?)
+}
+
+fn read_size(word: &[u8]) -> Option<usize>
+    ensures { result ≡ size word.now }
+{
+    let bytes = number_below(MOST_TEXT_BYTES + 1, word)?;
+    Some(bytes as usize)
+}
+
+/// What a line says, without its LF.
+pub(crate) fn meaning_of(line: &[u8]) -> Meaning
+    ensures { result ≡ meaning line.now }
+{
+    let (name, rest) = next_word(line);
+    if name != b"arrive".as_slice() {
+        return Meaning::Faulty;
+    }
+    let (doc, rest) = next_word(rest);
+    let (at, bytes) = next_word(rest);
+    match (read_document(doc), read_time(at), read_size(bytes)) {
+        (Some(doc), Some(at), Some(bytes)) => Meaning::Arrival { doc, at, bytes },
+        _ => Meaning::Faulty,
+    }
+}

@@ -1,0 +1,4 @@
+pub mod Stores
+pub mod Telling
+pub mod Meaning
+pub mod Laws

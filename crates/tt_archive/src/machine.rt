@@ -1,0 +1,64 @@
+//! The machine that the program runs on.
+ghost use Rattle.std.specs.Prelude.{◌≡◌, IfOk};
+ghost use Rattle.tt_archive.specs.Telling.{source_from, sink_from};
+ghost use Rattle.tt_archive.specs.Meaning.{source_state, sink_state, disk_state};
+
+use crate::fault_count::FaultCount;
+use crate::store::Store;
+use machine_model::{Failed, Machine};
+use std::fs::{Files, OpenFile};
+use std::io;
+use std::io::{Printer, Read, Seek, Write};
+use std::os::unix::fs::FileExt;
+
+/// The two files of an archive, the stream that commands come from and the one that replies go to.
+///
+/// It knows the lengths of its files and how often the calls of each trait failed, and tells
+/// nothing else. Its streams are not buffered: a pull is one read, a push is one write.
+#[derive(Drop)]
+pub(crate) struct FileMachine<F, I, O> {
+    pub(crate) store: Store<F>,
+    pub(crate) input: I,
+    pub(crate) output: O,
+    pub(crate) source_faults: FaultCount,
+    pub(crate) sink_faults: FaultCount,
+    pub(crate) disk_faults: FaultCount,
+}
+
+/// Makes the machine of the working folder's files and the standard streams. The files are made
+/// where they are missing. A file that can't be opened, or is longer than 2^40 bytes, is a failure.
+pub(crate) fn open_machine<R: Files + Input + Print>(
+    rt: &R,
+) -> Result<FileMachine<R::File, R::Reader, Printer<'_, R>>, Failed>
+where
+    R::File: FileExt,
+    ensures source { IfOk result (λ x. source_state x ≡ source_from 0) }
+    ensures sink { IfOk result (λ x. sink_state x ≡ sink_from 0) }
+    ensures disk { IfOk result (λ x. (disk_state x).faults ≡ 0) }
+{
+    let store = Store::open(rt)?;
+    Ok(FileMachine {
+        store,
+        input: rt.reader(),
+        output: io::writer(rt),
+        source_faults: FaultCount::new(),
+        sink_faults: FaultCount::new(),
+        disk_faults: FaultCount::new(),
+    })
+}
+
+impl<F: FileExt + Seek + OpenFile, I: Read, O: Write> Machine for FileMachine<F, I, O> {
+    ghost use Rattle.tt_archive.specs.Laws.{IsSameBeside-same};
+
+    ghost source_alone = { λ x y one. (one.sink, one.disk) };
+
+    ghost disk_alone = { λ x y one. (one.source, one.sink) };
+
+    ghost sink_alone = { λ x y one. (one.source, IsSameBeside-same (disk_state x) (disk_state y) one.disk) };
+
+    ghost beside_shown = { λ x sink_tells disk_tells. absurd sink_tells };
+
+    ghost shows = { λ x y sink_tells disk_tells one. absurd sink_tells };
+
+    ghost shows_piece = { λ x y piece answer sink_tells disk_tells one. absurd sink_tells };
+}

@@ -1,0 +1,68 @@
+//! The program `tt_archive`: one run of the archive on the files of the working folder.
+//!
+//! It opens `archive.journal` and `archive.pages`, makes a machine of them and of the standard
+//! streams, and calls `archive_shell::run` on it. What it promises is that call's contract. Here
+//! stand only the machine (`FileMachine`), which tells its lengths and its faults and no content,
+//! and the words, the status line and the exit status.
+#![tactic(auto)]
+
+ghost use Rattle.std.specs.Prelude.{◌≡◌};
+ghost use Rattle.std.specs.Process.{exit_status};
+ghost use Rattle.archive_shell.specs.Statuses.{code_of};
+
+mod area_file;
+mod calls;
+mod disk;
+mod fault_count;
+mod machine;
+mod sink;
+mod source;
+mod store;
+
+use archive_shell::{Status, run};
+use machine::open_machine;
+use std::env::Env;
+use std::fs::Files;
+use std::io;
+use std::os::unix::fs::FileExt;
+use std::process::ExitCode;
+
+fn main(rt: HostRuntime) -> ExitCode {
+    let status = run_here(&rt);
+    finish(&rt, status)
+}
+
+/// Prints the line of a status other than `Done`, and gives the exit status. Where standard error
+/// fails too, the exit status still tells.
+fn finish<R: Eprint>(rt: &R, status: Status) -> ExitCode
+    ensures { exit_status result ≡ code_of status }
+{
+    let code = status.code();
+    if code != 0 {
+        let _ = rt.eprintln(status);
+    }
+    ExitCode::from(code)
+}
+
+/// Opens the files of the working folder and runs the words of the command line on them. Words
+/// that aren't text count as one word too many.
+fn run_here<R: Files + Input + Print + Env + AllocGlobal>(rt: &R) -> Status
+where
+    R::File: FileExt,
+{
+    let Ok(mut machine) = open_machine(rt) else {
+        return Status::Disk;
+    };
+    match words(rt) {
+        Ok(words) => run(rt.alloc(), &words, &mut machine),
+        Err(_) => Status::Usage,
+    }
+}
+
+/// The words of the command line behind the program's name.
+fn words<R: Env + AllocGlobal>(rt: &R) -> io::Result<Vec<String>> {
+    let mut all = std::env::args(rt)?;
+    let _ = all.next();
+    let words = all.collect(rt.alloc())?;
+    Ok(words)
+}

@@ -1,0 +1,37 @@
+//! Standard input as the source.
+use crate::calls::read_once;
+use crate::machine::FileMachine;
+use machine_model::{Failed, Source};
+use std::fs::OpenFile;
+use std::io::{Read, Seek, Write};
+use std::os::unix::fs::FileExt;
+
+impl<F: FileExt + Seek + OpenFile, I: Read, O: Write> Source for FileMachine<F, I, O> {
+    ghost use Rattle.tt_archive.specs.Telling.{OnlySource};
+    ghost use Rattle.tt_archive.specs.Laws.{OnlySource-same, OnlySource-joins};
+    ghost use Rattle.tt_archive.specs.Meaning.{meaning, source_state};
+
+    ghost source_tells = { ⊥ };
+
+    ghost source = { source_state };
+
+    ghost only = { λ x y. OnlySource (meaning x) (meaning y) };
+
+    ghost only_same = { λ x. OnlySource-same (meaning x) };
+
+    ghost only_joins = { λ x y z one two. OnlySource-joins (meaning x) (meaning y) (meaning z) one two };
+
+    ghost only_faults = { λ x y one. one.faults };
+
+    ghost faults_limit = { λ x. x.source_faults.limit };
+
+    fn pull(&mut self, buf: &mut [u8]) -> Result<usize, Failed> {
+        match read_once(&mut self.input, buf) {
+            Ok(count) => Ok(count),
+            Err(Failed) => {
+                self.source_faults.rise();
+                Err(Failed)
+            }
+        }
+    }
+}

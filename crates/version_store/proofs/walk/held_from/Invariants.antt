@@ -1,0 +1,13 @@
+use Rattle.std.proofs.Common.{◌<◌, length}
+use Rattle.time_base.specs.declared.ids.DocId.{DocId}
+use Rattle.version_store.specs.Index.{Leads}
+use Rattle.version_store.proofs.walk.held_from.Given as goal
+
+abbrev pub invariant-loop-place : goal.invariant-loop-place
+invariant-loop-place l = record {
+  there : l.place < length l.log;
+  leads : (doc : DocId) → Leads doc l.t.seconds l.log l.fn.latest → Leads doc l.t.seconds l.log l.place;
+}
+
+abbrev pub decreases-loop-place : goal.decreases-loop-place
+decreases-loop-place l = l.place

@@ -1,0 +1,55 @@
+//! The walk back from a document's latest change to the one that is valid at a time.
+ghost use Rattle.std.specs.Prelude.{◌≡◌, ◌<◌, length, slice_get, None, Some, IfSome, MatchOption};
+ghost use Rattle.time_base.specs.declared.ids.DocId.{DocId as Document};
+ghost use Rattle.version_store.specs.Changes.{held_at};
+ghost use Rattle.version_store.specs.Index.{AreLinked, Leads};
+
+use crate::change::Change;
+use crate::link::Link;
+use time_base::{TextPlace, Time};
+
+/// What the document of the change at the place `latest` holds at the time, where none of its
+/// changes behind that place counts then. Its steps are in the logarithm of the document's changes.
+pub(crate) fn held_from(
+    log: &[Change<TextPlace>],
+    links: &[Link],
+    latest: usize,
+    t: Time,
+) -> Option<TextPlace>
+    requires linked { AreLinked log.now links.now }
+    requires there { latest < length log.now }
+    ensures { (doc : Document) → Leads doc t.seconds log.now latest →
+        result ≡ held_at doc t.seconds log.now }
+{
+    let mut place = latest;
+    while t.seconds < log[place].at.seconds {
+        match step_back(log, links, place, t) {
+            Some(earlier) => place = earlier,
+            None => return None,
+        }
+    }
+    log[place].held
+}
+
+/// The place to go on with from a change behind the time: where its jump leads if that is behind
+/// the time too, else the change before it; None where it is the document's first. Constant cost.
+fn step_back(log: &[Change<TextPlace>], links: &[Link], place: usize, t: Time) -> Option<usize>
+    requires linked { AreLinked log.now links.now }
+    requires there { place < length log.now }
+    requires behind { IfSome (slice_get log.now place) (λ c. t.seconds < c.at.seconds) }
+    ensures earlier { IfSome result (λ i. i < place) }
+    ensures leads { (doc : Document) → Leads doc t.seconds log.now place →
+        MatchOption result
+        (None ≡ held_at doc t.seconds log.now)
+        (Leads doc t.seconds log.now) }
+{
+    let link = links[place];
+    let Some(before) = link.before else {
+        return None;
+    };
+    if t.seconds < log[link.jump].at.seconds {
+        Some(link.jump)
+    } else {
+        Some(before)
+    }
+}
