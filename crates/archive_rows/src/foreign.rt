@@ -34,13 +34,7 @@ fn altered(alloc: Global, place: usize, byte: u8) -> Result<Vec<u8>, Fail> {
 fn another_header_is_refused_at_its_first_byte(rt: HostRuntime) -> Result<(), Fail> {
     let alloc = rt.alloc();
     let stranger = b"xxxxxxxxxxxxxxxxxx";
-    expect_run(
-        &rt,
-        alloc,
-        stranger,
-        Status::NotArchive { at: 0 },
-        stranger,
-    )?;
+    expect_run(&rt, alloc, stranger, Status::NotArchive { at: 0 }, stranger)?;
     for place in 0..16 {
         let journal = altered(alloc, place, b'?')?;
         let status = Status::NotArchive { at: place as u64 };
@@ -107,11 +101,5 @@ fn a_journal_cut_short_is_new_or_refused_at_its_gate(rt: HostRuntime) -> Result<
             expect_run(&rt, alloc, journal, Status::NotArchive { at: 16 }, journal)?;
         }
     }
-    expect_run(
-        &rt,
-        alloc,
-        b"xxxxxxxxxxxxxxxxx",
-        Status::Done,
-        NEW_JOURNAL,
-    )
+    expect_run(&rt, alloc, b"xxxxxxxxxxxxxxxxx", Status::Done, NEW_JOURNAL)
 }
