@@ -90,20 +90,49 @@ not_made history entry refusal errors.Memory old new archive archive_now result 
     let N : Result (Unit {0}) Stop → Type 0 = λ r. OnOk r (IsKept new archive_now turn.0.next × (page ≡ reply_text turn.0.reply)) in
     (turn.0, turn.1, subst L (sym (known.memory refl)) (leads_nowhere turn.0.next known.kept), subst N (sym refuses) tt)
 
+-- a command that adds an entry, where that is accepted
+answered : (history : History) (command : Command) (entry : Entry) (refusal : Option Refusal) (n : ℕ) (old new : DiskState) (archive_now : ArchiveState) (page : List ℕ)
+    → ((reply : Reply) (next : History) → Adds history entry refusal reply next → Step history command reply next)
+    → refusal ≡ None → n ≡ length history + 1 → page ≡ reply_text (Accepted n) → LeadsTo history (history ++ entry ∷ []) old new → IsKept new archive_now (history ++ entry ∷ [])
+    → Answers history command (Ok tt) old new archive_now page
+answered history command entry refusal n old new archive_now page adds none count shown leads kept =
+    let made = accepted history entry refusal n page none count shown in
+    let L : History → Type 0 = λ next. LeadsTo history next old new in
+    let K : History → Type 0 = λ next. IsKept new archive_now next in
+    record { turn = made.0; step = adds made.0.reply made.0.next made.1; leads = subst L (sym made.2) leads; kept = (subst K (sym made.2) kept, made.3) }
+
+-- a command that adds an entry, where that is not made
+not_answered : (history : History) (command : Command) (entry : Entry) (refusal : Option Refusal) (error : ChangeError) (old new : DiskState) (archive archive_now : ArchiveState) (result : Result (Unit {0}) Stop) (page : List ℕ)
+    → ((reply : Reply) (next : History) → Adds history entry refusal reply next → Step history command reply next)
+    → NotMade history entry refusal error old new archive archive_now → Refuses error result page → Answers history command result old new archive_now page
+not_answered history command entry refusal error old new archive archive_now result page adds known refuses =
+    let made = not_made history entry refusal error old new archive archive_now result page known refuses in
+    record { turn = made.0; step = adds made.0.reply made.0.next made.1; leads = made.2; kept = made.3 }
+
 -- an arrival that is accepted
 pub arrived : (history : History) (doc : DocId) (at : Time) (text : List ℕ) (n : ℕ) (old new : DiskState) (archive_now : ArchiveState) (page : List ℕ)
     → arrival_refusal history doc at text ≡ None → n ≡ length history + 1 → page ≡ reply_text (Accepted n) → LeadsTo history (history ++ entries.Arrive doc at text ∷ []) old new
     → IsKept new archive_now (history ++ entries.Arrive doc at text ∷ []) → Answers history (Arrive doc at text) (Ok tt) old new archive_now page
-arrived history doc at text n old new archive_now page none count shown leads kept =
-    let made = accepted history (entries.Arrive doc at text) (arrival_refusal history doc at text) n page none count shown in
-    let L : History → Type 0 = λ next. LeadsTo history next old new in
-    let K : History → Type 0 = λ next. IsKept new archive_now next in
-    record { turn = made.0; step = made.1; leads = subst L (sym made.2) leads; kept = (subst K (sym made.2) kept, made.3) }
+arrived history doc at text n old new archive_now page =
+    answered history (Arrive doc at text) (entries.Arrive doc at text) (arrival_refusal history doc at text) n old new archive_now page (λ reply next adds. adds)
 
 -- an arrival that is not made
 pub not_arrived : (history : History) (doc : DocId) (at : Time) (text : List ℕ) (error : ChangeError) (old new : DiskState) (archive archive_now : ArchiveState) (result : Result (Unit {0}) Stop) (page : List ℕ)
     → NotMade history (entries.Arrive doc at text) (arrival_refusal history doc at text) error old new archive archive_now → Refuses error result page
     → Answers history (Arrive doc at text) result old new archive_now page
-not_arrived history doc at text error old new archive archive_now result page known refuses =
-    let made = not_made history (entries.Arrive doc at text) (arrival_refusal history doc at text) error old new archive archive_now result page known refuses in
-    record { turn = made.0; step = made.1; leads = made.2; kept = made.3 }
+not_arrived history doc at text error old new archive archive_now result page =
+    not_answered history (Arrive doc at text) (entries.Arrive doc at text) (arrival_refusal history doc at text) error old new archive archive_now result page (λ reply next adds. adds)
+
+-- a deletion that is accepted
+pub deleted : (history : History) (doc : DocId) (at : Time) (n : ℕ) (old new : DiskState) (archive_now : ArchiveState) (page : List ℕ)
+    → deletion_refusal history doc at ≡ None → n ≡ length history + 1 → page ≡ reply_text (Accepted n) → LeadsTo history (history ++ entries.Delete doc at ∷ []) old new
+    → IsKept new archive_now (history ++ entries.Delete doc at ∷ []) → Answers history (Delete doc at) (Ok tt) old new archive_now page
+deleted history doc at n old new archive_now page =
+    answered history (Delete doc at) (entries.Delete doc at) (deletion_refusal history doc at) n old new archive_now page (λ reply next adds. adds)
+
+-- a deletion that is not made
+pub not_deleted : (history : History) (doc : DocId) (at : Time) (error : ChangeError) (old new : DiskState) (archive archive_now : ArchiveState) (result : Result (Unit {0}) Stop) (page : List ℕ)
+    → NotMade history (entries.Delete doc at) (deletion_refusal history doc at) error old new archive archive_now → Refuses error result page
+    → Answers history (Delete doc at) result old new archive_now page
+not_deleted history doc at error old new archive archive_now result page =
+    not_answered history (Delete doc at) (entries.Delete doc at) (deletion_refusal history doc at) error old new archive archive_now result page (λ reply next adds. adds)

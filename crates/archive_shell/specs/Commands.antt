@@ -1,8 +1,9 @@
 -- The commands of a script as those of the abstract machine.
 use Rattle.script_read.specs.declared.command.Command as script
 use Rattle.script_read.specs.declared.command.Command.TheVariants as scripts
-use Rattle.archive_state.specs.Steps.{Command, Arrive}
+use Rattle.archive_state.specs.Steps.{Command, Arrive, Delete}
 
 -- a command of the script, as one of the abstract machine
 abbrev pub command_of : script.Command → Command
 command_of (scripts.Arrive doc at text) = Arrive doc at text
+command_of (scripts.Delete doc at) = Delete doc at

@@ -3,7 +3,7 @@ ghost use Rattle.std.specs.Prelude.{◌≡◌, ◌≤◌, IsTrue, OnOk, IsErrOf}
 ghost use Rattle.machine_model.specs.Causes.{Rose};
 ghost use Rattle.archive_state.specs.Histories.{History};
 ghost use Rattle.archive_core.specs.States.{IsKept};
-ghost use Rattle.archive_state.specs.Steps.{Arrive};
+ghost use Rattle.archive_state.specs.Steps.{Arrive, Delete};
 ghost use Rattle.archive_shell.specs.Commands.{command_of};
 ghost use Rattle.archive_shell.specs.Turns.{Answers, Refuses};
 
@@ -35,6 +35,7 @@ pub(crate) fn answer<D: Disk>(
 {
     match command {
         Command::Arrive { doc, at, text } => arrive(alloc, disk, archive, page, doc, at, text),
+        Command::Delete { doc, at } => delete(alloc, disk, archive, page, doc, at),
     }
 }
 
@@ -59,6 +60,34 @@ fn arrive<D: Disk>(
         Answers h (Arrive doc at text) result (D.disk disk.old) (D.disk disk.new) archive.new page.new.bytes }
 {
     match archive.arrive(alloc, disk, doc, at, text.as_slice()) {
+        Ok(length) => {
+            page.accepted(length);
+            Ok(())
+        }
+        Err(error) => refuse(page, error),
+    }
+}
+
+/// Carries out a deletion, and writes its reply on the page.
+fn delete<D: Disk>(
+    alloc: Global,
+    disk: &mut D,
+    archive: &mut Archive,
+    page: &mut ReplyPage,
+    doc: DocId,
+    at: Time,
+) -> Result<(), Stop>
+    requires live { IsTrue archive.old.live }
+    requires within { archive.old.end ≤ (D.disk disk.old).reach.journal }
+    ensures only { D.Disk.only disk.old disk.new }
+    ensures disk_fault { IsErrOf result Stop.Disk → Rose (D.disk disk.old).faults (D.disk disk.new).faults }
+    ensures no_sink { IsErrOf result Stop.Sink → ⊥ }
+    ensures live { OnOk result (IsTrue archive.new.live) }
+    ensures within { OnOk result (archive.new.end ≤ (D.disk disk.new).reach.journal) }
+    ensures turn { D.disk_tells → (h : History) → IsKept (D.disk disk.old) archive.old h →
+        Answers h (Delete doc at) result (D.disk disk.old) (D.disk disk.new) archive.new page.new.bytes }
+{
+    match archive.delete(alloc, disk, doc, at) {
         Ok(length) => {
             page.accepted(length);
             Ok(())

@@ -4,13 +4,13 @@ use Rattle.std.proofs.Common.{arith, ◌∙◌, subst, zero, suc, ltb-true, leng
 use Rattle.time_base.specs.declared.ids.DocId.{DocId}
 use Rattle.time_base.specs.declared.time.Time.{Time}
 use Rattle.script_read.specs.Numbers.{value_of, are_digits, number}
-use Rattle.script_read.specs.Lines.{word, after_word, document, time, size, arrival, meaning}
+use Rattle.script_read.specs.Lines.{word, after_word, document, time, size, arrival, deletion, meaning}
 use Rattle.script_read.specs.Items.{is_plain, is_text, item_of, begins, at_end, first}
 use Rattle.script_read.specs.declared.command.Command.TheVariants.{Arrive}
 use Rattle.script_read.specs.declared.first.First.{First}
 use Rattle.script_read.specs.declared.first.First.TheVariants.{Whole, Broken, More, End}
 use Rattle.script_read.specs.declared.line.Meaning.{Meaning}
-use Rattle.script_read.specs.declared.line.Meaning.TheVariants.{Arrival, Faulty}
+use Rattle.script_read.specs.declared.line.Meaning.TheVariants.{Arrival, Deletion, Faulty}
 use Rattle.std.specs.List.{position_or_len}
 
 number-below : (limit : ℕ) (word : List ℕ) (n : ℕ) → number limit word ≡ Some n → n < limit
@@ -27,8 +27,13 @@ arrival-size (Some d) (Some t) None doc at n e = cc
 arrival-size (Some d) None s doc at n e = cc
 arrival-size None t s doc at n e = cc
 
+deletion-other : (d : Option DocId) (t : Option Time) (doc : DocId) (at : Time) (n : ℕ) → deletion d t ≡ Arrival doc at n → ⊥
+deletion-other (Some d) (Some t) doc at n e = cc
+deletion-other (Some d) None doc at n e = cc
+deletion-other None t doc at n e = cc
+
 meaning-size : (line : List ℕ) (doc : DocId) (at : Time) (n : ℕ) → meaning line ≡ Arrival doc at n → n < 4194305
-meaning-size line doc at n e = go (bytes_eq (word line) (codes "arrive")) e
+meaning-size line doc at n e = go (bytes_eq (word line) (codes "arrive")) (bytes_eq (word line) (codes "delete")) e
   where
     one : List ℕ
     one = after_word line
@@ -36,9 +41,11 @@ meaning-size line doc at n e = go (bytes_eq (word line) (codes "arrive")) e
     two : List ℕ
     two = after_word one
 
-    go : (b : Bool) → (if b then arrival (document (word one)) (time (word two)) (size (after_word two)) else Faulty) ≡ Arrival doc at n → n < 4194305
-    go true e = number-below 4194305 (after_word two) n (arrival-size (document (word one)) (time (word two)) (size (after_word two)) doc at n e)
-    go false e = cc
+    go : (b d : Bool) → (if b then arrival (document (word one)) (time (word two)) (size (after_word two)) else (if d then deletion (document (word one)) (time two) else Faulty)) ≡ Arrival doc at n
+        → n < 4194305
+    go true d e = number-below 4194305 (after_word two) n (arrival-size (document (word one)) (time (word two)) (size (after_word two)) doc at n e)
+    go false true e = absurd (deletion-other (document (word one)) (time two) doc at n e)
+    go false false e = cc
 
 -- at most so many bytes, each below 128
 abbrev pub IsShort : List ℕ → Type 0
@@ -57,6 +64,7 @@ plain-ascii (b ∷ text) e (suc i) = plain-ascii text (both (nat_lt b 128) (is_p
 item_of-text : (m : Meaning) (used : ℕ) (rest : List ℕ) (doc : DocId) (at : Time) (text : List ℕ) (k : ℕ)
     → ((d : DocId) (t : Time) (n : ℕ) → m ≡ Arrival d t n → n < 4194305) → item_of m used rest ≡ Whole (Arrive doc at text) k → IsShort text
 item_of-text Faulty used rest doc at text k small e = cc
+item_of-text (Deletion d t) used rest doc at text k small e = cc
 item_of-text (Arrival d t n) used rest doc at text k small e = go (nat_lt n (length rest)) (is_text n rest) refl e
   where
     go : (a b : Bool) → is_text n rest ≡ b → (if a then (if b then Whole (Arrive d t (take n rest)) (used + n + 1) else Broken 0) else More) ≡ Whole (Arrive doc at text) k

@@ -3,11 +3,11 @@ use Rattle.std.specs.Prelude.{◌≡◌, ℕ, ◌+◌, Bool, true, false, ◌&&�
 use Rattle.std.specs.List.{list_all, position_or_len}
 use Rattle.script_read.specs.Lines.{meaning}
 use Rattle.script_read.specs.declared.command.Command.{Command}
-use Rattle.script_read.specs.declared.command.Command.TheVariants.{Arrive}
+use Rattle.script_read.specs.declared.command.Command.TheVariants.{Arrive, Delete}
 use Rattle.script_read.specs.declared.first.First.{First}
 use Rattle.script_read.specs.declared.first.First.TheVariants.{Whole, Broken, More, End}
 use Rattle.script_read.specs.declared.line.Meaning.{Meaning}
-use Rattle.script_read.specs.declared.line.Meaning.TheVariants.{Arrival, Faulty}
+use Rattle.script_read.specs.declared.line.Meaning.TheVariants.{Arrival, Deletion, Faulty}
 
 -- The most bytes of a line, without its LF.
 abbrev pub most_line : ℕ
@@ -26,6 +26,7 @@ abbrev pub item_of : Meaning → ℕ → List ℕ → First
 item_of Faulty used rest = Broken 0
 item_of (Arrival doc at n) used rest =
     if nat_lt n (length rest) then (if is_text n rest then Whole (Arrive doc at (take n rest)) (used + n + 1) else Broken 0) else More
+item_of (Deletion doc at) used rest = Whole (Delete doc at) used
 
 -- What bytes begin with whose first LF stands at n, or that have none and are n.
 abbrev pub from_line : ℕ → List ℕ → First

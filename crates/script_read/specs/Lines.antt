@@ -6,7 +6,7 @@ use Rattle.time_base.specs.declared.time.Time.{Time}
 use Rattle.time_base.specs.Times.{time_of}
 use Rattle.script_read.specs.Numbers.{number}
 use Rattle.script_read.specs.declared.line.Meaning.{Meaning}
-use Rattle.script_read.specs.declared.line.Meaning.TheVariants.{Arrival, Faulty}
+use Rattle.script_read.specs.declared.line.Meaning.TheVariants.{Arrival, Deletion, Faulty}
 
 -- The first word of a line: the bytes before its first space.
 abbrev pub word : List ℕ → List ℕ
@@ -35,7 +35,15 @@ arrival (Some doc) (Some at) None = Faulty
 arrival (Some doc) None length = Faulty
 arrival None at length = Faulty
 
--- A line is `arrive`, a document, a time and a length, with one space between two of them; or it says nothing.
+-- A deletion has a document and a time.
+abbrev pub deletion : Option DocId → Option Time → Meaning
+deletion (Some doc) (Some at) = Deletion doc at
+deletion (Some doc) None = Faulty
+deletion None at = Faulty
+
+-- A line is `arrive`, a document, a time and a length, or `delete`, a document and a time, with one space between two of them; or it says
+-- nothing.
 abbrev pub meaning : List ℕ → Meaning
 meaning line = if bytes_eq (word line) (codes "arrive") then arrival (document (word (after_word line)))
-    (time (word (after_word (after_word line)))) (size (after_word (after_word (after_word line)))) else Faulty
+    (time (word (after_word (after_word line)))) (size (after_word (after_word (after_word line))))
+    else (if bytes_eq (word line) (codes "delete") then deletion (document (word (after_word line))) (time (after_word (after_word line))) else Faulty)

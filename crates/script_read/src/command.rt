@@ -14,4 +14,11 @@ pub enum Command {
         /// Its text, of at most 4,194,304 bytes.
         text: Text,
     },
+    /// The end of a document's newest version.
+    Delete {
+        /// The document.
+        doc: DocId,
+        /// When it ends.
+        at: Time,
+    },
 }

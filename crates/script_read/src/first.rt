@@ -8,6 +8,7 @@ use crate::command::Command;
 use crate::line::{Meaning, meaning_of, place_of};
 use crate::text::Text;
 use std::alloc::{AllocError, Global};
+use time_base::{DocId, Time};
 
 /// The most bytes of a line, without its LF.
 const MOST_LINE_BYTES: usize = 4096;
@@ -39,26 +40,20 @@ fn is_plain_text(text: &[u8]) -> bool
     text.iter().all(|b| *b < 128)
 }
 
-/// What a line begins that says this and takes so many bytes, its LF among them, with the rest
+/// What the line of an arrival begins that takes so many bytes, its LF among them, with the rest
 /// behind it. Costs the length of the text where it is whole.
-fn item_behind(
+fn arrival_behind(
     alloc: Global,
-    meaning: Meaning,
+    doc: DocId,
+    at: Time,
+    size: usize,
     used: usize,
     rest: &[u8],
 ) -> Result<First, AllocError>
     requires { used + length rest.now < 2 ^ 64 }
-    ensures value { IfOk result (λ f. f ≡ item_of meaning used rest.now) }
+    ensures value { IfOk result (λ f. f ≡ item_of (Meaning.Arrival doc at size) used rest.now) }
     ensures within { IfOk result (λ f. IsWithin (used + length rest.now) f) }
 {
-    let Meaning::Arrival {
-        doc,
-        at,
-        bytes: size,
-    } = meaning
-    else {
-        return Ok(First::Broken(0));
-    };
     if rest.len() <= size {
         return Ok(First::More);
     }
@@ -67,6 +62,26 @@ fn item_behind(
     }
     let text = Text::new(Vec::from_slice(alloc, &rest[..size])?);
     Ok(First::Whole(Command::Arrive { doc, at, text }, used + size + 1))
+}
+
+/// What a line begins that says this and takes so many bytes, its LF among them, with the rest
+/// behind it. Costs the length of the text where it is whole.
+fn item_behind(
+    alloc: Global,
+    meaning: Meaning,
+    used: usize,
+    rest: &[u8],
+) -> Result<First, AllocError>
+    requires some { 1 ≤ used }
+    requires small { used + length rest.now < 2 ^ 64 }
+    ensures value { IfOk result (λ f. f ≡ item_of meaning used rest.now) }
+    ensures within { IfOk result (λ f. IsWithin (used + length rest.now) f) }
+{
+    match meaning {
+        Meaning::Arrival { doc, at, bytes } => arrival_behind(alloc, doc, at, bytes, used, rest),
+        Meaning::Deletion { doc, at } => Ok(First::Whole(Command::Delete { doc, at }, used)),
+        Meaning::Faulty => Ok(First::Broken(0)),
+    }
 }
 
 /// The length of the first line without its LF, or `MOST_LINE_BYTES + 1` where it is longer. Costs

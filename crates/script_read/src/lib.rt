@@ -1,8 +1,8 @@
 //! The commands of a script, read from a source that gives its bytes in any pieces.
 //!
-//! A script is a list of items, each taken off the front of the bytes (`specs/Items.antt`). Now an
+//! A script is a list of items, each taken off the front of the bytes (`specs/Items.antt`). An
 //! item is a line `arrive DOCUMENT TIME BYTES` and then the text, of so many bytes below 128, and
-//! an LF. Contracts see a command as a plain value, a text as its bytes, and a reader as the bytes
+//! an LF; or it is a line `delete DOCUMENT TIME`. Contracts see a command as a plain value, a text as its bytes, and a reader as the bytes
 //! since the last item, how many came before them, and whether the end of the input was told.
 //!
 //! To the layer above it promises the items of the bytes pulled, however the source cuts them, and

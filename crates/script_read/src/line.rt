@@ -1,7 +1,7 @@
 //! What the lines of a script say.
 ghost use Rattle.std.specs.Prelude.{◌≡◌, ◌==◌, ◌≤◌, length, position};
 ghost use Rattle.std.specs.List.{position_or_len};
-ghost use Rattle.script_read.specs.Lines.{word, after_word, document, time, size, meaning};
+ghost use Rattle.script_read.specs.Lines.{word, after_word, document, time, size, arrival, deletion, meaning};
 
 use crate::number::number_below;
 use time_base::{DocId, NOW, Time};
@@ -20,6 +20,13 @@ pub enum Meaning {
         at: Time,
         /// The length of its text.
         bytes: usize,
+    },
+    /// A document's newest version ends.
+    Deletion {
+        /// The document.
+        doc: DocId,
+        /// When it ends.
+        at: Time,
     },
     /// Nothing that a script may say.
     Faulty,
@@ -73,18 +80,39 @@ fn read_size(word: &[u8]) -> Option<usize>
     Some(bytes as usize)
 }
 
-/// What a line says, without its LF.
-pub(crate) fn meaning_of(line: &[u8]) -> Meaning
-    ensures { result ≡ meaning line.now }
+/// What the words of an arrival say, behind its name.
+fn arrival_of(words: &[u8]) -> Meaning
+    ensures { result ≡ arrival (document (word words.now)) (time (word (after_word words.now))) (size (after_word (after_word words.now))) }
 {
-    let (name, rest) = next_word(line);
-    if name != b"arrive".as_slice() {
-        return Meaning::Faulty;
-    }
-    let (doc, rest) = next_word(rest);
+    let (doc, rest) = next_word(words);
     let (at, bytes) = next_word(rest);
     match (read_document(doc), read_time(at), read_size(bytes)) {
         (Some(doc), Some(at), Some(bytes)) => Meaning::Arrival { doc, at, bytes },
         _ => Meaning::Faulty,
     }
+}
+
+/// What the words of a deletion say, behind its name.
+fn deletion_of(words: &[u8]) -> Meaning
+    ensures { result ≡ deletion (document (word words.now)) (time (after_word words.now)) }
+{
+    let (doc, at) = next_word(words);
+    match (read_document(doc), read_time(at)) {
+        (Some(doc), Some(at)) => Meaning::Deletion { doc, at },
+        _ => Meaning::Faulty,
+    }
+}
+
+/// What a line says, without its LF.
+pub(crate) fn meaning_of(line: &[u8]) -> Meaning
+    ensures { result ≡ meaning line.now }
+{
+    let (name, rest) = next_word(line);
+    if name == b"arrive".as_slice() {
+        return arrival_of(rest);
+    }
+    if name == b"delete".as_slice() {
+        return deletion_of(rest);
+    }
+    Meaning::Faulty
 }

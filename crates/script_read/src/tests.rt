@@ -47,20 +47,26 @@ impl Source for Pieces<'_> {
     }
 }
 
-/// Whether the next item is this arrival.
+/// Whether the next item is this arrival, or without a text this deletion.
 fn is_next(
     alloc: Global,
     reader: &mut Reader,
     source: &mut Pieces<'_>,
-    want: (u32, u64, &[u8]),
+    want: (u32, u64, Option<&[u8]>),
 ) -> Result<bool, Fail> {
     match reader.next_command(alloc, source)? {
         Item::Command(Command::Arrive { doc, at, text }) => {
-            let same = text.as_slice() == want.2;
+            let Some(bytes) = want.2 else {
+                return Ok(false);
+            };
+            let same = text.as_slice() == bytes;
             Ok(
                 same && (doc.0, at.seconds(), text.into_vec().len())
-                    == (want.0, want.1, want.2.len()),
+                    == (want.0, want.1, bytes.len()),
             )
+        }
+        Item::Command(Command::Delete { doc, at }) => {
+            Ok(want.2.is_none() && (doc.0, at.seconds()) == (want.0, want.1))
         }
         Item::Finished => Ok(false),
     }
@@ -70,7 +76,7 @@ fn is_next(
 fn reads_items_in_any_pieces(rt: HostRuntime) -> Result<(), Fail> {
     for piece in [1, 2, 3, 7, 100] {
         let mut source = Pieces {
-            rest: b"arrive 7 10 5\nred a\narrive 4294967295 01099511627775 0\n\narrive 0 0 3\n\n\nx\n",
+            rest: b"arrive 7 10 5\nred a\ndelete 7 20\narrive 4294967295 01099511627775 0\n\narrive 0 0 3\n\n\nx\n",
             piece,
             fails: 1,
             faults: 0,
@@ -82,16 +88,24 @@ fn reads_items_in_any_pieces(rt: HostRuntime) -> Result<(), Fail> {
                 Err(ScriptError::Failed)
             )
         );
-        assert!(rt; is_next(rt.alloc(), &mut reader, &mut source, (7, 10, b"red a"))?);
         assert!(rt;
             is_next(
                 rt.alloc(),
                 &mut reader,
                 &mut source,
-                (4294967295, 1099511627775, b"")
+                (7, 10, Some(b"red a"))
             )?
         );
-        assert!(rt; is_next(rt.alloc(), &mut reader, &mut source, (0, 0, b"\n\nx"))?);
+        assert!(rt; is_next(rt.alloc(), &mut reader, &mut source, (7, 20, None))?);
+        assert!(rt;
+            is_next(
+                rt.alloc(),
+                &mut reader,
+                &mut source,
+                (4294967295, 1099511627775, Some(b""))
+            )?
+        );
+        assert!(rt; is_next(rt.alloc(), &mut reader, &mut source, (0, 0, Some(b"\n\nx")))?);
         assert!(rt;
             matches!(
                 reader.next_command(rt.alloc(), &mut source)?,
@@ -112,7 +126,14 @@ fn names_the_place_of_what_is_broken(rt: HostRuntime) -> Result<(), Fail> {
             faults: 0,
         };
         let mut reader = Reader::new(rt.alloc())?;
-        assert!(rt; is_next(rt.alloc(), &mut reader, &mut source, (7, 10, b"red a"))?);
+        assert!(rt;
+            is_next(
+                rt.alloc(),
+                &mut reader,
+                &mut source,
+                (7, 10, Some(b"red a"))
+            )?
+        );
         let answer = reader.next_command(rt.alloc(), &mut source);
         assert!(rt; matches!(answer, Err(ScriptError::Broken { at: 20 })));
     }
