@@ -27,7 +27,7 @@ use Rattle.archive_state.specs.declared.refusal.Refusal.TheVariants.{Full}
 use Rattle.archive_state.specs.Refusals.{refusal_of}
 use Rattle.archive_state.specs.Steps.{arrival_refusal, deletion_refusal}
 use Rattle.archive_state.proofs.RefusalLemmas.{arrival_refused-good, cause, cause-not_allowed, cause-full, cause-none}
-use Rattle.archive_core.specs.States.{ArchiveState, IsPlace, IsPlaced, ArePlaced, StandsFor, IsKept}
+use Rattle.archive_core.specs.States.{ArchiveState, IsPlaced, ArePlaced, StandsFor, IsKept}
 use Rattle.archive_core.specs.Adding.{IsNext, IsHeld, IsMore, Makes}
 use Rattle.archive_core.specs.Changing.{LeadsTo}
 use Rattle.archive_core.proofs.PlaceLemmas.{placed_push, placed_arrive_refusal, placed_delete_refusal}
@@ -65,11 +65,13 @@ leads_to h e body old new legal next same appends = record {
   images = λ image beside left.
       let was = appends.images image beside left in
       let P : List (List ℕ) → Type 0 = λ l. Spells image.journal l in
-      let bodies : bodies_of h ++ body ∷ [] ≡ bodies_of (h ++ e ∷ []) = ap (λ (l : List ℕ). bodies_of h ++ l ∷ []) same ∙ sym (bodies_of-push h e) in
-      (elim was.0 [
-        | inl spelled ↦ inl (record { spelled = spelled; legal = legal })
-        | inr spelled ↦ inr (record { spelled = subst P bodies spelled; legal = legal-push h e legal next })
-      ], was.1);
+      let bodies : bodies_of h ++ body ∷ [] ≡ bodies_of (h ++ e ∷ []) = ap (λ (l : List ℕ). bodies_of h ++ l ∷ []) same ∙ sym (bodies_of-push h e) in (
+        elim was.0 [
+          | inl spelled ↦ inl (record { spelled = spelled; legal = legal })
+          | inr spelled ↦ inr (record { spelled = subst P bodies spelled; legal = legal-push h e legal next })
+        ],
+        was.1,
+      );
 }
 
 -- an archive in step: each image stands for its history

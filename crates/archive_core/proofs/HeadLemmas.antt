@@ -11,7 +11,6 @@ use Rattle.gate_journal.specs.Spelled.{Spells}
 use Rattle.gate_journal.specs.Scanning.{IsView}
 use Rattle.gate_journal.proofs.SpellingLemmas.{length-header}
 use Rattle.archive_state.proofs.HistoryLemmas.{length_record}
-use Rattle.archive_core.specs.Replaying.{Covers}
 
 -- the head of a body whose gate is at this place
 abbrev pub head_at : ℕ → List ℕ → Head
@@ -83,7 +82,7 @@ body_there before body after tail at here =
     let first = front before ++ 165 ∷ size in
     let rest = body ++ (records after ++ tail) in
     let whole : front (before ++ body ∷ after) ++ tail ≡ first ++ rest =
-        ap (λ (l : List ℕ). (header ++ l) ++ tail) (flat_map-append record_bytes before (body ∷ after)) ∙ simp append_assoc in
+    ap (λ (l : List ℕ). (header ++ l) ++ tail) (flat_map-append record_bytes before (body ∷ after)) ∙ simp append_assoc in
     let long : length first ≡ at = omega (arith, here, length-append (front before) (165 ∷ size), length_front before) in
     ap (λ (l : List ℕ). take (length body) (drop at l)) whole ∙ ap (take (length body)) (drop_at first rest at long) ∙ take_at body (records after ++ tail) (length body) refl
 

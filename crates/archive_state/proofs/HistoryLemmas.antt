@@ -1,5 +1,5 @@
 -- One entry more: the end of the journal, the bodies, and what makes a longer history legal.
-use Rattle.std.proofs.Common.{◌≡◌, ℕ, ◌+◌, ◌≤◌, ◌<◌, ◌^◌, List, [], ◌∷◌, ◌++◌, length, map, All, sum_by, Option, None, refl, ap, subst, sym, ◌∙◌, arith, append_assoc, length-append}
+use Rattle.std.proofs.Common.{◌≡◌, ℕ, ◌+◌, ◌≤◌, List, [], ◌∷◌, ◌++◌, length, sum_by, refl, ap, subst, sym, ◌∙◌, arith, append_assoc, length-append}
 use Rattle.std.proofs.lemmas.List.{append-nil, map-append}
 use Rattle.std.proofs.lemmas.List.Concat.{flat_map-append}
 use Rattle.std.proofs.lemmas.List.Sums.{sum_by-cons, sum_by_push}
@@ -7,10 +7,10 @@ use Rattle.gate_journal.specs.Header.{header}
 use Rattle.std.specs.Int.{w32, to_be_bytes}
 use Rattle.gate_journal.specs.Records.{record_bytes, records, front}
 use Rattle.gate_journal.proofs.SpellingLemmas.{length-header}
-use Rattle.record_codec.specs.Spelling.{spelling, IsEntry}
+use Rattle.record_codec.specs.Spelling.{spelling}
 use Rattle.record_codec.specs.declared.entry.Entry.{Entry}
 use Rattle.record_codec.proofs.EntryLemmas.{one_entry}
-use Rattle.archive_state.specs.Histories.{History, changes, acts, entry_refusal, IsLegalEntry, AreLegalAfter, IsLegal, end_of}
+use Rattle.archive_state.specs.Histories.{History, changes, acts, IsLegalEntry, AreLegalAfter, IsLegal, end_of}
 use Rattle.archive_state.specs.Stands.{bodies_of}
 
 pub bodies_of-push : (h : History) (e : Entry) → bodies_of (h ++ e ∷ []) ≡ bodies_of h ++ spelling e ∷ []
@@ -80,6 +80,9 @@ same_entries (x ∷ a) (y ∷ b) one other p q same =
 pub same_history : (a b : History) → IsLegal a → IsLegal b → bodies_of a ≡ bodies_of b → a ≡ b
 same_history a b p q same = same_entries a b [] [] p q same
 
+behind : (x : Entry) (h other : History) → h ≡ other → x ∷ h ≡ x ∷ other
+behind x h other same = ap (λ (l : History). x ∷ l) same
+
 -- the entries behind some of the bodies of a history
 pub split_bodies : (h : History) (bodies : List (List ℕ)) (body : List ℕ) (rest : List (List ℕ)) → bodies_of h ≡ bodies ++ body ∷ rest
     → (first : History) × (e : Entry) × (more : History) × (h ≡ first ++ e ∷ more) × (bodies_of first ≡ bodies) × (spelling e ≡ body)
@@ -90,4 +93,4 @@ split_bodies (x ∷ h) (b ∷ bodies) body rest same =
     let first : spelling x ≡ b = cc in
     let tail : bodies_of h ≡ bodies ++ body ∷ rest = cc in
     let more = split_bodies h bodies body rest tail in
-    (x ∷ more.0, more.1, more.2, ap (λ (l : History). x ∷ l) more.3, let rest = more.4 in cc, more.5)
+    (x ∷ more.0, more.1, more.2, behind x h (more.0 ++ more.1 ∷ more.2) more.3, let rest = more.4 in cc, more.5)

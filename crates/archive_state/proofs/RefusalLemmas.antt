@@ -1,5 +1,5 @@
 -- Which refusal comes first.
-use Rattle.std.proofs.Common.{◌≡◌, ℕ, ◌<◌, ◌≤◌, Bool, true, false, not, cond, List, [], ◌∷◌, ◌++◌, length, Option, Some, None, IsUtf8, refl, ap, sym, ◌∙◌, arith}
+use Rattle.std.proofs.Common.{◌≡◌, ℕ, ◌<◌, ◌≤◌, Bool, true, false, not, List, [], ◌∷◌, ◌++◌, length, Option, Some, None, IsUtf8, refl, ap, ◌∙◌}
 use Rattle.std.specs.Str.{is_utf8}
 use Rattle.std.specs.Str.Lossy.{utf8_valid_len}
 use Rattle.std.specs.Option.{option_map}
@@ -64,7 +64,7 @@ pub arrival_refused-good : (h : History) (doc : DocId) (at : Time) (text : List 
     → arrival_refusal h doc at text ≡ cause h (Arrive doc at text)
 arrival_refused-good h doc at text short good =
     first_of-none (too_long text ∷ bad_text text ∷ []) (not_allowed h (Arrive doc at text) ∷ full_journal h (Arrive doc at text) ∷ [])
-        (let one = too_long-no text short in let two = bad_text-no text good in rw (one, two) refl)
+    (let one = too_long-no text short in let two = bad_text-no text good in rw (one, two) refl)
 
 pub cause-not_allowed : (h : History) (e : Entry) (why : VersionRefusal) → entry_refusal h e ≡ Some why → cause h e ≡ Some (refusal_of why)
 cause-not_allowed h e why refused = ap (λ (o : Option VersionRefusal). first_of (option_map refusal_of o ∷ full_journal h e ∷ [])) refused

@@ -50,8 +50,10 @@ stood_late text stands state (t ∷ turns) further image shown stood =
 -- where more turns follow, turns that were carried out are still so
 pub carried_on : {S R : Type 0} (text : R → List ℕ) (stands : S → Bytes → Type 0) (state : S) (turns further : List (Turn R S)) (before : List ℕ) (old new : DiskState)
     → Carried text stands state turns before old new → Carried text stands state (turns ++ further) before old new
-carried_on text stands state turns further before old new carried = record { goes_on = carried.goes_on;
-  images = λ image beside left. let was = carried.images image beside left in (was.0, was.1, stood_early text stands state turns further image was.0 was.2) }
+carried_on text stands state turns further before old new carried = record {
+  goes_on = carried.goes_on;
+  images = λ image beside left. let was = carried.images image beside left in (was.0, was.1, stood_early text stands state turns further image was.0 was.2);
+}
 
 -- turns in a row
 pub carried_joins : {S R : Type 0} {text : R → List ℕ} {stands : S → Bytes → Type 0} {state : S} {turns : List (Turn R S)} {before : List ℕ} {old mid : DiskState} (further : List (Turn R S)) (new : DiskState)

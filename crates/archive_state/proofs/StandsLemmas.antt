@@ -1,12 +1,11 @@
 -- Bytes stand for one history at most, and are refused at one place at most.
-use Rattle.std.proofs.Common.{◌≡◌, ◌⊎◌, ℕ, ◌+◌, List, [], ◌∷◌, ◌++◌, length, None, inl, inr, refl, ap, subst, sym, ◌∙◌, arith}
+use Rattle.std.proofs.Common.{◌≡◌, ◌⊎◌, ℕ, ◌+◌, List, [], ◌∷◌, ◌++◌, length, inl, inr, refl, ap, subst, sym, ◌∙◌, arith}
 use Rattle.machine_model.specs.Areas.{Bytes}
 use Rattle.gate_journal.specs.Records.{front}
 use Rattle.gate_journal.specs.Spelled.{Spells}
-use Rattle.gate_journal.specs.Refused.{IsNotJournal}
 use Rattle.gate_journal.proofs.SpellingLemmas.{spells_once, spelled_not_refused, refused_once}
 use Rattle.record_codec.specs.Spelling.{spelling, IsEntry}
-use Rattle.record_codec.specs.Reading.{entry_at, IsFault}
+use Rattle.record_codec.specs.Reading.{IsFault}
 use Rattle.record_codec.specs.declared.entry.Entry.{Entry}
 use Rattle.record_codec.proofs.EntryLemmas.{one_entry, entry_again}
 use Rattle.archive_state.specs.Histories.{History, IsLegal, IsLegalEntry, entry_refusal}
@@ -51,7 +50,7 @@ pub spelled_is_archive : (bytes : List ℕ) (h : History) (at : ℕ) → Spells 
 spelled_is_archive bytes h at spelled legal (inl refused) = spelled_not_refused bytes (bodies_of h) at spelled refused
 spelled_is_archive bytes h at spelled legal (inr bad) =
     no_fault_within h bad.before bad.body bad.rest (length (front (bodies_of bad.before))) at legal bad.legal
-        (spells_once bytes (bodies_of h) (bodies_of bad.before ++ bad.body ∷ bad.rest) spelled bad.spelled) bad.fault
+    (spells_once bytes (bodies_of h) (bodies_of bad.before ++ bad.body ∷ bad.rest) spelled bad.spelled) bad.fault
 
 pub stands_is_archive : (h : History) (image : Bytes) (at : ℕ) → Stands h image → IsNotArchive image.journal at → ⊥
 stands_is_archive h image at stands refused = spelled_is_archive image.journal h at stands.spelled stands.legal refused
@@ -66,9 +65,9 @@ meet (p ∷ a) (q ∷ b) x y s t same =
     let head : p ≡ q = cc in
     let rest : a ++ x ∷ s ≡ b ++ y ∷ t = cc in
     elim (meet a b x y s t rest) [
-    | inl both ↦ inl (let one = both.0 in cc, both.1)
-    | inr (inl more) ↦ inr (inl (more.0, let tail = more.1 in cc))
-    | inr (inr more) ↦ inr (inr (more.0, let tail = more.1 in cc))
+      | inl both ↦ inl (let one = both.0 in cc, both.1)
+      | inr (inl more) ↦ inr (inl (more.0, let tail = more.1 in cc))
+      | inr (inr more) ↦ inr (inr (more.0, let tail = more.1 in cc))
     ]
 
 -- one entry behind one history has one fault
@@ -86,14 +85,14 @@ bad_once : (bytes : List ℕ) (one other : ℕ) → IsBadEntry bytes one → IsB
 bad_once bytes one other a b =
     let gate : History → ℕ = λ h. length (front (bodies_of h)) in
     elim (meet (bodies_of a.before) (bodies_of b.before) a.body b.body a.rest b.rest
-        (spells_once bytes (bodies_of a.before ++ a.body ∷ a.rest) (bodies_of b.before ++ b.body ∷ b.rest) a.spelled b.spelled)) as (λ _. one ≡ other) [
-    | inl same ↦
-        let before : a.before ≡ b.before = same_history a.before b.before a.legal b.legal same.0 in
-        let P : History → Type 0 = λ h. Fault h a.body (gate h) one in
-        let Q : List ℕ → Type 0 = λ l. Fault b.before l (gate b.before) one in
-        one_fault b.before b.body (gate b.before) one other (subst Q same.1 (subst P before a.fault)) b.fault
-    | inr (inl more) ↦ absurd (no_fault_within b.before a.before a.body more.0 (gate a.before) one b.legal a.legal more.1 a.fault)
-    | inr (inr more) ↦ absurd (no_fault_within a.before b.before b.body more.0 (gate b.before) other a.legal b.legal more.1 b.fault)
+    (spells_once bytes (bodies_of a.before ++ a.body ∷ a.rest) (bodies_of b.before ++ b.body ∷ b.rest) a.spelled b.spelled)) as (λ _. one ≡ other) [
+      | inl same ↦
+          let before : a.before ≡ b.before = same_history a.before b.before a.legal b.legal same.0 in
+          let P : History → Type 0 = λ h. Fault h a.body (gate h) one in
+          let Q : List ℕ → Type 0 = λ l. Fault b.before l (gate b.before) one in
+          one_fault b.before b.body (gate b.before) one other (subst Q same.1 (subst P before a.fault)) b.fault
+      | inr (inl more) ↦ absurd (no_fault_within b.before a.before a.body more.0 (gate a.before) one b.legal a.legal more.1 a.fault)
+      | inr (inr more) ↦ absurd (no_fault_within a.before b.before b.body more.0 (gate b.before) other a.legal b.legal more.1 b.fault)
     ]
 
 -- bytes that are no archive's show it at one place

@@ -3,6 +3,7 @@ pub mod WriteLemmas
 pub mod TornLemmas
 pub mod AppendLemmas
 pub mod PagesLemmas
+pub mod HeadLemmas
 pub mod GateLemmas
 pub mod ScanLemmas
 pub mod LoadLemmas

@@ -10,13 +10,14 @@ use Rattle.gate_journal.specs.declared.head.Head.{Head}
 use Rattle.gate_journal.specs.declared.gate.Gate.{Gate}
 use Rattle.gate_journal.specs.declared.gate.Gate.TheVariants.{Closed, Open, CutShort}
 use Rattle.gate_journal.specs.Header.{header}
-use Rattle.gate_journal.specs.Records.{record_bytes, records, front}
+use Rattle.gate_journal.specs.Records.{record_bytes, front}
 use Rattle.gate_journal.specs.Spelled.{Spells}
 use Rattle.gate_journal.specs.Refused.{IsCutShort}
 use Rattle.gate_journal.specs.Heads.{heads_of, AreInRow, LiesBefore}
 use Rattle.gate_journal.specs.Found.{IsFound}
 use Rattle.gate_journal.specs.Scanning.{IsView, StandsAt, IsScanned}
-use Rattle.gate_journal.proofs.SpellingLemmas.{length-header, spelled_not_refused}
+use Rattle.gate_journal.proofs.SpellingLemmas.{spelled_not_refused}
+use Rattle.gate_journal.proofs.HeadLemmas.{length-front, heads_more}
 use Rattle.gate_journal.proofs.AppendLemmas.{front_more, fit_more}
 
 -- one head more in a row
@@ -40,16 +41,6 @@ row_before from end [] row = λ k d inside. absurd (omega (arith, inside))
 row_before from end (head ∷ heads) row = All-cons (LiesBefore end) head heads
     (record { body = omega (arith, row.0, row.1); within = row_within (head.body + head.bytes) end heads row.2 })
     (row_before (head.body + head.bytes) end heads row.2)
-
-length-front : (bodies : List (List ℕ)) → length (front bodies) ≡ 16 + length (records bodies)
-length-front bodies = omega (arith, length-append header (records bodies), length-header)
-
--- the heads with one body more, whose gate is here
-heads_more : (from gate : ℕ) (bodies : List (List ℕ)) (body : List ℕ) → gate ≡ from + length (records bodies)
-    → heads_of from (bodies ++ body ∷ []) ≡ heads_of from bodies ++ record { gate = gate; body = gate + 5; bytes = length body } ∷ []
-heads_more from gate [] body here = ap (λ n. record { gate = n; body = n + 5; bytes = length body } ∷ []) (omega (arith, here))
-heads_more from gate (first ∷ bodies) body here = ap (λ (heads : List Head). record { gate = from; body = from + 5; bytes = length first } ∷ heads)
-    (heads_more (from + 5 + length first) gate bodies body (omega (arith, here, length-append (record_bytes first) (records bodies), length-append (to_be_bytes w32 (length first)) first)))
 
 -- before the first gate no record was passed
 pub scanned_none : (bytes : List ℕ) → take 16 bytes ≡ header → IsScanned bytes 16 []

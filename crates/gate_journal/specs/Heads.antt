@@ -1,5 +1,5 @@
 -- Where the records of a journal lie.
-use Rattle.std.specs.Prelude.{◌≡◌, ℕ, ◌+◌, ◌<◌, List, [], ◌∷◌, length}
+use Rattle.std.specs.Prelude.{◌≡◌, ℕ, ◌+◌, ◌<◌, List, [], ◌∷◌, length, take, drop}
 use Rattle.gate_journal.specs.declared.head.Head.{Head}
 
 -- the heads of these bodies, the first of which has its gate at this place
@@ -17,3 +17,10 @@ pub record LiesBefore (end : ℕ) (head : Head) : Type 0 where
 abbrev pub AreInRow : ℕ → List Head → ℕ → Type 0
 AreInRow gate [] end = gate + 1 ≡ end
 AreInRow gate (head ∷ heads) end = (head.gate ≡ gate) × (head.body ≡ gate + 5) × AreInRow (head.body + head.bytes) heads end
+
+-- in these bytes the heads lead to these bodies, one each
+abbrev pub AreBodies : List ℕ → List Head → List (List ℕ) → Type 0
+AreBodies bytes [] [] = Unit {0}
+AreBodies bytes (head ∷ heads) (body ∷ bodies) = (take head.bytes (drop head.body bytes) ≡ body) × AreBodies bytes heads bodies
+AreBodies bytes [] (body ∷ bodies) = ⊥
+AreBodies bytes (head ∷ heads) [] = ⊥

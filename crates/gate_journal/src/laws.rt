@@ -1,7 +1,9 @@
-ghost use Rattle.std.specs.Prelude.{◌≡◌, List, ℕ};
+ghost use Rattle.std.specs.Prelude.{◌≡◌, ◌+◌, ◌++◌, [], ◌∷◌, List, ℕ, length};
 ghost use Rattle.machine_model.specs.Areas.{Bytes};
 ghost use Rattle.machine_model.specs.States.{DiskState};
 ghost use Rattle.machine_model.specs.Images.{MayLeave};
+ghost use Rattle.gate_journal.specs.Records.{front};
+ghost use Rattle.gate_journal.specs.Heads.{heads_of, AreBodies};
 ghost use Rattle.gate_journal.specs.Spelled.{Spells, EachSpells};
 ghost use Rattle.gate_journal.specs.Refused.{IsNotJournal};
 ghost use Rattle.gate_journal.specs.InStep.{IsInStep};
@@ -24,4 +26,12 @@ pub fn a_disk_stays_in_step()
     ensures { (old new : DiskState) (end : ℕ) (bodies : List (List ℕ)) → IsInStep old end bodies →
         ((image : Bytes) → MayLeave new.now image → (was : Bytes) × MayLeave old.now was × (image.journal ≡ was.journal)) →
         IsInStep new end bodies }
+{}
+
+/// A law of the definitions: in bytes that spell bodies the heads lead to them, so that a read of the bytes
+/// that a head names gives its body; and a body more has its head behind the others.
+pub fn heads_lead_to_bodies()
+    ensures bodies { (bytes : List ℕ) (bodies : List (List ℕ)) → Spells bytes bodies → AreBodies bytes (heads_of 16 bodies) bodies }
+    ensures more { (bodies : List (List ℕ)) (body : List ℕ) → let gate = length (front bodies) in
+        heads_of 16 (bodies ++ body ∷ []) ≡ heads_of 16 bodies ++ record { gate = gate; body = gate + 5; bytes = length body } ∷ [] }
 {}

@@ -28,4 +28,5 @@ pub use head::Head;
 pub use journal::Journal;
 pub use laws::{
     a_disk_stays_in_step, a_journal_is_refused_at_one_place, a_journal_spells_one_list,
+    heads_lead_to_bodies,
 };

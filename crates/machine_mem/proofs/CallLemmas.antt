@@ -9,7 +9,7 @@ use Rattle.machine_model.specs.declared.area.Area.{Area}
 use Rattle.machine_model.specs.declared.area.Area.TheVariants.{Journal, Pages}
 use Rattle.machine_model.specs.declared.range.Range.{Range}
 use Rattle.machine_model.proofs.MomentLemmas.{goes_on_reads, since_now}
-use Rattle.machine_mem.specs.Machines.{MachineState, OnlyDisk, wrote, synced, passed, did_read}
+use Rattle.machine_mem.specs.Machines.{MachineState, OnlyDisk, wrote, synced, passed}
 use Rattle.machine_mem.proofs.GrowthLemmas.{Grows, grown, left_since}
 
 -- the state before a call is remembered
@@ -227,15 +227,3 @@ pub Syncs-stayed : (x y : MachineState) (n : ℕ) → y ≡ x → Syncs x.disk (
 Syncs-stayed x y n is =
     let P : MachineState → Type 0 = λ z. Syncs x.disk (with_faults n z).disk in
     subst P (sym is) (Syncs-starved x.disk (with_faults n x).disk refl)
-
-grows_read : (area : Area) (n : ℕ) (read : Both ℕ) → (other : Area) → part read other ≤ part (replaced read area (part read area + n)) other
-grows_read Journal n read = elim [ Journal ↦ omega arith | Pages ↦ omega arith ]
-grows_read Pages n read = elim [ Journal ↦ omega arith | Pages ↦ omega arith ]
-
-pub OnlyDisk-did_read : (x y : MachineState) (area : Area) (count n : ℕ) → y ≡ did_read area count x → y.disk.faults ≤ n → OnlyDisk x (with_faults n y)
-OnlyDisk-did_read x y area count n is risen =
-    let P : MachineState → Type 0 = λ z. OnlyDisk x (with_faults n z) in
-    let same = ap (λ z. z.disk.faults) is in
-    let later : x.disk.faults ≤ n = omega arith in
-    let z = with_faults n (did_read area count x) in
-    subst P (sym is) (OnlyDisk-reads x z refl refl later refl (grows_read area count x.disk.bytes_read))

@@ -1,5 +1,5 @@
 -- What a machine remembers of the states between its calls.
-use Rattle.std.proofs.Common.{◌≡◌, ◌⊎◌, ℕ, ◌+◌, ◌-◌, ◌^◌, ◌<◌, ◌≤◌, min, Bool, true, false, cond, Option, Some, List, [], ◌∷◌, ◌++◌, refl, ap, subst, sym, ◌∙◌, arith, find, nat_le, inl, inr, All}
+use Rattle.std.proofs.Common.{◌≡◌, ◌⊎◌, ℕ, ◌+◌, ◌<◌, ◌≤◌, Bool, true, false, cond, Option, Some, List, [], ◌∷◌, ◌++◌, refl, ap, subst, sym, ◌∙◌, arith, find, nat_le, inl, inr, All}
 use Rattle.std.specs.Option.{option_map_or}
 use Rattle.std.specs.List.{flat_map}
 use Rattle.std.proofs.lemmas.List.{append-nil}
@@ -15,7 +15,7 @@ use Rattle.machine_mem.specs.declared.picks.Pick.{Pick}
 use Rattle.machine_mem.specs.declared.picks.Picked.{Picked}
 use Rattle.machine_mem.specs.Picks.{IsPicked, bytes_of}
 use Rattle.machine_mem.specs.Meaning.{shot_moments, snapshot_of, after_calls, disk_state}
-use Rattle.machine_mem.specs.Outcomes.{calls_of, Recalls, Remembers, Stays}
+use Rattle.machine_mem.specs.Outcomes.{calls_of, Recalls}
 use Rattle.machine_mem.proofs.GrowthLemmas.{leaves_along, left_early, left_late}
 
 -- what the tests of the shots give, with a first shot of this answer
@@ -54,30 +54,6 @@ pub Recalls-push : (x : MemMachine) (shots : List Shot) (calls : ℕ) (shot : Sh
 Recalls-push x shots calls shot shots_are calls_are is until = record {
   one_more = calls_are;
   before = λ now n low. ap (λ l. snapshot_after l now n) shots_are ∙ after_push x.history.shots.items shot (snapshot_of x) now n is (omega arith);
-}
-
-pub Remembers-recalls : (x y : MemMachine) → Recalls x y.history.shots.items y.history.calls → Remembers x y
-Remembers-recalls x y recalls =
-    let most = y.history.limit in
-    record { calls = omega (arith, recalls.one_more); before = λ n low. recalls.before (snapshot_of y) n low }
-
-pub Stays-same : (x y : MemMachine) → y.history.shots.items ≡ x.history.shots.items → y.history.calls ≡ x.history.calls → snapshot_of y ≡ snapshot_of x → Stays x y
-Stays-same x y shots calls now = record {
-  calls = calls;
-  before = λ n. ap (λ l. snapshot_after l (snapshot_of y) n) shots ∙ ap (λ s. snapshot_after x.history.shots.items s n) now;
-}
-
-pub Remembers-skip : (x y : MemMachine) → y.history.shots.items ≡ x.history.shots.items → y.history.calls ≡ min (x.history.calls + 1) (2 ^ 64 - 2)
-    → snapshot_of y ≡ snapshot_of x → Remembers x y
-Remembers-skip x y shots calls now = record {
-  calls = calls;
-  before = λ n low. ap (λ l. snapshot_after l (snapshot_of y) n) shots ∙ ap (λ s. snapshot_after x.history.shots.items s n) now;
-}
-
-pub Remembers-stays : (x y z : MemMachine) → Stays x y → Remembers y z → Remembers x z
-Remembers-stays x y z one two = record {
-  calls = omega (arith, one.calls, two.calls);
-  before = λ n low. two.before n (omega (arith, one.calls)) ∙ one.before n;
 }
 
 -- what was allowed after so many calls was left at some moment, beside the bytes shown then

@@ -124,22 +124,20 @@ impl Disk for MemMachine {
                     Err(Failed)
                 }
             },
-            Some(kept) => match self.try_write(
-                area,
-                at,
-                bytes,
-                kept.min(bytes.len() as u64) as usize,
-            ) {
-                Ok(()) => {
-                    self.disk_faults.rise();
-                    Err(Failed)
+            Some(kept) => {
+                let kept = kept.min(bytes.len() as u64) as usize;
+                match self.try_write(area, at, bytes, kept) {
+                    Ok(()) => {
+                        self.disk_faults.rise();
+                        Err(Failed)
+                    }
+                    Err(_) => {
+                        self.starve();
+                        self.disk_faults.rise();
+                        Err(Failed)
+                    }
                 }
-                Err(_) => {
-                    self.starve();
-                    self.disk_faults.rise();
-                    Err(Failed)
-                }
-            },
+            }
         }
     }
 

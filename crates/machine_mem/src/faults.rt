@@ -20,14 +20,16 @@ pub enum CallKind {
     Push,
 }
 
-/// A call that is to fail: the `nth` of its kind, counted from 1.
+/// A call that is to fail: the `nth` of its kind, counted from 1. Of two that name one call the
+/// first counts.
 #[derive(Clone, Copy, Debug, PartialEq, Eq)]
 pub struct Fault {
     /// The kind of call.
     pub call: CallKind,
     /// Which of that kind.
     pub nth: u64,
-    /// How many bytes of a failing write reads give nonetheless, at most the piece. No other kind looks at it.
+    /// How many bytes of a failing write come through nonetheless, at most the piece: reads give what
+    /// a write of that front leaves, a gap of zeros before it too. No other kind looks at it.
     pub kept: u64,
 }
 

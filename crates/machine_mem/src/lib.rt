@@ -1,4 +1,12 @@
-//! The machine in memory: a source, a sink and a disk that tell all that they hold, for tests.
+//! The machine in memory: the source, sink and disk on which tests run what the archive does.
+//!
+//! `MemMachine` tells all that it holds. Its calls fail where its script names them, and where it
+//! finds no memory for its record, which `starved` counts. It remembers what a stop might have left
+//! after each write, sync and push, so that a test can take any such image and begin again from it.
+//! `SliceSource` is a source over bytes in memory that never fails.
+//!
+//! To the layer above it promises the traits of `machine_model` with all their laws, and exactly
+//! what each call does (`specs/Outcomes.antt`).
 #![tactic(auto)]
 
 mod counter;

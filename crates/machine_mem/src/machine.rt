@@ -65,7 +65,7 @@ impl MemMachine {
             beside = [];
           };
         }) }
-        ensures snapshot { IfOk result (λ x. (snapshot_of x).last ≡ bytes_of image) }
+        ensures last { IfOk result (λ x. (snapshot_of x).last ≡ bytes_of image) }
         ensures calls { IfOk result (λ x. calls_of x ≡ 0) }
         ensures faults { IfOk result (λ x. (script_of x).faults ≡ faults) }
         ensures counts { IfOk result (λ x. (kind : _) → count_of (script_of x).counts kind ≡ 0) }
@@ -96,7 +96,7 @@ impl MemMachine {
         })
     }
 
-    /// The bytes shown so far.
+    /// The bytes shown so far. Cost: none.
     pub fn shown(&self) -> &[u8]
         ensures { result.now ≡ (sink_state self.now).shown }
     {
@@ -210,7 +210,7 @@ impl MemMachine {
         ensures stays { OnErr result (Stays self.old self.new) }
         ensures rest { (self.new.script ≡ self.old.script) × (self.new.starved ≡ self.old.starved) }
     {
-        self.record(&[])
+        self.record(b"")
     }
 
     /// A write of which the first `kept` bytes come through. Without memory nothing changes.

@@ -1,6 +1,6 @@
 -- The items of a script are the same however its bytes are cut.
-use Rattle.std.specs.Prelude.{◌≡◌, ◌≢◌, ℕ, ◌+◌, ◌<◌, ◌≤◌, Bool, true, false, nat_eq, nat_lt, cond, if◌then◌else◌, not, ◌==◌, List, [], ◌∷◌, ◌++◌, length, take, drop, slice_index, refl}
-use Rattle.std.specs.List.{position_or_len, prefix_len}
+use Rattle.std.specs.Prelude.{◌≡◌, ◌≢◌, ℕ, ◌+◌, ◌<◌, ◌≤◌, Bool, true, false, nat_eq, nat_lt, cond, if◌then◌else◌, not, ◌==◌, List, [], ◌∷◌, ◌++◌, length, take, drop, refl}
+use Rattle.std.specs.List.{position_or_len}
 use Rattle.std.proofs.Common.{arith, ap, sym, ◌∙◌, subst, ltb-true, ltb-false, eqb-true, lt-ltb, le-ltb, length-append, length-drop}
 use Rattle.std.proofs.lemmas.Grind.{common_steps}
 use Rattle.std.proofs.lemmas.List.{take-append-le, drop-append-le}

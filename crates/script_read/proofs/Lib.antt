@@ -2,3 +2,4 @@ pub mod NumberLemmas
 pub mod LineLemmas
 pub mod ItemLemmas
 pub mod ReadingLemmas
+pub mod TextLemmas

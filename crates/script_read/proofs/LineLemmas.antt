@@ -1,9 +1,9 @@
 -- Places of bytes in lines.
-use Rattle.std.specs.Prelude.{◌≡◌, ℕ, ◌+◌, ◌-◌, ◌<◌, ◌≤◌, min, Bool, true, false, nat_lt, cond, not, List, [], ◌∷◌, ◌++◌, length, take, drop, position, unwrap_or, Option, Some, None, IsSome, IfSome, ◌↔◌, ◌^◌, zero, suc, refl}
+use Rattle.std.specs.Prelude.{◌≡◌, ℕ, ◌+◌, ◌<◌, min, Bool, true, false, nat_lt, cond, not, List, [], ◌∷◌, length, take, position, unwrap_or, Option, Some, None, IsSome, IfSome, ◌↔◌, ◌^◌, zero, suc, refl}
 use Rattle.time_base.specs.declared.time.Time.{Time}
 use Rattle.time_base.specs.Times.{time_by, time_of}
 use Rattle.time_base.proofs.TimeLemmas.{time_of-seconds}
-use Rattle.std.specs.List.{position_or_len, prefix_len}
+use Rattle.std.specs.List.{position_or_len}
 use Rattle.std.proofs.Common.{arith, ap, sym, ◌∙◌, ltb-true, ltb-false}
 use Rattle.std.proofs.lemmas.List.Sums.{prefix_len-le-length}
 

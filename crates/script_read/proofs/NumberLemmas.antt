@@ -1,5 +1,5 @@
 -- The value of digits grows with each of them.
-use Rattle.std.specs.Prelude.{◌≡◌, ℕ, ◌+◌, ◌-◌, ◌*◌, ◌<◌, ◌≤◌, List, [], ◌∷◌, ◌++◌, take, drop, fold, Option, Some, None, Bool, true, false, nat_lt, ◌&&◌, if◌then◌else◌, refl}
+use Rattle.std.specs.Prelude.{◌≡◌, ℕ, ◌+◌, ◌-◌, ◌*◌, ◌≤◌, List, [], ◌∷◌, ◌++◌, take, drop, fold, Some, None, Bool, true, false, nat_lt, ◌&&◌, if◌then◌else◌, refl}
 use Rattle.std.proofs.Common.{arith, le-ltb}
 use Rattle.script_read.specs.Numbers.{value_of, are_digits, number}
 use Rattle.std.proofs.lemmas.List.{take-append-drop}

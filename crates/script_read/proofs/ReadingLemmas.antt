@@ -1,16 +1,16 @@
 -- What a run of calls of a reader gives.
-use Rattle.std.specs.Prelude.{◌≡◌, ◌≢◌, ℕ, ◌+◌, ◌-◌, ◌<◌, ◌≤◌, ◌^◌, Bool, true, false, List, [], ◌∷◌, ◌++◌, length, drop, Result, Ok, Err, IfErr, refl}
+use Rattle.std.specs.Prelude.{◌≡◌, ◌≢◌, ℕ, ◌+◌, ◌<◌, ◌^◌, Bool, true, false, List, [], ◌∷◌, ◌++◌, length, drop, Result, Ok, Err, IfErr, refl}
 use Rattle.std.proofs.Common.{arith, ap, sym, ◌∙◌, subst, append_assoc, append-nil, length-append, length-drop}
 use Rattle.std.proofs.lemmas.List.{drop-append-le}
-use Rattle.script_read.specs.Items.{first, Items, IsNoItem, Splits, IsBrokenAt}
-use Rattle.script_read.specs.Reading.{Held, fresh, Keeps, Takes, Breaks, Lacks, Says, IsCalm, IsPullError, StandsFor, MayFollow, Reads, EndsWith}
+use Rattle.script_read.specs.Items.{first, Items, IsNoItem}
+use Rattle.script_read.specs.Reading.{Held, fresh, Keeps, Takes, Lacks, Says, IsCalm, IsPullError, StandsFor, MayFollow, Reads, EndsWith}
 use Rattle.script_read.specs.declared.command.Command.{Command}
-use Rattle.script_read.specs.declared.first.First.TheVariants.{Whole, Broken, More, End}
+use Rattle.script_read.specs.declared.first.First.TheVariants.{Whole, More, End}
 use Rattle.script_read.specs.declared.item.Item.{Item}
 use Rattle.script_read.specs.declared.item.Item.TheVariants as item
 use Rattle.script_read.specs.declared.item.ScriptError.{ScriptError}
 use Rattle.script_read.specs.declared.item.ScriptError.TheVariants as errors
-use Rattle.script_read.proofs.ItemLemmas.{first-append, first-told, first-open, first-not-More, first-End, Items-push, whole-within}
+use Rattle.script_read.proofs.ItemLemmas.{first-append, first-told, first-open, first-not-More, first-End, Items-push}
 
 -- at the start
 pub Reads_start : Reads [] [] [] fresh

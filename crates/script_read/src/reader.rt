@@ -16,7 +16,8 @@ pub const MOST_INPUT_BYTES: u64 = 1 << 40;
 /// The most bytes of one pull.
 pub const BLOCK_BYTES: usize = 1 << 16;
 
-/// A reader of the items of a script.
+/// A reader of the items of a script. Holds no more than one item and a block, about 4.3 MB, and up
+/// to twice that in memory.
 #[derive(Drop)]
 pub struct Reader {
     /// The bytes taken and not let go; those before `start` belong to items that were given out.

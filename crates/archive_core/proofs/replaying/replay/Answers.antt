@@ -1,12 +1,11 @@
-use Rattle.std.proofs.Common.{◌≡◌, ◌∙◌, ℕ, ◌+◌, ◌<◌, ◌≤◌, List, length, get_or, take, drop, ap, sym, arith, rules}
+use Rattle.std.proofs.Common.{◌≡◌, ◌∙◌, ◌<◌, length, get_or, sym, arith}
 use Rattle.std.proofs.lemmas.List.{get_or_default}
 use Rattle.std.proofs.lemmas.Result.{err_from_is_err_and}
 use Rattle.machine_model.specs.declared.area.Area.TheVariants.{Journal}
-use Rattle.machine_model.specs.States.{DiskState}
 use Rattle.machine_model.proofs.MomentLemmas.{reads_join}
 use Rattle.gate_journal.specs.declared.head.Head.{Head}
 use Rattle.archive_core.proofs.HeadLemmas.{window_has}
-use Rattle.archive_core.proofs.ReplayLemmas.{reached_at, replayed_more, replayed_all, bad_among, view_on, exit_is}
+use Rattle.archive_core.proofs.ReplayLemmas.{reached_at, replayed_more, replayed_all, bad_among, view_on, holds_on, exit_is}
 use Rattle.archive_core.proofs.replaying.replay.Goals as goal
 
 pub returns-in_err-cover-clause-only : goal.returns-in_err-cover-clause-only
@@ -35,14 +34,14 @@ returns-in_err-apply-clause-bad g c = λ tells bodies same spelled at is.
     let within : i < length heads = omega arith in
     let this = get_or_default heads i (record { gate = 0; body = 0; bytes = 0 }) head within in
     let r = c.loop-head.invariant.replaying in
-    let kept : (g.D.Disk.disk c.loop-head.disk).holds.journal ≡ journal = ap (λ (d : DiskState). d.holds.journal) c.loop-head.invariant.same in
+    let kept : (g.D.Disk.disk c.loop-head.disk).holds.journal ≡ journal = holds_on (g.D.Disk.disk c.args.disk.now) (g.D.Disk.disk c.loop-head.disk) c.loop-head.invariant.same in
     let view = view_on _ _ _ _ (sym kept) (c.in_ok-cover.ensures.view tells (view_on _ _ _ _ kept (c.loop-head.invariant.view tells))) in
     let covers = c.in_ok-cover.ensures.covers in
     let read = c.body.ensures.bytes ∙ window_has _ journal c.cover.new.self.from head.body head.bytes view covers.begins covers.ends in
     let p = err_from_is_err_and c.from_residual-in_err-apply.result c.from_residual-in_err-apply.ensures.1 in
     let reached = reached_at g.D.Disk.disk_tells journal heads i c.loop-head.directory.changes head c.args.journal.now.end c.requires.row within this r in
     bad_among g.D.Disk.disk_tells journal heads i c.loop-head.directory.changes head c.args.journal.now.end c.body.result.now bodies at c.requires.row within this tells read same spelled r
-        (c.apply.ensures.bad r.history reached at (exit_is c.apply.result c.from_residual-in_err-apply.result c.in_err-apply.field-0.0 p.0 _ c.in_err-apply.was p.1 p.2 is))
+    (c.apply.ensures.bad r.history reached at (exit_is c.apply.result c.from_residual-in_err-apply.result c.in_err-apply.field-0.0 p.0 _ c.in_err-apply.was p.1 p.2 is))
 
 pub loop-head-preserved : goal.loop-head-preserved
 loop-head-preserved g c =
@@ -53,7 +52,7 @@ loop-head-preserved g c =
     let within : i < length heads = omega arith in
     let this = get_or_default heads i (record { gate = 0; body = 0; bytes = 0 }) head within in
     let r = c.loop-head.invariant.replaying in
-    let kept : (g.D.Disk.disk c.loop-head.disk).holds.journal ≡ journal = ap (λ (d : DiskState). d.holds.journal) c.loop-head.invariant.same in
+    let kept : (g.D.Disk.disk c.loop-head.disk).holds.journal ≡ journal = holds_on (g.D.Disk.disk c.args.disk.now) (g.D.Disk.disk c.loop-head.disk) c.loop-head.invariant.same in
     let covers = c.in_ok-cover.ensures.covers in
     let reached = reached_at g.D.Disk.disk_tells journal heads i c.loop-head.directory.changes head c.args.journal.now.end c.requires.row within this r in
     record {
@@ -63,11 +62,11 @@ loop-head-preserved g c =
       replaying = replayed_more g.D.Disk.disk_tells journal heads i c.loop-head.directory.changes c.apply.new.directory.changes head c.args.journal.now.end c.body.result.now
           c.requires.row within this c.body.ensures.len
           (λ tells. c.body.ensures.bytes ∙ window_has _ journal c.cover.new.self.from head.body head.bytes
-              (view_on _ _ _ _ (sym kept) (c.in_ok-cover.ensures.view tells (view_on _ _ _ _ kept (c.loop-head.invariant.view tells)))) covers.begins covers.ends)
+          (view_on _ _ _ _ (sym kept) (c.in_ok-cover.ensures.view tells (view_on _ _ _ _ kept (c.loop-head.invariant.view tells)))) covers.begins covers.ends)
           r (c.in_ok-apply.ensures.more r.history reached);
     }
 
 pub returns-clause-found : goal.returns-clause-found
 returns-clause-found g c = λ tells bodies same spelled.
     replayed_all g.D.Disk.disk_tells (g.D.Disk.disk c.args.disk.now).holds.journal c.args.heads.now c.loop-head.head-index c.loop-head.directory.changes bodies
-        c.loop-head.invariant.replaying c.loop-head-test.false tells same spelled
+    c.loop-head.invariant.replaying c.loop-head-test.false tells same spelled

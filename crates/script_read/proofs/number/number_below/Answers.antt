@@ -1,4 +1,4 @@
-use Rattle.std.proofs.Common.{◌≡◌, ◌≤◌, ◌+◌, ◌-◌, ◌*◌, take, sym, arith}
+use Rattle.std.proofs.Common.{◌≤◌, ◌+◌, take, sym, arith}
 use Rattle.std.proofs.lemmas.Grind.{common_steps}
 use Rattle.script_read.specs.Numbers.{value_of}
 use Rattle.script_read.proofs.NumberLemmas.{number-above}

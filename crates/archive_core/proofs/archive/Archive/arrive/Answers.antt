@@ -1,10 +1,10 @@
-use Rattle.std.proofs.Common.{◌≡◌, ℕ, ◌<◌, ◌^◌, ◌∷◌, List, length, Some, None, ◌⊎◌, ap, subst, sym, ◌∙◌, refl, arith, rules}
+use Rattle.std.proofs.Common.{◌<◌, ◌^◌, length, Some, ◌∙◌, rules}
 use Rattle.record_codec.specs.declared.entry.Entry.TheVariants.{Arrive}
 use Rattle.archive_state.specs.Histories.{History}
-use Rattle.archive_state.proofs.RefusalLemmas.{arrival_refused-text, arrival_refused-good}
+use Rattle.archive_state.proofs.RefusalLemmas.{arrival_refused-good}
 use Rattle.archive_core.specs.States.{StandsFor}
 use Rattle.archive_core.specs.Adding.{IsNext}
-use Rattle.archive_core.proofs.AddLemmas.{arrive_next, arrive_refused, next_refused, next_allowed, stands_ok, kept_ok, leads_to, leads_nowhere, pages_nowhere, step_at}
+use Rattle.archive_core.proofs.AddLemmas.{arrive_next, arrive_refused, next_refused, next_allowed, stands_ok, kept_ok, leads_to, leads_nowhere, pages_nowhere}
 use Rattle.archive_core.proofs.archive.Archive.arrive.Given.{Over}
 use Rattle.archive_core.proofs.archive.Archive.arrive.Goals as goal
 
@@ -35,7 +35,7 @@ next : (g : Over) (c : goal.After-drop-body g) (h : History) → StandsFor c.arg
 next g c h stands =
     let fits : c.args.doc.0 < 2 ^ 32 = search rules in
     arrive_next c.args.self.now h c.args.doc c.args.at c.args.text.now c.in-Ok.text.now c.deref.result.now stands
-        fits c.in-Ok.ensures.0 c.in-Ok.ensures.1 c.in-Ok.ensures.2 (search rules) (c.deref.ensures.value ∙ c.in-Ok-encode_arrival.ensures.spelled)
+    fits c.in-Ok.ensures.0 c.in-Ok.ensures.1 c.in-Ok.ensures.2 (search rules) (c.deref.ensures.value ∙ c.in-Ok-encode_arrival.ensures.spelled)
 
 pub returns-in-Ok-encode_arrival-clause-refused : goal.returns-in-Ok-encode_arrival-clause-refused
 returns-in-Ok-encode_arrival-clause-refused g c = λ h stands why is.
@@ -50,7 +50,7 @@ returns-in-Ok-encode_arrival-clause-allowed g c = λ h stands is.
 pub returns-in-Ok-encode_arrival-clause-stands : goal.returns-in-Ok-encode_arrival-clause-stands
 returns-in-Ok-encode_arrival-clause-stands g c = λ h stands.
     stands_ok c.commit.result c.args.self.now c.commit.new.self h (Arrive c.args.doc c.args.at c.args.text.now) _ c.deref.result.now
-        stands (next g c h stands) c.commit.ensures.more
+    stands (next g c h stands) c.commit.ensures.more
 
 pub returns-in-Ok-encode_arrival-clause-crash : goal.returns-in-Ok-encode_arrival-clause-crash
 returns-in-Ok-encode_arrival-clause-crash g c = λ tells h kept.
@@ -60,4 +60,4 @@ returns-in-Ok-encode_arrival-clause-crash g c = λ tells h kept.
 pub returns-in-Ok-encode_arrival-clause-kept : goal.returns-in-Ok-encode_arrival-clause-kept
 returns-in-Ok-encode_arrival-clause-kept g c = λ tells h kept.
     kept_ok c.commit.result c.args.self.now c.commit.new.self _ h (Arrive c.args.doc c.args.at c.args.text.now) _ c.deref.result.now
-        kept.stands (next g c h kept.stands) c.commit.ensures.more (c.commit.ensures.in_step tells _ kept.in_step)
+    kept.stands (next g c h kept.stands) c.commit.ensures.more (c.commit.ensures.in_step tells _ kept.in_step)

@@ -40,7 +40,7 @@ returns-in-Ok-encode_deletion-clause-allowed g c = λ h stands is.
 pub returns-in-Ok-encode_deletion-clause-stands : goal.returns-in-Ok-encode_deletion-clause-stands
 returns-in-Ok-encode_deletion-clause-stands g c = λ h stands.
     stands_ok c.commit.result c.args.self.now c.commit.new.self h (Delete c.args.doc c.args.at) _ c.deref.result.now
-        stands (next g c h stands) c.commit.ensures.more
+    stands (next g c h stands) c.commit.ensures.more
 
 pub returns-in-Ok-encode_deletion-clause-crash : goal.returns-in-Ok-encode_deletion-clause-crash
 returns-in-Ok-encode_deletion-clause-crash g c = λ tells h kept.
@@ -50,4 +50,4 @@ returns-in-Ok-encode_deletion-clause-crash g c = λ tells h kept.
 pub returns-in-Ok-encode_deletion-clause-kept : goal.returns-in-Ok-encode_deletion-clause-kept
 returns-in-Ok-encode_deletion-clause-kept g c = λ tells h kept.
     kept_ok c.commit.result c.args.self.now c.commit.new.self _ h (Delete c.args.doc c.args.at) _ c.deref.result.now
-        kept.stands (next g c h kept.stands) c.commit.ensures.more (c.commit.ensures.in_step tells _ kept.in_step)
+    kept.stands (next g c h kept.stands) c.commit.ensures.more (c.commit.ensures.in_step tells _ kept.in_step)

@@ -1,10 +1,9 @@
-use Rattle.std.proofs.Common.{◌≡◌, ◌∙◌, ℕ, List, length, inl, subst, sym, arith}
+use Rattle.std.proofs.Common.{◌∙◌, List, inl, subst, arith}
 use Rattle.std.proofs.lemmas.Result.{err_from_is_err_and}
-use Rattle.machine_model.specs.Areas.{Bytes}
 use Rattle.gate_journal.specs.declared.head.Head.{Head}
 use Rattle.gate_journal.specs.Spelled.{Spells}
 use Rattle.archive_state.specs.Histories.{History}
-use Rattle.archive_state.specs.Stands.{bodies_of, Stands}
+use Rattle.archive_state.specs.Stands.{bodies_of}
 use Rattle.archive_state.proofs.StandsLemmas.{spelled_is_archive}
 use Rattle.archive_core.specs.States.{IsKept}
 use Rattle.archive_core.specs.Replaying.{IsReplayed}
@@ -31,14 +30,14 @@ returns-in_err-directory-clause-not_archive g c = λ tells at is.
     let step = c.in_ok-journal.ensures.in_step tells found.bodies found.spelled in
     let p = err_from_is_err_and c.from_residual-in_err-directory.result c.from_residual-in_err-directory.ensures.1 in
     bad_archive (g.D.Disk.disk c.args.disk.now).holds.journal found.bodies at found.spelled
-        (c.replay.ensures.bad tells found.bodies (c.deref.ensures.value ∙ found.laid_out.heads_are) step.2 at
-            (exit_is c.replay.result c.from_residual-in_err-directory.result c.in_err-directory.field-0.0 p.0 _ c.in_err-directory.was p.1 p.2 is))
+    (c.replay.ensures.bad tells found.bodies (c.deref.ensures.value ∙ found.laid_out.heads_are) step.2 at
+    (exit_is c.replay.result c.from_residual-in_err-directory.result c.in_err-directory.field-0.0 p.0 _ c.in_err-directory.was p.1 p.2 is))
 
 pub returns-in_err-directory-clause-crash : goal.returns-in_err-directory-clause-crash
 returns-in_err-directory-clause-crash g c = λ tells h each.
     let stands = each _ (g.met.D.Disk.holds_allowed c.args.disk.now tells) in
     history_reads h (g.D.Disk.disk c.args.disk.now) (g.D.Disk.disk c.load.new.disk) (g.D.Disk.disk c.replay.new.disk)
-        (keeps_history h (g.D.Disk.disk c.args.disk.now) (g.D.Disk.disk c.load.new.disk) stands.legal (c.load.ensures.crash tells (bodies_of h) (stands_spells (g.D.Disk.disk c.args.disk.now) h each))) c.replay.ensures.same
+    (keeps_history h (g.D.Disk.disk c.args.disk.now) (g.D.Disk.disk c.load.new.disk) stands.legal (c.load.ensures.crash tells (bodies_of h) (stands_spells (g.D.Disk.disk c.args.disk.now) h each))) c.replay.ensures.same
 
 pub returns-in_err-directory-clause-never : goal.returns-in_err-directory-clause-never
 returns-in_err-directory-clause-never g c = λ tells h each at is.
@@ -47,9 +46,9 @@ returns-in_err-directory-clause-never g c = λ tells h each at is.
     let step = c.in_ok-journal.ensures.in_step tells found.bodies found.spelled in
     let p = err_from_is_err_and c.from_residual-in_err-directory.result c.from_residual-in_err-directory.ensures.1 in
     spelled_is_archive (g.D.Disk.disk c.args.disk.now).holds.journal h at stands.spelled stands.legal
-        (bad_archive (g.D.Disk.disk c.args.disk.now).holds.journal found.bodies at found.spelled
-            (c.replay.ensures.bad tells found.bodies (c.deref.ensures.value ∙ found.laid_out.heads_are) step.2 at
-                (exit_is c.replay.result c.from_residual-in_err-directory.result c.in_err-directory.field-0.0 p.0 _ c.in_err-directory.was p.1 p.2 is)))
+    (bad_archive (g.D.Disk.disk c.args.disk.now).holds.journal found.bodies at found.spelled
+    (c.replay.ensures.bad tells found.bodies (c.deref.ensures.value ∙ found.laid_out.heads_are) step.2 at
+    (exit_is c.replay.result c.from_residual-in_err-directory.result c.in_err-directory.field-0.0 p.0 _ c.in_err-directory.was p.1 p.2 is)))
 
 pub of-requires-clause-few : goal.of-requires-clause-few
 of-requires-clause-few g c =
@@ -68,8 +67,8 @@ all_found g c tells =
     let all = c.in_ok-directory.ensures.found tells found.bodies (c.deref.ensures.value ∙ found.laid_out.heads_are) step.2 in
     let P : List Head → Type 0 = λ l. IsReplayed all.0 l c.in_ok-directory.directory.changes in
     found_all c.of.result (g.D.Disk.disk c.load.new.disk) (g.D.Disk.disk c.replay.new.disk) (g.D.Disk.disk c.args.disk.now).holds.journal c.in_ok-journal.journal.end
-        c.in_ok-journal.heads.items c.in_ok-directory.directory.changes found.bodies all.0 (made g c) c.in_ok-journal.ensures.row (subst P c.deref.ensures.value all.1) all.2
-        step.1 c.replay.ensures.same found.spelled
+    c.in_ok-journal.heads.items c.in_ok-directory.directory.changes found.bodies all.0 (made g c) c.in_ok-journal.ensures.row (subst P c.deref.ensures.value all.1) all.2
+    step.1 c.replay.ensures.same found.spelled
 
 pub returns-clause-only : goal.returns-clause-only
 returns-clause-only g c = g.met.D.Disk.only_joins _ _ _ c.load.ensures.only c.replay.ensures.only
@@ -77,8 +76,7 @@ returns-clause-only g c = g.met.D.Disk.only_joins _ _ _ c.load.ensures.only c.re
 pub returns-clause-stands : goal.returns-clause-stands
 returns-clause-stands g c =
     let all = c.in_ok-directory.ensures.stands in
-    let P : List Head → Type 0 = λ l. IsReplayed all.0 l c.in_ok-directory.directory.changes in
-    (
+    let P : List Head → Type 0 = λ l. IsReplayed all.0 l c.in_ok-directory.directory.changes in (
       all.0,
       stands_replayed c.of.result all.0 c.in_ok-journal.heads.items c.in_ok-directory.directory.changes c.in_ok-journal.journal.end (made g c) c.in_ok-journal.ensures.row
           (subst P c.deref.ensures.value all.1),
@@ -96,7 +94,7 @@ pub returns-clause-crash : goal.returns-clause-crash
 returns-clause-crash g c = λ tells h each.
     let stands = each _ (g.met.D.Disk.holds_allowed c.args.disk.now tells) in
     history_reads h (g.D.Disk.disk c.args.disk.now) (g.D.Disk.disk c.load.new.disk) (g.D.Disk.disk c.replay.new.disk)
-        (keeps_history h (g.D.Disk.disk c.args.disk.now) (g.D.Disk.disk c.load.new.disk) stands.legal (c.load.ensures.crash tells (bodies_of h) (stands_spells (g.D.Disk.disk c.args.disk.now) h each))) c.replay.ensures.same
+    (keeps_history h (g.D.Disk.disk c.args.disk.now) (g.D.Disk.disk c.load.new.disk) stands.legal (c.load.ensures.crash tells (bodies_of h) (stands_spells (g.D.Disk.disk c.args.disk.now) h each))) c.replay.ensures.same
 
 pub returns-clause-finds : goal.returns-clause-finds
 returns-clause-finds g c = λ tells h each.

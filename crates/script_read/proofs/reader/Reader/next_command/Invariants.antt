@@ -1,4 +1,4 @@
-use Rattle.std.proofs.Common.{◌≡◌, ◌≢◌, ◌+◌, ◌≤◌, ◌^◌, true, List, [], ◌++◌, ℕ, length}
+use Rattle.std.proofs.Common.{◌≡◌, ◌≢◌, true, List, [], ◌++◌, ℕ}
 use Rattle.script_read.specs.Items.{first}
 use Rattle.script_read.specs.Reading.{turns}
 use Rattle.script_read.specs.declared.first.First.TheVariants.{More}

@@ -1,0 +1,40 @@
+//! The program's exit statuses and the lines that it prints of them.
+use archive_shell::Status;
+use std::test::Fail;
+
+#[test]
+fn each_status_has_its_code_and_its_line(rt: HostRuntime) -> Result<(), Fail> {
+    let alloc = rt.alloc();
+    for (status, code, line) in [
+        (Status::Done, 0, "tt_archive: done"),
+        (
+            Status::Usage,
+            2,
+            "tt_archive: usage: tt_archive [--generate SEED --count COUNT]",
+        ),
+        (
+            Status::NotArchive { at: 16 },
+            3,
+            "tt_archive: not an archive at byte 16 of the journal",
+        ),
+        (Status::Disk, 4, "tt_archive: disk fault"),
+        (Status::Source, 5, "tt_archive: source fault"),
+        (Status::Sink, 6, "tt_archive: sink fault"),
+        (
+            Status::Script { at: 20 },
+            7,
+            "tt_archive: script fault at byte 20",
+        ),
+        (
+            Status::Budget,
+            9,
+            "tt_archive: no end after 1099511627776 bytes",
+        ),
+        (Status::Memory, 12, "tt_archive: no memory"),
+    ] {
+        let text = format!(in alloc; "{status}")?;
+        assert_eq!(rt; text.as_str(), line);
+        assert_eq!(rt; status.code(), code, "{line}");
+    }
+    Ok(())
+}
