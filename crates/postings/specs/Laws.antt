@@ -31,6 +31,13 @@ LongestSpans = (f : ℕ → ℕ → ℕ) (a b : ℕ) (list : List Posting) → I
 abbrev pub FrequencyOfUnion : Type 0
 FrequencyOfUnion = (one other union : List Posting) → IsList one → IsList other → IsUnion one other union → (d t : ℕ) → frequency d t union ≡ frequency d t (one ++ other)
 
+-- The lists of a frequency over two intervals that touch, joined: whatever is coalesced and has the rows of their
+-- union is the list over both.
+abbrev pub JoinOfListsOf : Type 0
+JoinOfListsOf =
+    (f : ℕ → ℕ → ℕ) (a h b : ℕ) (x y union joined : List Posting) → a ≤ h → h ≤ b → IsListOf f a h x → IsListOf f h b y
+    → IsUnion x y union → IsList joined → IsCoalesced joined → SameRows joined union → IsListOf f a b joined
+
 -- The size of a sublist is the number of postings that have begun at its end less that of those that are over at its start.
 abbrev pub SizeIsBegunLessEnded : Type 0
 SizeIsBegunLessEnded = (list : List Posting) (f g : ℕ) → f < g → size f g list + ended f list ≡ begun g list

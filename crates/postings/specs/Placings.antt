@@ -1,5 +1,5 @@
 -- How two postings of two lists stand to each other, and how far a merge of the lists has come.
-use Rattle.std.specs.Prelude.{◌≡◌, ◌⊎◌, ◌↔◌, List, ◌++◌, Contains}
+use Rattle.std.specs.Prelude.{◌≡◌, ◌⊎◌, List, ◌++◌, Contains}
 use Rattle.time_base.specs.declared.posting.Posting.{Posting}
 use Rattle.postings.specs.Lists.{IsList, ComesBefore}
 use Rattle.postings.specs.Unions.{Clashes}
@@ -13,8 +13,12 @@ IsPlacing p q Before = ComesBefore p q
 IsPlacing p q After = ComesBefore q p
 IsPlacing p q Clash = Clashes p q
 
--- So much is merged, and left and right are left of the lists.
+-- What is done of a merge, and what of the two lists is left.
 pub record AreMerged (one other done left right : List Posting) : Type 0 where
   pub first : IsList (done ++ left)
   pub second : IsList (done ++ right)
-  pub each : (p : Posting) → (Contains (done ++ left) p ⊎ Contains right p) ↔ (Contains one p ⊎ Contains other p)
+  pub done_of : (p : Posting) → Contains done p → Contains one p ⊎ Contains other p
+  pub left_of : (p : Posting) → Contains left p → Contains one p
+  pub right_of : (p : Posting) → Contains right p → Contains other p
+  pub one_in : (p : Posting) → Contains one p → Contains done p ⊎ Contains left p
+  pub other_in : (p : Posting) → Contains other p → Contains done p ⊎ Contains right p

@@ -12,9 +12,11 @@ mod merge;
 mod parts;
 
 pub use laws::{
-    clip_of_list_of, coalesced_is_shortest, frequency_of_union, longest_spans, one_coalesced, one_list_of,
-    size_is_begun_less_ended,
+    clip_of_list_of, coalesced_is_shortest, frequency_of_union, join_of_lists_of, longest_spans,
+    one_coalesced, one_list_of, size_is_begun_less_ended,
 };
 pub use merge::{MergeError, merge_distinct};
 pub use parts::{as_of, clip, overlap};
 
+#[cfg(test)]
+mod tests;

@@ -22,7 +22,10 @@ pub enum MergeError {
 }
 
 impl From<AllocError> for MergeError {
-    ghost from_gives = { λ _ e. e ≡ MergeError.Memory };
+    ghost use Rattle.postings.specs.declared.merge.MergeError.TheVariants.{Memory};
+    ghost use Rattle.std.specs.Prelude.{◌≡◌};
+
+    ghost from_gives = { λ _ e. e ≡ Memory };
 
     fn from(_error: AllocError) -> MergeError {
         MergeError::Memory
@@ -30,7 +33,10 @@ impl From<AllocError> for MergeError {
 }
 
 impl<T: Drop> From<AllocFailed<T>> for MergeError {
-    ghost from_gives = { λ _ e. e ≡ MergeError.Memory };
+    ghost use Rattle.postings.specs.declared.merge.MergeError.TheVariants.{Memory};
+    ghost use Rattle.std.specs.Prelude.{◌≡◌};
+
+    ghost from_gives = { λ _ e. e ≡ Memory };
 
     fn from(_error: AllocFailed<T>) -> MergeError {
         MergeError::Memory
@@ -72,7 +78,11 @@ fn placed(p: &Posting, q: &Posting) -> Placing
 /// The union of two lists, with each distinct posting once. `Clash` comes exactly where two postings
 /// of one document differ and overlap in time, one of each list, and carries such a pair. One pass
 /// over both lists.
-pub fn merge_distinct(alloc: Global, one: &[Posting], other: &[Posting]) -> Result<Vec<Posting>, MergeError>
+pub fn merge_distinct(
+    alloc: Global,
+    one: &[Posting],
+    other: &[Posting],
+) -> Result<Vec<Posting>, MergeError>
     requires one { IsList one.now }
     requires other { IsList other.now }
     ensures union { IfOk result (λ v. IsUnion one.now other.now v.items) }
@@ -81,7 +91,7 @@ pub fn merge_distinct(alloc: Global, one: &[Posting], other: &[Posting]) -> Resu
     let mut merged = Vec::new(alloc);
     let mut left = one;
     let mut right = other;
-    loop {
+    'postings: loop {
         let Some((p, later)) = left.split_first() else {
             merged.extend_from_slice(right)?;
             return Ok(merged);

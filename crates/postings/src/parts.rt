@@ -11,7 +11,10 @@ pub fn as_of(alloc: Global, list: &[Posting], t: Time) -> Result<Vec<Posting>, A
     ensures rows { IfOk result (λ v. v.items ≡ rows_at t.seconds list.now) }
     ensures ordered { IfOk result (λ v. IsList list.now → IsList v.items) }
 {
-    list.iter().filter(|p| p.span.holds(t)).copied().collect(alloc)
+    list.iter()
+        .filter(|p| p.span.holds(t))
+        .copied()
+        .collect(alloc)
 }
 
 /// The sublist for the span: the postings that have a time in it, uncut, in the list's order. One
