@@ -1,7 +1,7 @@
 -- The order of postings, and relations between neighbours.
-use Rattle.std.specs.Prelude.{◌≡◌, ◌⊎◌, ℕ, zero, suc, ◌+◌, ◌<◌, ◌≤◌, Bool, true, false, cond, List, [], ◌∷◌, ◌++◌, length, get_or, filter, Contains, ⊤, refl}
+use Rattle.std.specs.Prelude.{◌≡◌, ◌⊎◌, zero, suc, ◌<◌, Bool, true, false, cond, List, [], ◌∷◌, filter, Contains, ⊤}
 use Rattle.std.specs.List.{AllZip}
-use Rattle.std.proofs.Common.{arith, ap, sym, ◌∙◌, subst, inl, inr}
+use Rattle.std.proofs.Common.{arith, sym, ◌∙◌, subst, inl, inr}
 use Rattle.time_base.specs.declared.posting.Posting.{Posting}
 use Rattle.postings.specs.Lists.{EachNext, ComesBefore, IsList, IsCoalesced, Continues}
 

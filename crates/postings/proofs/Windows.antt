@@ -1,6 +1,6 @@
 -- The lists of two windows, joined.
-use Rattle.std.specs.Prelude.{◌≡◌, ◌⊎◌, ℕ, ◌+◌, ◌-◌, ◌<◌, ◌≤◌, List, ◌++◌, Contains, get_or, refl}
-use Rattle.std.proofs.Common.{arith, sym, ◌∙◌, inl, inr}
+use Rattle.std.specs.Prelude.{◌≡◌, ◌⊎◌, ℕ, ◌-◌, ◌<◌, ◌≤◌, List, ◌++◌, Contains, get_or, refl}
+use Rattle.std.proofs.Common.{arith, ◌∙◌, inl, inr}
 use Rattle.std.proofs.lemmas.Bool.{cases_lt}
 use Rattle.std.proofs.lemmas.List.Elements.{Contains-get_or}
 use Rattle.time_base.specs.declared.posting.Posting.{Posting}

@@ -43,10 +43,15 @@ fn a_union_has_each_posting_once_and_no_overlap(rt: HostRuntime) -> Result<(), F
     let first = posting(1, 10, 20).ok_or("the posting [10, 20)")?;
     let second = posting(1, 20, 30).ok_or("the posting [20, 30)")?;
     let across = posting(1, 15, 30).ok_or("the posting [15, 30)")?;
-    let union = merge_distinct(alloc, &[first, second], &[second]).ok();
+    let touching = merge_distinct(alloc, &[first], &[second]).ok();
     assert_eq!(rt;
-        union.as_ref().map(|u| u.as_slice()),
+        touching.as_ref().map(|u| u.as_slice()),
         Some([first, second].as_slice())
+    );
+    let once = merge_distinct(alloc, &[first], &[first]).ok();
+    assert_eq!(rt;
+        once.as_ref().map(|u| u.as_slice()),
+        Some([first].as_slice())
     );
     let refused = merge_distinct(alloc, &[first], &[across]).err();
     assert_eq!(rt;

@@ -1,7 +1,6 @@
-use Rattle.std.proofs.Common.{arith, ◌≡◌, ◌≤◌, List, length, take, Bool, true, false, refl, sym}
+use Rattle.std.proofs.Common.{◌≡◌, Bool, true, false, refl, sym}
 use Rattle.std.proofs.lemmas.List.{take_all}
 use Rattle.postings.specs.Lists.{meets}
-use Rattle.postings.specs.Clips.{IsClip}
 use Rattle.postings.proofs.Clipping.{clip-more, clip-skips, clip_list, clip_coalesced}
 use Rattle.postings.proofs.parts.clip.Goals as goal
 use Rattle.postings.proofs.parts.clip.Goals.{in-Some+in_ok-push, in_default}
