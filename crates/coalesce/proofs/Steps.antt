@@ -1,9 +1,9 @@
 -- How a list becomes coalesced.
-use Rattle.std.specs.Prelude.{◌≡◌, ℕ, suc, ◌+◌, ◌<◌, ◌≤◌, cond, List, [], ◌∷◌, ◌++◌, length, get_or, drop, refl}
+use Rattle.std.specs.Prelude.{◌≡◌, ℕ, ◌+◌, ◌<◌, ◌≤◌, cond, List, [], ◌∷◌, ◌++◌, length, get_or, drop}
 use Rattle.std.proofs.Common.{arith, ap, sym, ◌∙◌, subst, inl, inr, append_assoc}
 use Rattle.std.proofs.lemmas.List.{drop_more, drop_all}
 use Rattle.time_base.specs.declared.posting.Posting.{Posting}
-use Rattle.postings.specs.Lists.{EachNext, ComesBefore, IsList, IsCoalesced, Continues, SameRows}
+use Rattle.postings.specs.Lists.{EachNext, ComesBefore, IsList, Continues, SameRows}
 use Rattle.postings.specs.Joins.{IsJoined}
 use Rattle.postings.proofs.Order.{Heads, next-tail, next-head, next-cons}
 use Rattle.postings.proofs.Frequencies.{is_row}

@@ -1,4 +1,4 @@
-use Rattle.std.proofs.Common.{◌≡◌, ◌+◌, List, length, drop, sym, ◌∙◌}
+use Rattle.std.proofs.Common.{◌+◌, drop}
 use Rattle.coalesce.proofs.Steps.{step-join, step-push, next-left, finish-shortest}
 use Rattle.coalesce.proofs.coalesce.Goals as goal
 use Rattle.coalesce.proofs.coalesce.Goals.{then-continues, else-continues+in_ok-push}
