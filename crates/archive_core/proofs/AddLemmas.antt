@@ -27,7 +27,7 @@ use Rattle.archive_state.specs.declared.refusal.Refusal.TheVariants.{Full}
 use Rattle.archive_state.specs.Refusals.{refusal_of}
 use Rattle.archive_state.specs.Steps.{arrival_refusal, deletion_refusal}
 use Rattle.archive_state.proofs.RefusalLemmas.{arrival_refused-good, cause, cause-not_allowed, cause-full, cause-none}
-use Rattle.archive_core.specs.States.{ArchiveState, IsPlace, IsPlaced, ArePlaced, StandsFor, IsKept}
+use Rattle.archive_core.specs.States.{ArchiveState, IsPlaced, ArePlaced, StandsFor, IsKept}
 use Rattle.archive_core.specs.Adding.{IsNext, IsHeld, IsMore, Makes}
 use Rattle.archive_core.specs.Changing.{LeadsTo}
 use Rattle.archive_core.proofs.PlaceLemmas.{placed_push, placed_arrive_refusal, placed_delete_refusal}

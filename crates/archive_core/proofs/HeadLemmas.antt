@@ -11,7 +11,6 @@ use Rattle.gate_journal.specs.Spelled.{Spells}
 use Rattle.gate_journal.specs.Scanning.{IsView}
 use Rattle.gate_journal.proofs.SpellingLemmas.{length-header}
 use Rattle.archive_state.proofs.HistoryLemmas.{length_record}
-use Rattle.archive_core.specs.Replaying.{Covers}
 
 -- the head of a body whose gate is at this place
 abbrev pub head_at : ℕ → List ℕ → Head

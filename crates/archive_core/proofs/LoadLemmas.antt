@@ -1,15 +1,11 @@
 -- What a load leaves and finds.
-use Rattle.std.proofs.Common.{◌≡◌, ◌⊎◌, ℕ, ◌+◌, ◌≤◌, List, [], ◌∷◌, ◌++◌, length, Result, Ok, Err, IfOk, OnOk, inl, inr, refl, ap, subst, sym, ◌∙◌, arith}
+use Rattle.std.proofs.Common.{◌≡◌, ℕ, ◌+◌, ◌≤◌, List, length, Result, Err, inr, ap, subst, sym, ◌∙◌, arith}
 use Rattle.std.proofs.lemmas.List.{length-map}
 use Rattle.machine_model.specs.Areas.{Bytes}
-use Rattle.machine_model.specs.States.{DiskState, moment}
-use Rattle.machine_model.specs.Images.{MayLeave}
-use Rattle.machine_model.specs.Moments.{GoesOn, LeavesOnly}
+use Rattle.machine_model.specs.States.{DiskState}
 use Rattle.machine_model.specs.Calls.{OnlyReads}
-use Rattle.machine_model.proofs.MomentLemmas.{goes_on_reads, goes_on_joins}
 use Rattle.gate_journal.specs.declared.head.Head.{Head}
-use Rattle.gate_journal.specs.Records.{front}
-use Rattle.gate_journal.specs.Heads.{AreInRow, heads_of}
+use Rattle.gate_journal.specs.Heads.{AreInRow}
 use Rattle.gate_journal.specs.Spelled.{Spells, EachSpells}
 use Rattle.gate_journal.specs.InStep.{IsInStep}
 use Rattle.gate_journal.specs.Crash.{KeepsBodies, KeepsPages}
@@ -17,9 +13,9 @@ use Rattle.time_base.specs.declared.text_place.TextPlace.{TextPlace}
 use Rattle.version_store.specs.declared.change.Change.{Change}
 use Rattle.record_codec.specs.Spelling.{spelling}
 use Rattle.archive_state.specs.Histories.{History, IsLegal, end_of}
-use Rattle.archive_state.specs.Stands.{bodies_of, Stands, EachStands, IsBadEntry, IsNotArchive}
+use Rattle.archive_state.specs.Stands.{bodies_of, Stands, EachStands, IsNotArchive}
 use Rattle.archive_state.proofs.HistoryLemmas.{end_of_is, end_of-least}
-use Rattle.archive_state.proofs.StandsLemmas.{spells_one_history, spelled_is_archive}
+use Rattle.archive_state.proofs.StandsLemmas.{spells_one_history}
 use Rattle.archive_core.specs.States.{ArchiveState, ArePlaced, StandsFor, IsKept}
 use Rattle.archive_core.specs.Changing.{KeepsHistory}
 use Rattle.gate_journal.specs.declared.error.JournalError.{JournalError}

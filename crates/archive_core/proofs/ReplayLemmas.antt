@@ -1,5 +1,5 @@
 -- Going over entries: one entry more, and one that is refused.
-use Rattle.std.proofs.Common.{◌≡◌, ℕ, ◌+◌, ◌-◌, ◌<◌, ◌≤◌, List, [], ◌∷◌, ◌++◌, length, take, drop, get_or, Option, Some, None, Result, Err, inl, inr, refl, ap, subst, sym, ◌∙◌, arith}
+use Rattle.std.proofs.Common.{◌≡◌, ℕ, ◌+◌, ◌<◌, ◌≤◌, List, [], ◌∷◌, ◌++◌, length, take, drop, get_or, Option, Some, None, Result, Err, inr, ap, subst, sym, ◌∙◌, arith}
 use Rattle.std.proofs.lemmas.List.{take_more, take_all}
 use Rattle.machine_model.specs.States.{DiskState}
 use Rattle.machine_model.specs.Calls.{OnlyReads}
@@ -17,15 +17,15 @@ use Rattle.version_store.specs.Refusals.{arrive_refusal, delete_refusal}
 use Rattle.record_codec.specs.Spelling.{spelling, IsEntry}
 use Rattle.record_codec.specs.declared.entry.Entry.{Entry}
 use Rattle.record_codec.specs.declared.entry.Entry.TheVariants.{Arrive, Delete}
-use Rattle.archive_state.specs.Histories.{History, IsLegal, IsLegalEntry, entry_refusal, end_of}
+use Rattle.archive_state.specs.Histories.{History, entry_refusal}
 use Rattle.archive_state.specs.Stands.{bodies_of}
 use Rattle.archive_state.proofs.HistoryLemmas.{bodies_of-push, end_of-push, end_of_is, legal-push}
-use Rattle.archive_core.specs.States.{ArePlaced, IsPlaced}
+use Rattle.archive_core.specs.States.{ArePlaced}
 use Rattle.archive_core.specs.Adding.{Makes, IsHeld, refusal_by, change_refusal}
-use Rattle.archive_core.specs.Replaying.{Covers, IsReached, IsGoneOver, IsFaulty, IsReplayed, IsReplaying, IsBadAmong}
+use Rattle.archive_core.specs.Replaying.{IsReached, IsGoneOver, IsFaulty, IsReplayed, IsReplaying, IsBadAmong}
 use Rattle.archive_core.proofs.PlaceLemmas.{placed_push, placed_arrive_refusal, placed_delete_refusal}
 use Rattle.archive_core.proofs.AddLemmas.{makes_placed}
-use Rattle.archive_core.proofs.HeadLemmas.{head_at, head_by_parts, heads_push, row_gate, row_end, length_heads, head_bytes, around, length_front, body_found, window_has}
+use Rattle.archive_core.proofs.HeadLemmas.{head_at, head_by_parts, heads_push, row_gate, length_heads, head_bytes, around, length_front, body_found}
 
 -- the directory refuses the change that an entry makes for the reason that the history has against the entry
 pub makes_refusal : (e : Entry) (x : Change ℕ) (gate : ℕ) (h : History) (cs : List (Change TextPlace)) → Makes e x → ArePlaced gate h cs → change_refusal x cs ≡ entry_refusal h e

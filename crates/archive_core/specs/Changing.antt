@@ -1,6 +1,5 @@
 -- What a stop at any moment of a call leaves.
-use Rattle.std.specs.Prelude.{◌≡◌, ◌⊎◌, List, ℕ}
-use Rattle.machine_model.specs.Areas.{Bytes}
+use Rattle.std.specs.Prelude.{◌≡◌, ◌⊎◌}
 use Rattle.machine_model.specs.States.{DiskState}
 use Rattle.machine_model.specs.Moments.{GoesOn, LeavesOnly}
 use Rattle.archive_state.specs.Histories.{History}

@@ -46,6 +46,12 @@ fn an_arrival_is_in_the_journal_and_a_second_of_its_time_is_refused(
     Ok(())
 }
 
+/// Whether a journal begins with all of another but its last gate.
+fn keeps_records(before: &[u8], after: &[u8]) -> bool {
+    let gate = before.len().saturating_sub(1);
+    after.starts_with(&before[..gate])
+}
+
 #[test]
 fn a_refused_arrival_changes_nothing_and_a_later_run_goes_on(rt: HostRuntime) -> Result<(), Fail> {
     let alloc = rt.alloc();
@@ -67,7 +73,7 @@ fn a_refused_arrival_changes_nothing_and_a_later_run_goes_on(rt: HostRuntime) ->
     )?;
     assert_eq!(rt; second.len(), 115);
     assert_eq!(rt; count_on(&rt, alloc, &second)?, 5);
-    assert!(rt; second.starts_with(&first[..77]));
+    assert!(rt; keeps_records(&first, &second));
     Ok(())
 }
 

@@ -1,5 +1,5 @@
 -- One entry more: the end of the journal, the bodies, and what makes a longer history legal.
-use Rattle.std.proofs.Common.{◌≡◌, ℕ, ◌+◌, ◌≤◌, ◌<◌, ◌^◌, List, [], ◌∷◌, ◌++◌, length, map, All, sum_by, Option, None, refl, ap, subst, sym, ◌∙◌, arith, append_assoc, length-append}
+use Rattle.std.proofs.Common.{◌≡◌, ℕ, ◌+◌, ◌≤◌, List, [], ◌∷◌, ◌++◌, length, sum_by, refl, ap, subst, sym, ◌∙◌, arith, append_assoc, length-append}
 use Rattle.std.proofs.lemmas.List.{append-nil, map-append}
 use Rattle.std.proofs.lemmas.List.Concat.{flat_map-append}
 use Rattle.std.proofs.lemmas.List.Sums.{sum_by-cons, sum_by_push}
@@ -7,10 +7,10 @@ use Rattle.gate_journal.specs.Header.{header}
 use Rattle.std.specs.Int.{w32, to_be_bytes}
 use Rattle.gate_journal.specs.Records.{record_bytes, records, front}
 use Rattle.gate_journal.proofs.SpellingLemmas.{length-header}
-use Rattle.record_codec.specs.Spelling.{spelling, IsEntry}
+use Rattle.record_codec.specs.Spelling.{spelling}
 use Rattle.record_codec.specs.declared.entry.Entry.{Entry}
 use Rattle.record_codec.proofs.EntryLemmas.{one_entry}
-use Rattle.archive_state.specs.Histories.{History, changes, acts, entry_refusal, IsLegalEntry, AreLegalAfter, IsLegal, end_of}
+use Rattle.archive_state.specs.Histories.{History, changes, acts, IsLegalEntry, AreLegalAfter, IsLegal, end_of}
 use Rattle.archive_state.specs.Stands.{bodies_of}
 
 pub bodies_of-push : (h : History) (e : Entry) → bodies_of (h ++ e ∷ []) ≡ bodies_of h ++ spelling e ∷ []

@@ -1,12 +1,11 @@
 -- Bytes stand for one history at most, and are refused at one place at most.
-use Rattle.std.proofs.Common.{◌≡◌, ◌⊎◌, ℕ, ◌+◌, List, [], ◌∷◌, ◌++◌, length, None, inl, inr, refl, ap, subst, sym, ◌∙◌, arith}
+use Rattle.std.proofs.Common.{◌≡◌, ◌⊎◌, ℕ, ◌+◌, List, [], ◌∷◌, ◌++◌, length, inl, inr, refl, ap, subst, sym, ◌∙◌, arith}
 use Rattle.machine_model.specs.Areas.{Bytes}
 use Rattle.gate_journal.specs.Records.{front}
 use Rattle.gate_journal.specs.Spelled.{Spells}
-use Rattle.gate_journal.specs.Refused.{IsNotJournal}
 use Rattle.gate_journal.proofs.SpellingLemmas.{spells_once, spelled_not_refused, refused_once}
 use Rattle.record_codec.specs.Spelling.{spelling, IsEntry}
-use Rattle.record_codec.specs.Reading.{entry_at, IsFault}
+use Rattle.record_codec.specs.Reading.{IsFault}
 use Rattle.record_codec.specs.declared.entry.Entry.{Entry}
 use Rattle.record_codec.proofs.EntryLemmas.{one_entry, entry_again}
 use Rattle.archive_state.specs.Histories.{History, IsLegal, IsLegalEntry, entry_refusal}

@@ -74,7 +74,7 @@ fn is_next(
 
 #[test]
 fn reads_items_in_any_pieces(rt: HostRuntime) -> Result<(), Fail> {
-    for piece in [1, 2, 3, 7, 100] {
+    for piece in [1, 2, 3, 7, 4096] {
         let mut source = Pieces {
             rest: b"arrive 7 10 5\nred a\ndelete 7 20\narrive 4294967295 01099511627775 0\n\narrive 0 0 3\n\n\nx\n",
             piece,
@@ -118,7 +118,7 @@ fn reads_items_in_any_pieces(rt: HostRuntime) -> Result<(), Fail> {
 
 #[test]
 fn names_the_place_of_what_is_broken(rt: HostRuntime) -> Result<(), Fail> {
-    for piece in [1, 2, 3, 7, 100] {
+    for piece in [1, 2, 3, 7, 4096] {
         let mut source = Pieces {
             rest: b"arrive 7 10 5\nred a\nhello\n",
             piece,

@@ -1,8 +1,7 @@
-use Rattle.std.proofs.Common.{◌≡◌, ◌∙◌, ℕ, ◌+◌, ◌<◌, ◌≤◌, List, length, get_or, take, drop, ap, sym, arith, rules}
+use Rattle.std.proofs.Common.{◌≡◌, ◌∙◌, ◌<◌, length, get_or, sym, arith}
 use Rattle.std.proofs.lemmas.List.{get_or_default}
 use Rattle.std.proofs.lemmas.Result.{err_from_is_err_and}
 use Rattle.machine_model.specs.declared.area.Area.TheVariants.{Journal}
-use Rattle.machine_model.specs.States.{DiskState}
 use Rattle.machine_model.proofs.MomentLemmas.{reads_join}
 use Rattle.gate_journal.specs.declared.head.Head.{Head}
 use Rattle.archive_core.proofs.HeadLemmas.{window_has}

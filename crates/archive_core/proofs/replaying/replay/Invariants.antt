@@ -1,4 +1,3 @@
-use Rattle.std.proofs.Common.{◌≡◌, ◌≤◌}
 use Rattle.machine_model.specs.Calls.{OnlyReads}
 use Rattle.gate_journal.specs.Scanning.{IsView}
 use Rattle.archive_core.specs.Replaying.{IsReplaying}

@@ -1,10 +1,10 @@
-use Rattle.std.proofs.Common.{◌≡◌, ℕ, ◌<◌, ◌^◌, ◌∷◌, List, length, Some, None, ◌⊎◌, ap, subst, sym, ◌∙◌, refl, arith, rules}
+use Rattle.std.proofs.Common.{◌<◌, ◌^◌, length, Some, ◌∙◌, rules}
 use Rattle.record_codec.specs.declared.entry.Entry.TheVariants.{Arrive}
 use Rattle.archive_state.specs.Histories.{History}
-use Rattle.archive_state.proofs.RefusalLemmas.{arrival_refused-text, arrival_refused-good}
+use Rattle.archive_state.proofs.RefusalLemmas.{arrival_refused-good}
 use Rattle.archive_core.specs.States.{StandsFor}
 use Rattle.archive_core.specs.Adding.{IsNext}
-use Rattle.archive_core.proofs.AddLemmas.{arrive_next, arrive_refused, next_refused, next_allowed, stands_ok, kept_ok, leads_to, leads_nowhere, pages_nowhere, step_at}
+use Rattle.archive_core.proofs.AddLemmas.{arrive_next, arrive_refused, next_refused, next_allowed, stands_ok, kept_ok, leads_to, leads_nowhere, pages_nowhere}
 use Rattle.archive_core.proofs.archive.Archive.arrive.Given.{Over}
 use Rattle.archive_core.proofs.archive.Archive.arrive.Goals as goal
 

@@ -1,6 +1,4 @@
-use Rattle.std.proofs.Common.{◌≡◌, ℕ, List, ap, subst, sym, ◌∙◌, refl}
-use Rattle.gate_journal.specs.InStep.{IsInStep}
-use Rattle.gate_journal.specs.Crash.{Appends}
+use Rattle.std.proofs.Common.{ap, sym}
 use Rattle.archive_core.proofs.AddLemmas.{appends_nowhere, pages_nowhere, step_at}
 use Rattle.archive_core.proofs.archive.Archive.commit.Goals as goal
 

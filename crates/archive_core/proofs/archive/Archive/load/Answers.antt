@@ -1,10 +1,9 @@
-use Rattle.std.proofs.Common.{◌≡◌, ◌∙◌, ℕ, List, length, inl, subst, sym, arith}
+use Rattle.std.proofs.Common.{◌∙◌, List, inl, subst, arith}
 use Rattle.std.proofs.lemmas.Result.{err_from_is_err_and}
-use Rattle.machine_model.specs.Areas.{Bytes}
 use Rattle.gate_journal.specs.declared.head.Head.{Head}
 use Rattle.gate_journal.specs.Spelled.{Spells}
 use Rattle.archive_state.specs.Histories.{History}
-use Rattle.archive_state.specs.Stands.{bodies_of, Stands}
+use Rattle.archive_state.specs.Stands.{bodies_of}
 use Rattle.archive_state.proofs.StandsLemmas.{spelled_is_archive}
 use Rattle.archive_core.specs.States.{IsKept}
 use Rattle.archive_core.specs.Replaying.{IsReplayed}

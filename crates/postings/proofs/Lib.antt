@@ -1,0 +1,8 @@
+pub mod Clipping
+pub mod Coalesced
+pub mod Counts
+pub mod Frequencies
+pub mod Merged
+pub mod Order
+pub mod Spans
+pub mod Windows
