@@ -58,6 +58,19 @@ fn what_is_no_item_breaks_the_script_at_its_first_byte(rt: HostRuntime) -> Resul
         b"arrive 7 10 6\nred a\n".as_slice(),
         b"arrive 7 10 5\r\nred a\n".as_slice(),
         b"arrive 7 10 5\nred a\r\n".as_slice(),
+        b"Delete 7 20\n".as_slice(),
+        b" delete 7 20\n".as_slice(),
+        b"delete  7 20\n".as_slice(),
+        b"delete 7  20\n".as_slice(),
+        b"delete 7 20 \n".as_slice(),
+        b"delete\t7 20\n".as_slice(),
+        b"delete 7\t20\n".as_slice(),
+        b"delete 7 20\r\n".as_slice(),
+        b"delete 4294967296 20\n".as_slice(),
+        b"delete 7 1099511627776\n".as_slice(),
+        b"delete 7 -20\n".as_slice(),
+        b"delete 7\n".as_slice(),
+        b"delete 7 20 0\n\n".as_slice(),
     ] {
         expect_broken(&rt, alloc, &join(alloc, &[item, SECOND_ITEM])?)?;
     }
@@ -65,10 +78,12 @@ fn what_is_no_item_breaks_the_script_at_its_first_byte(rt: HostRuntime) -> Resul
 }
 
 #[test]
-fn an_arrival_cut_short_breaks_the_script_at_its_first_byte(rt: HostRuntime) -> Result<(), Fail> {
+fn an_item_cut_short_breaks_the_script_at_its_first_byte(rt: HostRuntime) -> Result<(), Fail> {
     let alloc = rt.alloc();
-    for len in 1..SECOND_ITEM.len() {
-        expect_broken(&rt, alloc, &SECOND_ITEM[..len])?;
+    for item in [SECOND_ITEM, b"delete 7 20\n".as_slice()] {
+        for len in 1..item.len() {
+            expect_broken(&rt, alloc, &item[..len])?;
+        }
     }
     Ok(())
 }

@@ -77,6 +77,55 @@ fn a_refused_arrival_changes_nothing_and_a_later_run_goes_on(rt: HostRuntime) ->
     Ok(())
 }
 
+#[test]
+fn a_deleted_document_may_come_again_in_a_later_run(rt: HostRuntime) -> Result<(), Fail> {
+    let alloc = rt.alloc();
+    let whole = expect_replies(
+        &rt,
+        alloc,
+        b"arrive 8 10 3\nred\ndelete 8 20\narrive 8 30 3\nred\n",
+        b"",
+        b"ok 1\nok 2\nok 3\n",
+    )?;
+    let front = expect_replies(
+        &rt,
+        alloc,
+        b"arrive 8 10 3\nred\ndelete 8 20\n",
+        b"",
+        b"ok 1\nok 2\n",
+    )?;
+    let back = expect_replies(&rt, alloc, b"arrive 8 30 3\nred\n", &front, b"ok 3\n")?;
+    let want = b"TIMETRAVELTEXT\x00\x01\
+        \xa5\x00\x00\x00\x10\x01\x00\x00\x00\x08\x00\x00\x00\x00\x00\x00\x00\x0ared\
+        \xa5\x00\x00\x00\x0d\x02\x00\x00\x00\x08\x00\x00\x00\x00\x00\x00\x00\x14\
+        \xa5\x00\x00\x00\x10\x01\x00\x00\x00\x08\x00\x00\x00\x00\x00\x00\x00\x1ered\
+        \x00";
+    assert_eq!(rt; whole.as_slice(), want.as_slice());
+    assert_eq!(rt; back.as_slice(), want.as_slice());
+    Ok(())
+}
+
+#[test]
+fn a_refused_deletion_changes_nothing(rt: HostRuntime) -> Result<(), Fail> {
+    let alloc = rt.alloc();
+    let journal = expect_replies(
+        &rt,
+        alloc,
+        b"arrive 7 10 5\nred a\ndelete 8 10\ndelete 7 10\ndelete 7 9\ndelete 8 9\n",
+        b"",
+        b"ok 1\nno 4 NoDocument\nno 3 SameTime\nno 2 TimeBack 10\nno 2 TimeBack 10\n",
+    )?;
+    assert_eq!(rt; journal.as_slice(), FIRST_JOURNAL);
+    expect_replies(
+        &rt,
+        alloc,
+        b"delete 007 0011\ndelete 7 11\ndelete 7 12\narrive 7 11 1\nx\narrive 7 12 1\nx\n",
+        FIRST_JOURNAL,
+        b"ok 2\nno 4 NoDocument\nno 4 NoDocument\nno 3 SameTime\nok 3\n",
+    )?;
+    Ok(())
+}
+
 /// A script of arrivals of one document with texts of so many bytes.
 fn many_arrivals(alloc: Global, count: u64, bytes: usize) -> Result<Vec<u8>, Fail> {
     let text = vec![in alloc; b'x'; bytes]?;

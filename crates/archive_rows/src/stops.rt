@@ -24,6 +24,24 @@ fn a_stop_in_the_first_script_leaves_none_or_its_one_entry(rt: HostRuntime) -> R
 }
 
 #[test]
+fn a_stop_among_arrivals_and_deletions_leaves_what_was_acknowledged_or_one_more(
+    rt: HostRuntime,
+) -> Result<(), Fail> {
+    let alloc = rt.alloc();
+    let script =
+        b"arrive 8 10 3\nred\ndelete 8 20\narrive 7 20 0\n\narrive 8 30 3\nred\ndelete 7 40\n";
+    let mut machine = make_machine(&rt, alloc, script, b"", &[])?;
+    assert_eq!(rt; run_on(&rt, alloc, &mut machine), Status::Done);
+    assert_eq!(rt;
+        machine.shown(),
+        b"ok 1\nok 2\nok 3\nok 4\nok 5\n".as_slice()
+    );
+    // three calls at the load, and four and a push for each command
+    assert_eq!(rt; machine.moments(), 29);
+    expect_shown(&rt, alloc, &machine, 0)
+}
+
+#[test]
 fn where_the_gate_is_not_synced_its_byte_decides(rt: HostRuntime) -> Result<(), Fail> {
     let alloc = rt.alloc();
     let fault = Fault {
