@@ -48,12 +48,16 @@ times word found = count_by (bytes_eq word) found
 abbrev pub occurrences : List ℕ → List ℕ → ℕ
 occurrences word text = times word (keys text)
 
--- the key of the only run, where there is one run and its key is a term's
-abbrev pub only_key : List (List ℕ) → Option (List ℕ)
-only_key [] = None
-only_key (run ∷ []) = if is_key (key run) then Some (key run) else None
-only_key (run ∷ other ∷ found) = None
+-- the key of a run that is a term
+abbrev pub term_of : List ℕ → Option (List ℕ)
+term_of run = if is_key (key run) then Some (key run) else None
 
--- the only term of a text that is one run
+-- the key of the only run, where there is exactly one and it is a term
+abbrev pub only_term : List (List ℕ) → Option (List ℕ)
+only_term [] = None
+only_term (run ∷ []) = term_of run
+only_term (run ∷ other ∷ found) = None
+
+-- the key of the text's only run
 abbrev pub one_term : List ℕ → Option (List ℕ)
-one_term text = only_key (runs (chars text))
+one_term text = only_term (runs (chars text))

@@ -1,17 +1,21 @@
-//! Words of texts in every script.
+//! What a word is, for texts in every script.
+//!
+//! A run of a text is a maximal stretch of letters, marks and numbers, by Unicode's general
+//! category. Its key is `NFD(toCasefold(NFD(run)))`, so that two runs have one key exactly where
+//! Unicode's canonical caseless matching (The Unicode Standard, D145) matches them. A run whose key
+//! has 1 to 255 bytes is a term; other runs are no words. A vocabulary numbers keys from 0 on, in
+//! the order in which they come.
+//!
+//! Contracts speak of a text as its bytes, of a run as its characters and of a key as its bytes.
+//! Nothing here knows of documents, times or archives.
 #![tactic(auto)]
 
-ghost use Rattle.std.specs.Prelude.{◌≡◌, ◌↔◌, IsTrue};
-ghost use Rattle.fold_tokens.specs.Terms.{is_term};
+mod counts;
+mod laws;
+mod runs;
+mod vocabulary;
 
-use unicode::properties::{GeneralCategory, GeneralCategoryGroup};
-
-/// Whether the character is a letter, a mark or a number.
-fn is_term_char(c: char) -> bool
-    ensures { result ≡ is_term c }
-{
-    let category = GeneralCategory::for_char(c);
-    GeneralCategoryGroup::Letter.contains(category)
-        || GeneralCategoryGroup::Mark.contains(category)
-        || GeneralCategoryGroup::Number.contains(category)
-}
+pub use counts::terms;
+pub use laws::keys_match_without_case;
+pub use runs::{is_term_char, one_term};
+pub use vocabulary::{NumberError, Vocabulary};

@@ -1,0 +1,7 @@
+use Rattle.std.proofs.Common.{ap, encode_utf8_all}
+use Rattle.std.proofs.lemmas.Str.{encodes_same}
+use Rattle.caseless.specs.Caseless.{canonical_key}
+use Rattle.fold_tokens.proofs.laws.keys_match_without_case.Goals as goal
+
+pub returns : goal.returns
+returns c = λ one other. (encodes_same (canonical_key one) (canonical_key other), ap encode_utf8_all)
