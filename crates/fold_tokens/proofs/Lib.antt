@@ -1,2 +1,4 @@
 pub mod KeyLemmas
 pub mod RunLemmas
+pub mod CountLemmas
+pub mod WordLemmas

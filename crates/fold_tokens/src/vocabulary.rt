@@ -1,5 +1,7 @@
 //! The numbers of words.
-ghost use Rattle.std.specs.Prelude.{◌≡◌, ◌+◌, ◌-◌, ◌<◌, ◌≤◌, ◌^◌, ◌⊎◌, [], ℕ, List, length, slice_get, map, Some, is_some, option_map, IfOk, IfErr, OnOk, if◌then◌else◌};
+ghost use Rattle.std.specs.Prelude.{◌≡◌, ◌+◌, ◌-◌, ◌<◌, ◌≤◌, ◌^◌, ◌⊎◌, [], ◌∷◌, ◌++◌, true, false, ℕ, List, length, slice_get, Some, IsSome, is_some, Err, option_map, IfOk, IfErr, OnOk, if◌then◌else◌};
+ghost use Rattle.std.specs.List.{list_any};
+ghost use Rattle.std.specs.Str.{bytes_eq};
 ghost use Rattle.fold_tokens.specs.Words.{entered, with_all, number_of};
 
 use indexmap::IndexSet;
@@ -85,5 +87,70 @@ impl Vocabulary {
         ensures { Some result.now ≡ slice_get self.now.words id.number }
     {
         self.words.get_index(id.number as usize).unwrap()
+    }
+
+    /// Makes room for the keys, so that numbering each of them takes no memory. `Full` comes where
+    /// there would be more than 2^20 words. No number changes, and an `Err` takes no room away. It
+    /// costs a look-up for each key, and a copy of each that is new.
+    pub fn reserve(&mut self, keys: &[Key]) -> Result<(), NumberError>
+        ensures room { OnOk result (length (with_all self.old.words keys.now)
+            ≤ length self.old.words + self.new.spare) }
+        ensures fits { OnOk result (length (with_all self.old.words keys.now) ≤ 2 ^ 20) }
+        ensures full { result ≡ Err NumberError.Full → 2 ^ 20 < length (with_all self.old.words keys.now) }
+        ensures same { self.new.words ≡ self.old.words }
+        ensures kept { self.old.spare ≤ self.new.spare }
+    {
+        let fresh = self.fresh(keys)?;
+        if MOST_WORDS < self.words.len() as u64 + fresh as u64 {
+            return Err(NumberError::Full);
+        }
+        self.words.reserve(fresh)?;
+        self.spare = self.spare.max(fresh as u32);
+        Ok(())
+    }
+
+    /// How many distinct keys among these have no number.
+    fn fresh(&self, keys: &[Key]) -> Result<usize, AllocError>
+        ensures count { IfOk result (λ n. length (with_all self.now.words keys.now)
+            ≡ length self.now.words + n) }
+        ensures small { IfOk result (λ n. n < 2 ^ 63) }
+    {
+        let mut fresh = IndexSet::new(*self.words.allocator());
+        for key in keys {
+            if !self.words.contains(key) {
+                fresh.insert(key.clone()?)?;
+            }
+        }
+        Ok(fresh.len())
+    }
+
+    /// The number of the word with that key, which is the next one where it has none yet. It takes
+    /// no memory, and costs one look-up, or two for a new word.
+    pub fn number(&mut self, key: Key) -> WordId
+        requires { IsSome (number_of key self.old.words) ⊎ (1 ≤ self.old.spare) }
+        ensures words { self.new.words ≡ entered self.old.words key }
+        ensures number { number_of key self.new.words ≡ Some result.number }
+        ensures spare { self.new.spare ≡ (if is_some (number_of key self.old.words)
+            then self.old.spare else self.old.spare - 1) }
+    {
+        match self.find(&key) {
+            Some(id) => id,
+            None => self.add(key),
+        }
+    }
+
+    /// The next number, for a new word.
+    fn add(&mut self, key: Key) -> WordId
+        requires fresh { list_any (bytes_eq key) self.old.words ≡ false }
+        requires room { 1 ≤ self.old.spare }
+        ensures words { self.new.words ≡ self.old.words ++ key ∷ [] }
+        ensures number { result.number ≡ length self.old.words }
+        ensures spare { self.new.spare ≡ self.old.spare - 1 }
+    {
+        self.spare -= 1;
+        let (place, _) = self.words.insert_full(key).unwrap();
+        WordId {
+            number: place as u32,
+        }
     }
 }
