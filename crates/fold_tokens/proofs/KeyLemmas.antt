@@ -1,5 +1,5 @@
 -- The keys of runs, of ASCII and of others.
-use Rattle.std.proofs.Common.{◌≡◌, ◌↔◌, ◌||◌, ℕ, ◌<◌, ◌≤◌, List, [], map, length, Option, Some, None, IsSome, IfSome, Result, Ok, Err, IfOk, chars, encode_utf8_all, IsAscii, refl, sym, ap, subst, ◌∙◌, arith, if◌then◌else◌}
+use Rattle.std.proofs.Common.{◌≡◌, ◌↔◌, ◌||◌, ℕ, ◌<◌, ◌≤◌, List, [], map, length, Option, true, Some, None, IsSome, IfSome, Result, Ok, Err, IfOk, chars, encode_utf8_all, IsAscii, refl, sym, ap, subst, ◌∙◌, arith, if◌then◌else◌}
 use Rattle.std.proofs.lemmas.Bool.Decides.{nat_tests}
 use Rattle.std.proofs.lemmas.Str.{chars-IsAscii, encodes-IsAscii}
 use Rattle.std.proofs.lemmas.Str.Ascii.{IsAscii-map}
@@ -40,3 +40,12 @@ term_of-made run bytes (Some k) e valid value = subst (λ b. Some k ≡ (if is_k
 pub term_of-made_ok : {E : Type 0} (run bytes : List ℕ) (made : Result (Option (List ℕ)) E) → bytes ≡ key run → IfOk made (λ k. IsSome k ↔ ((1 ≤ length bytes) × (length bytes ≤ 255))) → IfOk made (λ k. IfSome k (λ b. b ≡ bytes)) → IfOk made (λ k. k ≡ term_of run)
 term_of-made_ok run bytes (Ok k) e valid value = term_of-made run bytes k e valid value
 term_of-made_ok run bytes (Err why) e valid value = tt
+
+some_term : (run : List ℕ) → is_key (key run) ≡ true → term_of run ≡ Some (key run)
+some_term run h = ap (λ b. if b then Some (key run) else None) h
+
+-- two terms are one exactly where their keys are
+pub one_term_by_keys : (one other : List ℕ) → is_key (key one) ≡ true → is_key (key other) ≡ true → ((term_of one ≡ term_of other) ↔ (key one ≡ key other))
+one_term_by_keys one other h g =
+    (λ e. let s : Some (key one) ≡ Some (key other) = sym (some_term one h) ∙ e ∙ some_term other g in cc,
+    λ e. some_term one h ∙ ap Some e ∙ sym (some_term other g))

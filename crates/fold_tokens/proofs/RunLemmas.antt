@@ -1,8 +1,9 @@
 -- Runs, as they come of a text character by character.
 use Rattle.std.proofs.Common.{◌≡◌, ℕ, ◌+◌, ◌*◌, ◌≤◌, Bool, true, false, List, [], ◌∷◌, ◌++◌, length, chars, string_bytes, refl, sym, ap, subst, ◌∙◌, arith, append_assoc, append-nil, length-append, if◌then◌else◌}
-use Rattle.std.proofs.Common.{encode_utf8, encode_utf8_all, IsUtf8, ◌<◌, None}
+use Rattle.std.proofs.Common.{encode_utf8, encode_utf8_all, IsUtf8, ◌<◌, ◌&&◌}
 use Rattle.std.proofs.lemmas.Str.{chars-nil, chars_from_encodes, encodes-chars, encodes-append}
-use Rattle.fold_tokens.specs.Terms.{is_term, closed, runs_from, runs, only_term}
+use Rattle.std.specs.List.{list_all}
+use Rattle.fold_tokens.specs.Terms.{is_term, closed, runs_from, runs}
 
 -- of the characters so far: the runs done, and the one begun, make the runs of the whole with what follows
 pub record AreRead (whole yielded run : List ℕ) (done : List (List ℕ)) : Type 0 where
@@ -56,8 +57,28 @@ closed-chars bs text some = closed_full bs (chars bs) (encodes-chars bs text) so
 pub closed-empty : (bs : List ℕ) → bs ≡ [] → closed (chars bs) ≡ []
 closed-empty bs e = ap (λ l. closed (chars l)) e ∙ ap closed chars-nil
 
--- of two runs or more none is the only one
-pub only_term-many : (found : List (List ℕ)) (run : List ℕ) → 0 < length found → only_term (found ++ run ∷ []) ≡ None
-only_term-many [] run some = absurd (omega (arith, some))
-only_term-many (one ∷ []) run some = refl
-only_term-many (one ∷ other ∷ found) run some = refl
+-- a stretch of letters, marks and numbers is one run
+runs_from-stretch : (begun run : List ℕ) → list_all is_term run ≡ true → runs_from begun run ≡ closed (begun ++ run)
+runs_from-stretch begun [] h = sym (ap closed (append-nil begun))
+runs_from-stretch begun (c ∷ run) h = by (is_term c) refl h (runs_from-stretch (begun ++ c ∷ []) run)
+  where
+    by : (b : Bool) → is_term c ≡ b → (b && list_all is_term run) ≡ true → (list_all is_term run ≡ true → runs_from (begun ++ c ∷ []) run ≡ closed ((begun ++ c ∷ []) ++ run))
+      → (if b then runs_from (begun ++ c ∷ []) run else closed begun ++ runs_from [] run) ≡ closed (begun ++ c ∷ run)
+    by true e all rest = rest all ∙ ap closed (append_assoc begun (c ∷ []) run)
+    by false e all rest = absurd cc
+
+pub runs-stretch : (run : List ℕ) → list_all is_term run ≡ true → runs run ≡ closed run
+runs-stretch run = runs_from-stretch [] run
+
+-- another character parts the runs before it from those behind it
+runs_from-parted : (begun before after : List ℕ) (c : ℕ) → is_term c ≡ false → runs_from begun (before ++ c ∷ after) ≡ runs_from begun before ++ runs after
+runs_from-parted begun [] after c h = ap (λ b. if b then runs_from (begun ++ c ∷ []) after else closed begun ++ runs_from [] after) h
+runs_from-parted begun (d ∷ before) after c h = by (is_term d) (runs_from-parted (begun ++ d ∷ []) before after c h) (runs_from-parted [] before after c h)
+  where
+    by : (b : Bool) → runs_from (begun ++ d ∷ []) (before ++ c ∷ after) ≡ runs_from (begun ++ d ∷ []) before ++ runs after → runs_from [] (before ++ c ∷ after) ≡ runs_from [] before ++ runs after
+      → (if b then runs_from (begun ++ d ∷ []) (before ++ c ∷ after) else closed begun ++ runs_from [] (before ++ c ∷ after)) ≡ (if b then runs_from (begun ++ d ∷ []) before else closed begun ++ runs_from [] before) ++ runs after
+    by true inside outside = inside
+    by false inside outside = ap (λ l. closed begun ++ l) outside ∙ sym (append_assoc (closed begun) (runs before) (runs after))
+
+pub runs-parted : (before after : List ℕ) (c : ℕ) → is_term c ≡ false → runs (before ++ c ∷ after) ≡ runs before ++ runs after
+runs-parted = runs_from-parted []

@@ -1,10 +1,11 @@
 -- The numbers of words.
-use Rattle.std.proofs.Common.{◌≡◌, ℕ, ◌+◌, ◌<◌, ◌≤◌, Bool, true, false, cond, not, ◌||◌, List, [], ◌∷◌, ◌++◌, length, Option, Some, None, is_some, position, nat_lt, refl, sym, ap, ◌∙◌, arith, append_assoc, length-append, if◌then◌else◌, lt-ltb}
+use Rattle.std.proofs.Common.{◌≡◌, ℕ, ◌+◌, ◌<◌, ◌≤◌, Bool, true, false, cond, not, ◌||◌, List, [], ◌∷◌, ◌++◌, length, Option, Some, None, is_some, position, nat_lt, refl, sym, ap, ◌∙◌, arith, append_assoc, append-nil, length-append, if◌then◌else◌, lt-ltb}
 use Rattle.std.proofs.lemmas.Bool.Decides.{nat_tests}
 use Rattle.std.proofs.lemmas.List.Folds.{list_any-append}
+use Rattle.std.proofs.lemmas.List.Sums.{fold-append}
 use Rattle.std.specs.List.{list_any, position_or_len}
 use Rattle.std.specs.Str.{bytes_eq}
-use Rattle.fold_tokens.specs.Words.{entered, number_of}
+use Rattle.fold_tokens.specs.Words.{entered, with_all, distinct, number_of}
 use Rattle.fold_tokens.proofs.CountLemmas.{itself}
 
 -- a place is found exactly where the test passes somewhere
@@ -69,3 +70,23 @@ entered-none word words h = sym (ap (λ b. if b then words else words ++ word �
 
 pub entered-some : (word : List ℕ) (words : List (List ℕ)) (n : ℕ) → number_of word words ≡ Some n → words ≡ entered words word
 entered-some word words n h = sym (ap (λ b. if b then words else words ++ word ∷ []) (sym (is_some-number_of word words) ∙ ap is_some h))
+
+-- words stay in front of those that are entered
+entered-front : (words : List (List ℕ)) (k : List ℕ) → (rest : List (List ℕ)) × (entered words k ≡ words ++ rest)
+entered-front words k = by (list_any (bytes_eq k) words)
+  where
+    by : (b : Bool) → (rest : List (List ℕ)) × ((if b then words else words ++ k ∷ []) ≡ words ++ rest)
+    by true = ([], sym (append-nil words))
+    by false = (k ∷ [], refl)
+
+with_all-front : (words found : List (List ℕ)) → (rest : List (List ℕ)) × (with_all words found ≡ words ++ rest)
+with_all-front words [] = ([], sym (append-nil words))
+with_all-front words (k ∷ found) =
+    let one = entered-front words k in
+    let more = with_all-front (entered words k) found in
+    (one.0 ++ more.0, more.1 ∙ ap (λ l. l ++ more.0) one.1 ∙ append_assoc words one.0 more.0)
+
+pub distinct-front : (front back : List (List ℕ)) → (rest : List (List ℕ)) × (distinct (front ++ back) ≡ distinct front ++ rest)
+distinct-front front back =
+    let h = with_all-front (distinct front) back in
+    (h.0, fold-append entered [] front back ∙ h.1)

@@ -16,6 +16,9 @@ mod runs;
 mod vocabulary;
 
 pub use counts::terms;
-pub use laws::keys_match_without_case;
-pub use runs::{is_term_char, one_term};
+pub use laws::{
+    counts_are_frequencies, distinct_keys_stand_in_order, keys_match_without_case,
+    runs_are_maximal_stretches,
+};
+pub use runs::one_term;
 pub use vocabulary::{NumberError, Vocabulary};

@@ -10,7 +10,7 @@ use unicode::properties::{GeneralCategory, GeneralCategoryGroup};
 use unicode_normalization::to_nfd;
 
 /// Whether the character is a letter, a mark or a number, and so part of a run. Constant cost.
-pub fn is_term_char(c: char) -> bool
+pub(crate) fn is_term_char(c: char) -> bool
     ensures { result ≡ is_term c }
 {
     if c.is_ascii() {

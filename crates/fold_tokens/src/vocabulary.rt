@@ -1,6 +1,6 @@
 //! The numbers of words.
 ghost use Rattle.std.specs.Prelude.{◌≡◌, ◌+◌, ◌-◌, ◌<◌, ◌≤◌, ◌^◌, ◌⊎◌, [], ◌∷◌, ◌++◌, true, false, ℕ, List, length, slice_get, Some, IsSome, is_some, Err, option_map, IfOk, IfErr, OnOk, if◌then◌else◌};
-ghost use Rattle.std.specs.List.{list_any};
+ghost use Rattle.std.specs.List.{list_any, IsDistinct};
 ghost use Rattle.std.specs.Str.{bytes_eq};
 ghost use Rattle.fold_tokens.specs.Words.{entered, with_all, number_of};
 
@@ -66,6 +66,7 @@ impl Vocabulary {
     pub fn len(&self) -> u32
         ensures count { result ≡ length self.now.words }
         ensures bounded { result + self.now.spare ≤ 2 ^ 20 }
+        ensures each_once { IsDistinct bytes_eq self.now.words }
     {
         self.words.len() as u32
     }
