@@ -1,5 +1,5 @@
 -- Words entered one by one, and their counts.
-use Rattle.std.proofs.Common.{◌≡◌, ℕ, ◌+◌, ◌<◌, ◌≤◌, Bool, true, false, cond, ◌||◌, List, [], ◌∷◌, ◌++◌, map, length, fold, Option, Some, None, count_by, refl, sym, ap, ap₂, subst, ◌∙◌, arith, if◌then◌else◌}
+use Rattle.std.proofs.Common.{◌≡◌, ℕ, ◌+◌, ◌≤◌, Bool, true, false, cond, ◌||◌, List, [], ◌∷◌, ◌++◌, map, length, Option, Some, None, refl, sym, ap, ap₂, subst, ◌∙◌, arith, if◌then◌else◌}
 use Rattle.std.proofs.lemmas.List.Folds.{list_any-append}
 use Rattle.std.proofs.lemmas.List.Sums.{fold_push, sum_by_push, count_by-le-length, sum_by-cons}
 use Rattle.std.proofs.lemmas.Map.Keys.{IsDistinct-push, IsDistinct-head, IsDistinct-tail}
@@ -66,7 +66,7 @@ lookup-table f q [] = refl
 lookup-table f q (w ∷ words) = by (bytes_eq q w) refl (lookup-table f q words)
   where
     by : (b : Bool) → bytes_eq q w ≡ b → lookup (bytes_eq q) (table f words) ≡ (if list_any (bytes_eq q) words then Some (f q) else None)
-      → cond b (Some (f w)) (lookup (bytes_eq q) (table f words)) ≡ (if (b || list_any (bytes_eq q) words) then Some (f q) else None)
+        → cond b (Some (f w)) (lookup (bytes_eq q) (table f words)) ≡ (if (b || list_any (bytes_eq q) words) then Some (f q) else None)
     by true e rest = ap (λ v. Some (f v)) (sym (same q w e))
     by false e rest = rest
 
@@ -80,7 +80,7 @@ insert-table f g k others [] h = refl
 insert-table f g k others (w ∷ words) h = by (bytes_eq k w) refl (list_any (bytes_eq k) words) refl (insert-table f g k others words (IsDistinct-tail bytes_eq w words h))
   where
     by : (b : Bool) → bytes_eq k w ≡ b → (d : Bool) → list_any (bytes_eq k) words ≡ d → insert_entry bytes_eq (table f words) k (g k) ≡ table g (entered words k)
-      → (if b then (w, g k) ∷ table f words else (w, f w) ∷ insert_entry bytes_eq (table f words) k (g k)) ≡ table g (if (b || d) then w ∷ words else w ∷ words ++ k ∷ [])
+        → (if b then (w, g k) ∷ table f words else (w, f w) ∷ insert_entry bytes_eq (table f words) k (g k)) ≡ table g (if (b || d) then w ∷ words else w ∷ words ++ k ∷ [])
     by true e d i rest =
         ap₂ (λ (n : ℕ) (tail : List (List ℕ × ℕ)). (w, n) ∷ tail) (ap g (same k w e))
         (same_table f g k others words (subst (λ x. AllByRecursion (λ v. bytes_eq x v ≡ false) words) (sym (same k w e)) (IsDistinct-head bytes_eq w words h)))

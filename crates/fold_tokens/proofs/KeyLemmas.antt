@@ -1,5 +1,5 @@
 -- The keys of runs, of ASCII and of others.
-use Rattle.std.proofs.Common.{◌≡◌, ◌↔◌, ◌||◌, ℕ, ◌<◌, ◌≤◌, List, [], map, length, Option, true, Some, None, IsSome, IfSome, Result, Ok, Err, IfOk, chars, encode_utf8_all, IsAscii, refl, sym, ap, subst, ◌∙◌, arith, if◌then◌else◌}
+use Rattle.std.proofs.Common.{◌≡◌, ◌↔◌, ◌||◌, ℕ, ◌<◌, ◌≤◌, List, map, length, Option, true, Some, None, IsSome, IfSome, Result, Ok, Err, IfOk, chars, encode_utf8_all, IsAscii, refl, sym, ap, subst, ◌∙◌, arith, if◌then◌else◌}
 use Rattle.std.proofs.lemmas.Bool.Decides.{nat_tests}
 use Rattle.std.proofs.lemmas.Str.{chars-IsAscii, encodes-IsAscii}
 use Rattle.std.proofs.lemmas.Str.Ascii.{IsAscii-map}
@@ -46,6 +46,7 @@ some_term run h = ap (λ b. if b then Some (key run) else None) h
 
 -- two terms are one exactly where their keys are
 pub one_term_by_keys : (one other : List ℕ) → is_key (key one) ≡ true → is_key (key other) ≡ true → ((term_of one ≡ term_of other) ↔ (key one ≡ key other))
-one_term_by_keys one other h g =
-    (λ e. let s : Some (key one) ≡ Some (key other) = sym (some_term one h) ∙ e ∙ some_term other g in cc,
-    λ e. some_term one h ∙ ap Some e ∙ sym (some_term other g))
+one_term_by_keys one other h g = (
+  λ e. let s : Some (key one) ≡ Some (key other) = sym (some_term one h) ∙ e ∙ some_term other g in cc,
+  λ e. some_term one h ∙ ap Some e ∙ sym (some_term other g),
+)

@@ -2,3 +2,4 @@ pub mod KeyLemmas
 pub mod RunLemmas
 pub mod CountLemmas
 pub mod WordLemmas
+pub mod NumberingLemmas

@@ -1,5 +1,5 @@
 -- Runs, as they come of a text character by character.
-use Rattle.std.proofs.Common.{◌≡◌, ℕ, ◌+◌, ◌*◌, ◌≤◌, Bool, true, false, List, [], ◌∷◌, ◌++◌, length, chars, string_bytes, refl, sym, ap, subst, ◌∙◌, arith, append_assoc, append-nil, length-append, if◌then◌else◌}
+use Rattle.std.proofs.Common.{◌≡◌, ℕ, ◌+◌, ◌*◌, ◌≤◌, Bool, true, false, List, [], ◌∷◌, ◌++◌, length, chars, refl, sym, ap, ◌∙◌, arith, append_assoc, append-nil, length-append, if◌then◌else◌}
 use Rattle.std.proofs.Common.{encode_utf8, encode_utf8_all, IsUtf8, ◌<◌, ◌&&◌}
 use Rattle.std.proofs.lemmas.Str.{chars-nil, chars_from_encodes, encodes-chars, encodes-append}
 use Rattle.std.specs.List.{list_all}
@@ -29,9 +29,9 @@ short_closed (c ∷ run) done n h = omega (arith, length-append done ((c ∷ run
 pub AreRead-between : (whole yielded run : List ℕ) (done : List (List ℕ)) (c : ℕ) → is_term c ≡ false → AreRead whole yielded run done → AreRead whole (yielded ++ c ∷ []) [] (done ++ closed run)
 AreRead-between whole yielded run done c outside h = record {
   rest = λ cs e.
-    append_assoc done (closed run) (runs_from [] cs)
-    ∙ ap (λ b. done ++ (if b then runs_from (run ++ c ∷ []) cs else closed run ++ runs_from [] cs)) (sym outside)
-    ∙ h.rest (c ∷ cs) (sym (append_assoc yielded (c ∷ []) cs) ∙ e);
+      append_assoc done (closed run) (runs_from [] cs)
+      ∙ ap (λ b. done ++ (if b then runs_from (run ++ c ∷ []) cs else closed run ++ runs_from [] cs)) (sym outside)
+      ∙ h.rest (c ∷ cs) (sym (append_assoc yielded (c ∷ []) cs) ∙ e);
   short = let s = short_closed run done (length yielded) h.short in omega (arith, s, length-append yielded (c ∷ []));
 }
 
@@ -63,7 +63,7 @@ runs_from-stretch begun [] h = sym (ap closed (append-nil begun))
 runs_from-stretch begun (c ∷ run) h = by (is_term c) refl h (runs_from-stretch (begun ++ c ∷ []) run)
   where
     by : (b : Bool) → is_term c ≡ b → (b && list_all is_term run) ≡ true → (list_all is_term run ≡ true → runs_from (begun ++ c ∷ []) run ≡ closed ((begun ++ c ∷ []) ++ run))
-      → (if b then runs_from (begun ++ c ∷ []) run else closed begun ++ runs_from [] run) ≡ closed (begun ++ c ∷ run)
+        → (if b then runs_from (begun ++ c ∷ []) run else closed begun ++ runs_from [] run) ≡ closed (begun ++ c ∷ run)
     by true e all rest = rest all ∙ ap closed (append_assoc begun (c ∷ []) run)
     by false e all rest = absurd cc
 
@@ -76,7 +76,7 @@ runs_from-parted begun [] after c h = ap (λ b. if b then runs_from (begun ++ c 
 runs_from-parted begun (d ∷ before) after c h = by (is_term d) (runs_from-parted (begun ++ d ∷ []) before after c h) (runs_from-parted [] before after c h)
   where
     by : (b : Bool) → runs_from (begun ++ d ∷ []) (before ++ c ∷ after) ≡ runs_from (begun ++ d ∷ []) before ++ runs after → runs_from [] (before ++ c ∷ after) ≡ runs_from [] before ++ runs after
-      → (if b then runs_from (begun ++ d ∷ []) (before ++ c ∷ after) else closed begun ++ runs_from [] (before ++ c ∷ after)) ≡ (if b then runs_from (begun ++ d ∷ []) before else closed begun ++ runs_from [] before) ++ runs after
+        → (if b then runs_from (begun ++ d ∷ []) (before ++ c ∷ after) else closed begun ++ runs_from [] (before ++ c ∷ after)) ≡ (if b then runs_from (begun ++ d ∷ []) before else closed begun ++ runs_from [] before) ++ runs after
     by true inside outside = inside
     by false inside outside = ap (λ l. closed begun ++ l) outside ∙ sym (append_assoc (closed begun) (runs before) (runs after))
 

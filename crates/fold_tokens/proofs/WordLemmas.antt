@@ -1,5 +1,5 @@
 -- The numbers of words.
-use Rattle.std.proofs.Common.{◌≡◌, ℕ, ◌+◌, ◌<◌, ◌≤◌, Bool, true, false, cond, not, ◌||◌, List, [], ◌∷◌, ◌++◌, length, Option, Some, None, is_some, position, nat_lt, refl, sym, ap, ◌∙◌, arith, append_assoc, append-nil, length-append, if◌then◌else◌, lt-ltb}
+use Rattle.std.proofs.Common.{◌≡◌, ℕ, ◌+◌, Bool, true, false, cond, not, ◌||◌, List, [], ◌∷◌, ◌++◌, length, Some, None, is_some, nat_lt, refl, sym, ap, ◌∙◌, arith, append_assoc, append-nil, length-append, if◌then◌else◌, lt-ltb}
 use Rattle.std.proofs.lemmas.Bool.Decides.{nat_tests}
 use Rattle.std.proofs.lemmas.List.Folds.{list_any-append}
 use Rattle.std.proofs.lemmas.List.Sums.{fold-append}
@@ -79,7 +79,7 @@ entered-front words k = by (list_any (bytes_eq k) words)
     by true = ([], sym (append-nil words))
     by false = (k ∷ [], refl)
 
-with_all-front : (words found : List (List ℕ)) → (rest : List (List ℕ)) × (with_all words found ≡ words ++ rest)
+pub with_all-front : (words found : List (List ℕ)) → (rest : List (List ℕ)) × (with_all words found ≡ words ++ rest)
 with_all-front words [] = ([], sym (append-nil words))
 with_all-front words (k ∷ found) =
     let one = entered-front words k in

@@ -22,3 +22,6 @@ pub use laws::{
 };
 pub use runs::one_term;
 pub use vocabulary::{NumberError, Vocabulary};
+
+#[cfg(test)]
+mod tests;

@@ -1,4 +1,4 @@
-use Rattle.std.proofs.Common.{◌≡◌, ◌∙◌, sym, ap, None}
+use Rattle.std.proofs.Common.{◌≡◌, ◌∙◌, sym, ap}
 use Rattle.std.specs.Option.{option_copied}
 use Rattle.fold_tokens.specs.Terms.{times}
 use Rattle.fold_tokens.proofs.CountLemmas.{counted-push, lookup-counted-none, lookup-counted-some}

@@ -1,4 +1,4 @@
-use Rattle.std.proofs.Common.{◌≡◌, ◌∙◌, sym, ap, List, ℕ, Result, Ok, Err, OnOk, Some, None, ◌++◌, [], append-nil}
+use Rattle.std.proofs.Common.{◌∙◌, sym, ap, Result, Ok, Err, OnOk, Some}
 use Rattle.fold_tokens.specs.Terms.{keys_of}
 use Rattle.fold_tokens.specs.Words.{counted}
 use Rattle.fold_tokens.proofs.CountLemmas.{keys_of-closed}

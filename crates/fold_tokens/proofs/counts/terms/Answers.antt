@@ -1,10 +1,10 @@
-use Rattle.std.proofs.Common.{◌≡◌, ◌∙◌, ◌≤◌, ◌<◌, sym, ap, map-id, chars, string_bytes, [], length, arith, refl}
+use Rattle.std.proofs.Common.{◌≡◌, ◌∙◌, sym, ap, map-id, chars, [], arith}
 use Rattle.std.proofs.lemmas.Str.{IsUtf8-string_bytes, chars-nil}
 use Rattle.std.proofs.lemmas.Iterator.{YieldsList-from_chars, items_from_collect}
 use Rattle.std.proofs.lemmas.Iterator.Consumers.{YieldsList-end, YieldsList-turn, YieldsList-from_rest}
 use Rattle.fold_tokens.specs.Terms.{keys_of}
 use Rattle.fold_tokens.specs.Words.{counted}
-use Rattle.fold_tokens.proofs.RunLemmas.{AreRead, AreRead-none, AreRead-inside, AreRead-between, AreRead-end, chars-push}
+use Rattle.fold_tokens.proofs.RunLemmas.{AreRead-none, AreRead-inside, AreRead-between, AreRead-end, chars-push}
 use Rattle.fold_tokens.proofs.CountLemmas.{lookup-counted-le, length-keys_of, length-chars}
 use Rattle.fold_tokens.proofs.counts.terms.Goals as goal
 
@@ -16,7 +16,7 @@ loop-c-preserved-in-Continue-1 c =
     let h = c.loop-c.invariant in (
       h.0,
       rw (chars-push _ _ c.in-Some.c (IsUtf8-string_bytes c.loop-c.run) (IsUtf8-string_bytes c.push.new.self) c.in_ok-push.ensures.bytes)
-      (AreRead-inside _ _ _ _ c.in-Some.c (sym c.is_term_char.ensures ∙ c.if-is_term_char.true) h.1),
+          (AreRead-inside _ _ _ _ c.in-Some.c (sym c.is_term_char.ensures ∙ c.if-is_term_char.true) h.1),
       h.2,
     )
 

@@ -1,4 +1,4 @@
-use Rattle.std.proofs.Common.{◌≡◌, sym, ap, subst, ◌∙◌, encode_utf8_all, chars}
+use Rattle.std.proofs.Common.{◌≡◌, sym, ◌∙◌, chars}
 use Rattle.std.proofs.lemmas.Str.{chars_from_encodes}
 use Rattle.unicode_normalization.specs.Forms.{nfd}
 use Rattle.caseless.specs.Caseless.{default_case_fold}

@@ -1,8 +1,8 @@
-use Rattle.std.proofs.Common.{◌≡◌, ◌∙◌, sym, subst, ap, rules, map-id, chars, string_bytes, []}
+use Rattle.std.proofs.Common.{◌≡◌, ◌∙◌, sym, map-id, chars}
 use Rattle.std.proofs.lemmas.Str.{IsUtf8-string_bytes, chars-nil}
 use Rattle.std.proofs.lemmas.Iterator.Consumers.{YieldsList-end}
 use Rattle.std.proofs.lemmas.Iterator.{YieldsList-from_chars}
-use Rattle.fold_tokens.proofs.RunLemmas.{AreRead, AreRead-none, AreRead-inside, AreRead-between, AreRead-end, chars-push}
+use Rattle.fold_tokens.proofs.RunLemmas.{AreRead-none, AreRead-inside, AreRead-between, AreRead-end, chars-push}
 use Rattle.fold_tokens.proofs.runs.runs_of.Goals as goal
 
 pub loop-c-init : goal.loop-c-init

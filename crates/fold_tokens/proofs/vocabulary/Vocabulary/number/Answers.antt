@@ -1,4 +1,4 @@
-use Rattle.std.proofs.Common.{◌≡◌, ◌∙◌, sym, ap, Some, None, option_map}
+use Rattle.std.proofs.Common.{◌∙◌, sym, ap, Some, option_map}
 use Rattle.time_base.specs.declared.ids.WordId.{WordId}
 use Rattle.fold_tokens.specs.Words.{number_of}
 use Rattle.fold_tokens.proofs.WordLemmas.{absent-none, entered-none, entered-some, number_of-new}
