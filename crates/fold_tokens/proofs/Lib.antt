@@ -1,0 +1,5 @@
+pub mod KeyLemmas
+pub mod RunLemmas
+pub mod CountLemmas
+pub mod WordLemmas
+pub mod NumberingLemmas

@@ -1,0 +1,8 @@
+use Rattle.std.proofs.Common.{◌≡◌, List, ℕ, chars, string_bytes}
+use Rattle.fold_tokens.specs.Terms.{keys_of}
+use Rattle.fold_tokens.specs.Words.{counted}
+use Rattle.fold_tokens.proofs.RunLemmas.{AreRead}
+use Rattle.fold_tokens.proofs.counts.terms.Given as goal
+
+abbrev pub invariant-loop-c : goal.invariant-loop-c
+invariant-loop-c l = (done : List (List ℕ)) × AreRead (chars l.text) l.yielded (chars (string_bytes l.run)) done × (l.counts.entries ≡ counted (keys_of done))

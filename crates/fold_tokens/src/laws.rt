@@ -1,0 +1,41 @@
+//! What the definitions of runs, keys and counts tell. Nothing here runs.
+ghost use Rattle.std.specs.Prelude.{◌≡◌, ◌↔◌, ◌++◌, ◌∷◌, ℕ, List, true, false, Some, None, if◌then◌else◌};
+ghost use Rattle.std.specs.List.{list_all, list_any, IsDistinct};
+ghost use Rattle.std.specs.Map.{lookup};
+ghost use Rattle.std.specs.Str.{bytes_eq};
+ghost use Rattle.caseless.specs.Caseless.{IsCanonicalMatch};
+ghost use Rattle.fold_tokens.specs.Terms.{is_term, closed, runs, key, is_key, term_of, keys, occurrences};
+ghost use Rattle.fold_tokens.specs.Words.{distinct, counted};
+
+/// The runs of a text are its maximal stretches of letters, marks and numbers: such characters
+/// alone are one run, and any other character parts the runs before it from those behind it.
+pub fn runs_are_maximal_stretches()
+    ensures stretch { (run : List ℕ) → list_all is_term run ≡ true → runs run ≡ closed run }
+    ensures parted { (before after : List ℕ) (c : ℕ) → is_term c ≡ false
+        → runs (before ++ c ∷ after) ≡ runs before ++ runs after }
+{}
+
+/// Two runs have one key exactly where they match without regard to case, by Unicode's definition
+/// of canonical caseless matching (The Unicode Standard, D145); and so, where both are terms, they
+/// are one term exactly then.
+pub fn keys_match_without_case()
+    ensures keys { (one other : List ℕ) → ((key one ≡ key other) ↔ IsCanonicalMatch one other) }
+    ensures terms { (one other : List ℕ) → is_key (key one) ≡ true → is_key (key other) ≡ true
+        → ((term_of one ≡ term_of other) ↔ IsCanonicalMatch one other) }
+{}
+
+/// The distinct keys of a list are its keys, each once; and those of a front of the list come
+/// first, so that they stand in the order of first occurrence.
+pub fn distinct_keys_stand_in_order()
+    ensures same { (word : List ℕ) (found : List (List ℕ))
+        → list_any (bytes_eq word) (distinct found) ≡ list_any (bytes_eq word) found }
+    ensures once { (found : List (List ℕ)) → IsDistinct bytes_eq (distinct found) }
+    ensures order { (front back : List (List ℕ))
+        → (rest : List (List ℕ)) × (distinct (front ++ back) ≡ distinct front ++ rest) }
+{}
+
+/// A text's counts say of each word how often it occurs.
+pub fn counts_are_frequencies()
+    ensures { (word text : List ℕ) → lookup (bytes_eq word) (counted (keys text))
+        ≡ (if list_any (bytes_eq word) (keys text) then Some (occurrences word text) else None) }
+{}

@@ -1,0 +1,27 @@
+//! What a word is, for texts in every script.
+//!
+//! A run of a text is a maximal stretch of letters, marks and numbers, by Unicode's general
+//! category. Its key is `NFD(toCasefold(NFD(run)))`, so that two runs have one key exactly where
+//! Unicode's canonical caseless matching (The Unicode Standard, D145) matches them. A run whose key
+//! has 1 to 255 bytes is a term; other runs are no words. A vocabulary numbers keys from 0 on, in
+//! the order in which they come.
+//!
+//! Contracts speak of a text as its bytes, of a run as its characters and of a key as its bytes.
+//! Nothing here knows of documents, times or archives.
+#![tactic(auto)]
+
+mod counts;
+mod laws;
+mod runs;
+mod vocabulary;
+
+pub use counts::terms;
+pub use laws::{
+    counts_are_frequencies, distinct_keys_stand_in_order, keys_match_without_case,
+    runs_are_maximal_stretches,
+};
+pub use runs::one_term;
+pub use vocabulary::{NumberError, Vocabulary};
+
+#[cfg(test)]
+mod tests;

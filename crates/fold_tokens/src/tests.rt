@@ -1,0 +1,158 @@
+ghost use Rattle.std.specs.Prelude.{◌≡◌, ◌∷◌, [], IfOk};
+
+use super::*;
+use std::alloc::{AllocError, Global};
+use std::process::Abort;
+use std::test::Fail;
+use time_base::{Key, WordId};
+
+/// The terms of a text as a text, each with its count behind it.
+fn shown(rt: &impl Abort, alloc: Global, text: &str) -> Result<String, AllocError> {
+    assert!(rt; text.len() < 4294967296);
+    let mut out = String::new(alloc);
+    for (key, count) in &terms(alloc, text)? {
+        let term = format!(in alloc; "{} {}, ", key.as_str(), *count)?;
+        out.push_str(term.as_str())?;
+    }
+    Ok(out)
+}
+
+/// A text so many times over.
+fn repeated(alloc: Global, text: &str, times: usize) -> Result<String, AllocError> {
+    let mut out = String::new(alloc);
+    for _ in 0..times {
+        out.push_str(text)?;
+    }
+    Ok(out)
+}
+
+// What is wanted is from Python 3.11: `unicodedata.normalize('NFD', ..)` and `str.casefold`, over
+// the runs by `unicodedata.category`.
+#[test]
+fn terms_are_those_of_unicode(rt: HostRuntime) -> Result<(), Fail> {
+    let alloc = rt.alloc();
+    for (text, wanted) in [
+        ("", ""),
+        ("e-mail", "e 1, mail 1, "),
+        ("snake_case don't", "snake 1, case 1, don 1, t 1, "),
+        ("To be, or not to be", "to 2, be 2, or 1, not 1, "),
+        ("Straße STRASSE Strasse", "strasse 3, "),
+        ("ẞ ß", "ss 2, "),
+        ("\u{e9} e\u{301} \u{c9}", "e\u{301} 3, "),
+        ("A\u{30a} \u{c5} \u{212b}", "a\u{30a} 3, "),
+        ("ΣΊΣΥΦΟΣ Σίσυφος ς σ", "σι\u{301}συφοσ 2, σ 2, "),
+        ("\u{390} \u{1fd3}", "\u{3b9}\u{308}\u{301} 2, "),
+        ("ı i I İ", "ı 1, i 2, i\u{307} 1, "),
+        ("\u{212a} k K", "k 3, "),
+        (
+            "\u{ac01} \u{1100}\u{1161}\u{11a8}",
+            "\u{1100}\u{1161}\u{11a8} 2, ",
+        ),
+        ("q\u{307}\u{323} q\u{323}\u{307}", "q\u{323}\u{307} 2, "),
+        ("\u{663} 3 \u{969}", "\u{663} 1, 3 1, \u{969} 1, "),
+        ("Ⅷ ⅷ ½", "ⅷ 2, ½ 1, "),
+        ("ﬁne FINE", "fine 2, "),
+        ("\u{1c6} \u{1c4} \u{1c5}", "\u{1c6} 3, "),
+        ("\u{e000} \u{378} x\u{e000}y", "x 1, y 1, "),
+        ("\u{1f469}\u{1f3fd}\u{200d}\u{1f680}", ""),
+        ("\u{2764}\u{fe0f}", "\u{fe0f} 1, "),
+    ] {
+        let found = shown(&rt, alloc, text)?;
+        assert_eq!(rt; found.as_str(), wanted, "in {text}");
+    }
+    Ok(())
+}
+
+#[test]
+fn long_runs_are_no_terms(rt: HostRuntime) -> Result<(), Fail> {
+    let alloc = rt.alloc();
+    for (unit, times, found) in [
+        ("a", 255, true),
+        ("a", 256, false),
+        ("あ", 85, true),
+        ("あ", 86, false),
+        ("a", 1 << 20, false),
+    ] {
+        let text = repeated(alloc, unit, times)?;
+        let term = one_term(alloc, text.as_str())?;
+        assert_eq!(rt; term.is_some(), found, "{unit} times {times}");
+        let all = shown(&rt, alloc, text.as_str())?;
+        assert_eq!(rt; !all.is_empty(), found, "{unit} times {times}");
+    }
+    let text = repeated(alloc, "a ", 1 << 19)?;
+    let found = shown(&rt, alloc, text.as_str())?;
+    assert_eq!(rt; found.as_str(), "a 524288, ");
+    Ok(())
+}
+
+#[test]
+fn one_term_is_the_only_run(rt: HostRuntime) -> Result<(), Fail> {
+    let alloc = rt.alloc();
+    for (text, wanted) in [
+        ("", ""),
+        ("e-mail", ""),
+        (" Straße! ", "strasse"),
+        ("...", ""),
+        ("word", "word"),
+    ] {
+        let found = match one_term(alloc, text)? {
+            Some(key) => String::from_str(alloc, key.as_str())?,
+            None => String::new(alloc),
+        };
+        assert_eq!(rt; found.as_str(), wanted, "in {text}");
+    }
+    let mut text = repeated(alloc, "a", 256)?;
+    text.push_str(" word")?;
+    let found = one_term(alloc, text.as_str())?;
+    assert!(rt; found.is_none(), "two runs, of which one is no term");
+    Ok(())
+}
+
+/// A list of the key alone.
+fn alone(alloc: Global, key: &Key) -> Result<Vec<Key>, AllocError>
+    ensures { IfOk result (λ keys. keys.items ≡ key.now ∷ []) }
+{
+    let mut keys = Vec::new(alloc);
+    keys.push(key.clone()?)?;
+    Ok(keys)
+}
+
+/// The number of the text's only term, made where it has none.
+fn number(
+    alloc: Global,
+    vocabulary: &mut Vocabulary,
+    text: &str,
+) -> Result<Option<WordId>, NumberError> {
+    let Some(key) = one_term(alloc, text)? else {
+        return Ok(None);
+    };
+    let keys = alone(alloc, &key)?;
+    vocabulary.reserve(&keys)?;
+    Ok(Some(vocabulary.number(key)))
+}
+
+#[test]
+fn words_are_numbered_in_the_order_in_which_they_come(rt: HostRuntime) -> Result<(), Fail> {
+    let alloc = rt.alloc();
+    let mut vocabulary = Vocabulary::new(alloc)?;
+    for (text, wanted) in [
+        ("To", Some(0)),
+        ("be", Some(1)),
+        ("TO", Some(0)),
+        ("or not", None),
+        ("or", Some(2)),
+        ("Be", Some(1)),
+    ] {
+        let found = number(alloc, &mut vocabulary, text).expect(&rt, "room");
+        assert_eq!(rt; found.map(|id| id.number()), wanted, "{text}");
+    }
+    assert_eq!(rt; vocabulary.len(), 3);
+    let id = WordId::new(2).expect(&rt, "a number");
+    assert!(rt; id.number() < vocabulary.len());
+    assert_eq!(rt; vocabulary.word(id).as_str(), "or");
+    let key = one_term(alloc, "OR")?.expect(&rt, "a term");
+    assert_eq!(rt; vocabulary.find(&key), Some(id));
+    let key = one_term(alloc, "not")?.expect(&rt, "a term");
+    assert_eq!(rt; vocabulary.find(&key), None);
+    Ok(())
+}
