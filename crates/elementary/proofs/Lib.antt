@@ -1,0 +1,5 @@
+pub mod Sums
+pub mod Places
+pub mod Tables
+pub mod Distinct
+pub mod Cuts
