@@ -49,10 +49,10 @@ found_there xs t n below above up c = go (place_of xs t c) (λ i. cases_lt i n) 
     go : ((i : ℕ) × (i < length xs) × (slice_index xs i ≡ t)) → ((i : ℕ) → (i < n) ⊎ (n ≤ i)) → ((i : ℕ) → (n < i) ⊎ (i ≤ n)) → (n < length xs) × (slice_index xs n ≡ t)
     go (i, l, e) f g = at i l e (f i) (g i)
 
-eq_from : (a b : ℕ) → IsTrue (nat_eq a b) → a ≡ b
+pub eq_from : (a b : ℕ) → IsTrue (nat_eq a b) → a ≡ b
 eq_from a b h = grind (arith, nat_tests)
 
-is_eq : (a b : ℕ) → a ≡ b → IsTrue (nat_eq a b)
+pub is_eq : (a b : ℕ) → a ≡ b → IsTrue (nat_eq a b)
 is_eq a b h = grind (arith, nat_tests)
 
 pub among : (xs : List ℕ) (t n : ℕ) → ((k : ℕ) → k < n → slice_index xs k < t) → ((k : ℕ) → n ≤ k → k < length xs → t ≤ slice_index xs k) → IsStrictlyIncreasing xs → n < length xs → IsTrue (nat_eq (slice_index xs n) t) ↔ Contains xs t

@@ -3,3 +3,5 @@ pub mod Places
 pub mod Tables
 pub mod Distinct
 pub mod Cuts
+pub mod Walk
+pub mod LeastAlive

@@ -79,7 +79,7 @@ ended_begun list f g le =
 none_one : (x y f : ℕ) → x < y → f ≤ x → bit (nat_le y f) ≡ 0
 none_one x y f lt le = grind (arith, nat_tests)
 
-first_le : (times : List ℕ) → IsStrictlyIncreasing times → (x : ℕ) → Contains times x → slice_index times 0 ≤ x
+pub first_le : (times : List ℕ) → IsStrictlyIncreasing times → (x : ℕ) → Contains times x → slice_index times 0 ≤ x
 first_le times up x c = go (place_of times x c)
   where
     go : ((k : ℕ) × (k < length times) × (slice_index times k ≡ x)) → slice_index times 0 ≤ x
