@@ -1,0 +1,17 @@
+//! The time line of a posting list, cut at its boundaries.
+//!
+//! The boundaries of a list are the ends of its spans and a horizon; the times between two
+//! neighbours are an elementary interval, in which nothing changes. A `Table` counts a list once, and
+//! then tells the size of each sublist between boundaries in constant time. A `Partition` cuts the
+//! time line into segments. The definitions of admissible and least partitions, which the planners
+//! and the checker meet, stand here too.
+#![tactic(auto)]
+
+
+mod partition;
+mod sorting;
+mod table;
+
+
+pub use partition::{Partition, is_within};
+pub use table::Table;

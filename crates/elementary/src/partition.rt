@@ -1,0 +1,250 @@
+//! Partitions of a time line into segments.
+ghost use Rattle.std.specs.Prelude.{◌≡◌, ◌⊎◌, ℕ, ◌+◌, ◌-◌, ◌*◌, ◌<◌, ◌≤◌, ◌^◌, ◌↔◌, List, drop, length, slice_index, All, Contains, IsTrue, IsSome, IfSome, IsNone};
+ghost use Rattle.std.specs.List.Sorted.{IsStrictlyIncreasing};
+ghost use Rattle.time_base.specs.declared.posting.Posting.{Posting};
+ghost use Rattle.elementary.specs.Counts.{Tabulates, AdmissibleBetween};
+ghost use Rattle.postings.specs.Sizes.{size};
+ghost use Rattle.elementary.specs.Partitions.{IsPartition, IsInSegment, IsFitting, IsAdmissible, Covers, space};
+
+use crate::sorting::{first_after, is_among, place_among};
+use crate::table::Table;
+use std::marker::Model;
+use time_base::{Fraction, Time};
+
+/// A partition of a time line: its cuts in seconds, ascending. Neighbours are the ends of a segment;
+/// the first cut begins the first segment, and the last is the horizon. Contracts see the list of its
+/// cuts.
+#[derive(Debug, Drop)]
+pub struct Partition {
+    cuts: Vec<u64>,
+}
+
+impl Model for Partition {
+    ghost use Rattle.std.specs.Prelude.{ℕ, List};
+    ghost use Rattle.elementary.specs.Partitions.{IsPartition};
+
+    ghost Value = { List ℕ };
+
+    ghost view = { λ p. p.cuts.items };
+
+    ghost invariant = { λ p. IsPartition p.cuts.items };
+}
+
+impl Partition {
+    /// The partition with these cuts in seconds; None where they are fewer than two or don't ascend.
+    /// Costs time in the cuts.
+    pub fn new(cuts: Vec<u64>) -> Option<Partition>
+        ensures valid { IsSome result ↔ IsPartition cuts.items }
+        ensures value { IfSome result (λ p. p ≡ cuts.items) }
+    {
+        if cuts.len() >= 2 && ascends(&cuts) {
+            Some(Partition { cuts })
+        } else {
+            None
+        }
+    }
+
+    /// The cuts in seconds, in order, the horizon last. Constant cost.
+    pub fn cuts(&self) -> &[u64]
+        ensures value { result.now ≡ self.now }
+        ensures many { 2 ≤ length result.now }
+        ensures ascending { IsStrictlyIncreasing result.now }
+    {
+        &self.cuts
+    }
+
+    /// How many segments there are, at least 1. Constant cost.
+    pub fn segments(&self) -> usize
+        ensures value { result ≡ length self.now - 1 }
+        ensures some { 1 ≤ result }
+    {
+        self.cuts.len() - 1
+    }
+
+    /// The number of the segment that holds the time, the first being 0; None before the first cut and
+    /// from the last on. Costs the logarithm of the cuts.
+    pub fn segment_of(&self, t: Time) -> Option<usize>
+        ensures some { IfSome result (IsInSegment self.now t.seconds) }
+        ensures none { IsNone result ↔ ((t.seconds < slice_index self.now 0) ⊎ (slice_index self.now (length self.now - 1) ≤ t.seconds)) }
+    {
+        segment_in(&self.cuts, t.seconds())
+    }
+
+    /// Whether the cuts are boundaries of the table, from its first to its last. Costs the logarithm of
+    /// the boundaries for each cut.
+    pub fn fits(&self, table: &Table) -> bool
+        ensures { IsTrue result ↔ IsFitting table.now.boundaries self.now }
+    {
+        fits_in(table.boundaries(), self.cuts())
+    }
+
+    /// Whether the partition, which fits the table, keeps the factor: at each time the postings of the
+    /// segment that holds it are at most the factor times those that are alive. Costs time in the
+    /// boundaries.
+    pub fn admissible(&self, table: &Table, factor: Fraction) -> bool
+        requires fits { IsFitting table.now.boundaries self.now }
+        ensures { (list : List Posting) (horizon : ℕ) → Tabulates list horizon table.now → (IsTrue result ↔ Covers list factor (slice_index self.now 0) (drop 1 self.now) horizon) }
+    {
+        are_admissible(table, factor, self.cuts())
+    }
+
+    /// The space of the partition, which fits the table, in postings. Costs the logarithm of the
+    /// boundaries for each cut.
+    pub fn whole_space(&self, table: &Table) -> u128
+        requires fits { IsFitting table.now.boundaries self.now }
+        ensures value { (list : List Posting) (horizon : ℕ) → Tabulates list horizon table.now → result ≡ space list (slice_index self.now 0) (drop 1 self.now) }
+        ensures bound { result ≤ (length self.now - 1) * 2 ^ 38 }
+    {
+        space_between(table, self.cuts())
+    }
+
+    /// The space of the partition, which fits the table and has at most 2^24 segments, in postings.
+    /// Costs the logarithm of the boundaries for each cut.
+    pub fn space(&self, table: &Table) -> u64
+        requires fits { IsFitting table.now.boundaries self.now }
+        requires few { length self.now ≤ 2 ^ 24 + 1 }
+        ensures value { (list : List Posting) (horizon : ℕ) → Tabulates list horizon table.now → result ≡ space list (slice_index self.now 0) (drop 1 self.now) }
+        ensures bound { result ≤ 2 ^ 62 }
+    {
+        self.whole_space(table) as u64
+    }
+}
+
+/// Whether each number is below the next.
+fn ascends(numbers: &[u64]) -> bool
+    ensures { IsTrue result ↔ IsStrictlyIncreasing numbers.now }
+{
+    for k in 1..numbers.len() {
+        if numbers[k] <= numbers[k - 1] {
+            return false;
+        }
+    }
+    true
+}
+
+/// The place of the last cut that isn't after `t`, where another cut follows it.
+fn segment_in(cuts: &[u64], t: u64) -> Option<usize>
+    requires ascending { IsStrictlyIncreasing cuts.now }
+    requires many { 2 ≤ length cuts.now }
+    ensures some { IfSome result (IsInSegment cuts.now t) }
+    ensures none { IsNone result ↔ ((t < slice_index cuts.now 0) ⊎ (slice_index cuts.now (length cuts.now - 1) ≤ t)) }
+{
+    let next = first_after(cuts, t);
+    if next == 0 {
+        return None;
+    }
+    if next == cuts.len() {
+        return None;
+    }
+    Some(next - 1)
+}
+
+/// Whether all cuts are among the times.
+fn are_among(times: &[u64], cuts: &[u64]) -> bool
+    requires { IsStrictlyIncreasing times.now }
+    ensures { IsTrue result ↔ All (Contains times.now) cuts.now }
+{
+    for cut in cuts {
+        if !is_among(times, *cut) {
+            return false;
+        }
+    }
+    true
+}
+
+/// Whether the cuts are among the times, from the first of these to the last.
+fn fits_in(times: &[u64], cuts: &[u64]) -> bool
+    requires ascending { IsStrictlyIncreasing times.now }
+    requires times { 0 < length times.now }
+    requires cuts { 0 < length cuts.now }
+    ensures { IsTrue result ↔ IsFitting times.now cuts.now }
+{
+    if cuts[0] != times[0] {
+        return false;
+    }
+    if cuts[cuts.len() - 1] != times[times.len() - 1] {
+        return false;
+    }
+    are_among(times, cuts)
+}
+
+/// Whether a size is within the factor of a number of postings alive.
+pub fn is_within(size: u64, factor: Fraction, alive: u64) -> bool
+    requires size { size < 2 ^ 38 }
+    requires alive { alive < 2 ^ 38 }
+    ensures { IsTrue result ↔ (size * factor.under ≤ factor.over * alive) }
+{
+    u128::from(size) * u128::from(factor.under) <= u128::from(factor.over) * u128::from(alive)
+}
+
+/// Whether the segment between boundaries `j` and `k` is admissible.
+fn is_admissible_between(table: &Table, factor: Fraction, j: usize, k: usize) -> bool
+    requires order { j < k }
+    requires inside { k < length table.now.boundaries }
+    ensures { IsTrue result ↔ AdmissibleBetween table.now factor j k }
+{
+    let size = table.size(j, k);
+    for i in j..k {
+        if !is_within(size, factor, table.alive(i)) {
+            return false;
+        }
+    }
+    true
+}
+
+/// Whether `[f, g)` is admissible, where both are boundaries.
+fn is_segment(table: &Table, factor: Fraction, f: u64, g: u64) -> bool
+    requires order { f < g }
+    requires left { Contains table.now.boundaries f }
+    requires right { Contains table.now.boundaries g }
+    ensures { (list : List Posting) (horizon : ℕ) → Tabulates list horizon table.now → (IsTrue result ↔ IsAdmissible list factor f g) }
+{
+    let times = table.boundaries();
+    let j = place_among(times, f);
+    let k = place_among(times, g);
+    is_admissible_between(table, factor, j, k)
+}
+
+/// How many postings have a time in `[f, g)`, where both are boundaries.
+fn size_of(table: &Table, f: u64, g: u64) -> u64
+    requires order { f < g }
+    requires left { Contains table.now.boundaries f }
+    requires right { Contains table.now.boundaries g }
+    ensures value { (list : List Posting) (horizon : ℕ) → Tabulates list horizon table.now → result ≡ size f g list }
+    ensures bound { result < 2 ^ 38 }
+{
+    let times = table.boundaries();
+    let j = place_among(times, f);
+    let k = place_among(times, g);
+    table.size(j, k)
+}
+
+/// Whether each segment between the cuts is admissible.
+fn are_admissible(table: &Table, factor: Fraction, cuts: &[u64]) -> bool
+    requires ascending { IsStrictlyIncreasing cuts.now }
+    requires some { 0 < length cuts.now }
+    requires inside { All (Contains table.now.boundaries) cuts.now }
+    ensures { (list : List Posting) (horizon : ℕ) → Tabulates list horizon table.now → (IsTrue result ↔ Covers list factor (slice_index cuts.now 0) (drop 1 cuts.now) (slice_index cuts.now (length cuts.now - 1))) }
+{
+    for k in 1..cuts.len() {
+        if !is_segment(table, factor, cuts[k - 1], cuts[k]) {
+            return false;
+        }
+    }
+    true
+}
+
+/// The sizes of the segments between the cuts, added up.
+fn space_between(table: &Table, cuts: &[u64]) -> u128
+    requires ascending { IsStrictlyIncreasing cuts.now }
+    requires some { 0 < length cuts.now }
+    requires inside { All (Contains table.now.boundaries) cuts.now }
+    ensures value { (list : List Posting) (horizon : ℕ) → Tabulates list horizon table.now → result ≡ space list (slice_index cuts.now 0) (drop 1 cuts.now) }
+    ensures bound { result ≤ (length cuts.now - 1) * 2 ^ 38 }
+{
+    let mut total = 0;
+    for k in 1..cuts.len() {
+        total += u128::from(size_of(table, cuts[k - 1], cuts[k]));
+    }
+    total
+}

@@ -1,0 +1,86 @@
+//! The counts of a list at its boundaries.
+ghost use Rattle.std.specs.Prelude.{◌≡◌, ℕ, ◌+◌, ◌<◌, ◌≤◌, ◌^◌, List, length, slice_index, All, IfOk};
+ghost use Rattle.std.specs.List.Sorted.{IsStrictlyIncreasing};
+ghost use Rattle.time_base.specs.declared.posting.Posting.{Posting};
+ghost use Rattle.postings.specs.Sizes.{size, alive_count};
+ghost use Rattle.elementary.specs.Counts.{Tabulates, size_between, alive_in};
+
+use crate::sorting::{counts_below, counts_to, distinct, sorted, starts_of, stops_of};
+use std::alloc::{AllocError, Global};
+use std::marker::Model;
+use time_base::{Posting, Time};
+
+/// A list counted at its boundaries, so that the size of each sublist between two of them is a
+/// difference. It doesn't keep the list. Call the number of its elementary intervals `n`; it has
+/// `n + 1` boundaries.
+#[derive(Debug, Drop)]
+pub struct Table {
+    boundaries: Vec<u64>,
+    begun: Vec<u64>,
+    ended: Vec<u64>,
+}
+
+impl Model for Table {
+    ghost use Rattle.elementary.specs.Counts.{Counts, AreOrdered};
+
+    ghost Value = { Counts };
+
+    ghost view = { λ t. record { boundaries = t.boundaries.items; begun = t.begun.items; ended = t.ended.items } };
+
+    ghost invariant = { λ t. AreOrdered t.boundaries.items t.begun.items t.ended.items };
+}
+
+impl Table {
+    /// The table of a list that isn't empty, in which each span ends at or before the horizon. Costs
+    /// time in `n log n` for `n` postings, and memory in them.
+    pub fn new(alloc: Global, list: &[Posting], horizon: Time) -> Result<Table, AllocError>
+        requires some { 0 < length list.now }
+        requires few { length list.now < 2 ^ 38 }
+        requires early { All (λ p. p.span.to ≤ horizon.seconds) list.now }
+        ensures { IfOk result (Tabulates list.now horizon.seconds) }
+    {
+        let starts = starts_of(alloc, list)?;
+        let stops = stops_of(alloc, list)?;
+        let boundaries = distinct(alloc, horizon.seconds(), &starts, &stops)?;
+        let starts = sorted(starts);
+        let stops = sorted(stops);
+        let begun = counts_below(alloc, &starts, &boundaries)?;
+        let ended = counts_to(alloc, &stops, &boundaries)?;
+        Ok(Table {
+            boundaries,
+            begun,
+            ended,
+        })
+    }
+
+    /// The boundaries in seconds, ascending: the distinct ends of spans and the horizon. Constant cost.
+    pub fn boundaries(&self) -> &[u64]
+        ensures value { result.now ≡ self.now.boundaries }
+        ensures many { 2 ≤ length result.now }
+        ensures ascending { IsStrictlyIncreasing result.now }
+        ensures in_time { All (λ x. x < 2 ^ 40) result.now }
+    {
+        &self.boundaries
+    }
+
+    /// How many postings are alive in elementary interval `k`. Constant cost.
+    pub fn alive(&self, k: usize) -> u64
+        requires inside { k + 1 < length self.now.boundaries }
+        ensures value { result ≡ alive_in self.now k }
+        ensures bound { result < 2 ^ 38 }
+        ensures count { (list : List Posting) (horizon t : ℕ) → Tabulates list horizon self.now → slice_index self.now.boundaries k ≤ t → t < slice_index self.now.boundaries (k + 1) → result ≡ alive_count t list }
+    {
+        self.begun[k + 1] - self.ended[k]
+    }
+
+    /// How many postings have a time between boundaries `j` and `k`. Constant cost.
+    pub fn size(&self, j: usize, k: usize) -> u64
+        requires order { j < k }
+        requires inside { k < length self.now.boundaries }
+        ensures value { result ≡ size_between self.now j k }
+        ensures bound { result < 2 ^ 38 }
+        ensures count { (list : List Posting) (horizon : ℕ) → Tabulates list horizon self.now → result ≡ size (slice_index self.now.boundaries j) (slice_index self.now.boundaries k) list }
+    {
+        self.begun[k] - self.ended[j]
+    }
+}

@@ -1,0 +1,12 @@
+//! Certificates: numbers by which anyone can check that a partition is least.
+//!
+//! A certificate has a number for each boundary. `check` compares it with a table of the list, and is
+//! true exactly where it certifies the partition by the definition. That a certified partition takes
+//! the least space of all admissible ones, wherever these cut, is `certificate_shows_least`.
+#![tactic(auto)]
+
+mod certificate;
+mod checking;
+
+pub use certificate::Certificate;
+pub use checking::{certificate_shows_least, check};
