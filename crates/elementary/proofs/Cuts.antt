@@ -31,7 +31,8 @@ pub segment_found : (cuts : List ℕ) (t n : ℕ) → ((k : ℕ) → k < n → s
 segment_found cuts t n below above a b l = record {
   inside = omega arith;
   from = below (n - 1) (omega arith);
-  to = let e : n ≡ n - 1 + 1 = omega arith in subst (λ k. t < slice_index cuts k) e (above n (omega arith) (omega arith)) }
+  to = let e : n ≡ n - 1 + 1 = omega arith in subst (λ k. t < slice_index cuts k) e (above n (omega arith) (omega arith));
+}
 
 pub segment_not_out : (cuts : List ℕ) (t n : ℕ) → ((k : ℕ) → k < n → slice_index cuts k ≤ t) → ((k : ℕ) → n ≤ k → k < length cuts → t < slice_index cuts k) → ¬ (n ≡ 0) → ¬ (n ≡ length cuts) → n ≤ length cuts
     → (t < slice_index cuts 0) ⊎ (slice_index cuts (length cuts - 1) ≤ t) → ⊥
@@ -46,6 +47,7 @@ found_there xs t n below above up c = go (place_of xs t c) (λ i. cases_lt i n) 
     at i l e (inl h) s = absurd (omega (arith, below i h))
     at i l e (inr h) (inl s) = absurd (omega (arith, above n (omega arith) (omega arith), rises xs up n i s l))
     at i l e (inr h) (inr s) = let q : i ≡ n = omega arith in (omega arith, subst (λ k. slice_index xs k ≡ t) q e)
+
     go : ((i : ℕ) × (i < length xs) × (slice_index xs i ≡ t)) → ((i : ℕ) → (i < n) ⊎ (n ≤ i)) → ((i : ℕ) → (n < i) ⊎ (i ≤ n)) → (n < length xs) × (slice_index xs n ≡ t)
     go (i, l, e) f g = at i l e (f i) (g i)
 
@@ -61,14 +63,17 @@ among xs t n below above up l = (λ e. contains_at xs n t l (eq_from _ _ e), λ 
 -- a segment between places is one between times
 pub segment_is : (list : List Posting) (horizon : ℕ) (table : Counts) (factor : Fraction) (times : List ℕ) → times ≡ table.boundaries → Tabulates list horizon table → (j k f g : ℕ) → j < k → k < length times
     → slice_index times j ≡ f → slice_index times k ≡ g → (b : Bool) → (IsTrue b ↔ AdmissibleBetween table factor j k) → IsTrue b ↔ IsAdmissible list factor f g
-segment_is list horizon table factor times same t j k f g lt l d e b h =
-    ( λ x. subst (λ y. IsAdmissible list factor y g) left (subst (λ y. IsAdmissible list factor (slice_index table.boundaries j) y) right (admissible_from_counts list horizon table factor t j k lt m (h.0 x)))
-    , λ a. h.1 (counts_from_admissible list horizon table factor t j k lt m (subst (λ y. IsAdmissible list factor y (slice_index table.boundaries k)) (sym left) (subst (λ y. IsAdmissible list factor f y) (sym right) a))) )
+segment_is list horizon table factor times same t j k f g lt l d e b h = (
+  λ x. subst (λ y. IsAdmissible list factor y g) left (subst (λ y. IsAdmissible list factor (slice_index table.boundaries j) y) right (admissible_from_counts list horizon table factor t j k lt m (h.0 x))),
+  λ a. h.1 (counts_from_admissible list horizon table factor t j k lt m (subst (λ y. IsAdmissible list factor y (slice_index table.boundaries k)) (sym left) (subst (λ y. IsAdmissible list factor f y) (sym right) a))),
+)
   where
     left : slice_index table.boundaries j ≡ f
     left = ap (λ l. slice_index l j) (sym same) ∙ d
+
     right : slice_index table.boundaries k ≡ g
     right = ap (λ l. slice_index l k) (sym same) ∙ e
+
     m : k < length table.boundaries
     m = omega (arith, l, ap length same)
 
@@ -101,6 +106,7 @@ space_more list cuts k m total s whole f l e h = subst (λ n. total + s + space 
   where
     d : space list (slice_index cuts (k - 1)) (drop k cuts) ≡ size (slice_index cuts (k - 1)) (slice_index cuts k) list + space list (slice_index cuts k) (drop (k + 1) cuts)
     d = ap (λ cs. space list (slice_index cuts (k - 1)) cs) (drop_at cuts k l)
+
     more : total + s + space list (slice_index cuts k) (drop (k + 1) cuts) ≡ whole
     more = omega (arith, d)
 
@@ -110,9 +116,10 @@ space_end list cuts k total f whole l h = let e : space list f (drop k cuts) ≡
 pub covers_more : (list : List Posting) (factor : Fraction) (cuts : List ℕ) (k m end : ℕ) (P : Type 0) → k ≡ m → k < length cuts → slice_index cuts (k - 1) < slice_index cuts k
     → IsAdmissible list factor (slice_index cuts (k - 1)) (slice_index cuts k)
     → (Covers list factor (slice_index cuts (k - 1)) (drop k cuts) end ↔ P) → Covers list factor (slice_index cuts m) (drop (k + 1) cuts) end ↔ P
-covers_more list factor cuts k m end P f l lt adm h =
-    ( λ c. h.0 (subst (λ (cs : List ℕ). Covers list factor (slice_index cuts (k - 1)) cs end) (sym (drop_at cuts k l)) (lt, adm, subst (λ n. Covers list factor (slice_index cuts n) (drop (k + 1) cuts) end) (sym f) c))
-    , λ p. subst (λ n. Covers list factor (slice_index cuts n) (drop (k + 1) cuts) end) f (subst (λ (cs : List ℕ). Covers list factor (slice_index cuts (k - 1)) cs end) (drop_at cuts k l) (h.1 p)).2 )
+covers_more list factor cuts k m end P f l lt adm h = (
+  λ c. h.0 (subst (λ (cs : List ℕ). Covers list factor (slice_index cuts (k - 1)) cs end) (sym (drop_at cuts k l)) (lt, adm, subst (λ n. Covers list factor (slice_index cuts n) (drop (k + 1) cuts) end) (sym f) c)),
+  λ p. subst (λ n. Covers list factor (slice_index cuts n) (drop (k + 1) cuts) end) f (subst (λ (cs : List ℕ). Covers list factor (slice_index cuts (k - 1)) cs end) (drop_at cuts k l) (h.1 p)).2,
+)
 
 pub covers_not : (list : List Posting) (factor : Fraction) (cuts : List ℕ) (k end : ℕ) (P : Type 0) → k < length cuts
     → (IsAdmissible list factor (slice_index cuts (k - 1)) (slice_index cuts k) → ⊥)
@@ -122,12 +129,13 @@ covers_not list factor cuts k end P l bad h =
 
 pub covers_end : (list : List Posting) (factor : Fraction) (cuts : List ℕ) (k : ℕ) (P : Type 0) → k ≡ length cuts
     → (Covers list factor (slice_index cuts (k - 1)) (drop k cuts) (slice_index cuts (length cuts - 1)) ↔ P) → IsTrue true ↔ P
-covers_end list factor cuts k P e h =
-    ( λ t. h.0 (subst (λ (cs : List ℕ). Covers list factor (slice_index cuts (k - 1)) cs (slice_index cuts (length cuts - 1))) (sym (drop_all cuts k (omega arith))) (ap (λ n. slice_index cuts (n - 1)) e))
-    , λ p. refl )
+covers_end list factor cuts k P e h = (
+  λ t. h.0 (subst (λ (cs : List ℕ). Covers list factor (slice_index cuts (k - 1)) cs (slice_index cuts (length cuts - 1))) (sym (drop_all cuts k (omega arith))) (ap (λ n. slice_index cuts (n - 1)) e)),
+  λ p. refl,
+)
 
 pub covers_fit : (list : List Posting) (factor : Fraction) (cuts here : List ℕ) (end horizon : ℕ) (b : Bool) → here ≡ cuts → slice_index cuts (length cuts - 1) ≡ end → end ≡ horizon
     → (IsTrue b ↔ Covers list factor (slice_index here 0) (drop 1 here) (slice_index here (length here - 1))) → IsTrue b ↔ Covers list factor (slice_index cuts 0) (drop 1 cuts) horizon
 covers_fit list factor cuts here end horizon b e l h i =
     subst (λ n. IsTrue b ↔ Covers list factor (slice_index cuts 0) (drop 1 cuts) n) (l ∙ h)
-        (subst (λ (cs : List ℕ). IsTrue b ↔ Covers list factor (slice_index cs 0) (drop 1 cs) (slice_index cs (length cs - 1))) e i)
+    (subst (λ (cs : List ℕ). IsTrue b ↔ Covers list factor (slice_index cs 0) (drop 1 cs) (slice_index cs (length cs - 1))) e i)

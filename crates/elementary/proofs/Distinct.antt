@@ -10,9 +10,7 @@ use Rattle.std.proofs.lemmas.List.Sorted.{Contains-permutation, IsPermutation-sy
 use Rattle.time_base.specs.declared.posting.Posting.{Posting}
 use Rattle.postings.specs.Sizes.{begun, ended}
 use Rattle.elementary.specs.Boundaries.{ends, AreBoundaries}
-
 use Rattle.elementary.proofs.Sums.{count_moved}
-
 
 pub grouped : (f : ℕ) (s t a b c d : List ℕ) → a ≡ [] → b ≡ a ++ f ∷ [] → c ≡ b ++ s → d ≡ c ++ t → d ≡ f ∷ (s ++ t)
 grouped f s t a b c d p q r w = w ∙ ap (λ x. x ++ t) (r ∙ ap (λ x. x ++ s) (q ∙ ap (λ x. x ++ f ∷ []) p))
@@ -21,9 +19,10 @@ pub distinct_rises : (ys zs : List ℕ) → IsSorted nat_cmp ys → zs ≡ dedup
 distinct_rises ys zs s e = subst (λ (l : List ℕ). IsStrictlyIncreasing l) (sym e) (IsStrictlyIncreasing-dedup ys s)
 
 pub distinct_each : (xs ys zs : List ℕ) → IsPermutation xs ys → zs ≡ dedup nat_eq ys → (t : ℕ) → Contains zs t ↔ Contains xs t
-distinct_each xs ys zs m e t =
-    ( λ c. Contains-permutation ys xs t (IsPermutation-sym xs ys m) (Contains-from_dedup nat_eq ys t (subst (λ (l : List ℕ). Contains l t) e c))
-    , λ c. subst (λ (l : List ℕ). Contains l t) (sym e) (Contains-dedup_nat ys t (Contains-permutation xs ys t m c)) )
+distinct_each xs ys zs m e t = (
+  λ c. Contains-permutation ys xs t (IsPermutation-sym xs ys m) (Contains-from_dedup nat_eq ys t (subst (λ (l : List ℕ). Contains l t) e c)),
+  λ c. subst (λ (l : List ℕ). Contains l t) (sym e) (Contains-dedup_nat ys t (Contains-permutation xs ys t m c)),
+)
 
 pub are_boundaries : (list : List Posting) (horizon f : ℕ) (s t s' t' times : List ℕ) → f ≡ horizon → s ≡ map (λ (p : Posting). p.span.from) list → t ≡ map (λ (p : Posting). p.span.to) list → s' ≡ s → t' ≡ t
     → IsStrictlyIncreasing times → ((x : ℕ) → Contains times x ↔ Contains (f ∷ (s' ++ t')) x) → AreBoundaries list horizon times

@@ -31,6 +31,7 @@ least_more table j m k least a e l is s = go (cases_lt least a)
     below : (i : ℕ) → m ≤ i → i < k → ((m < i) ⊎ (i ≤ m)) → min least a ≤ alive_in table i
     below i b c (inl h) = omega (arith, s.below i (omega arith) c)
     below i b c (inr h) = let q : m ≡ i = omega arith in subst (λ n. min least a ≤ alive_in table n) q (omega arith)
+
     go : ((least < a) ⊎ (a ≤ least)) → IsLeastAlive table m k (min least a)
     go (inl h) = record { place = s.place; from = omega (arith, s.from); to = s.to; is = omega (arith, s.is); below = λ i b c. below i b c (cases_lt m i) }
     go (inr h) = record { place = m; from = omega arith; to = omega arith; is = omega arith; below = λ i b c. below i b c (cases_lt m i) }
@@ -40,6 +41,7 @@ least_so_far table j k least s = record { place = s.place; from = omega (arith, 
 
 -- within the factor of the least is admissible
 pub within_is : (table : Counts) (factor : Fraction) (j k least : ℕ) → IsLeastAlive table j k least → (size_between table j k * factor.under ≤ factor.over * least) ↔ AdmissibleBetween table factor j k
-within_is table factor j k least s =
-    ( λ h i a b. omega (arith, h, mul-le-mul_left factor.over (s.below i a b))
-    , λ adm. subst (λ n. size_between table j k * factor.under ≤ factor.over * n) s.is (adm s.place s.from s.to) )
+within_is table factor j k least s = (
+  λ h i a b. omega (arith, h, mul-le-mul_left factor.over (s.below i a b)),
+  λ adm. subst (λ n. size_between table j k * factor.under ≤ factor.over * n) s.is (adm s.place s.from s.to),
+)

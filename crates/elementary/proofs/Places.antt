@@ -61,6 +61,7 @@ apart xs up k x l c = go (place_of xs x c)
     split : (i : ℕ) → i < length xs → slice_index xs i ≡ x → (k < i) ⊎ (i ≤ k) → (x ≤ slice_index xs k) ⊎ (slice_index xs (k + 1) ≤ x)
     split i m e (inl lt) = inr (omega (arith, not_falling xs up (k + 1) i (omega arith) m))
     split i m e (inr ge) = inl (omega (arith, not_falling xs up i k ge (omega arith)))
+
     go : ((i : ℕ) × (i < length xs) × (slice_index xs i ≡ x)) → (x ≤ slice_index xs k) ⊎ (slice_index xs (k + 1) ≤ x)
     go (i, m, e) = split i m e (cases_lt k i)
 
@@ -79,6 +80,7 @@ floor xs j (suc k) t lt le less = go (λ below h. floor xs j k t below le h) (ca
   where
     wider : ((i : ℕ) × (j ≤ i) × (i < k) × (slice_index xs i ≤ t) × (t < slice_index xs (i + 1))) → (i : ℕ) × (j ≤ i) × (i < suc k) × (slice_index xs i ≤ t) × (t < slice_index xs (i + 1))
     wider (i, a, b, c, d) = (i, a, omega arith, c, d)
+
     go : (j < k → t < slice_index xs k → (i : ℕ) × (j ≤ i) × (i < k) × (slice_index xs i ≤ t) × (t < slice_index xs (i + 1)))
         → ((t < slice_index xs k) ⊎ (slice_index xs k ≤ t)) → ((j < k) ⊎ (k ≤ j)) → (i : ℕ) × (j ≤ i) × (i < suc k) × (slice_index xs i ≤ t) × (t < slice_index xs (i + 1))
     go lower (inl h) (inl below) = wider (lower below h)

@@ -20,12 +20,14 @@ use Rattle.elementary.proofs.Places.{rises, not_falling, place_of, contains_map,
 
 -- the ends of each posting are boundaries
 pub ends_in : (list : List Posting) (horizon : ℕ) (times : List ℕ) → AreBoundaries list horizon times → All (λ p. Contains times p.span.from × Contains times p.span.to) list
-ends_in list horizon times b i d l =
-    ( (b.each _).1 (Contains-append_right (horizon ∷ []) (starts ++ stops) _ (Contains-append_left starts stops _ (contains_map (λ (p : Posting). p.span.from) list i d l)))
-    , (b.each _).1 (Contains-append_right (horizon ∷ []) (starts ++ stops) _ (Contains-append_right starts stops _ (contains_map (λ (p : Posting). p.span.to) list i d l))) )
+ends_in list horizon times b i d l = (
+  (b.each _).1 (Contains-append_right (horizon ∷ []) (starts ++ stops) _ (Contains-append_left starts stops _ (contains_map (λ (p : Posting). p.span.from) list i d l))),
+  (b.each _).1 (Contains-append_right (horizon ∷ []) (starts ++ stops) _ (Contains-append_right starts stops _ (contains_map (λ (p : Posting). p.span.to) list i d l))),
+)
   where
     starts : List ℕ
     starts = map (λ (p : Posting). p.span.from) list
+
     stops : List ℕ
     stops = map (λ (p : Posting). p.span.to) list
 
@@ -40,7 +42,7 @@ pub alive_is : (list : List Posting) (horizon : ℕ) (times : List ℕ) → AreB
     → alive_count t list ≡ size (slice_index times k) (slice_index times (k + 1)) list
 alive_is list horizon times b k t l le lt =
     sum_same (λ (p : Posting). cond (holds t p) 1 0) (λ (p : Posting). cond (meets (slice_index times k) (slice_index times (k + 1)) p) 1 0) list
-        (λ i d m. alive_one _ _ t _ _ le lt (apart times b.ascending k _ l (ends_in list horizon times b i d m).0) (apart times b.ascending k _ l (ends_in list horizon times b i d m).1))
+    (λ i d m. alive_one _ _ t _ _ le lt (apart times b.ascending k _ l (ends_in list horizon times b i d m).0) (apart times b.ascending k _ l (ends_in list horizon times b i d m).1))
 
 pub count_at : (f : ℕ → ℕ) (xs ys : List ℕ) → ys ≡ map f xs → (k : ℕ) → k < length xs → slice_index ys k ≡ f (slice_index xs k)
 count_at f xs ys e k l = ap (λ zs. slice_index zs k) e ∙ get_or-map f xs k 0 0 l
@@ -49,8 +51,12 @@ count_at f xs ys e k l = ap (λ zs. slice_index zs k) e ∙ get_or-map f xs k 0 
 pub size_is : (list : List Posting) (horizon : ℕ) (table : Counts) → Tabulates list horizon table → (j k : ℕ) → j < k → k < length table.boundaries
     → size_between table j k ≡ size (slice_index table.boundaries j) (slice_index table.boundaries k) list
 size_is list horizon table t j k lt l =
-    omega (arith, size_ended list (slice_index table.boundaries j) (slice_index table.boundaries k) (rises table.boundaries t.boundaries.ascending j k lt l),
-        count_at (λ x. begun x list) table.boundaries table.begun t.begun k l, count_at (λ x. ended x list) table.boundaries table.ended t.ended j (omega arith))
+    omega (
+      arith,
+      size_ended list (slice_index table.boundaries j) (slice_index table.boundaries k) (rises table.boundaries t.boundaries.ascending j k lt l),
+      count_at (λ x. begun x list) table.boundaries table.begun t.begun k l,
+      count_at (λ x. ended x list) table.boundaries table.ended t.ended j (omega arith),
+    )
 
 pub alive_in_is : (list : List Posting) (horizon : ℕ) (table : Counts) → Tabulates list horizon table → (k t : ℕ) → k + 1 < length table.boundaries → slice_index table.boundaries k ≤ t → t < slice_index table.boundaries (k + 1)
     → alive_in table k ≡ alive_count t list
@@ -88,7 +94,7 @@ first_le times up x c = go (place_of times x c)
 pub none_ended : (list : List Posting) (horizon : ℕ) (times : List ℕ) → AreBoundaries list horizon times → ended (slice_index times 0) list ≡ 0
 none_ended list horizon times b =
     sum_none (λ (p : Posting). cond (nat_le p.span.to (slice_index times 0)) 1 0) list
-        (λ i d l. none_one _ _ _ (get_or list i d).span.ordered (first_le times b.ascending _ (ends_in list horizon times b i d l).0))
+    (λ i d l. none_one _ _ _ (get_or list i d).span.ordered (first_le times b.ascending _ (ends_in list horizon times b i d l).0))
 
 pub two_boundaries : (list : List Posting) (horizon : ℕ) (times : List ℕ) → AreBoundaries list horizon times → 0 < length list → 2 ≤ length times
 two_boundaries [] horizon times b some = absurd (omega (arith, some))
@@ -98,9 +104,9 @@ two_boundaries (p ∷ list) horizon times b some =
 pub times_to_horizon : (list : List Posting) (horizon : ℕ) (times : List ℕ) → AreBoundaries list horizon times → All (λ p. p.span.to ≤ horizon) list → All (λ x. x ≤ horizon) times
 times_to_horizon list horizon times b early i d l =
     All-contains (λ x. x ≤ horizon) (ends list horizon) _ (All-cons (λ x. x ≤ horizon) horizon _ (omega arith) (All-append (λ x. x ≤ horizon) _ _
-        (All-map (λ x. x ≤ horizon) (λ (p : Posting). p.span.from) list (λ j e m. let o : (get_or list j e).span.from < (get_or list j e).span.to = (get_or list j e).span.ordered in omega (arith, early j e m)))
-        (All-map (λ x. x ≤ horizon) (λ (p : Posting). p.span.to) list early)))
-        ((b.each _).0 (Contains-get_or times i d l))
+    (All-map (λ x. x ≤ horizon) (λ (p : Posting). p.span.from) list (λ j e m. let o : (get_or list j e).span.from < (get_or list j e).span.to = (get_or list j e).span.ordered in omega (arith, early j e m)))
+    (All-map (λ x. x ≤ horizon) (λ (p : Posting). p.span.to) list early)))
+    ((b.each _).0 (Contains-get_or times i d l))
 
 -- the last boundary is the horizon
 pub last_is_horizon : (list : List Posting) (horizon : ℕ) (times : List ℕ) → AreBoundaries list horizon times → All (λ p. p.span.to ≤ horizon) list → slice_index times (length times - 1) ≡ horizon
@@ -121,14 +127,18 @@ counts_ordered list horizon times started stopped some few h early b e f = recor
   ended_rises = IsNonDecreasingBy-from_default (λ x. x) stopped 0 (λ i j le l. omega (arith, n, by i (omega (arith, n)), by j (omega (arith, n)), ended_le list (slice_index times i) (slice_index times j) (not_falling times b.ascending i j le (omega (arith, n)))));
   paired = λ j k le l. omega (arith, at k l, by j (omega arith), ended_begun list (slice_index times j) (slice_index times k) (not_falling times b.ascending j k le l));
   none_ended = by 0 (omega (arith, two_boundaries list horizon times b some)) ∙ none_ended list horizon times b;
-  few = All-from_get_or (λ x. x < 2 ^ 38) started 0 (λ i l. omega (arith, at i (omega (arith, m)), count_by-le-length (λ (p : Posting). nat_lt p.span.from (slice_index times i)) list)) }
+  few = All-from_get_or (λ x. x < 2 ^ 38) started 0 (λ i l. omega (arith, at i (omega (arith, m)), count_by-le-length (λ (p : Posting). nat_lt p.span.from (slice_index times i)) list));
+}
   where
     m : length started ≡ length times
     m = ap length e ∙ length-map times (λ x. begun x list)
+
     n : length stopped ≡ length times
     n = ap length f ∙ length-map times (λ x. ended x list)
+
     at : (k : ℕ) → k < length times → slice_index started k ≡ begun (slice_index times k) list
     at k l = count_at (λ x. begun x list) times started e k l
+
     by : (k : ℕ) → k < length times → slice_index stopped k ≡ ended (slice_index times k) list
     by k l = count_at (λ x. ended x list) times stopped f k l
 
@@ -151,4 +161,4 @@ counts_from_admissible list horizon table factor t j k lt l adm i a b =
     let up = t.boundaries.ascending in
     let c : slice_index table.boundaries i < slice_index table.boundaries (i + 1) = rises table.boundaries up i (i + 1) (omega arith) (omega arith) in
     same_bound _ _ _ _ factor.under factor.over (sym (size_is list horizon table t j k lt l)) (sym (alive_in_is list horizon table t i (slice_index table.boundaries i) (omega arith) (omega arith) c))
-        (adm (slice_index table.boundaries i) (not_falling table.boundaries up j i a (omega arith)) (rises table.boundaries up i k b l))
+    (adm (slice_index table.boundaries i) (not_falling table.boundaries up j i a (omega arith)) (rises table.boundaries up i k b l))

@@ -34,6 +34,7 @@ floor_to xs t (suc n) le = go (floor_to xs t n le) (cases_lt t (slice_index xs (
     last : (j : ℕ) → ((k : ℕ) → j < k → k ≤ n → t < slice_index xs k) → t < slice_index xs (suc n) → (k : ℕ) → j < k → k ≤ suc n → ((k < suc n) ⊎ (suc n ≤ k)) → t < slice_index xs k
     last j up h k a b (inl s) = up k a (omega arith)
     last j up h k a b (inr s) = let e : suc n ≡ k = omega arith in subst (λ m. t < slice_index xs m) e h
+
     go : ((j : ℕ) × (j ≤ n) × (slice_index xs j ≤ t) × ((k : ℕ) → j < k → k ≤ n → t < slice_index xs k)) → ((t < slice_index xs (suc n)) ⊎ (slice_index xs (suc n) ≤ t))
         → (j : ℕ) × (j ≤ suc n) × (slice_index xs j ≤ t) × ((k : ℕ) → j < k → k ≤ suc n → t < slice_index xs k)
     go (j, l, at, up) (inl h) = (j, omega arith, at, λ k a b. last j up h k a b (cases_lt k (suc n)))
@@ -52,6 +53,7 @@ above_floor xs t j x up f c = go (place_of xs x c)
     split : (i : ℕ) → i < length xs → slice_index xs i ≡ x → ((j < i) ⊎ (i ≤ j)) → (x ≤ slice_index xs j) ⊎ (t < x)
     split i l e (inl lt) = inr (subst (λ y. t < y) e (f.above i lt l))
     split i l e (inr ge) = inl (omega (arith, not_falling xs up i j ge f.inside))
+
     go : ((i : ℕ) × (i < length xs) × (slice_index xs i ≡ x)) → (x ≤ slice_index xs j) ⊎ (t < x)
     go (i, l, e) = split i l e (cases_lt j i)
 
@@ -64,7 +66,7 @@ size_lowered : (list : List Posting) (horizon : ℕ) (times : List ℕ) → AreB
     → size (slice_index times j) (slice_index times k) list ≤ size f g list
 size_lowered list horizon times b f g j k p q =
     sum_le (λ (r : Posting). bit (meets (slice_index times j) (slice_index times k) r)) (λ (r : Posting). bit (meets f g r)) list
-        (λ i d l. size_one _ _ f g _ _ q.at p.at (above_floor times f j _ b.ascending p (ends_in list horizon times b i d l).1))
+    (λ i d l. size_one _ _ f g _ _ q.at p.at (above_floor times f j _ b.ascending p (ends_in list horizon times b i d l).1))
 
 alive_one : (a f t x y : ℕ) → a ≤ t → t ≤ f → (x ≤ a) ⊎ (f < x) → bit (nat_le x f && nat_lt f y) ≤ bit (nat_le x t && nat_lt t y)
 alive_one a f t x y l m (inl h) = grind (arith, nat_tests)
@@ -73,7 +75,7 @@ alive_one a f t x y l m (inr h) = grind (arith, nat_tests)
 alive_lowered : (list : List Posting) (horizon : ℕ) (times : List ℕ) → AreBoundaries list horizon times → (f t j : ℕ) → IsFloor times f j → slice_index times j ≤ t → t ≤ f → alive_count f list ≤ alive_count t list
 alive_lowered list horizon times b f t j p l m =
     sum_le (λ (r : Posting). bit (holds f r)) (λ (r : Posting). bit (holds t r)) list
-        (λ i d h. alive_one _ f t _ _ l m (above_floor times f j _ b.ascending p (ends_in list horizon times b i d h).0))
+    (λ i d h. alive_one _ f t _ _ l m (above_floor times f j _ b.ascending p (ends_in list horizon times b i d h).0))
 
 bound_lowered : (s r a b u o : ℕ) → r ≤ s → a ≤ b → s * u ≤ o * a → r * u ≤ o * b
 bound_lowered s r a b u o e f h = omega (arith, mul-le-mul_right u e, mul-le-mul_left o f)
@@ -93,6 +95,7 @@ floor_is times up f j e p l h = go (cases_lt j e)
   where
     below : j ≤ e
     below = place_to times up j e p.inside (omega (arith, p.at))
+
     go : ((j < e) ⊎ (e ≤ j)) → j ≡ e
     go (inl lt) = absurd (omega (arith, p.above e lt l))
     go (inr ge) = omega (arith, below)

@@ -7,11 +7,9 @@
 //! and the checker meet, stand here too.
 #![tactic(auto)]
 
-
 mod partition;
 mod sorting;
 mod table;
-
 
 pub use partition::{Partition, is_within};
 pub use table::Table;

@@ -90,15 +90,26 @@ pub(crate) fn place_among(numbers: &[u64], t: u64) -> usize
 }
 
 /// For each time, how many of the ascending numbers are below it.
-pub(crate) fn counts_below(alloc: Global, numbers: &[u64], times: &[u64]) -> Result<Vec<u64>, AllocError>
+pub(crate) fn counts_below(
+    alloc: Global,
+    numbers: &[u64],
+    times: &[u64],
+) -> Result<Vec<u64>, AllocError>
     requires { IsNonDecreasing numbers.now }
     ensures { IfOk result (λ v. v.items ≡ map (λ t. count_by (λ x. nat_lt x t) numbers.now) times.now) }
 {
-    times.iter().map(|t| count_below(numbers, *t)).collect(alloc)
+    times
+        .iter()
+        .map(|t| count_below(numbers, *t))
+        .collect(alloc)
 }
 
 /// For each time, how many of the ascending numbers are at most it.
-pub(crate) fn counts_to(alloc: Global, numbers: &[u64], times: &[u64]) -> Result<Vec<u64>, AllocError>
+pub(crate) fn counts_to(
+    alloc: Global,
+    numbers: &[u64],
+    times: &[u64],
+) -> Result<Vec<u64>, AllocError>
     requires { IsNonDecreasing numbers.now }
     ensures { IfOk result (λ v. v.items ≡ map (λ t. count_by (λ x. nat_le x t) numbers.now) times.now) }
 {
@@ -106,7 +117,12 @@ pub(crate) fn counts_to(alloc: Global, numbers: &[u64], times: &[u64]) -> Result
 }
 
 /// The distinct numbers among `first`, the starts and the stops, ascending.
-pub(crate) fn distinct(alloc: Global, first: u64, starts: &[u64], stops: &[u64]) -> Result<Vec<u64>, AllocError>
+pub(crate) fn distinct(
+    alloc: Global,
+    first: u64,
+    starts: &[u64],
+    stops: &[u64],
+) -> Result<Vec<u64>, AllocError>
     ensures ascending { IfOk result (λ v. IsStrictlyIncreasing v.items) }
     ensures each { IfOk result (λ v. (t : ℕ) → Contains v.items t ↔ Contains (first ∷ (starts.now ++ stops.now)) t) }
 {

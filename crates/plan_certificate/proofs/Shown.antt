@@ -25,7 +25,8 @@ some_time list horizon times b = go (place_of times horizon ((b.each horizon).1 
 pub first_is : (list : List Posting) (horizon : ℕ) (times : List ℕ) → AreBoundaries list horizon times → IsFirst list horizon (slice_index times 0)
 first_is list horizon times b = record {
   is = (b.each _).0 (Contains-get_or times 0 0 (some_time list horizon times b));
-  none_before = λ t c. first_le times b.ascending t ((b.each t).1 c) }
+  none_before = λ t c. first_le times b.ascending t ((b.each t).1 c);
+}
 
 pub certificate_shows_least : CertificateShowsLeast
 certificate_shows_least list factor times pi cuts horizon c = record {
@@ -35,8 +36,13 @@ certificate_shows_least list factor times pi cuts horizon c = record {
   least = λ other p.
       let e : slice_index times (length times - 1) ≡ horizon = last_is_horizon list horizon times c.times_are c.early in
       let b : AreBounds list factor horizon times pi = record { times_are = c.times_are; edges = c.edges } in
-      omega (arith, c.total, paths_cost list factor horizon times pi b c.starts other (length times - 1) (omega (arith, some_time list horizon times c.times_are))
-          (subst (λ h. Covers list factor (slice_index times 0) other h) (sym e) p)) }
+      omega (
+        arith,
+        c.total,
+        paths_cost list factor horizon times pi b c.starts other (length times - 1) (omega (arith, some_time list horizon times c.times_are))
+            (subst (λ h. Covers list factor (slice_index times 0) other h) (sym e) p),
+      );
+}
 
 -- the edges by counts are those by sizes
 pub edges_from : (list : List Posting) (horizon : ℕ) (table : Counts) (factor : Fraction) (pi : List ℕ) → Tabulates list horizon table → length pi ≡ length table.boundaries → EdgesBelow table factor pi (length pi)
@@ -58,17 +64,22 @@ refused P n = (λ e. cc, λ p. absurd (n p))
 pub certified : (list : List Posting) (horizon : ℕ) (table : Counts) (factor : Fraction) (pi cuts : List ℕ) (b : Bool) → Tabulates list horizon table → length pi ≡ length table.boundaries → IsFitting table.boundaries cuts → slice_index pi 0 ≡ 0
     → EdgesBelow table factor pi (length pi) → Covers list factor (slice_index cuts 0) (drop 1 cuts) horizon → (IsTrue b ↔ (slice_index pi (length pi - 1) ≡ space list (slice_index cuts 0) (drop 1 cuts)))
     → IsTrue b ↔ CertifiesCuts list factor table.boundaries pi cuts horizon
-certified list horizon table factor pi cuts b t long fits starts edges covers last =
-    ( λ e. record { fits = fits; certifies = record {
-        times_are = t.boundaries;
-        early = t.early;
-        at_boundaries = All-drop (IsBoundary list horizon) 1 cuts (λ k d l. (t.boundaries.each _).0 (fits.inside k d l));
-        covers = subst (λ f. Covers list factor f (drop 1 cuts) horizon) fits.first covers;
-        long = long;
-        starts = starts;
-        edges = edges_from list horizon table factor pi t long edges;
-        total = ap (λ n. slice_index pi (n - 1)) (sym long) ∙ (last.0 e ∙ ap (λ f. space list f (drop 1 cuts)) fits.first) } }
-    , λ c. last.1 (ap (λ n. slice_index pi (n - 1)) long ∙ (c.certifies.total ∙ ap (λ f. space list f (drop 1 cuts)) (sym fits.first))) )
+certified list horizon table factor pi cuts b t long fits starts edges covers last = (
+  λ e. record {
+    fits = fits;
+    certifies = record {
+      times_are = t.boundaries;
+      early = t.early;
+      at_boundaries = All-drop (IsBoundary list horizon) 1 cuts (λ k d l. (t.boundaries.each _).0 (fits.inside k d l));
+      covers = subst (λ f. Covers list factor f (drop 1 cuts) horizon) fits.first covers;
+      long = long;
+      starts = starts;
+      edges = edges_from list horizon table factor pi t long edges;
+      total = ap (λ n. slice_index pi (n - 1)) (sym long) ∙ (last.0 e ∙ ap (λ f. space list f (drop 1 cuts)) fits.first);
+    };
+  },
+  λ c. last.1 (ap (λ n. slice_index pi (n - 1)) long ∙ (c.certifies.total ∙ ap (λ f. space list f (drop 1 cuts)) (sym fits.first))),
+)
 
 pub least_cuts : (list : List Posting) (factor : Fraction) (times pi cuts : List ℕ) (horizon : ℕ) → CertifiesCuts list factor times pi cuts horizon → IsLeast list factor (slice_index cuts 0) (drop 1 cuts) horizon
 least_cuts list factor times pi cuts horizon c = subst (λ f. IsLeast list factor f (drop 1 cuts) horizon) (sym c.fits.first) (certificate_shows_least list factor times pi (drop 1 cuts) horizon c.certifies)

@@ -24,7 +24,9 @@ fn edges_to(table: &Table, factor: Fraction, pi: &[u64], k: usize) -> bool
         j -= 1;
         least = least.min(table.alive(j));
         let size = table.size(j, k);
-        if is_within(size, factor, least) && u128::from(pi[j]) + u128::from(size) < u128::from(pi[k]) {
+        if is_within(size, factor, least)
+            && u128::from(pi[j]) + u128::from(size) < u128::from(pi[k])
+        {
             return false;
         }
     }
@@ -68,7 +70,12 @@ fn numbers_certify(table: &Table, factor: Fraction, partition: &Partition, pi: &
 
 /// Whether the certificate shows that the partition is least for the factor, of the list that the table
 /// is of. Takes no memory, and time in the square of the boundaries.
-pub fn check(table: &Table, factor: Fraction, partition: &Partition, certificate: &Certificate) -> bool
+pub fn check(
+    table: &Table,
+    factor: Fraction,
+    partition: &Partition,
+    certificate: &Certificate,
+) -> bool
     ensures exact { (list : List Posting) (horizon : ℕ) → Tabulates list horizon table.now → (IsTrue result ↔ CertifiesCuts list factor table.now.boundaries certificate.now partition.now horizon) }
     ensures least { (list : List Posting) (horizon : ℕ) → Tabulates list horizon table.now → IsTrue result → IsLeast list factor (slice_index partition.now 0) (drop 1 partition.now) horizon }
 {
@@ -79,5 +86,4 @@ pub fn check(table: &Table, factor: Fraction, partition: &Partition, certificate
 /// nothing when it runs.
 pub fn certificate_shows_least()
     ensures { CertificateShowsLeast }
-{
-}
+{}

@@ -9,4 +9,5 @@ abbrev pub invariant-loop-k : goal.invariant-loop-k
 invariant-loop-k l = record {
   some : 1 ≤ l.k;
   left : (list : List Posting) (horizon : ℕ) → Tabulates list horizon l.table
-      → Covers list l.factor (slice_index l.cuts (l.k - 1)) (drop l.k l.cuts) (slice_index l.cuts (length l.cuts - 1)) ↔ Covers list l.factor (slice_index l.cuts 0) (drop 1 l.cuts) (slice_index l.cuts (length l.cuts - 1)) }
+      → Covers list l.factor (slice_index l.cuts (l.k - 1)) (drop l.k l.cuts) (slice_index l.cuts (length l.cuts - 1)) ↔ Covers list l.factor (slice_index l.cuts 0) (drop 1 l.cuts) (slice_index l.cuts (length l.cuts - 1));
+}

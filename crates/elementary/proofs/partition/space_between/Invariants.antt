@@ -10,4 +10,5 @@ invariant-loop-k l = record {
   some : 1 ≤ l.k;
   left : (list : List Posting) (horizon : ℕ) → Tabulates list horizon l.table
       → l.total + space list (slice_index l.cuts (l.k - 1)) (drop l.k l.cuts) ≡ space list (slice_index l.cuts 0) (drop 1 l.cuts);
-  bound : l.total ≤ (l.k - 1) * 2 ^ 38 }
+  bound : l.total ≤ (l.k - 1) * 2 ^ 38;
+}

@@ -6,5 +6,5 @@ use Rattle.elementary.proofs.sorting.count_to.Goals as goal
 pub returns : goal.returns
 returns c =
     count_split (λ x. nat_le x c.args.t) c.args.numbers.now c.partition_point.result c.partition_point.ensures.bound
-        (IsPartitionPoint-from_clause (λ x. nat_le x c.args.t) c.args.numbers.now c.partition_point.result c.partition_point.ensures.partitioned
-            (IsPartitionedBy-leb (λ x. x) c.args.numbers.now c.args.t c.requires) (λ a r q k. search rules))
+    (IsPartitionPoint-from_clause (λ x. nat_le x c.args.t) c.args.numbers.now c.partition_point.result c.partition_point.ensures.partitioned
+    (IsPartitionedBy-leb (λ x. x) c.args.numbers.now c.args.t c.requires) (λ a r q k. search rules))

@@ -8,7 +8,7 @@ use Rattle.elementary.proofs.sorting.first_after.Goals as goal
 point : (c : goal.After-partition_point) → IsPartitionPoint (λ y. nat_le y c.args.t ≡ true) (λ y. nat_le y c.args.t ≡ false) c.args.numbers.now c.partition_point.result
 point c =
     IsPartitionPoint-from_clause (λ x. nat_le x c.args.t) c.args.numbers.now c.partition_point.result c.partition_point.ensures.partitioned
-        (IsPartitionedBy-leb (λ x. x) c.args.numbers.now c.args.t (not_falling_by c.args.numbers.now c.requires)) (λ a r q k. search rules)
+    (IsPartitionedBy-leb (λ x. x) c.args.numbers.now c.args.t (not_falling_by c.args.numbers.now c.requires)) (λ a r q k. search rules)
 
 pub returns-clause-below : goal.returns-clause-below
 returns-clause-below c k l = le_from _ _ ((point c).0 k 0 (omega arith) l)

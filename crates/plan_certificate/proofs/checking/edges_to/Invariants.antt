@@ -10,4 +10,5 @@ abbrev pub invariant-loop-j : goal.invariant-loop-j
 invariant-loop-j l = record {
   inside : l.j ≤ l.k;
   least : IsLeastSoFar l.table l.j l.k l.least;
-  edges : (i : ℕ) → l.j ≤ i → i < l.k → IsEdge l.table l.factor l.pi i l.k }
+  edges : (i : ℕ) → l.j ≤ i → i < l.k → IsEdge l.table l.factor l.pi i l.k;
+}
