@@ -1,0 +1,3 @@
+pub mod BestLeft
+pub mod Settling
+pub mod Ways

@@ -1,0 +1,80 @@
+//! The numbers at the boundaries, and the way back along their best last segments.
+ghost use Rattle.std.specs.Prelude.{◌≡◌, ℕ, ◌+◌, ◌-◌, ◌*◌, ◌<◌, ◌≤◌, ◌^◌, List, length, slice_index, IfOk};
+ghost use Rattle.guarantee_planner.specs.Steps.{IsBestLeft, AreSettled, IsWay};
+
+use elementary::{Table, is_within};
+use std::alloc::{AllocError, Global};
+use time_base::Fraction;
+
+/// The left end of the best last segment that ends at boundary `k`.
+fn best_left(table: &Table, factor: Fraction, pi: &[u64], k: usize) -> usize
+    requires some { 0 < k }
+    requires inside { k < length table.now.boundaries }
+    requires settled { k ≤ length pi.now }
+    requires small { (j : ℕ) → j < k → slice_index pi.now j < 2 ^ 62 }
+    ensures { IsBestLeft table.now factor pi.now k result }
+{
+    let mut left = k - 1;
+    let mut best = pi[left] + table.size(left, k);
+    let mut least = table.alive(left);
+    let mut j = left;
+    while j > 0 {
+        j -= 1;
+        least = least.min(table.alive(j));
+        let size = table.size(j, k);
+        let cost = pi[j] + size;
+        if is_within(size, factor, least) && cost < best {
+            best = cost;
+            left = j;
+        }
+    }
+    left
+}
+
+/// The least space up to each boundary, and the left end of the last segment of a partition that takes
+/// it.
+pub(crate) struct Settled {
+    pub(crate) pi: Vec<u64>,
+    pub(crate) lefts: Vec<usize>,
+}
+
+/// The numbers at all boundaries.
+pub(crate) fn settle(alloc: Global, table: &Table, factor: Fraction) -> Result<Settled, AllocError>
+    requires { length table.now.boundaries ≤ 2 ^ 20 }
+    ensures { IfOk result (λ s. AreSettled table.now factor s.pi.items s.lefts.items (length table.now.boundaries)) }
+{
+    let boundaries = table.boundaries().len();
+    let mut pi = Vec::new(alloc);
+    let mut lefts = Vec::new(alloc);
+    pi.push(0)?;
+    lefts.push(0)?;
+    for k in 1..boundaries {
+        let left = best_left(table, factor, &pi, k);
+        let number = pi[left] + table.size(left, k);
+        pi.push(number)?;
+        lefts.push(left)?;
+    }
+    Ok(Settled { pi, lefts })
+}
+
+/// The times of the way back from the last boundary by left ends, in ascending order.
+pub(crate) fn cuts_back(
+    alloc: Global,
+    times: &[u64],
+    lefts: &[usize],
+) -> Result<Vec<u64>, AllocError>
+    requires some { 0 < length times.now }
+    requires long { length lefts.now ≡ length times.now }
+    requires falling { (k : ℕ) → 0 < k → k < length lefts.now → slice_index lefts.now k < k }
+    ensures { IfOk result (λ v. IsWay times.now lefts.now 0 (length times.now - 1) v.items) }
+{
+    let mut at = times.len() - 1;
+    let mut cuts = Vec::new(alloc);
+    cuts.push(times[at])?;
+    while at > 0 {
+        at = lefts[at];
+        cuts.push(times[at])?;
+    }
+    cuts.reverse();
+    Ok(cuts)
+}
