@@ -1,6 +1,8 @@
 //! The files as the disk.
-ghost use Rattle.std.specs.Prelude.{◌≡◌, ◌≤◌, OnErr};
-ghost use Rattle.machine_model.specs.Causes.{Rose};
+ghost use Rattle.std.specs.Prelude.{◌≡◌, ◌≤◌, true, OnOk, OnErr};
+ghost use Rattle.machine_model.specs.Causes.{Rose, HasCause};
+ghost use Rattle.tt_archive.specs.Telling.{OnlyDisk};
+ghost use Rattle.tt_archive.specs.Meaning.{meaning, disk_state};
 
 use crate::machine::FileMachine;
 use machine_model::{Area, Disk, Failed};
@@ -58,7 +60,16 @@ impl<F: FileExt + Seek + OpenFile, I: Read, O: Write> Disk for FileMachine<F, I,
         self.counted(written)
     }
 
-    fn sync(&mut self) -> Result<(), Failed> {
+    fn sync(&mut self) -> Result<(), Failed>
+        ensures only { OnlyDisk (meaning self.old) (meaning self.new) }
+        ensures cause { HasCause (disk_state self.old).faults (disk_state self.new).faults result }
+        ensures reach { (disk_state self.new).reach ≡ (disk_state self.old).reach }
+
+        // exactly
+        ensures journal { OnOk result (self.new.store.journal.is_synced ≡ true) }
+        ensures pages { OnOk result (self.new.store.pages.is_synced ≡ true) }
+        ensures folder { OnOk result (self.new.store.is_folder_synced ≡ true) }
+    {
         let synced = self.store.sync();
         self.counted(synced)
     }
