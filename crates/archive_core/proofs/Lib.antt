@@ -1,4 +1,5 @@
 pub mod PlaceLemmas
+pub mod TextLemmas
 pub mod AddLemmas
 pub mod HeadLemmas
 pub mod ReplayLemmas
