@@ -1,2 +1,4 @@
-pub mod Queries
 pub mod Answers
+pub mod Laws
+pub mod Queries
+pub mod Rows
