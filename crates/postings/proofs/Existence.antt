@@ -1,41 +1,30 @@
 -- Each frequency has a list: one posting a time, put before one another from the last document and time down, and then
 -- shortened.
-use Rattle.std.specs.Prelude.{◌≡◌, ◌⊎◌, ℕ, zero, suc, ◌+◌, ◌^◌, ◌<◌, ◌≤◌, ◌&&◌, Bool, true, false, cond, nat_le, nat_lt, List, [], ◌∷◌, get_or, refl}
+use Rattle.std.specs.Prelude.{◌≡◌, ◌⊎◌, ℕ, zero, suc, ◌+◌, ◌^◌, ◌<◌, ◌≤◌, ◌==◌, ◌&&◌, ◌||◌, Bool, true, false, cond, nat_le, nat_lt, List, [], ◌∷◌, get_or, refl}
 use Rattle.std.proofs.Common.{arith, ap, sym, ◌∙◌, subst, inl, inr}
-use Rattle.std.proofs.lemmas.Bool.{cases_eq, cases_lt, cases_order}
+use Rattle.std.proofs.lemmas.Bool.{cases_lt}
 use Rattle.std.proofs.lemmas.Bool.Decides.{nat_tests}
 use Rattle.std.proofs.lemmas.List.Elements.{Contains-get_or}
 use Rattle.time_base.specs.declared.posting.Posting.{Posting}
 use Rattle.postings.specs.Lists.{ComesBefore, IsList, frequency}
 use Rattle.postings.specs.ListsOf.{IsListOf}
 use Rattle.postings.proofs.Order.{Heads, next-cons}
-use Rattle.postings.proofs.Frequencies.{frequency-here, frequency-skip}
+use Rattle.postings.proofs.Frequencies.{is_row, frequency-here}
 use Rattle.postings.proofs.Coalesced.{shorten}
 use Rattle.postings.proofs.Windows.{lies-inside}
 
--- document e at the time t is before document d at the time s
-abbrev pub IsSooner : ℕ → ℕ → ℕ → ℕ → Type 0
-IsSooner d s e t = (e < d) ⊎ ((e ≡ d) × (t < s))
+-- g from document d at the time s on, and 0 sooner
+abbrev pub from : (ℕ → ℕ → ℕ) → ℕ → ℕ → ℕ → ℕ → ℕ
+from g d s e t = cond (nat_lt d e || (d == e && nat_le s t)) (g e t) 0
 
--- the list has g's frequency from document d at the time s on, and nothing sooner
+-- the list has that frequency
 pub record IsFrom (g : ℕ → ℕ → ℕ) (d s : ℕ) (list : List Posting) : Type 0 where
   pub ordered : IsList list
-  pub same : (e t : ℕ) → ¬ (IsSooner d s e t) → frequency e t list ≡ g e t
-  pub none : (e t : ℕ) → IsSooner d s e t → frequency e t list ≡ 0
+  pub rows : (e t : ℕ) → frequency e t list ≡ from g d s e t
 
--- the same list one time sooner, where g is 0 there
-same-list : (g : ℕ → ℕ → ℕ) (d s : ℕ) (list : List Posting) → g d s ≡ 0 → IsFrom g d (s + 1) list → IsFrom g d s list
-same-list g d s list z h = record {
-  ordered = h.ordered;
-  same = λ e t n. elim (cases_eq e d) [
-    | inr k ↦ h.same e t (λ x. elim x [ inl y ↦ n (inl y) | inr y ↦ k y.0 ])
-    | inl k ↦ elim (cases_eq t s) [
-      | inr m ↦ h.same e t (λ x. elim x [ inl y ↦ n (inl y) | inr y ↦ n (inr (k, omega (arith, y.1, m))) ])
-      | inl m ↦ h.none e t (inr (k, omega (arith, m))) ∙ sym (ap (λ x. g x t) k ∙ ap (g d) m ∙ z)
-    ]
-  ];
-  none = λ e t x. h.none e t (elim x [ inl y ↦ inl y | inr y ↦ inr (y.0, omega (arith, y.1)) ]);
-}
+-- it has it from another place on too, where that is the same
+moved : (g : ℕ → ℕ → ℕ) (d s k r : ℕ) (list : List Posting) → ((e t : ℕ) → from g d s e t ≡ from g k r e t) → IsFrom g d s list → IsFrom g k r list
+moved g d s k r list w h = record { ordered = h.ordered; rows = λ e t. h.rows e t ∙ w e t }
 
 -- a posting of one time
 unit : (d s n : ℕ) → d < 2 ^ 32 → s < 2 ^ 40 → 0 < n → n < 2 ^ 32 → (p : Posting) × (p.doc.0 ≡ d) × (p.span.from ≡ s) × (p.span.to ≡ s + 1) × (p.tf ≡ n)
@@ -57,36 +46,20 @@ unit d s n a b x y = (
 -- a posting of one time stands before a list of what comes later
 unit-before : (g : ℕ → ℕ → ℕ) (d s : ℕ) (p : Posting) (list : List Posting) → p.doc.0 ≡ d → p.span.to ≡ s + 1 → IsFrom g d (s + 1) list → Heads ComesBefore p list
 unit-before g d s p [] a b h = tt
-unit-before g d s p (q ∷ list) a b h = elim (cases_order d q.doc.0) [
-  | inl k ↦ elim (cases_lt q.span.from (s + 1)) [
-    | inl m ↦ absurd (never (inr (sym k, m)))
-    | inr m ↦ inr (a ∙ k, omega (arith, b, m))
-  ]
-  | inr o ↦ elim o [ inl k ↦ inl (omega (arith, a, k)) | inr k ↦ absurd (never (inl k)) ]
-]
-  where
-    never : IsSooner d (s + 1) q.doc.0 q.span.from → ⊥
-    never x = omega (arith, h.none q.doc.0 q.span.from x, frequency-here q.doc.0 q.span.from q list refl (omega arith) q.span.ordered, q.counted)
+unit-before g d s p (q ∷ list) a b h =
+    let some : from g d (s + 1) q.doc.0 q.span.from ≡ q.tf = sym (h.rows q.doc.0 q.span.from) ∙ frequency-here q.doc.0 q.span.from q list refl (omega arith) q.span.ordered in
+    let positive = q.counted in
+    grind (arith, nat_tests)
 
--- the list one time sooner, where g isn't 0 there
+-- and the list begins with it one time sooner
 one-more : (g : ℕ → ℕ → ℕ) (d s : ℕ) (p : Posting) (list : List Posting) → p.doc.0 ≡ d → p.span.from ≡ s → p.span.to ≡ s + 1 → p.tf ≡ g d s → IsFrom g d (s + 1) list → IsFrom g d s (p ∷ list)
 one-more g d s p list a b c n h = record {
   ordered = next-cons ComesBefore p list (unit-before g d s p list a c h) h.ordered;
-  same = λ e t x. elim (cases_eq e d) [
-    | inr k ↦ skip e t (λ u. k (sym u ∙ a)) ∙ h.same e t (λ y. elim y [ inl z ↦ x (inl z) | inr z ↦ k z.0 ])
-    | inl k ↦ elim (cases_eq t s) [
-      | inr m ↦ frequency-skip e t p list (λ u v w. m (omega (arith, b, c, v, w))) ∙ h.same e t (λ y. elim y [ inl z ↦ x (inl z) | inr z ↦ x (inr (k, omega (arith, z.1, m))) ])
-      | inl m ↦ frequency-here e t p list (a ∙ sym k) (omega (arith, b, m)) (omega (arith, c, m)) ∙ n ∙ sym (ap (λ x. g x t) k ∙ ap (g d) m)
-    ]
-  ];
-  none = λ e t x. elim x [
-    | inl k ↦ skip e t (λ u. omega (arith, u, a, k)) ∙ h.none e t (inl k)
-    | inr k ↦ frequency-skip e t p list (λ u v w. omega (arith, b, v, k.1)) ∙ h.none e t (inr (k.0, omega (arith, k.1)))
-  ];
+  rows = λ e t. ap {B = ℕ} (λ m. cond (is_row e t p) p.tf m) (h.rows e t) ∙ more e t;
 }
   where
-    skip : (e t : ℕ) → (p.doc.0 ≡ e → ⊥) → frequency e t (p ∷ list) ≡ frequency e t list
-    skip e t n = frequency-skip e t p list (λ u v w. n u)
+    more : (e t : ℕ) → cond (is_row e t p) p.tf (from g d (s + 1) e t) ≡ from g d s e t
+    more e t = grind (arith, nat_tests)
 
 -- what of a frequency has postings: it is 0 from the end of the documents and of time on
 pub record IsBounded (g : ℕ → ℕ → ℕ) (D b : ℕ) : Type 0 where
@@ -96,10 +69,20 @@ pub record IsBounded (g : ℕ → ℕ → ℕ) (D b : ℕ) : Type 0 where
   pub none_of : (d t : ℕ) → D ≤ d → g d t ≡ 0
   pub none_at : (d t : ℕ) → b ≤ t → g d t ≡ 0
 
+-- where g has nothing
+nothing-there : (g : ℕ → ℕ → ℕ) (d s : ℕ) → g d s ≡ 0 → (e t : ℕ) → from g d (s + 1) e t ≡ from g d s e t
+nothing-there g d s z e t = grind (arith, nat_tests)
+
+nothing-late : (g : ℕ → ℕ → ℕ) (b d e t : ℕ) → (b ≤ t → g e t ≡ 0) → from g (d + 1) 0 e t ≡ from g d b e t
+nothing-late g b d e t z = grind (arith, nat_tests)
+
+nothing-after : (g : ℕ → ℕ → ℕ) (D e t : ℕ) → (D ≤ e → g e t ≡ 0) → 0 ≡ from g D 0 e t
+nothing-after g D e t z = grind (arith, nat_tests)
+
 -- one time sooner
 step : (g : ℕ → ℕ → ℕ) (D b d s : ℕ) (list : List Posting) → IsBounded g D b → IsFrom g d (s + 1) list → (l : List Posting) × IsFrom g d s l
 step g D b d s list i h = elim (cases_lt 0 (g d s)) [
-  | inr k ↦ (list, same-list g d s list (omega (arith, k)) h)
+  | inr k ↦ (list, moved g d (s + 1) d s list (nothing-there g d s (omega (arith, k))) h)
   | inl k ↦ let (p, x, y, z, n) = unit d s (g d s) (below d D 32 i.documents (λ m. omega (arith, k, i.none_of d s m))) (below s b 40 i.times (λ m. omega (arith, k, i.none_at d s m))) k (i.small d s) in (p ∷ list, one-more g d s p list x y z n h)
 ]
   where
@@ -111,35 +94,19 @@ times-down : (g : ℕ → ℕ → ℕ) (D b d s : ℕ) (list : List Posting) →
 times-down g D b d zero list i h = (list, h)
 times-down g D b d (suc s) list i h = let (l, k) = step g D b d s list i (subst (λ n. IsFrom g d n list) (omega arith) h) in times-down g D b d s l i k
 
--- before the first time of a document nothing is, up to the end of time of the one before it
-document-down : (g : ℕ → ℕ → ℕ) (D b d : ℕ) (list : List Posting) → IsBounded g D b → IsFrom g (d + 1) 0 list → IsFrom g d b list
-document-down g D b d list i h = record {
-  ordered = h.ordered;
-  same = λ e t x. elim (cases_lt e (d + 1)) [
-    | inl k ↦ h.none e t (inl k) ∙ sym (i.none_at e t (late e t x k))
-    | inr k ↦ h.same e t (λ y. elim y [ inl z ↦ omega (arith, k, z) | inr z ↦ omega (arith, z.1) ])
-  ];
-  none = λ e t x. h.none e t (inl (elim x [ inl y ↦ omega (arith, y) | inr y ↦ omega (arith, y.0) ]));
-}
-  where
-    late : (e t : ℕ) → ¬ (IsSooner d b e t) → e < d + 1 → b ≤ t
-    late e t x k = elim (cases_lt t b) [
-      | inr m ↦ m
-      | inl m ↦ absurd (elim (cases_lt e d) [ inl n ↦ x (inl n) | inr n ↦ x (inr (omega (arith, k, n), m)) ])
-    ]
-
 -- down to the first document
 documents-down : (g : ℕ → ℕ → ℕ) (D b d : ℕ) (list : List Posting) → IsBounded g D b → IsFrom g d 0 list → (l : List Posting) × IsFrom g 0 0 l
 documents-down g D b zero list i h = (list, h)
 documents-down g D b (suc d) list i h =
-    let (l, k) = times-down g D b d b list i (document-down g D b d list i (subst (λ n. IsFrom g n 0 list) (omega arith) h)) in documents-down g D b d l i k
+    let (l, k) = times-down g D b d b list i (moved g (d + 1) 0 d b list (λ e t. nothing-late g b d e t (i.none_at e t)) (subst (λ n. IsFrom g n 0 list) (omega arith) h)) in documents-down g D b d l i k
+
+-- from the first place on it is g
+everything : (g : ℕ → ℕ → ℕ) (e t : ℕ) → from g 0 0 e t ≡ g e t
+everything g e t = grind (arith, nat_tests)
 
 -- a list of all
 all-of : (g : ℕ → ℕ → ℕ) (D b : ℕ) → IsBounded g D b → (l : List Posting) × IsFrom g 0 0 l
-all-of g D b i = documents-down g D b D [] i (record { ordered = tt; same = λ e t x. sym (i.none_of e t (late e t x)); none = λ e t x. refl })
-  where
-    late : (e t : ℕ) → ¬ (IsSooner D 0 e t) → D ≤ e
-    late e t x = elim (cases_lt e D) [ inl k ↦ absurd (x (inl k)) | inr k ↦ k ]
+all-of g D b i = documents-down g D b D [] i (record { ordered = tt; rows = λ e t. nothing-after g D e t (i.none_of e t) })
 
 -- a frequency inside an interval alone
 abbrev pub within : (ℕ → ℕ → ℕ) → ℕ → ℕ → ℕ → ℕ → ℕ
@@ -149,8 +116,7 @@ within-in : (f : ℕ → ℕ → ℕ) (a b d t : ℕ) → a ≤ t → t < b → 
 within-in f a b d t x y = grind (arith, nat_tests)
 
 within-out : (f : ℕ → ℕ → ℕ) (a b d t : ℕ) → (t < a) ⊎ (b ≤ t) → within f a b d t ≡ 0
-within-out f a b d t (inl x) = grind (arith, nat_tests)
-within-out f a b d t (inr x) = grind (arith, nat_tests)
+within-out f a b d t o = grind (arith, nat_tests)
 
 -- what holds of a frequency and of 0 holds of it inside alone
 within-has : (P : ℕ → Type 0) (f : ℕ → ℕ → ℕ) (a b d t : ℕ) → P (f d t) → P 0 → P (within f a b d t)
@@ -164,7 +130,7 @@ list-of : (f : ℕ → ℕ → ℕ) (D a b : ℕ) → IsBounded (within f a b) D
 list-of f D a b i =
     let (l, h) = all-of (within f a b) D b i in
     let (list, k) = shorten l h.ordered in
-    let rows : (d t : ℕ) → frequency d t list ≡ within f a b d t = λ d t. k.same d t ∙ h.same d t (λ x. elim x [ inl y ↦ omega (arith, y) | inr y ↦ omega (arith, y.1) ]) in (
+    let rows : (d t : ℕ) → frequency d t list ≡ within f a b d t = λ d t. k.same d t ∙ h.rows d t ∙ everything (within f a b) d t in (
       list,
       record {
         ordered = k.ordered;
