@@ -1,5 +1,5 @@
 -- How the frequency by changes, which stand by document, goes on with each of them.
-use Rattle.std.specs.Prelude.{◌≡◌, ◌≢◌, ◌⊎◌, ℕ, zero, suc, ◌+◌, ◌^◌, ◌<◌, ◌≤◌, ◌==◌, ◌&&◌, Bool, true, false, cond, List, [], ◌∷◌, ◌++◌, length, take, drop, get_or, slice_get, filter, Option, Some, None, unwrap_or, All, refl}
+use Rattle.std.specs.Prelude.{◌≡◌, ◌≢◌, ◌⊎◌, ℕ, zero, suc, ◌+◌, ◌^◌, ◌<◌, ◌≤◌, ◌==◌, true, false, cond, List, [], ◌∷◌, ◌++◌, length, take, drop, get_or, slice_get, filter, Option, Some, None, unwrap_or, All, refl}
 use Rattle.std.specs.List.Sorted.{IsNonDecreasingBy}
 use Rattle.std.proofs.Common.{arith, ap, sym, ◌∙◌, inl, inr, subst, add-one}
 use Rattle.std.proofs.lemmas.Bool.{eq-eqb, cases_lt, lt-leb, le-leb}
@@ -11,7 +11,7 @@ use Rattle.std.proofs.Math.Seq.{drop-cons, take-suc}
 use Rattle.time_base.specs.declared.ids.DocId.{DocId}
 use Rattle.time_base.specs.declared.posting.Posting.{Posting}
 use Rattle.version_store.specs.declared.change.Change.{Change}
-use Rattle.version_store.specs.Changes.{changes_of, held_at}
+use Rattle.version_store.specs.Changes.{changes_of}
 use Rattle.version_store.specs.Laws.{HeldAsChangesCome}
 use Rattle.postings.specs.Lists.{EachNext}
 use Rattle.postings.specs.ListsOf.{IsListOf}

@@ -6,5 +6,7 @@
 #![tactic(auto)]
 
 mod list;
+#[cfg(test)]
+mod tests;
 
 pub use list::list_of;
