@@ -1,9 +1,9 @@
 -- Texts by their places: in a journal that spells a history's bodies, each place has its text.
-use Rattle.std.proofs.Common.{◌≡◌, ℕ, ◌+◌, ◌≤◌, ◌==◌, ◌&&◌, Bool, true, false, cond, nat_le, nat_lt, List, [], ◌∷◌, ◌++◌, length, take, drop, map, sum_by, All, Option, Some, None, inl, inr, refl, ap, subst, sym, ◌∙◌, arith, append_assoc, length-append}
+use Rattle.std.proofs.Common.{◌≡◌, ℕ, ◌+◌, ◌≤◌, List, [], ◌∷◌, ◌++◌, length, take, drop, map, sum_by, All, Option, Some, None, inl, inr, refl, ap, subst, sym, ◌∙◌, arith, append_assoc, length-append}
 use Rattle.std.specs.Int.{w32, w64, to_be_bytes}
 use Rattle.std.specs.Option.{option_map}
 use Rattle.std.proofs.Math.Seq.{drop-append_seam, take-append_seam}
-use Rattle.std.proofs.lemmas.List.Elements.{All-nil, All-cons, All-head, All-tail, All-filter}
+use Rattle.std.proofs.lemmas.List.Elements.{All-nil, All-cons}
 use Rattle.std.proofs.lemmas.List.Sums.{sum_by-cons}
 use Rattle.machine_model.specs.States.{DiskState}
 use Rattle.machine_model.specs.Images.{MayLeave}
@@ -15,8 +15,9 @@ use Rattle.gate_journal.specs.Records.{record_bytes, records}
 use Rattle.gate_journal.specs.Spelled.{Spells}
 use Rattle.gate_journal.proofs.SpellingLemmas.{length-header}
 use Rattle.version_store.specs.declared.change.Change.{Change}
-use Rattle.version_store.specs.Changes.{mapped, changes_of, valid_at, held_at}
+use Rattle.version_store.specs.Changes.{mapped, held_at}
 use Rattle.version_store.proofs.Mapped.{held_at-mapped}
+use Rattle.version_store.proofs.Holding.{held_has}
 use Rattle.record_codec.specs.Spelling.{spelling}
 use Rattle.record_codec.specs.declared.entry.Entry.{Entry}
 use Rattle.record_codec.specs.declared.entry.Entry.TheVariants.{Arrive, Delete}
@@ -137,23 +138,6 @@ lies_behind end gate (e ∷ h) (c ∷ cs) within placed =
 
 pub all_lie : (a : ArchiveState) (h : History) → StandsFor a h → All (λ c. LiesIn a.end c.held) a.changes
 all_lie a h stands = lies_behind a.end 16 h a.changes (omega (arith, stands.end_is)) stands.changes_are
-
--- what holds of whatever changes hold, and of nothing, holds of what is held at a time
-valid_has : {A : Type 0} (P : Option A → Type 0) (t : ℕ) (cs : List (Change A)) → P None → All (λ c. P c.held) cs → P (valid_at t cs)
-valid_has P t [] none all = none
-valid_has {A} P t (c ∷ []) none all = go (nat_le c.at.seconds t)
-  where
-    go : (b : Bool) → P (cond b c.held None)
-    go true = All-head (λ c. P c.held) c [] all
-    go false = none
-valid_has {A} P t (c ∷ d ∷ cs) none all = go (nat_le c.at.seconds t && nat_lt t d.at.seconds) (valid_has P t (d ∷ cs) none (All-tail (λ c. P c.held) c (d ∷ cs) all))
-  where
-    go : (b : Bool) → P (valid_at t (d ∷ cs)) → P (cond b c.held (valid_at t (d ∷ cs)))
-    go true more = All-head (λ c. P c.held) c (d ∷ cs) all
-    go false more = more
-
-pub held_has : {A : Type 0} (P : Option A → Type 0) (doc : DocId) (t : ℕ) (cs : List (Change A)) → P None → All (λ c. P c.held) cs → P (held_at doc t cs)
-held_has P doc t cs none all = valid_has P t (changes_of doc cs) none (All-filter (λ c. c.doc.0 == doc.0) (λ c. P c.held) cs all)
 
 -- a place that is found lies in front of the end
 pub found_lies : (a : ArchiveState) (h : History) (doc : DocId) (t : ℕ) (place : TextPlace) → StandsFor a h → held_at doc t a.changes ≡ Some place → place.at + place.bytes ≤ a.end

@@ -9,6 +9,7 @@
 mod archive;
 mod asking;
 mod change;
+mod counting;
 mod error;
 mod laws;
 mod loading;

@@ -1,5 +1,5 @@
 -- The machine that an archive is: what a command does to a history, and what is replied.
-use Rattle.std.specs.Prelude.{◌≡◌, ℕ, nat_lt, not, List, [], ◌∷◌, ◌++◌, length, Option, Some, None}
+use Rattle.std.specs.Prelude.{◌≡◌, ℕ, ◌<◌, ◌^◌, nat_lt, not, List, [], ◌∷◌, ◌++◌, length, Option, Some, None}
 use Rattle.std.specs.Option.{option_map}
 use Rattle.std.specs.Str.{is_utf8}
 use Rattle.std.specs.Str.Lossy.{utf8_valid_len}
@@ -29,6 +29,13 @@ pub data Command : Type 0 where
   Find : Time → List ℕ → Command
   -- the text of a document that is alive at a time
   Show : DocId → Time → Command
+
+-- the document that a command names, if it names one, is a number below 2^32
+abbrev pub IsInRange : Command → Type 0
+IsInRange (Arrive doc at text) = doc.0 < 2 ^ 32
+IsInRange (Delete doc at) = doc.0 < 2 ^ 32
+IsInRange (Find at text) = Unit {0}
+IsInRange (Show doc at) = doc.0 < 2 ^ 32
 
 -- what a command is answered
 pub data Reply : Type 0 where
