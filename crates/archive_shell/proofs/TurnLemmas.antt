@@ -1,5 +1,5 @@
 -- One command carried out.
-use Rattle.std.proofs.Common.{◌≡◌, ◌⊎◌, ℕ, ◌+◌, List, [], ◌∷◌, ◌++◌, length, Option, Some, None, Result, Ok, Err, IsOk, OnOk, refl, inl, inr, ap, subst, sym, ◌∙◌, arith, length-append}
+use Rattle.std.proofs.Common.{◌≡◌, ◌⊎◌, ℕ, ◌+◌, List, [], ◌∷◌, ◌++◌, length, Option, Some, None, Result, Ok, Err, OnOk, refl, inl, inr, ap, subst, sym, ◌∙◌, arith, length-append}
 use Rattle.machine_model.specs.States.{DiskState}
 use Rattle.machine_model.proofs.MomentLemmas.{goes_on_same, left_now}
 use Rattle.time_base.specs.declared.ids.DocId.{DocId}
@@ -52,6 +52,11 @@ accepted history entry refusal n page none count shown =
       shown ∙ ap (λ (m : ℕ). reply_text (Accepted m)) (omega (arith, count, length-append history (entry ∷ []))),
     )
 
+-- what holds anyway holds at an answer
+on_ok : {Q : Type 0} (result : Result (Unit {0}) Stop) → Q → OnOk result Q
+on_ok (Ok u) q = q
+on_ok (Err e) q = tt
+
 -- what is known of a change that was not made, for each error
 pub record NotMade (history : History) (entry : Entry) (refusal : Option Refusal) (error : ChangeError) (old new : DiskState) (archive archive_now : ArchiveState) : Type 0 where
   pub refused : (why : Refusal) → error ≡ errors.Refused why → refusal ≡ Some why
@@ -74,12 +79,8 @@ not_made history entry refusal (errors.Refused why) old new archive archive_now 
       record { reply = Refused why; next = history },
       subst P (sym (known.refused why refl)) (refl, refl),
       subst L (sym same.1) (leads_nowhere history known.kept),
-      on_ok result refuses.0 (subst K (sym same.1) (subst A (sym same.0) known.kept), refuses.1),
+      on_ok result (subst K (sym same.1) (subst A (sym same.0) known.kept), refuses.1),
     )
-  where
-    on_ok : {Q : Type 0} (result : Result (Unit {0}) Stop) → IsOk result → Q → OnOk result Q
-    on_ok (Ok u) is q = q
-    on_ok (Err e) is q = tt
 not_made history entry refusal errors.Failed old new archive archive_now result page known refuses =
     let P : Option Refusal → Type 0 = λ r. Adds history entry r (Accepted (length (history ++ entry ∷ []))) (history ++ entry ∷ []) in
     let N : Result (Unit {0}) Stop → Type 0 = λ r. OnOk r (IsKept new archive_now (history ++ entry ∷ []) × (page ≡ reply_text (Accepted (length (history ++ entry ∷ []))))) in
@@ -91,15 +92,15 @@ not_made history entry refusal errors.Memory old new archive archive_now result 
     (turn.0, turn.1, subst L (sym (known.memory refl)) (leads_nowhere turn.0.next known.kept), subst N (sym refuses) tt)
 
 -- a command that adds an entry, where that is accepted
-answered : (history : History) (command : Command) (entry : Entry) (refusal : Option Refusal) (n : ℕ) (old new : DiskState) (archive_now : ArchiveState) (page : List ℕ)
+answered : (history : History) (command : Command) (entry : Entry) (refusal : Option Refusal) (n : ℕ) (old new : DiskState) (archive_now : ArchiveState) (result : Result (Unit {0}) Stop) (page : List ℕ)
     → ((reply : Reply) (next : History) → Adds history entry refusal reply next → Step history command reply next)
     → refusal ≡ None → n ≡ length history + 1 → page ≡ reply_text (Accepted n) → LeadsTo history (history ++ entry ∷ []) old new → IsKept new archive_now (history ++ entry ∷ [])
-    → Answers history command (Ok tt) old new archive_now page
-answered history command entry refusal n old new archive_now page adds none count shown leads kept =
+    → Answers history command result old new archive_now page
+answered history command entry refusal n old new archive_now result page adds none count shown leads kept =
     let made = accepted history entry refusal n page none count shown in
     let L : History → Type 0 = λ next. LeadsTo history next old new in
     let K : History → Type 0 = λ next. IsKept new archive_now next in
-    record { turn = made.0; step = adds made.0.reply made.0.next made.1; leads = subst L (sym made.2) leads; kept = (subst K (sym made.2) kept, made.3) }
+    record { turn = made.0; step = adds made.0.reply made.0.next made.1; leads = subst L (sym made.2) leads; kept = on_ok result (subst K (sym made.2) kept, made.3) }
 
 -- a command that adds an entry, where that is not made
 not_answered : (history : History) (command : Command) (entry : Entry) (refusal : Option Refusal) (error : ChangeError) (old new : DiskState) (archive archive_now : ArchiveState) (result : Result (Unit {0}) Stop) (page : List ℕ)
@@ -110,11 +111,11 @@ not_answered history command entry refusal error old new archive archive_now res
     record { turn = made.0; step = adds made.0.reply made.0.next made.1; leads = made.2; kept = made.3 }
 
 -- an arrival that is accepted
-pub arrived : (history : History) (doc : DocId) (at : Time) (text : List ℕ) (n : ℕ) (old new : DiskState) (archive_now : ArchiveState) (page : List ℕ)
+pub arrived : (history : History) (doc : DocId) (at : Time) (text : List ℕ) (n : ℕ) (old new : DiskState) (archive_now : ArchiveState) (result : Result (Unit {0}) Stop) (page : List ℕ)
     → arrival_refusal history doc at text ≡ None → n ≡ length history + 1 → page ≡ reply_text (Accepted n) → LeadsTo history (history ++ entries.Arrive doc at text ∷ []) old new
-    → IsKept new archive_now (history ++ entries.Arrive doc at text ∷ []) → Answers history (Arrive doc at text) (Ok tt) old new archive_now page
-arrived history doc at text n old new archive_now page =
-    answered history (Arrive doc at text) (entries.Arrive doc at text) (arrival_refusal history doc at text) n old new archive_now page (λ reply next adds. adds)
+    → IsKept new archive_now (history ++ entries.Arrive doc at text ∷ []) → Answers history (Arrive doc at text) result old new archive_now page
+arrived history doc at text n old new archive_now result page =
+    answered history (Arrive doc at text) (entries.Arrive doc at text) (arrival_refusal history doc at text) n old new archive_now result page (λ reply next adds. adds)
 
 -- an arrival that is not made
 pub not_arrived : (history : History) (doc : DocId) (at : Time) (text : List ℕ) (error : ChangeError) (old new : DiskState) (archive archive_now : ArchiveState) (result : Result (Unit {0}) Stop) (page : List ℕ)
@@ -124,11 +125,11 @@ not_arrived history doc at text error old new archive archive_now result page =
     not_answered history (Arrive doc at text) (entries.Arrive doc at text) (arrival_refusal history doc at text) error old new archive archive_now result page (λ reply next adds. adds)
 
 -- a deletion that is accepted
-pub deleted : (history : History) (doc : DocId) (at : Time) (n : ℕ) (old new : DiskState) (archive_now : ArchiveState) (page : List ℕ)
+pub deleted : (history : History) (doc : DocId) (at : Time) (n : ℕ) (old new : DiskState) (archive_now : ArchiveState) (result : Result (Unit {0}) Stop) (page : List ℕ)
     → deletion_refusal history doc at ≡ None → n ≡ length history + 1 → page ≡ reply_text (Accepted n) → LeadsTo history (history ++ entries.Delete doc at ∷ []) old new
-    → IsKept new archive_now (history ++ entries.Delete doc at ∷ []) → Answers history (Delete doc at) (Ok tt) old new archive_now page
-deleted history doc at n old new archive_now page =
-    answered history (Delete doc at) (entries.Delete doc at) (deletion_refusal history doc at) n old new archive_now page (λ reply next adds. adds)
+    → IsKept new archive_now (history ++ entries.Delete doc at ∷ []) → Answers history (Delete doc at) result old new archive_now page
+deleted history doc at n old new archive_now result page =
+    answered history (Delete doc at) (entries.Delete doc at) (deletion_refusal history doc at) n old new archive_now result page (λ reply next adds. adds)
 
 -- a deletion that is not made
 pub not_deleted : (history : History) (doc : DocId) (at : Time) (error : ChangeError) (old new : DiskState) (archive archive_now : ArchiveState) (result : Result (Unit {0}) Stop) (page : List ℕ)

@@ -1,9 +1,10 @@
 //! Answering one command.
-ghost use Rattle.std.specs.Prelude.{◌≡◌, ◌≤◌, IsTrue, OnOk, IsErrOf};
+ghost use Rattle.std.specs.Prelude.{◌≡◌, ◌≤◌, IsTrue, Ok, OnOk, IsErrOf};
 ghost use Rattle.machine_model.specs.Causes.{Rose};
 ghost use Rattle.archive_state.specs.Histories.{History};
 ghost use Rattle.archive_core.specs.States.{IsKept};
-ghost use Rattle.archive_state.specs.Steps.{Arrive, Delete};
+ghost use Rattle.archive_state.specs.Replies.{reply_text};
+ghost use Rattle.archive_state.specs.Steps.{Accepted, Arrive, Delete};
 ghost use Rattle.archive_shell.specs.Commands.{command_of};
 ghost use Rattle.archive_shell.specs.Turns.{Answers, Refuses};
 
@@ -60,10 +61,7 @@ fn arrive<D: Disk>(
         Answers h (Arrive doc at text) result (D.disk disk.old) (D.disk disk.new) archive.new page.new.bytes }
 {
     match archive.arrive(alloc, disk, doc, at, text.as_slice()) {
-        Ok(length) => {
-            page.accepted(length);
-            Ok(())
-        }
+        Ok(length) => accept(page, length),
         Err(error) => refuse(page, error),
     }
 }
@@ -88,12 +86,18 @@ fn delete<D: Disk>(
         Answers h (Delete doc at) result (D.disk disk.old) (D.disk disk.new) archive.new page.new.bytes }
 {
     match archive.delete(alloc, disk, doc, at) {
-        Ok(length) => {
-            page.accepted(length);
-            Ok(())
-        }
+        Ok(length) => accept(page, length),
         Err(error) => refuse(page, error),
     }
+}
+
+/// Writes the reply to a change that is made: the history has so many entries then.
+fn accept(page: &mut ReplyPage, length: u64) -> Result<(), Stop>
+    ensures goes_on { result ≡ Ok tt }
+    ensures reply { page.new.bytes ≡ reply_text (Accepted length) }
+{
+    page.accepted(length);
+    Ok(())
 }
 
 /// Writes the reply to a change that is refused; any other error stops the run.
