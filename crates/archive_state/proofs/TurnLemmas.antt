@@ -1,5 +1,5 @@
 -- Each command has a turn: from a legal history to a legal one.
-use Rattle.std.proofs.Common.{◌≡◌, ℕ, ◌<◌, ◌≤◌, ◌^◌, Bool, true, false, not, nat_lt, List, [], ◌∷◌, ◌++◌, length, All, Option, Some, None, IsSome, refl, ap, arith, unwrap_or}
+use Rattle.std.proofs.Common.{subst, sym, ◌≡◌, ℕ, ◌<◌, ◌≤◌, ◌^◌, Bool, true, false, not, nat_lt, List, [], ◌∷◌, ◌++◌, length, All, Option, Some, None, IsSome, refl, ap, arith, unwrap_or}
 use Rattle.std.specs.Str.{is_utf8}
 use Rattle.std.specs.Option.{option_map}
 use Rattle.std.proofs.lemmas.Bool.{ltb-false}
@@ -72,10 +72,9 @@ deletion_legal h doc at fits none =
     record { ranges = (fits, at.before_now); allowed = allowed_by (entry_refusal h (entries.Delete doc at)) one.0 }
 
 -- whether an entry is refused or not, there is a turn
-adds_turn : (h : History) (e : Entry) (refusal : Option Refusal) → IsLegal h → (refusal ≡ None → IsLegalEntry h e)
-    → (turn : Turn Reply History) × Adds h e refusal turn.reply turn.next × IsLegal turn.next
-adds_turn h e None legal next = (record { reply = Accepted (length (h ++ e ∷ [])); next = h ++ e ∷ [] }, (refl, refl), legal-push h e legal (next refl))
-adds_turn h e (Some why) legal next = (record { reply = Refused why; next = h }, (refl, refl), legal)
+pub adds_turn : (h : History) (e : Entry) (refusal : Option Refusal) → (turn : Turn Reply History) × Adds h e refusal turn.reply turn.next
+adds_turn h e None = (record { reply = Accepted (length (h ++ e ∷ [])); next = h ++ e ∷ [] }, (refl, refl))
+adds_turn h e (Some why) = (record { reply = Refused why; next = h }, (refl, refl))
 
 -- a change of a legal history
 record IsModest (word : List ℕ) (c : Change (List ℕ)) : Type 0 where
@@ -124,17 +123,28 @@ pub finds_by : (h : History) (at : Time) (word : List ℕ) (list : List Posting)
 finds_by h at word list rows read is answer size =
     (rows, read, list_answers h at word list rows is answer, (list, 0, is, refl, omega (arith, size)), refl)
 
-each_finds : (h : History) (at : Time) (query : Option Query) → IsLegal h → (reply : Reply) × Finds h at query reply
+pub each_finds : (h : History) (at : Time) (query : Option Query) → IsLegal h → (reply : Reply) × Finds h at query reply
 each_finds h at None legal = (Refused (refusals.BadQuery 0), refl)
 each_finds h at (Some (Word word)) legal =
     let list = each_word_list h word legal in
     let answer = each_answer (Word word) list.0 at.seconds list.1.ordered in
     (Found answer.0 (length list.0), finds_by h at word list.0 answer.0 (length list.0) list.1 answer.1 refl)
 
-pub each_turn : (h : History) (c : Command) → IsLegal h → IsInRange c → (turn : Turn Reply History) × Step h c turn.reply turn.next × IsLegal turn.next
-each_turn h (Arrive doc at text) legal range = adds_turn h (entries.Arrive doc at text) (arrival_refusal h doc at text) legal (arrival_legal h doc at text range)
-each_turn h (Delete doc at) legal range = adds_turn h (entries.Delete doc at) (deletion_refusal h doc at) legal (deletion_legal h doc at range)
-each_turn h (Find at text) legal range =
+pub each_turn : (h : History) (c : Command) → IsLegal h → (turn : Turn Reply History) × Step h c turn.reply turn.next
+each_turn h (Arrive doc at text) legal = adds_turn h (entries.Arrive doc at text) (arrival_refusal h doc at text)
+each_turn h (Delete doc at) legal = adds_turn h (entries.Delete doc at) (deletion_refusal h doc at)
+each_turn h (Find at text) legal =
     let found = each_finds h at (query_of text) legal in
-    (record { reply = found.0; next = h }, (refl, found.1), legal)
-each_turn h (Show doc at) legal range = (record { reply = Shown (text_at h doc at.seconds); next = h }, (refl, refl), legal)
+    (record { reply = found.0; next = h }, (refl, found.1))
+each_turn h (Show doc at) legal = (record { reply = Shown (text_at h doc at.seconds); next = h }, (refl, refl))
+
+-- and every turn leads from a legal history to a legal one
+adds_legal : (h : History) (e : Entry) (refusal : Option Refusal) (reply : Reply) (next : History) → IsLegal h → (refusal ≡ None → IsLegalEntry h e) → Adds h e refusal reply next → IsLegal next
+adds_legal h e None reply next legal entry adds = subst IsLegal (sym adds.0) (legal-push h e legal (entry refl))
+adds_legal h e (Some why) reply next legal entry adds = subst IsLegal (sym adds.0) legal
+
+pub step_legal : (h : History) (c : Command) (reply : Reply) (next : History) → IsLegal h → IsInRange c → Step h c reply next → IsLegal next
+step_legal h (Arrive doc at text) reply next legal range step = adds_legal h (entries.Arrive doc at text) (arrival_refusal h doc at text) reply next legal (arrival_legal h doc at text range) step
+step_legal h (Delete doc at) reply next legal range step = adds_legal h (entries.Delete doc at) (deletion_refusal h doc at) reply next legal (deletion_legal h doc at range) step
+step_legal h (Find at text) reply next legal range step = subst IsLegal (sym step.0) legal
+step_legal h (Show doc at) reply next legal range step = subst IsLegal (sym step.0) legal

@@ -16,10 +16,11 @@ pub fn a_history_is_legal_entry_by_entry()
     ensures end { (h : History) → end_of h ≡ length (front (bodies_of h)) + 1 }
 {}
 
-/// The abstract machine never gets stuck: from a legal history each command in range has a turn, and
-/// it leads to a legal history. Does nothing.
+/// The abstract machine never gets stuck: from a legal history each command has a turn; and where the
+/// command is in range, it leads to a legal history. Does nothing.
 pub fn each_command_has_a_turn()
-    ensures { (h : History) (c : Command) → IsLegal h → IsInRange c → (turn : Turn Reply History) × Step h c turn.reply turn.next × IsLegal turn.next }
+    ensures turn { (h : History) (c : Command) → IsLegal h → (turn : Turn Reply History) × Step h c turn.reply turn.next }
+    ensures legal { (h : History) (c : Command) (reply : Reply) (next : History) → IsLegal h → IsInRange c → Step h c reply next → IsLegal next }
 {}
 
 /// An image stands for one history at most, and one that stands for a history is refused nowhere.
