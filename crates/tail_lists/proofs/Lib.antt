@@ -1,5 +1,9 @@
+pub mod ByWord
+pub mod Followed
+pub mod Holding
 pub mod Kept
 pub mod Open
 pub mod Passed
 pub mod Trimmed
 pub mod Turned
+pub mod Words
