@@ -1,13 +1,13 @@
 -- A turn of a document, word by word.
-use Rattle.std.specs.Prelude.{◌≡◌, ◌≢◌, ◌⊎◌, ℕ, ◌+◌, ◌≤◌, List, [], refl}
+use Rattle.std.specs.Prelude.{◌≡◌, ◌≢◌, ◌⊎◌, ℕ, ◌+◌, ◌≤◌, List, []}
 use Rattle.std.proofs.Common.{arith, ap, sym, ◌∙◌, subst, inl, inr}
 use Rattle.std.proofs.lemmas.Bool.{cases_eq}
 use Rattle.time_base.specs.declared.posting.Posting.{Posting}
 use Rattle.tail_lists.specs.declared.weight.Weight.{Weight}
 use Rattle.tail_lists.specs.Held.{Held}
-use Rattle.tail_lists.specs.Tails.{held_of, tail_of, room_of, HaveRoom}
+use Rattle.tail_lists.specs.Tails.{held_of, tail_of, room_of}
 use Rattle.tail_lists.specs.Turns.{IsTurned}
-use Rattle.tail_lists.specs.Weights.{AreWeights, weight_of}
+use Rattle.tail_lists.specs.Weights.{weight_of}
 use Rattle.tail_lists.specs.Passing.{first_of, behind, AreFrom, IsDone, IsLeft, IsPassing}
 use Rattle.tail_lists.proofs.Passed.{turned-same}
 use Rattle.tail_lists.proofs.Words.{behind-words, first-weight, behind-none, behind-other, room-behind}

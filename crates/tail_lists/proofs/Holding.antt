@@ -1,5 +1,5 @@
 -- What is held for a word, where it is written.
-use Rattle.std.specs.Prelude.{◌≡◌, ◌≢◌, ℕ, ◌+◌, ◌<◌, ◌≤◌, List, [], ◌∷◌, ◌++◌, length, get_or, set, take, refl}
+use Rattle.std.specs.Prelude.{◌≡◌, ℕ, ◌+◌, ◌<◌, ◌≤◌, List, [], ◌∷◌, ◌++◌, length, get_or, set, take}
 use Rattle.std.proofs.Common.{arith, ap, sym, ◌∙◌, subst, inl, inr}
 use Rattle.std.proofs.lemmas.Bool.{cases_lt}
 use Rattle.std.proofs.lemmas.List.{get_or_read, get_or_past, get_or-set_same, take_more}
@@ -7,7 +7,7 @@ use Rattle.std.proofs.lemmas.List.Elements.{All-append, All-cons, All-nil}
 use Rattle.time_base.specs.declared.posting.Posting.{Posting}
 use Rattle.tail_lists.specs.declared.weight.Weight.{Weight}
 use Rattle.tail_lists.specs.Held.{Held}
-use Rattle.tail_lists.specs.Tails.{held_of, tail_of, room_of, HaveRoom}
+use Rattle.tail_lists.specs.Tails.{tail_of, room_of, HaveRoom}
 use Rattle.tail_lists.specs.Turns.{IsTurned, IsTrimmed}
 
 -- what has room is there

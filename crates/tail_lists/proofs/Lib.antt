@@ -1,7 +1,7 @@
 pub mod ByWord
 pub mod Followed
+pub mod Gathered
 pub mod Holding
-pub mod Kept
 pub mod Open
 pub mod Passed
 pub mod Trimmed

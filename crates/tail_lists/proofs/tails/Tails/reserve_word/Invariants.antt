@@ -1,4 +1,4 @@
-use Rattle.std.proofs.Common.{◌+◌, ◌-◌, ◌≡◌, ◌≤◌, ℕ, length, vec_len}
+use Rattle.std.proofs.Common.{◌+◌, ◌-◌, ◌≡◌, ◌≤◌, ℕ, vec_len}
 use Rattle.tail_lists.specs.Tails.{tail_of, room_of}
 use Rattle.tail_lists.proofs.tails.Tails.reserve_word.Given as goal
 

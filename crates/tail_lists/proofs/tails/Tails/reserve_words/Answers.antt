@@ -1,4 +1,4 @@
-use Rattle.std.proofs.Common.{arith, rules, ◌≡◌, length, take, ◌∙◌, subst}
+use Rattle.std.proofs.Common.{arith, ◌∙◌, subst}
 use Rattle.std.proofs.lemmas.List.{take_all}
 use Rattle.tail_lists.specs.Tails.{HaveRoom}
 use Rattle.tail_lists.proofs.Holding.{room-more}

@@ -1,5 +1,5 @@
 use Rattle.std.proofs.Common.{arith, rules, ◌≡◌, length, vec_len}
-use Rattle.tail_lists.proofs.Holding.{trimmed-at, trimmed-none}
+use Rattle.tail_lists.proofs.Holding.{trimmed-at}
 use Rattle.tail_lists.proofs.tails.Tails.trim.Goals as goal
 
 pub returns-then-place-len-clause-trimmed : goal.returns-then-place-len-clause-trimmed
