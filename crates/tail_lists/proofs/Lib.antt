@@ -1,5 +1,9 @@
-pub mod Kept
+pub mod ByWord
+pub mod Followed
+pub mod Gathered
+pub mod Holding
 pub mod Open
 pub mod Passed
 pub mod Trimmed
 pub mod Turned
+pub mod Words

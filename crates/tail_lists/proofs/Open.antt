@@ -1,18 +1,18 @@
 -- A turn of one document in one word's tail.
-use Rattle.std.specs.Prelude.{◌≡◌, ◌≢◌, ◌⊎◌, ℕ, zero, suc, ◌+◌, ◌-◌, ◌^◌, ◌<◌, ◌≤◌, List, [], ◌∷◌, ◌++◌, length, All, Contains, refl}
+use Rattle.std.specs.Prelude.{◌≡◌, ◌≢◌, ◌⊎◌, ℕ, zero, suc, ◌+◌, ◌-◌, ◌^◌, ◌<◌, ◌≤◌, List, ◌∷◌, ◌++◌, All, Contains, refl}
 use Rattle.std.proofs.Common.{arith, ap, sym, ◌∙◌, subst, inl, inr}
 use Rattle.std.proofs.lemmas.Bool.{cases_lt}
 use Rattle.std.proofs.lemmas.List.Elements.{Contains-append_left, Contains-append_right, Contains-append_cases, All-contains, All-cons}
 use Rattle.time_base.specs.declared.posting.Posting.{Posting}
-use Rattle.postings.specs.Lists.{EachNext, ComesBefore, Continues, frequency}
+use Rattle.postings.specs.Lists.{EachNext, ComesBefore, frequency}
 use Rattle.postings.specs.ListsOf.{IsListOf, IsLongest}
-use Rattle.postings.proofs.Order.{Heads, IsApart, apart, apart-trans, next-tail, next-cons}
+use Rattle.postings.proofs.Order.{IsApart, apart, apart-trans, next-tail, next-cons}
 use Rattle.postings.proofs.Frequencies.{frequency-of, frequency-here, frequency-skip, found}
 use Rattle.postings.proofs.Clipping.{IsInside}
 use Rattle.postings.proofs.Spans.{longest_spans}
 use Rattle.tail_lists.specs.Turns.{turned_one}
 use Rattle.tail_lists.specs.Steps.{IsOpened, IsClosed}
-use Rattle.tail_lists.proofs.Turned.{next-back, next-across, all-back, IsClear, AreLater, later-none, exchange, clear-apart, later-apart, row-swap}
+use Rattle.tail_lists.proofs.Turned.{next-back, next-across, all-back, IsClear, AreLater, exchange, clear-apart, later-apart}
 
 -- the document has the frequency o just before the time and from it on
 abbrev pub IsSteady : (ℕ → ℕ → ℕ) → ℕ → ℕ → ℕ → Type 0

@@ -1,21 +1,21 @@
 -- What a turn leaves of a list, by the place of the document's last posting.
-use Rattle.std.specs.Prelude.{◌≡◌, ◌≢◌, ◌⊎◌, ℕ, zero, suc, ◌+◌, ◌-◌, ◌^◌, ◌<◌, ◌≤◌, ◌==◌, ◌&&◌, nat_le, Bool, true, false, cond, List, [], ◌∷◌, ◌++◌, length, get_or, set, take, drop, All, Contains, refl}
+use Rattle.std.specs.Prelude.{◌≡◌, ◌≢◌, ◌⊎◌, ℕ, zero, suc, ◌+◌, ◌^◌, ◌<◌, ◌≤◌, ◌==◌, ◌&&◌, nat_le, Bool, true, false, cond, List, [], ◌∷◌, ◌++◌, length, get_or, set, take, drop, All, refl}
 use Rattle.std.specs.List.{insert, remove}
 use Rattle.std.specs.List.Sorted.{IsPartitionedBy, IsPartitionPoint}
-use Rattle.std.proofs.Common.{arith, ap, sym, ◌∙◌, subst, inl, inr, append_assoc, add-one}
+use Rattle.std.proofs.Common.{arith, ap, sym, ◌∙◌, subst, inl, inr, append_assoc}
 use Rattle.std.proofs.lemmas.Bool.Decides.{nat_tests}
 use Rattle.std.proofs.Math.Seq.{set-append_seam}
 use Rattle.std.proofs.lemmas.List.{take-append-drop, drop_more, take_more, length-take-le, length-drop, get_or-take, get_or-drop}
 use Rattle.std.proofs.lemmas.List.Elements.{Contains-get_or, All-contains, All-cons, All-head, All-tail}
 use Rattle.time_base.specs.declared.posting.Posting.{Posting}
-use Rattle.postings.specs.Lists.{EachNext, ComesBefore, IsList, frequency}
+use Rattle.postings.specs.Lists.{ComesBefore, IsList, frequency}
 use Rattle.postings.specs.ListsOf.{IsListOf}
 use Rattle.postings.proofs.Order.{IsApart, before-trans, next-later, next-tail, next-cons}
 use Rattle.postings.proofs.Frequencies.{frequency-here, frequency-skip}
 use Rattle.postings.proofs.Clipping.{IsInside}
 use Rattle.tail_lists.specs.Turns.{turned_one, IsTurned}
 use Rattle.tail_lists.specs.Steps.{IsOpened, IsClosed, IsPlace}
-use Rattle.tail_lists.proofs.Turned.{all-front, all-back, AreLater, later-none, exchange, clear-apart, later-apart, row-swap, split}
+use Rattle.tail_lists.proofs.Turned.{all-front, all-back, later-none, exchange, clear-apart, later-apart, row-swap, split}
 use Rattle.tail_lists.proofs.Open.{IsSteady, IsSet, IsLive, live, before, clear, rest, lies, apart-closed, turned-insert}
 
 -- a turn that changes nothing

@@ -1,5 +1,5 @@
 -- A list that is cut to the times from one on.
-use Rattle.std.specs.Prelude.{◌≡◌, ◌⊎◌, ℕ, suc, ◌+◌, ◌^◌, ◌<◌, ◌≤◌, nat_lt, Bool, true, false, cond, max, min, List, [], ◌∷◌, ◌++◌, length, get_or, set, take, drop, filter, All, refl}
+use Rattle.std.specs.Prelude.{◌≡◌, ◌⊎◌, ℕ, suc, ◌+◌, ◌^◌, ◌<◌, ◌≤◌, Bool, true, false, cond, max, List, [], ◌∷◌, length, get_or, set, filter, All, refl}
 use Rattle.std.specs.List.{AllZip}
 use Rattle.std.proofs.Common.{arith, ap, sym, ◌∙◌, subst, inl, inr}
 use Rattle.std.proofs.lemmas.Bool.{cases_lt}
@@ -9,7 +9,6 @@ use Rattle.std.proofs.lemmas.List.Elements.{All-head, All-tail}
 use Rattle.time_base.specs.declared.posting.Posting.{Posting}
 use Rattle.postings.specs.Lists.{meets, sublist}
 use Rattle.postings.specs.Clips.{IsCut, IsClip}
-use Rattle.postings.specs.ListsOf.{IsListOf}
 use Rattle.postings.proofs.Clipping.{IsInside, clip_of_list_of}
 use Rattle.tail_lists.specs.Turns.{IsTrimmed}
 use Rattle.tail_lists.specs.Steps.{IsStartedAt, IsStarting, is_open_at}

@@ -1,13 +1,13 @@
 -- A list whose end for one document is exchanged.
-use Rattle.std.specs.Prelude.{◌≡◌, ◌≢◌, ◌⊎◌, ℕ, zero, suc, ◌+◌, ◌<◌, ◌≤◌, ◌==◌, ◌&&◌, nat_le, Bool, true, false, cond, List, [], ◌∷◌, ◌++◌, length, All, Contains, refl}
+use Rattle.std.specs.Prelude.{◌≡◌, ◌≢◌, ◌⊎◌, ℕ, zero, suc, ◌<◌, ◌≤◌, ◌==◌, ◌&&◌, nat_le, Bool, true, false, cond, List, [], ◌∷◌, ◌++◌, All, Contains, refl}
 use Rattle.std.proofs.Common.{arith, ap, sym, ◌∙◌, subst, inl, inr}
 use Rattle.std.proofs.lemmas.Bool.{cases_lt}
 use Rattle.std.proofs.lemmas.Bool.Decides.{nat_tests}
 use Rattle.std.proofs.lemmas.List.Elements.{Contains-append_right, All-append, All-tail, All-head, All-cons, All-nil}
 use Rattle.time_base.specs.declared.posting.Posting.{Posting}
-use Rattle.postings.specs.Lists.{EachNext, ComesBefore, Continues, frequency}
+use Rattle.postings.specs.Lists.{EachNext, frequency}
 use Rattle.postings.specs.ListsOf.{IsListOf}
-use Rattle.postings.proofs.Order.{Heads, IsApart, apart, list-apart, coalesced-apart, apart-trans, next-tail, next-cons, next-later}
+use Rattle.postings.proofs.Order.{Heads, IsApart, apart, list-apart, coalesced-apart, next-tail, next-cons, next-later}
 use Rattle.postings.proofs.Frequencies.{is_row, row-tells, row-is, frequency-here, frequency-skip, found}
 use Rattle.postings.proofs.Clipping.{IsInside}
 use Rattle.postings.proofs.Merged.{append-none}

@@ -1,4 +1,9 @@
+pub mod Acts
+pub mod Gathered
 pub mod Held
+pub mod Laws
+pub mod Passing
 pub mod Steps
+pub mod Tails
 pub mod Turns
 pub mod Weights

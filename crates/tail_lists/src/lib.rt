@@ -6,12 +6,20 @@
 //! A turn changes one document in one word's tail by a search and one move, and takes no memory.
 #![tactic(auto)]
 
+mod document;
+mod gather;
+mod laws;
+mod passing;
 mod tail;
+mod tails;
 mod trim;
 mod turn;
 mod weight;
 
+pub use document::Turn;
+pub use laws::{frequency_of_last_turn, frequency_of_no_turn, tails_of_acts};
 pub use tail::Tail;
+pub use tails::Tails;
 pub use weight::Weight;
 
 #[cfg(test)]

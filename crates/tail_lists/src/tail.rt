@@ -65,6 +65,7 @@ impl Tail {
     pub fn turn(&mut self, doc: DocId, at: Time, old: u32, new: u32)
         requires room { 1 ≤ self.old.room }
         ensures turned { IsTurned doc.0 at.seconds old new self.old.list self.new.list }
+        ensures same { old ≡ new → self.new ≡ self.old }
         ensures room { self.old.room ≤ self.new.room + 1 }
     {
         if old == new {
@@ -76,6 +77,7 @@ impl Tail {
             pass(&mut self.postings, doc, at, old, new);
         }
     }
+
     /// Cuts the tail to the times from `h` on. No memory. One pass over the tail.
     pub fn trim(&mut self, h: Time)
         ensures trimmed { IsTrimmed h.seconds self.old.list self.new.list }

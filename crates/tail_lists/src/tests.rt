@@ -1,7 +1,12 @@
-use crate::Tail;
-use std::test::Fail;
-use time_base::{DocId, NOW, Posting, Span, Time};
+ghost use Rattle.std.specs.Prelude.{IfOk};
+ghost use Rattle.tail_lists.specs.Weights.{AreWeights};
 
+use crate::{Tails, Turn, Weight};
+use std::alloc::{AllocError, Global};
+use std::test::Fail;
+use time_base::{DocId, NOW, Posting, Span, Time, WordId};
+
+/// The posting of that document, start, end and frequency.
 fn posting(doc: u32, from: u64, to: u64, tf: u32) -> Option<Posting> {
     if tf == 0 {
         return None;
@@ -14,39 +19,141 @@ fn posting(doc: u32, from: u64, to: u64, tf: u32) -> Option<Posting> {
     })
 }
 
-#[test]
-fn turns_and_trims_make_the_tail(rt: HostRuntime) -> Result<(), Fail> {
-    let mut tail = Tail::new(rt.alloc());
-    for (doc, at, old, new) in [
-        (2, 10, 0, 1),
-        (1, 10, 0, 2),
-        // unchanged
-        (1, 20, 2, 2),
-        // two documents at one time
-        (1, 30, 2, 3),
-        (2, 30, 1, 0),
-    ] {
-        let at = Time::new(at).ok_or("a time")?;
-        tail.reserve_turn()?;
-        tail.turn(DocId(doc), at, old, new);
+/// The weights of a text that has one word so often; with 0 of one without words.
+fn weights(alloc: Global, word: WordId, tf: u32) -> Result<Vec<Weight>, AllocError>
+    ensures { IfOk result (λ v. AreWeights v.items) }
+{
+    if tf == 0 {
+        return Ok(Vec::new(alloc));
     }
-    let early = posting(1, 10, 30, 2).ok_or("the posting before 30")?;
-    let late = posting(1, 30, NOW, 3).ok_or("the posting from 30 on")?;
-    let ended = posting(2, 10, 30, 1).ok_or("the posting of document 2")?;
-    assert_eq!(rt; tail.postings(), [early, late, ended].as_slice());
+    Ok(vec![in alloc; Weight { word, tf }]?)
+}
 
-    tail.trim(Time::new(29).ok_or("the time 29")?);
-    let cut = posting(1, 29, 30, 2).ok_or("the cut posting")?;
-    let cut_too = posting(2, 29, 30, 1).ok_or("the cut posting of document 2")?;
-    assert_eq!(rt; tail.postings(), [cut, late, cut_too].as_slice());
-    tail.trim(Time::new(30).ok_or("the time 30")?);
-    assert_eq!(rt; tail.postings(), [late].as_slice());
+/// The tails after document 7 has the word so often from those times on, and a trim.
+fn passed(alloc: Global, word: WordId, turns: &[(u64, u32)], horizon: u64) -> Result<Tails, Fail> {
+    let mut tails = Tails::new(alloc);
+    let mut old = Vec::new(alloc);
+    for (at, tf) in turns {
+        let at = Time::new(*at).ok_or("a time")?;
+        let new = weights(alloc, word, *tf)?;
+        tails.reserve_turn(&old, &new)?;
+        tails.turn(DocId(7), at, &old, &new);
+        old = new;
+    }
+    tails.trim(word, Time::new(horizon).ok_or("a horizon")?);
+    Ok(tails)
+}
 
-    // a posting that would be empty is dropped
-    let horizon = Time::new(40).ok_or("the time 40")?;
-    tail.trim(horizon);
-    tail.reserve_turn()?;
-    tail.turn(DocId(1), horizon, 3, 0);
-    assert_eq!(rt; tail.postings().len(), 0);
+/// Document 7's postings of those starts, ends and frequencies.
+fn listed(alloc: Global, parts: &[(u64, u64, u32)]) -> Result<Vec<Posting>, Fail> {
+    let mut list = Vec::new(alloc);
+    for (from, to, tf) in parts {
+        list.push(posting(7, *from, *to, *tf).ok_or("a posting")?)?;
+    }
+    Ok(list)
+}
+
+#[test]
+fn one_document_turns_and_its_tail_is_trimmed(rt: HostRuntime) -> Result<(), Fail> {
+    let alloc = rt.alloc();
+    let word = WordId::new(3).ok_or("a word")?;
+    for (turns, horizon, wanted) in [
+        // three versions of one frequency
+        (&[(10, 1), (20, 1), (30, 1)][..], 0, &[(10, NOW, 1)][..]),
+        // a gap
+        (
+            &[(10, 1), (20, 0), (30, 1)],
+            0,
+            &[(10, 20, 1), (30, NOW, 1)],
+        ),
+        // another frequency between
+        (
+            &[(10, 1), (20, 2), (30, 1)],
+            0,
+            &[(10, 20, 1), (20, 30, 2), (30, NOW, 1)],
+        ),
+        // trims before, at and after a boundary
+        (&[(10, 1), (20, 2)], 19, &[(19, 20, 1), (20, NOW, 2)]),
+        (&[(10, 1), (20, 2)], 20, &[(20, NOW, 2)]),
+        (&[(10, 1), (20, 2)], 21, &[(21, NOW, 2)]),
+        // nothing is left
+        (&[(10, 1), (20, 0)], 20, &[]),
+    ] {
+        let tails = passed(alloc, word, turns, horizon)?;
+        let list = listed(alloc, wanted)?;
+        assert_eq!(rt; tails.tail(word), list.as_slice());
+    }
+    Ok(())
+}
+
+#[test]
+fn a_posting_that_would_be_empty_is_dropped(rt: HostRuntime) -> Result<(), Fail> {
+    let alloc = rt.alloc();
+    let word = WordId::new(0).ok_or("a word")?;
+    let horizon = Time::new(40).ok_or("40")?;
+    let mut tails = passed(alloc, word, &[(10, 1)], 40)?;
+    let once = weights(alloc, word, 1)?;
+    let none = Vec::new(alloc);
+    tails.reserve_turn(&once, &none)?;
+    tails.turn(DocId(7), horizon, &once, &none);
+    assert_eq!(rt; tails.tail(word).len(), 0);
+    Ok(())
+}
+
+#[test]
+fn documents_turn_at_one_time(rt: HostRuntime) -> Result<(), Fail> {
+    let alloc = rt.alloc();
+    let red = WordId::new(0).ok_or("red")?;
+    let blue = WordId::new(5).ok_or("blue")?;
+    let none = Vec::new(alloc);
+    let red_alone = [Weight { word: red, tf: 1 }];
+    let both = [Weight { word: red, tf: 1 }, Weight { word: blue, tf: 2 }];
+    let at = Time::new(10).ok_or("10")?;
+    let mut tails = Tails::new(alloc);
+    tails.reserve_turn(&none, &both)?;
+    tails.turn(DocId(3), at, &none, &both);
+    tails.reserve_turn(&none, &both)?;
+    tails.turn(DocId(1), at, &none, &both);
+    // document 1 loses one of its words
+    let at = Time::new(20).ok_or("20")?;
+    tails.reserve_turn(&both, &red_alone)?;
+    tails.turn(DocId(1), at, &both, &red_alone);
+    let ended = posting(1, 10, 20, 2).ok_or("document 1 until 20")?;
+    let open = posting(3, 10, NOW, 2).ok_or("document 3")?;
+    assert_eq!(rt; tails.tail(blue), [ended, open].as_slice());
+    assert_eq!(rt; tails.tail(red).len(), 2);
+    Ok(())
+}
+
+#[test]
+fn turns_are_gathered(rt: HostRuntime) -> Result<(), Fail> {
+    let alloc = rt.alloc();
+    let word = WordId::new(1).ok_or("a word")?;
+    let times = [
+        Time::new(10).ok_or("10")?,
+        Time::new(20).ok_or("20")?,
+        Time::new(30).ok_or("30")?,
+    ];
+    let turns = vec![in alloc;
+        Turn {
+            doc: DocId(2),
+            at: times[0],
+            weights: weights(alloc, word, 1)?
+        },
+        Turn {
+            doc: DocId(1),
+            at: times[1],
+            weights: weights(alloc, word, 4)?
+        },
+        Turn {
+            doc: DocId(2),
+            at: times[2],
+            weights: Vec::new(alloc)
+        },
+    ]?;
+    let tails = Tails::gather(alloc, turns)?;
+    let open = posting(1, 20, NOW, 4).ok_or("document 1")?;
+    let ended = posting(2, 10, 30, 1).ok_or("document 2")?;
+    assert_eq!(rt; tails.tail(word), [open, ended].as_slice());
     Ok(())
 }

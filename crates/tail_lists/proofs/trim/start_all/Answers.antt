@@ -1,5 +1,5 @@
-use Rattle.std.proofs.Common.{arith, rules, ◌≡◌, ◌<◌, ◌≤◌, length, vec_len, ◌∙◌, sym}
-use Rattle.tail_lists.proofs.Trimmed.{start-none, start-more, start-all}
+use Rattle.std.proofs.Common.{arith, rules, ◌≡◌, length, vec_len, ◌∙◌}
+use Rattle.tail_lists.proofs.Trimmed.{start-more, start-all}
 use Rattle.tail_lists.proofs.trim.start_all.Goals as goal
 
 pub loop-i-preserved : goal.loop-i-preserved

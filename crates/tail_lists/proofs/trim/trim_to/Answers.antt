@@ -1,7 +1,5 @@
-use Rattle.std.proofs.Common.{◌≡◌, true, List, filter, All}
-use Rattle.std.specs.List.{AllZip}
 use Rattle.std.proofs.lemmas.List.Elements.{filter_passes}
-use Rattle.tail_lists.specs.Steps.{IsStartedAt, is_open_at}
+use Rattle.tail_lists.specs.Steps.{is_open_at}
 use Rattle.tail_lists.proofs.Trimmed.{trimmed}
 use Rattle.tail_lists.proofs.trim.trim_to.Goals as goal
 

@@ -1,8 +1,6 @@
-use Rattle.std.proofs.Common.{arith, ◌≡◌, ◌+◌, ◌-◌, ◌<◌, ◌≤◌, length, List, sym, subst}
 use Rattle.postings.specs.Lists.{IsList}
-use Rattle.tail_lists.specs.Turns.{IsTurned}
 use Rattle.tail_lists.specs.Steps.{IsPlace}
-use Rattle.tail_lists.proofs.Passed.{turned-same, turned-begin}
+use Rattle.tail_lists.proofs.Passed.{turned-begin}
 use Rattle.tail_lists.proofs.turn.begin.Goals as goal
 
 pub returns-clause-turned : goal.returns-clause-turned

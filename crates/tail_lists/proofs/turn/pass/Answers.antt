@@ -1,4 +1,4 @@
-use Rattle.std.proofs.Common.{arith, ◌≡◌, ◌+◌, ◌-◌, ◌<◌, ◌≤◌, length, List, refl, sym, subst}
+use Rattle.std.proofs.Common.{arith, ◌≡◌, ◌+◌, ◌-◌, ◌<◌, ◌≤◌, length, refl, sym, subst}
 use Rattle.postings.specs.Lists.{IsList}
 use Rattle.tail_lists.specs.Turns.{IsTurned}
 use Rattle.tail_lists.specs.Steps.{IsPlace}

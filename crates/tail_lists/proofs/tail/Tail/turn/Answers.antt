@@ -1,5 +1,4 @@
 use Rattle.std.proofs.Common.{◌≡◌, List, sym, ap, subst}
-use Rattle.postings.specs.ListsOf.{IsListOf}
 use Rattle.tail_lists.specs.Turns.{IsTurned}
 use Rattle.tail_lists.specs.Held.{Held}
 use Rattle.time_base.specs.declared.posting.Posting.{Posting}

@@ -1,0 +1,9 @@
+use Rattle.std.proofs.Common.{ℕ, ◌^◌, take}
+use Rattle.postings.specs.ListsOf.{IsListOf}
+use Rattle.tail_lists.specs.Acts.{frequency_after}
+use Rattle.tail_lists.specs.Gathered.{acts_of}
+use Rattle.tail_lists.specs.Tails.{tail_of}
+use Rattle.tail_lists.proofs.tails.Tails.gather.Given as goal
+
+abbrev pub invariant-loop-i : goal.invariant-loop-i
+invariant-loop-i l = (w : ℕ) → IsListOf (frequency_after (acts_of (take l.i l.turns.items)) w) 0 (2 ^ 40) (tail_of l.tails w)
