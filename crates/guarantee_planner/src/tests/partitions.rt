@@ -10,6 +10,7 @@ fn a_table_counts_its_list(rt: HostRuntime) -> Result<(), Fail> {
     let list = listed(alloc, OVERLAP)?;
     let table = table_of(alloc, &list, 50)?;
     assert_eq!(rt; table.boundaries(), [10, 20, 30, 40, 50].as_slice());
+    assert_eq!(rt; table.postings(), 2);
     for (k, alive) in [1, 2, 1, 0].iter().enumerate() {
         assert_eq!(rt; table.alive(k), *alive, "in {k}");
     }
