@@ -73,8 +73,8 @@ fn a_broken_script_in_any_pieces(rt: HostRuntime) -> Result<(), Fail> {
 /// A text of so many bytes that is nowhere like its neighbourhood, with ends of lines in it.
 fn long_text(alloc: Global, bytes: usize) -> Result<Vec<u8>, Fail> {
     let mut text = Vec::new(alloc);
-    while text.len() < bytes {
-        let line = format!(in alloc; "{}\n", text.len())?;
+    for line in 0..bytes {
+        let line = format!(in alloc; "{line}\n")?;
         text.extend_from_slice(line.as_bytes())?;
     }
     text.truncate(bytes);
@@ -138,6 +138,7 @@ fn a_pull_that_fails_ends_the_run_behind_the_items_that_are_whole(
                 shown = reply;
             }
         }
+        assert!(rt; shown <= MIXED_REPLIES.len());
         assert_eq!(rt; machine.shown(), &MIXED_REPLIES[..shown], "{nth}");
     }
     Ok(())
