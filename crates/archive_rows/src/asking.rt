@@ -1,16 +1,10 @@
 //! What is found as of a time, and the texts that are shown.
-ghost use Rattle.std.specs.Prelude.{◌≤◌, OnOk};
-ghost use Rattle.machine_mem.specs.Meaning.{disk_state};
-
-use crate::rig::{FIRST_JOURNAL, join, load_image, make_machine, read_journal, run_on};
-use archive_core::Archive;
+use crate::deletions::{expect_changes, made};
+use crate::rig::{FIRST_JOURNAL, join, make_machine, read_journal, run_on};
 use archive_shell::Status;
-use machine_mem::MemMachine;
-use machine_model::Image;
 use std::alloc::Global;
 use std::process::Abort;
 use std::test::Fail;
-use time_base::{DocId, Time};
 
 /// A script, and the replies to it.
 #[derive(Clone, Copy, Debug)]
@@ -160,53 +154,20 @@ fn a_question_leaves_the_journal_as_it_is(rt: HostRuntime) -> Result<(), Fail> {
     Ok(())
 }
 
-/// A query finds these documents with these scores, and reads a posting for each.
-fn expect_found(
-    rt: &impl Abort,
-    alloc: Global,
-    archive: &Archive,
-    machine: &mut MemMachine,
-    query: &str,
-    want: &[(u32, u64)],
-) -> Result<(), Fail>
-    requires within { archive.now.end ≤ (disk_state machine.old).reach.journal }
-    ensures within { OnOk result (archive.now.end ≤ (disk_state machine.new).reach.journal) }
-{
-    let at = Time::new(10).ok_or("a time")?;
-    let answer = archive.find(alloc, machine, at, query)?;
-    assert_eq!(rt; answer.rows.len(), want.len(), "{query}");
-    for (row, want) in answer.rows.iter().zip(want) {
-        assert_eq!(rt; (row.doc.0, row.score), *want, "{query}");
-    }
-    assert_eq!(rt; answer.read, want.len() as u64, "{query}");
-    Ok(())
-}
-
 // Texts in any script come by the archive's own calls, as the script's texts are ASCII.
 #[test]
 fn a_word_is_found_in_texts_of_any_script(rt: HostRuntime) -> Result<(), Fail> {
     let alloc = rt.alloc();
-    let image = Image {
-        journal: Vec::new(alloc),
-        pages: Vec::new(alloc),
-    };
-    let (mut archive, mut machine) = load_image(&rt, alloc, image)?;
-    let at = Time::new(10).ok_or("a time")?;
-    let text = "Straße";
-    archive.arrive(alloc, &mut machine, DocId(1), at, text.as_bytes())?;
-    // with the Kelvin sign at the end
-    let other = "STRASSE und \u{212a}";
-    archive.arrive(alloc, &mut machine, DocId(2), at, other.as_bytes())?;
-    expect_found(
-        &rt,
-        alloc,
-        &archive,
-        &mut machine,
-        "Strasse",
-        &[(1, 1), (2, 1)],
-    )?;
-    expect_found(&rt, alloc, &archive, &mut machine, "k", &[(2, 1)])?;
-    let shown = archive.show(alloc, &mut machine, DocId(1), at)?;
-    assert_eq!(rt; shown.as_ref().map(|t| t.as_slice()), Some(text.as_bytes()));
-    Ok(())
+    let changes = [
+        made(1, 10, Some("Straße".as_bytes()), 1),
+        // with the Kelvin sign at the end
+        made(2, 10, Some("STRASSE und \u{212a}".as_bytes()), 2),
+    ];
+    let mut machine = expect_changes(&rt, alloc, &changes)?;
+    let journal = read_journal(alloc, &mut machine)?;
+    let rows = [Row {
+        script: b"find 10 Strasse\nfind 10 k\nfind 9 k\nshow 1 10\n",
+        replies: "hit 1 1\nhit 2 1\nend 2 read 2\nhit 2 1\nend 1 read 1\nend 0 read 1\ntext 7\nStraße\n".as_bytes(),
+    }];
+    expect_rows(&rt, alloc, &journal, &rows)
 }

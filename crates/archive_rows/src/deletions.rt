@@ -13,7 +13,7 @@ use time_base::{DocId, Time};
 
 /// A change, and what it answers: an arrival with this text, or without one a deletion.
 #[derive(Clone, Copy, Debug)]
-struct Change<'a> {
+pub struct Change<'a> {
     doc: u32,
     at: u64,
     text: Option<&'a [u8]>,
@@ -21,7 +21,7 @@ struct Change<'a> {
 }
 
 /// A change that is made.
-fn made(doc: u32, at: u64, text: Option<&[u8]>, length: u64) -> Change<'_> {
+pub fn made(doc: u32, at: u64, text: Option<&[u8]>, length: u64) -> Change<'_> {
     Change {
         doc,
         at,
@@ -87,7 +87,7 @@ fn expect_change(
 }
 
 /// Makes changes of a new archive, and answers its machine.
-fn expect_changes(
+pub fn expect_changes(
     rt: &impl Abort,
     alloc: Global,
     changes: &[Change<'_>],
