@@ -57,6 +57,13 @@ stands_more a b h e x body stands next more =
       changes_are = subst Q (sym more.changes_are) placed;
     }
 
+-- an archive that stood for a history stands for one, with an entry more
+pub stands_on : (a b : ArchiveState) (x : Change ℕ) (body : List ℕ) → ((h : History) → StandsFor a h → (e : Entry) × IsNext h e x body)
+    → (h : History) × StandsFor a h → IsMore a b x body → (h : History) × StandsFor b h
+stands_on a b x body next stands more =
+    let e = next stands.0 stands.1 in
+    (stands.0 ++ e.0 ∷ [], stands_more a b stands.0 e.0 x body stands.1 e.1 more)
+
 -- where the journal spells an image's bodies, the image stands for the history
 pub leads_to : (h : History) (e : Entry) (body : List ℕ) (old new : DiskState) → IsLegal h → IsLegalEntry h e → body ≡ spelling e
     → Appends (bodies_of h) body old new → LeadsTo h (h ++ e ∷ []) old new

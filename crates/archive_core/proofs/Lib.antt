@@ -1,4 +1,8 @@
 pub mod PlaceLemmas
+pub mod TextLemmas
+pub mod CountLemmas
+pub mod RisingLemmas
+pub mod ListLemmas
 pub mod AddLemmas
 pub mod HeadLemmas
 pub mod ReplayLemmas

@@ -6,22 +6,14 @@ use Rattle.time_base.specs.declared.ids.DocId.{DocId}
 use Rattle.time_base.specs.declared.time.Time.{Time}
 use Rattle.time_base.specs.declared.text_place.TextPlace.{TextPlace}
 use Rattle.version_store.specs.declared.change.Change.{Change}
-use Rattle.version_store.specs.Changes.{mapped}
 use Rattle.version_store.specs.Refusals.{arrive_refusal, delete_refusal}
 use Rattle.version_store.proofs.Mapped.{arrive_refusal-mapped, delete_refusal-mapped}
 use Rattle.record_codec.specs.Spelling.{spelling}
 use Rattle.record_codec.specs.declared.entry.Entry.{Entry}
 use Rattle.record_codec.specs.declared.entry.Entry.TheVariants.{Arrive, Delete}
 use Rattle.archive_state.specs.Histories.{History, changes, end_of}
+use Rattle.archive_core.specs.Texts.{nothing, bare}
 use Rattle.archive_core.specs.States.{IsPlace, IsPlaced, ArePlaced}
-
--- nothing, in the place of what is held
-abbrev nothing : {A : Type 0} → A → Unit {0}
-nothing x = tt
-
--- a change without what it holds
-abbrev bare : {A : Type 0} → Change A → Change (Unit {0})
-bare c = mapped nothing c
 
 abbrev a_text : Option (Unit {0})
 a_text = Some tt
@@ -30,7 +22,7 @@ held_bare : (at bytes : ℕ) (held : Option TextPlace) → IsPlace at bytes held
 held_bare at bytes None placed = absurd placed
 held_bare at bytes (Some place) placed = refl
 
-bare_changes : (gate : ℕ) (h : History) (cs : List (Change TextPlace)) → ArePlaced gate h cs → map bare cs ≡ map bare (changes h)
+pub bare_changes : (gate : ℕ) (h : History) (cs : List (Change TextPlace)) → ArePlaced gate h cs → map bare cs ≡ map bare (changes h)
 bare_changes gate [] [] placed = refl
 bare_changes gate [] (c ∷ cs) placed = absurd placed
 bare_changes gate (e ∷ h) [] placed = absurd placed

@@ -22,6 +22,11 @@ use Rattle.archive_state.specs.Stands.{bodies_of}
 use Rattle.archive_state.proofs.HistoryLemmas.{bodies_of-push, end_of-push, end_of_is, legal-push}
 use Rattle.archive_core.specs.States.{ArePlaced}
 use Rattle.archive_core.specs.Adding.{Makes, IsHeld, refusal_by, change_refusal}
+use Rattle.archive_core.specs.declared.error.LoadError.{LoadError}
+use Rattle.archive_core.specs.declared.error.LoadError.TheVariants as loads
+use Rattle.archive_core.specs.declared.error.ReadError.{ReadError}
+use Rattle.archive_core.specs.declared.error.ReadError.TheVariants as reads
+use Rattle.archive_core.specs.Causes.{load_error_of_read}
 use Rattle.archive_core.specs.Replaying.{IsReached, IsGoneOver, IsFaulty, IsReplayed, IsReplaying, IsBadAmong}
 use Rattle.archive_core.proofs.PlaceLemmas.{placed_push, placed_arrive_refusal, placed_delete_refusal}
 use Rattle.archive_core.proofs.AddLemmas.{makes_placed}
@@ -155,6 +160,12 @@ view_on bytes from journal other same view = let P : List ℕ → Type 0 = λ l.
 -- what a call's error is where the caller hands it on
 pub exit_is : {T U E : Type 0} (r : Result T E) (s : Result U E) (e y x : E) → r ≡ Err e → s ≡ Err y → y ≡ e → s ≡ Err x → r ≡ Err x
 exit_is r s e y x was made same is = cc
+
+-- a load whose read failed
+pub failed_read : {T U : Type 0} (r : Result T ReadError) (s : Result U LoadError) (e : ReadError) (y : LoadError) → r ≡ Err e → s ≡ Err y → y ≡ load_error_of_read e
+    → s ≡ Err loads.Failed → r ≡ Err reads.Failed
+failed_read r s reads.Failed y was made same is = was
+failed_read r s reads.Memory y was made same is = absurd cc
 
 -- one change more, by its parts
 pub pushed_is : (cs early more : List (Change TextPlace)) (x : Change ℕ) (p : Change TextPlace) → p.doc ≡ x.doc → p.at ≡ x.at → early ≡ cs → more ≡ early ++ p ∷ []

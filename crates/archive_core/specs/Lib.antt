@@ -1,4 +1,5 @@
 pub mod States
+pub mod Texts
 pub mod Changing
 pub mod Adding
 pub mod Replaying

@@ -12,10 +12,10 @@ use Rattle.archive_state.specs.Histories.{History, IsLegal, end_of}
 use Rattle.archive_state.specs.Stands.{bodies_of, IsMisspelled, IsIllegal}
 use Rattle.archive_core.specs.States.{ArePlaced}
 
--- so many bytes from a place on have the body of this record
-pub record Covers (from count : ℕ) (head : Head) : Type 0 where
-  pub begins : from ≤ head.body
-  pub ends : head.body + head.bytes ≤ from + count
+-- so many bytes from a place on have these many from another place on
+pub record Covers (from count at bytes : ℕ) : Type 0 where
+  pub begins : from ≤ at
+  pub ends : at + bytes ≤ from + count
 
 -- these are the changes of a legal history, and the next gate is at this place
 pub record IsReached (gate : ℕ) (history : History) (changes : List (Change TextPlace)) : Type 0 where

@@ -1,5 +1,5 @@
 //! The archive in hand, and its changes.
-ghost use Rattle.std.specs.Prelude.{◌≡◌, ◌⊎◌, ◌↔◌, ◌+◌, ◌<◌, ◌≤◌, ◌^◌, ◌++◌, [], ◌∷◌, ℕ, List, length, Some, None, Err, false, IsTrue, IfOk, OnOk, IsOk, IsErrOf};
+ghost use Rattle.std.specs.Prelude.{◌≡◌, ◌⊎◌, ◌↔◌, ◌+◌, ◌<◌, ◌≤◌, ◌^◌, ◌++◌, [], ◌∷◌, ℕ, List, length, Some, None, Err, true, false, IsTrue, IfOk, OnOk, IsOk, IsErrOf};
 ghost use Rattle.machine_model.specs.Causes.{Rose};
 ghost use Rattle.time_base.specs.Limits.{limit_of};
 ghost use Rattle.gate_journal.specs.InStep.{IsInStep};
@@ -8,7 +8,8 @@ ghost use Rattle.archive_state.specs.Histories.{History};
 ghost use Rattle.archive_state.specs.Steps.{arrival_refusal, deletion_refusal};
 ghost use Rattle.archive_core.specs.States.{StandsFor, IsKept};
 ghost use Rattle.archive_core.specs.Changing.{LeadsTo};
-ghost use Rattle.archive_core.specs.Adding.{IsMore, change_refusal};
+ghost use Rattle.record_codec.specs.declared.entry.Entry.{Entry};
+ghost use Rattle.archive_core.specs.Adding.{IsMore, IsNext, change_refusal};
 ghost use Rattle.record_codec.specs.declared.entry.Entry.TheVariants as entries;
 
 use crate::change::{TEXT_AT, may_come, note, placed};
@@ -34,13 +35,16 @@ pub struct Archive {
 
 impl Model for Archive {
     ghost use Rattle.std.specs.Prelude.{◌+◌, ◌≤◌, IsTrue};
-    ghost use Rattle.archive_core.specs.States.{ArchiveState};
+    ghost use Rattle.archive_state.specs.Histories.{History};
+    ghost use Rattle.archive_core.specs.States.{ArchiveState, StandsFor};
 
     ghost Value = { ArchiveState };
 
     ghost view = { λ a. record { end = a.journal.end; live = a.live; length = a.entries; changes = a.directory.changes } };
 
-    ghost invariant = { λ a. (IsTrue a.live → IsTrue a.journal.live) × (a.entries + 17 ≤ a.journal.end) };
+    // It stands for a history, which it shows on any disk.
+    ghost invariant = { λ a. (IsTrue a.live → IsTrue a.journal.live) × (a.entries + 17 ≤ a.journal.end)
+        × ((h : History) × StandsFor (record { end = a.journal.end; live = a.live; length = a.entries; changes = a.directory.changes }) h) };
 }
 
 impl Archive {
@@ -48,6 +52,7 @@ impl Archive {
     pub(crate) fn of(journal: Journal, directory: Directory, entries: u64) -> Archive
         requires live { IsTrue journal.live }
         requires few { entries + 17 ≤ journal.end }
+        requires stands { (h : History) × StandsFor (record { end = journal.end; live = true; length = entries; changes = directory.changes }) h }
         ensures end { result.end ≡ journal.end }
         ensures live { IsTrue result.live }
         ensures length { result.length ≡ entries }
@@ -74,6 +79,21 @@ impl Archive {
         ensures { result ≡ self.now.length }
     {
         self.entries
+    }
+
+    /// The journal, whose end is the archive's. Constant cost.
+    pub(crate) fn journal(&self) -> &Journal
+        ensures { result.now.end ≡ self.now.end }
+    {
+        &self.journal
+    }
+
+    /// The changes of documents with the places of their texts. Constant cost.
+    pub(crate) fn directory(&self) -> &Directory
+        ensures changes { result.now.changes ≡ self.now.changes }
+        ensures stands { (h : History) × StandsFor self.now h }
+    {
+        &self.directory
     }
 
     /// Adds a version of a document, and answers how many entries there are. At `Ok` the entry is
@@ -194,6 +214,7 @@ impl Archive {
         requires within { self.old.end ≤ (D.disk disk.old).reach.journal }
         requires fits { length body.now < 2 ^ 32 }
         requires allowed { change_refusal change self.old.changes ≡ None }
+        requires next { (h : History) → StandsFor self.old h → (entry : Entry) × IsNext h entry change body.now }
         ensures only { D.Disk.only disk.old disk.new }
         ensures failed { IsErrOf result ChangeError.Failed → Rose (D.disk disk.old).faults (D.disk disk.new).faults }
         ensures within { IsTrue self.new.live → self.new.end ≤ (D.disk disk.new).reach.journal }

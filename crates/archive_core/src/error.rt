@@ -4,7 +4,7 @@ ghost use Rattle.std.specs.Prelude.{◌≡◌};
 use archive_state::Refusal;
 use gate_journal::JournalError;
 use machine_model::Failed;
-use std::alloc::AllocError;
+use std::alloc::{AllocError, AllocFailed};
 
 /// Why an archive was not loaded.
 #[derive(Clone, Copy, Debug, PartialEq, Eq)]
@@ -18,6 +18,26 @@ pub enum LoadError {
         /// The place in the journal.
         at: u64,
     },
+    /// There was no memory.
+    Memory,
+}
+
+/// Why bytes of the journal were not read.
+#[derive(Clone, Copy, Debug, PartialEq, Eq)]
+pub(crate) enum ReadError {
+    /// A call of the disk failed.
+    Failed,
+    /// There was no memory.
+    Memory,
+}
+
+/// Why a question was not answered. Nothing was changed.
+#[derive(Clone, Copy, Debug, PartialEq, Eq)]
+pub enum AskError {
+    /// It is no question.
+    Refused(Refusal),
+    /// A call of the disk failed.
+    Failed,
     /// There was no memory.
     Memory,
 }
@@ -55,14 +75,75 @@ impl From<AllocError> for LoadError {
     }
 }
 
-impl From<Failed> for LoadError {
-    ghost use Rattle.archive_core.specs.declared.error.LoadError.TheVariants.{Failed};
+impl From<ReadError> for LoadError {
+    ghost use Rattle.archive_core.specs.Causes.{load_error_of_read};
+    ghost use Rattle.std.specs.Prelude.{◌≡◌};
+
+    ghost from_gives = { λ why e. e ≡ load_error_of_read why };
+
+    fn from(why: ReadError) -> Self {
+        match why {
+            ReadError::Failed => LoadError::Failed,
+            ReadError::Memory => LoadError::Memory,
+        }
+    }
+}
+
+impl From<ReadError> for AskError {
+    ghost use Rattle.archive_core.specs.Causes.{ask_error_of};
+    ghost use Rattle.std.specs.Prelude.{◌≡◌};
+
+    ghost from_gives = { λ why e. e ≡ ask_error_of why };
+
+    fn from(why: ReadError) -> Self {
+        match why {
+            ReadError::Failed => AskError::Failed,
+            ReadError::Memory => AskError::Memory,
+        }
+    }
+}
+
+impl From<AllocError> for AskError {
+    ghost use Rattle.archive_core.specs.declared.error.AskError.TheVariants.{Memory};
+    ghost use Rattle.std.specs.Prelude.{◌≡◌};
+
+    ghost from_gives = { λ _ e. e ≡ Memory };
+
+    fn from(_: AllocError) -> Self {
+        AskError::Memory
+    }
+}
+
+impl From<AllocError> for ReadError {
+    ghost use Rattle.archive_core.specs.declared.error.ReadError.TheVariants.{Memory};
+    ghost use Rattle.std.specs.Prelude.{◌≡◌};
+
+    ghost from_gives = { λ _ e. e ≡ Memory };
+
+    fn from(_: AllocError) -> Self {
+        ReadError::Memory
+    }
+}
+
+impl<T: Drop> From<AllocFailed<T>> for ReadError {
+    ghost use Rattle.archive_core.specs.declared.error.ReadError.TheVariants.{Memory};
+    ghost use Rattle.std.specs.Prelude.{◌≡◌};
+
+    ghost from_gives = { λ _ e. e ≡ Memory };
+
+    fn from(_: AllocFailed<T>) -> Self {
+        ReadError::Memory
+    }
+}
+
+impl From<Failed> for ReadError {
+    ghost use Rattle.archive_core.specs.declared.error.ReadError.TheVariants.{Failed};
     ghost use Rattle.std.specs.Prelude.{◌≡◌};
 
     ghost from_gives = { λ _ e. e ≡ Failed };
 
     fn from(_: machine_model::Failed) -> Self {
-        LoadError::Failed
+        ReadError::Failed
     }
 }
 

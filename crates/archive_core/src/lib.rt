@@ -7,14 +7,17 @@
 #![tactic(auto)]
 
 mod archive;
+mod asking;
 mod change;
+mod counting;
 mod error;
 mod laws;
 mod loading;
 mod replaying;
 mod text;
+mod texts;
 mod window;
 
 pub use archive::Archive;
-pub use error::{ChangeError, LoadError};
+pub use error::{AskError, ChangeError, LoadError};
 pub use laws::an_archive_in_step_stands;

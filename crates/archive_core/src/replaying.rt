@@ -40,8 +40,13 @@ pub(crate) fn replay<D: Disk>(
     let mut window = Window::new(alloc);
     let mut directory = Directory::new(alloc)?;
     for head in heads {
-        window.cover(disk, journal, head)?;
-        apply(alloc, &mut directory, head, window.body(head))?;
+        window.cover(disk, journal, head.body, head.bytes)?;
+        apply(
+            alloc,
+            &mut directory,
+            head,
+            window.piece(head.body, head.bytes),
+        )?;
     }
     Ok(directory)
 }

@@ -2,12 +2,11 @@
 ghost use Rattle.std.specs.Prelude.{◌≡◌, ◌+◌, ◌-◌, ◌<◌, ◌≤◌, length, take, drop, ℕ, IsErrOf, OnOk};
 ghost use Rattle.machine_model.specs.Causes.{Rose};
 ghost use Rattle.machine_model.specs.Calls.{OnlyReads};
-ghost use Rattle.gate_journal.specs.Heads.{LiesBefore};
 ghost use Rattle.gate_journal.specs.Scanning.{IsView};
 ghost use Rattle.archive_core.specs.Replaying.{Covers};
 
-use crate::error::LoadError;
-use gate_journal::{Head, Journal};
+use crate::error::ReadError;
+use gate_journal::Journal;
 use machine_model::Disk;
 use std::alloc::Global;
 
@@ -33,42 +32,42 @@ impl Window {
         }
     }
 
-    /// Makes the window have a body. Where it hasn't, the next bytes from the body on are read: as
-    /// many as a window has or the journal has left, or the whole of a longer body.
+    /// Makes the window have so many bytes from a place on. Where it hasn't, the next bytes from there
+    /// on are read: as many as a window has or the journal has left, or all that are asked for.
     pub(crate) fn cover<D: Disk>(
         &mut self,
         disk: &mut D,
         journal: &Journal,
-        head: &Head,
-    ) -> Result<(), LoadError>
-        requires inside { LiesBefore journal.now.end head.now }
+        at: u64,
+        bytes: u32,
+    ) -> Result<(), ReadError>
+        requires inside { at + bytes ≤ journal.now.end }
         requires reached { journal.now.end ≤ (D.disk disk.old).reach.journal }
         ensures only { D.Disk.only disk.old disk.new }
         ensures same { OnlyReads (D.disk disk.old) (D.disk disk.new) }
-        ensures failed { IsErrOf result LoadError.Failed → Rose (D.disk disk.old).faults (D.disk disk.new).faults }
-        ensures fair { (at : ℕ) → IsErrOf result (LoadError.NotArchive at) → ⊥ }
-        ensures covers { OnOk result (Covers self.new.from (length self.new.bytes.items) head.now) }
+        ensures failed { IsErrOf result ReadError.Failed → Rose (D.disk disk.old).faults (D.disk disk.new).faults }
+        ensures covers { OnOk result (Covers self.new.from (length self.new.bytes.items) at bytes) }
         ensures view { D.disk_tells → IsView self.old.bytes.items self.old.from (D.disk disk.old).holds.journal → OnOk result (IsView self.new.bytes.items self.new.from (D.disk disk.old).holds.journal) }
     {
         let journal_end = journal.end();
-        let body_end = head.body + u64::from(head.bytes);
-        if head.body < self.from || (self.bytes.len() as u64) < body_end - self.from {
-            let left = journal_end - head.body;
-            let count = left.min(WINDOW_BYTES).max(u64::from(head.bytes));
-            self.from = head.body;
+        let end = at + u64::from(bytes);
+        if at < self.from || (self.bytes.len() as u64) < end - self.from {
+            let left = journal_end - at;
+            let count = left.min(WINDOW_BYTES).max(u64::from(bytes));
+            self.from = at;
             self.bytes.resize(count as usize, 0)?;
-            journal.read(disk, head.body, &mut self.bytes)?;
+            journal.read(disk, at, &mut self.bytes)?;
         }
         Ok(())
     }
 
-    /// The bytes of a body that the window has. Constant cost.
-    pub(crate) fn body(&self, head: &Head) -> &[u8]
-        requires { Covers self.now.from (length self.now.bytes.items) head.now }
-        ensures bytes { result.now ≡ take head.now.bytes (drop (head.now.body - self.now.from) self.now.bytes.items) }
-        ensures len { length result.now ≡ head.now.bytes }
+    /// Bytes that the window has. Constant cost.
+    pub(crate) fn piece(&self, at: u64, bytes: u32) -> &[u8]
+        requires { Covers self.now.from (length self.now.bytes.items) at bytes }
+        ensures bytes { result.now ≡ take bytes (drop (at - self.now.from) self.now.bytes.items) }
+        ensures len { length result.now ≡ bytes }
     {
-        let start = (head.body - self.from) as usize;
-        &self.bytes[start..start + head.bytes as usize]
+        let start = (at - self.from) as usize;
+        &self.bytes[start..start + bytes as usize]
     }
 }

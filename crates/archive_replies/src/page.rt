@@ -1,19 +1,22 @@
 //! A page on which replies are written.
-ghost use Rattle.std.specs.Prelude.{◌≡◌, ◌+◌, ◌≤◌, [], ◌++◌, length, codes, decimal, IfOk};
+ghost use Rattle.std.specs.Prelude.{◌≡◌, ◌+◌, ◌≤◌, [], ◌++◌, length, codes, decimal, Some, None, IfOk, OnOk, OnErr};
 ghost use Rattle.archive_replies.specs.Pages.{reply_room};
-ghost use Rattle.archive_state.specs.Replies.{detail_text, reply_text, which_text};
-ghost use Rattle.archive_state.specs.Steps.{Accepted, Refused};
+ghost use Rattle.archive_state.specs.Replies.{detail_text, reply_text, row_text, which_text};
+ghost use Rattle.archive_state.specs.Steps.{Accepted, Refused, Found, Shown};
 
 use archive_state::Refusal;
 use itoa::Buffer;
+use query_eval::Row;
 use std::alloc::{AllocError, Global};
 use std::marker::Model;
 use time_base::Which;
 
-/// The bytes that a page has room for at least: more than the longest reply that takes no memory.
+/// The bytes that a page has room for at least: more than the longest reply that takes no memory,
+/// and than any line of an answer.
 pub const REPLY_ROOM: usize = 128;
 
-/// A page on which one reply at a time is written. Its memory is taken when it is made.
+/// A page on which one reply at a time is written. The memory for replies of one short line is taken
+/// when it is made; an answer or a text takes more where it is longer than the replies before it.
 #[derive(Drop)]
 pub struct ReplyPage {
     bytes: Vec<u8>,
@@ -70,6 +73,67 @@ impl ReplyPage {
         self.put(b"\n");
     }
 
+    /// Writes the rows that a query found, and that so many postings were read for them, in place of
+    /// what the page held. It takes memory; an error means that there was none, and leaves a part of
+    /// the reply. The cost is linear in the rows.
+    pub fn found(&mut self, rows: &[Row], read: u64) -> Result<(), AllocError>
+        ensures { OnOk result (self.new.bytes ≡ reply_text (Found rows.now read)) }
+    {
+        self.clear();
+        for row in rows {
+            self.put_row(row)?;
+        }
+        self.make_room(REPLY_ROOM)?;
+        self.put_named(b"end ", rows.len() as u64);
+        self.put_named(b" read ", read);
+        self.put(b"\n");
+        Ok(())
+    }
+
+    /// Writes a text that was asked for, in place of what the page held. It takes memory; an error
+    /// means that there was none, and leaves the page empty. The cost is linear in the text.
+    pub fn shown(&mut self, text: &[u8]) -> Result<(), AllocError>
+        ensures text { OnOk result (self.new.bytes ≡ reply_text (Shown (Some text.now))) }
+        ensures empty { OnErr result (self.new.bytes ≡ []) }
+    {
+        self.clear();
+        self.make_room(text.len() + REPLY_ROOM)?;
+        self.put_named(b"text ", text.len() as u64);
+        self.put(b"\n");
+        self.put(text);
+        self.put(b"\n");
+        Ok(())
+    }
+
+    /// Writes that there is no text, in place of what the page held. It takes no memory. Constant
+    /// cost.
+    pub fn none(&mut self)
+        ensures { self.new.bytes ≡ reply_text (Shown None) }
+    {
+        self.clear();
+        self.put(b"none\n");
+    }
+
+    /// Makes room for so many bytes more, where there is less. The cost is linear in what the page
+    /// holds where it grows, which over a reply is linear in the reply.
+    fn make_room(&mut self, bytes: usize) -> Result<(), AllocError>
+        ensures kept { self.new.bytes ≡ self.old.bytes }
+        ensures room { OnOk result (bytes ≤ self.new.room) }
+    {
+        self.bytes.reserve(bytes)
+    }
+
+    /// Adds the line of a row. It takes memory where there is no room. Constant cost but for that.
+    fn put_row(&mut self, row: &Row) -> Result<(), AllocError>
+        ensures { OnOk result (self.new.bytes ≡ self.old.bytes ++ row_text row.now) }
+    {
+        self.make_room(REPLY_ROOM)?;
+        self.put_named(b"hit ", u64::from(row.doc.0));
+        self.put_named(b" ", row.score);
+        self.put(b"\n");
+        Ok(())
+    }
+
     /// Empties the page. Constant cost.
     fn clear(&mut self)
         ensures bytes { self.new.bytes ≡ [] }
@@ -120,6 +184,7 @@ impl ReplyPage {
             Refusal::TooLong { limit } => self.put_named(b"TooLong ", limit),
             Refusal::BadText { offset } => self.put_named(b"BadText ", offset),
             Refusal::Full { which, limit } => self.put_full(which, limit),
+            Refusal::BadQuery { offset } => self.put_named(b"BadQuery ", offset),
         }
     }
 

@@ -1,7 +1,8 @@
 use crate::ReplyPage;
 use archive_state::Refusal;
+use query_eval::Row;
 use std::test::Fail;
-use time_base::{Time, Which};
+use time_base::{DocId, Time, Which};
 
 #[test]
 fn accepted_commands_are_answered_by_the_number_of_entries(rt: HostRuntime) -> Result<(), Fail> {
@@ -30,6 +31,7 @@ fn refusals_are_answered_by_number_name_and_detail(rt: HostRuntime) -> Result<()
         (full(Which::Documents), "no 10 Full documents 1048576\n"),
         (full(Which::Versions), "no 10 Full versions 4194304\n"),
         (full(Which::Journal), "no 10 Full journal 1099511627776\n"),
+        (Refusal::BadQuery { offset: 0 }, "no 11 BadQuery 0\n"),
     ] {
         page.refused(refusal);
         assert_eq!(rt; page.as_bytes(), text.as_bytes());
@@ -40,4 +42,41 @@ fn refusals_are_answered_by_number_name_and_detail(rt: HostRuntime) -> Result<()
 fn full(which: Which) -> Refusal {
     let limit = which.limit();
     Refusal::Full { which, limit }
+}
+
+#[test]
+fn answers_are_a_line_a_row_and_an_end(rt: HostRuntime) -> Result<(), Fail> {
+    let mut page = ReplyPage::new(rt.alloc())?;
+    page.found(&[row(7, 1)], 1)?;
+    assert_eq!(rt; page.as_bytes(), "hit 7 1\nend 1 read 1\n".as_bytes());
+    page.found(&[], 0)?;
+    assert_eq!(rt; page.as_bytes(), "end 0 read 0\n".as_bytes());
+    page.found(&[row(2, 3), row(5, 1), row(4294967295, 1)], 6)?;
+    assert_eq!(rt;
+        page.as_bytes(),
+        "hit 2 3\nhit 5 1\nhit 4294967295 1\nend 3 read 6\n".as_bytes()
+    );
+    Ok(())
+}
+
+fn row(doc: u32, score: u64) -> Row {
+    let doc = DocId(doc);
+    Row { doc, score }
+}
+
+#[test]
+fn texts_stand_behind_their_length(rt: HostRuntime) -> Result<(), Fail> {
+    let mut page = ReplyPage::new(rt.alloc())?;
+    page.shown(b"red a")?;
+    assert_eq!(rt; page.as_bytes(), "text 5\nred a\n".as_bytes());
+    page.none();
+    assert_eq!(rt; page.as_bytes(), "none\n".as_bytes());
+    page.shown(b"")?;
+    assert_eq!(rt; page.as_bytes(), "text 0\n\n".as_bytes());
+    let long = [b'x'; 1000];
+    page.shown(&long)?;
+    assert_eq!(rt; page.as_bytes().len(), 1011);
+    page.accepted(1);
+    assert_eq!(rt; page.as_bytes(), "ok 1\n".as_bytes());
+    Ok(())
 }

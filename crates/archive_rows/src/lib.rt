@@ -6,6 +6,8 @@
 #![tactic(auto)]
 
 #[cfg(test)]
+mod asking;
+#[cfg(test)]
 mod broken;
 #[cfg(test)]
 mod deletions;
@@ -13,6 +15,8 @@ mod deletions;
 mod faults;
 #[cfg(test)]
 mod foreign;
+#[cfg(test)]
+mod pieces;
 #[cfg(test)]
 mod replies;
 #[cfg(test)]

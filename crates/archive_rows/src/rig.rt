@@ -20,11 +20,30 @@ pub const NEW_JOURNAL: &[u8] = b"TIMETRAVELTEXT\x00\x01\x00";
 pub const FIRST_JOURNAL: &[u8] =
     b"TIMETRAVELTEXT\x00\x01\xa5\x00\x00\x00\x12\x01\x00\x00\x00\x07\x00\x00\x00\x00\x00\x00\x00\x0ared a\x00";
 
+/// Arrivals and deletions of two documents.
+pub const MIXED_SCRIPT: &[u8] =
+    b"arrive 8 10 3\nred\ndelete 8 20\narrive 7 20 0\n\narrive 8 30 3\nred\ndelete 7 40\n";
+
+/// The replies to these on a new archive.
+pub const MIXED_REPLIES: &[u8] = b"ok 1\nok 2\nok 3\nok 4\nok 5\n";
+
+/// The journal that they make.
+pub const MIXED_JOURNAL: &[u8] = b"TIMETRAVELTEXT\x00\x01\
+    \xa5\x00\x00\x00\x10\x01\x00\x00\x00\x08\x00\x00\x00\x00\x00\x00\x00\x0ared\
+    \xa5\x00\x00\x00\x0d\x02\x00\x00\x00\x08\x00\x00\x00\x00\x00\x00\x00\x14\
+    \xa5\x00\x00\x00\x0d\x01\x00\x00\x00\x07\x00\x00\x00\x00\x00\x00\x00\x14\
+    \xa5\x00\x00\x00\x10\x01\x00\x00\x00\x08\x00\x00\x00\x00\x00\x00\x00\x1ered\
+    \xa5\x00\x00\x00\x0d\x02\x00\x00\x00\x07\x00\x00\x00\x00\x00\x00\x00\x28\
+    \x00";
+
+/// Where its records end, and the journal's head.
+pub const MIXED_ENDS: [usize; 6] = [16, 37, 55, 73, 94, 112];
+
 /// The lengths above the least that images are picked with, in bytes.
 const EXTRAS: [u64; 3] = [0, 7, u64::MAX];
 
 /// What stands in the bytes that a stop leaves open.
-const FILLS: [Fill; 3] = [Fill::Written, Fill::Byte(0), Fill::Byte(0xa5)];
+pub const FILLS: [Fill; 3] = [Fill::Written, Fill::Byte(0), Fill::Byte(0xa5)];
 
 /// Pieces one behind another.
 pub fn join(alloc: Global, pieces: &[&[u8]]) -> Result<Vec<u8>, Fail> {

@@ -1,7 +1,12 @@
 //! What a stop may leave: after each device call of a run, and where a call of it fails.
-use crate::rig::{FIRST_SCRIPT, expect_entries, expect_shown, make_machine, pick_entries, run_on};
+use crate::rig::{
+    FILLS, FIRST_SCRIPT, MIXED_ENDS, MIXED_JOURNAL, MIXED_REPLIES, MIXED_SCRIPT, expect_entries,
+    expect_shown, load_image, make_machine, pick_entries, pick_image, run_on,
+};
 use archive_shell::Status;
-use machine_mem::{CallKind, Fault, Fill, Tail};
+use machine_mem::{CallKind, Fault, Fill, Picked, Tail};
+use std::alloc::Global;
+use std::process::Abort;
 use std::test::Fail;
 
 // The run syncs the disk, writes a new journal and syncs it, and then appends the record: it writes
@@ -28,17 +33,45 @@ fn a_stop_among_arrivals_and_deletions_leaves_what_was_acknowledged_or_one_more(
     rt: HostRuntime,
 ) -> Result<(), Fail> {
     let alloc = rt.alloc();
-    let script =
-        b"arrive 8 10 3\nred\ndelete 8 20\narrive 7 20 0\n\narrive 8 30 3\nred\ndelete 7 40\n";
-    let mut machine = make_machine(&rt, alloc, script, b"", &[])?;
+    let mut machine = make_machine(&rt, alloc, MIXED_SCRIPT, b"", &[])?;
     assert_eq!(rt; run_on(&rt, alloc, &mut machine), Status::Done);
-    assert_eq!(rt;
-        machine.shown(),
-        b"ok 1\nok 2\nok 3\nok 4\nok 5\n".as_slice()
-    );
+    assert_eq!(rt; machine.shown(), MIXED_REPLIES);
     // three calls at the load, and four and a push for each command
     assert_eq!(rt; machine.moments(), 29);
     expect_shown(&rt, alloc, &machine, 0)
+}
+
+/// The archive of an image that the mixed script may leave: its journal spells as many of the
+/// script's entries as it has. A stop at any moment inside its load leaves the same history.
+fn expect_same_after_stops(rt: &impl Abort, alloc: Global, picked: Picked) -> Result<(), Fail> {
+    let journal = Vec::from_slice(alloc, &picked.image.journal)?;
+    let (archive, machine) = load_image(rt, alloc, picked.image)?;
+    let entries = archive.length();
+    assert!(rt; entries <= 5);
+    let end = MIXED_ENDS[entries as usize];
+    assert!(rt; entries == 0 || journal.starts_with(&MIXED_JOURNAL[..end]));
+    for moment in 0..machine.moments() {
+        expect_entries(rt, alloc, &machine, moment, entries, entries)?;
+    }
+    Ok(())
+}
+
+#[test]
+fn a_stop_inside_the_load_that_follows_leaves_the_same_history(
+    rt: HostRuntime,
+) -> Result<(), Fail> {
+    let alloc = rt.alloc();
+    let mut machine = make_machine(&rt, alloc, MIXED_SCRIPT, b"", &[])?;
+    assert_eq!(rt; run_on(&rt, alloc, &mut machine), Status::Done);
+    for moment in 0..machine.moments() {
+        for fill in FILLS {
+            for extra in [0, 7, u64::MAX] {
+                let picked = pick_image(&rt, alloc, &machine, moment, Tail { extra, fill })?;
+                expect_same_after_stops(&rt, alloc, picked)?;
+            }
+        }
+    }
+    Ok(())
 }
 
 #[test]

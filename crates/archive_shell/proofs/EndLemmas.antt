@@ -1,5 +1,7 @@
 -- A whole run: the load, and then the commands.
-use Rattle.std.proofs.Common.{◌≡◌, ◌⊎◌, ℕ, ◌<◌, ◌≤◌, ◌^◌, Bool, true, false, List, [], ◌++◌, length, refl, inl, inr, ap, subst, sym, ◌∙◌, arith}
+use Rattle.std.proofs.Common.{codes, ◌∷◌, ◌≡◌, ◌⊎◌, ℕ, ◌<◌, ◌≤◌, ◌^◌, Bool, true, false, List, [], ◌++◌, length, Some, None, refl, inl, inr, ap, subst, sym, ◌∙◌, arith}
+use Rattle.std.specs.List.{flat_map}
+use Rattle.std.specs.Fmt.{decimal}
 use Rattle.std.proofs.lemmas.List.{append-nil, length-append}
 use Rattle.machine_model.specs.Causes.{Rose}
 use Rattle.machine_model.specs.States.{SourceState, SinkState, DiskState}
@@ -9,8 +11,8 @@ use Rattle.script_read.specs.Reading.{Held, fresh}
 use Rattle.script_read.proofs.ItemLemmas.{script-whole, script-unbroken}
 use Rattle.script_read.proofs.ReadingLemmas.{Reads_start}
 use Rattle.archive_state.specs.Histories.{History}
-use Rattle.archive_state.specs.Steps.{Reply, Accepted, Refused}
-use Rattle.archive_state.specs.Replies.{reply_text}
+use Rattle.archive_state.specs.Steps.{Reply, Accepted, Refused, Found, Shown}
+use Rattle.archive_state.specs.Replies.{reply_text, row_text}
 use Rattle.archive_state.specs.Standing.{Carried}
 use Rattle.archive_state.specs.Stands.{Stands, EachStands}
 use Rattle.archive_state.proofs.RunLemmas.{carried_joins, reopens, state_after_all}
@@ -30,6 +32,9 @@ use Rattle.archive_shell.proofs.TurnLemmas.{each_stands}
 some_bytes : (r : Reply) → 1 ≤ length (reply_text r)
 some_bytes (Accepted n) = omega arith
 some_bytes (Refused why) = omega arith
+some_bytes (Found rows read) = omega (arith, length-append (flat_map row_text rows ++ codes "end " ++ decimal (length rows) ++ codes " read " ++ decimal read) (10 ∷ []))
+some_bytes (Shown None) = omega arith
+some_bytes (Shown (Some text)) = omega arith
 
 -- calls that keep a history are no turn of it
 no_turn : (history : History) (before : List ℕ) (old new : DiskState) → old.now.beside ≡ before → KeepsHistory history old new → Carried {R = Reply} reply_text Stands history [] before old new
@@ -70,6 +75,7 @@ pub serving_start : (history : History) (input : SourceState) (output : SinkStat
 serving_start history input output d archive held is beside kept =
     let H : Held → Type 0 = λ r. Serving history input input output output d d archive r in
     subst H (sym is) (record {
+      legal = kept.stands.legal;
       pulled = [];
       pulled_are = refl;
       told = λ e. cc;

@@ -1,15 +1,18 @@
 -- A run that goes on, and how it ends.
-use Rattle.std.proofs.Common.{◌≡◌, ℕ, ◌≤◌, Bool, true, zero, suc, List, [], ◌∷◌, ◌++◌, length, map, drop, refl, inl, inr, ap, subst, sym, ◌∙◌, arith, append_assoc}
+use Rattle.std.proofs.Common.{◌≡◌, ℕ, ◌≤◌, Bool, true, zero, suc, List, [], ◌∷◌, ◌++◌, length, map, drop, All, refl, inl, inr, ap, subst, sym, ◌∙◌, arith, append_assoc}
 use Rattle.std.proofs.lemmas.List.{length-drop, map-append}
+use Rattle.std.proofs.lemmas.List.Elements.{All-head, All-tail, All-map, All-weaker}
 use Rattle.machine_model.specs.States.{SourceState, SinkState, DiskState}
 use Rattle.machine_model.specs.Pushes.{IsPrefix}
-use Rattle.script_read.specs.Items.{first, Items, IsNoItem, Splits}
+use Rattle.script_read.specs.Items.{first, Items, IsNoItem, Splits, HasDocument}
 use Rattle.script_read.specs.declared.command.Command as script
+use Rattle.script_read.specs.declared.command.Command.TheVariants as scripts
+use Rattle.script_read.proofs.RangeLemmas.{Items-documents}
 use Rattle.script_read.specs.declared.first.First.{First}
 use Rattle.script_read.specs.declared.first.First.TheVariants.{Whole, Broken, More, End}
 use Rattle.script_read.proofs.ItemLemmas.{whole-within}
-use Rattle.archive_state.specs.Histories.{History}
-use Rattle.archive_state.specs.Steps.{Command, Reply, Step}
+use Rattle.archive_state.specs.Histories.{History, IsLegal}
+use Rattle.archive_state.specs.Steps.{Command, Reply, Step, IsInRange}
 use Rattle.archive_state.specs.Replies.{reply_text}
 use Rattle.archive_state.specs.Runs.{Turn, IsRun, shown_by}
 use Rattle.archive_state.specs.Standing.{last_state, Carried}
@@ -19,15 +22,35 @@ use Rattle.archive_shell.specs.Commands.{command_of}
 use Rattle.archive_shell.specs.Headline.{CarriesOutAll, EndsEarly, StoodAt}
 use Rattle.archive_shell.specs.Serving.{Serves}
 use Rattle.archive_shell.specs.declared.status.Status.{Status}
-use Rattle.archive_shell.proofs.TurnLemmas.{each_steps}
+use Rattle.archive_state.proofs.TurnLemmas.{each_turn, step_legal}
 
--- a run over any commands
-pub run_on : (history : History) (commands : List Command) → (turns : List (Turn Reply History)) × IsRun Step history commands turns
-run_on history [] = ([], tt)
-run_on history (command ∷ commands) =
-    let turn = each_steps history command in
-    let further = run_on turn.0.next commands in
+-- a run from a legal history keeps it legal, where the commands are in range
+run_legal : (history : History) (commands : List Command) (turns : List (Turn Reply History)) → IsLegal history → All IsInRange commands → IsRun Step history commands turns → IsLegal (last_state history turns)
+run_legal history [] [] legal range run = legal
+run_legal history [] (turn ∷ turns) legal range run = absurd run
+run_legal history (command ∷ commands) [] legal range run = absurd run
+run_legal history (command ∷ commands) (turn ∷ turns) legal range run =
+    run_legal turn.next commands turns (step_legal history command turn.reply turn.next legal (All-head IsInRange command commands range) run.0) (All-tail IsInRange command commands range) run.1
+
+-- and goes on over any such commands
+run_on : (history : History) (commands : List Command) → IsLegal history → All IsInRange commands → (turns : List (Turn Reply History)) × IsRun Step history commands turns
+run_on history [] legal range = ([], tt)
+run_on history (command ∷ commands) legal range =
+    let turn = each_turn history command legal in
+    let next = step_legal history command turn.0.reply turn.0.next legal (All-head IsInRange command commands range) turn.1 in
+    let further = run_on turn.0.next commands next (All-tail IsInRange command commands range) in
     (turn.0 ∷ further.0, (turn.1, further.1))
+
+-- the commands of items are in range
+in_range : (command : script.Command) → HasDocument command → IsInRange (command_of command)
+in_range (scripts.Arrive doc at text) has = has
+in_range (scripts.Delete doc at) has = has
+in_range (scripts.Find at query) has = tt
+in_range (scripts.Show doc at) has = has
+
+items_in_range : (ended : Bool) (bytes : List ℕ) (items : List script.Command) (rest : List ℕ) → Items ended bytes items rest → All IsInRange (map command_of items)
+items_in_range ended bytes items rest read =
+    All-map IsInRange command_of items (All-weaker HasDocument (λ c. IsInRange (command_of c)) in_range items (Items-documents ended bytes items rest read))
 
 -- bytes split into items and a rest that begins with no whole item
 abbrev HasSplit : Bool → List ℕ → Type 0
@@ -71,12 +94,13 @@ stood_early status ended pulled rest early = record {
 -- A run that ended early: the abstract machine goes on over the commands that were not reached.
 pub ended_early : (history : History) (status : Status) (input input_now : SourceState) (output output_now : SinkState) (old new : DiskState)
     (pulled : List ℕ) (ended : Bool) (items : List script.Command) (since : List ℕ) (turns : List (Turn Reply History)) (shown : List ℕ)
-    → EndsEarly status → input.left ≡ pulled ++ input_now.left → (ended ≡ true → input_now.left ≡ []) → Items ended pulled items since
+    → IsLegal history → EndsEarly status → input.left ≡ pulled ++ input_now.left → (ended ≡ true → input_now.left ≡ []) → Items ended pulled items since
     → IsRun Step history (map command_of items) turns → output_now.shown ≡ output.shown ++ shown → IsPrefix shown (shown_by reply_text turns)
     → Carried reply_text Stands history turns output.shown old new → Serves history status input input_now output output_now old new
-ended_early history status input input_now output output_now old new pulled ended items since turns shown early pulled_are told read run shown_is front carried =
+ended_early history status input input_now output output_now old new pulled ended items since turns shown legal early pulled_are told read run shown_is front carried =
     let behind = split_within (length since) ended since (omega arith) in
-    let further = run_on (last_state history turns) (map command_of behind.0) in
+    let reached = run_legal history (map command_of items) turns legal (items_in_range ended pulled items since read) run in
+    let further = run_on (last_state history turns) (map command_of behind.0) reached (items_in_range ended since behind.0 behind.1 behind.2.0) in
     record {
       pulled = pulled;
       pulled_are = pulled_are;

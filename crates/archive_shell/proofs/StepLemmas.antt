@@ -134,7 +134,7 @@ ended_by history input mid new_input output output_now old now archive held held
     (omega (arith, pulls.says.1, serving.reads.before, length-append serving.since pulls.more, length-append serving.pulled pulls.more)))
 ended_by history input mid new_input output output_now old now archive held held_now errors.Memory serving pulls =
     ended_early history Memory input new_input output output_now old now (serving.pulled ++ pulls.more) held_now.ended serving.items (serving.since ++ pulls.more) serving.turns (shown_by reply_text serving.turns)
-    (inr (inr refl)) (serving.pulled_are ∙ ap (λ (l : List ℕ). serving.pulled ++ l) pulls.gave ∙ sym (append_assoc serving.pulled pulls.more new_input.left)) pulls.told
+    serving.legal (inr (inr refl)) (serving.pulled_are ∙ ap (λ (l : List ℕ). serving.pulled ++ l) pulls.gave ∙ sym (append_assoc serving.pulled pulls.more new_input.left)) pulls.told
     (Reads_items serving.pulled serving.items serving.since held pulls.more held_now serving.reads pulls.calm)
     serving.run serving.shown ([], sym (append-nil (shown_by reply_text serving.turns))) serving.carried
 
@@ -177,6 +177,7 @@ serving_next history input mid new_input output output_now output_new old now ne
     let turn = out.turn in
     let before : List ℕ = output.shown in
     record {
+      legal = serving.legal;
       pulled = serving.pulled ++ pulls.more;
       pulled_are = serving.pulled_are ∙ ap (λ (l : List ℕ). serving.pulled ++ l) pulls.gave ∙ sym (append_assoc serving.pulled pulls.more new_input.left);
       told = pulls.told;
@@ -202,7 +203,7 @@ stopped history input mid new_input output output_now output_new old now new arc
     let before : List ℕ = output.shown in
     let reads = Reads_next serving.pulled serving.items serving.since held pulls.more command pulls.says.0 held_now serving.reads pulls.calm pulls.says.1 in
     ended_early history (status_of_stop stop) input new_input output output_new old new (serving.pulled ++ pulls.more) held_now.ended (serving.items ++ command ∷ []) (drop pulls.says.0 (serving.since ++ pulls.more))
-    (serving.turns ++ turn ∷ []) (shown_by reply_text serving.turns ++ out.shown) (early stop)
+    (serving.turns ++ turn ∷ []) (shown_by reply_text serving.turns ++ out.shown) serving.legal (early stop)
     (serving.pulled_are ∙ ap (λ (l : List ℕ). serving.pulled ++ l) pulls.gave ∙ sym (append_assoc serving.pulled pulls.more new_input.left)) pulls.told
     (read_so_far reads)
     (turned history serving.items command serving.turns turn serving.run out.step)

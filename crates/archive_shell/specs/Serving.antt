@@ -5,7 +5,7 @@ use Rattle.machine_model.specs.Pushes.{IsPrefix}
 use Rattle.script_read.specs.Items.{Splits}
 use Rattle.script_read.specs.Reading.{Held, Reads}
 use Rattle.script_read.specs.declared.command.Command as script
-use Rattle.archive_state.specs.Histories.{History}
+use Rattle.archive_state.specs.Histories.{History, IsLegal}
 use Rattle.archive_state.specs.Steps.{Reply, Step}
 use Rattle.archive_state.specs.Replies.{reply_text}
 use Rattle.archive_state.specs.Runs.{Turn, IsRun, shown_by}
@@ -19,6 +19,7 @@ use Rattle.archive_shell.specs.declared.status.Status.{Status}
 -- Since a run began from this history, each whole item of the bytes pulled was carried out and its reply shown, and the archive is in
 -- step with its disk after the last of them.
 pub record Serving (history : History) (input input_now : SourceState) (output output_now : SinkState) (old now : DiskState) (archive : ArchiveState) (held : Held) : Type 0 where
+  pub legal : IsLegal history
   pub pulled : List ℕ
   pub pulled_are : input.left ≡ pulled ++ input_now.left
   pub told : held.ended ≡ true → input_now.left ≡ []

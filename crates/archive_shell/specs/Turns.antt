@@ -12,6 +12,8 @@ use Rattle.archive_core.specs.States.{ArchiveState, IsKept}
 use Rattle.archive_core.specs.Changing.{LeadsTo}
 use Rattle.archive_core.specs.declared.error.ChangeError.{ChangeError}
 use Rattle.archive_core.specs.declared.error.ChangeError.TheVariants as errors
+use Rattle.archive_core.specs.declared.error.AskError.{AskError}
+use Rattle.archive_core.specs.declared.error.AskError.TheVariants as asks
 use Rattle.archive_shell.specs.declared.stop.Stop.{Stop}
 use Rattle.archive_shell.specs.declared.stop.Stop.TheVariants.{Disk, Memory}
 
@@ -20,6 +22,12 @@ abbrev pub Refuses : ChangeError → Result (Unit {0}) Stop → List ℕ → Typ
 Refuses (errors.Refused why) result page = IsOk result × (page ≡ reply_text (Refused why))
 Refuses errors.Failed result page = result ≡ Err Disk
 Refuses errors.Memory result page = result ≡ Err Memory
+
+-- what comes of a question that was not answered: its refusal is on the page, or the run is stopped
+abbrev pub Declines : AskError → Result (Unit {0}) Stop → List ℕ → Type 0
+Declines (asks.Refused why) result page = IsOk result × (page ≡ reply_text (Refused why))
+Declines asks.Failed result page = result ≡ Err Disk
+Declines asks.Memory result page = result ≡ Err Memory
 
 -- A command that was answered, or during which the run was stopped: it has a turn of the abstract machine. Each image left since the
 -- start stands for the history before the turn or after it; where it was answered the archive stands for the latter, and the page has

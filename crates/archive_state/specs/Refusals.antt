@@ -13,6 +13,7 @@ number_of refusals.NoDocument = 4
 number_of (refusals.TooLong limit) = 5
 number_of (refusals.BadText offset) = 6
 number_of (refusals.Full which limit) = 10
+number_of (refusals.BadQuery offset) = 11
 
 -- a refusal of the directory of versions, as one of the archive
 abbrev pub refusal_of : VersionRefusal → Refusal

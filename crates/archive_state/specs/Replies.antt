@@ -1,12 +1,14 @@
--- The text of a reply: one line.
-use Rattle.std.specs.Prelude.{ℕ, List, [], ◌∷◌, ◌++◌, codes}
+-- The text of a reply: one or more lines.
+use Rattle.std.specs.Prelude.{ℕ, List, [], ◌∷◌, ◌++◌, length, Option, Some, None, codes}
+use Rattle.std.specs.List.{flat_map}
 use Rattle.std.specs.Fmt.{decimal}
 use Rattle.time_base.specs.declared.which.Which.{Which}
 use Rattle.time_base.specs.declared.which.Which.TheVariants.{Documents, Versions, Words, Journal, Pages}
+use Rattle.query_eval.specs.declared.answer.Row.{Row}
 use Rattle.archive_state.specs.declared.refusal.Refusal.{Refusal}
 use Rattle.archive_state.specs.declared.refusal.Refusal.TheVariants as refusals
 use Rattle.archive_state.specs.Refusals.{number_of}
-use Rattle.archive_state.specs.Steps.{Reply, Accepted, Refused}
+use Rattle.archive_state.specs.Steps.{Reply, Accepted, Refused, Found, Shown}
 
 -- the name of a limit in a reply
 abbrev pub which_text : Which → List ℕ
@@ -24,11 +26,27 @@ detail_text refusals.NoDocument = codes "NoDocument"
 detail_text (refusals.TooLong limit) = codes "TooLong " ++ decimal limit
 detail_text (refusals.BadText offset) = codes "BadText " ++ decimal offset
 detail_text (refusals.Full which limit) = codes "Full " ++ which_text which ++ codes " " ++ decimal limit
+detail_text (refusals.BadQuery offset) = codes "BadQuery " ++ decimal offset
 
 abbrev pub refusal_text : Refusal → List ℕ
 refusal_text why = codes "no " ++ decimal (number_of why) ++ codes " " ++ detail_text why ++ 10 ∷ []
+
+-- the line of a row: the document and the score
+abbrev pub row_text : Row → List ℕ
+row_text row = codes "hit " ++ decimal row.doc.0 ++ codes " " ++ decimal row.score ++ 10 ∷ []
+
+-- a line for each row, and how many there are, with how many postings were read
+abbrev pub answer_text : List Row → ℕ → List ℕ
+answer_text rows read = flat_map row_text rows ++ codes "end " ++ decimal (length rows) ++ codes " read " ++ decimal read ++ 10 ∷ []
+
+-- a text with its length in front, or that there is none
+abbrev pub shown_text : Option (List ℕ) → List ℕ
+shown_text None = codes "none" ++ 10 ∷ []
+shown_text (Some text) = codes "text " ++ decimal (length text) ++ 10 ∷ text ++ 10 ∷ []
 
 -- the text of a reply
 abbrev pub reply_text : Reply → List ℕ
 reply_text (Accepted count) = codes "ok " ++ decimal count ++ 10 ∷ []
 reply_text (Refused why) = refusal_text why
+reply_text (Found rows read) = answer_text rows read
+reply_text (Shown text) = shown_text text

@@ -1,5 +1,5 @@
 -- The machine that an archive is: what a command does to a history, and what is replied.
-use Rattle.std.specs.Prelude.{◌≡◌, ℕ, nat_lt, not, List, [], ◌∷◌, ◌++◌, length, Option, Some, None}
+use Rattle.std.specs.Prelude.{◌≡◌, ℕ, ◌<◌, ◌^◌, nat_lt, not, List, [], ◌∷◌, ◌++◌, length, Option, Some, None}
 use Rattle.std.specs.Option.{option_map}
 use Rattle.std.specs.Str.{is_utf8}
 use Rattle.std.specs.Str.Lossy.{utf8_valid_len}
@@ -11,9 +11,12 @@ use Rattle.version_store.specs.Tests.{first_of, when}
 use Rattle.record_codec.specs.Spelling.{most_text}
 use Rattle.record_codec.specs.declared.entry.Entry.{Entry}
 use Rattle.record_codec.specs.declared.entry.Entry.TheVariants as entries
+use Rattle.query_eval.specs.Queries.{Query, query_of, words_of}
+use Rattle.query_eval.specs.declared.answer.Row.{Row}
 use Rattle.archive_state.specs.declared.refusal.Refusal.{Refusal}
 use Rattle.archive_state.specs.declared.refusal.Refusal.TheVariants as refusals
-use Rattle.archive_state.specs.Histories.{History, entry_refusal, end_of}
+use Rattle.archive_state.specs.Histories.{History, entry_refusal, end_of, text_at}
+use Rattle.archive_state.specs.Answers.{IsAnswerAt, IsReadFor}
 use Rattle.archive_state.specs.Refusals.{refusal_of}
 
 -- a command of the script
@@ -22,12 +25,27 @@ pub data Command : Type 0 where
   Arrive : DocId → Time → List ℕ → Command
   -- a tombstone for a document
   Delete : DocId → Time → Command
+  -- what a query finds as of a time; the query as it was written
+  Find : Time → List ℕ → Command
+  -- the text of a document that is alive at a time
+  Show : DocId → Time → Command
+
+-- the document that a command names, if it names one, is a number below 2^32
+abbrev pub IsInRange : Command → Type 0
+IsInRange (Arrive doc at text) = doc.0 < 2 ^ 32
+IsInRange (Delete doc at) = doc.0 < 2 ^ 32
+IsInRange (Find at text) = Unit {0}
+IsInRange (Show doc at) = doc.0 < 2 ^ 32
 
 -- what a command is answered
 pub data Reply : Type 0 where
   -- it is carried out, and the history has so many entries now
   Accepted : ℕ → Reply
   Refused : Refusal → Reply
+  -- the rows that match, and how many postings were read for them
+  Found : List Row → ℕ → Reply
+  -- the text, if the document is alive then
+  Shown : Option (List ℕ) → Reply
 
 -- the text has more bytes than a text may have
 abbrev pub too_long : List ℕ → Option Refusal
@@ -60,7 +78,15 @@ abbrev pub Adds : History → Entry → Option Refusal → Reply → History →
 Adds old entry None reply new = (new ≡ old ++ entry ∷ []) × (reply ≡ Accepted (length new))
 Adds old entry (Some why) reply new = (new ≡ old) × (reply ≡ Refused why)
 
+-- What is found at a time by a query, if one was written.
+abbrev pub Finds : History → Time → Option Query → Reply → Type 0
+Finds history at None reply = reply ≡ Refused (refusals.BadQuery 0)
+Finds history at (Some query) reply =
+    (rows : List Row) × (read : ℕ) × IsAnswerAt history at.seconds query rows × IsReadFor history (words_of query) read × (reply ≡ Found rows read)
+
 -- From the old history, the archive may give this reply to the command and go on to the new one.
 abbrev pub Step : History → Command → Reply → History → Type 0
 Step old (Arrive doc at text) reply new = Adds old (entries.Arrive doc at text) (arrival_refusal old doc at text) reply new
 Step old (Delete doc at) reply new = Adds old (entries.Delete doc at) (deletion_refusal old doc at) reply new
+Step old (Find at text) reply new = (new ≡ old) × Finds old at (query_of text) reply
+Step old (Show doc at) reply new = (new ≡ old) × (reply ≡ Shown (text_at old doc at.seconds))

@@ -4,6 +4,8 @@ ghost use Rattle.machine_model.specs.Areas.{Bytes};
 ghost use Rattle.gate_journal.specs.Records.{front};
 ghost use Rattle.record_codec.specs.declared.entry.Entry.{Entry};
 ghost use Rattle.archive_state.specs.Histories.{History, IsLegal, IsLegalEntry, end_of};
+ghost use Rattle.archive_state.specs.Steps.{Command, Reply, Step, IsInRange};
+ghost use Rattle.archive_state.specs.Runs.{Turn};
 ghost use Rattle.archive_state.specs.Stands.{Stands, IsNotArchive, bodies_of};
 
 /// A history is legal as far as each of its entries is, and its journal ends behind the closed gate.
@@ -12,6 +14,13 @@ pub fn a_history_is_legal_entry_by_entry()
     ensures more { (h : History) (e : Entry) → IsLegal h → IsLegalEntry h e → IsLegal (h ++ e ∷ []) }
     ensures middle { (h : History) (e : Entry) (rest : History) → IsLegal (h ++ e ∷ rest) → IsLegal h × IsLegalEntry h e }
     ensures end { (h : History) → end_of h ≡ length (front (bodies_of h)) + 1 }
+{}
+
+/// The abstract machine never gets stuck: from a legal history each command has a turn; and where the
+/// command is in range, it leads to a legal history. Does nothing.
+pub fn each_command_has_a_turn()
+    ensures turn { (h : History) (c : Command) → IsLegal h → (turn : Turn Reply History) × Step h c turn.reply turn.next }
+    ensures legal { (h : History) (c : Command) (reply : Reply) (next : History) → IsLegal h → IsInRange c → Step h c reply next → IsLegal next }
 {}
 
 /// An image stands for one history at most, and one that stands for a history is refused nowhere.

@@ -34,6 +34,11 @@ pub enum Refusal {
         /// How many of these there may be.
         limit: u64,
     },
+    /// A query isn't one.
+    BadQuery {
+        /// Where that shows, in bytes from its start.
+        offset: u64,
+    },
 }
 
 impl Refusal {
@@ -48,6 +53,7 @@ impl Refusal {
             Refusal::TooLong { .. } => 5,
             Refusal::BadText { .. } => 6,
             Refusal::Full { .. } => 10,
+            Refusal::BadQuery { .. } => 11,
         }
     }
 }

@@ -1,5 +1,5 @@
 -- Numbers sorted and freed of repeats, and the table that is made of them.
-use Rattle.std.specs.Prelude.{◌≡◌, ◌↔◌, ℕ, ◌≤◌, ◌<◌, ◌^◌, nat_lt, nat_le, List, [], ◌∷◌, ◌++◌, map, length, All, Contains, count_by}
+use Rattle.std.specs.Prelude.{◌≡◌, ◌↔◌, ℕ, nat_lt, nat_le, List, [], ◌∷◌, ◌++◌, map, Contains, count_by}
 use Rattle.std.specs.List.{dedup}
 use Rattle.std.specs.List.Sorted.{IsStrictlyIncreasing, IsSorted, IsPermutation}
 use Rattle.std.specs.Ordering.{nat_cmp}
@@ -9,7 +9,7 @@ use Rattle.std.proofs.lemmas.List.Kept.{Contains-dedup_nat, Contains-from_dedup}
 use Rattle.std.proofs.lemmas.List.Sorted.{Contains-permutation, IsPermutation-sym}
 use Rattle.time_base.specs.declared.posting.Posting.{Posting}
 use Rattle.postings.specs.Sizes.{begun, ended}
-use Rattle.elementary.specs.Boundaries.{ends, AreBoundaries}
+use Rattle.elementary.specs.Boundaries.{AreBoundaries}
 use Rattle.elementary.proofs.Sums.{count_moved}
 
 pub grouped : (f : ℕ) (s t a b c d : List ℕ) → a ≡ [] → b ≡ a ++ f ∷ [] → c ≡ b ++ s → d ≡ c ++ t → d ≡ f ∷ (s ++ t)

@@ -1,6 +1,6 @@
 -- What the counts at boundaries say of a list.
-use Rattle.std.specs.Prelude.{◌≡◌, ◌⊎◌, ℕ, zero, suc, ◌+◌, ◌-◌, ◌*◌, ◌^◌, ◌<◌, ◌≤◌, nat_lt, nat_le, ◌&&◌, cond, List, [], ◌∷◌, ◌++◌, map, length, get_or, slice_index, All, Contains, refl}
-use Rattle.std.specs.List.Sorted.{IsStrictlyIncreasing, IsNonDecreasing}
+use Rattle.std.specs.Prelude.{◌≡◌, ◌⊎◌, ℕ, ◌+◌, ◌-◌, ◌*◌, ◌^◌, ◌<◌, ◌≤◌, nat_lt, nat_le, ◌&&◌, cond, true, List, [], ◌∷◌, ◌++◌, map, length, get_or, slice_index, All, Contains, refl}
+use Rattle.std.specs.List.Sorted.{IsStrictlyIncreasing}
 use Rattle.std.proofs.Common.{arith, ap, sym, ◌∙◌, subst, inl, inr}
 use Rattle.std.proofs.lemmas.Bool.Decides.{nat_tests}
 use Rattle.std.proofs.lemmas.List.{get_or-map, length-map}
@@ -12,10 +12,10 @@ use Rattle.time_base.specs.declared.fraction.Fraction.{Fraction}
 use Rattle.postings.specs.Lists.{meets, holds}
 use Rattle.postings.specs.Sizes.{size, alive_count, begun, ended}
 use Rattle.postings.proofs.Counts.{size_ended}
-use Rattle.elementary.specs.Boundaries.{ends, IsBoundary, AreBoundaries}
+use Rattle.elementary.specs.Boundaries.{ends, AreBoundaries}
 use Rattle.elementary.specs.Counts.{Counts, Tabulates, AreOrdered, size_between, alive_in, AdmissibleBetween}
 use Rattle.elementary.specs.Partitions.{IsAdmissible}
-use Rattle.elementary.proofs.Sums.{bit, sum_same, sum_le, sum_none}
+use Rattle.elementary.proofs.Sums.{bit, sum_same, sum_le, sum_none, count_split}
 use Rattle.elementary.proofs.Places.{rises, not_falling, place_of, contains_map, apart, two_times, floor}
 
 -- the ends of each posting are boundaries
@@ -30,6 +30,13 @@ ends_in list horizon times b i d l = (
 
     stops : List ℕ
     stops = map (λ (p : Posting). p.span.to) list
+
+-- there is a boundary
+pub some_time : (list : List Posting) (horizon : ℕ) (times : List ℕ) → AreBoundaries list horizon times → 0 < length times
+some_time list horizon times b = go (place_of times horizon ((b.each horizon).1 (0, omega arith, refl)))
+  where
+    go : ((k : ℕ) × (k < length times) × (slice_index times k ≡ horizon)) → 0 < length times
+    go (k, l, e) = omega arith
 
 alive_one : (a b t x y : ℕ) → a ≤ t → t < b → (x ≤ a) ⊎ (b ≤ x) → (y ≤ a) ⊎ (b ≤ y) → bit (nat_le x t && nat_lt t y) ≡ bit (nat_lt x b && nat_lt a y)
 alive_one a b t x y le lt (inl p) (inl q) = grind (arith, nat_tests)
@@ -114,6 +121,20 @@ last_is_horizon list horizon times b early = go (place_of times horizon ((b.each
   where
     go : ((k : ℕ) × (k < length times) × (slice_index times k ≡ horizon)) → slice_index times (length times - 1) ≡ horizon
     go (k, l, e) = omega (arith, not_falling times b.ascending k (length times - 1) (omega arith) (omega arith), times_to_horizon list horizon times b early (length times - 1) 0 (omega arith))
+
+starts_before : (x y h : ℕ) → x < y → y ≤ h → nat_lt x h ≡ true
+starts_before x y h lt le = grind (arith, nat_tests)
+
+-- each posting begins before the horizon
+pub begun_all : (list : List Posting) (horizon : ℕ) → All (λ p. p.span.to ≤ horizon) list → begun horizon list ≡ length list
+begun_all list horizon early =
+    sym (count_split (λ (p : Posting). nat_lt p.span.from horizon) list (length list) (omega arith) (λ k d l m. starts_before _ _ horizon (get_or list k d).span.ordered (early k d m), λ k d l m. absurd (omega arith)))
+
+-- so the last count is that of the whole list
+pub postings_is : (list : List Posting) (horizon : ℕ) (table : Counts) → Tabulates list horizon table → slice_index table.begun (length table.boundaries - 1) ≡ length list
+postings_is list horizon table t =
+    count_at (λ x. begun x list) table.boundaries table.begun t.begun (length table.boundaries - 1) (omega (arith, some_time list horizon table.boundaries t.boundaries))
+    ∙ (ap (λ x. begun x list) (last_is_horizon list horizon table.boundaries t.boundaries t.early) ∙ begun_all list horizon t.early)
 
 pub counts_ordered : (list : List Posting) (horizon : ℕ) (times started stopped : List ℕ) → 0 < length list → length list < 2 ^ 38 → horizon < 2 ^ 40 → All (λ p. p.span.to ≤ horizon) list
     → AreBoundaries list horizon times → started ≡ map (λ x. begun x list) times → stopped ≡ map (λ x. ended x list) times → AreOrdered times started stopped

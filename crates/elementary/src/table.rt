@@ -1,5 +1,5 @@
 //! The counts of a list at its boundaries.
-ghost use Rattle.std.specs.Prelude.{◌≡◌, ℕ, ◌+◌, ◌<◌, ◌≤◌, ◌^◌, List, length, slice_index, All, IfOk};
+ghost use Rattle.std.specs.Prelude.{◌≡◌, ℕ, ◌+◌, ◌-◌, ◌<◌, ◌≤◌, ◌^◌, List, length, slice_index, All, IfOk};
 ghost use Rattle.std.specs.List.Sorted.{IsStrictlyIncreasing};
 ghost use Rattle.time_base.specs.declared.posting.Posting.{Posting};
 ghost use Rattle.postings.specs.Sizes.{size, alive_count};
@@ -61,6 +61,15 @@ impl Table {
         ensures in_time { All (λ x. x < 2 ^ 40) result.now }
     {
         &self.boundaries
+    }
+
+    /// How many postings the list has. Constant cost.
+    pub fn postings(&self) -> u64
+        ensures value { result ≡ size_between self.now 0 (length self.now.boundaries - 1) }
+        ensures bound { result < 2 ^ 38 }
+        ensures count { (list : List Posting) (horizon : ℕ) → Tabulates list horizon self.now → result ≡ length list }
+    {
+        self.begun[self.begun.len() - 1]
     }
 
     /// How many postings are alive in elementary interval `k`. Constant cost.

@@ -1,5 +1,5 @@
 //! What the definitions of runs, keys and counts tell. Nothing here runs.
-ghost use Rattle.std.specs.Prelude.{◌≡◌, ◌↔◌, ◌++◌, ◌∷◌, ℕ, List, true, false, Some, None, if◌then◌else◌};
+ghost use Rattle.std.specs.Prelude.{◌≡◌, ◌↔◌, ◌≤◌, length, ◌++◌, ◌∷◌, ℕ, List, true, false, Some, None, if◌then◌else◌};
 ghost use Rattle.std.specs.List.{list_all, list_any, IsDistinct};
 ghost use Rattle.std.specs.Map.{lookup};
 ghost use Rattle.std.specs.Str.{bytes_eq};
@@ -38,4 +38,10 @@ pub fn distinct_keys_stand_in_order()
 pub fn counts_are_frequencies()
     ensures { (word text : List ℕ) → lookup (bytes_eq word) (counted (keys text))
         ≡ (if list_any (bytes_eq word) (keys text) then Some (occurrences word text) else None) }
+{}
+
+/// A word occurs at most once a byte of the text, whatever the bytes are. So how often it occurs in
+/// a text of fewer than 2^32 bytes is below 2^32.
+pub fn a_word_occurs_at_most_once_a_byte()
+    ensures { (word text : List ℕ) → occurrences word text ≤ length text }
 {}

@@ -11,14 +11,16 @@
 #![tactic(auto)]
 
 mod counts;
+mod frequency;
 mod laws;
 mod runs;
 mod vocabulary;
 
 pub use counts::terms;
+pub use frequency::occurrences;
 pub use laws::{
-    counts_are_frequencies, distinct_keys_stand_in_order, keys_match_without_case,
-    runs_are_maximal_stretches,
+    a_word_occurs_at_most_once_a_byte, counts_are_frequencies, distinct_keys_stand_in_order,
+    keys_match_without_case, runs_are_maximal_stretches,
 };
 pub use runs::one_term;
 pub use vocabulary::{NumberError, Vocabulary};

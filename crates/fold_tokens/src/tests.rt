@@ -63,6 +63,38 @@ fn terms_are_those_of_unicode(rt: HostRuntime) -> Result<(), Fail> {
     Ok(())
 }
 
+/// How often the word occurs in the text.
+fn times(rt: &impl Abort, alloc: Global, word: &str, text: &str) -> Result<u32, AllocError> {
+    assert!(rt; text.len() < 4294967296);
+    let key = one_term(alloc, word)?.expect(rt, "a term");
+    occurrences(alloc, &key, text)
+}
+
+// What is wanted is from Python 3.11, as above.
+#[test]
+fn occurrences_are_runs_of_the_same_key(rt: HostRuntime) -> Result<(), Fail> {
+    let alloc = rt.alloc();
+    for (word, text, wanted) in [
+        ("red", "Red, red; RED reddish", 3),
+        ("red", "", 0),
+        ("red", "infrared", 0),
+        ("red", "blue red", 1),
+        ("straße", "Straße STRASSE Strasse ss", 3),
+        ("ς", "ΣΊΣΥΦΟΣ Σίσυφος ς σ", 2),
+        ("\u{e9}", "\u{e9} e\u{301} \u{c9} e", 3),
+        ("k", "\u{212a} k K kk", 3),
+        ("t", "e-mail snake_case don't T", 2),
+    ] {
+        let found = times(&rt, alloc, word, text)?;
+        assert_eq!(rt; found, wanted, "{word} in {text}");
+    }
+    let mut text = repeated(alloc, "a", 256)?;
+    text.push_str(" a")?;
+    let found = times(&rt, alloc, "a", text.as_str())?;
+    assert_eq!(rt; found, 1, "beside a run that is no term");
+    Ok(())
+}
+
 #[test]
 fn long_runs_are_no_terms(rt: HostRuntime) -> Result<(), Fail> {
     let alloc = rt.alloc();

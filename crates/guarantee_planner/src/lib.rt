@@ -8,4 +8,7 @@
 mod planning;
 mod steps;
 
-pub use planning::{PlanError, plan};
+pub use planning::{PlanError, WIDEST, plan};
+
+#[cfg(test)]
+mod tests;

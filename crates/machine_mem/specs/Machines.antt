@@ -9,12 +9,13 @@ use Rattle.machine_mem.specs.Moments.{along}
 use Rattle.machine_model.specs.declared.area.Area.{Area}
 use Rattle.machine_model.specs.declared.area.Failed.{Failed}
 
--- the meanings of the three traits, and the bytes of both areas as last written, by failed writes too
+-- the meanings of the three traits, the bytes of both areas as last written, by failed writes too, and the most bytes that one pull gives
 pub record MachineState : Type 0 where
   pub source : SourceState
   pub sink : SinkState
   pub disk : DiskState
   pub last : Bytes
+  pub pull_limit : ℕ
 
 -- the calls of the source alone
 pub record OnlySource (x y : MachineState) : Type 0 where

@@ -37,6 +37,6 @@ disk_state x = record {
   now = (snapshot_of x).moment;
 }
 
--- all of these, with the bytes as last written
+-- all of these, with the bytes as last written and the limit of a pull
 abbrev pub meaning : MemMachine → MachineState
-meaning x = record { source = source_state x; sink = sink_state x; disk = disk_state x; last = (snapshot_of x).last }
+meaning x = record { source = source_state x; sink = sink_state x; disk = disk_state x; last = (snapshot_of x).last; pull_limit = x.input.limit }

@@ -1,26 +1,31 @@
 ghost use Rattle.std.specs.Prelude.{◌≡◌, ◌≤◌, ◌++◌, min, length, take, vec_len};
 
-/// Bytes to be pulled, with the place of the next one.
+/// Bytes to be pulled, with the place of the next one and the most that one pull gives.
 #[derive(Drop)]
 pub struct Input {
     /// All bytes, those that were pulled too.
     pub bytes: Vec<u8>,
     /// How many were pulled.
     pub at: usize,
+    /// The most bytes of one pull.
+    pub limit: usize,
     ghost within: { at ≤ vec_len bytes },
+    ghost some: { 1 ≤ limit },
 }
 
 impl Input {
     ghost use Rattle.std.specs.Prelude.{◌≡◌, ◌++◌, min, length, take, drop};
     ghost use Rattle.machine_mem.specs.Inputs.{bytes_left};
 
-    /// Moves as many of the bytes left into the front of `buf` as fit there.
+    /// Moves as many of the bytes left into the front of `buf` as fit there, up to the limit.
     pub fn pull(&mut self, buf: &mut [u8]) -> usize
-        ensures count { result ≡ min (length buf.old) (length (bytes_left self.old)) }
+        ensures count { result ≡ min (min (length buf.old) self.old.limit) (length (bytes_left self.old)) }
         ensures bytes { bytes_left self.old ≡ take result buf.new ++ bytes_left self.new }
         ensures rest { bytes_left self.new ≡ drop result (bytes_left self.old) }
+        ensures limit { self.new.limit ≡ self.old.limit }
     {
-        let count = fill(buf, &self.bytes[self.at..]);
+        let left = &self.bytes[self.at..];
+        let count = fill(buf, &left[..left.len().min(self.limit)]);
         self.at += count;
         count
     }

@@ -3,6 +3,7 @@
 //! `MemMachine` tells all that it holds. Its calls fail where its script names them, and where it
 //! finds no memory for its record, which `starved` counts. It remembers what a stop might have left
 //! after each write, sync and push, so that a test can take any such image and begin again from it.
+//! `with_pulls_of` cuts its input into pieces.
 //! `SliceSource` is a source over bytes in memory that never fails.
 //!
 //! To the layer above it promises the traits of `machine_model` with all their laws, and exactly

@@ -70,6 +70,7 @@ impl MemMachine {
         ensures faults { IfOk result (λ x. (script_of x).faults ≡ faults) }
         ensures counts { IfOk result (λ x. (kind : _) → count_of (script_of x).counts kind ≡ 0) }
         ensures starved { IfOk result (λ x. starved_of x ≡ 0) }
+        ensures pulls { IfOk result (λ x. (meaning x).pull_limit ≡ 2 ^ 64 - 1) }
     {
         let journal = Store::new(alloc, &image.journal)?;
         let pages = Store::new(alloc, &image.pages)?;
@@ -78,6 +79,7 @@ impl MemMachine {
             input: Input {
                 bytes: input,
                 at: 0,
+                limit: usize::MAX,
             },
             shown: Vec::new(alloc),
             journal,
@@ -94,6 +96,18 @@ impl MemMachine {
             },
             starved: Counter::new(),
         })
+    }
+
+    /// The same machine, of whose input each pull gives at most so many bytes. Constant cost.
+    pub fn with_pulls_of(mut self, most: usize) -> MemMachine
+        requires { 1 ≤ most }
+        ensures state { meaning result ≡ record (meaning self) { pull_limit = most } }
+        ensures script { script_of result ≡ script_of self }
+        ensures starved { starved_of result ≡ starved_of self }
+        ensures stays { Stays self result }
+    {
+        self.input.limit = most;
+        self
     }
 
     /// The bytes shown so far. Cost: none.

@@ -32,8 +32,8 @@ impl Source for MemMachine {
         ensures end { IfOk result (λ n. n ≡ 0 → 1 ≤ length buf.new → (source_state self.old).left ≡ []) }
         ensures failed { OnErr result ((source_state self.new).left ≡ (source_state self.old).left) }
 
-        // exactly; as many bytes as there are and as fit into the buffer
-        ensures done { IfOk result (λ n. (n ≡ min (length buf.old) (length (source_state self.old).left)) × Serves (pulled n) self.old self.new) }
+        // exactly; as many bytes as there are and as fit into the buffer, up to the limit
+        ensures done { IfOk result (λ n. (n ≡ min (min (length buf.old) (meaning self.old).pull_limit) (length (source_state self.old).left)) × Serves (pulled n) self.old self.new) }
         ensures why { OnErr result (((kept : ℕ) × IsDue self.old CallKind.Pull kept) × Serves failed_source self.old self.new) }
         ensures named { (kept : ℕ) → IsDue self.old CallKind.Pull kept → IsErr result }
         ensures counted { script_of self.new ≡ called CallKind.Pull (script_of self.old) }

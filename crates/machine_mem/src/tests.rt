@@ -110,6 +110,18 @@ fn each_kind_of_call_fails_once(rt: HostRuntime) -> Result<(), Fail> {
 }
 
 #[test]
+fn a_pull_gives_at_most_its_limit(rt: HostRuntime) -> Result<(), Fail> {
+    let mut machine = make_machine(rt.alloc(), &[])?.with_pulls_of(2);
+    let mut buf = [0u8; 8];
+    assert_eq!(rt; machine.pull(&mut buf)?, 2);
+    assert_eq!(rt; machine.pull(&mut buf[..1])?, 1);
+    assert_eq!(rt; machine.pull(&mut buf)?, 2);
+    assert_eq!(rt; &buf[..2], b"ut".as_slice());
+    assert_eq!(rt; machine.pull(&mut buf)?, 0);
+    Ok(())
+}
+
+#[test]
 fn a_slice_gives_its_bytes_in_pieces(rt: HostRuntime) -> Result<(), Fail> {
     let mut source = SliceSource::new(b"abc");
     let mut buf = [0u8; 2];

@@ -1,26 +1,18 @@
 -- Certificates, and the parts of their check.
-use Rattle.std.specs.Prelude.{◌≡◌, ◌↔◌, ℕ, zero, suc, ◌+◌, ◌-◌, ◌*◌, ◌<◌, ◌≤◌, Bool, IsTrue, true, false, List, [], ◌∷◌, drop, length, slice_index, slice_index_or, All, Contains, refl}
+use Rattle.std.specs.Prelude.{◌≡◌, ◌↔◌, ℕ, ◌+◌, ◌-◌, ◌<◌, ◌≤◌, Bool, IsTrue, false, List, drop, length, slice_index}
 use Rattle.std.proofs.Common.{arith, ap, sym, ◌∙◌, subst, nat_eq}
 use Rattle.std.proofs.lemmas.List.Elements.{Contains-get_or, All-drop}
 use Rattle.time_base.specs.declared.posting.Posting.{Posting}
 use Rattle.time_base.specs.declared.fraction.Fraction.{Fraction}
 use Rattle.postings.specs.Sizes.{size}
 use Rattle.elementary.specs.Boundaries.{IsBoundary, IsFirst, AreBoundaries}
-use Rattle.elementary.specs.Counts.{Counts, Tabulates, size_between, AdmissibleBetween}
+use Rattle.elementary.specs.Counts.{Counts, Tabulates}
 use Rattle.elementary.specs.Partitions.{IsAdmissible, Covers, IsLeast, IsFitting, space}
 use Rattle.elementary.proofs.Cuts.{eq_from, is_eq}
-use Rattle.elementary.proofs.Places.{place_of}
-use Rattle.elementary.proofs.Tables.{first_le, last_is_horizon, size_is, admissible_from_counts, counts_from_admissible}
+use Rattle.elementary.proofs.Tables.{some_time, first_le, last_is_horizon, size_is, admissible_from_counts, counts_from_admissible}
 use Rattle.elementary.proofs.Walk.{AreBounds, paths_cost}
 use Rattle.plan_certificate.specs.Certificates.{Certifies, CertifiesCuts, CertificateShowsLeast}
-use Rattle.plan_certificate.specs.Edges.{EdgesTo, EdgesBelow}
-
--- there is a boundary
-some_time : (list : List Posting) (horizon : ℕ) (times : List ℕ) → AreBoundaries list horizon times → 0 < length times
-some_time list horizon times b = go (place_of times horizon ((b.each horizon).1 (0, omega arith, refl)))
-  where
-    go : ((k : ℕ) × (k < length times) × (slice_index times k ≡ horizon)) → 0 < length times
-    go (k, l, e) = omega arith
+use Rattle.plan_certificate.specs.Edges.{EdgesBelow}
 
 pub first_is : (list : List Posting) (horizon : ℕ) (times : List ℕ) → AreBoundaries list horizon times → IsFirst list horizon (slice_index times 0)
 first_is list horizon times b = record {

@@ -146,7 +146,7 @@ more p list (q ∷ short) l h = go (decide p q)
         apart j i [] x = tt
         apart j i (r ∷ rest) x = λ k. x (record { doc = sym c.doc ∙ sym i.doc ∙ k.doc; tf = sym c.tf ∙ sym i.tf ∙ k.tf; at = sym i.to ∙ k.at })
 
-shorten : (list : List Posting) → IsList list → (s : List Posting) × IsShort list s
+pub shorten : (list : List Posting) → IsList list → (s : List Posting) × IsShort list s
 shorten [] l = ([], record { ordered = tt; coalesced = tt; same = λ d t. refl; long = omega arith })
 shorten (p ∷ list) l = let (s, h) = shorten list (next-tail ComesBefore p list l) in more p list s l h
 

@@ -1,6 +1,7 @@
 pub mod Clipping
 pub mod Coalesced
 pub mod Counts
+pub mod Existence
 pub mod Frequencies
 pub mod Merged
 pub mod Order

@@ -1,5 +1,5 @@
 -- What follows from the definitions of lists.
-use Rattle.std.specs.Prelude.{◌≡◌, ℕ, ◌+◌, ◌<◌, ◌≤◌, ◌↔◌, List, ◌++◌, length, Contains}
+use Rattle.std.specs.Prelude.{◌≡◌, ℕ, ◌+◌, ◌^◌, ◌<◌, ◌≤◌, ◌↔◌, List, ◌++◌, length, Contains}
 use Rattle.time_base.specs.declared.posting.Posting.{Posting}
 use Rattle.postings.specs.Lists.{IsList, IsCoalesced, SameRows, frequency}
 use Rattle.postings.specs.Sizes.{size, begun, ended}
@@ -41,3 +41,9 @@ JoinOfListsOf =
 -- The size of a sublist is the number of postings that have begun at its end less that of those that are over at its start.
 abbrev pub SizeIsBegunLessEnded : Type 0
 SizeIsBegunLessEnded = (list : List Posting) (f g : ℕ) → f < g → size f g list + ended f list ≡ begun g list
+
+-- Each frequency below 2^32 that no document from 2^32 on has is given by a list, over each interval of time.
+abbrev pub EachFrequencyHasAList : Type 0
+EachFrequencyHasAList =
+    (f : ℕ → ℕ → ℕ) (a b : ℕ) → b ≤ 2 ^ 40 → ((d t : ℕ) → f d t < 2 ^ 32) → ((d t : ℕ) → 2 ^ 32 ≤ d → f d t ≡ 0)
+    → (list : List Posting) × IsListOf f a b list

@@ -1,6 +1,6 @@
 //! What holds of lists by their definitions, for whoever proves something over them. The functions
 //! do nothing when they run.
-ghost use Rattle.postings.specs.Laws.{OneCoalesced, CoalescedIsShortest, OneListOf, ClipOfListOf, LongestSpans, FrequencyOfUnion, JoinOfListsOf, SizeIsBegunLessEnded};
+ghost use Rattle.postings.specs.Laws.{OneCoalesced, CoalescedIsShortest, OneListOf, ClipOfListOf, LongestSpans, FrequencyOfUnion, JoinOfListsOf, SizeIsBegunLessEnded, EachFrequencyHasAList};
 
 /// Coalesced lists with the same rows at each time are one list.
 pub fn one_coalesced()
@@ -40,4 +40,10 @@ pub fn join_of_lists_of()
 /// The size of a sublist is a difference of two counts.
 pub fn size_is_begun_less_ended()
     ensures { SizeIsBegunLessEnded }
+{}
+
+/// Each frequency below 2^32 of documents below 2^32 has a list over each interval that ends at 2^40
+/// at most; and by `one_list_of` no more than one.
+pub fn each_frequency_has_a_list()
+    ensures { EachFrequencyHasAList }
 {}

@@ -12,8 +12,8 @@ mod merge;
 mod parts;
 
 pub use laws::{
-    clip_of_list_of, coalesced_is_shortest, frequency_of_union, join_of_lists_of, longest_spans,
-    one_coalesced, one_list_of, size_is_begun_less_ended,
+    clip_of_list_of, coalesced_is_shortest, each_frequency_has_a_list, frequency_of_union,
+    join_of_lists_of, longest_spans, one_coalesced, one_list_of, size_is_begun_less_ended,
 };
 pub use merge::{MergeError, merge_distinct};
 pub use parts::{as_of, clip, overlap};

@@ -14,11 +14,13 @@ use Rattle.script_read.specs.declared.command.Command.TheVariants.{Arrive}
 use Rattle.script_read.specs.declared.first.First.{First}
 use Rattle.script_read.specs.declared.first.First.TheVariants.{Whole, Broken, More, End}
 use Rattle.script_read.specs.declared.line.Meaning.{Meaning}
-use Rattle.script_read.specs.declared.line.Meaning.TheVariants.{Arrival, Deletion, Faulty}
+use Rattle.script_read.specs.declared.line.Meaning.TheVariants.{Arrival, Deletion, Finding, Showing, Faulty}
 
 item_of-not-End : (m : Meaning) (used : ℕ) (rest : List ℕ) → item_of m used rest ≢ End
 item_of-not-End Faulty used rest = λ e. cc
 item_of-not-End (Deletion doc at) used rest = λ e. cc
+item_of-not-End (Finding at query) used rest = λ e. cc
+item_of-not-End (Showing doc at) used rest = λ e. cc
 item_of-not-End (Arrival doc at n) used rest = go (nat_lt n (length rest)) (is_text n rest)
   where
     go : (a b : Bool) → (if a then (if b then Whole (Arrive doc at (take n rest)) (used + n + 1) else Broken 0) else More) ≢ End
@@ -65,6 +67,8 @@ is_text-append n rest x h = grind (arith, common_steps)
 item_of-append : (m : Meaning) (used : ℕ) (rest x : List ℕ) → item_of m used rest ≢ More → item_of m used (rest ++ x) ≡ item_of m used rest
 item_of-append Faulty used rest x settled = refl
 item_of-append (Deletion doc at) used rest x settled = refl
+item_of-append (Finding at query) used rest x settled = refl
+item_of-append (Showing doc at) used rest x settled = refl
 item_of-append (Arrival doc at n) used rest x settled = go (nat_lt n (length rest)) refl settled
   where
     same : (n < length rest) → (if is_text n (rest ++ x) then Whole (Arrive doc at (take n (rest ++ x))) (used + n + 1) else Broken 0)
@@ -132,6 +136,8 @@ first-append true bs x settled = go (begins bs) refl
 item_of-within : (m : Meaning) (used : ℕ) (rest : List ℕ) → 1 ≤ used → IsWithin (used + length rest) (item_of m used rest)
 item_of-within Faulty used rest h = omega arith
 item_of-within (Deletion doc at) used rest h = (h, omega arith)
+item_of-within (Finding at query) used rest h = (h, omega arith)
+item_of-within (Showing doc at) used rest h = (h, omega arith)
 item_of-within (Arrival doc at n) used rest h = go (nat_lt n (length rest)) (is_text n rest) refl
   where
     go : (a b : Bool) → nat_lt n (length rest) ≡ a → IsWithin (used + length rest) (if a then (if b then Whole (Arrive doc at (take n rest)) (used + n + 1) else Broken 0) else More)

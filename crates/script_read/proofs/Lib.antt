@@ -3,3 +3,4 @@ pub mod LineLemmas
 pub mod ItemLemmas
 pub mod ReadingLemmas
 pub mod TextLemmas
+pub mod RangeLemmas

@@ -1,13 +1,13 @@
 -- The items of a script.
-use Rattle.std.specs.Prelude.{◌≡◌, ℕ, ◌+◌, Bool, true, false, ◌&&◌, ◌==◌, nat_lt, if◌then◌else◌, List, [], ◌∷◌, length, take, drop, slice_index}
+use Rattle.std.specs.Prelude.{◌≡◌, ℕ, ◌+◌, ◌^◌, ◌<◌, Bool, true, false, ◌&&◌, ◌==◌, nat_lt, if◌then◌else◌, List, [], ◌∷◌, length, take, drop, slice_index}
 use Rattle.std.specs.List.{list_all, position_or_len}
 use Rattle.script_read.specs.Lines.{meaning}
 use Rattle.script_read.specs.declared.command.Command.{Command}
-use Rattle.script_read.specs.declared.command.Command.TheVariants.{Arrive, Delete}
+use Rattle.script_read.specs.declared.command.Command.TheVariants.{Arrive, Delete, Find, Show}
 use Rattle.script_read.specs.declared.first.First.{First}
 use Rattle.script_read.specs.declared.first.First.TheVariants.{Whole, Broken, More, End}
 use Rattle.script_read.specs.declared.line.Meaning.{Meaning}
-use Rattle.script_read.specs.declared.line.Meaning.TheVariants.{Arrival, Deletion, Faulty}
+use Rattle.script_read.specs.declared.line.Meaning.TheVariants.{Arrival, Deletion, Finding, Showing, Faulty}
 
 -- The most bytes of a line, without its LF.
 abbrev pub most_line : ℕ
@@ -27,6 +27,8 @@ item_of Faulty used rest = Broken 0
 item_of (Arrival doc at n) used rest =
     if nat_lt n (length rest) then (if is_text n rest then Whole (Arrive doc at (take n rest)) (used + n + 1) else Broken 0) else More
 item_of (Deletion doc at) used rest = Whole (Delete doc at) used
+item_of (Finding at query) used rest = Whole (Find at query) used
+item_of (Showing doc at) used rest = Whole (Show doc at) used
 
 -- What bytes begin with whose first LF stands at n, or that have none and are n.
 abbrev pub from_line : ℕ → List ℕ → First
@@ -78,3 +80,10 @@ pub record IsBrokenAt (ended : Bool) (bytes : List ℕ) (at : ℕ) : Type 0 wher
 -- The bytes are items to their end.
 abbrev pub IsScript : List ℕ → Type 0
 IsScript bytes = (items : List Command) × Items true bytes items []
+
+-- The document that a command names, if it names one, is a number below 2^32.
+abbrev pub HasDocument : Command → Type 0
+HasDocument (Arrive doc at text) = doc.0 < 2 ^ 32
+HasDocument (Delete doc at) = doc.0 < 2 ^ 32
+HasDocument (Find at query) = Unit {0}
+HasDocument (Show doc at) = doc.0 < 2 ^ 32

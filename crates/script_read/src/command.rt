@@ -1,4 +1,5 @@
 //! What a script may ask for.
+use crate::expression::Expression;
 use crate::text::Text;
 use time_base::{DocId, Time};
 
@@ -19,6 +20,20 @@ pub enum Command {
         /// The document.
         doc: DocId,
         /// When it ends.
+        at: Time,
+    },
+    /// The rows of a query at a time.
+    Find {
+        /// The time.
+        at: Time,
+        /// What the line asks, which may be no query.
+        query: Expression,
+    },
+    /// The version of a document that is alive at a time.
+    Show {
+        /// The document.
+        doc: DocId,
+        /// The time.
         at: Time,
     },
 }

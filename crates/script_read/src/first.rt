@@ -80,6 +80,8 @@ fn item_behind(
     match meaning {
         Meaning::Arrival { doc, at, bytes } => arrival_behind(alloc, doc, at, bytes, used, rest),
         Meaning::Deletion { doc, at } => Ok(First::Whole(Command::Delete { doc, at }, used)),
+        Meaning::Finding { at, query } => Ok(First::Whole(Command::Find { at, query }, used)),
+        Meaning::Showing { doc, at } => Ok(First::Whole(Command::Show { doc, at }, used)),
         Meaning::Faulty => Ok(First::Broken(0)),
     }
 }
@@ -106,7 +108,8 @@ pub(crate) fn first_of(alloc: Global, bytes: &[u8]) -> Result<First, AllocError>
     if n == bytes.len() {
         return Ok(First::More);
     }
-    item_behind(alloc, meaning_of(&bytes[..n]), n + 1, &bytes[n + 1..])
+    let meaning = meaning_of(alloc, &bytes[..n])?;
+    item_behind(alloc, meaning, n + 1, &bytes[n + 1..])
 }
 
 /// What bytes begin with, at the end of the input. Costs as `first_of`.

@@ -47,95 +47,120 @@ impl Source for Pieces<'_> {
     }
 }
 
-/// Whether the next item is this arrival, or without a text this deletion.
-fn is_next(
-    alloc: Global,
-    reader: &mut Reader,
-    source: &mut Pieces<'_>,
-    want: (u32, u64, Option<&[u8]>),
-) -> Result<bool, Fail> {
-    match reader.next_command(alloc, source)? {
-        Item::Command(Command::Arrive { doc, at, text }) => {
-            let Some(bytes) = want.2 else {
-                return Ok(false);
-            };
-            let same = text.as_slice() == bytes;
-            Ok(
-                same && (doc.0, at.seconds(), text.into_vec().len())
-                    == (want.0, want.1, bytes.len()),
-            )
+/// An answer in words: a command's name, its numbers, and what it holds; or why there is none.
+fn in_words(alloc: Global, answer: Result<Item, ScriptError>) -> Result<String, Fail> {
+    let words = match answer {
+        Ok(Item::Command(Command::Arrive { doc, at, text })) => {
+            let text = String::from_utf8(text.into_vec())?;
+            format!(in alloc; "arrive {} {} {text}", doc.0, at.seconds())?
         }
-        Item::Command(Command::Delete { doc, at }) => {
-            Ok(want.2.is_none() && (doc.0, at.seconds()) == (want.0, want.1))
+        Ok(Item::Command(Command::Delete { doc, at })) => {
+            format!(in alloc; "delete {} {}", doc.0, at.seconds())?
         }
-        Item::Finished => Ok(false),
+        Ok(Item::Command(Command::Find { at, query })) => {
+            format!(in alloc; "find {} {}", at.seconds(), query.as_str())?
+        }
+        Ok(Item::Command(Command::Show { doc, at })) => {
+            format!(in alloc; "show {} {}", doc.0, at.seconds())?
+        }
+        Ok(Item::Finished) => String::from_str(alloc, "finished")?,
+        Err(ScriptError::Broken { at }) => format!(in alloc; "broken at {at}")?,
+        Err(ScriptError::Budget) => String::from_str(alloc, "budget")?,
+        Err(ScriptError::Failed) => String::from_str(alloc, "failed")?,
+        Err(ScriptError::Memory) => String::from_str(alloc, "memory")?,
+    };
+    Ok(words)
+}
+
+/// Whether a reader answers this, call after call, of a script in pieces of that size whose first
+/// pull fails.
+fn answers(alloc: Global, script: &[u8], piece: usize, want: &[&str]) -> Result<bool, Fail> {
+    let mut source = Pieces {
+        rest: script,
+        piece,
+        fails: 1,
+        faults: 0,
+    };
+    let mut reader = Reader::new(alloc)?;
+    for words in want {
+        let answer = reader.next_command(alloc, &mut source);
+        if in_words(alloc, answer)?.as_str() != *words {
+            return Ok(false);
+        }
     }
+    Ok(true)
 }
 
 #[test]
 fn reads_items_in_any_pieces(rt: HostRuntime) -> Result<(), Fail> {
     for piece in [1, 2, 3, 7, 4096] {
-        let mut source = Pieces {
-            rest: b"arrive 7 10 5\nred a\ndelete 7 20\narrive 4294967295 01099511627775 0\n\narrive 0 0 3\n\n\nx\n",
-            piece,
-            fails: 1,
-            faults: 0,
-        };
-        let mut reader = Reader::new(rt.alloc())?;
-        assert!(rt;
-            matches!(
-                reader.next_command(rt.alloc(), &mut source),
-                Err(ScriptError::Failed)
-            )
-        );
-        assert!(rt;
-            is_next(
-                rt.alloc(),
-                &mut reader,
-                &mut source,
-                (7, 10, Some(b"red a"))
-            )?
-        );
-        assert!(rt; is_next(rt.alloc(), &mut reader, &mut source, (7, 20, None))?);
-        assert!(rt;
-            is_next(
-                rt.alloc(),
-                &mut reader,
-                &mut source,
-                (4294967295, 1099511627775, Some(b""))
-            )?
-        );
-        assert!(rt; is_next(rt.alloc(), &mut reader, &mut source, (0, 0, Some(b"\n\nx")))?);
-        assert!(rt;
-            matches!(
-                reader.next_command(rt.alloc(), &mut source)?,
-                Item::Finished
-            )
-        );
+        let script =
+            b"arrive 7 10 5\nred a\ndelete 7 20\narrive 4294967295 01099511627775 0\n\narrive 0 0 3\n\n\nx\n";
+        let want = [
+            "failed",
+            "arrive 7 10 red a",
+            "delete 7 20",
+            "arrive 4294967295 1099511627775 ",
+            "arrive 0 0 \n\nx",
+            "finished",
+        ];
+        assert!(rt; answers(rt.alloc(), script, piece, &want)?);
+    }
+    Ok(())
+}
+
+#[test]
+fn reads_what_is_asked_in_any_pieces(rt: HostRuntime) -> Result<(), Fail> {
+    for piece in [1, 2, 3, 7, 4096] {
+        let script =
+            b"find 9 red\nfind 10 red blue\nshow 7 19\nfind 1099511627775 a  ~\nshow 4294967295 0\nfind 010 !\n";
+        let want = [
+            "failed",
+            "find 9 red",
+            "find 10 red blue",
+            "show 7 19",
+            "find 1099511627775 a  ~",
+            "show 4294967295 0",
+            "find 10 !",
+            "finished",
+        ];
+        assert!(rt; answers(rt.alloc(), script, piece, &want)?);
     }
     Ok(())
 }
 
 #[test]
 fn names_the_place_of_what_is_broken(rt: HostRuntime) -> Result<(), Fail> {
+    let faulty = [
+        b"hello\n".as_slice(),
+        b"find 10  red\n".as_slice(),
+        b"find  10 red\n".as_slice(),
+        b"find 10 \n".as_slice(),
+        b"find 10\n".as_slice(),
+        b"find 10 red \n".as_slice(),
+        b"find x red\n".as_slice(),
+        b"find 1099511627776 red\n".as_slice(),
+        b"find 10 red\r\n".as_slice(),
+        b"find 10 a\tb\n".as_slice(),
+        b"find 10 a\x7fb\n".as_slice(),
+        b"find 10 a\x80b\n".as_slice(),
+        b"find 10 red".as_slice(),
+        b"Find 10 red\n".as_slice(),
+        b"show 7\n".as_slice(),
+        b"show 7 19 \n".as_slice(),
+        b"show 7 19 3\n".as_slice(),
+        b"show 7  19\n".as_slice(),
+        b"show x 19\n".as_slice(),
+        b"show 4294967296 19\n".as_slice(),
+        b"show 7 1099511627776\n".as_slice(),
+    ];
     for piece in [1, 2, 3, 7, 4096] {
-        let mut source = Pieces {
-            rest: b"arrive 7 10 5\nred a\nhello\n",
-            piece,
-            fails: 0,
-            faults: 0,
-        };
-        let mut reader = Reader::new(rt.alloc())?;
-        assert!(rt;
-            is_next(
-                rt.alloc(),
-                &mut reader,
-                &mut source,
-                (7, 10, Some(b"red a"))
-            )?
-        );
-        let answer = reader.next_command(rt.alloc(), &mut source);
-        assert!(rt; matches!(answer, Err(ScriptError::Broken { at: 20 })));
+        for line in faulty {
+            let mut script = Vec::from_slice(rt.alloc(), b"arrive 7 10 5\nred a\n")?;
+            script.extend_from_slice(line)?;
+            let want = ["failed", "arrive 7 10 red a", "broken at 20"];
+            assert!(rt; answers(rt.alloc(), script.as_slice(), piece, &want)?);
+        }
     }
     Ok(())
 }

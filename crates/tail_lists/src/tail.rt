@@ -41,6 +41,13 @@ impl Tail {
         self.postings.as_slice()
     }
 
+    /// The tail's list by value. Constant cost.
+    pub fn into_postings(self) -> Vec<Posting>
+        ensures { result.items ≡ self.list }
+    {
+        self.postings
+    }
+
     /// Makes room for one turn of any document, so that it takes no memory. Its cost is constant on
     /// average over the turns; an `Err` leaves the list as it was.
     pub fn reserve_turn(&mut self) -> Result<(), AllocError>

@@ -1,9 +1,10 @@
 -- Where a document's latest change lies, and how that goes on as changes come.
-use Rattle.std.specs.Prelude.{◌≡◌, ℕ, ◌≤◌, Bool, true, false, cond, ◌==◌, List, [], ◌∷◌, ◌++◌, length, take, slice_get, Option, Some, None, refl}
+use Rattle.std.specs.Prelude.{◌≡◌, ◌≢◌, ℕ, ◌≤◌, Bool, true, false, cond, ◌==◌, List, [], ◌∷◌, ◌++◌, length, take, slice_get, Option, Some, None, All, refl}
 use Rattle.std.proofs.Common.{arith, ap, sym, ◌∙◌}
+use Rattle.std.proofs.lemmas.Bool.{ne_eqb}
 use Rattle.std.proofs.lemmas.Option.{slice_get_within}
 use Rattle.std.proofs.lemmas.List.{take-append-le, append-nil}
-use Rattle.std.proofs.lemmas.List.Elements.{filter-append}
+use Rattle.std.proofs.lemmas.List.Elements.{filter-append, All-head, All-tail}
 use Rattle.std.proofs.Math.Seq.{take-append_seam}
 use Rattle.time_base.specs.declared.ids.DocId.{DocId}
 use Rattle.version_store.specs.declared.change.Change.{Change}
@@ -20,6 +21,13 @@ module _ {A : Type 0} where
   -- one more change of another document
   pub changes_of-other : (doc : DocId) (changes : List (Change A)) (c : Change A) → c.doc.0 == doc.0 ≡ false → changes_of doc (changes ++ c ∷ []) ≡ changes_of doc changes
   changes_of-other doc changes c e = filter-append (λ d. d.doc.0 == doc.0) changes (c ∷ []) ∙ ap (λ b. changes_of doc changes ++ cond b (c ∷ []) []) e ∙ append-nil (changes_of doc changes)
+
+  -- other documents' changes alone
+  pub changes_of-none : (doc : DocId) (changes : List (Change A)) → All (λ c. c.doc.0 ≢ doc.0) changes → changes_of doc changes ≡ []
+  changes_of-none doc [] a = refl
+  changes_of-none doc (c ∷ changes) a =
+      let ne : c.doc.0 == doc.0 ≡ false = ne_eqb c.doc.0 doc.0 (All-head (λ (c : Change A). c.doc.0 ≢ doc.0) c changes a) in
+      rw ne (changes_of-none doc changes (All-tail (λ c. c.doc.0 ≢ doc.0) c changes a))
 
   -- where no change is known there is none
   pub latest-none : (doc : DocId) (changes : List (Change A)) → IsLatest doc changes None → latest doc changes ≡ None

@@ -8,7 +8,7 @@ use Rattle.version_store.specs.declared.change.Change.{Change}
 use Rattle.version_store.specs.Changes.{changes_of, last_of, valid_at, held_at}
 
 -- a longer list has the same last element
-last_of-cons : {A : Type 0} (x y : A) (ys : List A) → last_of (x ∷ y ∷ ys) ≡ last_of (y ∷ ys)
+pub last_of-cons : {A : Type 0} (x y : A) (ys : List A) → last_of (x ∷ y ∷ ys) ≡ last_of (y ∷ ys)
 last_of-cons x y ys =
     let m : suc (suc (length ys)) - 1 ≡ suc (length ys) = omega arith in
     let n : suc (length ys) - 1 ≡ length ys = omega arith in

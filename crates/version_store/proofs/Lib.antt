@@ -7,3 +7,4 @@ pub mod Valid
 pub mod Law
 pub mod Steps
 pub mod Ascending
+pub mod Holding

@@ -85,5 +85,5 @@ module _ {A : Type 0} where
   held_at-other doc t changes c e = ap (valid_at t) (changes_of-other doc changes c e)
 
   -- a change of the document holds from its time on
-  pub held_at-same : (doc : DocId) (t : ℕ) (changes : List (Change A)) (c : Change A) → c.doc.0 == doc.0 ≡ true → All (λ d. d.at.seconds ≤ t) changes → c.at.seconds ≤ t → held_at doc t (changes ++ c ∷ []) ≡ c.held
-  held_at-same doc t changes c e a h = ap (valid_at t) (changes_of-same doc changes c e) ∙ valid_at-last t (changes_of doc changes) c (All-filter (λ d. d.doc.0 == doc.0) (λ d. d.at.seconds ≤ t) changes a) h
+  pub held_at-same : (doc : DocId) (t : ℕ) (changes : List (Change A)) (c : Change A) → c.doc.0 == doc.0 ≡ true → All (λ d. d.at.seconds ≤ t) (changes_of doc changes) → c.at.seconds ≤ t → held_at doc t (changes ++ c ∷ []) ≡ c.held
+  held_at-same doc t changes c e a h = ap (valid_at t) (changes_of-same doc changes c e) ∙ valid_at-last t (changes_of doc changes) c a h

@@ -1,6 +1,7 @@
 pub mod Changes
 pub mod Held
 pub mod Index
+pub mod Laws
 pub mod Links
 pub mod Refusals
 pub mod Tests

@@ -9,6 +9,7 @@
 
 mod change;
 mod directory;
+mod laws;
 mod link;
 mod refusal;
 #[cfg(test)]
@@ -17,4 +18,5 @@ mod walk;
 
 pub use change::Change;
 pub use directory::Directory;
+pub use laws::held_as_changes_come;
 pub use refusal::VersionRefusal;

@@ -5,7 +5,7 @@ use Rattle.machine_model.specs.declared.area.Area.TheVariants.{Journal}
 use Rattle.machine_model.proofs.MomentLemmas.{reads_join}
 use Rattle.gate_journal.specs.declared.head.Head.{Head}
 use Rattle.archive_core.proofs.HeadLemmas.{window_has}
-use Rattle.archive_core.proofs.ReplayLemmas.{reached_at, replayed_more, replayed_all, bad_among, view_on, holds_on, exit_is}
+use Rattle.archive_core.proofs.ReplayLemmas.{reached_at, replayed_more, replayed_all, bad_among, view_on, holds_on, exit_is, failed_read}
 use Rattle.archive_core.proofs.replaying.replay.Goals as goal
 
 pub returns-in_err-cover-clause-only : goal.returns-in_err-cover-clause-only
@@ -15,7 +15,7 @@ pub returns-in_err-cover-clause-failed : goal.returns-in_err-cover-clause-failed
 returns-in_err-cover-clause-failed g c = λ is.
     let early = g.met.D.Disk.only_faults _ _ c.loop-head.invariant.only in
     let p = err_from_is_err_and c.from_residual-in_err-cover.result c.from_residual-in_err-cover.ensures.1 in
-    omega (arith, early, c.cover.ensures.failed (exit_is c.cover.result c.from_residual-in_err-cover.result c.in_err-cover.field-0.0 p.0 _ c.in_err-cover.was p.1 p.2 is))
+    omega (arith, early, c.cover.ensures.failed (failed_read c.cover.result c.from_residual-in_err-cover.result c.in_err-cover.field-0.0 p.0 c.in_err-cover.was p.1 p.2 is))
 
 pub apply-requires-clause-within : goal.apply-requires-clause-within
 apply-requires-clause-within g c =
@@ -37,10 +37,10 @@ returns-in_err-apply-clause-bad g c = λ tells bodies same spelled at is.
     let kept : (g.D.Disk.disk c.loop-head.disk).holds.journal ≡ journal = holds_on (g.D.Disk.disk c.args.disk.now) (g.D.Disk.disk c.loop-head.disk) c.loop-head.invariant.same in
     let view = view_on _ _ _ _ (sym kept) (c.in_ok-cover.ensures.view tells (view_on _ _ _ _ kept (c.loop-head.invariant.view tells))) in
     let covers = c.in_ok-cover.ensures.covers in
-    let read = c.body.ensures.bytes ∙ window_has _ journal c.cover.new.self.from head.body head.bytes view covers.begins covers.ends in
+    let read = c.piece.ensures.bytes ∙ window_has _ journal c.cover.new.self.from head.body head.bytes view covers.begins covers.ends in
     let p = err_from_is_err_and c.from_residual-in_err-apply.result c.from_residual-in_err-apply.ensures.1 in
     let reached = reached_at g.D.Disk.disk_tells journal heads i c.loop-head.directory.changes head c.args.journal.now.end c.requires.row within this r in
-    bad_among g.D.Disk.disk_tells journal heads i c.loop-head.directory.changes head c.args.journal.now.end c.body.result.now bodies at c.requires.row within this tells read same spelled r
+    bad_among g.D.Disk.disk_tells journal heads i c.loop-head.directory.changes head c.args.journal.now.end c.piece.result.now bodies at c.requires.row within this tells read same spelled r
     (c.apply.ensures.bad r.history reached at (exit_is c.apply.result c.from_residual-in_err-apply.result c.in_err-apply.field-0.0 p.0 _ c.in_err-apply.was p.1 p.2 is))
 
 pub loop-head-preserved : goal.loop-head-preserved
@@ -59,9 +59,9 @@ loop-head-preserved g c =
       only = g.met.D.Disk.only_joins _ _ _ c.loop-head.invariant.only c.cover.ensures.only;
       same = reads_join (g.D.Disk.disk c.args.disk.now) (g.D.Disk.disk c.loop-head.disk) (g.D.Disk.disk c.cover.new.disk) c.loop-head.invariant.same c.cover.ensures.same;
       view = λ tells. view_on _ _ _ _ (sym kept) (c.in_ok-cover.ensures.view tells (view_on _ _ _ _ kept (c.loop-head.invariant.view tells)));
-      replaying = replayed_more g.D.Disk.disk_tells journal heads i c.loop-head.directory.changes c.apply.new.directory.changes head c.args.journal.now.end c.body.result.now
-          c.requires.row within this c.body.ensures.len
-          (λ tells. c.body.ensures.bytes ∙ window_has _ journal c.cover.new.self.from head.body head.bytes
+      replaying = replayed_more g.D.Disk.disk_tells journal heads i c.loop-head.directory.changes c.apply.new.directory.changes head c.args.journal.now.end c.piece.result.now
+          c.requires.row within this c.piece.ensures.len
+          (λ tells. c.piece.ensures.bytes ∙ window_has _ journal c.cover.new.self.from head.body head.bytes
           (view_on _ _ _ _ (sym kept) (c.in_ok-cover.ensures.view tells (view_on _ _ _ _ kept (c.loop-head.invariant.view tells)))) covers.begins covers.ends)
           r (c.in_ok-apply.ensures.more r.history reached);
     }

@@ -1,4 +1,4 @@
-use Rattle.std.proofs.Common.{List, ℕ, Ok, Err, ap, inl, inr, subst, refl}
+use Rattle.std.proofs.Common.{List, ℕ, Err, ap, inl, inr, subst, refl}
 use Rattle.archive_state.specs.Steps.{Arrive}
 use Rattle.archive_shell.specs.Turns.{Answers}
 use Rattle.archive_shell.proofs.TurnLemmas.{arrived, not_arrived}
@@ -7,9 +7,9 @@ use Rattle.archive_shell.proofs.answer.arrive.Goals as goal
 pub returns-in-Ok-clause-turn : goal.returns-in-Ok-clause-turn
 returns-in-Ok-clause-turn g c = λ tells h kept.
     let made = c.in-Ok.ensures in
-    let P : List ℕ → Type 0 = λ text. Answers h (Arrive c.args.doc c.args.at text) (Ok tt) (g.D.Disk.disk c.args.disk.now) (g.D.Disk.disk c.arrive.new.disk) c.arrive.new.self c.accepted.new.self.bytes in
-    subst P c.as_slice.ensures (arrived h c.args.doc c.args.at c.as_slice.result.now c.in-Ok.length (g.D.Disk.disk c.args.disk.now) (g.D.Disk.disk c.arrive.new.disk) c.arrive.new.self c.accepted.new.self.bytes
-    (made.allowed h kept.stands (inl refl)) (made.stands h kept.stands).1 c.accepted.ensures (made.crash tells h kept) (made.kept tells h kept))
+    let P : List ℕ → Type 0 = λ text. Answers h (Arrive c.args.doc c.args.at text) c.accept.result (g.D.Disk.disk c.args.disk.now) (g.D.Disk.disk c.arrive.new.disk) c.arrive.new.self c.accept.new.page.bytes in
+    subst P c.as_slice.ensures (arrived h c.args.doc c.args.at c.as_slice.result.now c.in-Ok.length (g.D.Disk.disk c.args.disk.now) (g.D.Disk.disk c.arrive.new.disk) c.arrive.new.self c.accept.result c.accept.new.page.bytes
+    (made.allowed h kept.stands (inl refl)) (made.stands h kept.stands).1 c.accept.ensures.reply (made.crash tells h kept) (made.kept tells h kept))
 
 pub returns-clause-turn : goal.returns-clause-turn
 returns-clause-turn g c = λ tells h kept.

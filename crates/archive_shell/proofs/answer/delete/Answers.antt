@@ -5,8 +5,8 @@ use Rattle.archive_shell.proofs.answer.delete.Goals as goal
 pub returns-in-Ok-clause-turn : goal.returns-in-Ok-clause-turn
 returns-in-Ok-clause-turn g c = λ tells h kept.
     let made = c.in-Ok.ensures in
-    deleted h c.args.doc c.args.at c.in-Ok.length (g.D.Disk.disk c.args.disk.now) (g.D.Disk.disk c.delete.new.disk) c.delete.new.self c.accepted.new.self.bytes
-    (made.allowed h kept.stands (inl refl)) (made.stands h kept.stands).1 c.accepted.ensures (made.crash tells h kept) (made.kept tells h kept)
+    deleted h c.args.doc c.args.at c.in-Ok.length (g.D.Disk.disk c.args.disk.now) (g.D.Disk.disk c.delete.new.disk) c.delete.new.self c.accept.result c.accept.new.page.bytes
+    (made.allowed h kept.stands (inl refl)) (made.stands h kept.stands).1 c.accept.ensures.reply (made.crash tells h kept) (made.kept tells h kept)
 
 pub returns-in-Err-clause-turn : goal.returns-in-Err-clause-turn
 returns-in-Err-clause-turn g c = λ tells h kept.

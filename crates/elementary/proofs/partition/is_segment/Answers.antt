@@ -1,4 +1,4 @@
-use Rattle.std.proofs.Common.{arith, ◌<◌}
+use Rattle.std.proofs.Common.{arith}
 use Rattle.elementary.proofs.Places.{place_below}
 use Rattle.elementary.proofs.Cuts.{segment_is}
 use Rattle.elementary.proofs.partition.is_segment.Goals as goal

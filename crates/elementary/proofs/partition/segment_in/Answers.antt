@@ -1,4 +1,3 @@
-use Rattle.std.proofs.Common.{arith}
 use Rattle.elementary.proofs.Cuts.{segment_found, segment_not_out}
 use Rattle.elementary.proofs.partition.segment_in.Goals as goal
 

@@ -1,4 +1,4 @@
-use Rattle.std.proofs.Common.{arith, ap, ◌≡◌, ◌∙◌, length}
+use Rattle.std.proofs.Common.{arith, ap, ◌≡◌, length}
 use Rattle.std.proofs.lemmas.Bool.{iff_false}
 use Rattle.plan_certificate.proofs.Shown.{refused, edges_back, certified, equal_iff}
 use Rattle.plan_certificate.proofs.checking.numbers_certify.Goals as goal
@@ -11,5 +11,5 @@ returns-then-not-edges_hold c list horizon t =
 pub returns : goal.returns
 returns c list horizon t =
     let long : length c.args.pi.now ≡ length c.args.table.now.boundaries = omega (arith, c.if-pi-boundaries.false, ap length c.boundaries.ensures.value) in
-    certified list horizon c.args.table.now c.args.factor c.args.pi.now c.args.partition.now _ t long (c.fits.ensures.0 c.if-not-fits.false) (omega (arith, c.if-pi-ne0.false)) (c.edges_hold.ensures.0 c.if-not-edges_hold.false)
+    certified list horizon c.args.table.now c.args.factor c.args.pi.now c.args.partition.now _ t long (c.fits.ensures.0 c.if-not-fits.false) (omega arith) (c.edges_hold.ensures.0 c.if-not-edges_hold.false)
     ((c.admissible.ensures list horizon t).0 c.if-not-admissible.false) (equal_iff _ _ _ _ c.from.ensures (c.whole_space.ensures.value list horizon t))

@@ -37,6 +37,14 @@ next g c h stands =
     arrive_next c.args.self.now h c.args.doc c.args.at c.args.text.now c.in-Ok.text.now c.deref.result.now stands
     fits c.in-Ok.ensures.0 c.in-Ok.ensures.1 c.in-Ok.ensures.2 (search rules) (c.deref.ensures.value ∙ c.in-Ok-encode_arrival.ensures.spelled)
 
+pub commit-requires-clause-next : goal.commit-requires-clause-next
+commit-requires-clause-next g c = λ h stands.
+    let fits : c.args.doc.0 < 2 ^ 32 = search rules in (
+      Arrive c.args.doc c.args.at c.args.text.now,
+      arrive_next c.args.self.now h c.args.doc c.args.at c.args.text.now c.in-Ok.text.now c.deref.result.now stands
+          fits c.in-Ok.ensures.0 c.in-Ok.ensures.1 c.in-Ok.ensures.2 (search rules) (c.deref.ensures.value ∙ c.in-Ok-encode_arrival.ensures.spelled),
+    )
+
 pub returns-in-Ok-encode_arrival-clause-refused : goal.returns-in-Ok-encode_arrival-clause-refused
 returns-in-Ok-encode_arrival-clause-refused g c = λ h stands why is.
     arrival_refused-good h c.args.doc c.args.at c.args.text.now c.in-Ok.ensures.0 c.in-Ok.ensures.1

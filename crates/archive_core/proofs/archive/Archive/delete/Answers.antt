@@ -29,6 +29,13 @@ next g c h stands =
     let fits : c.args.doc.0 < 2 ^ 32 = search rules in
     delete_next c.args.self.now h c.args.doc c.args.at c.deref.result.now stands fits (search rules) (c.deref.ensures.value ∙ c.in-Ok-encode_deletion.ensures.spelled)
 
+pub commit-requires-clause-next : goal.commit-requires-clause-next
+commit-requires-clause-next g c = λ h stands.
+    let fits : c.args.doc.0 < 2 ^ 32 = search rules in (
+      Delete c.args.doc c.args.at,
+      delete_next c.args.self.now h c.args.doc c.args.at c.deref.result.now stands fits (search rules) (c.deref.ensures.value ∙ c.in-Ok-encode_deletion.ensures.spelled),
+    )
+
 pub returns-in-Ok-encode_deletion-clause-refused : goal.returns-in-Ok-encode_deletion-clause-refused
 returns-in-Ok-encode_deletion-clause-refused g c = λ h stands why is.
     next_refused c.args.self.now h _ _ c.deref.result.now why stands (next g c h stands) (c.commit.ensures.refused why is)

@@ -1,4 +1,4 @@
-use Rattle.std.proofs.Common.{◌∙◌, List, inl, subst, arith}
+use Rattle.std.proofs.Common.{◌∙◌, List, inl, refl, subst, arith}
 use Rattle.std.proofs.lemmas.Result.{err_from_is_err_and}
 use Rattle.gate_journal.specs.declared.head.Head.{Head}
 use Rattle.gate_journal.specs.Spelled.{Spells}
@@ -55,6 +55,15 @@ of-requires-clause-few g c =
     let all = c.in_ok-directory.ensures.stands in
     let P : List Head → Type 0 = λ l. IsReplayed all.0 l c.in_ok-directory.directory.changes in
     omega (arith, few_heads all.0 c.in_ok-journal.heads.items c.in_ok-directory.directory.changes c.in_ok-journal.journal.end c.in_ok-journal.ensures.row (subst P c.deref.ensures.value all.1))
+
+pub of-requires-clause-stands : goal.of-requires-clause-stands
+of-requires-clause-stands g c =
+    let all = c.in_ok-directory.ensures.stands in
+    let P : List Head → Type 0 = λ l. IsReplayed all.0 l c.in_ok-directory.directory.changes in (
+      all.0,
+      stands_replayed _ all.0 c.in_ok-journal.heads.items c.in_ok-directory.directory.changes c.in_ok-journal.journal.end
+          (record { end_is = refl; length_is = omega arith; changes_are = refl }) c.in_ok-journal.ensures.row (subst P c.deref.ensures.value all.1),
+    )
 
 made : (g : Over) (c : goal.After-drop-heads-2 g) → IsMadeOf c.of.result c.in_ok-journal.journal.end c.in_ok-journal.heads.items c.in_ok-directory.directory.changes
 made g c = record { end_is = c.of.ensures.end; length_is = omega (arith, c.of.ensures.length); changes_are = c.of.ensures.changes }

@@ -1,0 +1,188 @@
+//! What is found as of a time, and the texts that are shown.
+use crate::rig::{FIRST_JOURNAL, join, load_image, make_machine, read_journal, run_on};
+use archive_shell::Status;
+use machine_model::Image;
+use std::alloc::Global;
+use std::process::Abort;
+use std::test::Fail;
+use time_base::{DocId, Time};
+
+/// A script, and the replies to it.
+#[derive(Clone, Copy, Debug)]
+struct Row<'a> {
+    script: &'a [u8],
+    replies: &'a [u8],
+}
+
+/// Runs each script on a disk with this journal, to its end and with these replies.
+fn expect_rows(
+    rt: &impl Abort,
+    alloc: Global,
+    journal: &[u8],
+    rows: &[Row<'_>],
+) -> Result<(), Fail> {
+    for row in rows {
+        let mut machine = make_machine(rt, alloc, row.script, journal, &[])?;
+        assert_eq!(rt;
+            run_on(rt, alloc, &mut machine),
+            Status::Done,
+            "{:?}",
+            row.script
+        );
+        assert_eq!(rt; machine.shown(), row.replies, "{:?}", row.script);
+    }
+    Ok(())
+}
+
+#[test]
+fn a_word_is_found_while_a_version_has_it(rt: HostRuntime) -> Result<(), Fail> {
+    let rows = [
+        Row {
+            script: b"find 9 red\nfind 10 red\nfind 10 moon\n",
+            replies: b"end 0 read 1\nhit 7 1\nend 1 read 1\nend 0 read 0\n",
+        },
+        Row {
+            script: b"arrive 7 20 4\nblue\nfind 19 red\nfind 20 red\nshow 7 19\nshow 7 9\n",
+            replies: b"ok 2\nhit 7 1\nend 1 read 1\nend 0 read 1\ntext 5\nred a\nnone\n",
+        },
+        // the last of all times
+        Row {
+            script: b"find 0 red\nfind 1099511627775 red\nshow 7 0\nshow 7 1099511627775\n",
+            replies: b"end 0 read 1\nhit 7 1\nend 1 read 1\nnone\ntext 5\nred a\n",
+        },
+    ];
+    expect_rows(&rt, rt.alloc(), FIRST_JOURNAL, &rows)
+}
+
+#[test]
+fn versions_of_one_frequency_are_one_posting_and_a_gap_parts_two(
+    rt: HostRuntime,
+) -> Result<(), Fail> {
+    let rows = [
+        Row {
+            script: b"arrive 7 10 5\nred a\narrive 7 20 7\nred bee\narrive 7 30 3\nred\nfind 25 red\n",
+            replies: b"ok 1\nok 2\nok 3\nhit 7 1\nend 1 read 1\n",
+        },
+        Row {
+            script: b"arrive 7 10 3\nred\ndelete 7 20\narrive 7 30 3\nred\nfind 25 red\nfind 30 red\n",
+            replies: b"ok 1\nok 2\nok 3\nend 0 read 2\nhit 7 1\nend 1 read 2\n",
+        },
+        // another frequency parts them too
+        Row {
+            script: b"arrive 7 10 3\nred\narrive 7 20 7\nred red\narrive 7 30 3\nred\nfind 19 red\nfind 20 red\nfind 30 red\n",
+            replies: b"ok 1\nok 2\nok 3\nhit 7 1\nend 1 read 3\nhit 7 2\nend 1 read 3\nhit 7 1\nend 1 read 3\n",
+        },
+    ];
+    expect_rows(&rt, rt.alloc(), b"", &rows)
+}
+
+#[test]
+fn rows_come_by_score_and_then_by_document(rt: HostRuntime) -> Result<(), Fail> {
+    let rows = [Row {
+        script: b"arrive 9 10 3\nred\narrive 5 10 7\nred red\narrive 3 10 3\nred\narrive 4 10 4\nblue\nfind 10 red\n",
+        replies: b"ok 1\nok 2\nok 3\nok 4\nhit 5 2\nhit 3 1\nhit 9 1\nend 3 read 3\n",
+    }];
+    expect_rows(&rt, rt.alloc(), b"", &rows)
+}
+
+#[test]
+fn a_word_is_letters_and_digits_in_any_case(rt: HostRuntime) -> Result<(), Fail> {
+    let rows = [
+        Row {
+            script: b"arrive 7 10 12\nRed RED red2\nfind 10 red\nfind 10 RED\nfind 10 Red2\nfind 10 re\n",
+            replies: b"ok 1\nhit 7 2\nend 1 read 1\nhit 7 2\nend 1 read 1\nhit 7 1\nend 1 read 1\nend 0 read 0\n",
+        },
+        Row {
+            script: b"arrive 7 10 12\nsand and And\nfind 10 And\nfind 10 and\nfind 10 or\nfind 10 not\n",
+            replies: b"ok 1\nhit 7 2\nend 1 read 1\nno 11 BadQuery 0\nno 11 BadQuery 0\nno 11 BadQuery 0\n",
+        },
+        Row {
+            script: b"arrive 7 10 9\nred blue.\nfind 10 red blue\nfind 10 red.\nfind 10 e-mail\nfind 10 (red)\nfind 10 blue\n",
+            replies: b"ok 1\nno 11 BadQuery 0\nno 11 BadQuery 0\nno 11 BadQuery 0\nno 11 BadQuery 0\nhit 7 1\nend 1 read 1\n",
+        },
+        Row {
+            script: b"arrive 7 10 0\n\narrive 8 10 1\na\nfind 10 a\nshow 7 10\nshow 8 10\n",
+            replies: b"ok 1\nok 2\nhit 8 1\nend 1 read 1\ntext 0\n\ntext 1\na\n",
+        },
+    ];
+    expect_rows(&rt, rt.alloc(), b"", &rows)
+}
+
+#[test]
+fn a_run_of_300_letters_is_no_word(rt: HostRuntime) -> Result<(), Fail> {
+    let alloc = rt.alloc();
+    let long = vec![in alloc; b'a'; 300]?;
+    let script = join(
+        alloc,
+        &[
+            b"arrive 7 10 302\n",
+            &long,
+            b" b\nfind 10 a\nfind 10 b\nfind 10 ",
+            &long,
+            b"\nfind 10 ",
+            &long[..255],
+            b"\n",
+        ],
+    )?;
+    let rows = [Row {
+        script: &script,
+        replies: b"ok 1\nend 0 read 0\nhit 7 1\nend 1 read 1\nno 11 BadQuery 0\nend 0 read 0\n",
+    }];
+    expect_rows(&rt, alloc, b"", &rows)
+}
+
+#[test]
+fn a_deleted_document_has_no_text_and_no_words(rt: HostRuntime) -> Result<(), Fail> {
+    let rows = [Row {
+        script: b"arrive 7 10 5\nred a\ndelete 7 20\nshow 7 19\nshow 7 20\nshow 8 19\nfind 19 a\nfind 20 a\n",
+        replies: b"ok 1\nok 2\ntext 5\nred a\nnone\nnone\nhit 7 1\nend 1 read 1\nend 0 read 1\n",
+    }];
+    expect_rows(&rt, rt.alloc(), b"", &rows)
+}
+
+#[test]
+fn a_question_leaves_the_journal_as_it_is(rt: HostRuntime) -> Result<(), Fail> {
+    let alloc = rt.alloc();
+    let script = b"find 10 red\nfind 10 and\nshow 7 10\nshow 7 9\n";
+    let mut machine = make_machine(&rt, alloc, script, FIRST_JOURNAL, &[])?;
+    assert_eq!(rt; run_on(&rt, alloc, &mut machine), Status::Done);
+    assert_eq!(rt;
+        machine.shown(),
+        b"hit 7 1\nend 1 read 1\nno 11 BadQuery 0\ntext 5\nred a\nnone\n".as_slice()
+    );
+    let left = read_journal(alloc, &mut machine)?;
+    assert_eq!(rt; left.as_slice(), FIRST_JOURNAL);
+    Ok(())
+}
+
+// Texts in any script come by the archive's own calls, as the script's texts are ASCII.
+#[test]
+fn a_word_is_found_in_texts_of_any_script(rt: HostRuntime) -> Result<(), Fail> {
+    let alloc = rt.alloc();
+    let image = Image {
+        journal: Vec::new(alloc),
+        pages: Vec::new(alloc),
+    };
+    let (mut archive, mut machine) = load_image(&rt, alloc, image)?;
+    let at = Time::new(10).ok_or("a time")?;
+    for (doc, text) in [(1, "Straße"), (2, "STRASSE und \u{212a}")] {
+        archive.arrive(alloc, &mut machine, DocId(doc), at, text.as_bytes())?;
+    }
+    for (query, scores) in [
+        ("Strasse", [(1, 1), (2, 1)].as_slice()),
+        ("k", [(2, 1)].as_slice()),
+    ] {
+        let answer = archive.find(alloc, &mut machine, at, query)?;
+        assert_eq!(rt; answer.rows.len(), scores.len(), "{query}");
+        for (row, want) in answer.rows.iter().zip(scores) {
+            assert_eq!(rt; (row.doc.0, row.score), *want, "{query}");
+        }
+        assert_eq!(rt; answer.read, scores.len() as u64, "{query}");
+    }
+    let text = archive.show(alloc, &mut machine, DocId(1), at)?;
+    assert_eq!(rt;
+        text.as_ref().map(|t| t.as_slice()),
+        Some("Straße".as_bytes())
+    );
+    Ok(())
+}

@@ -1,0 +1,28 @@
+-- What a search would have found at a time, and what it costs: by the texts that were alive then.
+use Rattle.std.specs.Prelude.{◌≡◌, ℕ, ◌+◌, ◌^◌, List, [], ◌∷◌, length, IsSome, option_map, unwrap_or}
+use Rattle.time_base.specs.declared.ids.DocId.{DocId}
+use Rattle.time_base.specs.declared.posting.Posting.{Posting}
+use Rattle.postings.specs.ListsOf.{IsListOf}
+use Rattle.fold_tokens.specs.Terms.{occurrences}
+use Rattle.query_eval.specs.Queries.{Query}
+use Rattle.query_eval.specs.Answers.{IsAnswer}
+use Rattle.query_eval.specs.declared.answer.Row.{Row}
+use Rattle.archive_state.specs.Histories.{History, text_at}
+
+-- how often a word occurs in the text of a document that is alive at a time; 0 where the document isn't alive then
+abbrev pub frequency_at : History → List ℕ → DocId → ℕ → ℕ
+frequency_at history word doc t = unwrap_or (option_map (occurrences word) (text_at history doc t)) 0
+
+-- the answer to a query at a time, as scanning the versions that are alive then gives it
+abbrev pub IsAnswerAt : History → ℕ → Query → List Row → Type 0
+IsAnswerAt history t query rows = IsAnswer (λ doc. IsSome (text_at history doc t)) (λ doc word. frequency_at history word doc t) query rows
+
+-- a word's whole list: a posting for each of the longest spans of one frequency
+abbrev pub IsWordList : History → List ℕ → List Posting → Type 0
+IsWordList history word list = IsListOf (λ doc t. frequency_at history word (record { 0 = doc }) t) 0 (2 ^ 40) list
+
+-- what is read for some words: for each its whole list, in postings
+abbrev pub IsReadFor : History → List (List ℕ) → ℕ → Type 0
+IsReadFor history [] read = read ≡ 0
+IsReadFor history (word ∷ words) read =
+    (list : List Posting) × (more : ℕ) × IsWordList history word list × IsReadFor history words more × (read ≡ length list + more)

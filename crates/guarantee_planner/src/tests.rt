@@ -1,0 +1,5 @@
+mod brute_force;
+mod certificates;
+mod given;
+mod partitions;
+mod rows;

@@ -1,0 +1,132 @@
+-- The order of rows: which rows there are has one list in their order.
+use Rattle.std.specs.Prelude.{◌≡◌, ◌⊎◌, ℕ, zero, suc, ◌≢◌, ◌<◌, ◌↔◌, List, [], ◌∷◌, length, get_or, Contains, refl}
+use Rattle.std.proofs.Common.{arith, ap, sym, ◌∙◌, subst, inl, inr}
+use Rattle.std.proofs.lemmas.Bool.{cases_lt}
+use Rattle.postings.proofs.Order.{Heads, next-tail, next-cons, next-later}
+use Rattle.query_eval.specs.Answers.{RanksBefore, AreRanked}
+use Rattle.query_eval.specs.declared.answer.Row.{Row}
+
+ranks-trans : (a b c : Row) → RanksBefore a b → RanksBefore b c → RanksBefore a c
+ranks-trans a b c x y = grind arith
+
+never-both : (a b : Row) → RanksBefore a b → RanksBefore b a → ⊥
+never-both a b x y = grind arith
+
+-- a document and a score make a row
+pub same-row : (a b : Row) → a.doc.0 ≡ b.doc.0 → a.score ≡ b.score → a ≡ b
+same-row a b d s = ap {B = Row} (λ n. record { doc = record { 0 = n }; score = a.score }) d ∙ ap {B = Row} (λ n. record { doc = b.doc; score = n }) s
+
+-- of two rows one is the other, or they are in order
+in-order : (a b : Row) → RanksBefore a b ⊎ ((a ≡ b) ⊎ RanksBefore b a)
+in-order a b = elim (cases_lt b.score a.score) [
+  | inl h ↦ inl (inl h)
+  | inr h ↦ elim (cases_lt a.score b.score) [
+    | inl k ↦ inr (inr (inl k))
+    | inr k ↦ elim (cases_lt a.doc.0 b.doc.0) [
+      | inl i ↦ inl (inr (omega arith, i))
+      | inr i ↦ elim (cases_lt b.doc.0 a.doc.0) [
+        | inl j ↦ inr (inr (inr (omega arith, j)))
+        | inr j ↦ inr (inl (same-row a b (omega arith) (omega arith)))
+      ]
+    ]
+  ]
+]
+
+-- elements of a list with one in front
+pub here : {X : Type 0} (x : X) (xs : List X) → Contains (x ∷ xs) x
+here x xs = (zero, omega arith, refl)
+
+pub later : {X : Type 0} (x y : X) (xs : List X) → Contains xs y → Contains (x ∷ xs) y
+later x y xs (k, l, e) = (suc k, omega (arith, l), e)
+
+pub here-or-later : {X : Type 0} (x y : X) (xs : List X) → Contains (x ∷ xs) y → (x ≡ y) ⊎ Contains xs y
+here-or-later x y xs (zero, l, e) = inl e
+here-or-later x y xs (suc k, l, e) = inr (k, omega (arith, l), e)
+
+pub none : {X : Type 0} (x : X) → Contains [] x → ⊥
+none x (k, l, e) = omega (arith, l)
+
+heads : (x : Row) (xs : List Row) → ((y : Row) → Contains xs y → RanksBefore x y) → Heads RanksBefore x xs
+heads x [] h = tt
+heads x (y ∷ ys) h = h y (here y ys)
+
+-- rows in their order that are these ones
+pub record AreInOrder (rows xs : List Row) : Type 0 where
+  pub ranked : AreRanked rows
+  pub each : (row : Row) → (Contains rows row ↔ Contains xs row)
+
+placed : (x : Row) (xs : List Row) → AreRanked xs → (rows : List Row) × AreInOrder rows (x ∷ xs)
+placed x [] h = (x ∷ [], record { ranked = tt; each = λ row. (λ c. c, λ c. c) })
+placed x (y ∷ ys) h = go (in-order x y) (placed x ys (next-tail RanksBefore y ys h))
+  where
+    go : RanksBefore x y ⊎ ((x ≡ y) ⊎ RanksBefore y x) → (rows : List Row) × AreInOrder rows (x ∷ ys) → (rows : List Row) × AreInOrder rows (x ∷ y ∷ ys)
+    go (inl b) rest = (x ∷ y ∷ ys, record { ranked = (b, h); each = λ row. (λ c. c, λ c. c) })
+    go (inr (inl e)) rest = (
+      y ∷ ys,
+      record {
+        ranked = h;
+        each = λ row. (λ c. later x row (y ∷ ys) c, λ c. elim (here-or-later x row (y ∷ ys) c) [ inl i ↦ subst (λ w. Contains (y ∷ ys) w) (sym e ∙ i) (here y ys) | inr k ↦ k ]);
+      },
+    )
+    go (inr (inr a)) (rows, o) = (
+      y ∷ rows,
+      record {
+        ranked = next-cons RanksBefore y rows (heads y rows (λ z c. elim (here-or-later x z ys ((o.each z).0 c)) [ inl i ↦ subst (λ w. RanksBefore y w) i a | inr k ↦ next-later RanksBefore ranks-trans y z ys h k ])) o.ranked;
+        each = λ row. (
+          λ c. elim (here-or-later y row rows c) [ inl i ↦ later x row (y ∷ ys) (subst (λ w. Contains (y ∷ ys) w) i (here y ys)) | inr k ↦ elim (here-or-later x row ys ((o.each row).0 k)) [ inl i ↦ subst (λ w. Contains (x ∷ y ∷ ys) w) i (here x (y ∷ ys)) | inr m ↦ later x row (y ∷ ys) (later y row ys m) ] ],
+          λ c. elim (here-or-later x row (y ∷ ys) c) [ inl i ↦ later y row rows ((o.each row).1 (subst (λ w. Contains (x ∷ ys) w) i (here x ys))) | inr k ↦ elim (here-or-later y row ys k) [ inl i ↦ subst (λ w. Contains (y ∷ rows) w) i (here y rows) | inr m ↦ later y row rows ((o.each row).1 (later x row ys m)) ] ],
+        );
+      },
+    )
+
+-- any rows stand in order in some list
+pub in_order : (xs : List Row) → (rows : List Row) × AreInOrder rows xs
+in_order [] = ([], record { ranked = tt; each = λ row. (λ c. c, λ c. c) })
+in_order (x ∷ xs) =
+    let (some, o) = in_order xs in
+    let (rows, p) = placed x some o.ranked in (
+      rows,
+      record {
+        ranked = p.ranked;
+        each = λ row. (
+          λ c. elim (here-or-later x row some ((p.each row).0 c)) [ inl i ↦ subst (λ w. Contains (x ∷ xs) w) i (here x xs) | inr k ↦ later x row xs ((o.each row).0 k) ],
+          λ c. (p.each row).1 (elim (here-or-later x row xs c) [ inl i ↦ subst (λ w. Contains (x ∷ some) w) i (here x some) | inr k ↦ later x row some ((o.each row).1 k) ]),
+        );
+      },
+    )
+
+tails : (x y row : Row) (xs ys : List Row) → AreRanked (x ∷ xs) → x ≡ y → (Contains (x ∷ xs) row → Contains (y ∷ ys) row) → Contains xs row → Contains ys row
+tails x y row xs ys a e s c = elim (here-or-later y row ys (s (later x row xs c))) [
+  | inl i ↦ let b = next-later RanksBefore ranks-trans x row xs a c in let o = subst (λ w. RanksBefore x w) (sym i ∙ sym e) b in absurd (never-both x x o o)
+  | inr k ↦ k
+]
+
+-- and in one
+pub one_order : (xs ys : List Row) → AreRanked xs → AreRanked ys → ((row : Row) → (Contains xs row ↔ Contains ys row)) → xs ≡ ys
+one_order [] [] a b s = refl
+one_order [] (y ∷ ys) a b s = absurd (none y ((s y).1 (here y ys)))
+one_order (x ∷ xs) [] a b s = absurd (none x ((s x).0 (here x xs)))
+one_order (x ∷ xs) (y ∷ ys) a b s = go (here-or-later y x ys ((s x).0 (here x xs))) (here-or-later x y xs ((s y).1 (here y ys))) (λ t. one_order xs ys (next-tail RanksBefore x xs a) (next-tail RanksBefore y ys b) t)
+  where
+    joined : x ≡ y → (((row : Row) → (Contains xs row ↔ Contains ys row)) → xs ≡ ys) → x ∷ xs ≡ y ∷ ys
+    joined e rest = let t = rest (λ row. (tails x y row xs ys a e (s row).0, tails y x row ys xs b (sym e) (s row).1)) in cc
+
+    go : (y ≡ x) ⊎ Contains ys x → (x ≡ y) ⊎ Contains xs y → (((row : Row) → (Contains xs row ↔ Contains ys row)) → xs ≡ ys) → x ∷ xs ≡ y ∷ ys
+    go (inl e) d rest = joined (sym e) rest
+    go (inr c) (inl e) rest = joined e rest
+    go (inr c) (inr d) rest = absurd (never-both x y (next-later RanksBefore ranks-trans x y xs a d) (next-later RanksBefore ranks-trans y x ys b c))
+
+-- in order by score and then by document, of which no two are one, is in order
+pub ranked-sorted : (rows : List Row) → ((k : ℕ) (d : Row) → suc k < length rows → RanksBefore (get_or rows (suc k) d) (get_or rows k d) → ⊥)
+    → ((k : ℕ) (d : Row) → suc k < length rows → (get_or rows k d).doc.0 ≢ (get_or rows (suc k) d).doc.0) → AreRanked rows
+ranked-sorted [] s n = tt
+ranked-sorted (x ∷ []) s n = tt
+ranked-sorted (x ∷ y ∷ ys) s n = (
+  first (in-order x y) (s 0 x (omega arith)) (n 0 x (omega arith)),
+  ranked-sorted (y ∷ ys) (λ k d l. s (suc k) d (omega (arith, l))) (λ k d l. n (suc k) d (omega (arith, l))),
+)
+  where
+    first : RanksBefore x y ⊎ ((x ≡ y) ⊎ RanksBefore y x) → (RanksBefore y x → ⊥) → x.doc.0 ≢ y.doc.0 → RanksBefore x y
+    first (inl b) s n = b
+    first (inr (inl e)) s n = absurd (n (ap (λ (r : Row). r.doc.0) e))
+    first (inr (inr a)) s n = absurd (s a)

@@ -1,0 +1,19 @@
+//! Queries, and their answers from posting lists.
+//!
+//! A query is a word, which contracts see by its key (`specs/Queries.antt`). Its answer at a time is
+//! a row for each document that is alive and has the word, the most frequent first
+//! (`specs/Answers.antt`). To the layer above it promises that what it reads is exactly what the
+//! text spells, and that what it finds in the word's list is the answer by the frequencies that the
+//! list gives. It knows nothing of texts, versions or files.
+#![tactic(auto)]
+
+mod answer;
+mod laws;
+mod query;
+
+pub use answer::{Answer, Row, answer_at};
+pub use laws::{an_answer_is_one, each_list_has_an_answer};
+pub use query::{Query, QueryError};
+
+#[cfg(test)]
+mod tests;

@@ -1,0 +1,85 @@
+//! Queries as they are written.
+ghost use Rattle.std.specs.Prelude.{◌≡◌, ℕ, Some, None, IfOk, IsErrOf};
+ghost use Rattle.query_eval.specs.Queries.{Word, is_operator, is_plain_word, query_of};
+
+use fold_tokens::one_term;
+use std::alloc::{AllocError, Global};
+use std::marker::Model;
+use time_base::Key;
+
+/// What to look for: a word. Contracts see it as the value that its text spells.
+#[derive(Debug, Drop)]
+pub struct Query {
+    word: Key,
+}
+
+impl Model for Query {
+    ghost use Rattle.query_eval.specs.Queries.{Query as Meaning, Word};
+
+    ghost Value = { Meaning };
+
+    ghost view = { λ q. Word q.word };
+}
+
+/// Why a text gives no query.
+#[derive(Clone, Copy, Debug, PartialEq, Eq)]
+pub enum QueryError {
+    /// The text is no query, which shows at that byte.
+    BadQuery {
+        /// Where that shows, in bytes from its start.
+        at: u64,
+    },
+    /// Memory ran out.
+    Memory,
+}
+
+impl From<AllocError> for QueryError {
+    ghost use Rattle.query_eval.specs.declared.query.QueryError.TheVariants.{Memory};
+    ghost use Rattle.std.specs.Prelude.{◌≡◌};
+
+    ghost from_gives = { λ _ e. e ≡ Memory };
+
+    fn from(_: AllocError) -> QueryError {
+        QueryError::Memory
+    }
+}
+
+impl Query {
+    /// The query that a text spells: 1 to 255 letters and digits of ASCII that are no operator
+    /// (`and`, `or`, `not`, in lower case). Its cost grows with the length of the text.
+    pub fn read(alloc: Global, text: &str) -> Result<Query, QueryError>
+        ensures query { IfOk result (λ q. query_of text.now ≡ Some q) }
+        ensures bad { (at : ℕ) → IsErrOf result (QueryError.BadQuery at)
+            → (query_of text.now ≡ None) × (at ≡ 0) }
+    {
+        if !is_plain_word(text) {
+            return Err(QueryError::BadQuery { at: 0 });
+        }
+        match one_term(alloc, text)? {
+            Some(word) => Ok(Query { word }),
+            None => Err(QueryError::BadQuery { at: 0 }),
+        }
+    }
+
+    /// The key of the query's word. Constant cost.
+    pub fn word(&self) -> &Key
+        ensures { self.now ≡ Word result.now }
+    {
+        &self.word
+    }
+}
+
+/// Whether the text is letters and digits of ASCII and no operator. Its cost grows with the length
+/// of the text.
+fn is_plain_word(text: &str) -> bool
+    ensures { result ≡ is_plain_word text.now }
+{
+    text.bytes().all(|b| b.is_ascii_alphanumeric()) && !is_operator(text)
+}
+
+/// Whether the text is the word of an operator. Constant cost.
+fn is_operator(text: &str) -> bool
+    ensures { result ≡ is_operator text.now }
+{
+    text == "and" || text == "or" || text == "not"
+}

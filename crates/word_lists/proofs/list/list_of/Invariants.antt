@@ -1,0 +1,11 @@
+use Rattle.std.proofs.Common.{◌≡◌, ◌^◌, take}
+use Rattle.postings.specs.ListsOf.{IsListOf}
+use Rattle.word_lists.specs.Frequencies.{frequency_by}
+use Rattle.word_lists.proofs.Turns.{in_front}
+use Rattle.word_lists.proofs.list.list_of.Given as goal
+
+abbrev pub invariant-loop-change : goal.invariant-loop-change
+invariant-loop-change l = record {
+  list : IsListOf (frequency_by (take l.change-index l.change-items)) 0 (2 ^ 40) l.tail.list;
+  front : l.before ≡ in_front l.change-index l.change-items;
+}

@@ -1,0 +1,66 @@
+//! The list of a word from changes.
+ghost use Rattle.std.specs.Prelude.{◌≡◌, ◌^◌, ◌<◌, IfOk, OnOk, unwrap_or};
+ghost use Rattle.std.specs.List.Sorted.{IsNonDecreasingBy};
+ghost use Rattle.time_base.specs.declared.ids.DocId.{DocId as Document};
+ghost use Rattle.version_store.specs.Changes.{changes_of};
+ghost use Rattle.postings.specs.ListsOf.{IsListOf};
+ghost use Rattle.tail_lists.specs.Turns.{IsTurned};
+ghost use Rattle.word_lists.specs.Frequencies.{frequency_by, RiseByDocument};
+ghost use Rattle.word_lists.specs.Steps.{frequency_before};
+
+use std::alloc::{AllocError, Global};
+use tail_lists::Tail;
+use time_base::{DocId, Posting};
+use version_store::{Change, held_as_changes_come};
+
+/// The word's list from how often each version has it; a tombstone holds nothing. The changes are
+/// those of all documents, in which each document's come in the order of time. An `Err` means that
+/// memory ran out. Costs n log n in the changes.
+pub fn list_of(alloc: Global, changes: &[Change<u32>]) -> Result<Vec<Posting>, AllocError>
+    requires { RiseByDocument changes.now }
+    ensures { IfOk result (λ list. IsListOf (frequency_by changes.now) 0 (2 ^ 40) list.items) }
+{
+    held_as_changes_come::<u32>();
+    let sorted = by_document(alloc, changes)?;
+    let mut tail = Tail::new(alloc);
+    let mut before = None;
+    for change in &sorted {
+        pass(&mut tail, before, *change)?;
+        before = Some(*change);
+    }
+    Ok(tail.into_postings())
+}
+
+/// The changes by document, those of one document in the order in which they came.
+fn by_document(alloc: Global, changes: &[Change<u32>]) -> Result<Vec<Change<u32>>, AllocError>
+    ensures ascending { IfOk result (λ sorted. IsNonDecreasingBy (λ c. c.doc.0) sorted.items) }
+    ensures same { IfOk result (λ sorted. (doc : Document) →
+        changes_of doc sorted.items ≡ changes_of doc changes.now) }
+{
+    let mut sorted = Vec::from_slice(alloc, changes)?;
+    sorted.sort_by_key(|change| change.doc.0)?;
+    Ok(sorted)
+}
+
+/// Passes the tail on by a change of a document, where `before` is the change that stands in front
+/// of it by document. With the documents ascending this appends.
+fn pass(tail: &mut Tail, before: Option<Change<u32>>, change: Change<u32>) -> Result<(), AllocError>
+    ensures { OnOk result (IsTurned change.doc.0 change.at.seconds
+        (frequency_before change.doc before) (unwrap_or change.held 0)
+        tail.old.list tail.new.list) }
+{
+    tail.reserve_turn()?;
+    let old = frequency_before(change.doc, before);
+    tail.turn(change.doc, change.at, old, change.held.unwrap_or(0));
+    Ok(())
+}
+
+/// How often the document has the word before a change of it, by the change in front of that.
+fn frequency_before(doc: DocId, before: Option<Change<u32>>) -> u32
+    ensures { result ≡ frequency_before doc before }
+{
+    match before {
+        Some(change) if change.doc == doc => change.held.unwrap_or(0),
+        _ => 0,
+    }
+}
