@@ -1,20 +1,29 @@
 -- Worked rows of what is asked, which hold by computation: what the definitions say of a small history.
-use Rattle.std.specs.Prelude.{◌≡◌, ℕ, [], ◌∷◌, ◌++◌, Some, None, codes, refl}
+use Rattle.std.specs.Prelude.{◌≡◌, ℕ, ◌<◌, ◌≤◌, ◌==◌, ◌&&◌, ◌^◌, nat_le, nat_lt, unwrap_or, option_map, Option, Bool, true, false, cond, List, [], ◌∷◌, ◌++◌, Some, None, IsSome, Contains, codes, refl}
 use Rattle.std.specs.Str.{chars}
 use Rattle.std.specs.Fmt.{digits}
 use lib.Utf8.{encode}
-use Rattle.std.proofs.Common.{lit<}
+use Rattle.std.proofs.Common.{arith, lit<, lit≤, sym, subst, inl, inr}
+use Rattle.std.proofs.lemmas.Bool.{eqb-true, lt-ltb}
+use Rattle.std.proofs.lemmas.List.Elements.{All-nil, All-cons}
 use Rattle.ucd_category.proofs.Computing.{ucd_category}
 use Rattle.unicode_normalization.proofs.Computing.{unicode_normalization}
 use Rattle.caseless.proofs.Computing.{caseless}
 use Rattle.time_base.specs.declared.ids.DocId.{DocId}
 use Rattle.time_base.specs.declared.time.Time.{Time}
 use Rattle.record_codec.specs.declared.entry.Entry.TheVariants as entries
-use Rattle.query_eval.specs.Queries.{Word, query_of}
+use Rattle.query_eval.specs.Queries.{Query, Word, query_of}
 use Rattle.archive_state.specs.declared.refusal.Refusal.TheVariants as refusals
-use Rattle.archive_state.specs.Histories.{History}
-use Rattle.archive_state.specs.Answers.{frequency_at}
-use Rattle.archive_state.specs.Steps.{Find, Show, Refused, Found, Shown, Step}
+use Rattle.time_base.specs.declared.posting.Posting.{Posting}
+use Rattle.fold_tokens.specs.Terms.{occurrences}
+use Rattle.version_store.specs.Changes.{valid_at}
+use Rattle.postings.specs.Lists.{frequency}
+use Rattle.query_eval.specs.Answers.{IsRow}
+use Rattle.query_eval.specs.declared.answer.Row.{Row}
+use Rattle.query_eval.proofs.Ranks.{same-row, here, here-or-later, none}
+use Rattle.archive_state.specs.Histories.{History, text_at}
+use Rattle.archive_state.specs.Answers.{frequency_at, IsAnswerAt, IsWordList}
+use Rattle.archive_state.specs.Steps.{Find, Show, Refused, Found, Shown, Finds, Step}
 use Rattle.archive_state.specs.Replies.{reply_text}
 
 abbrev doc : ℕ → DocId
@@ -54,3 +63,73 @@ texts : (reply_text (Found (record { doc = doc 7; score = 1 } ∷ []) 1) ≡ cod
     × (reply_text (Shown (Some (codes "red a"))) ≡ codes "text 5" ++ 10 ∷ codes "red a" ++ 10 ∷ []) × (reply_text (Shown None) ≡ codes "none" ++ 10 ∷ [])
 unfolding digits
 texts = (refl, refl, refl)
+
+-- a whole step: one document has the word once, in one posting
+abbrev hit : Row
+hit = record { doc = doc 7; score = 1 }
+
+abbrev posting : Posting
+posting = record { doc = doc 7; span = record { from = 10; to = 2 ^ 40; ordered = lit< tt; in_time = lit≤ tt }; tf = 1; numbered = lit< tt; counted = lit≤ tt; bounded = lit< tt }
+
+abbrev red : List ℕ
+red = codes "red"
+
+-- who has the word is document 7
+only_seven : (d t : ℕ) → IsSome (text_at one_arrival (doc d) t) → d ≡ 7
+only_seven d t alive = go (7 == d) refl alive
+  where
+    go : (b : Bool) → 7 == d ≡ b → IsSome (valid_at t (cond b (record { doc = doc 7; at = ten; held = Some (codes "red a") } ∷ []) [])) → d ≡ 7
+    go true e alive = sym (eqb-true 7 d e)
+    go false e alive = absurd cc
+
+-- the row stands for document 7 alone
+one_row : IsAnswerAt one_arrival 10 (Word red) (hit ∷ [])
+unfolding ucd_category caseless unicode_normalization chars encode
+one_row = record { ranked = tt; each = λ row. (has row, is row) }
+  where
+    has : (row : Row) → Contains (hit ∷ []) row → IsRow (λ d. IsSome (text_at one_arrival d 10)) (λ d word. frequency_at one_arrival word d 10) (Word red) row
+    has row there = elim (here-or-later hit row [] there) [
+      | inl same ↦ (let P : Row → Type 0 = λ r. IsRow (λ d. IsSome (text_at one_arrival d 10)) (λ d word. frequency_at one_arrival word d 10) (Word red) r in
+          subst P same (record { alive = refl; matching = refl; scored = refl }))
+      | inr later ↦ absurd (none row later)
+    ]
+
+    is : (row : Row) → IsRow (λ d. IsSome (text_at one_arrival d 10)) (λ d word. frequency_at one_arrival word d 10) (Word red) row → Contains (hit ∷ []) row
+    is row has =
+        let seven : row.doc.0 ≡ 7 = only_seven row.doc.0 10 has.alive in
+        let F : ℕ → Type 0 = λ d. row.score ≡ frequency_at one_arrival red (doc d) 10 in
+        let score : row.score ≡ 1 = subst F seven has.scored in
+        let C : Row → Type 0 = λ r. Contains (hit ∷ []) r in
+        subst C (same-row hit row (sym seven) (sym score)) (here hit [])
+
+-- and the word's list is one posting
+frequency_is : (d t : ℕ) → t < 2 ^ 40 → frequency d t (posting ∷ []) ≡ frequency_at one_arrival red (doc d) t
+unfolding ucd_category caseless unicode_normalization chars encode
+frequency_is d t before = on_doc (7 == d)
+  where
+    on_time : (a e : Bool) → e ≡ true → cond (a && e) 1 0 ≡ unwrap_or (option_map (occurrences red) (cond a (Some (codes "red a")) None)) 0
+    on_time true true is = refl
+    on_time true false is = absurd cc
+    on_time false e is = refl
+
+    on_doc : (b : Bool) → cond (b && (nat_le 10 t && nat_lt t (2 ^ 40))) 1 0
+        ≡ unwrap_or (option_map (occurrences red) (valid_at t (cond b (record { doc = doc 7; at = ten; held = Some (codes "red a") } ∷ []) []))) 0
+    on_doc false = refl
+    on_doc true = on_time (nat_le 10 t) (nat_lt t (2 ^ 40)) (lt-ltb t (2 ^ 40) before)
+
+one_posting : IsWordList one_arrival red (posting ∷ [])
+one_posting = record {
+  ordered = tt;
+  coalesced = tt;
+  inside = All-cons (λ p. (0 ≤ p.span.from) × (p.span.to ≤ 2 ^ 40)) posting [] (omega arith, omega arith) (All-nil (λ p. (0 ≤ p.span.from) × (p.span.to ≤ 2 ^ 40)));
+  same = λ d t some before. frequency_is d t before;
+}
+
+is_red : query_of (codes "red") ≡ Some (Word red)
+unfolding ucd_category caseless unicode_normalization chars encode
+is_red = refl
+
+found : Step one_arrival (Find ten (codes "red")) (Found (hit ∷ []) 1) one_arrival
+found =
+    let F : Option Query → Type 0 = λ q. Finds one_arrival ten q (Found (hit ∷ []) 1) in
+    (refl, subst F (sym is_red) (hit ∷ [], 1, one_row, (posting ∷ [], 0, one_posting, refl, refl), refl))
