@@ -1,5 +1,5 @@
 //! What an archive is asked: the text of a document at a time, and what a query finds.
-ghost use Rattle.std.specs.Prelude.{◌≡◌, ◌≤◌, None, IfOk, IsErrOf, option_map};
+ghost use Rattle.std.specs.Prelude.{◌≡◌, ◌⊎◌, ◌≤◌, None, IsSome, IsOk, IfOk, IsErrOf, option_map};
 ghost use Rattle.machine_model.specs.Causes.{Rose};
 ghost use Rattle.machine_model.specs.Calls.{OnlyReads};
 ghost use Rattle.postings.specs.Lists.{IsList};
@@ -38,8 +38,9 @@ impl Archive {
         ensures only { D.Disk.only disk.old disk.new }
         ensures same { OnlyReads (D.disk disk.old) (D.disk disk.new) }
         ensures failed { IsErrOf result AskError.Failed → Rose (D.disk disk.old).faults (D.disk disk.new).faults }
-        // A refusal comes only of a text that is no query.
+        // A refusal comes of a text that is no query, and wherever it is none (but for want of memory).
         ensures refused { (why : Refusal) → IsErrOf result (AskError.Refused why) → (query_of query.now ≡ None) × (why ≡ Refusal.BadQuery 0) }
+        ensures asked { (IsOk result ⊎ IsErrOf result AskError.Failed) → IsSome (query_of query.now) }
         ensures found { D.disk_tells → (h : History) → IsKept (D.disk disk.old) self.now h →
             IfOk result (λ answer. Finds h at (query_of query.now) (Found answer.rows.items answer.read)) }
     {
