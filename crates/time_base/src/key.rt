@@ -1,5 +1,5 @@
 //! Keys of words.
-ghost use Rattle.std.specs.Prelude.{◌≡◌, ◌≤◌, ◌↔◌, length, IsSome, IfSome, IfOk, Some, nat_eq, refl};
+ghost use Rattle.std.specs.Prelude.{◌≡◌, ◌≤◌, ◌↔◌, length, string_bytes, IsSome, IfSome, IsOk, IfOk, IfErr, Some, nat_eq, refl};
 ghost use Rattle.std.specs.Ordering.{nat_cmp};
 ghost use Rattle.std.specs.Hash as fed;
 ghost use Rattle.std.specs.Cmp.Lexicographic.{pointwise, slice_cmp, nat_list_eq_equiv, nat_list_cmp_total, texts_ties, texts_po};
@@ -44,6 +44,26 @@ impl Key {
         }
         let text = String::from_str(alloc, text)?;
         Ok(Some(Key { text }))
+    }
+
+    /// The key with that text, of which nothing is copied; the text itself where it has no byte or
+    /// more than 255. Constant cost.
+    pub fn from_text(text: String) -> Result<Key, String>
+        ensures valid { IsOk result ↔ ((1 ≤ length (string_bytes text)) × (length (string_bytes text) ≤ 255)) }
+        ensures value { IfOk result (λ key. key ≡ string_bytes text) }
+        ensures returned { IfErr result (λ back. back ≡ text) }
+    {
+        if text.as_str().is_empty() || text.as_str().len() > MOST_KEY_BYTES {
+            return Err(text);
+        }
+        Ok(Key { text })
+    }
+
+    /// The key's text, of which nothing is copied. Constant cost.
+    pub fn into_text(self) -> String
+        ensures value { string_bytes result ≡ self }
+    {
+        self.text
     }
 
     /// The key's text. Constant cost.
