@@ -178,6 +178,7 @@ impl ReplyPage {
         ensures room { self.old.room ≤ self.new.room + 40 }
     {
         match refusal {
+            Refusal::Line => self.put(b"Line"),
             Refusal::TimeBack { last } => self.put_named(b"TimeBack ", last.seconds()),
             Refusal::SameTime => self.put(b"SameTime"),
             Refusal::NoDocument => self.put(b"NoDocument"),

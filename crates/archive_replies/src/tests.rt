@@ -20,6 +20,7 @@ fn refusals_are_answered_by_number_name_and_detail(rt: HostRuntime) -> Result<()
     let mut page = ReplyPage::new(rt.alloc())?;
     let last = Time::new(10).ok_or("a time of 10 seconds")?;
     for (refusal, text) in [
+        (Refusal::Line, "no 1 Line\n"),
         (Refusal::TimeBack { last }, "no 2 TimeBack 10\n"),
         (Refusal::SameTime, "no 3 SameTime\n"),
         (Refusal::NoDocument, "no 4 NoDocument\n"),

@@ -2,7 +2,6 @@
 use Rattle.std.proofs.Common.{◌≡◌, ℕ, ◌<◌, ◌≤◌, Bool, true, false, not, List, [], ◌∷◌, ◌++◌, length, Option, Some, None, IsUtf8, refl, ap, ◌∙◌}
 use Rattle.std.specs.Str.{is_utf8}
 use Rattle.std.specs.Str.Lossy.{utf8_valid_len}
-use Rattle.std.specs.Option.{option_map}
 use Rattle.std.proofs.lemmas.Str.{IsUtf8-from_is_utf8, is_utf8-from_IsUtf8}
 use Rattle.std.proofs.lemmas.Bool.{lt-ltb, le-ltb, false_from_ne_true}
 use Rattle.time_base.specs.Limits.{limit_of}
@@ -10,15 +9,13 @@ use Rattle.time_base.specs.declared.ids.DocId.{DocId}
 use Rattle.time_base.specs.declared.time.Time.{Time}
 use Rattle.time_base.specs.declared.which.Which.TheVariants.{Journal}
 use Rattle.version_store.specs.Tests.{first_of, when}
-use Rattle.version_store.specs.declared.refusal.VersionRefusal.{VersionRefusal}
 use Rattle.record_codec.specs.Spelling.{most_text}
 use Rattle.record_codec.specs.declared.entry.Entry.{Entry}
 use Rattle.record_codec.specs.declared.entry.Entry.TheVariants.{Arrive}
 use Rattle.archive_state.specs.declared.refusal.Refusal.{Refusal}
 use Rattle.archive_state.specs.declared.refusal.Refusal.TheVariants.{TooLong, BadText, Full}
-use Rattle.archive_state.specs.Refusals.{refusal_of}
 use Rattle.archive_state.specs.Histories.{History, entry_refusal, end_of}
-use Rattle.archive_state.specs.Steps.{too_long, bad_text, not_allowed, full_journal, arrival_refusal}
+use Rattle.archive_state.specs.Steps.{too_long, bad_text, full_journal, arrival_refusal}
 
 -- the first cause of a list that goes on
 pub first_of-found : {W : Type 0} (tests more : List (Option W)) (why : W) → first_of tests ≡ Some why → first_of (tests ++ more) ≡ Some why
@@ -54,23 +51,23 @@ bad_text-no text good = when_false _ (BadText (utf8_valid_len text)) (ap not (is
 pub arrival_refused-text : (h : History) (doc : DocId) (at : Time) (text : List ℕ) (why : Refusal) → first_of (too_long text ∷ bad_text text ∷ []) ≡ Some why
     → arrival_refusal h doc at text ≡ Some why
 arrival_refused-text h doc at text why found =
-    first_of-found (too_long text ∷ bad_text text ∷ []) (not_allowed h (Arrive doc at text) ∷ full_journal h (Arrive doc at text) ∷ []) why found
+    first_of-found (too_long text ∷ bad_text text ∷ []) (entry_refusal h (Arrive doc at text) ∷ full_journal h (Arrive doc at text) ∷ []) why found
 
 -- why an entry is refused whose text is good
 abbrev pub cause : History → Entry → Option Refusal
-cause h e = first_of (not_allowed h e ∷ full_journal h e ∷ [])
+cause h e = first_of (entry_refusal h e ∷ full_journal h e ∷ [])
 
 pub arrival_refused-good : (h : History) (doc : DocId) (at : Time) (text : List ℕ) → length text ≤ most_text → IsUtf8 text
     → arrival_refusal h doc at text ≡ cause h (Arrive doc at text)
 arrival_refused-good h doc at text short good =
-    first_of-none (too_long text ∷ bad_text text ∷ []) (not_allowed h (Arrive doc at text) ∷ full_journal h (Arrive doc at text) ∷ [])
+    first_of-none (too_long text ∷ bad_text text ∷ []) (entry_refusal h (Arrive doc at text) ∷ full_journal h (Arrive doc at text) ∷ [])
     (let one = too_long-no text short in let two = bad_text-no text good in rw (one, two) refl)
 
-pub cause-not_allowed : (h : History) (e : Entry) (why : VersionRefusal) → entry_refusal h e ≡ Some why → cause h e ≡ Some (refusal_of why)
-cause-not_allowed h e why refused = ap (λ (o : Option VersionRefusal). first_of (option_map refusal_of o ∷ full_journal h e ∷ [])) refused
+pub cause-not_allowed : (h : History) (e : Entry) (why : Refusal) → entry_refusal h e ≡ Some why → cause h e ≡ Some why
+cause-not_allowed h e why refused = ap (λ (o : Option Refusal). first_of (o ∷ full_journal h e ∷ [])) refused
 
 pub cause-allowed : (h : History) (e : Entry) → entry_refusal h e ≡ None → cause h e ≡ first_of (full_journal h e ∷ [])
-cause-allowed h e allowed = ap (λ (o : Option VersionRefusal). first_of (option_map refusal_of o ∷ full_journal h e ∷ [])) allowed
+cause-allowed h e allowed = ap (λ (o : Option Refusal). first_of (o ∷ full_journal h e ∷ [])) allowed
 
 pub cause-full : (h : History) (e : Entry) → entry_refusal h e ≡ None → limit_of Journal < end_of (h ++ e ∷ []) → cause h e ≡ Some (Full Journal (limit_of Journal))
 cause-full h e allowed over =

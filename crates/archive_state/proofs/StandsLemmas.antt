@@ -46,14 +46,14 @@ no_fault_within h before body rest gate at legal early same fault =
     legal_no_fault before parts.1 body gate at (subst P one there.1) parts.5 fault
 
 -- bytes that stand for a history are no archive's nowhere
-pub spelled_is_archive : (bytes : List ℕ) (h : History) (at : ℕ) → Spells bytes (bodies_of h) → IsLegal h → IsNotArchive bytes at → ⊥
-spelled_is_archive bytes h at spelled legal (inl refused) = spelled_not_refused bytes (bodies_of h) at spelled refused
-spelled_is_archive bytes h at spelled legal (inr bad) =
-    no_fault_within h bad.before bad.body bad.rest (length (front (bodies_of bad.before))) at legal bad.legal
-    (spells_once bytes (bodies_of h) (bodies_of bad.before ++ bad.body ∷ bad.rest) spelled bad.spelled) bad.fault
+pub spelled_is_archive : (image : Bytes) (h : History) (at : ℕ) → Spells image.journal (bodies_of h) → IsLegal h → IsNotArchive image at → ⊥
+spelled_is_archive image h at spelled legal (inl refused) = spelled_not_refused image.journal (bodies_of h) at spelled refused
+spelled_is_archive image h at spelled legal (inr bad) =
+    no_fault_within h bad.before bad.body bad.rest (length (front (bodies_of bad.before))) at legal bad.loadable
+    (spells_once image.journal (bodies_of h) (bodies_of bad.before ++ bad.body ∷ bad.rest) spelled bad.spelled) bad.fault
 
-pub stands_is_archive : (h : History) (image : Bytes) (at : ℕ) → Stands h image → IsNotArchive image.journal at → ⊥
-stands_is_archive h image at stands refused = spelled_is_archive image.journal h at stands.spelled stands.legal refused
+pub stands_is_archive : (h : History) (image : Bytes) (at : ℕ) → Stands h image → IsNotArchive image at → ⊥
+stands_is_archive h image at stands refused = spelled_is_archive image h at stands.spelled stands.legal refused
 
 -- two lists with a part in front and an item behind it: the parts are one, or one is in front of the other
 meet : (a b : List (List ℕ)) (x y : List ℕ) (s t : List (List ℕ)) → a ++ x ∷ s ≡ b ++ y ∷ t
@@ -81,23 +81,23 @@ one_fault before body gate one other (inr a) (inl b) =
     let P : List ℕ → Type 0 = λ l. IsMisspelled l b.0 in absurd (spelled_no_fault a.0.entry b.0 a.0.ranges (subst P a.0.spelled b.1))
 one_fault before body gate one other (inr a) (inr b) = a.1 ∙ sym b.1
 
-bad_once : (bytes : List ℕ) (one other : ℕ) → IsBadEntry bytes one → IsBadEntry bytes other → one ≡ other
-bad_once bytes one other a b =
+bad_once : (image : Bytes) (one other : ℕ) → IsBadEntry image one → IsBadEntry image other → one ≡ other
+bad_once image one other a b =
     let gate : History → ℕ = λ h. length (front (bodies_of h)) in
     elim (meet (bodies_of a.before) (bodies_of b.before) a.body b.body a.rest b.rest
-    (spells_once bytes (bodies_of a.before ++ a.body ∷ a.rest) (bodies_of b.before ++ b.body ∷ b.rest) a.spelled b.spelled)) as (λ _. one ≡ other) [
+    (spells_once image.journal (bodies_of a.before ++ a.body ∷ a.rest) (bodies_of b.before ++ b.body ∷ b.rest) a.spelled b.spelled)) as (λ _. one ≡ other) [
       | inl same ↦
-          let before : a.before ≡ b.before = same_history a.before b.before a.legal b.legal same.0 in
+          let before : a.before ≡ b.before = same_history a.before b.before a.loadable b.loadable same.0 in
           let P : History → Type 0 = λ h. Fault h a.body (gate h) one in
           let Q : List ℕ → Type 0 = λ l. Fault b.before l (gate b.before) one in
           one_fault b.before b.body (gate b.before) one other (subst Q same.1 (subst P before a.fault)) b.fault
-      | inr (inl more) ↦ absurd (no_fault_within b.before a.before a.body more.0 (gate a.before) one b.legal a.legal more.1 a.fault)
-      | inr (inr more) ↦ absurd (no_fault_within a.before b.before b.body more.0 (gate b.before) other a.legal b.legal more.1 b.fault)
+      | inr (inl more) ↦ absurd (no_fault_within b.before a.before a.body more.0 (gate a.before) one b.loadable a.loadable more.1 a.fault)
+      | inr (inr more) ↦ absurd (no_fault_within a.before b.before b.body more.0 (gate b.before) other a.loadable b.loadable more.1 b.fault)
     ]
 
 -- bytes that are no archive's show it at one place
-pub not_archive_once : (bytes : List ℕ) (one other : ℕ) → IsNotArchive bytes one → IsNotArchive bytes other → one ≡ other
-not_archive_once bytes one other (inl a) (inl b) = refused_once bytes one other a b
-not_archive_once bytes one other (inl a) (inr b) = absurd (spelled_not_refused bytes (bodies_of b.before ++ b.body ∷ b.rest) one b.spelled a)
-not_archive_once bytes one other (inr a) (inl b) = absurd (spelled_not_refused bytes (bodies_of a.before ++ a.body ∷ a.rest) other a.spelled b)
-not_archive_once bytes one other (inr a) (inr b) = bad_once bytes one other a b
+pub not_archive_once : (image : Bytes) (one other : ℕ) → IsNotArchive image one → IsNotArchive image other → one ≡ other
+not_archive_once image one other (inl a) (inl b) = refused_once image.journal one other a b
+not_archive_once image one other (inl a) (inr b) = absurd (spelled_not_refused image.journal (bodies_of b.before ++ b.body ∷ b.rest) one b.spelled a)
+not_archive_once image one other (inr a) (inl b) = absurd (spelled_not_refused image.journal (bodies_of a.before ++ a.body ∷ a.rest) other a.spelled b)
+not_archive_once image one other (inr a) (inr b) = bad_once image one other a b

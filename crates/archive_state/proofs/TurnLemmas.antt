@@ -1,5 +1,5 @@
--- Each command has a turn: from a legal history to a legal one.
-use Rattle.std.proofs.Common.{subst, sym, ◌≡◌, ℕ, ◌<◌, ◌≤◌, ◌^◌, Bool, true, false, not, nat_lt, List, [], ◌∷◌, ◌++◌, length, All, Option, Some, None, IsSome, refl, ap, arith, unwrap_or}
+-- Each item has one turn: from a legal history to a legal one.
+use Rattle.std.proofs.Common.{subst, sym, ◌≡◌, ℕ, ◌<◌, ◌≤◌, ◌^◌, Bool, true, false, not, nat_lt, List, [], ◌∷◌, ◌++◌, length, All, Option, Some, None, IsSome, refl, ap, arith, unwrap_or, ◌∙◌}
 use Rattle.std.specs.Str.{is_utf8}
 use Rattle.std.specs.Option.{option_map}
 use Rattle.std.proofs.lemmas.Bool.{ltb-false}
@@ -9,10 +9,10 @@ use Rattle.time_base.specs.declared.ids.DocId.{DocId}
 use Rattle.time_base.specs.declared.time.Time.{Time}
 use Rattle.time_base.specs.declared.posting.Posting.{Posting}
 use Rattle.postings.proofs.Existence.{each_has_a_list}
+use Rattle.postings.proofs.Clipping.{one_list_of}
 use Rattle.fold_tokens.specs.Terms.{occurrences}
 use Rattle.fold_tokens.proofs.FrequencyLemmas.{occurrences-le}
 use Rattle.version_store.specs.declared.change.Change.{Change}
-use Rattle.version_store.specs.declared.refusal.VersionRefusal.{VersionRefusal}
 use Rattle.version_store.specs.Changes.{valid_at}
 use Rattle.version_store.specs.Tests.{first_of, when}
 use Rattle.version_store.proofs.Holding.{held_has}
@@ -20,16 +20,21 @@ use Rattle.version_store.proofs.Latest.{changes_of-none}
 use Rattle.record_codec.specs.Spelling.{most_text}
 use Rattle.record_codec.specs.declared.entry.Entry.{Entry}
 use Rattle.record_codec.specs.declared.entry.Entry.TheVariants as entries
-use Rattle.query_eval.specs.Queries.{Query, Word, query_of}
+use Rattle.query_eval.specs.Queries.{Query, Word, query_of, words_of}
 use Rattle.query_eval.specs.Laws.{IsAnswerBy}
 use Rattle.query_eval.specs.declared.answer.Row.{Row}
-use Rattle.query_eval.proofs.Answering.{each_answer, lists_answer}
+use Rattle.query_eval.proofs.Answering.{each_answer, lists_answer, one_answer}
 use Rattle.archive_state.specs.declared.refusal.Refusal.{Refusal}
 use Rattle.archive_state.specs.declared.refusal.Refusal.TheVariants as refusals
-use Rattle.archive_state.specs.Refusals.{refusal_of}
 use Rattle.archive_state.specs.Histories.{History, changes, text_at, AreLegalAfter, IsLegal, IsLegalEntry, entry_refusal}
-use Rattle.archive_state.specs.Answers.{frequency_at, IsAnswerAt, IsWordList}
-use Rattle.archive_state.specs.Steps.{Command, Arrive, Delete, Find, Show, Reply, Accepted, Refused, Found, Shown, Adds, Finds, Step, IsInRange, too_long, bad_text, not_allowed, full_journal, arrival_refusal, deletion_refusal}
+use Rattle.archive_state.specs.Answers.{frequency_at, IsAnswerAt, IsWordList, IsReadFor}
+use Rattle.commands.specs.Documents.{HasDocument}
+use Rattle.commands.specs.declared.command.Command.{Command}
+use Rattle.commands.specs.declared.command.Command.TheVariants as commands
+use Rattle.commands.specs.declared.command.Item.{Item}
+use Rattle.commands.specs.declared.command.Item.TheVariants as items
+use Rattle.commands.specs.declared.text.Text.TheVariants as texts
+use Rattle.archive_state.specs.Steps.{Reply, Accepted, Refused, Found, Shown, Adds, Declines, Finds, CarriesOut, Step, too_long, bad_text, full_journal, arrival_refusal, deletion_refusal}
 use Rattle.archive_state.specs.Runs.{Turn}
 use Rattle.archive_state.proofs.HistoryLemmas.{legal-push}
 
@@ -42,10 +47,6 @@ no_cause : {W : Type 0} (test : Bool) (why : W) → when test why ≡ None → t
 no_cause true why none = absurd cc
 no_cause false why none = refl
 
-allowed_by : (o : Option VersionRefusal) → option_map refusal_of o ≡ None → o ≡ None
-allowed_by None none = refl
-allowed_by (Some why) none = absurd cc
-
 is_true : (b : Bool) → not b ≡ false → b ≡ true
 is_true true is = refl
 is_true false is = absurd cc
@@ -53,9 +54,9 @@ is_true false is = absurd cc
 -- an entry that isn't refused is legal
 pub arrival_legal : (h : History) (doc : DocId) (at : Time) (text : List ℕ) → doc.0 < 2 ^ 32 → arrival_refusal h doc at text ≡ None → IsLegalEntry h (entries.Arrive doc at text)
 arrival_legal h doc at text fits none =
-    let one = none_found (too_long text) (bad_text text ∷ not_allowed h (entries.Arrive doc at text) ∷ full_journal h (entries.Arrive doc at text) ∷ []) none in
-    let two = none_found (bad_text text) (not_allowed h (entries.Arrive doc at text) ∷ full_journal h (entries.Arrive doc at text) ∷ []) one.1 in
-    let three = none_found (not_allowed h (entries.Arrive doc at text)) (full_journal h (entries.Arrive doc at text) ∷ []) two.1 in
+    let one = none_found (too_long text) (bad_text text ∷ entry_refusal h (entries.Arrive doc at text) ∷ full_journal h (entries.Arrive doc at text) ∷ []) none in
+    let two = none_found (bad_text text) (entry_refusal h (entries.Arrive doc at text) ∷ full_journal h (entries.Arrive doc at text) ∷ []) one.1 in
+    let three = none_found (entry_refusal h (entries.Arrive doc at text)) (full_journal h (entries.Arrive doc at text) ∷ []) two.1 in
     record {
       ranges = (
         fits,
@@ -63,13 +64,13 @@ arrival_legal h doc at text fits none =
         ltb-false most_text (length text) (no_cause (nat_lt most_text (length text)) (refusals.TooLong most_text) one.0),
         IsUtf8-from_is_utf8 text (is_true (is_utf8 text) (no_cause (not (is_utf8 text)) _ two.0)),
       );
-      allowed = allowed_by (entry_refusal h (entries.Arrive doc at text)) three.0;
+      allowed = three.0;
     }
 
 pub deletion_legal : (h : History) (doc : DocId) (at : Time) → doc.0 < 2 ^ 32 → deletion_refusal h doc at ≡ None → IsLegalEntry h (entries.Delete doc at)
 deletion_legal h doc at fits none =
-    let one = none_found (not_allowed h (entries.Delete doc at)) (full_journal h (entries.Delete doc at) ∷ []) none in
-    record { ranges = (fits, at.before_now); allowed = allowed_by (entry_refusal h (entries.Delete doc at)) one.0 }
+    let one = none_found (entry_refusal h (entries.Delete doc at)) (full_journal h (entries.Delete doc at) ∷ []) none in
+    record { ranges = (fits, at.before_now); allowed = one.0 }
 
 -- whether an entry is refused or not, there is a turn
 pub adds_turn : (h : History) (e : Entry) (refusal : Option Refusal) → (turn : Turn Reply History) × Adds h e refusal turn.reply turn.next
@@ -130,21 +131,90 @@ each_finds h at (Some (Word word)) legal =
     let answer = each_answer (Word word) list.0 at.seconds list.1.ordered in
     (Found answer.0 (length list.0), finds_by h at word list.0 answer.0 (length list.0) list.1 answer.1 refl)
 
-pub each_turn : (h : History) (c : Command) → IsLegal h → (turn : Turn Reply History) × Step h c turn.reply turn.next
-each_turn h (Arrive doc at text) legal = adds_turn h (entries.Arrive doc at text) (arrival_refusal h doc at text)
-each_turn h (Delete doc at) legal = adds_turn h (entries.Delete doc at) (deletion_refusal h doc at)
-each_turn h (Find at text) legal =
-    let found = each_finds h at (query_of text) legal in
+declines_turn : (h : History) (why : Refusal) → (turn : Turn Reply History) × Declines h why turn.reply turn.next
+declines_turn h why = (record { reply = Refused why; next = h }, (refl, refl))
+
+each_command : (h : History) (c : Command) → IsLegal h → (turn : Turn Reply History) × CarriesOut h c turn.reply turn.next
+each_command h (commands.Arrive doc at (texts.Bytes text)) legal = adds_turn h (entries.Arrive doc at text) (arrival_refusal h doc at text)
+each_command h (commands.Arrive doc at (texts.TooLong bytes)) legal = declines_turn h (refusals.TooLong most_text)
+each_command h (commands.Delete doc at) legal = adds_turn h (entries.Delete doc at) (deletion_refusal h doc at)
+each_command h (commands.Find at expr) legal =
+    let found = each_finds h at (query_of expr) legal in
     (record { reply = found.0; next = h }, (refl, found.1))
-each_turn h (Show doc at) legal = (record { reply = Shown (text_at h doc at.seconds); next = h }, (refl, refl))
+each_command h (commands.Show doc at) legal = (record { reply = Shown (text_at h doc at.seconds); next = h }, (refl, refl))
+each_command h (commands.Plan word kind fraction) legal = declines_turn h refusals.Line
+each_command h (commands.Propose word fraction) legal = declines_turn h refusals.Line
+each_command h (commands.Between span expr) legal = declines_turn h refusals.Line
+each_command h (commands.Certificate word) legal = declines_turn h refusals.Line
+each_command h commands.Verify legal = declines_turn h refusals.Line
+
+pub each_turn : (h : History) (item : Item) → IsLegal h → (turn : Turn Reply History) × Step h item turn.reply turn.next
+each_turn h (items.Command c) legal = each_command h c legal
+each_turn h items.Line legal = declines_turn h refusals.Line
 
 -- and every turn leads from a legal history to a legal one
 adds_legal : (h : History) (e : Entry) (refusal : Option Refusal) (reply : Reply) (next : History) → IsLegal h → (refusal ≡ None → IsLegalEntry h e) → Adds h e refusal reply next → IsLegal next
 adds_legal h e None reply next legal entry adds = subst IsLegal (sym adds.0) (legal-push h e legal (entry refl))
 adds_legal h e (Some why) reply next legal entry adds = subst IsLegal (sym adds.0) legal
 
-pub step_legal : (h : History) (c : Command) (reply : Reply) (next : History) → IsLegal h → IsInRange c → Step h c reply next → IsLegal next
-step_legal h (Arrive doc at text) reply next legal range step = adds_legal h (entries.Arrive doc at text) (arrival_refusal h doc at text) reply next legal (arrival_legal h doc at text range) step
-step_legal h (Delete doc at) reply next legal range step = adds_legal h (entries.Delete doc at) (deletion_refusal h doc at) reply next legal (deletion_legal h doc at range) step
-step_legal h (Find at text) reply next legal range step = subst IsLegal (sym step.0) legal
-step_legal h (Show doc at) reply next legal range step = subst IsLegal (sym step.0) legal
+stays_legal : (h next : History) → IsLegal h → next ≡ h → IsLegal next
+stays_legal h next legal same = subst IsLegal (sym same) legal
+
+command_legal : (h : History) (c : Command) (reply : Reply) (next : History) → IsLegal h → HasDocument (items.Command c) → CarriesOut h c reply next → IsLegal next
+command_legal h (commands.Arrive doc at (texts.Bytes text)) reply next legal range step = adds_legal h (entries.Arrive doc at text) (arrival_refusal h doc at text) reply next legal (arrival_legal h doc at text range) step
+command_legal h (commands.Arrive doc at (texts.TooLong bytes)) reply next legal range step = stays_legal h next legal step.0
+command_legal h (commands.Delete doc at) reply next legal range step = adds_legal h (entries.Delete doc at) (deletion_refusal h doc at) reply next legal (deletion_legal h doc at range) step
+command_legal h (commands.Find at expr) reply next legal range step = stays_legal h next legal step.0
+command_legal h (commands.Show doc at) reply next legal range step = stays_legal h next legal step.0
+command_legal h (commands.Plan word kind fraction) reply next legal range step = stays_legal h next legal step.0
+command_legal h (commands.Propose word fraction) reply next legal range step = stays_legal h next legal step.0
+command_legal h (commands.Between span expr) reply next legal range step = stays_legal h next legal step.0
+command_legal h (commands.Certificate word) reply next legal range step = stays_legal h next legal step.0
+command_legal h commands.Verify reply next legal range step = stays_legal h next legal step.0
+
+pub step_legal : (h : History) (item : Item) (reply : Reply) (next : History) → IsLegal h → HasDocument item → Step h item reply next → IsLegal next
+step_legal h (items.Command c) reply next legal range step = command_legal h c reply next legal range step
+step_legal h items.Line reply next legal range step = stays_legal h next legal step.0
+
+-- a turn is the only one
+abbrev IsOne : Reply → Reply → History → History → Type 0
+IsOne reply other next then = (reply ≡ other) × (next ≡ then)
+
+one_adds : (h : History) (e : Entry) (refusal : Option Refusal) (reply other : Reply) (next then : History) → Adds h e refusal reply next → Adds h e refusal other then → IsOne reply other next then
+one_adds h e None reply other next then a b = let same : next ≡ then = a.0 ∙ sym b.0 in (a.1 ∙ ap (λ (g : History). Accepted (length g)) same ∙ sym b.1, same)
+one_adds h e (Some why) reply other next then a b = (a.1 ∙ sym b.1, a.0 ∙ sym b.0)
+
+one_read : (h : History) (words : List (List ℕ)) (one other : ℕ) → IsReadFor h words one → IsReadFor h words other → one ≡ other
+one_read h [] one other a b = a ∙ sym b
+one_read h (word ∷ words) one other a b =
+    let list = one_list_of (λ d t. frequency_at h word (record { 0 = d }) t) 0 (2 ^ 40) a.0 b.0 a.2 b.2 in
+    omega (arith, a.4, b.4, one_read h words a.1 b.1 a.3 b.3, ap length list)
+
+one_finds : (h : History) (at : Time) (query : Option Query) (reply other : Reply) → Finds h at query reply → Finds h at query other → reply ≡ other
+one_finds h at None reply other a b = a ∙ sym b
+one_finds h at (Some query) reply other a b =
+    let rows = one_answer (λ doc. IsSome (text_at h doc at.seconds)) (λ doc word. frequency_at h word doc at.seconds) query a.0 b.0 a.2 b.2 in
+    let read = one_read h (words_of query) a.1 b.1 a.3 b.3 in
+    a.4 ∙ ap (λ (r : List Row). Found r a.1) rows ∙ ap (λ (n : ℕ). Found b.0 n) read ∙ sym b.4
+
+one_stays : (h : History) (reply other : Reply) (next then : History) → next ≡ h → then ≡ h → reply ≡ other → IsOne reply other next then
+one_stays h reply other next then a b same = (same, a ∙ sym b)
+
+one_declines : (h : History) (why : Refusal) (reply other : Reply) (next then : History) → Declines h why reply next → Declines h why other then → IsOne reply other next then
+one_declines h why reply other next then a b = one_stays h reply other next then a.0 b.0 (a.1 ∙ sym b.1)
+
+one_command : (h : History) (c : Command) (reply other : Reply) (next then : History) → CarriesOut h c reply next → CarriesOut h c other then → IsOne reply other next then
+one_command h (commands.Arrive doc at (texts.Bytes text)) reply other next then a b = one_adds h (entries.Arrive doc at text) (arrival_refusal h doc at text) reply other next then a b
+one_command h (commands.Arrive doc at (texts.TooLong bytes)) reply other next then a b = one_declines h (refusals.TooLong most_text) reply other next then a b
+one_command h (commands.Delete doc at) reply other next then a b = one_adds h (entries.Delete doc at) (deletion_refusal h doc at) reply other next then a b
+one_command h (commands.Find at expr) reply other next then a b = one_stays h reply other next then a.0 b.0 (one_finds h at (query_of expr) reply other a.1 b.1)
+one_command h (commands.Show doc at) reply other next then a b = one_stays h reply other next then a.0 b.0 (a.1 ∙ sym b.1)
+one_command h (commands.Plan word kind fraction) reply other next then a b = one_declines h refusals.Line reply other next then a b
+one_command h (commands.Propose word fraction) reply other next then a b = one_declines h refusals.Line reply other next then a b
+one_command h (commands.Between span expr) reply other next then a b = one_declines h refusals.Line reply other next then a b
+one_command h (commands.Certificate word) reply other next then a b = one_declines h refusals.Line reply other next then a b
+one_command h commands.Verify reply other next then a b = one_declines h refusals.Line reply other next then a b
+
+pub one_turn_only : (h : History) (item : Item) (reply other : Reply) (next then : History) → Step h item reply next → Step h item other then → IsOne reply other next then
+one_turn_only h (items.Command c) reply other next then a b = one_command h c reply other next then a b
+one_turn_only h items.Line reply other next then a b = one_declines h refusals.Line reply other next then a b

@@ -4,12 +4,13 @@ use Rattle.std.specs.List.{flat_map, filter_map}
 use Rattle.std.specs.Option.{option_map}
 use Rattle.time_base.specs.declared.ids.DocId.{DocId}
 use Rattle.version_store.specs.declared.change.Change.{Change}
-use Rattle.version_store.specs.declared.refusal.VersionRefusal.{VersionRefusal}
 use Rattle.version_store.specs.Changes.{held_at, documents}
 use Rattle.version_store.specs.Refusals.{arrive_refusal, delete_refusal}
 use Rattle.record_codec.specs.Spelling.{spelling, IsEntry}
 use Rattle.record_codec.specs.declared.entry.Entry.{Entry}
 use Rattle.record_codec.specs.declared.entry.Entry.TheVariants.{Arrive, Delete}
+use Rattle.archive_state.specs.declared.refusal.Refusal.{Refusal}
+use Rattle.archive_state.specs.Refusals.{refusal_of}
 
 -- a history: the entries of an archive, in order
 abbrev pub History : Type 0
@@ -25,9 +26,9 @@ abbrev pub changes : History → List (Change (List ℕ))
 changes history = flat_map acts history
 
 -- why an entry may not come after a history: the first cause in order
-abbrev pub entry_refusal : History → Entry → Option VersionRefusal
-entry_refusal before (Arrive doc at text) = arrive_refusal doc at (changes before)
-entry_refusal before (Delete doc at) = delete_refusal doc at (changes before)
+abbrev pub entry_refusal : History → Entry → Option Refusal
+entry_refusal before (Arrive doc at text) = option_map refusal_of (arrive_refusal doc at (changes before))
+entry_refusal before (Delete doc at) = option_map refusal_of (delete_refusal doc at (changes before))
 
 -- an entry is legal after a history: its fields are in their ranges, and nothing refuses it
 pub record IsLegalEntry (before : History) (entry : Entry) : Type 0 where
@@ -42,6 +43,10 @@ AreLegalAfter before (entry ∷ entries) = IsLegalEntry before entry × AreLegal
 -- a history is legal: each entry is legal after the entries before it
 abbrev pub IsLegal : History → Type 0
 IsLegal history = AreLegalAfter [] history
+
+-- What a load tests of a history, entry by entry. Until there are entries of which a load tests less, it is all that makes one legal.
+abbrev pub IsLoadable : History → Type 0
+IsLoadable history = IsLegal history
 
 -- the text of a document that is alive at a time
 abbrev pub text_at : History → DocId → ℕ → Option (List ℕ)

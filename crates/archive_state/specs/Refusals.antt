@@ -7,6 +7,7 @@ use Rattle.version_store.specs.declared.refusal.VersionRefusal.TheVariants as ve
 
 -- the number by which a reply names a refusal
 abbrev pub number_of : Refusal → ℕ
+number_of refusals.Line = 1
 number_of (refusals.TimeBack last) = 2
 number_of refusals.SameTime = 3
 number_of refusals.NoDocument = 4

@@ -20,6 +20,7 @@ which_text Pages = codes "pages"
 
 -- the name of a refusal, and its detail where it has one
 abbrev pub detail_text : Refusal → List ℕ
+detail_text refusals.Line = codes "Line"
 detail_text (refusals.TimeBack last) = codes "TimeBack " ++ decimal last.seconds
 detail_text refusals.SameTime = codes "SameTime"
 detail_text refusals.NoDocument = codes "NoDocument"

@@ -9,7 +9,7 @@ use Rattle.gate_journal.specs.Refused.{IsNotJournal}
 use Rattle.record_codec.specs.Spelling.{spelling, IsEntry}
 use Rattle.record_codec.specs.Reading.{IsFault}
 use Rattle.record_codec.specs.declared.entry.Entry.{Entry}
-use Rattle.archive_state.specs.Histories.{History, entry_refusal, IsLegal}
+use Rattle.archive_state.specs.Histories.{History, entry_refusal, IsLegal, IsLoadable}
 
 -- the bodies of a history's journal
 abbrev pub bodies_of : History → List (List ℕ)
@@ -35,17 +35,17 @@ pub record IsIllegal (before : History) (body : List ℕ) : Type 0 where
   pub spelled : body ≡ spelling entry
   pub refused : entry_refusal before entry ≡ None → ⊥
 
--- A journal whose entries up to one are a legal history, and that one isn't an entry (the place is that of its fault), or isn't legal
--- (the place is that of its gate).
-pub record IsBadEntry (bytes : List ℕ) (at : ℕ) : Type 0 where
+-- A journal whose entries up to one are a history that loads, and that one isn't an entry (the place is that of its fault), or may not come
+-- next (the place is that of its gate).
+pub record IsBadEntry (image : Bytes) (at : ℕ) : Type 0 where
   pub before : History
   pub body : List ℕ
   pub rest : List (List ℕ)
-  pub spelled : Spells bytes (bodies_of before ++ body ∷ rest)
-  pub legal : IsLegal before
+  pub spelled : Spells image.journal (bodies_of before ++ body ∷ rest)
+  pub loadable : IsLoadable before
   pub fault : ((offset : ℕ) × IsMisspelled body offset × (at ≡ length (front (bodies_of before)) + 5 + offset))
       ⊎ (IsIllegal before body × (at ≡ length (front (bodies_of before))))
 
--- a journal that is no archive's, and the place where that shows
-abbrev pub IsNotArchive : List ℕ → ℕ → Type 0
-IsNotArchive bytes at = IsNotJournal bytes at ⊎ IsBadEntry bytes at
+-- the bytes of a disk that is no archive's, and the place in the journal where that shows
+abbrev pub IsNotArchive : Bytes → ℕ → Type 0
+IsNotArchive image at = IsNotJournal image.journal at ⊎ IsBadEntry image at

@@ -1,12 +1,17 @@
--- The machine that an archive is: what a command does to a history, and what is replied.
-use Rattle.std.specs.Prelude.{◌≡◌, ℕ, ◌<◌, ◌^◌, nat_lt, not, List, [], ◌∷◌, ◌++◌, length, Option, Some, None}
-use Rattle.std.specs.Option.{option_map}
+-- The machine that an archive is: what an item of the input does to a history, and what is replied.
+use Rattle.std.specs.Prelude.{◌≡◌, ℕ, nat_lt, not, List, [], ◌∷◌, ◌++◌, length, Option, Some, None}
 use Rattle.std.specs.Str.{is_utf8}
 use Rattle.std.specs.Str.Lossy.{utf8_valid_len}
 use Rattle.time_base.specs.Limits.{limit_of}
 use Rattle.time_base.specs.declared.ids.DocId.{DocId}
 use Rattle.time_base.specs.declared.time.Time.{Time}
 use Rattle.time_base.specs.declared.which.Which.TheVariants.{Journal}
+use Rattle.commands.specs.declared.command.Command.{Command}
+use Rattle.commands.specs.declared.command.Command.TheVariants as commands
+use Rattle.commands.specs.declared.command.Item.{Item}
+use Rattle.commands.specs.declared.command.Item.TheVariants as items
+use Rattle.commands.specs.declared.text.Text.{Text}
+use Rattle.commands.specs.declared.text.Text.TheVariants as texts
 use Rattle.version_store.specs.Tests.{first_of, when}
 use Rattle.record_codec.specs.Spelling.{most_text}
 use Rattle.record_codec.specs.declared.entry.Entry.{Entry}
@@ -17,27 +22,8 @@ use Rattle.archive_state.specs.declared.refusal.Refusal.{Refusal}
 use Rattle.archive_state.specs.declared.refusal.Refusal.TheVariants as refusals
 use Rattle.archive_state.specs.Histories.{History, entry_refusal, end_of, text_at}
 use Rattle.archive_state.specs.Answers.{IsAnswerAt, IsReadFor}
-use Rattle.archive_state.specs.Refusals.{refusal_of}
 
--- a command of the script
-pub data Command : Type 0 where
-  -- a new version of a document: the document, its time, and its text as it came
-  Arrive : DocId → Time → List ℕ → Command
-  -- a tombstone for a document
-  Delete : DocId → Time → Command
-  -- what a query finds as of a time; the query as it was written
-  Find : Time → List ℕ → Command
-  -- the text of a document that is alive at a time
-  Show : DocId → Time → Command
-
--- the document that a command names, if it names one, is a number below 2^32
-abbrev pub IsInRange : Command → Type 0
-IsInRange (Arrive doc at text) = doc.0 < 2 ^ 32
-IsInRange (Delete doc at) = doc.0 < 2 ^ 32
-IsInRange (Find at text) = Unit {0}
-IsInRange (Show doc at) = doc.0 < 2 ^ 32
-
--- what a command is answered
+-- what an item is answered
 pub data Reply : Type 0 where
   -- it is carried out, and the history has so many entries now
   Accepted : ℕ → Reply
@@ -55,10 +41,6 @@ too_long text = when (nat_lt most_text (length text)) (refusals.TooLong most_tex
 abbrev pub bad_text : List ℕ → Option Refusal
 bad_text text = when (not (is_utf8 text)) (refusals.BadText (utf8_valid_len text))
 
--- the directory of versions refuses the entry
-abbrev pub not_allowed : History → Entry → Option Refusal
-not_allowed history entry = option_map refusal_of (entry_refusal history entry)
-
 -- the journal would pass its limit
 abbrev pub full_journal : History → Entry → Option Refusal
 full_journal history entry = when (nat_lt (limit_of Journal) (end_of (history ++ entry ∷ []))) (refusals.Full Journal (limit_of Journal))
@@ -66,12 +48,12 @@ full_journal history entry = when (nat_lt (limit_of Journal) (end_of (history ++
 -- why an arrival is refused: the first cause in order
 abbrev pub arrival_refusal : History → DocId → Time → List ℕ → Option Refusal
 arrival_refusal history doc at text = let entry = entries.Arrive doc at text in
-    first_of (too_long text ∷ bad_text text ∷ not_allowed history entry ∷ full_journal history entry ∷ [])
+    first_of (too_long text ∷ bad_text text ∷ entry_refusal history entry ∷ full_journal history entry ∷ [])
 
 -- why a deletion is refused: the first cause in order
 abbrev pub deletion_refusal : History → DocId → Time → Option Refusal
 deletion_refusal history doc at = let entry = entries.Delete doc at in
-    first_of (not_allowed history entry ∷ full_journal history entry ∷ [])
+    first_of (entry_refusal history entry ∷ full_journal history entry ∷ [])
 
 -- an entry that is accepted comes behind the history; one that is refused changes nothing
 abbrev pub Adds : History → Entry → Option Refusal → Reply → History → Type 0
@@ -84,9 +66,29 @@ Finds history at None reply = reply ≡ Refused (refusals.BadQuery 0)
 Finds history at (Some query) reply =
     (rows : List Row) × (read : ℕ) × IsAnswerAt history at.seconds query rows × IsReadFor history (words_of query) read × (reply ≡ Found rows read)
 
--- From the old history, the archive may give this reply to the command and go on to the new one.
-abbrev pub Step : History → Command → Reply → History → Type 0
-Step old (Arrive doc at text) reply new = Adds old (entries.Arrive doc at text) (arrival_refusal old doc at text) reply new
-Step old (Delete doc at) reply new = Adds old (entries.Delete doc at) (deletion_refusal old doc at) reply new
-Step old (Find at text) reply new = (new ≡ old) × Finds old at (query_of text) reply
-Step old (Show doc at) reply new = (new ≡ old) × (reply ≡ Shown (text_at old doc at.seconds))
+-- a command that is refused changes nothing
+abbrev pub Declines : History → Refusal → Reply → History → Type 0
+Declines old why reply new = (new ≡ old) × (reply ≡ Refused why)
+
+-- a version arrives, with a text that was kept, or with one that is too long to be
+abbrev pub Arrives : History → DocId → Time → Text → Reply → History → Type 0
+Arrives old doc at (texts.Bytes text) reply new = Adds old (entries.Arrive doc at text) (arrival_refusal old doc at text) reply new
+Arrives old doc at (texts.TooLong bytes) reply new = Declines old (refusals.TooLong most_text) reply new
+
+-- From the old history, the archive may give this reply to the command and go on to the new one. A command that isn't built yet is a line
+-- that is no command.
+abbrev pub CarriesOut : History → Command → Reply → History → Type 0
+CarriesOut old (commands.Arrive doc at text) reply new = Arrives old doc at text reply new
+CarriesOut old (commands.Delete doc at) reply new = Adds old (entries.Delete doc at) (deletion_refusal old doc at) reply new
+CarriesOut old (commands.Find at expr) reply new = (new ≡ old) × Finds old at (query_of expr) reply
+CarriesOut old (commands.Show doc at) reply new = (new ≡ old) × (reply ≡ Shown (text_at old doc at.seconds))
+CarriesOut old (commands.Plan word kind fraction) reply new = Declines old refusals.Line reply new
+CarriesOut old (commands.Propose word fraction) reply new = Declines old refusals.Line reply new
+CarriesOut old (commands.Between span expr) reply new = Declines old refusals.Line reply new
+CarriesOut old (commands.Certificate word) reply new = Declines old refusals.Line reply new
+CarriesOut old commands.Verify reply new = Declines old refusals.Line reply new
+
+-- the step of the machine: a command is carried out, and a line that is none is refused
+abbrev pub Step : History → Item → Reply → History → Type 0
+Step old (items.Command command) reply new = CarriesOut old command reply new
+Step old items.Line reply new = Declines old refusals.Line reply new

@@ -4,7 +4,9 @@ ghost use Rattle.machine_model.specs.Areas.{Bytes};
 ghost use Rattle.gate_journal.specs.Records.{front};
 ghost use Rattle.record_codec.specs.declared.entry.Entry.{Entry};
 ghost use Rattle.archive_state.specs.Histories.{History, IsLegal, IsLegalEntry, end_of};
-ghost use Rattle.archive_state.specs.Steps.{Command, Reply, Step, IsInRange};
+ghost use Rattle.commands.specs.Documents.{HasDocument};
+ghost use Rattle.commands.specs.declared.command.Item.{Item};
+ghost use Rattle.archive_state.specs.Steps.{Reply, Step};
 ghost use Rattle.archive_state.specs.Runs.{Turn};
 ghost use Rattle.archive_state.specs.Stands.{Stands, IsNotArchive, bodies_of};
 
@@ -16,21 +18,22 @@ pub fn a_history_is_legal_entry_by_entry()
     ensures end { (h : History) → end_of h ≡ length (front (bodies_of h)) + 1 }
 {}
 
-/// The abstract machine never gets stuck: from a legal history each command has a turn; and where the
-/// command is in range, it leads to a legal history. Does nothing.
-pub fn each_command_has_a_turn()
-    ensures turn { (h : History) (c : Command) → IsLegal h → (turn : Turn Reply History) × Step h c turn.reply turn.next }
-    ensures legal { (h : History) (c : Command) (reply : Reply) (next : History) → IsLegal h → IsInRange c → Step h c reply next → IsLegal next }
+/// The abstract machine never gets stuck, and chooses nothing: from a legal history each item has one
+/// turn; and where its document is in range, it leads to a legal history. Does nothing.
+pub fn each_item_has_one_turn()
+    ensures turn { (h : History) (item : Item) → IsLegal h → (turn : Turn Reply History) × Step h item turn.reply turn.next }
+    ensures one { (h : History) (item : Item) (reply other : Reply) (next then : History) → Step h item reply next → Step h item other then → (reply ≡ other) × (next ≡ then) }
+    ensures legal { (h : History) (item : Item) (reply : Reply) (next : History) → IsLegal h → HasDocument item → Step h item reply next → IsLegal next }
 {}
 
 /// An image stands for one history at most, and one that stands for a history is refused nowhere.
 /// Does nothing.
 pub fn an_image_stands_for_one_history()
     ensures one_history { (image : Bytes) (one other : History) → Stands one image → Stands other image → one ≡ other }
-    ensures not_refused { (image : Bytes) (h : History) (at : ℕ) → Stands h image → IsNotArchive image.journal at → ⊥ }
+    ensures not_refused { (image : Bytes) (h : History) (at : ℕ) → Stands h image → IsNotArchive image at → ⊥ }
 {}
 
-/// A journal that is no archive's shows it at one place. Does nothing.
+/// Bytes that are no archive's show it at one place. Does nothing.
 pub fn an_archive_is_refused_at_one_place()
-    ensures one_place { (bytes : List ℕ) (one other : ℕ) → IsNotArchive bytes one → IsNotArchive bytes other → one ≡ other }
+    ensures one_place { (image : Bytes) (one other : ℕ) → IsNotArchive image one → IsNotArchive image other → one ≡ other }
 {}

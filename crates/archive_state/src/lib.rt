@@ -11,6 +11,6 @@ mod refusal;
 
 pub use laws::{
     a_history_is_legal_entry_by_entry, an_archive_is_refused_at_one_place,
-    an_image_stands_for_one_history, each_command_has_a_turn,
+    an_image_stands_for_one_history, each_item_has_one_turn,
 };
 pub use refusal::Refusal;

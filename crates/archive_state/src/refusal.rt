@@ -8,6 +8,8 @@ use version_store::VersionRefusal;
 /// Why a command is refused. A refused command changes nothing.
 #[derive(Clone, Copy, Debug, PartialEq, Eq)]
 pub enum Refusal {
+    /// The line is no command.
+    Line,
     /// The time lies before the last time of the archive.
     TimeBack {
         /// The last time.
@@ -47,6 +49,7 @@ impl Refusal {
         ensures { result ≡ number_of self.now }
     {
         match self {
+            Refusal::Line => 1,
             Refusal::TimeBack { .. } => 2,
             Refusal::SameTime => 3,
             Refusal::NoDocument => 4,
