@@ -1,22 +1,18 @@
 -- One entry more: what the archive stands for then, and what each image left stands for.
-use Rattle.std.proofs.Common.{◌≡◌, ◌⊎◌, ℕ, ◌+◌, ◌-◌, ◌<◌, ◌≤◌, List, [], ◌∷◌, ◌++◌, length, Option, Some, None, Result, Ok, Err, IfOk, OnOk, IsUtf8, ◌^◌, inl, inr, refl, ap, subst, sym, ◌∙◌, arith}
+use Rattle.std.proofs.Common.{◌≡◌, ◌⊎◌, ℕ, ◌+◌, ◌-◌, ◌<◌, ◌≤◌, List, [], ◌∷◌, ◌++◌, length, Option, Some, None, Result, Ok, Err, IfOk, OnOk, IsOk, inl, inr, refl, ap, subst, sym, ◌∙◌, arith}
 use Rattle.std.proofs.lemmas.List.{length_push}
 use Rattle.machine_model.specs.Areas.{Bytes}
 use Rattle.machine_model.specs.States.{DiskState}
 use Rattle.machine_model.specs.Images.{MayLeave}
 use Rattle.machine_model.proofs.MomentLemmas.{goes_on_same, left_now}
 use Rattle.time_base.specs.Limits.{limit_of}
-use Rattle.time_base.specs.declared.ids.DocId.{DocId}
-use Rattle.time_base.specs.declared.time.Time.{Time}
 use Rattle.time_base.specs.declared.which.Which.TheVariants.{Journal}
 use Rattle.time_base.specs.declared.text_place.TextPlace.{TextPlace}
 use Rattle.version_store.specs.declared.change.Change.{Change}
 use Rattle.gate_journal.specs.Spelled.{Spells}
 use Rattle.gate_journal.specs.InStep.{IsInStep}
 use Rattle.gate_journal.specs.Crash.{Appends, KeepsPages}
-use Rattle.version_store.specs.declared.refusal.VersionRefusal.{VersionRefusal}
-use Rattle.version_store.specs.Refusals.{arrive_refusal, delete_refusal}
-use Rattle.record_codec.specs.Spelling.{spelling, most_text}
+use Rattle.record_codec.specs.Spelling.{spelling}
 use Rattle.record_codec.specs.declared.entry.Entry.{Entry}
 use Rattle.record_codec.specs.declared.entry.Entry.TheVariants.{Arrive, Delete}
 use Rattle.archive_state.specs.Histories.{History, IsLegal, IsLegalEntry, end_of}
@@ -24,13 +20,17 @@ use Rattle.archive_state.specs.Stands.{bodies_of, Stands, EachStands}
 use Rattle.archive_state.proofs.HistoryLemmas.{bodies_of-push, end_of-push, end_of-least, legal-push}
 use Rattle.archive_state.specs.declared.refusal.Refusal.{Refusal}
 use Rattle.archive_state.specs.declared.refusal.Refusal.TheVariants.{Full}
-use Rattle.archive_state.specs.Refusals.{refusal_of}
-use Rattle.archive_state.specs.Steps.{arrival_refusal, deletion_refusal}
-use Rattle.archive_state.proofs.RefusalLemmas.{arrival_refused-good, cause, cause-not_allowed, cause-full, cause-none}
+use Rattle.version_store.specs.Tests.{first_of}
+use Rattle.archive_state.specs.Steps.{full_journal}
+use Rattle.archive_state.proofs.RefusalLemmas.{cause, cause-allowed, cause-full, cause-none}
 use Rattle.archive_core.specs.States.{ArchiveState, IsPlaced, ArePlaced, StandsFor, IsKept}
-use Rattle.archive_core.specs.Adding.{IsNext, IsHeld, IsMore, Makes}
+use Rattle.archive_core.specs.Adding.{Adds, GivesUp, IsNext, IsHeld, IsMore, IsPrepared, Makes}
+use Rattle.archive_core.specs.declared.error.ChangeError.{ChangeError}
+use Rattle.archive_core.specs.declared.error.ChangeError.TheVariants as changes
+use Rattle.archive_core.specs.declared.preparing.Unprepared.{Unprepared}
+use Rattle.archive_core.specs.declared.preparing.Unprepared.TheVariants as unprepared
 use Rattle.archive_core.specs.Changing.{LeadsTo}
-use Rattle.archive_core.proofs.PlaceLemmas.{placed_push, placed_arrive_refusal, placed_delete_refusal}
+use Rattle.archive_core.proofs.PlaceLemmas.{placed_push}
 
 -- a change that an entry makes, with its text's place
 pub makes_placed : (e : Entry) (gate : ℕ) (x : Change ℕ) (held : Option TextPlace) → Makes e x → IsHeld (gate + 18) x.held held
@@ -51,7 +51,7 @@ stands_more a b h e x body stands next more =
     let placed = placed_push h a.changes e c gate stands.changes_are (omega (arith, least, stands.end_is)) (makes_placed e gate x more.held next.makes held) in
     let Q : List (Change TextPlace) → Type 0 = λ cs. ArePlaced 16 (h ++ e ∷ []) cs in
     record {
-      legal = legal-push h e stands.legal next.legal;
+      loadable = legal-push h e stands.loadable next.legal;
       end_is = omega (arith, more.end_is, stands.end_is, end_of-push h e, ap length next.spelled);
       length_is = omega (arith, more.length_is, stands.length_is, length_push h e);
       changes_are = subst Q (sym more.changes_are) placed;
@@ -87,7 +87,7 @@ kept_stands d a h kept = λ image allowed.
     let is = kept.in_step.images image allowed in
     record {
       spelled = inr (record { gate = kept.in_step.gate; rest = is.0; shut = kept.in_step.shut; fit = kept.in_step.fit; whole = is.1 });
-      legal = kept.stands.legal;
+      legal = kept.stands.loadable;
     }
 
 -- where no call is made, each image still stands for the history before
@@ -119,42 +119,6 @@ appends_nowhere d end bodies body step = record {
       (inl (inr (record { gate = step.gate; rest = is.0; shut = step.shut; fit = step.fit; whole = is.1 })), refl));
 }
 
--- an arrival that isn't refused may come next
-pub arrive_next : (a : ArchiveState) (h : History) (doc : DocId) (at : Time) (text str body : List ℕ) → StandsFor a h → doc.0 < 2 ^ 32
-    → length text ≤ most_text → IsUtf8 text → str ≡ text → arrive_refusal doc at a.changes ≡ None → body ≡ spelling (Arrive doc at str)
-    → IsNext h (Arrive doc at text) (record { doc = doc; at = at; held = Some (length str) }) body
-arrive_next a h doc at text str body stands fits short good same allowed spelled = record {
-  legal = record {
-    ranges = (fits, at.before_now, short, good);
-    allowed = sym (placed_arrive_refusal doc at 16 h a.changes stands.changes_are) ∙ allowed;
-  };
-  makes = (refl, refl, ap (λ (l : List ℕ). Some (length l)) same);
-  spelled = spelled ∙ ap (λ (l : List ℕ). spelling (Arrive doc at l)) same;
-}
-
--- a deletion that isn't refused may come next
-pub delete_next : (a : ArchiveState) (h : History) (doc : DocId) (at : Time) (body : List ℕ) → StandsFor a h → doc.0 < 2 ^ 32
-    → delete_refusal doc at a.changes ≡ None → body ≡ spelling (Delete doc at) → IsNext h (Delete doc at) (record { doc = doc; at = at; held = None }) body
-delete_next a h doc at body stands fits allowed spelled = record {
-  legal = record { ranges = (fits, at.before_now); allowed = sym (placed_delete_refusal doc at 16 h a.changes stands.changes_are) ∙ allowed };
-  makes = (refl, refl, refl);
-  spelled = spelled;
-}
-
--- the directory's refusal of an arrival is the history's
-pub arrive_refused : (a : ArchiveState) (h : History) (doc : DocId) (at : Time) (text : List ℕ) (v : VersionRefusal) (why : Refusal) → StandsFor a h
-    → length text ≤ most_text → IsUtf8 text → arrive_refusal doc at a.changes ≡ Some v → why ≡ refusal_of v → arrival_refusal h doc at text ≡ Some why
-arrive_refused a h doc at text v why stands short good refused same =
-    arrival_refused-good h doc at text short good
-    ∙ cause-not_allowed h (Arrive doc at text) v (sym (placed_arrive_refusal doc at 16 h a.changes stands.changes_are) ∙ refused)
-    ∙ ap (λ (w : Refusal). Some w) (sym same)
-
-pub delete_refused : (a : ArchiveState) (h : History) (doc : DocId) (at : Time) (v : VersionRefusal) (why : Refusal) → StandsFor a h
-    → delete_refusal doc at a.changes ≡ Some v → why ≡ refusal_of v → deletion_refusal h doc at ≡ Some why
-delete_refused a h doc at v why stands refused same =
-    cause-not_allowed h (Delete doc at) v (sym (placed_delete_refusal doc at 16 h a.changes stands.changes_are) ∙ refused)
-    ∙ ap (λ (w : Refusal). Some w) (sym same)
-
 -- where the journal has no room, that is the cause
 pub next_refused : (a : ArchiveState) (h : History) (e : Entry) (x : Change ℕ) (body : List ℕ) (why : Refusal)
     → StandsFor a h → IsNext h e x body → (why ≡ Full Journal (limit_of Journal)) × (limit_of Journal < a.end + 5 + length body) → cause h e ≡ Some why
@@ -166,19 +130,59 @@ pub next_allowed : (a : ArchiveState) (h : History) (e : Entry) (x : Change ℕ)
 next_allowed a h e x body stands next room =
     cause-none h e next.legal.allowed (omega (arith, room, stands.end_is, end_of-push h e, ap length next.spelled))
 
--- what Ok says
-pub stands_ok : {E : Type 0} (r : Result ℕ E) (a b : ArchiveState) (h : History) (e : Entry) (x : Change ℕ) (body : List ℕ)
-    → StandsFor a h → IsNext h e x body → IfOk r (λ n. IsMore a b x body × (n ≡ b.length))
-    → IfOk r (λ n. StandsFor b (h ++ e ∷ []) × (n ≡ length h + 1))
-stands_ok (Ok n) a b h e x body stands next more =
-    (stands_more a b h e x body stands next more.0, omega (arith, more.1, more.0.length_is, stands.length_is))
-stands_ok (Err failed) a b h e x body stands next more = tt
+-- what is known of an entry that was added, or for which there was no room
+pub adds_entry : (r : Result ℕ ChangeError) (a b : ArchiveState) (h : History) (e : Entry) (refusal : Option Refusal) (x : Change ℕ) (body : List ℕ)
+    → StandsFor a h → IsNext h e x body → refusal ≡ first_of (full_journal h e ∷ [])
+    → ((why : Refusal) → r ≡ Err (changes.Refused why) → (why ≡ Full Journal (limit_of Journal)) × (limit_of Journal < a.end + 5 + length body))
+    → (IsOk r ⊎ (r ≡ Err changes.Failed) → a.end + 5 + length body ≤ limit_of Journal)
+    → IfOk r (λ n. IsMore a b x body × (n ≡ b.length)) → Adds h e refusal r b
+adds_entry r a b h e refusal x body stands next cause_is full room more =
+    let here : refusal ≡ cause h e = cause_is ∙ sym (cause-allowed h e next.legal.allowed) in
+    record {
+      refused = λ why is. here ∙ next_refused a h e x body why stands next (full why is);
+      allowed = λ is. here ∙ next_allowed a h e x body stands next (room is);
+      stands = go r more;
+    }
+  where
+    go : (r : Result ℕ ChangeError) → IfOk r (λ n. IsMore a b x body × (n ≡ b.length)) → IfOk r (λ n. StandsFor b (h ++ e ∷ []) × (n ≡ length h + 1))
+    go (Ok n) more = (stands_more a b h e x body stands next more.0, omega (arith, more.1, more.0.length_is, stands.length_is))
+    go (Err error) more = tt
 
-pub kept_ok : {E : Type 0} (r : Result ℕ E) (a b : ArchiveState) (new : DiskState) (h : History) (e : Entry) (x : Change ℕ) (body : List ℕ)
-    → StandsFor a h → IsNext h e x body → IfOk r (λ n. IsMore a b x body × (n ≡ b.length))
-    → OnOk r (IsInStep new b.end (bodies_of h ++ body ∷ [])) → OnOk r (IsKept new b (h ++ e ∷ []))
-kept_ok (Ok n) a b new h e x body stands next more step = kept_more new b h e body (stands_more a b h e x body stands next more.0) next.spelled step
-kept_ok (Err failed) a b new h e x body stands next more step = tt
+-- and of its images
+pub leads_entry : (r : Result ℕ ChangeError) (a b : ArchiveState) (old new : DiskState) (h : History) (e : Entry) (x : Change ℕ) (body : List ℕ)
+    → IsKept old a h → IsNext h e x body → IfOk r (λ n. IsMore a b x body × (n ≡ b.length)) → Appends (bodies_of h) body old new
+    → OnOk r (IsInStep new b.end (bodies_of h ++ body ∷ [])) → LeadsTo h (h ++ e ∷ []) old new × OnOk r (IsKept new b (h ++ e ∷ []))
+leads_entry r a b old new h e x body kept next more appends step = (leads_to h e body old new kept.stands.loadable next.legal next.spelled appends, go r more step)
+  where
+    go : (r : Result ℕ ChangeError) → IfOk r (λ n. IsMore a b x body × (n ≡ b.length)) → OnOk r (IsInStep new b.end (bodies_of h ++ body ∷ [])) → OnOk r (IsKept new b (h ++ e ∷ []))
+    go (Ok n) more step = kept_more new b h e body (stands_more a b h e x body kept.stands next more.0) next.spelled step
+    go (Err error) more step = tt
+
+-- what is known of an entry that was not prepared
+pub adds_none : (why : Unprepared) (r : Result ℕ ChangeError) (a b : ArchiveState) (h : History) (e : Entry) (refusal : Option Refusal)
+    → IsPrepared h e refusal (Err why) → GivesUp why r a b → Adds h e refusal r b
+adds_none (unprepared.Refused why) r a b h e refusal prepared gives = record {
+  refused = λ other is. (let same : why ≡ other = (let one = gives.0 in cc) in prepared ∙ ap (λ (w : Refusal). Some w) same);
+  allowed = λ is. absurd (never is);
+  stands = (let P : Result ℕ ChangeError → Type 0 = λ s. IfOk s (λ n. StandsFor b (h ++ e ∷ []) × (n ≡ length h + 1)) in subst P (sym gives.0) tt);
+}
+  where
+    never : IsOk r ⊎ (r ≡ Err changes.Failed) → ⊥
+    never (inl ok) = let P : Result ℕ ChangeError → Type 0 = λ s. IsOk s in (let bad = subst P gives.0 ok in cc)
+    never (inr failed) = let one = gives.0 in cc
+adds_none unprepared.Memory r a b h e refusal prepared gives = record {
+  refused = λ other is. (let one = gives.0 in absurd cc);
+  allowed = λ is. absurd (never is);
+  stands = (let P : Result ℕ ChangeError → Type 0 = λ s. IfOk s (λ n. StandsFor b (h ++ e ∷ []) × (n ≡ length h + 1)) in subst P (sym gives.0) tt);
+}
+  where
+    never : IsOk r ⊎ (r ≡ Err changes.Failed) → ⊥
+    never (inl ok) = let P : Result ℕ ChangeError → Type 0 = λ s. IsOk s in (let bad = subst P gives.0 ok in cc)
+    never (inr failed) = let one = gives.0 in cc
+
+pub gives_no_ok : (Q : Type 0) (why : Unprepared) (r : Result ℕ ChangeError) (a b : ArchiveState) → GivesUp why r a b → OnOk r Q
+gives_no_ok Q (unprepared.Refused why) r a b gives = let P : Result ℕ ChangeError → Type 0 = λ s. OnOk s Q in subst P (sym gives.0) tt
+gives_no_ok Q unprepared.Memory r a b gives = let P : Result ℕ ChangeError → Type 0 = λ s. OnOk s Q in subst P (sym gives.0) tt
 
 pub step_at : {d : DiskState} {end : ℕ} {bodies : List (List ℕ)} (other : ℕ) → end ≡ other → IsInStep d end bodies → IsInStep d other bodies
 step_at {d} {end} {bodies} other same step = let P : ℕ → Type 0 = λ n. IsInStep d n bodies in subst P same step

@@ -7,3 +7,5 @@ pub mod AddLemmas
 pub mod HeadLemmas
 pub mod ReplayLemmas
 pub mod LoadLemmas
+pub mod PrepareLemmas
+pub mod TakeLemmas

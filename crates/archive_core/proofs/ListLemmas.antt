@@ -48,7 +48,7 @@ counts_are : (d : DiskState) (a : ArchiveState) (h : History) (word : List ℕ) 
 counts_are d a h word allowed kept =
     counted_places d.holds.journal word a.changes
     ∙ ap (map (mapped (counted word))) (texts_are d.holds.journal h a.changes (kept_spelled d a h allowed kept) kept.stands.changes_are)
-    ∙ sym (all_counted word [] h kept.stands.legal)
+    ∙ sym (all_counted word [] h kept.stands.loadable)
 
 -- so the list of what was counted is the word's list
 pub counted_list : (d : DiskState) (a : ArchiveState) (h : History) (word : List ℕ) (counts : List (Change ℕ)) (list : List Posting) → MayLeave d.now d.holds → IsKept d a h

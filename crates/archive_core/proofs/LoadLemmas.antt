@@ -76,7 +76,7 @@ pub record IsMadeOf (a : ArchiveState) (end : ℕ) (heads : List Head) (changes 
 pub stands_replayed : (a : ArchiveState) (h : History) (heads : List Head) (changes : List (Change TextPlace)) (end : ℕ) → IsMadeOf a end heads changes
     → AreInRow 16 heads end → IsReplayed h heads changes → StandsFor a h
 stands_replayed a h heads changes end made row replayed = record {
-  legal = replayed.legal;
+  loadable = replayed.loadable;
   end_is = made.end_is ∙ replayed_end h heads changes end row replayed;
   length_is = made.length_is ∙ replayed_length h heads changes replayed;
   changes_are = let P : List (Change TextPlace) → Type 0 = λ l. ArePlaced 16 h l in subst P (sym made.changes_are) replayed.placed;
@@ -88,16 +88,16 @@ few_heads h heads changes end row replayed =
     omega (arith, end_of-least h, replayed_end h heads changes end row replayed, replayed_length h heads changes replayed)
 
 -- bodies of which one is bad are no archive's
-pub bad_archive : (bytes : List ℕ) (bodies : List (List ℕ)) (at : ℕ) → Spells bytes bodies → IsBadAmong bodies at → IsNotArchive bytes at
-bad_archive bytes bodies at spelled bad =
-    let P : List (List ℕ) → Type 0 = λ l. Spells bytes l in
-    inr (record { before = bad.before; body = bad.body; rest = bad.rest; spelled = subst P bad.split spelled; legal = bad.legal; fault = bad.fault })
+pub bad_archive : (image : Bytes) (bodies : List (List ℕ)) (at : ℕ) → Spells image.journal bodies → IsBadAmong bodies at → IsNotArchive image at
+bad_archive image bodies at spelled bad =
+    let P : List (List ℕ) → Type 0 = λ l. Spells image.journal l in
+    inr (record { before = bad.before; body = bad.body; rest = bad.rest; spelled = subst P bad.split spelled; loadable = bad.loadable; fault = bad.fault })
 
 -- what is found is the history that each image stands for
 pub finds_it : (a : ArchiveState) (d : DiskState) (image : Bytes) (g h : History) → IsKept d a g → Spells image.journal (bodies_of g) → Stands h image → IsKept d a h
 finds_it a d image g h kept spelled stands =
     let P : History → Type 0 = λ x. IsKept d a x in
-    subst P (spells_one_history image.journal g h spelled kept.stands.legal stands.spelled stands.legal) kept
+    subst P (spells_one_history image.journal g h spelled kept.stands.loadable stands.spelled stands.legal) kept
 
 -- the archive is in step with the disk for the history that was found
 pub found_all : (a : ArchiveState) (mid new : DiskState) (bytes : List ℕ) (end : ℕ) (heads : List Head) (changes : List (Change TextPlace)) (bodies : List (List ℕ)) (h : History)

@@ -17,6 +17,8 @@ use Rattle.version_store.specs.Refusals.{arrive_refusal, delete_refusal}
 use Rattle.record_codec.specs.Spelling.{spelling, IsEntry}
 use Rattle.record_codec.specs.declared.entry.Entry.{Entry}
 use Rattle.record_codec.specs.declared.entry.Entry.TheVariants.{Arrive, Delete}
+use Rattle.std.specs.Option.{option_map}
+use Rattle.archive_state.specs.Refusals.{refusal_of}
 use Rattle.archive_state.specs.Histories.{History, entry_refusal}
 use Rattle.archive_state.specs.Stands.{bodies_of}
 use Rattle.archive_state.proofs.HistoryLemmas.{bodies_of-push, end_of-push, end_of_is, legal-push}
@@ -33,17 +35,17 @@ use Rattle.archive_core.proofs.AddLemmas.{makes_placed}
 use Rattle.archive_core.proofs.HeadLemmas.{head_at, head_by_parts, heads_push, row_gate, length_heads, head_bytes, around, length_front, body_found}
 
 -- the directory refuses the change that an entry makes for the reason that the history has against the entry
-pub makes_refusal : (e : Entry) (x : Change ℕ) (gate : ℕ) (h : History) (cs : List (Change TextPlace)) → Makes e x → ArePlaced gate h cs → change_refusal x cs ≡ entry_refusal h e
-makes_refusal (Arrive doc at text) x gate h cs makes placed =
+pub makes_refusal : (e : Entry) (x : Change ℕ) (gate : ℕ) (h : History) (cs : List (Change TextPlace)) → Makes e x → ArePlaced gate h cs → option_map refusal_of (change_refusal x cs) ≡ entry_refusal h e
+makes_refusal (Arrive doc at text) x gate h cs makes placed = ap (option_map refusal_of) (
     ap (λ (o : Option ℕ). refusal_by o x.doc x.at cs) makes.2
     ∙ ap (λ (d : DocId). arrive_refusal d x.at cs) (sym makes.0)
     ∙ ap (λ (t : Time). arrive_refusal doc t cs) (sym makes.1)
-    ∙ placed_arrive_refusal doc at gate h cs placed
-makes_refusal (Delete doc at) x gate h cs makes placed =
+    ∙ placed_arrive_refusal doc at gate h cs placed)
+makes_refusal (Delete doc at) x gate h cs makes placed = ap (option_map refusal_of) (
     ap (λ (o : Option ℕ). refusal_by o x.doc x.at cs) makes.2
     ∙ ap (λ (d : DocId). delete_refusal d x.at cs) (sym makes.0)
     ∙ ap (λ (t : Time). delete_refusal doc t cs) (sym makes.1)
-    ∙ placed_delete_refusal doc at gate h cs placed
+    ∙ placed_delete_refusal doc at gate h cs placed)
 
 -- an entry that the directory doesn't refuse
 pub gone_over : (gate : ℕ) (h : History) (e : Entry) (x : Change ℕ) (held : Option TextPlace) (body : List ℕ) (cs more : List (Change TextPlace))
@@ -55,7 +57,7 @@ gone_over gate h e x held body cs more reached ranges spelled makes allowed is p
       entry = e;
       spelled = spelled;
       reached = record {
-        legal = legal-push h e reached.legal (record { ranges = ranges; allowed = sym (makes_refusal e x 16 h cs makes reached.placed) ∙ allowed });
+        loadable = legal-push h e reached.loadable (record { ranges = ranges; allowed = sym (makes_refusal e x 16 h cs makes reached.placed) ∙ ap (option_map refusal_of) allowed });
         gate_is = omega (arith, reached.gate_is, end_of-push h e, ap length spelled);
         placed = subst P (sym pushed) (placed_push h cs e (record { doc = x.doc; at = x.at; held = held }) gate reached.placed reached.gate_is (makes_placed e gate x held makes is));
       };
@@ -66,7 +68,7 @@ pub refused_there : (gate : ℕ) (h : History) (e : Entry) (x : Change ℕ) (why
     → IsReached gate h cs → IsEntry e → body ≡ spelling e → Makes e x → change_refusal x cs ≡ Some why → at ≡ gate → IsFaulty gate h body at
 refused_there gate h e x why body cs at reached ranges spelled makes refused here =
     let same = makes_refusal e x 16 h cs makes reached.placed in
-    inr (record { entry = e; ranges = ranges; spelled = spelled; refused = λ allowed. cc }, here)
+    inr (record { entry = e; ranges = ranges; spelled = spelled; refused = λ allowed. (let never : Some (refusal_of why) ≡ None = ap (option_map refusal_of) (sym refused) ∙ same ∙ allowed in cc) }, here)
 
 -- the next gate is where the next head says
 pub reached_at : (tells : Type 0) (journal : List ℕ) (heads : List Head) (i : ℕ) (cs : List (Change TextPlace)) (head : Head) (end : ℕ) → AreInRow 16 heads end → i < length heads
@@ -75,7 +77,7 @@ reached_at tells journal heads i cs head end row within is r =
     let there = row_gate 16 end heads (bodies_of r.history) i head row r.replayed.heads_are within in
     let gate : head.gate ≡ 16 + length (records (bodies_of r.history)) = ap (λ (x : Head). x.gate) is ∙ there.0 in
     record {
-      legal = r.replayed.legal;
+      loadable = r.replayed.loadable;
       gate_is = omega (arith, gate, end_of_is r.history, length_front (bodies_of r.history));
       placed = r.replayed.placed;
     }
@@ -105,7 +107,7 @@ replayed_more tells journal heads i cs more head end body row within is long rea
     record {
       history = h ++ over.entry ∷ [];
       replayed = record {
-        legal = over.reached.legal;
+        loadable = over.reached.loadable;
         heads_are = take_more heads i head within
             ∙ ap (λ (x : Head). take i heads ++ x ∷ []) (sym is ∙ here)
             ∙ ap (λ (l : List Head). l ++ head_at (16 + length (records (bodies_of h))) body ∷ []) r.replayed.heads_are
@@ -137,7 +139,7 @@ bad_among tells journal heads i cs head end body bodies at row within is told re
       split = around bodies i found.0
           ∙ ap (λ (l : List (List ℕ)). l ++ get_or bodies i [] ∷ drop (i + 1) bodies) (sym before)
           ∙ ap (λ (b : List ℕ). bodies_of h ++ b ∷ drop (i + 1) bodies) (sym found.1);
-      legal = r.replayed.legal;
+      loadable = r.replayed.loadable;
       fault = subst P gate fault;
     }
 

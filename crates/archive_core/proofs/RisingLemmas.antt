@@ -21,6 +21,7 @@ use Rattle.record_codec.specs.declared.entry.Entry.{Entry}
 use Rattle.record_codec.specs.declared.entry.Entry.TheVariants.{Arrive, Delete}
 use Rattle.archive_state.specs.Histories.{History, changes, acts, IsLegal, IsLegalEntry, AreLegalAfter}
 use Rattle.archive_state.proofs.HistoryLemmas.{changes-push}
+use Rattle.archive_state.proofs.RefusalLemmas.{not_refused}
 use Rattle.archive_core.specs.States.{ArchiveState, StandsFor}
 use Rattle.archive_core.specs.Texts.{nothing, bare}
 use Rattle.archive_core.proofs.PlaceLemmas.{bare_changes}
@@ -105,12 +106,12 @@ rising_more before (e ∷ h) legal was =
     go : (e : Entry) → IsLegalEntry before e → IsRising (changes before ++ acts e)
     go (Arrive doc at text) next =
         let cs = changes before in
-        let one = none_found (time_back at cs) (same_time doc at cs ∷ full_documents doc cs ∷ full_versions cs ∷ []) next.allowed in
+        let one = none_found (time_back at cs) (same_time doc at cs ∷ full_documents doc cs ∷ full_versions cs ∷ []) (not_refused _ next.allowed) in
         let two = none_found (same_time doc at cs) (full_documents doc cs ∷ full_versions cs ∷ []) one.1 in
         rising_push cs (record { doc = doc; at = at; held = Some text }) was one.0 two.0
     go (Delete doc at) next =
         let cs = changes before in
-        let one = none_found (time_back at cs) (no_document doc cs ∷ same_time doc at cs ∷ full_versions cs ∷ []) next.allowed in
+        let one = none_found (time_back at cs) (no_document doc cs ∷ same_time doc at cs ∷ full_versions cs ∷ []) (not_refused _ next.allowed) in
         let two = none_found (no_document doc cs) (same_time doc at cs ∷ full_versions cs ∷ []) one.1 in
         let three = none_found (same_time doc at cs) (full_versions cs ∷ []) two.1 in
         rising_push cs (record { doc = doc; at = at; held = None }) was one.0 three.0
@@ -135,4 +136,4 @@ archive_rises {A} a h cs stands same = λ doc.
     let E : List (Change (Unit {0})) → Type 0 = λ l. EachNext (λ a b. a.at.seconds < b.at.seconds) l in
     let is : map bare (changes_of doc (changes h)) ≡ map bare (changes_of doc cs) =
     sym (changes_of-mapped (nothing {A = List ℕ}) doc (changes h)) ∙ ap (changes_of doc) (sym (bare_changes 16 h a.changes stands.changes_are) ∙ sym same) ∙ changes_of-mapped (nothing {A = A}) doc cs in
-    each_bare (changes_of doc cs) (subst E is (bare_each (changes_of doc (changes h)) (legal_rises h stands.legal doc)))
+    each_bare (changes_of doc cs) (subst E is (bare_each (changes_of doc (changes h)) (legal_rises h stands.loadable doc)))

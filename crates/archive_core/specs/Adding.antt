@@ -1,15 +1,23 @@
 -- How an entry is added to an archive in hand.
-use Rattle.std.specs.Prelude.{◌≡◌, ℕ, ◌+◌, List, [], ◌∷◌, ◌++◌, length, Option, Some, None}
+use Rattle.std.specs.Prelude.{◌≡◌, ◌⊎◌, ℕ, ◌+◌, List, [], ◌∷◌, ◌++◌, length, Option, Some, None, Result, Ok, Err, IsOk, IfOk, false}
 use Rattle.time_base.specs.declared.ids.DocId.{DocId}
 use Rattle.time_base.specs.declared.time.Time.{Time}
 use Rattle.time_base.specs.declared.text_place.TextPlace.{TextPlace}
 use Rattle.version_store.specs.declared.change.Change.{Change}
 use Rattle.version_store.specs.declared.refusal.VersionRefusal.{VersionRefusal}
 use Rattle.version_store.specs.Refusals.{arrive_refusal, delete_refusal}
+use Rattle.archive_state.specs.declared.refusal.Refusal.{Refusal}
+use Rattle.version_store.specs.Tests.{first_of}
+use Rattle.archive_state.specs.Steps.{full_journal}
+use Rattle.archive_core.specs.declared.preparing.Prepared.{Prepared}
+use Rattle.archive_core.specs.declared.preparing.Unprepared.{Unprepared}
+use Rattle.archive_core.specs.declared.preparing.Unprepared.TheVariants as unprepared
 use Rattle.record_codec.specs.Spelling.{spelling}
 use Rattle.record_codec.specs.declared.entry.Entry.{Entry}
 use Rattle.record_codec.specs.declared.entry.Entry.TheVariants.{Arrive, Delete}
-use Rattle.archive_core.specs.States.{ArchiveState, IsPlace}
+use Rattle.archive_core.specs.States.{ArchiveState, StandsFor, IsPlace}
+use Rattle.archive_core.specs.declared.error.ChangeError.{ChangeError}
+use Rattle.archive_core.specs.declared.error.ChangeError.TheVariants as changes
 use Rattle.archive_state.specs.Histories.{History, IsLegalEntry}
 
 -- the change that an entry makes, with the length of its text
@@ -43,3 +51,20 @@ pub record IsMore (old new : ArchiveState) (change : Change ℕ) (body : List �
   pub held : Option TextPlace
   pub held_is : IsHeld (old.end + 17) change.held held
   pub changes_are : new.changes ≡ old.changes ++ record { doc = change.doc; at = change.at; held = held } ∷ []
+
+-- An entry is prepared that may come next after a history, but for the journal's room; or this is why it may not.
+abbrev pub IsPrepared : History → Entry → Option Refusal → Result Prepared Unprepared → Type 0
+IsPrepared history entry refusal (Ok p) = IsNext history entry p.change p.body.items × (refusal ≡ first_of (full_journal history entry ∷ []))
+IsPrepared history entry refusal (Err (unprepared.Refused why)) = refusal ≡ Some why
+IsPrepared history entry refusal (Err unprepared.Memory) = Unit {0}
+
+-- what an archive in hand says of an entry that was to be added, for the history that it stood for
+pub record Adds (history : History) (entry : Entry) (refusal : Option Refusal) (result : Result ℕ ChangeError) (new : ArchiveState) : Type 0 where
+  pub refused : (why : Refusal) → result ≡ Err (changes.Refused why) → refusal ≡ Some why
+  pub allowed : IsOk result ⊎ (result ≡ Err changes.Failed) → refusal ≡ None
+  pub stands : IfOk result (λ n. StandsFor new (history ++ entry ∷ []) × (n ≡ length history + 1))
+
+-- what comes of a change that was not prepared: it is refused, or the archive is spent
+abbrev pub GivesUp : Unprepared → Result ℕ ChangeError → ArchiveState → ArchiveState → Type 0
+GivesUp (unprepared.Refused why) result old new = (result ≡ Err (changes.Refused why)) × (new ≡ old)
+GivesUp unprepared.Memory result old new = (result ≡ Err changes.Memory) × (new ≡ record old { live = false })

@@ -4,3 +4,4 @@ pub mod Changing
 pub mod Adding
 pub mod Replaying
 pub mod Causes
+pub mod Takes

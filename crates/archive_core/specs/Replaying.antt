@@ -8,7 +8,7 @@ use Rattle.time_base.specs.declared.text_place.TextPlace.{TextPlace}
 use Rattle.version_store.specs.declared.change.Change.{Change}
 use Rattle.record_codec.specs.Spelling.{spelling}
 use Rattle.record_codec.specs.declared.entry.Entry.{Entry}
-use Rattle.archive_state.specs.Histories.{History, IsLegal, end_of}
+use Rattle.archive_state.specs.Histories.{History, IsLoadable, end_of}
 use Rattle.archive_state.specs.Stands.{bodies_of, IsMisspelled, IsIllegal}
 use Rattle.archive_core.specs.States.{ArePlaced}
 
@@ -17,9 +17,9 @@ pub record Covers (from count at bytes : ℕ) : Type 0 where
   pub begins : from ≤ at
   pub ends : at + bytes ≤ from + count
 
--- these are the changes of a legal history, and the next gate is at this place
+-- these are the changes of a history that loads, and the next gate is at this place
 pub record IsReached (gate : ℕ) (history : History) (changes : List (Change TextPlace)) : Type 0 where
-  pub legal : IsLegal history
+  pub loadable : IsLoadable history
   pub gate_is : end_of history ≡ gate + 1
   pub placed : ArePlaced 16 history changes
 
@@ -33,9 +33,9 @@ pub record IsGoneOver (gate : ℕ) (history : History) (body : List ℕ) (change
 abbrev pub IsFaulty : ℕ → History → List ℕ → ℕ → Type 0
 IsFaulty gate before body at = ((offset : ℕ) × IsMisspelled body offset × (at ≡ gate + 5 + offset)) ⊎ (IsIllegal before body × (at ≡ gate))
 
--- the heads are those of a legal history's bodies, and these are its changes
+-- the heads are those of a history that loads's bodies, and these are its changes
 pub record IsReplayed (history : History) (heads : List Head) (changes : List (Change TextPlace)) : Type 0 where
-  pub legal : IsLegal history
+  pub loadable : IsLoadable history
   pub heads_are : heads ≡ heads_of 16 (bodies_of history)
   pub placed : ArePlaced 16 history changes
 
@@ -51,5 +51,5 @@ pub record IsBadAmong (bodies : List (List ℕ)) (at : ℕ) : Type 0 where
   pub body : List ℕ
   pub rest : List (List ℕ)
   pub split : bodies ≡ bodies_of before ++ body ∷ rest
-  pub legal : IsLegal before
+  pub loadable : IsLoadable before
   pub fault : IsFaulty (length (front (bodies_of before))) before body at

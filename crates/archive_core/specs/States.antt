@@ -1,5 +1,6 @@
 -- What an archive in hand is, and when it and its disk stand for a history.
-use Rattle.std.specs.Prelude.{◌≡◌, ℕ, ◌+◌, Bool, List, [], ◌∷◌, length, Option, Some, None}
+use Rattle.std.specs.Prelude.{◌≡◌, ℕ, ◌+◌, ◌≤◌, Bool, List, [], ◌∷◌, length, Option, Some, None}
+use Rattle.machine_model.specs.Areas.{Both}
 use Rattle.machine_model.specs.States.{DiskState}
 use Rattle.gate_journal.specs.InStep.{IsInStep}
 use Rattle.time_base.specs.declared.text_place.TextPlace.{TextPlace}
@@ -7,7 +8,7 @@ use Rattle.version_store.specs.declared.change.Change.{Change}
 use Rattle.record_codec.specs.Spelling.{spelling}
 use Rattle.record_codec.specs.declared.entry.Entry.{Entry}
 use Rattle.record_codec.specs.declared.entry.Entry.TheVariants.{Arrive, Delete}
-use Rattle.archive_state.specs.Histories.{History, IsLegal, end_of}
+use Rattle.archive_state.specs.Histories.{History, IsLoadable, end_of}
 use Rattle.archive_state.specs.Stands.{bodies_of}
 
 -- an archive in hand: where its journal ends, whether it may be changed, how many entries it has, and the changes of documents
@@ -37,10 +38,14 @@ ArePlaced gate (entry ∷ entries) [] = ⊥
 
 -- an archive in hand stands for a history
 pub record StandsFor (archive : ArchiveState) (history : History) : Type 0 where
-  pub legal : IsLegal history
+  pub loadable : IsLoadable history
   pub end_is : archive.end ≡ end_of history
   pub length_is : archive.length ≡ length history
   pub changes_are : ArePlaced 16 history archive.changes
+
+-- a disk of these lengths reaches as far as an archive in hand: what it may read is there
+abbrev pub Reaches : Both ℕ → ArchiveState → Type 0
+Reaches reach archive = archive.end ≤ reach.journal
 
 -- an archive in hand stands for a history, and is in step with its disk
 pub record IsKept (d : DiskState) (archive : ArchiveState) (history : History) : Type 0 where

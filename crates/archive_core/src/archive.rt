@@ -1,24 +1,27 @@
 //! The archive in hand, and its changes.
-ghost use Rattle.std.specs.Prelude.{◌≡◌, ◌⊎◌, ◌↔◌, ◌+◌, ◌<◌, ◌≤◌, ◌^◌, ◌++◌, [], ◌∷◌, ℕ, List, length, Some, None, Err, true, false, IsTrue, IfOk, OnOk, IsOk, IsErrOf};
+ghost use Rattle.std.specs.Prelude.{◌≡◌, ◌⊎◌, ◌↔◌, ◌+◌, ◌<◌, ◌≤◌, ◌^◌, ◌++◌, [], ◌∷◌, ℕ, List, length, Option, Some, None, Err, true, false, IsTrue, IfOk, OnOk, IsOk, IsErrOf};
 ghost use Rattle.machine_model.specs.Causes.{Rose};
 ghost use Rattle.time_base.specs.Limits.{limit_of};
 ghost use Rattle.gate_journal.specs.InStep.{IsInStep};
 ghost use Rattle.gate_journal.specs.Crash.{Appends, KeepsPages};
 ghost use Rattle.archive_state.specs.Histories.{History};
 ghost use Rattle.archive_state.specs.Steps.{arrival_refusal, deletion_refusal};
-ghost use Rattle.archive_core.specs.States.{StandsFor, IsKept};
+ghost use Rattle.archive_core.specs.States.{StandsFor, IsKept, Reaches};
 ghost use Rattle.archive_core.specs.Changing.{LeadsTo};
+ghost use Rattle.archive_core.specs.Takes.{Takes, changed};
 ghost use Rattle.record_codec.specs.declared.entry.Entry.{Entry};
-ghost use Rattle.archive_core.specs.Adding.{IsMore, IsNext, change_refusal};
+ghost use Rattle.archive_core.specs.Adding.{Adds, GivesUp, IsMore, IsNext, IsPrepared, change_refusal};
 ghost use Rattle.record_codec.specs.declared.entry.Entry.TheVariants as entries;
+ghost use Rattle.commands.specs.declared.command.Command.TheVariants as commands;
+ghost use Rattle.commands.specs.declared.command.Item.TheVariants as items;
+ghost use Rattle.commands.specs.declared.text.Text.TheVariants as texts;
 
-use crate::change::{TEXT_AT, may_come, note, placed};
+use crate::change::{TEXT_AT, note, placed};
 use crate::error::ChangeError;
-use crate::text::text_of;
+use crate::preparing::{Prepared, Unprepared, prepare_arrival, prepare_deletion};
 use archive_state::Refusal;
 use gate_journal::{AppendError, Frame, Journal};
 use machine_model::Disk;
-use record_codec::{encode_arrival, encode_deletion};
 use std::alloc::Global;
 use std::marker::Model;
 use time_base::{DocId, Time, Which};
@@ -113,42 +116,24 @@ impl Archive {
         text: &[u8],
     ) -> Result<u64, ChangeError>
         requires live { IsTrue self.old.live }
-        requires within { self.old.end ≤ (D.disk disk.old).reach.journal }
+        requires within { Reaches (D.disk disk.old).reach self.old }
         ensures only { D.Disk.only disk.old disk.new }
         ensures failed { IsErrOf result ChangeError.Failed → Rose (D.disk disk.old).faults (D.disk disk.new).faults }
-        ensures within { IsTrue self.new.live → self.new.end ≤ (D.disk disk.new).reach.journal }
+        ensures within { Reaches (D.disk disk.new).reach self.new }
         // It is live unless it is spent.
         ensures live { IsTrue self.new.live ↔ (IsOk result ⊎ ((why : Refusal) × IsErrOf result (ChangeError.Refused why))) }
-        // A refusal is the first cause in order, comes wherever there is one (but for want of memory), and changes nothing.
-        ensures refused { (h : History) → StandsFor self.old h → (why : Refusal) → IsErrOf result (ChangeError.Refused why) → arrival_refusal h doc at text.now ≡ Some why }
-        ensures allowed { (h : History) → StandsFor self.old h → (IsOk result ⊎ IsErrOf result ChangeError.Failed) → arrival_refusal h doc at text.now ≡ None }
+        // On any disk: a refusal is the first cause in order, comes wherever there is one (but for want of memory), and changes nothing; at Ok
+        // the archive stands for the history with the new entry, and answers how many entries there are.
+        ensures adds { (h : History) → StandsFor self.old h → Adds h (entries.Arrive doc at text.now) (arrival_refusal h doc at text.now) result self.new }
         ensures same { (why : Refusal) → IsErrOf result (ChangeError.Refused why) → (self.new ≡ self.old) × (disk.new ≡ disk.old) }
         // All memory is taken before the first call of the disk.
         ensures memory { IsErrOf result ChangeError.Memory → disk.new ≡ disk.old }
-        // At Ok it stands for the history with the new entry, and answers how many entries there are.
-        ensures stands { (h : History) → StandsFor self.old h → IfOk result (λ n. StandsFor self.new (h ++ entries.Arrive doc at text.now ∷ []) × (n ≡ length h + 1)) }
-        // In step, each image left since stands for the history, or for it and the new entry; after Ok for the latter.
-        ensures crash { D.disk_tells → (h : History) → IsKept (D.disk disk.old) self.old h → LeadsTo h (h ++ entries.Arrive doc at text.now ∷ []) (D.disk disk.old) (D.disk disk.new) }
-        ensures kept { D.disk_tells → (h : History) → IsKept (D.disk disk.old) self.old h → OnOk result (IsKept (D.disk disk.new) self.new (h ++ entries.Arrive doc at text.now ∷ [])) }
+        // In step, it is a step of the abstract machine; each image left since stands for the history before it or after it.
+        ensures takes { D.disk_tells → (h : History) → IsKept (D.disk disk.old) self.old h → Takes h (items.Command (commands.Arrive doc at (texts.Bytes text.now))) (changed result) (D.disk disk.old) (D.disk disk.new) self.new }
         ensures pages { D.disk_tells → KeepsPages (D.disk disk.old) (D.disk disk.new) }
     {
-        let text = match text_of(text) {
-            Ok(text) => text,
-            Err(why) => return Err(ChangeError::Refused(why)),
-        };
-        let change = Change {
-            doc,
-            at,
-            held: Some(text.len() as u32),
-        };
-        match may_come(&self.directory, change) {
-            Ok(()) => {}
-            Err(why) => return Err(ChangeError::Refused(why.into())),
-        }
-        match encode_arrival(alloc, doc, at, text) {
-            Ok(body) => self.commit(alloc, disk, change, &body),
-            Err(_) => self.spend(),
-        }
+        let prepared = prepare_arrival(alloc, &self.directory, doc, at, text);
+        self.add(alloc, disk, prepared)
     }
 
     /// Ends the document's newest version, and answers how many entries there are. At `Ok` the entry
@@ -168,37 +153,65 @@ impl Archive {
         at: Time,
     ) -> Result<u64, ChangeError>
         requires live { IsTrue self.old.live }
-        requires within { self.old.end ≤ (D.disk disk.old).reach.journal }
+        requires within { Reaches (D.disk disk.old).reach self.old }
         ensures only { D.Disk.only disk.old disk.new }
         ensures failed { IsErrOf result ChangeError.Failed → Rose (D.disk disk.old).faults (D.disk disk.new).faults }
-        ensures within { IsTrue self.new.live → self.new.end ≤ (D.disk disk.new).reach.journal }
+        ensures within { Reaches (D.disk disk.new).reach self.new }
         // It is live unless it is spent.
         ensures live { IsTrue self.new.live ↔ (IsOk result ⊎ ((why : Refusal) × IsErrOf result (ChangeError.Refused why))) }
-        // A refusal is the first cause in order, comes wherever there is one (but for want of memory), and changes nothing.
-        ensures refused { (h : History) → StandsFor self.old h → (why : Refusal) → IsErrOf result (ChangeError.Refused why) → deletion_refusal h doc at ≡ Some why }
-        ensures allowed { (h : History) → StandsFor self.old h → (IsOk result ⊎ IsErrOf result ChangeError.Failed) → deletion_refusal h doc at ≡ None }
+        // On any disk: a refusal is the first cause in order, comes wherever there is one (but for want of memory), and changes nothing; at Ok
+        // the archive stands for the history with the new entry, and answers how many entries there are.
+        ensures adds { (h : History) → StandsFor self.old h → Adds h (entries.Delete doc at) (deletion_refusal h doc at) result self.new }
         ensures same { (why : Refusal) → IsErrOf result (ChangeError.Refused why) → (self.new ≡ self.old) × (disk.new ≡ disk.old) }
         // All memory is taken before the first call of the disk.
         ensures memory { IsErrOf result ChangeError.Memory → disk.new ≡ disk.old }
-        // At Ok it stands for the history with the new entry, and answers how many entries there are.
-        ensures stands { (h : History) → StandsFor self.old h → IfOk result (λ n. StandsFor self.new (h ++ entries.Delete doc at ∷ []) × (n ≡ length h + 1)) }
-        // In step, each image left since stands for the history, or for it and the new entry; after Ok for the latter.
-        ensures crash { D.disk_tells → (h : History) → IsKept (D.disk disk.old) self.old h → LeadsTo h (h ++ entries.Delete doc at ∷ []) (D.disk disk.old) (D.disk disk.new) }
-        ensures kept { D.disk_tells → (h : History) → IsKept (D.disk disk.old) self.old h → OnOk result (IsKept (D.disk disk.new) self.new (h ++ entries.Delete doc at ∷ [])) }
+        // In step, it is a step of the abstract machine; each image left since stands for the history before it or after it.
+        ensures takes { D.disk_tells → (h : History) → IsKept (D.disk disk.old) self.old h → Takes h (items.Command (commands.Delete doc at)) (changed result) (D.disk disk.old) (D.disk disk.new) self.new }
         ensures pages { D.disk_tells → KeepsPages (D.disk disk.old) (D.disk disk.new) }
     {
-        let change = Change {
-            doc,
-            at,
-            held: None,
-        };
-        match may_come(&self.directory, change) {
-            Ok(()) => {}
-            Err(why) => return Err(ChangeError::Refused(why.into())),
+        let prepared = prepare_deletion(alloc, &self.directory, doc, at);
+        self.add(alloc, disk, prepared)
+    }
+
+    // Adds what was prepared, or hands on why it was not.
+    fn add<D: Disk>(
+        &mut self,
+        alloc: Global,
+        disk: &mut D,
+        prepared: Result<Prepared, Unprepared>,
+    ) -> Result<u64, ChangeError>
+        requires live { IsTrue self.old.live }
+        requires within { Reaches (D.disk disk.old).reach self.old }
+        requires fits { IfOk prepared (λ p. length p.body.items < 2 ^ 32) }
+        requires allowed { IfOk prepared (λ p. change_refusal p.change self.old.changes ≡ None) }
+        requires next { (h : History) → StandsFor self.old h → (entry : Entry) × (refusal : Option Refusal) × IsPrepared h entry refusal prepared }
+        ensures only { D.Disk.only disk.old disk.new }
+        ensures failed { IsErrOf result ChangeError.Failed → Rose (D.disk disk.old).faults (D.disk disk.new).faults }
+        ensures within { Reaches (D.disk disk.new).reach self.new }
+        ensures live { IsTrue self.new.live ↔ (IsOk result ⊎ ((why : Refusal) × IsErrOf result (ChangeError.Refused why))) }
+        ensures same { (why : Refusal) → IsErrOf result (ChangeError.Refused why) → (self.new ≡ self.old) × (disk.new ≡ disk.old) }
+        ensures memory { IsErrOf result ChangeError.Memory → disk.new ≡ disk.old }
+        ensures adds { (h : History) (entry : Entry) (refusal : Option Refusal) → StandsFor self.old h → IsPrepared h entry refusal prepared → Adds h entry refusal result self.new }
+        ensures leads { D.disk_tells → (h : History) (entry : Entry) (refusal : Option Refusal) → IsKept (D.disk disk.old) self.old h → IsPrepared h entry refusal prepared →
+            LeadsTo h (h ++ entry ∷ []) (D.disk disk.old) (D.disk disk.new) × OnOk result (IsKept (D.disk disk.new) self.new (h ++ entry ∷ [])) }
+        ensures pages { D.disk_tells → KeepsPages (D.disk disk.old) (D.disk disk.new) }
+    {
+        match prepared {
+            Ok(prepared) => self.commit(alloc, disk, prepared.change, &prepared.body),
+            Err(why) => self.give_up(why),
         }
-        match encode_deletion(alloc, doc, at) {
-            Ok(body) => self.commit(alloc, disk, change, &body),
-            Err(_) => self.spend(),
+    }
+
+    // A change that was not prepared: it is refused, or there was no memory for it.
+    fn give_up(&mut self, why: Unprepared) -> Result<u64, ChangeError>
+        ensures { GivesUp why result self.old self.new }
+    {
+        match why {
+            Unprepared::Refused(why) => Err(ChangeError::Refused(why)),
+            Unprepared::Memory => {
+                self.live = false;
+                Err(ChangeError::Memory)
+            }
         }
     }
 
@@ -211,13 +224,13 @@ impl Archive {
         body: &[u8],
     ) -> Result<u64, ChangeError>
         requires live { IsTrue self.old.live }
-        requires within { self.old.end ≤ (D.disk disk.old).reach.journal }
+        requires within { Reaches (D.disk disk.old).reach self.old }
         requires fits { length body.now < 2 ^ 32 }
         requires allowed { change_refusal change self.old.changes ≡ None }
         requires next { (h : History) → StandsFor self.old h → (entry : Entry) × IsNext h entry change body.now }
         ensures only { D.Disk.only disk.old disk.new }
         ensures failed { IsErrOf result ChangeError.Failed → Rose (D.disk disk.old).faults (D.disk disk.new).faults }
-        ensures within { IsTrue self.new.live → self.new.end ≤ (D.disk disk.new).reach.journal }
+        ensures within { Reaches (D.disk disk.new).reach self.new }
         ensures live { IsTrue self.new.live ↔ (IsOk result ⊎ ((why : Refusal) × IsErrOf result (ChangeError.Refused why))) }
         ensures refused { (why : Refusal) → IsErrOf result (ChangeError.Refused why) → (why ≡ Refusal.Full Which.Journal (limit_of Which.Journal)) × (limit_of Which.Journal < self.old.end + 5 + length body.now) }
         ensures allowed { (IsOk result ⊎ IsErrOf result ChangeError.Failed) → self.old.end + 5 + length body.now ≤ limit_of Which.Journal }
@@ -245,15 +258,6 @@ impl Archive {
             }
             Err(AppendError::Failed) => Err(ChangeError::Failed),
         }
-    }
-
-    // There was no memory for a change.
-    fn spend(&mut self) -> Result<u64, ChangeError>
-        ensures memory { result ≡ Err ChangeError.Memory }
-        ensures spent { self.new ≡ record self.old { live = false } }
-    {
-        self.live = false;
-        Err(ChangeError::Memory)
     }
 }
 

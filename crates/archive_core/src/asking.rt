@@ -7,7 +7,10 @@ ghost use Rattle.query_eval.specs.Queries.{query_of};
 ghost use Rattle.archive_state.specs.Histories.{History, text_at};
 ghost use Rattle.archive_state.specs.Answers.{IsWordList};
 ghost use Rattle.archive_state.specs.Steps.{Found, Finds};
-ghost use Rattle.archive_core.specs.States.{IsKept};
+ghost use Rattle.archive_core.specs.States.{IsKept, Reaches};
+ghost use Rattle.archive_core.specs.Takes.{Takes, found, shown};
+ghost use Rattle.commands.specs.declared.command.Command.TheVariants as commands;
+ghost use Rattle.commands.specs.declared.command.Item.TheVariants as items;
 
 use crate::archive::Archive;
 use crate::counting::count_all;
@@ -34,11 +37,32 @@ impl Archive {
         at: Time,
         query: &str,
     ) -> Result<Answer, AskError>
-        requires within { self.now.end ≤ (D.disk disk.old).reach.journal }
+        requires within { Reaches (D.disk disk.old).reach self.now }
         ensures only { D.Disk.only disk.old disk.new }
         ensures same { OnlyReads (D.disk disk.old) (D.disk disk.new) }
         ensures failed { IsErrOf result AskError.Failed → Rose (D.disk disk.old).faults (D.disk disk.new).faults }
         // A refusal comes of a text that is no query, and wherever it is none (but for want of memory).
+        ensures refused { (why : Refusal) → IsErrOf result (AskError.Refused why) → (query_of query.now ≡ None) × (why ≡ Refusal.BadQuery 0) }
+        ensures asked { (IsOk result ⊎ IsErrOf result AskError.Failed) → IsSome (query_of query.now) }
+        // In step, it is a step of the abstract machine.
+        ensures takes { D.disk_tells → (h : History) → IsKept (D.disk disk.old) self.now h →
+            Takes h (items.Command (commands.Find at query.now)) (found result) (D.disk disk.old) (D.disk disk.new) self.now }
+    {
+        self.answer_of(alloc, disk, at, query)
+    }
+
+    /// The answer to a query by the list of its word.
+    fn answer_of<D: Disk>(
+        &self,
+        alloc: Global,
+        disk: &mut D,
+        at: Time,
+        query: &str,
+    ) -> Result<Answer, AskError>
+        requires within { Reaches (D.disk disk.old).reach self.now }
+        ensures only { D.Disk.only disk.old disk.new }
+        ensures same { OnlyReads (D.disk disk.old) (D.disk disk.new) }
+        ensures failed { IsErrOf result AskError.Failed → Rose (D.disk disk.old).faults (D.disk disk.new).faults }
         ensures refused { (why : Refusal) → IsErrOf result (AskError.Refused why) → (query_of query.now ≡ None) × (why ≡ Refusal.BadQuery 0) }
         ensures asked { (IsOk result ⊎ IsErrOf result AskError.Failed) → IsSome (query_of query.now) }
         ensures found { D.disk_tells → (h : History) → IsKept (D.disk disk.old) self.now h →
@@ -63,7 +87,7 @@ impl Archive {
         disk: &mut D,
         word: &Key,
     ) -> Result<Vec<Posting>, AskError>
-        requires within { self.now.end ≤ (D.disk disk.old).reach.journal }
+        requires within { Reaches (D.disk disk.old).reach self.now }
         ensures only { D.Disk.only disk.old disk.new }
         ensures same { OnlyReads (D.disk disk.old) (D.disk disk.new) }
         ensures failed { IsErrOf result AskError.Failed → Rose (D.disk disk.old).faults (D.disk disk.new).faults }
@@ -92,7 +116,27 @@ impl Archive {
         doc: DocId,
         at: Time,
     ) -> Result<Option<Vec<u8>>, AskError>
-        requires within { self.now.end ≤ (D.disk disk.old).reach.journal }
+        requires within { Reaches (D.disk disk.old).reach self.now }
+        ensures only { D.Disk.only disk.old disk.new }
+        ensures same { OnlyReads (D.disk disk.old) (D.disk disk.new) }
+        ensures failed { IsErrOf result AskError.Failed → Rose (D.disk disk.old).faults (D.disk disk.new).faults }
+        ensures never { (why : Refusal) → IsErrOf result (AskError.Refused why) → ⊥ }
+        // In step, it is a step of the abstract machine.
+        ensures takes { D.disk_tells → (h : History) → IsKept (D.disk disk.old) self.now h →
+            Takes h (items.Command (commands.Show doc at)) (shown (λ v. v.items) result) (D.disk disk.old) (D.disk disk.new) self.now }
+    {
+        self.text_of(alloc, disk, doc, at)
+    }
+
+    /// The text at the place that the directory has for the version.
+    fn text_of<D: Disk>(
+        &self,
+        alloc: Global,
+        disk: &mut D,
+        doc: DocId,
+        at: Time,
+    ) -> Result<Option<Vec<u8>>, AskError>
+        requires within { Reaches (D.disk disk.old).reach self.now }
         ensures only { D.Disk.only disk.old disk.new }
         ensures same { OnlyReads (D.disk disk.old) (D.disk disk.new) }
         ensures failed { IsErrOf result AskError.Failed → Rose (D.disk disk.old).faults (D.disk disk.new).faults }

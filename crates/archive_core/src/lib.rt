@@ -13,6 +13,7 @@ mod counting;
 mod error;
 mod laws;
 mod loading;
+mod preparing;
 mod replaying;
 mod text;
 mod texts;

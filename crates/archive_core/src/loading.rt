@@ -1,11 +1,12 @@
 //! Loading an archive.
-ghost use Rattle.std.specs.Prelude.{◌≡◌, ◌+◌, ◌≤◌, ℕ, length, IsTrue, IfOk, OnOk, IsErrOf};
+ghost use Rattle.std.specs.Prelude.{◌≡◌, ◌+◌, ◌<◌, ◌≤◌, ℕ, length, IsTrue, IfOk, OnOk, IsErrOf};
 ghost use Rattle.machine_model.specs.Causes.{Rose};
+ghost use Rattle.machine_model.specs.Calls.{Syncs};
 ghost use Rattle.gate_journal.specs.Spelled.{Spells};
 ghost use Rattle.gate_journal.specs.Crash.{KeepsPages};
 ghost use Rattle.archive_state.specs.Histories.{History};
 ghost use Rattle.archive_state.specs.Stands.{EachStands, IsNotArchive, bodies_of};
-ghost use Rattle.archive_core.specs.States.{StandsFor, IsKept};
+ghost use Rattle.archive_core.specs.States.{StandsFor, IsKept, Reaches};
 ghost use Rattle.archive_core.specs.Changing.{KeepsHistory};
 
 use crate::archive::Archive;
@@ -30,16 +31,18 @@ impl Archive {
         ensures failed { IsErrOf result LoadError.Failed → Rose (D.disk disk.old).faults (D.disk disk.new).faults }
         // On any disk: it is live, the disk reaches as far as its journal, and it stands for a history.
         ensures live { IfOk result (λ a. IsTrue a.live) }
-        ensures within { IfOk result (λ a. a.end ≤ (D.disk disk.new).reach.journal) }
+        ensures within { IfOk result (λ a. Reaches (D.disk disk.new).reach a) }
         ensures stands { IfOk result (λ a. (h : History) × StandsFor a h) }
-        // What it answers of the journal that reads gave at the start.
-        ensures not_archive { D.disk_tells → (at : ℕ) → IsErrOf result (LoadError.NotArchive at) → IsNotArchive (D.disk disk.old).holds.journal at }
+        // What it answers of the bytes that reads gave at the start.
+        ensures not_archive { D.disk_tells → (at : ℕ) → IsErrOf result (LoadError.NotArchive at) → IsNotArchive (D.disk disk.old).holds at }
         ensures found { D.disk_tells → IfOk result (λ a. (h : History) × IsKept (D.disk disk.new) a h × Spells (D.disk disk.old).holds.journal (bodies_of h)) }
-        ensures exact { D.disk_tells → OnOk result ((at : ℕ) → IsNotArchive (D.disk disk.old).holds.journal at → ⊥) }
+        ensures exact { D.disk_tells → OnOk result ((at : ℕ) → IsNotArchive (D.disk disk.old).holds at → ⊥) }
         // Where each image stands for one history, each image left since stands for it, and it is the one loaded.
         ensures crash { D.disk_tells → (h : History) → EachStands (D.disk disk.old) h → KeepsHistory h (D.disk disk.old) (D.disk disk.new) }
         ensures finds { D.disk_tells → (h : History) → EachStands (D.disk disk.old) h → IfOk result (λ a. IsKept (D.disk disk.new) a h) }
         ensures never { D.disk_tells → (h : History) → EachStands (D.disk disk.old) h → (at : ℕ) → IsErrOf result (LoadError.NotArchive at) → ⊥ }
+        // A journal that isn't new is synced and read, and nothing else.
+        ensures longer { D.disk_tells → 17 < length (D.disk disk.old).holds.journal → Syncs (D.disk disk.old) (D.disk disk.new) }
         ensures pages { D.disk_tells → KeepsPages (D.disk disk.old) (D.disk disk.new) }
     {
         let (journal, heads) = Journal::load(alloc, disk)?;

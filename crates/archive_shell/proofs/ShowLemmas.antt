@@ -1,20 +1,35 @@
--- A command carried out and its reply shown, over the states of a machine.
-use Rattle.std.proofs.Common.{◌≡◌, ℕ, List, [], ◌++◌, Result, Ok, Err, OnOk, refl, inl, inr, ap, subst, sym, ◌∙◌, append_assoc}
-use Rattle.std.proofs.lemmas.List.{append-nil, append_cancel_left}
+-- An item carried out and its reply shown, over the states of a machine.
+use Rattle.std.proofs.Common.{◌≡◌, ◌⊎◌, ℕ, ◌+◌, ◌<◌, ◌≤◌, List, [], ◌∷◌, ◌++◌, length, Some, None, Result, Ok, Err, refl, inl, inr, ap, subst, sym, ◌∙◌, arith, codes, append_assoc}
+use Rattle.std.specs.List.{flat_map}
+use Rattle.std.specs.Fmt.{decimal}
+use Rattle.std.proofs.lemmas.List.{append-nil, append_cancel_left, length-append}
 use Rattle.machine_model.specs.Areas.{Bytes, Both, part}
 use Rattle.machine_model.specs.States.{DiskState}
 use Rattle.machine_model.specs.Images.{MayLeave, IsAllowed}
 use Rattle.machine_model.specs.Pushes.{IsPrefix, IsSameBeside, OnlyShows}
 use Rattle.machine_model.specs.declared.range.Range.{Range}
+use Rattle.commands.specs.declared.command.Item.{Item}
 use Rattle.archive_state.specs.Histories.{History}
-use Rattle.archive_state.specs.Steps.{Command}
-use Rattle.archive_state.specs.Replies.{reply_text}
+use Rattle.archive_state.specs.Steps.{Reply, Accepted, Refused, Found, Shown}
+use Rattle.archive_state.specs.Replies.{reply_text, row_text}
 use Rattle.archive_state.specs.Stands.{Stands}
 use Rattle.archive_state.proofs.RunLemmas.{one_turn}
 use Rattle.archive_core.specs.States.{ArchiveState, IsKept}
-use Rattle.archive_shell.specs.Turns.{Answers, CarriesOut}
+use Rattle.archive_core.proofs.AddLemmas.{kept_stands}
+use Rattle.archive_shell.specs.Statuses.{stop_of_halt}
+use Rattle.archive_shell.specs.Turns.{AnsweredBy, Answers, CarriesOut, EndsAt, StopsAt}
+use Rattle.archive_shell.specs.declared.stop.Halt.{Halt}
+use Rattle.archive_shell.specs.declared.stop.Halt.TheVariants as halts
 use Rattle.archive_shell.specs.declared.stop.Stop.{Stop}
-use Rattle.archive_shell.proofs.TurnLemmas.{each_stands}
+use Rattle.archive_shell.specs.declared.stop.Stop.TheVariants as stops
+
+-- no reply is empty
+pub some_bytes : (r : Reply) → 1 ≤ length (reply_text r)
+some_bytes (Accepted n) = omega arith
+some_bytes (Refused why) = omega arith
+some_bytes (Found rows read) = omega (arith, length-append (flat_map row_text rows ++ codes "end " ++ decimal (length rows) ++ codes " read " ++ decimal read) (10 ∷ []))
+some_bytes (Shown None) = omega arith
+some_bytes (Shown (Some text)) = omega arith
 
 -- pushes change no image
 same_images : (old new : DiskState) → IsSameBeside old new → (image : Bytes) → MayLeave new.now image → MayLeave old.now image
@@ -24,7 +39,7 @@ same_images old new same image allowed = λ area.
     subst P same.pending (subst S same.stable (allowed area))
 
 -- so an archive stays in step over them
-pub kept_beside : (old new : DiskState) (archive : ArchiveState) (history : History) → IsSameBeside old new → IsKept old archive history → IsKept new archive history
+kept_beside : (old new : DiskState) (archive : ArchiveState) (history : History) → IsSameBeside old new → IsKept old archive history → IsKept new archive history
 kept_beside old new archive history same kept = record {
   stands = kept.stands;
   in_step = record {
@@ -36,16 +51,12 @@ kept_beside old new archive history same kept = record {
   };
 }
 
--- what follows from a fact of an Ok
-pub on_ok : {P Q : Type 0} (result : Result (Unit {0}) Stop) → (P → Q) → OnOk result P → OnOk result Q
-on_ok (Ok u) f p = f p
-on_ok (Err e) f p = tt
-
 -- the run was stopped before the reply
-pub cut_short : (history : History) (command : Command) (stop : Stop) (before : List ℕ) (old new : DiskState) (archive_now : ArchiveState) (page : List ℕ)
-    → Answers history command (Err stop) old new archive_now page → old.now.beside ≡ before → CarriesOut history command (Err stop) before before old new archive_now
-cut_short history command stop before old new archive_now page answered beside =
+pub cut_short : (history : History) (item : Item) (halt : Halt) (stop : Stop) (before : List ℕ) (old new : DiskState) (archive_now : ArchiveState) (page : List ℕ)
+    → Answers history item (Err halt) old new archive_now page → stop ≡ stop_of_halt halt → old.now.beside ≡ before → CarriesOut history item (Err stop) before before old new archive_now
+cut_short history item halt stop before old new archive_now page answered is beside =
     let turn = answered.turn in
+    let S : Stop → Type 0 = λ s. StopsAt history turn new s in
     record {
       turn = turn;
       step = answered.step;
@@ -57,29 +68,49 @@ cut_short history command stop before old new archive_now page answered beside =
       shown = [];
       shown_is = sym (append-nil before);
       front = (reply_text turn.reply, refl);
-      whole = tt;
+      ends = (omega (arith, some_bytes turn.reply), subst S (sym is) (stops_at halt answered.ends));
     }
+  where
+    stops_at : (h : Halt) → AnsweredBy history answered.turn new archive_now page (Err h) → StopsAt history answered.turn new (stop_of_halt h)
+    stops_at halts.Disk ends = tt
+    stops_at halts.Memory ends = ends
+
+-- what is known of the end of a show: all of the page was shown, or a part
+abbrev pub ShownTo : List ℕ → List ℕ → List ℕ → Result (Unit {0}) Stop → Type 0
+ShownTo before after page (Ok done) = after ≡ before ++ page
+ShownTo before after page (Err stops.Sink) = length after < length before + length page
+ShownTo before after page (Err stops.Disk) = ⊥
+ShownTo before after page (Err stops.Memory) = ⊥
 
 -- the reply was shown, or a front of it
-pub carried_out : (history : History) (command : Command) (result : Result (Unit {0}) Stop) (before after : List ℕ) (old mid new : DiskState) (archive_now : ArchiveState) (page : List ℕ)
-    → Answers history command (Ok tt) old mid archive_now page → old.now.beside ≡ before → OnlyShows mid new before after → IsSameBeside mid new
-    → IsPrefix after (before ++ page) → OnOk result (after ≡ before ++ page) → CarriesOut history command result before after old new archive_now
-carried_out history command result before after old mid new archive_now page answered beside shows same front whole =
+pub carried_out : (history : History) (item : Item) (result : Result (Unit {0}) Stop) (before after : List ℕ) (old mid new : DiskState) (archive_now : ArchiveState) (page : List ℕ)
+    → Answers history item (Ok tt) old mid archive_now page → old.now.beside ≡ before → OnlyShows mid new before after → IsSameBeside mid new
+    → IsPrefix after (before ++ page) → ShownTo before after page result → CarriesOut history item result before after old new archive_now
+carried_out history item result before after old mid new archive_now page answered beside shows same front to =
     let turn = answered.turn in
-    let kept = answered.kept.0 in
-    let text : page ≡ reply_text turn.reply = answered.kept.1 in
+    let kept = answered.ends.0 in
+    let text : page ≡ reply_text turn.reply = answered.ends.1 in
     let F : List ℕ → Type 0 = λ t. IsPrefix after (before ++ t) in
     let reply = subst F text front in
     record {
       turn = turn;
       step = answered.step;
       carried = one_turn reply_text Stands history turn before after old mid new answered.leads.goes_on
-          (λ image other left. let was = answered.leads.images image other left in (was.0, was.1 ∙ beside)) shows (each_stands kept) reply;
+          (λ image other left. let was = answered.leads.images image other left in (was.0, was.1 ∙ beside)) shows (kept_stands mid archive_now turn.next kept) reply;
       shown = shows.grows.0;
       shown_is = shows.grows.1;
       front = (reply.0, append_cancel_left before (reply_text turn.reply) (shows.grows.0 ++ reply.0) (reply.1 ∙ ap (λ (l : List ℕ). l ++ reply.0) shows.grows.1 ∙ append_assoc before shows.grows.0 reply.0));
-      whole = on_ok result (λ all. (
-        append_cancel_left before shows.grows.0 (reply_text turn.reply) (sym shows.grows.1 ∙ all ∙ ap (λ (t : List ℕ). before ++ t) text),
-        kept_beside mid new archive_now turn.next same kept,
-      )) whole;
+      ends = ends result to;
     }
+  where
+    still : IsKept new archive_now answered.turn.next
+    still = kept_beside mid new archive_now answered.turn.next same answered.ends.0
+
+    ends : (r : Result (Unit {0}) Stop) → ShownTo before after page r → EndsAt history answered.turn new archive_now shows.grows.0 r
+    ends (Ok done) all = (append_cancel_left before shows.grows.0 (reply_text answered.turn.reply) (sym shows.grows.1 ∙ all ∙ ap (λ (t : List ℕ). before ++ t) answered.ends.1), still)
+    ends (Err stops.Sink) short = (
+      omega (arith, short, ap length answered.ends.1, ap length shows.grows.1, length-append before shows.grows.0),
+      kept_stands new archive_now answered.turn.next still,
+    )
+    ends (Err stops.Disk) never = absurd never
+    ends (Err stops.Memory) never = absurd never

@@ -1,20 +1,26 @@
--- What a run of the program without words is: one run of the abstract machine over the commands of the bytes pulled, what was shown of
--- it, what each image left at any moment stands for, and where the input stood at the end.
-use Rattle.std.specs.Prelude.{◌≡◌, ◌⊎◌, ℕ, ◌^◌, ◌<◌, Bool, true, false, List, [], ◌++◌, length, map}
+-- What a run of the program without words is: one run of the abstract machine over the items of the bytes pulled, what was shown of it and
+-- when, what each image left at any moment stands for, and where the input stood at the end.
+use Rattle.std.specs.Prelude.{◌≡◌, ◌⊎◌, ℕ, ◌^◌, ◌<◌, ◌≤◌, Bool, true, false, List, [], ◌++◌, length, All}
 use Rattle.machine_model.specs.States.{SourceState, SinkState, DiskState}
 use Rattle.machine_model.specs.Moments.{LeavesOnly}
+use Rattle.machine_model.specs.Pulls.{Pull}
 use Rattle.machine_model.specs.Pushes.{IsPrefix}
+use Rattle.commands.specs.declared.command.Item.{Item}
 use Rattle.script_read.specs.Items.{first, Splits, IsBrokenAt}
-use Rattle.script_read.specs.declared.command.Command as script
 use Rattle.script_read.specs.declared.first.First.TheVariants.{More}
 use Rattle.archive_state.specs.Histories.{History}
 use Rattle.archive_state.specs.Steps.{Reply, Step}
 use Rattle.archive_state.specs.Replies.{reply_text}
 use Rattle.archive_state.specs.Runs.{Turn, IsRun, state_after, shown_by, Reopens}
 use Rattle.archive_state.specs.Stands.{Stands, EachStands}
-use Rattle.archive_shell.specs.Commands.{command_of}
 use Rattle.archive_shell.specs.declared.status.Status.{Status}
 use Rattle.archive_shell.specs.declared.status.Status.TheVariants.{Done, Usage, NotArchive, Disk, Source, Sink, Script, Budget, Memory}
+
+-- a machine's meanings
+pub record MachineState : Type 0 where
+  pub source : SourceState
+  pub sink : SinkState
+  pub disk : DiskState
 
 -- the statuses before which each whole item of the bytes pulled is carried out and its reply shown
 abbrev pub CarriesOutAll : Status → Type 0
@@ -43,27 +49,53 @@ pub record StoodAt (status : Status) (ended : Bool) (pulled rest : List ℕ) : T
   pub script : (at : ℕ) → status ≡ Script at → IsBrokenAt ended pulled at
   pub broken : (at : ℕ) → IsBrokenAt ended pulled at → (status ≡ Script at) ⊎ EndsEarly status
 
--- A run from this history: its status, and the input, the output and the disk before and after.
-pub record Headline (history : History) (status : Status) (input input_now : SourceState) (output output_now : SinkState) (old new : DiskState) : Type 0 where
+-- A pull was in turn: no whole item waited for its reply. What had been pulled by then is some of the items and a rest that begins with no
+-- whole one, and the replies to all of these had been shown.
+pub record IsInTurn (input : SourceState) (output : SinkState) (items : List Item) (turns : List (Turn Reply History)) (pull : Pull) : Type 0 where
+  pub pulled : List ℕ
+  pub pulled_are : input.left ≡ pulled ++ pull.left
+  pub before : List Item
+  pub behind : List Item
+  pub items_are : items ≡ before ++ behind
+  pub rest : List ℕ
+  pub split : Splits false pulled before rest
+  pub answered : List (Turn Reply History)
+  pub to_come : List (Turn Reply History)
+  pub turns_are : turns ≡ answered ++ to_come
+  pub each : length answered ≡ length before
+  pub shown : pull.shown ≡ output.shown ++ shown_by reply_text answered
+
+-- One run of the abstract machine from this history over the items of the bytes pulled, and what was shown of it.
+pub record Ran (history : History) (status : Status) (input input_now : SourceState) (output output_now : SinkState) (pulls : List Pull) : Type 0 where
   -- the bytes pulled, and whether the end of the input was told
   pub pulled : List ℕ
   pub pulled_are : input.left ≡ pulled ++ input_now.left
   pub ended : Bool
   pub ended_is : ended ≡ true → input_now.left ≡ []
   -- the items of these bytes, and what is left behind the last whole one
-  pub items : List script.Command
+  pub items : List Item
   pub rest : List ℕ
   pub split : Splits ended pulled items rest
   pub stood : StoodAt status ended pulled rest
-  -- one run of the abstract machine over all these commands
+  -- one run of the abstract machine over all these items
   pub turns : List (Turn Reply History)
-  pub run : IsRun Step history (map command_of items) turns
+  pub run : IsRun Step history items turns
   -- what was shown is a front of the joined texts of its replies, and all of them where all items are carried out
   pub shown : List ℕ
   pub shown_is : output_now.shown ≡ output.shown ++ shown
   pub front : IsPrefix shown (shown_by reply_text turns)
   pub whole : CarriesOutAll status → shown ≡ shown_by reply_text turns
+  -- a fault of the disk or the sink leaves a reply unshown, or came before anything was pulled
+  pub unfinished : (status ≡ Disk) ⊎ (status ≡ Sink) → (pulled ≡ []) ⊎ (length shown < length (shown_by reply_text turns))
+  -- each pull was made when the replies to all items that were whole by then had been shown
+  pub in_turn : All (IsInTurn input output items turns) pulls
+
+-- A run from this history: its status, the machine before and after, and the pulls among its calls.
+pub record Headline (history : History) (status : Status) (old new : MachineState) (pulls : List Pull) : Type 0 where
+  pub ran : Ran history status old.source new.source old.sink new.sink pulls
   -- each image left since, with the bytes shown then, stands for the history after as many turns as these acknowledge, or one more
-  pub images : EachStands old history → LeavesOnly old new (Reopens reply_text Stands history turns output.shown)
+  pub images : EachStands old.disk history → LeavesOnly old.disk new.disk (Reopens reply_text Stands history ran.turns old.sink.shown)
   -- where all items are carried out, each image stands for the last history
-  pub last : CarriesOutAll status → EachStands new (state_after history turns (length turns))
+  pub last : CarriesOutAll status → EachStands new.disk (state_after history ran.turns (length ran.turns))
+  -- where the disk didn't fail, all images stand for one history
+  pub steady : EachStands old.disk history → (status ≡ Disk → ⊥) → (j : ℕ) × (j ≤ length ran.turns) × EachStands new.disk (state_after history ran.turns j)

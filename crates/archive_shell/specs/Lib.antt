@@ -1,4 +1,3 @@
-pub mod Commands
 pub mod Headline
 pub mod Serving
 pub mod Statuses

@@ -1,10 +1,12 @@
 -- How a run ends: its exit status, and the line that is printed of it.
 use Rattle.std.specs.Prelude.{ℕ, List, ◌++◌, codes}
 use Rattle.std.specs.Fmt.{decimal}
-use Rattle.script_read.specs.declared.item.ScriptError.{ScriptError}
-use Rattle.script_read.specs.declared.item.ScriptError.TheVariants as errors
+use Rattle.script_read.specs.declared.error.ScriptError.{ScriptError}
+use Rattle.script_read.specs.declared.error.ScriptError.TheVariants as errors
 use Rattle.archive_core.specs.declared.error.LoadError.{LoadError}
 use Rattle.archive_core.specs.declared.error.LoadError.TheVariants as loads
+use Rattle.archive_shell.specs.declared.stop.Halt.{Halt}
+use Rattle.archive_shell.specs.declared.stop.Halt.TheVariants as halts
 use Rattle.archive_shell.specs.declared.stop.Stop.{Stop}
 use Rattle.archive_shell.specs.declared.stop.Stop.TheVariants as stops
 use Rattle.archive_shell.specs.declared.status.Status.{Status}
@@ -46,6 +48,11 @@ abbrev pub status_of_stop : Stop → Status
 status_of_stop stops.Disk = Disk
 status_of_stop stops.Sink = Sink
 status_of_stop stops.Memory = Memory
+
+-- a halt, as an event that stops a run
+abbrev pub stop_of_halt : Halt → Stop
+stop_of_halt halts.Disk = stops.Disk
+stop_of_halt halts.Memory = stops.Memory
 
 -- how a run ends where there is no archive
 abbrev pub status_of_load : LoadError → Status

@@ -1,50 +1,65 @@
--- One command carried out: a turn of the abstract machine, and what it leaves.
-use Rattle.std.specs.Prelude.{◌≡◌, List, [], ◌∷◌, ◌++◌, ℕ, Result, Err, IsOk, OnOk}
+-- One item carried out: a turn of the abstract machine, and what it leaves.
+use Rattle.std.specs.Prelude.{◌≡◌, ◌⊎◌, ◌×◌, ◌<◌, List, [], ◌∷◌, ◌++◌, ℕ, length, Result, Ok, Err, OnOk, OnErr, IsTrue}
+use Rattle.machine_model.specs.Areas.{Both}
 use Rattle.machine_model.specs.States.{DiskState}
 use Rattle.machine_model.specs.Pushes.{IsPrefix}
+use Rattle.commands.specs.declared.command.Item.{Item}
 use Rattle.archive_state.specs.Histories.{History}
-use Rattle.archive_state.specs.Steps.{Command, Reply, Refused, Step}
+use Rattle.archive_state.specs.Steps.{Reply, Step}
 use Rattle.archive_state.specs.Replies.{reply_text}
 use Rattle.archive_state.specs.Runs.{Turn}
 use Rattle.archive_state.specs.Standing.{Carried}
-use Rattle.archive_state.specs.Stands.{Stands}
-use Rattle.archive_core.specs.States.{ArchiveState, IsKept}
+use Rattle.archive_state.specs.Stands.{Stands, EachStands}
+use Rattle.archive_core.specs.States.{ArchiveState, IsKept, Reaches}
 use Rattle.archive_core.specs.Changing.{LeadsTo}
-use Rattle.archive_core.specs.declared.error.ChangeError.{ChangeError}
-use Rattle.archive_core.specs.declared.error.ChangeError.TheVariants as errors
-use Rattle.archive_core.specs.declared.error.AskError.{AskError}
-use Rattle.archive_core.specs.declared.error.AskError.TheVariants as asks
+use Rattle.archive_core.specs.Takes.{Ending, Replied, Starved, Faulted}
+use Rattle.archive_shell.specs.declared.stop.Halt.{Halt}
+use Rattle.archive_shell.specs.declared.stop.Halt.TheVariants as halts
 use Rattle.archive_shell.specs.declared.stop.Stop.{Stop}
-use Rattle.archive_shell.specs.declared.stop.Stop.TheVariants.{Disk, Memory}
+use Rattle.archive_shell.specs.declared.stop.Stop.TheVariants as stops
 
--- what comes of a change that was not made: its refusal is on the page, or the run is stopped
-abbrev pub Refuses : ChangeError → Result (Unit {0}) Stop → List ℕ → Type 0
-Refuses (errors.Refused why) result page = IsOk result × (page ≡ reply_text (Refused why))
-Refuses errors.Failed result page = result ≡ Err Disk
-Refuses errors.Memory result page = result ≡ Err Memory
+-- the archive is live, and its disk reaches as far
+abbrev pub CanGoOn : ArchiveState → Both ℕ → Type 0
+CanGoOn archive reach = IsTrue archive.live × Reaches reach archive
 
--- what comes of a question that was not answered: its refusal is on the page, or the run is stopped
-abbrev pub Declines : AskError → Result (Unit {0}) Stop → List ℕ → Type 0
-Declines (asks.Refused why) result page = IsOk result × (page ≡ reply_text (Refused why))
-Declines asks.Failed result page = result ≡ Err Disk
-Declines asks.Memory result page = result ≡ Err Memory
+-- What is written of a call's end: its reply is on the page, unless there is no memory for it; or the run is halted.
+abbrev pub Writes : Ending → Result (Unit {0}) Halt → List ℕ → Type 0
+Writes (Replied reply) result page = ((result ≡ Ok tt) × (page ≡ reply_text reply)) ⊎ (result ≡ Err halts.Memory)
+Writes Starved result page = result ≡ Err halts.Memory
+Writes Faulted result page = result ≡ Err halts.Disk
 
--- A command that was answered, or during which the run was stopped: it has a turn of the abstract machine. Each image left since the
--- start stands for the history before the turn or after it; where it was answered the archive stands for the latter, and the page has
--- the reply.
-pub record Answers (history : History) (command : Command) (result : Result (Unit {0}) Stop) (old new : DiskState) (archive_now : ArchiveState) (page : List ℕ) : Type 0 where
+-- where an item was answered the archive stands for the history after the turn, and the page has the reply; where memory ran out, each
+-- image stands for the history before the turn, or each for the one after it
+abbrev pub AnsweredBy : History → Turn Reply History → DiskState → ArchiveState → List ℕ → Result (Unit {0}) Halt → Type 0
+AnsweredBy before turn new archive_now page (Ok done) = IsKept new archive_now turn.next × (page ≡ reply_text turn.reply)
+AnsweredBy before turn new archive_now page (Err halts.Disk) = Unit {0}
+AnsweredBy before turn new archive_now page (Err halts.Memory) = EachStands new before ⊎ EachStands new turn.next
+
+-- An item that was answered, or during which the run was halted: it has a turn of the abstract machine. Each image left since the start
+-- stands for the history before the turn or after it.
+pub record Answers (history : History) (item : Item) (result : Result (Unit {0}) Halt) (old new : DiskState) (archive_now : ArchiveState) (page : List ℕ) : Type 0 where
   pub turn : Turn Reply History
-  pub step : Step history command turn.reply turn.next
+  pub step : Step history item turn.reply turn.next
   pub leads : LeadsTo history turn.next old new
-  pub kept : OnOk result (IsKept new archive_now turn.next × (page ≡ reply_text turn.reply))
+  pub ends : AnsweredBy history turn new archive_now page result
 
--- A command that was carried out and its reply shown, or during which the run was stopped: each image left since the start, with what
--- was shown of the reply then, stands for the history before the turn or after it.
-pub record CarriesOut (history : History) (command : Command) (result : Result (Unit {0}) Stop) (before after : List ℕ) (old new : DiskState) (archive_now : ArchiveState) : Type 0 where
+-- what is known of the images where the run is stopped
+abbrev pub StopsAt : History → Turn Reply History → DiskState → Stop → Type 0
+StopsAt before turn new stops.Disk = Unit {0}
+StopsAt before turn new stops.Sink = EachStands new turn.next
+StopsAt before turn new stops.Memory = EachStands new before ⊎ EachStands new turn.next
+
+abbrev pub EndsAt : History → Turn Reply History → DiskState → ArchiveState → List ℕ → Result (Unit {0}) Stop → Type 0
+EndsAt before turn new archive_now shown (Ok done) = (shown ≡ reply_text turn.reply) × IsKept new archive_now turn.next
+EndsAt before turn new archive_now shown (Err stop) = (length shown < length (reply_text turn.reply)) × StopsAt before turn new stop
+
+-- An item that was carried out and its reply shown, or during which the run was stopped, and then the reply isn't shown whole. Each image
+-- left since the start, with what was shown of the reply then, stands for the history before the turn or after it.
+pub record CarriesOut (history : History) (item : Item) (result : Result (Unit {0}) Stop) (before after : List ℕ) (old new : DiskState) (archive_now : ArchiveState) : Type 0 where
   pub turn : Turn Reply History
-  pub step : Step history command turn.reply turn.next
+  pub step : Step history item turn.reply turn.next
   pub carried : Carried reply_text Stands history (turn ∷ []) before old new
   pub shown : List ℕ
   pub shown_is : after ≡ before ++ shown
   pub front : IsPrefix shown (reply_text turn.reply)
-  pub whole : OnOk result ((shown ≡ reply_text turn.reply) × IsKept new archive_now turn.next)
+  pub ends : EndsAt history turn new archive_now shown result

@@ -1,49 +1,84 @@
-//! Answering one command.
-ghost use Rattle.std.specs.Prelude.{◌≡◌, ◌≤◌, IsTrue, Ok, OnOk, IsErrOf};
+//! Answering one item of the input.
+ghost use Rattle.std.specs.Prelude.{◌≡◌, ◌⊎◌, Ok, Err, OnOk, IsOk, IsErrOf};
 ghost use Rattle.machine_model.specs.Causes.{Rose};
-ghost use Rattle.machine_model.specs.Calls.{OnlyReads};
 ghost use Rattle.archive_state.specs.Histories.{History};
-ghost use Rattle.archive_core.specs.States.{IsKept};
 ghost use Rattle.archive_state.specs.Replies.{reply_text};
-ghost use Rattle.archive_state.specs.Steps.{Accepted, Arrive, Delete, Find, Show};
-ghost use Rattle.archive_shell.specs.Commands.{command_of};
-ghost use Rattle.archive_shell.specs.Turns.{Answers, Declines, Refuses};
+ghost use Rattle.archive_state.specs.Steps.{Refused};
+ghost use Rattle.archive_core.specs.States.{IsKept};
+ghost use Rattle.archive_core.specs.Takes.{changed, declined, found, shown};
+ghost use Rattle.commands.specs.declared.command.Item.TheVariants as items;
+ghost use Rattle.commands.specs.declared.command.Command.TheVariants as plain;
+ghost use Rattle.archive_shell.specs.Turns.{Answers, CanGoOn, Writes};
 
-use crate::stop::Stop;
+use crate::stop::Halt;
 use archive_core::{Archive, AskError, ChangeError};
 use archive_replies::ReplyPage;
+use archive_state::Refusal;
+use commands::{Command, Item, MOST_TEXT_BYTES, Text};
 use machine_model::Disk;
-use script_read::{Command, Expression, Text};
+use query_eval::Answer;
 use std::alloc::Global;
 use time_base::{DocId, Time};
 
-/// Carries out a command on the archive and its disk, and writes its reply on the page.
+/// Carries out an item on the archive and its disk, and writes its reply on the page.
 pub(crate) fn answer<D: Disk>(
     alloc: Global,
     disk: &mut D,
     archive: &mut Archive,
     page: &mut ReplyPage,
-    command: Command,
-) -> Result<(), Stop>
-    requires live { IsTrue archive.old.live }
-    requires within { archive.old.end ≤ (D.disk disk.old).reach.journal }
+    item: Item,
+) -> Result<(), Halt>
+    requires ready { CanGoOn archive.old (D.disk disk.old).reach }
     ensures only { D.Disk.only disk.old disk.new }
-    ensures disk_fault { IsErrOf result Stop.Disk → Rose (D.disk disk.old).faults (D.disk disk.new).faults }
-    ensures no_sink { IsErrOf result Stop.Sink → ⊥ }
-    ensures live { OnOk result (IsTrue archive.new.live) }
-    ensures within { OnOk result (archive.new.end ≤ (D.disk disk.new).reach.journal) }
+    ensures disk_fault { IsErrOf result Halt.Disk → Rose (D.disk disk.old).faults (D.disk disk.new).faults }
+    ensures ready { OnOk result (CanGoOn archive.new (D.disk disk.new).reach) }
     ensures turn { D.disk_tells → (h : History) → IsKept (D.disk disk.old) archive.old h →
-        Answers h (command_of command) result (D.disk disk.old) (D.disk disk.new) archive.new page.new.bytes }
+        Answers h item result (D.disk disk.old) (D.disk disk.new) archive.new page.new.bytes }
 {
-    match command {
-        Command::Arrive { doc, at, text } => arrive(alloc, disk, archive, page, doc, at, text),
-        Command::Delete { doc, at } => delete(alloc, disk, archive, page, doc, at),
-        Command::Find { at, query } => find(alloc, disk, archive, page, at, query),
-        Command::Show { doc, at } => show(alloc, disk, archive, page, doc, at),
+    match item {
+        Item::Line => refuse(page, Refusal::Line),
+        Item::Command(command) => carry_out(alloc, disk, archive, page, command),
     }
 }
 
-/// Carries out an arrival, and writes its reply on the page.
+/// Carries out a command. One that isn't built yet is refused as a line that is none.
+fn carry_out<D: Disk>(
+    alloc: Global,
+    disk: &mut D,
+    archive: &mut Archive,
+    page: &mut ReplyPage,
+    command: Command,
+) -> Result<(), Halt>
+    requires ready { CanGoOn archive.old (D.disk disk.old).reach }
+    ensures only { D.Disk.only disk.old disk.new }
+    ensures disk_fault { IsErrOf result Halt.Disk → Rose (D.disk disk.old).faults (D.disk disk.new).faults }
+    ensures ready { OnOk result (CanGoOn archive.new (D.disk disk.new).reach) }
+    ensures turn { D.disk_tells → (h : History) → IsKept (D.disk disk.old) archive.old h →
+        Answers h (items.Command command) result (D.disk disk.old) (D.disk disk.new) archive.new page.new.bytes }
+{
+    match command {
+        Command::Arrive { doc, at, text } => arrive(alloc, disk, archive, page, doc, at, text),
+        Command::Delete { doc, at } => {
+            let result = archive.delete(alloc, disk, doc, at);
+            write_change(page, result)
+        }
+        Command::Find { at, expr } => {
+            let result = archive.find(alloc, disk, at, expr.as_str());
+            write_found(page, result)
+        }
+        Command::Show { doc, at } => {
+            let result = archive.show(alloc, disk, doc, at);
+            write_shown(page, result)
+        }
+        Command::Plan { .. } => refuse(page, Refusal::Line),
+        Command::Propose { .. } => refuse(page, Refusal::Line),
+        Command::Between { .. } => refuse(page, Refusal::Line),
+        Command::Certificate { .. } => refuse(page, Refusal::Line),
+        Command::Verify => refuse(page, Refusal::Line),
+    }
+}
+
+/// Carries out an arrival. A text that was too long to be kept is refused for that.
 fn arrive<D: Disk>(
     alloc: Global,
     disk: &mut D,
@@ -52,139 +87,113 @@ fn arrive<D: Disk>(
     doc: DocId,
     at: Time,
     text: Text,
-) -> Result<(), Stop>
-    requires live { IsTrue archive.old.live }
-    requires within { archive.old.end ≤ (D.disk disk.old).reach.journal }
+) -> Result<(), Halt>
+    requires ready { CanGoOn archive.old (D.disk disk.old).reach }
     ensures only { D.Disk.only disk.old disk.new }
-    ensures disk_fault { IsErrOf result Stop.Disk → Rose (D.disk disk.old).faults (D.disk disk.new).faults }
-    ensures no_sink { IsErrOf result Stop.Sink → ⊥ }
-    ensures live { OnOk result (IsTrue archive.new.live) }
-    ensures within { OnOk result (archive.new.end ≤ (D.disk disk.new).reach.journal) }
+    ensures disk_fault { IsErrOf result Halt.Disk → Rose (D.disk disk.old).faults (D.disk disk.new).faults }
+    ensures ready { OnOk result (CanGoOn archive.new (D.disk disk.new).reach) }
     ensures turn { D.disk_tells → (h : History) → IsKept (D.disk disk.old) archive.old h →
-        Answers h (Arrive doc at text) result (D.disk disk.old) (D.disk disk.new) archive.new page.new.bytes }
+        Answers h (items.Command (plain.Arrive doc at text)) result (D.disk disk.old) (D.disk disk.new) archive.new page.new.bytes }
 {
-    match archive.arrive(alloc, disk, doc, at, text.as_slice()) {
-        Ok(length) => accept(page, length),
-        Err(error) => refuse(page, error),
+    match text {
+        Text::Bytes(content) => {
+            let result = archive.arrive(alloc, disk, doc, at, content.as_slice());
+            write_change(page, result)
+        }
+        Text::TooLong { .. } => refuse(
+            page,
+            Refusal::TooLong {
+                limit: MOST_TEXT_BYTES as u64,
+            },
+        ),
     }
 }
 
-/// Carries out a deletion, and writes its reply on the page.
-fn delete<D: Disk>(
-    alloc: Global,
-    disk: &mut D,
-    archive: &mut Archive,
-    page: &mut ReplyPage,
-    doc: DocId,
-    at: Time,
-) -> Result<(), Stop>
-    requires live { IsTrue archive.old.live }
-    requires within { archive.old.end ≤ (D.disk disk.old).reach.journal }
-    ensures only { D.Disk.only disk.old disk.new }
-    ensures disk_fault { IsErrOf result Stop.Disk → Rose (D.disk disk.old).faults (D.disk disk.new).faults }
-    ensures no_sink { IsErrOf result Stop.Sink → ⊥ }
-    ensures live { OnOk result (IsTrue archive.new.live) }
-    ensures within { OnOk result (archive.new.end ≤ (D.disk disk.new).reach.journal) }
-    ensures turn { D.disk_tells → (h : History) → IsKept (D.disk disk.old) archive.old h →
-        Answers h (Delete doc at) result (D.disk disk.old) (D.disk disk.new) archive.new page.new.bytes }
-{
-    match archive.delete(alloc, disk, doc, at) {
-        Ok(length) => accept(page, length),
-        Err(error) => refuse(page, error),
-    }
-}
-
-/// Writes the reply to a change that is made: the history has so many entries then.
-fn accept(page: &mut ReplyPage, length: u64) -> Result<(), Stop>
+/// Writes a refusal on the page.
+fn refuse(page: &mut ReplyPage, why: Refusal) -> Result<(), Halt>
     ensures goes_on { result ≡ Ok tt }
-    ensures reply { page.new.bytes ≡ reply_text (Accepted length) }
+    ensures reply { page.new.bytes ≡ reply_text (Refused why) }
 {
-    page.accepted(length);
+    page.refused(why);
     Ok(())
 }
 
-/// Answers a query, and writes what it finds on the page.
-fn find<D: Disk>(
-    alloc: Global,
-    disk: &mut D,
-    archive: &Archive,
-    page: &mut ReplyPage,
-    at: Time,
-    query: Expression,
-) -> Result<(), Stop>
-    requires within { archive.now.end ≤ (D.disk disk.old).reach.journal }
-    ensures only { D.Disk.only disk.old disk.new }
-    ensures same { OnlyReads (D.disk disk.old) (D.disk disk.new) }
-    ensures disk_fault { IsErrOf result Stop.Disk → Rose (D.disk disk.old).faults (D.disk disk.new).faults }
-    ensures no_sink { IsErrOf result Stop.Sink → ⊥ }
-    ensures turn { D.disk_tells → (h : History) → IsKept (D.disk disk.old) archive.now h →
-        Answers h (Find at query) result (D.disk disk.old) (D.disk disk.new) archive.now page.new.bytes }
+/// Writes what became of a change on the page, or halts the run.
+fn write_change(page: &mut ReplyPage, change: Result<u64, ChangeError>) -> Result<(), Halt>
+    ensures writes { Writes (changed change) result page.new.bytes }
+    ensures fault { IsErrOf result Halt.Disk → IsErrOf change ChangeError.Failed }
+    ensures live { OnOk result (IsOk change ⊎ ((why : Refusal) × IsErrOf change (ChangeError.Refused why))) }
 {
-    let answer = match archive.find(alloc, disk, at, query.as_str()) {
-        Ok(answer) => answer,
-        Err(error) => return decline(page, error),
-    };
-    match page.found(&answer.rows, answer.read) {
-        Ok(()) => Ok(()),
-        Err(_) => Err(Stop::Memory),
+    match change {
+        Ok(length) => {
+            page.accepted(length);
+            Ok(())
+        }
+        Err(error) => write_unchanged(page, error),
     }
 }
 
-/// Writes the text of a document at a time on the page, or that there is none.
-fn show<D: Disk>(
-    alloc: Global,
-    disk: &mut D,
-    archive: &Archive,
-    page: &mut ReplyPage,
-    doc: DocId,
-    at: Time,
-) -> Result<(), Stop>
-    requires within { archive.now.end ≤ (D.disk disk.old).reach.journal }
-    ensures only { D.Disk.only disk.old disk.new }
-    ensures same { OnlyReads (D.disk disk.old) (D.disk disk.new) }
-    ensures disk_fault { IsErrOf result Stop.Disk → Rose (D.disk disk.old).faults (D.disk disk.new).faults }
-    ensures no_sink { IsErrOf result Stop.Sink → ⊥ }
-    ensures turn { D.disk_tells → (h : History) → IsKept (D.disk disk.old) archive.now h →
-        Answers h (Show doc at) result (D.disk disk.old) (D.disk disk.new) archive.now page.new.bytes }
+/// Writes why a change was not made on the page, or halts the run.
+fn write_unchanged(page: &mut ReplyPage, error: ChangeError) -> Result<(), Halt>
+    ensures writes { Writes (changed (Err error)) result page.new.bytes }
+    ensures fault { IsErrOf result Halt.Disk → error ≡ ChangeError.Failed }
+    ensures live { OnOk result ((why : Refusal) × (error ≡ ChangeError.Refused why)) }
 {
-    let text = match archive.show(alloc, disk, doc, at) {
-        Ok(text) => text,
-        Err(error) => return decline(page, error),
-    };
+    match error {
+        ChangeError::Refused(why) => refuse(page, why),
+        ChangeError::Failed => Err(Halt::Disk),
+        ChangeError::Memory => Err(Halt::Memory),
+    }
+}
+
+/// Writes what a query found on the page, or halts the run.
+fn write_found(page: &mut ReplyPage, answer: Result<Answer, AskError>) -> Result<(), Halt>
+    ensures writes { Writes (found answer) result page.new.bytes }
+    ensures fault { IsErrOf result Halt.Disk → IsErrOf answer AskError.Failed }
+{
+    match answer {
+        Ok(answer) => match page.found(&answer.rows, answer.read) {
+            Ok(()) => Ok(()),
+            Err(_) => Err(Halt::Memory),
+        },
+        Err(error) => write_declined(page, error),
+    }
+}
+
+/// Writes the text of a version on the page, or that there is none, or halts the run.
+fn write_shown(page: &mut ReplyPage, text: Result<Option<Vec<u8>>, AskError>) -> Result<(), Halt>
+    ensures writes { Writes (shown (λ v. v.items) text) result page.new.bytes }
+    ensures fault { IsErrOf result Halt.Disk → IsErrOf text AskError.Failed }
+{
+    match text {
+        Ok(text) => write_text(page, text),
+        Err(error) => write_declined(page, error),
+    }
+}
+
+/// Writes a text on the page, or that there is none.
+fn write_text(page: &mut ReplyPage, text: Option<Vec<u8>>) -> Result<(), Halt>
+    ensures writes { Writes (shown (λ v. v.items) (Ok text)) result page.new.bytes }
+    ensures fault { IsErrOf result Halt.Disk → ⊥ }
+{
     let Some(text) = text else {
         page.none();
         return Ok(());
     };
     match page.shown(&text) {
         Ok(()) => Ok(()),
-        Err(_) => Err(Stop::Memory),
+        Err(_) => Err(Halt::Memory),
     }
 }
 
-/// Writes the reply to a question that is refused; any other error stops the run.
-fn decline(page: &mut ReplyPage, error: AskError) -> Result<(), Stop>
-    ensures { Declines error result page.new.bytes }
+/// Writes why a question was not answered on the page, or halts the run.
+fn write_declined(page: &mut ReplyPage, error: AskError) -> Result<(), Halt>
+    ensures writes { Writes (declined error) result page.new.bytes }
+    ensures fault { IsErrOf result Halt.Disk → error ≡ AskError.Failed }
 {
     match error {
-        AskError::Refused(why) => {
-            page.refused(why);
-            Ok(())
-        }
-        AskError::Failed => Err(Stop::Disk),
-        AskError::Memory => Err(Stop::Memory),
-    }
-}
-
-/// Writes the reply to a change that is refused; any other error stops the run.
-fn refuse(page: &mut ReplyPage, error: ChangeError) -> Result<(), Stop>
-    ensures { Refuses error result page.new.bytes }
-{
-    match error {
-        ChangeError::Refused(why) => {
-            page.refused(why);
-            Ok(())
-        }
-        ChangeError::Failed => Err(Stop::Disk),
-        ChangeError::Memory => Err(Stop::Memory),
+        AskError::Refused(why) => refuse(page, why),
+        AskError::Failed => Err(Halt::Disk),
+        AskError::Memory => Err(Halt::Memory),
     }
 }

@@ -1,10 +1,12 @@
 //! The program's run.
-ghost use Rattle.std.specs.Prelude.{◌≡◌, ◌⊎◌, ◌↔◌, ◌<◌, ◌≤◌, ◌^◌, [], ℕ, length};
+ghost use Rattle.std.specs.Prelude.{◌≡◌, ◌⊎◌, ◌↔◌, ◌<◌, ◌≤◌, ◌^◌, ℕ, List, length};
+ghost use Rattle.machine_model.specs.Calls.{Syncs};
 ghost use Rattle.machine_model.specs.Causes.{Rose};
+ghost use Rattle.machine_model.specs.Pulls.{Pull};
 ghost use Rattle.script_read.specs.Items.{IsScript};
 ghost use Rattle.archive_state.specs.Histories.{History};
 ghost use Rattle.archive_state.specs.Stands.{Stands, IsNotArchive};
-ghost use Rattle.archive_shell.specs.Headline.{Headline, EndsEarly};
+ghost use Rattle.archive_shell.specs.Headline.{Headline, MachineState};
 
 use crate::desk::Desk;
 use crate::serve::serve;
@@ -15,9 +17,9 @@ use std::alloc::Global;
 
 /// Runs the program on a machine: `words` are those of the command line without the program's name.
 ///
-/// There may be no word. Then the archive of the machine's disk is loaded, the commands of its
-/// source are carried out one after another, and each reply is shown whole before the next item is
-/// asked for. The first event that ends the run decides the status.
+/// There may be no word. Then the archive of the machine's disk is loaded, the items of its source
+/// are carried out one after another, and each reply is shown whole before more of the input is
+/// pulled. The first event that ends the run decides the status.
 ///
 /// Costs the length of the journal once, and for each command what its call of the archive costs.
 pub fn run<M: Machine>(alloc: Global, words: &[String], machine: &mut M) -> Status
@@ -28,17 +30,23 @@ pub fn run<M: Machine>(alloc: Global, words: &[String], machine: &mut M) -> Stat
     ensures disk_fault { result ≡ Status.Disk → Rose (M.disk machine.old).faults (M.disk machine.new).faults }
     ensures source_fault { result ≡ Status.Source → Rose (M.source machine.old).faults (M.source machine.new).faults }
     ensures sink_fault { result ≡ Status.Sink → Rose (M.sink machine.old).faults (M.sink machine.new).faults }
-    // The journal is refused exactly where it is no archive's, unless the disk failed or memory ran out first.
-    ensures not_archive { M.disk_tells → (at : ℕ) → result ≡ Status.NotArchive at → IsNotArchive (M.disk machine.old).holds.journal at }
-    ensures refused { M.disk_tells → length words.now ≡ 0 → (at : ℕ) → IsNotArchive (M.disk machine.old).holds.journal at →
-        (result ≡ Status.NotArchive at) ⊎ EndsEarly result }
-    // From the history that the journal stands for: one run of the abstract machine over the commands of the bytes pulled, what is shown
-    // of it, what each image left at any moment stands for, and where the input stood.
+    // The journal is refused exactly where the bytes are no archive's, unless the disk failed or memory ran out first.
+    ensures not_archive { M.disk_tells → (at : ℕ) → result ≡ Status.NotArchive at → IsNotArchive (M.disk machine.old).holds at }
+    ensures refused { M.disk_tells → length words.now ≡ 0 → (at : ℕ) → IsNotArchive (M.disk machine.old).holds at →
+        (result ≡ Status.NotArchive at) ⊎ ((result ≡ Status.Disk) ⊎ (result ≡ Status.Memory)) }
+    // Such bytes are left as they are: they are synced and read, and nothing is pulled, shown or written.
+    ensures left_alone { M.disk_tells → length words.now ≡ 0 → (at : ℕ) → IsNotArchive (M.disk machine.old).holds at →
+        (M.source machine.new ≡ M.source machine.old) × (M.sink machine.new ≡ M.sink machine.old)
+            × Syncs (M.disk machine.old) (M.disk machine.new) }
+    // From the history that the journal stands for: one run of the abstract machine over the items of the bytes pulled, what is shown of it
+    // and when, what each image left at any moment stands for, and where the input stood.
     ensures headline { M.source_tells → M.sink_tells → M.disk_tells → length words.now ≡ 0 → (h : History) → Stands h (M.disk machine.old).holds →
-        Headline h result (M.source machine.old) (M.source machine.new) (M.sink machine.old) (M.sink machine.new) (M.disk machine.old) (M.disk machine.new) }
+        (pulls : List Pull) × M.asked machine.old pulls machine.new
+            × Headline h result (record { source = M.source machine.old; sink = M.sink machine.old; disk = M.disk machine.old })
+            (record { source = M.source machine.new; sink = M.sink machine.new; disk = M.disk machine.new }) pulls }
     // Where nothing is wrong, the run comes to the end of the input, unless memory runs out.
     ensures complete { M.source_tells → M.sink_tells → M.disk_tells → length words.now ≡ 0 →
-        ((at : ℕ) → IsNotArchive (M.disk machine.old).holds.journal at → ⊥) →
+        ((at : ℕ) → IsNotArchive (M.disk machine.old).holds at → ⊥) →
         IsScript (M.source machine.old).left → length (M.source machine.old).left < 2 ^ 40 →
         (Rose (M.disk machine.old).faults (M.disk machine.new).faults → ⊥) →
         (Rose (M.source machine.old).faults (M.source machine.new).faults → ⊥) →

@@ -1,19 +1,21 @@
-//! Going over the commands of the input.
-ghost use Rattle.std.specs.Prelude.{◌≡◌, ◌<◌, ◌≤◌, ◌^◌, IsTrue, OnOk, IsErrOf, MatchResult, ℕ};
+//! Going over the items of the input.
+ghost use Rattle.std.specs.Prelude.{◌≡◌, ◌<◌, ◌≤◌, ◌^◌, ◌++◌, [], List, OnOk, IsErrOf, MatchResult, ℕ};
 ghost use Rattle.machine_model.specs.Causes.{Rose};
-ghost use Rattle.machine_model.specs.States.{SourceState, SinkState, DiskState};
+ghost use Rattle.machine_model.specs.Pulls.{Pull};
 ghost use Rattle.archive_state.specs.Histories.{History};
+ghost use Rattle.archive_shell.specs.Headline.{MachineState};
 ghost use Rattle.archive_shell.specs.Serving.{Serving, Serves};
+ghost use Rattle.archive_shell.specs.Turns.{CanGoOn};
 
 use crate::carry_out::carry_out;
 use crate::status::Status;
 use archive_core::Archive;
 use archive_replies::ReplyPage;
 use machine_model::Machine;
-use script_read::{Item, Reader};
+use script_read::Reader;
 use std::alloc::Global;
 
-/// Carries out the next command of the input and shows its reply, or says how the run ends.
+/// Carries out the next item of the input and shows its reply, or says how the run ends.
 pub(crate) fn step<M: Machine>(
     alloc: Global,
     machine: &mut M,
@@ -21,8 +23,7 @@ pub(crate) fn step<M: Machine>(
     archive: &mut Archive,
     page: &mut ReplyPage,
 ) -> Result<(), Status>
-    requires live { IsTrue archive.old.live }
-    requires within { archive.old.end ≤ (M.disk machine.old).reach.journal }
+    requires ready { CanGoOn archive.old (M.disk machine.old).reach }
     ensures source_later { (M.source machine.old).faults ≤ (M.source machine.new).faults }
     ensures sink_later { (M.sink machine.old).faults ≤ (M.sink machine.new).faults }
     ensures disk_later { (M.disk machine.old).faults ≤ (M.disk machine.new).faults }
@@ -31,30 +32,29 @@ pub(crate) fn step<M: Machine>(
     ensures disk_fault { IsErrOf result Status.Disk → Rose (M.disk machine.old).faults (M.disk machine.new).faults }
     ensures no_usage { IsErrOf result Status.Usage → ⊥ }
     ensures no_load { (at : ℕ) → IsErrOf result (Status.NotArchive at) → ⊥ }
-    ensures live { OnOk result (IsTrue archive.new.live) }
-    ensures within { OnOk result (archive.new.end ≤ (M.disk machine.new).reach.journal) }
+    ensures ready { OnOk result (CanGoOn archive.new (M.disk machine.new).reach) }
     ensures nearer { OnOk result (reader.old.passed < reader.new.passed) }
     ensures bound { reader.new.passed ≤ 2 ^ 40 }
-    ensures goes_on { M.source_tells → M.sink_tells → M.disk_tells → (h : History) (input : SourceState) (output : SinkState) (began : DiskState) →
-        Serving h input (M.source machine.old) output (M.sink machine.old) began (M.disk machine.old) archive.old reader.old →
-        MatchResult result
-        (λ _. Serving h input (M.source machine.new) output (M.sink machine.new) began (M.disk machine.new) archive.new reader.new)
-        (λ status. Serves h status input (M.source machine.new) output (M.sink machine.new) began (M.disk machine.new)) }
+    ensures goes_on { M.source_tells → M.sink_tells → M.disk_tells → (h : History) (began : MachineState) (before : List Pull) →
+        Serving h began (record { source = M.source machine.old; sink = M.sink machine.old; disk = M.disk machine.old }) archive.old reader.old before →
+        (pulls : List Pull) × M.asked machine.old pulls machine.new × MatchResult result
+        (λ _. Serving h began (record { source = M.source machine.new; sink = M.sink machine.new; disk = M.disk machine.new }) archive.new reader.new (before ++ pulls))
+        (λ status. Serves h status began (record { source = M.source machine.new; sink = M.sink machine.new; disk = M.disk machine.new }) (before ++ pulls)) }
 {
-    let item = match reader.next_command(alloc, machine) {
+    let item = match reader.next_item(alloc, machine) {
         Ok(item) => item,
         Err(error) => return Err(Status::from(error)),
     };
-    match item {
-        Item::Finished => Err(Status::Done),
-        Item::Command(command) => match carry_out(alloc, machine, archive, page, command) {
-            Ok(()) => Ok(()),
-            Err(stop) => Err(Status::from(stop)),
-        },
+    let Some(item) = item else {
+        return Err(Status::Done);
+    };
+    match carry_out(alloc, machine, archive, page, item) {
+        Ok(()) => Ok(()),
+        Err(stop) => Err(Status::from(stop)),
     }
 }
 
-/// Goes over the commands of the input, up to the event that ends the run.
+/// Goes over the items of the input, up to the event that ends the run.
 pub(crate) fn serve<M: Machine>(
     alloc: Global,
     machine: &mut M,
@@ -62,8 +62,7 @@ pub(crate) fn serve<M: Machine>(
     reader: &mut Reader,
     page: &mut ReplyPage,
 ) -> Status
-    requires live { IsTrue archive.old.live }
-    requires within { archive.old.end ≤ (M.disk machine.old).reach.journal }
+    requires ready { CanGoOn archive.old (M.disk machine.old).reach }
     ensures source_fault { result ≡ Status.Source → Rose (M.source machine.old).faults (M.source machine.new).faults }
     ensures sink_fault { result ≡ Status.Sink → Rose (M.sink machine.old).faults (M.sink machine.new).faults }
     ensures disk_fault { result ≡ Status.Disk → Rose (M.disk machine.old).faults (M.disk machine.new).faults }
@@ -71,10 +70,13 @@ pub(crate) fn serve<M: Machine>(
     ensures no_usage { result ≡ Status.Usage → ⊥ }
     ensures no_load { (at : ℕ) → result ≡ Status.NotArchive at → ⊥ }
     ensures served { M.source_tells → M.sink_tells → M.disk_tells → (h : History) →
-        Serving h (M.source machine.old) (M.source machine.old) (M.sink machine.old) (M.sink machine.old) (M.disk machine.old) (M.disk machine.old) archive.old reader.old →
-        Serves h result (M.source machine.old) (M.source machine.new) (M.sink machine.old) (M.sink machine.new) (M.disk machine.old) (M.disk machine.new) }
+        Serving h (record { source = M.source machine.old; sink = M.sink machine.old; disk = M.disk machine.old })
+            (record { source = M.source machine.old; sink = M.sink machine.old; disk = M.disk machine.old }) archive.old reader.old [] →
+        (pulls : List Pull) × M.asked machine.old pulls machine.new
+            × Serves h result (record { source = M.source machine.old; sink = M.sink machine.old; disk = M.disk machine.old })
+            (record { source = M.source machine.new; sink = M.sink machine.new; disk = M.disk machine.new }) pulls }
 {
-    'commands: loop {
+    'items: loop {
         match step(alloc, machine, reader, archive, page) {
             Ok(()) => {}
             Err(status) => return status,

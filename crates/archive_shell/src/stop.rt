@@ -1,7 +1,17 @@
 //! What stops a run before its input is gone over.
-use crate::status::Status;
+ghost use Rattle.std.specs.Prelude.{◌≡◌};
+ghost use Rattle.archive_shell.specs.Statuses.{stop_of_halt};
 
-/// An event that ends a run.
+/// An event that ends a run before the reply to an item is known.
+#[derive(Clone, Copy, Debug, PartialEq, Eq)]
+pub(crate) enum Halt {
+    /// A call of the disk failed.
+    Disk,
+    /// There was no memory.
+    Memory,
+}
+
+/// An event that ends a run before the reply to an item is shown whole.
 #[derive(Clone, Copy, Debug, PartialEq, Eq)]
 pub(crate) enum Stop {
     /// A call of the disk failed.
@@ -10,4 +20,15 @@ pub(crate) enum Stop {
     Sink,
     /// There was no memory.
     Memory,
+}
+
+impl From<Halt> for Stop {
+    ghost from_gives = { λ halt stop. stop ≡ stop_of_halt halt };
+
+    fn from(halt: Halt) -> Stop {
+        match halt {
+            Halt::Disk => Stop::Disk,
+            Halt::Memory => Stop::Memory,
+        }
+    }
 }

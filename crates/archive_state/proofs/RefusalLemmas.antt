@@ -9,6 +9,9 @@ use Rattle.time_base.specs.declared.ids.DocId.{DocId}
 use Rattle.time_base.specs.declared.time.Time.{Time}
 use Rattle.time_base.specs.declared.which.Which.TheVariants.{Journal}
 use Rattle.version_store.specs.Tests.{first_of, when}
+use Rattle.version_store.specs.declared.refusal.VersionRefusal.{VersionRefusal}
+use Rattle.std.specs.Option.{option_map}
+use Rattle.archive_state.specs.Refusals.{refusal_of}
 use Rattle.record_codec.specs.Spelling.{most_text}
 use Rattle.record_codec.specs.declared.entry.Entry.{Entry}
 use Rattle.record_codec.specs.declared.entry.Entry.TheVariants.{Arrive}
@@ -33,6 +36,11 @@ when_true test why holds = rw holds refl
 
 pub when_false : {W : Type 0} (test : Bool) (why : W) → test ≡ false → when test why ≡ None
 when_false test why fails = rw fails refl
+
+-- what the directory doesn't refuse
+pub not_refused : (o : Option VersionRefusal) → option_map refusal_of o ≡ None → o ≡ None
+not_refused None none = refl
+not_refused (Some why) none = absurd cc
 
 -- a text that is too long, bad, or neither
 pub too_long-yes : (text : List ℕ) → most_text < length text → too_long text ≡ Some (TooLong most_text)

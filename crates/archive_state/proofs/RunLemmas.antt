@@ -15,6 +15,13 @@ pub state_after_all : {S R : Type 0} (state : S) (turns : List (Turn R S)) → s
 state_after_all state [] = refl
 state_after_all state (turn ∷ turns) = state_after_all turn.next turns
 
+-- turns behind don't count
+pub state_after_front : {S R : Type 0} (state : S) (turns further : List (Turn R S)) (j : ℕ) → j ≤ length turns → state_after state (turns ++ further) j ≡ state_after state turns j
+state_after_front state [] further zero within = refl
+state_after_front state [] further (suc j) within = absurd (omega (arith, within))
+state_after_front state (turn ∷ turns) further zero within = refl
+state_after_front state (turn ∷ turns) further (suc j) within = state_after_front turn.next turns further j (omega (arith, within))
+
 -- runs in a row
 pub runs_join : {S C R : Type 0} (step : S → C → R → S → Type 0) (state : S) (commands more : List C) (turns further : List (Turn R S))
     → IsRun step state commands turns → IsRun step (last_state state turns) more further → IsRun step state (commands ++ more) (turns ++ further)

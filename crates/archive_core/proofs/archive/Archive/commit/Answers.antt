@@ -1,4 +1,5 @@
-use Rattle.std.proofs.Common.{◌+◌, true, ap, sym, subst, arith, rules}
+use Rattle.std.proofs.Common.{◌+◌, Err, true, ap, sym, subst, arith, rules}
+use Rattle.machine_model.specs.declared.area.Area.TheVariants.{Journal}
 use Rattle.archive_state.specs.Histories.{History}
 use Rattle.archive_core.specs.States.{ArchiveState, StandsFor}
 use Rattle.archive_core.specs.Adding.{IsMore}
@@ -35,3 +36,10 @@ invariant_of-self-in-Ok g c =
       omega (arith, c.self.invariant.1, c.in-Ok.ensures.end),
       stands_on c.args.self.now now c.args.change c.args.body.now c.requires.next (subst S c.self.view_is c.self.invariant.2) more,
     )
+
+pub returns-clause-within : goal.returns-clause-within
+returns-clause-within g c =
+    let spent = ap (λ s. s.end) (c.in-Err-Failed.ensures.spent (ap Err c.in-Err-Failed.field-0-is)) in
+    let view = ap (λ s. s.end) c.self.view_is in
+    let reach = g.met.D.Disk.only_reach c.args.disk.now c.append.new.disk Journal c.append.ensures.only in
+    omega (arith, spent, view, reach, c.requires.within)

@@ -1,4 +1,6 @@
-use Rattle.std.proofs.Common.{◌∙◌, List, inl, refl, subst, arith}
+use Rattle.std.proofs.Common.{◌∙◌, ◌<◌, List, inl, refl, sym, subst, arith}
+use Rattle.machine_model.specs.States.{DiskState}
+use Rattle.machine_model.specs.Calls.{Syncs, OnlyReads}
 use Rattle.std.proofs.lemmas.Result.{err_from_is_err_and}
 use Rattle.gate_journal.specs.declared.head.Head.{Head}
 use Rattle.gate_journal.specs.Spelled.{Spells}
@@ -22,14 +24,14 @@ returns-in_err-journal-clause-never g c = λ tells h each at is.
     let stands = each _ (g.met.D.Disk.holds_allowed c.args.disk.now tells) in
     let p = err_from_is_err_and c.from_residual.result c.from_residual.ensures.1 in
     let refused = c.load.ensures.not_journal tells at (journal_exit c.load.result c.from_residual.result c.in_err-journal.field-0.0 p.0 at c.in_err-journal.was p.1 p.2 is) in
-    spelled_is_archive (g.D.Disk.disk c.args.disk.now).holds.journal h at stands.spelled stands.legal (inl refused)
+    spelled_is_archive (g.D.Disk.disk c.args.disk.now).holds h at stands.spelled stands.legal (inl refused)
 
 pub returns-in_err-directory-clause-not_archive : goal.returns-in_err-directory-clause-not_archive
 returns-in_err-directory-clause-not_archive g c = λ tells at is.
     let found = c.in_ok-journal.ensures.found tells in
     let step = c.in_ok-journal.ensures.in_step tells found.bodies found.spelled in
     let p = err_from_is_err_and c.from_residual-in_err-directory.result c.from_residual-in_err-directory.ensures.1 in
-    bad_archive (g.D.Disk.disk c.args.disk.now).holds.journal found.bodies at found.spelled
+    bad_archive (g.D.Disk.disk c.args.disk.now).holds found.bodies at found.spelled
     (c.replay.ensures.bad tells found.bodies (c.deref.ensures.value ∙ found.laid_out.heads_are) step.2 at
     (exit_is c.replay.result c.from_residual-in_err-directory.result c.in_err-directory.field-0.0 p.0 _ c.in_err-directory.was p.1 p.2 is))
 
@@ -45,8 +47,8 @@ returns-in_err-directory-clause-never g c = λ tells h each at is.
     let found = c.in_ok-journal.ensures.found tells in
     let step = c.in_ok-journal.ensures.in_step tells found.bodies found.spelled in
     let p = err_from_is_err_and c.from_residual-in_err-directory.result c.from_residual-in_err-directory.ensures.1 in
-    spelled_is_archive (g.D.Disk.disk c.args.disk.now).holds.journal h at stands.spelled stands.legal
-    (bad_archive (g.D.Disk.disk c.args.disk.now).holds.journal found.bodies at found.spelled
+    spelled_is_archive (g.D.Disk.disk c.args.disk.now).holds h at stands.spelled stands.legal
+    (bad_archive (g.D.Disk.disk c.args.disk.now).holds found.bodies at found.spelled
     (c.replay.ensures.bad tells found.bodies (c.deref.ensures.value ∙ found.laid_out.heads_are) step.2 at
     (exit_is c.replay.result c.from_residual-in_err-directory.result c.in_err-directory.field-0.0 p.0 _ c.in_err-directory.was p.1 p.2 is)))
 
@@ -97,7 +99,7 @@ returns-clause-found g c = all_found g c
 pub returns-clause-exact : goal.returns-clause-exact
 returns-clause-exact g c = λ tells at refused.
     let all = all_found g c tells in
-    spelled_is_archive (g.D.Disk.disk c.args.disk.now).holds.journal all.0 at all.2 all.1.stands.legal refused
+    spelled_is_archive (g.D.Disk.disk c.args.disk.now).holds all.0 at all.2 all.1.stands.loadable refused
 
 pub returns-clause-crash : goal.returns-clause-crash
 returns-clause-crash g c = λ tells h each.
@@ -113,3 +115,16 @@ returns-clause-finds g c = λ tells h each.
 
 pub returns-clause-pages : goal.returns-clause-pages
 returns-clause-pages g c = λ tells. pages_reads (g.D.Disk.disk c.args.disk.now) (g.D.Disk.disk c.load.new.disk) (g.D.Disk.disk c.replay.new.disk) (c.load.ensures.pages tells) c.replay.ensures.same
+
+still_syncs : (a b c : DiskState) → Syncs a b → OnlyReads b c → Syncs a c
+still_syncs a b c s same =
+    let P : DiskState → Type 0 = λ d. Syncs a d in
+    subst P (sym same) (record { goes_on = (let g = s.goes_on in record { later = g.later; nothing_else = g.nothing_else; keeps = g.keeps }); holds = s.holds; beside = s.beside; during = s.during })
+
+pub returns-in_err-directory-clause-longer : goal.returns-in_err-directory-clause-longer
+returns-in_err-directory-clause-longer g c = λ tells long.
+    still_syncs (g.D.Disk.disk c.args.disk.now) (g.D.Disk.disk c.load.new.disk) (g.D.Disk.disk c.replay.new.disk) (c.load.ensures.longer tells long) c.replay.ensures.same
+
+pub returns-clause-longer : goal.returns-clause-longer
+returns-clause-longer g c = λ tells long.
+    still_syncs (g.D.Disk.disk c.args.disk.now) (g.D.Disk.disk c.load.new.disk) (g.D.Disk.disk c.replay.new.disk) (c.load.ensures.longer tells long) c.replay.ensures.same

@@ -1,0 +1,11 @@
+use Rattle.std.proofs.Common.{◌<◌, ◌^◌, rules}
+use Rattle.archive_core.proofs.PrepareLemmas.{delete_refused, deletion_prepared}
+use Rattle.archive_core.proofs.preparing.prepare_deletion.Goals as goal
+
+pub returns-in-Err-clause-prepared : goal.returns-in-Err-clause-prepared
+returns-in-Err-clause-prepared c = λ h placed. delete_refused c.args.directory.now.changes h c.args.doc c.args.at c.in-Err.why _ placed (search rules) (search rules)
+
+pub returns-clause-prepared : goal.returns-clause-prepared
+returns-clause-prepared c = λ h placed.
+    let fits : c.args.doc.0 < 2 ^ 32 = search rules in
+    deletion_prepared c.args.directory.now.changes h c.args.doc c.args.at c.in_ok-body.body.items placed fits (search rules) c.in_ok-body.ensures.spelled

@@ -1,0 +1,58 @@
+-- What a call of the archive does for an item of the input: a step of the abstract machine, and what it leaves.
+use Rattle.std.specs.Prelude.{◌≡◌, ℕ, List, Option, Result, Ok, Err}
+use Rattle.std.specs.Option.{option_map}
+use Rattle.machine_model.specs.States.{DiskState}
+use Rattle.commands.specs.declared.command.Item.{Item}
+use Rattle.query_eval.specs.declared.answer.Answer.{Answer}
+use Rattle.archive_state.specs.declared.refusal.Refusal.{Refusal}
+use Rattle.archive_state.specs.Histories.{History}
+use Rattle.archive_state.specs.Steps.{Reply, Accepted, Refused, Found, Shown, Step}
+use Rattle.archive_state.specs.Runs.{Turn}
+use Rattle.archive_state.specs.Stands.{EachStands}
+use Rattle.archive_core.specs.States.{ArchiveState, IsKept}
+use Rattle.archive_core.specs.Changing.{LeadsTo}
+use Rattle.archive_core.specs.declared.error.ChangeError.{ChangeError}
+use Rattle.archive_core.specs.declared.error.ChangeError.TheVariants as changes
+use Rattle.archive_core.specs.declared.error.AskError.{AskError}
+use Rattle.archive_core.specs.declared.error.AskError.TheVariants as asks
+
+-- how a call ends: by a reply, for want of memory, or by a fault of the disk
+pub data Ending : Type 0 where
+  Replied : Reply → Ending
+  Starved : Ending
+  Faulted : Ending
+
+-- how a change ends, and how questions do
+abbrev pub changed : Result ℕ ChangeError → Ending
+changed (Ok length) = Replied (Accepted length)
+changed (Err (changes.Refused why)) = Replied (Refused why)
+changed (Err changes.Failed) = Faulted
+changed (Err changes.Memory) = Starved
+
+abbrev pub declined : AskError → Ending
+declined (asks.Refused why) = Replied (Refused why)
+declined asks.Failed = Faulted
+declined asks.Memory = Starved
+
+abbrev pub found : Result Answer AskError → Ending
+found (Ok answer) = Replied (Found answer.rows.items answer.read)
+found (Err error) = declined error
+
+abbrev pub shown : {T : Type 0} → (T → List ℕ) → Result (Option T) AskError → Ending
+shown bytes (Ok text) = Replied (Shown (option_map bytes text))
+shown bytes (Err error) = declined error
+
+-- Where a reply was given it is that of the turn, and the archive stands for the history after the turn; where memory ran out, each image
+-- stands for the history before it.
+abbrev pub EndsBy : History → Turn Reply History → DiskState → ArchiveState → Ending → Type 0
+EndsBy before turn new archive_now (Replied reply) = (turn.reply ≡ reply) × IsKept new archive_now turn.next
+EndsBy before turn new archive_now Starved = EachStands new before
+EndsBy before turn new archive_now Faulted = Unit {0}
+
+-- The item has a turn of the abstract machine from this history. Each image left since the start of the call stands for the history before
+-- the turn or after it.
+pub record Takes (history : History) (item : Item) (ending : Ending) (old new : DiskState) (archive_now : ArchiveState) : Type 0 where
+  pub turn : Turn Reply History
+  pub step : Step history item turn.reply turn.next
+  pub leads : LeadsTo history turn.next old new
+  pub ends : EndsBy history turn new archive_now ending
