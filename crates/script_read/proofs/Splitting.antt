@@ -10,7 +10,7 @@ use Rattle.script_read.specs.declared.line.Meaning.TheVariants.{Skipped, Alone, 
 use Rattle.script_read.specs.declared.first.First.{First}
 use Rattle.script_read.specs.declared.first.First.TheVariants.{Whole, Broken, More, End}
 use Rattle.script_read.specs.Lines.{meaning}
-use Rattle.script_read.specs.Items.{without_cr, text_at, text_end, piece_of, last_piece, open_line, closed_line, first, Pieces, Items, IsNoPiece, Splits, IsBrokenAt, IsScript}
+use Rattle.script_read.specs.Items.{without_cr, text_at, short, text_end, piece_of, last_piece, open_line, closed_line, first, Pieces, Items, IsNoPiece, Splits, IsBrokenAt, IsScript}
 use Rattle.script_read.specs.Reading.{IsWithin}
 use Rattle.script_read.proofs.Cuts.{first_by-append, first_by-within}
 use Rattle.script_read.proofs.Joins.{items-append}
@@ -44,16 +44,18 @@ text_end-settled len used item (b ∷ c ∷ bs) = go (b == 10) ((b == 13) && (c 
     go false true = tt
     go false false = tt
 
+short-no-end : (e : Bool) (len : ℕ) → IsNoEnd (short e len)
+short-no-end true len = tt
+short-no-end false len = tt
+
 text_end-no-end : (e : Bool) (len used : ℕ) (item : Item) (bs : List ℕ) → IsNoEnd (text_end e len used item bs)
-text_end-no-end true len used item [] = tt
-text_end-no-end false len used item [] = tt
-text_end-no-end e len used item (b ∷ []) = go e (b == 10) (b == 13)
+text_end-no-end e len used item [] = short-no-end e len
+text_end-no-end e len used item (b ∷ []) = go (b == 10) (b == 13)
   where
-    go : (e p q : Bool) → IsNoEnd (if p then Whole (Some item) (used + 1) else (if q then (if e then Broken len else More) else Broken used))
-    go e true q = tt
-    go true false true = tt
-    go false false true = tt
-    go e false false = tt
+    go : (p q : Bool) → IsNoEnd (if p then Whole (Some item) (used + 1) else (if q then short e len else Broken used))
+    go true q = tt
+    go false true = short-no-end e len
+    go false false = tt
 text_end-no-end e len used item (b ∷ c ∷ bs) = go (b == 10) ((b == 13) && (c == 10))
   where
     go : (p q : Bool) → IsNoEnd (if p then Whole (Some item) (used + 1) else (if q then Whole (Some item) (used + 2) else Broken used))
@@ -70,16 +72,6 @@ piece_of-settled (Arrival doc at n) used bs = go (nat_lt (length bs) (used + n))
     go : (b : Bool) → IsSettled (if b then Broken (length bs) else text_end true (length bs) (used + n) (Command (Arrive doc at (text_at n (drop used bs)))) (drop (used + n) bs))
     go true = tt
     go false = text_end-settled (length bs) (used + n) (Command (Arrive doc at (text_at n (drop used bs)))) (drop (used + n) bs)
-
-piece_of-no-end : (m : Meaning) (used : ℕ) (bs : List ℕ) → IsNoEnd (piece_of false m used bs)
-piece_of-no-end Skipped used bs = tt
-piece_of-no-end (Alone item) used bs = tt
-piece_of-no-end Faulty used bs = tt
-piece_of-no-end (Arrival doc at n) used bs = go (nat_lt (length bs) (used + n))
-  where
-    go : (b : Bool) → IsNoEnd (if b then More else text_end false (length bs) (used + n) (Command (Arrive doc at (text_at n (drop used bs)))) (drop (used + n) bs))
-    go true = tt
-    go false = text_end-no-end false (length bs) (used + n) (Command (Arrive doc at (text_at n (drop used bs)))) (drop (used + n) bs)
 
 last_piece-settled : (m : Meaning) (n : ℕ) → IsSettled (last_piece m n)
 last_piece-settled Skipped n = tt
@@ -124,21 +116,20 @@ EndsWithNothing e bs (Broken n) = Unit {0}
 EndsWithNothing e bs More = Unit {0}
 
 no_end_here : (e : Bool) (bs : List ℕ) (f : First) → IsNoEnd f → EndsWithNothing e bs f
-no_end_here e bs (Whole p n) no = tt
-no_end_here e bs (Broken n) no = tt
-no_end_here e bs More no = tt
-no_end_here e bs End no = absurd no
+no_end_here e bs (Whole p n) none = tt
+no_end_here e bs (Broken n) none = tt
+no_end_here e bs More none = tt
+no_end_here e bs End none = absurd none
 
-piece_of-any-end : (e : Bool) (m : Meaning) (used : ℕ) (bs : List ℕ) → IsNoEnd (piece_of e m used bs)
-piece_of-any-end e Skipped used bs = tt
-piece_of-any-end e (Alone item) used bs = tt
-piece_of-any-end e Faulty used bs = tt
-piece_of-any-end e (Arrival doc at n) used bs = go e (nat_lt (length bs) (used + n))
+piece_of-no-end : (e : Bool) (m : Meaning) (used : ℕ) (bs : List ℕ) → IsNoEnd (piece_of e m used bs)
+piece_of-no-end e Skipped used bs = tt
+piece_of-no-end e (Alone item) used bs = tt
+piece_of-no-end e Faulty used bs = tt
+piece_of-no-end e (Arrival doc at n) used bs = go (nat_lt (length bs) (used + n))
   where
-    go : (e b : Bool) → IsNoEnd (if b then (if e then Broken (length bs) else More) else text_end e (length bs) (used + n) (Command (Arrive doc at (text_at n (drop used bs)))) (drop (used + n) bs))
-    go true true = tt
-    go false true = tt
-    go e false = text_end-no-end e (length bs) (used + n) (Command (Arrive doc at (text_at n (drop used bs)))) (drop (used + n) bs)
+    go : (b : Bool) → IsNoEnd (if b then short e (length bs) else text_end e (length bs) (used + n) (Command (Arrive doc at (text_at n (drop used bs)))) (drop (used + n) bs))
+    go true = short-no-end e (length bs)
+    go false = text_end-no-end e (length bs) (used + n) (Command (Arrive doc at (text_at n (drop used bs)))) (drop (used + n) bs)
 
 first-end : (e : Bool) (bs : List ℕ) → EndsWithNothing e bs (first e bs)
 first-end e bs = go (nat_lt n (length bs))
@@ -148,7 +139,7 @@ first-end e bs = go (nat_lt n (length bs))
 
     closed : (b : Bool) → EndsWithNothing e bs (if b then Broken 0 else piece_of e (meaning (without_cr (take n bs))) (n + 1) bs)
     closed true = tt
-    closed false = no_end_here e bs (piece_of e (meaning (without_cr (take n bs))) (n + 1) bs) (piece_of-any-end e (meaning (without_cr (take n bs))) (n + 1) bs)
+    closed false = no_end_here e bs (piece_of e (meaning (without_cr (take n bs))) (n + 1) bs) (piece_of-no-end e (meaning (without_cr (take n bs))) (n + 1) bs)
 
     unended : (e : Bool) (bs : List ℕ) → EndsWithNothing e bs (open_line meaning e bs)
     unended false bs = go (nat_lt 4096 (length (without_cr bs)))
