@@ -1,6 +1,12 @@
 pub mod NumberLemmas
+pub mod WordLemmas
+pub mod ValueLemmas
+pub mod Calendar
+pub mod Ranges
+pub mod Cuts
 pub mod LineLemmas
-pub mod ItemLemmas
-pub mod ReadingLemmas
-pub mod TextLemmas
-pub mod RangeLemmas
+pub mod PassedOver
+pub mod LongTexts
+pub mod Joins
+pub mod HeldLemmas
+pub mod CallLemmas

@@ -1,4 +1,7 @@
+pub mod Words
 pub mod Numbers
+pub mod Dates
+pub mod Values
 pub mod Lines
 pub mod Items
 pub mod Reading

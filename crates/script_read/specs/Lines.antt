@@ -1,71 +1,139 @@
 -- What the lines of a script say.
-use Rattle.std.specs.Prelude.{ℕ, ◌^◌, ◌-◌, Bool, ◌&&◌, ◌==◌, not, nat_lt, slice_index, length, if◌then◌else◌, List, Option, Some, None, option_map, option_and_then, codes, bytes_eq}
-use Rattle.std.specs.Int.{is_in_range}
-use Rattle.std.specs.List.{before_first, after_first, list_all}
+use Rattle.std.specs.Prelude.{ℕ, ◌^◌, Bool, true, false, ◌&&◌, ◌||◌, ◌==◌, not, slice_index, if◌then◌else◌, List, Option, Some, None, option_map, codes, bytes_eq}
 use Rattle.time_base.specs.declared.ids.DocId.{DocId}
 use Rattle.time_base.specs.declared.time.Time.{Time}
-use Rattle.time_base.specs.Times.{time_of}
+use Rattle.time_base.specs.declared.time.Span.{Span}
+use Rattle.commands.specs.declared.command.Command.{Command}
+use Rattle.commands.specs.declared.command.Command.TheVariants.{Delete, Plan, Propose, Find, Between, Show, Certificate, Verify}
+use Rattle.commands.specs.declared.command.Kind.{Kind}
+use Rattle.commands.specs.declared.command.Kind.TheVariants.{Guarantee, Uniform, Since}
+use Rattle.commands.specs.declared.command.Item.TheVariants as item
+use Rattle.script_read.specs.Words.{word, after_word, is_blank, phrase}
 use Rattle.script_read.specs.Numbers.{number}
+use Rattle.script_read.specs.Values.{or_else, both, all_three, only_if, joined, document, time, text, fraction, span_of}
 use Rattle.script_read.specs.declared.line.Meaning.{Meaning}
-use Rattle.script_read.specs.declared.line.Meaning.TheVariants.{Arrival, Deletion, Finding, Showing, Faulty}
+use Rattle.script_read.specs.declared.line.Meaning.TheVariants.{Skipped, Alone, Arrival, Faulty}
 
--- The first word of a line: the bytes before its first space.
-abbrev pub word : List ℕ → List ℕ
-word line = before_first (λ b. b == 32) line
+-- Each of these is of the words behind the command's name.
 
--- What stands behind the first word of a line and the one space after it.
-abbrev pub after_word : List ℕ → List ℕ
-after_word line = after_first (λ b. b == 32) line
+-- A document and a time, and nothing else.
+abbrev pub version : List ℕ → Option (DocId × Time)
+version words =
+    let more = after_word words in
+    only_if (is_blank (after_word more)) (both (λ doc at. (doc, at)) (document (word words)) (time (word more)))
 
--- The document that a word names: a number below 2^32.
-abbrev pub document : List ℕ → Option DocId
-document word = option_map (λ n. let doc : DocId = record { 0 = n } in doc) (number (2 ^ 32) word)
+-- `delete` DOCUMENT TIME
+abbrev pub deletion : List ℕ → Option Command
+deletion words = option_map (λ v. Delete v.0 v.1) (version words)
 
--- The time that a word names: a number of seconds below 2^40.
-abbrev pub time : List ℕ → Option Time
-time word = option_and_then time_of (number (2 ^ 40) word)
+-- `uniform`, or `since` TIME
+abbrev pub weighting : List ℕ → Option Kind
+weighting words =
+    let more = after_word words in
+    if bytes_eq (word words) (codes "uniform") then only_if (is_blank more) (Some Uniform)
+    else (if bytes_eq (word words) (codes "since") then only_if (is_blank (after_word more)) (option_map (λ at. Since at) (time (word more)))
+    else None)
 
--- The length that a word gives a text: a number of bytes, at most 4,194,304.
-abbrev pub size : List ℕ → Option ℕ
-size word = number 4194305 word
+-- the words behind a plan's fraction, by the word before it: none behind `guarantee`, a weighting behind `space`
+abbrev pub kind : List ℕ → List ℕ → Option Kind
+kind how words =
+    if bytes_eq how (codes "guarantee") then only_if (is_blank words) (Some Guarantee)
+    else (if bytes_eq how (codes "space") then weighting words
+    else None)
 
--- An arrival has a document, a time and a length.
-abbrev pub arrival : Option DocId → Option Time → Option ℕ → Meaning
-arrival (Some doc) (Some at) (Some n) = Arrival doc at n
-arrival (Some doc) (Some at) None = Faulty
-arrival (Some doc) None length = Faulty
-arrival None at length = Faulty
+-- `plan` WORD `guarantee` FRACTION; `plan` WORD `space` FRACTION `uniform`; `plan` WORD `space` FRACTION `since` TIME
+abbrev pub planning : List ℕ → Option Command
+planning words =
+    let how = after_word words in
+    let bound = after_word how in
+    all_three (λ w k f. Plan w k f) (text (word words)) (kind (word how) (after_word bound)) (fraction (word bound))
 
--- A deletion has a document and a time.
-abbrev pub deletion : Option DocId → Option Time → Meaning
-deletion (Some doc) (Some at) = Deletion doc at
-deletion (Some doc) None = Faulty
-deletion None at = Faulty
+-- `propose` WORD `guarantee` FRACTION
+abbrev pub proposing : List ℕ → Option Command
+proposing words =
+    let how = after_word words in
+    let bound = after_word how in
+    only_if (bytes_eq (word how) (codes "guarantee") && is_blank (after_word bound)) (both (λ w f. Propose w f) (text (word words)) (fraction (word bound)))
 
--- A byte of ASCII that has a visible form, or a space.
-abbrev pub is_printable : ℕ → Bool
-is_printable byte = is_in_range 32 126 byte
+-- `find` TIME EXPR
+abbrev pub finding : List ℕ → Option Command
+finding words =
+    let more = after_word words in
+    only_if (not (is_blank more)) (both (λ at expr. Find at expr) (time (word words)) (text (phrase more)))
 
--- What may be asked: one or more printable bytes, of which neither the first nor the last is a space.
-abbrev pub is_expression : List ℕ → Bool
-is_expression text = list_all is_printable text && (nat_lt 0 (length text) && (not (slice_index text 0 == 32) && not (slice_index text (length text - 1) == 32)))
+-- the span between the times of two words
+abbrev pub window : List ℕ → List ℕ → Option Span
+window from to = joined (both span_of (time from) (time to))
 
--- A search has a time and an expression.
-abbrev pub finding : Option Time → List ℕ → Meaning
-finding (Some at) text = if is_expression text then Finding at text else Faulty
-finding None text = Faulty
+-- `between` TIME TIME EXPR, the first time below the second
+abbrev pub spanning : List ℕ → Option Command
+spanning words =
+    let second = after_word words in
+    let more = after_word second in
+    only_if (not (is_blank more)) (both (λ span expr. Between span expr) (window (word words) (word second)) (text (phrase more)))
 
--- A look at a version has a document and a time.
-abbrev pub showing : Option DocId → Option Time → Meaning
-showing (Some doc) (Some at) = Showing doc at
-showing (Some doc) None = Faulty
-showing None at = Faulty
+-- `show` DOCUMENT TIME
+abbrev pub showing : List ℕ → Option Command
+showing words = option_map (λ v. Show v.0 v.1) (version words)
 
--- A line is `arrive`, a document, a time and a length, or `delete`, a document and a time, or `find`, a time and an expression, or `show`,
--- a document and a time, with one space between two of them; or it says nothing.
-abbrev pub meaning : List ℕ → Meaning
-meaning line = if bytes_eq (word line) (codes "arrive") then arrival (document (word (after_word line)))
-    (time (word (after_word (after_word line)))) (size (after_word (after_word (after_word line))))
-    else (if bytes_eq (word line) (codes "delete") then deletion (document (word (after_word line))) (time (after_word (after_word line)))
-    else (if bytes_eq (word line) (codes "find") then finding (time (word (after_word line))) (after_word (after_word line))
-    else (if bytes_eq (word line) (codes "show") then showing (document (word (after_word line))) (time (after_word (after_word line))) else Faulty)))
+-- `certificate` WORD
+abbrev pub certifying : List ℕ → Option Command
+certifying words = only_if (not (is_blank words) && is_blank (after_word words)) (option_map (λ w. Certificate w) (text (word words)))
+
+-- `verify`
+abbrev pub verifying : List ℕ → Option Command
+verifying words = only_if (is_blank words) (Some Verify)
+
+-- The commands but arrivals by their names, with the words behind the name; in groups.
+abbrev pub change : List ℕ → List ℕ → Option Command
+change name words =
+    if bytes_eq name (codes "delete") then deletion words
+    else (if bytes_eq name (codes "plan") then planning words
+    else None)
+
+abbrev pub question : List ℕ → List ℕ → Option Command
+question name words =
+    if bytes_eq name (codes "find") then finding words
+    else (if bytes_eq name (codes "between") then spanning words
+    else (if bytes_eq name (codes "show") then showing words
+    else None))
+
+abbrev pub report : List ℕ → List ℕ → Option Command
+report name words =
+    if bytes_eq name (codes "propose") then proposing words
+    else (if bytes_eq name (codes "certificate") then certifying words
+    else (if bytes_eq name (codes "verify") then verifying words
+    else None))
+
+abbrev pub command : List ℕ → List ℕ → Option Command
+command name words = or_else (change name words) (or_else (question name words) (report name words))
+
+-- An arrival has a document, a time and a number of bytes below 2^40, and nothing else.
+abbrev pub arrival_by : Option DocId → Option Time → Option ℕ → Bool → Meaning
+arrival_by (Some doc) (Some at) (Some n) true = Arrival doc at n
+arrival_by (Some doc) (Some at) (Some n) false = Faulty
+arrival_by (Some doc) (Some at) None b = Faulty
+arrival_by (Some doc) None n b = Faulty
+arrival_by None at n b = Faulty
+
+abbrev pub arrival : List ℕ → Meaning
+arrival words =
+    let more = after_word words in
+    let last = after_word more in
+    arrival_by (document (word words)) (time (word more)) (number (2 ^ 40) (word last)) (is_blank (after_word last))
+
+-- A line that is no command is answered too.
+abbrev pub alone : Option Command → Meaning
+alone (Some c) = Alone (item.Command c)
+alone None = Alone item.Line
+
+-- A line without a word, and one that begins with #, is skipped.
+abbrev pub is_skipped : List ℕ → Bool
+is_skipped line = is_blank line || (slice_index line 0 == 35)
+
+-- What a line says, without its end.
+unfoldable pub meaning : List ℕ → Meaning
+meaning line =
+    if is_skipped line then Skipped
+    else (if bytes_eq (word line) (codes "arrive") then arrival (after_word line)
+    else alone (command (word line) (after_word line)))

@@ -1,73 +1,133 @@
--- What a reader holds, and what its answers say.
-use Rattle.std.specs.Prelude.{◌≡◌, ◌≢◌, ℕ, ◌+◌, ◌-◌, ◌<◌, ◌≤◌, ◌^◌, Bool, true, false, if◌then◌else◌, List, [], ◌++◌, length, drop, Result, Ok, Err}
-use Rattle.script_read.specs.Items.{first, Items, Splits, IsBrokenAt}
-use Rattle.script_read.specs.declared.command.Command.{Command}
+-- What a reader holds, what its answers say, and what a run of calls reads.
+use Rattle.std.specs.Prelude.{◌≡◌, ℕ, ◌+◌, ◌-◌, ◌*◌, ◌<◌, ◌≤◌, ◌^◌, Bool, true, false, ◌==◌, nat_lt, if◌then◌else◌, List, [], ◌∷◌, ◌++◌, length, take, drop, Option, Some, None, Result, Ok, Err}
+use Rattle.std.specs.List.{position_or_len}
+use Rattle.commands.specs.declared.text.Text.TheVariants.{TooLong}
+use Rattle.commands.specs.declared.command.Command.TheVariants.{Arrive}
+use Rattle.commands.specs.declared.command.Item.{Item}
+use Rattle.commands.specs.declared.command.Item.TheVariants.{Command}
+use Rattle.script_read.specs.declared.line.Meaning.TheVariants.{Arrival}
 use Rattle.script_read.specs.declared.first.First.{First}
 use Rattle.script_read.specs.declared.first.First.TheVariants.{Whole, Broken, More, End}
-use Rattle.script_read.specs.declared.item.Item.{Item}
-use Rattle.script_read.specs.declared.item.Item.TheVariants as item
-use Rattle.script_read.specs.declared.item.ScriptError.{ScriptError}
-use Rattle.script_read.specs.declared.item.ScriptError.TheVariants as errors
+use Rattle.script_read.specs.declared.passing.Over.{Over}
+use Rattle.script_read.specs.declared.error.ScriptError.{ScriptError}
+use Rattle.script_read.specs.declared.error.ScriptError.TheVariants as errors
+use Rattle.script_read.specs.Lines.{meaning}
+use Rattle.script_read.specs.Items.{first, Items, Splits, IsBrokenAt, Waits, without_cr, short, text_end, most_text}
 
--- The bytes taken since the last item, how many came before them, and whether the end of the input was told.
+-- The bytes at hand, how many came before the item that they belong to, whether the end of the input was told, and a text above the limit
+-- that is being passed over: its line and the part of it that is gone belong to the item too.
 pub record Held : Type 0 where
   pub bytes : List ℕ
   pub passed : ℕ
   pub ended : Bool
+  pub over : Option Over
 
 -- A reader that has taken nothing.
 abbrev pub fresh : Held
-fresh = record { bytes = []; passed = 0; ended = false }
+fresh = record { bytes = []; passed = 0; ended = false; over = None }
+
+-- How many bytes of an item are gone.
+abbrev pub gone : Option Over → ℕ
+gone None = 0
+gone (Some over) = over.line + over.gone
+
+-- How many bytes a reader has taken.
+abbrev pub taken : Held → ℕ
+taken held = held.passed + gone held.over + length held.bytes
+
+-- These bytes are one line with its LF, which asks for such a text.
+pub record AsksFor (over : Over) (line : List ℕ) : Type 0 where
+  pub place : ℕ
+  pub one_line : position_or_len (λ b. b == 10) line ≡ place
+  pub takes : length line ≡ place + 1
+  pub length_is : over.line ≡ length line
+  pub short_line : length (without_cr (take place line)) ≤ 4096
+  pub says : meaning (without_cr (take place line)) ≡ Arrival over.doc over.at over.size
+  pub long : most_text < over.size
+  pub partly : over.gone ≤ over.size
+
+-- The bytes at hand and those gone are these since the last item: a line, a part of its text, and what is at hand.
+pub record StandsForLong (over : Over) (at_hand since : List ℕ) : Type 0 where
+  pub line : List ℕ
+  pub text : List ℕ
+  pub asks : AsksFor over line
+  pub are_gone : length text ≡ over.gone
+  pub joined : since ≡ line ++ (text ++ at_hand)
+
+abbrev pub StandsBy : Option Over → List ℕ → List ℕ → Type 0
+StandsBy None at_hand since = at_hand ≡ since
+StandsBy (Some over) at_hand since = StandsForLong over at_hand since
 
 -- What a reader holds stands for these bytes since the last item.
 abbrev pub StandsFor : Held → List ℕ → Type 0
-StandsFor held since = held.bytes ≡ since
+StandsFor held since = StandsBy held.over held.bytes since
 
--- Nothing is lost: the reader stands for these bytes, with as many before them as ever.
-pub record Keeps (passed : ℕ) (bytes : List ℕ) (new : Held) : Type 0 where
-  pub stands : StandsFor new bytes
-  pub as_before : new.passed ≡ passed
+-- The arrival of a text that is passed over.
+abbrev pub passed_item : Over → Item
+passed_item over = Command (Arrive over.doc over.at (TooLong over.size))
 
--- The first n of these bytes are the command, and the reader stands for the others.
-pub record Takes (passed : ℕ) (bytes : List ℕ) (c : Command) (n : ℕ) (new : Held) : Type 0 where
-  pub whole : first new.ended bytes ≡ Whole c n
-  pub some : 1 ≤ n
-  pub within : n ≤ length bytes
-  pub stands : StandsFor new (drop n bytes)
-  pub grown : new.passed ≡ passed + n
+-- What the bytes since the last item begin with, where such a text is passed over and these bytes are at hand.
+abbrev pub long_piece : Bool → Over → List ℕ → First
+long_piece ended over bytes =
+    if nat_lt (over.gone + length bytes) over.size then short ended (over.line + over.gone + length bytes)
+    else text_end ended (over.line + over.gone + length bytes) (over.line + over.size) (passed_item over) (drop (over.size - over.gone) bytes)
 
--- These bytes are broken, at this place of the input.
-pub record Breaks (passed : ℕ) (bytes : List ℕ) (at : ℕ) (new : Held) : Type 0 where
-  pub within : ℕ
-  pub broken : first new.ended bytes ≡ Broken within
-  pub place : at ≡ passed + within
-  pub keeps : Keeps passed bytes new
+-- What the bytes since the last item begin with, by what is held.
+abbrev pub found_by : Bool → Option Over → List ℕ → First
+found_by ended None bytes = first ended bytes
+found_by ended (Some over) bytes = long_piece ended over bytes
 
--- In these bytes no item is whole yet, and nothing is wrong so far.
-pub record Lacks (passed : ℕ) (bytes : List ℕ) (new : Held) : Type 0 where
-  pub more : first new.ended bytes ≡ More
-  pub goes_on : new.ended ≡ false
-  pub keeps : Keeps passed bytes new
+abbrev pub found : Held → First
+found held = found_by held.ended held.over held.bytes
 
--- What an answer says of the bytes since the last item, those pulled in the call among them, and of the reader then.
-abbrev pub Says : ℕ → List ℕ → Result Item ScriptError → Held → Type 0
-Says passed bytes (Ok (item.Command c)) new = (n : ℕ) × Takes passed bytes c n new
-Says passed bytes (Ok item.Finished) new = (first true bytes ≡ End) × (new.ended ≡ true) × Keeps passed bytes new
-Says passed bytes (Err (errors.Broken at)) new = Breaks passed bytes at new
-Says passed bytes (Err errors.Budget) new = Lacks passed bytes new × (passed + length bytes ≡ 2 ^ 40)
-Says passed bytes (Err errors.Failed) new = Lacks passed bytes new × (passed + length bytes < 2 ^ 40)
-Says passed bytes (Err errors.Memory) new = Keeps passed bytes new
+-- Such a text has a number of bytes that a line may name, of which no more are gone, behind a line within the limit and its end.
+abbrev pub IsSmall : Option Over → Type 0
+IsSmall None = Unit {0}
+IsSmall (Some over) = (over.gone ≤ over.size) × (over.size < 2 ^ 40) × (over.line ≤ 4098)
 
--- An item takes one to all of so many bytes, and what is wrong stands within them.
-abbrev pub IsWithin : ℕ → First → Type 0
-IsWithin len (Whole c n) = (1 ≤ n) × (n ≤ len)
-IsWithin len (Broken n) = n ≤ len
-IsWithin len More = Unit {0}
-IsWithin len End = Unit {0}
+-- The item that an answer gives out, as a list.
+abbrev pub given : Result (Option Item) ScriptError → List Item
+given (Ok (Some item)) = item ∷ []
+given (Ok None) = []
+given (Err e) = []
 
--- How often a reader may still pull: once for each byte below the most, and once for the end.
+-- What the bytes behind it begin with, so many of which were taken, where the answer is no item.
+abbrev pub Finds : Result (Option Item) ScriptError → ℕ → ℕ → First → Type 0
+Finds (Ok (Some item)) passed len found = Unit {0}
+Finds (Ok None) passed len found = found ≡ End
+Finds (Err (errors.Broken at)) passed len found = (n : ℕ) × (found ≡ Broken n) × (at ≡ passed + n)
+Finds (Err errors.Budget) passed len found = (found ≡ More) × (passed + len ≡ 2 ^ 40)
+Finds (Err errors.Failed) passed len found = (found ≡ More) × (passed + len < 2 ^ 40)
+Finds (Err errors.Memory) passed len found = Unit {0}
+
+-- What an answer says of the bytes since the last item, those pulled in the call among them, with so many before them: lines that are
+-- skipped and the item that is given out, if one is, and then the rest, for which the reader stands from now on.
+pub record Says (passed : ℕ) (bytes : List ℕ) (result : Result (Option Item) ScriptError) (new : Held) : Type 0 where
+  pub rest : List ℕ
+  pub items : Items new.ended bytes (given result) rest
+  pub stands : StandsFor new rest
+  pub place : new.passed + length rest ≡ passed + length bytes
+  pub finds : Finds result new.passed (length rest) (first new.ended rest)
+
+-- Where an item, a fault or the end stood in the bytes since the last item, a call pulled nothing and learned nothing.
+abbrev pub IsCalm : List ℕ → Held → List ℕ → Held → Type 0
+IsCalm since old pulled new = ¬ (Waits old.ended since) → (pulled ≡ []) × (new.ended ≡ old.ended)
+
+-- A pull with this left of what was left as the call began: what was given by then, behind the bytes since the last item, has no item, no
+-- fault and no end in it.
+abbrev pub IsAwaited : List ℕ → List ℕ → List ℕ → Type 0
+IsAwaited since all left = (pulled : List ℕ) × (all ≡ pulled ++ left) × Waits false (since ++ pulled)
+
+-- An item takes more bytes than are gone of it, and no more than are gone and at hand, and what is wrong stands within those.
+abbrev pub IsWithin : ℕ → ℕ → First → Type 0
+IsWithin least most (Whole p n) = (least < n) × (n ≤ most)
+IsWithin least most (Broken n) = n ≤ most
+IsWithin least most More = Unit {0}
+IsWithin least most End = Unit {0}
+
+-- How often a reader may still pull or skip a line, at most: a byte that is pulled may be let go, and the end is told once.
 abbrev pub turns : Held → ℕ
-turns held = (2 ^ 40 - (held.passed + length held.bytes)) + (if held.ended then 0 else 1)
+turns held = 2 * (2 ^ 40 - taken held) + length held.bytes + (if held.ended then 0 else 1)
 
 -- Why a block may be missing.
 abbrev pub IsMissing : ScriptError → Type 0
@@ -83,25 +143,21 @@ IsPullError errors.Memory = Unit {0}
 IsPullError errors.Budget = Unit {0}
 IsPullError (errors.Broken at) = ⊥
 
--- Where an item, a fault or the end stood in the bytes since the last item, a call pulled nothing and learned nothing.
-abbrev pub IsCalm : List ℕ → Held → List ℕ → Held → Type 0
-IsCalm since old pulled new = first old.ended since ≢ More → (pulled ≡ []) × (new.ended ≡ old.ended)
-
 -- These bytes, with this word on their end, may come behind those pulled so far: nothing once the end was told.
 abbrev pub MayFollow : Bool → Bool → List ℕ → Type 0
 MayFollow false ended more = Unit {0}
 MayFollow true ended more = (ended ≡ true) × (more ≡ [])
 
 -- A run of calls so far: whatever comes behind the bytes pulled, they are these items and then what is held.
-pub record Reads (pulled : List ℕ) (items : List Command) (since : List ℕ) (held : Held) : Type 0 where
+pub record Reads (pulled : List ℕ) (items : List Item) (since : List ℕ) (held : Held) : Type 0 where
   pub stands : StandsFor held since
   pub split : (ended : Bool) (more : List ℕ) → MayFollow held.ended ended more → Items ended (pulled ++ more) items (since ++ more)
   pub before : held.passed + length since ≡ length pulled
 
--- What the last answer of a run says of all bytes pulled and of the items given out before it.
-abbrev pub EndsWith : Result Item ScriptError → Bool → List ℕ → List Command → List ℕ → Type 0
-EndsWith (Ok (item.Command c)) ended bytes items rest = Unit {0}
-EndsWith (Ok item.Finished) ended bytes items rest = (ended ≡ true) × Items true bytes items []
+-- What the last answer of a run says of all bytes pulled and of the items given out.
+abbrev pub EndsWith : Result (Option Item) ScriptError → Bool → List ℕ → List Item → List ℕ → Type 0
+EndsWith (Ok (Some item)) ended bytes items rest = Unit {0}
+EndsWith (Ok None) ended bytes items rest = (ended ≡ true) × Items true bytes items []
 EndsWith (Err (errors.Broken at)) ended bytes items rest = Splits ended bytes items rest × IsBrokenAt ended bytes at
 EndsWith (Err errors.Budget) ended bytes items rest = Splits ended bytes items rest × (first ended rest ≡ More) × (length bytes ≡ 2 ^ 40)
 EndsWith (Err errors.Failed) ended bytes items rest = Splits ended bytes items rest × (first ended rest ≡ More)

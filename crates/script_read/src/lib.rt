@@ -1,31 +1,27 @@
-//! The commands of a script, read from a source that gives its bytes in any pieces.
+//! The items of a script, read from a source that gives its bytes in any pieces.
 //!
-//! A script is a list of items, each taken off the front of the bytes (`specs/Items.antt`). An
-//! item is a line `arrive DOCUMENT TIME BYTES` and then the text, of so many bytes below 128, and
-//! an LF; or it is a line `delete DOCUMENT TIME`, `find TIME EXPRESSION` or `show DOCUMENT TIME`.
-//! Contracts see a command as a plain value, a text and an expression as their bytes, and a reader
-//! as the bytes since the last item, how many came before them, and whether the end of the input
-//! was told.
+//! A script is a list of pieces, each taken off the front of the bytes (`specs/Items.antt`): a line
+//! by itself, or the line of an arrival with the text and the line end behind it. A piece is an item,
+//! which is a command or a line that is none, or a line that is skipped. What a line says is a
+//! definition of its own (`specs/Lines.antt`), on which the cutting of pieces does not rest.
 //!
-//! To the layer above it promises the items of the bytes pulled, however the source cuts them, and
-//! that it says of a script that is broken exactly where.
+//! To the layer above it promises the items of the bytes pulled, however the source cuts them, that
+//! it says of a script that is broken exactly where, and that nothing is pulled while an item waits.
 #![tactic(auto)]
 
-mod command;
-mod expression;
+mod asking;
+mod changing;
+mod dates;
+mod error;
 mod first;
-mod item;
 mod laws;
 mod line;
-mod number;
+mod passing;
 mod reader;
-#[cfg(test)]
-mod tests;
-mod text;
+mod values;
+mod words;
 
-pub use command::Command;
-pub use expression::Expression;
-pub use item::{Item, ScriptError};
+pub use commands::{Command, Content, Item, Kind, Phrase, Text};
+pub use error::ScriptError;
 pub use laws::items_have_documents_in_range;
 pub use reader::{BLOCK_BYTES, MOST_INPUT_BYTES, Reader};
-pub use text::Text;

@@ -1,11 +1,13 @@
 //! The reader of a script.
-ghost use Rattle.std.specs.Prelude.{◌≡◌, ◌≢◌, ◌≤◌, ◌+◌, ◌<◌, ◌^◌, ◌++◌, List, [], ℕ, true, false, length, vec_len, vec_capacity, drop, IfOk, IfErr, OnOk, OnErr, IsErrOf};
+ghost use Rattle.std.specs.Prelude.{◌≡◌, ◌≤◌, ◌+◌, ◌-◌, ◌<◌, ◌^◌, ◌++◌, List, [], ℕ, true, false, length, vec_len, vec_capacity, drop, All, None, Some, IfOk, IfErr, OnOk, OnErr, IsErrOf};
 ghost use Rattle.machine_model.specs.Causes.{Rose};
-ghost use Rattle.script_read.specs.Items.{first};
-ghost use Rattle.script_read.specs.Reading.{Held, fresh, StandsFor, Says, IsCalm, IsWithin, IsPullError, IsMissing, turns};
+ghost use Rattle.script_read.specs.Items.{first, Waits};
+ghost use Rattle.script_read.specs.Reading.{Held, fresh, gone, taken, found, StandsFor, Says, IsCalm, IsAwaited, IsSmall, IsWithin, IsPullError, IsMissing, turns};
 
-use crate::first::{First, first_of, last_of};
-use crate::item::{Item, ScriptError};
+use crate::error::ScriptError;
+use crate::first::{First, first_of};
+use crate::passing::{Over, long_piece, long_text};
+use commands::Item;
 use machine_model::Source;
 use std::alloc::{AllocError, Global};
 use std::marker::Model;
@@ -16,29 +18,31 @@ pub const MOST_INPUT_BYTES: u64 = 1 << 40;
 /// The most bytes of one pull.
 pub const BLOCK_BYTES: usize = 1 << 16;
 
-/// A reader of the items of a script. Holds no more than one item and a block, about 4.3 MB, and up
-/// to twice that in memory.
+/// A reader of the items of a script. Holds no more than one item within the limits and a block,
+/// about 4.3 MB, and up to twice that in memory.
 #[derive(Drop)]
 pub struct Reader {
-    /// The bytes taken and not let go; those before `start` belong to items that were given out.
+    /// The bytes taken and not let go; those before `start` are of no more use.
     buffer: Vec<u8>,
     start: usize,
-    /// How many bytes came before `start`, in the whole input.
+    /// How many bytes came before the item whose bytes are at hand, in the whole input.
     passed: u64,
     ended: bool,
+    /// A text above the limit that is being passed over; its line is no more at hand.
+    over: Option<Over>,
     /// The room for one pull.
     block: Vec<u8>,
 }
 
 impl Model for Reader {
     ghost use Rattle.std.specs.Prelude.{◌≡◌, ◌≤◌, ◌+◌, ◌^◌, drop, length};
-    ghost use Rattle.script_read.specs.Reading.{Held};
+    ghost use Rattle.script_read.specs.Reading.{Held, IsSmall, gone};
 
     ghost Value = { Held };
 
-    ghost view = { λ r. record { bytes = drop r.start r.buffer.items; passed = r.passed; ended = r.ended } };
+    ghost view = { λ r. record { bytes = drop r.start r.buffer.items; passed = r.passed; ended = r.ended; over = r.over } };
 
-    ghost invariant = { λ r. (r.start ≤ length r.buffer.items) × (r.passed + length (drop r.start r.buffer.items) ≤ 2 ^ 40) × (length r.block.items ≡ 65536) };
+    ghost invariant = { λ r. (r.start ≤ length r.buffer.items) × (r.passed + gone r.over + length (drop r.start r.buffer.items) ≤ 2 ^ 40) × IsSmall r.over × (length r.block.items ≡ 65536) };
 }
 
 impl Reader {
@@ -52,23 +56,25 @@ impl Reader {
             start: 0,
             passed: 0,
             ended: false,
+            over: None,
             block,
         })
     }
 
-    /// The next item of the script, for which bytes are pulled only where none is whole, broken or
-    /// at the end in those taken so far.
+    /// The next item of the script, behind lines that are skipped; None where the input was read to
+    /// its end behind the last one. Bytes are pulled only where no item, no fault and no end is in
+    /// those taken so far.
     ///
     /// `Broken` says where the script stops being one. `Budget` says that `MOST_INPUT_BYTES` were
     /// taken and no item is whole in them; `Failed` that a pull failed; `Memory` that memory is
     /// short. No error loses a byte: after `Failed` and `Memory` the call may be made again.
     ///
     /// Costs the bytes pulled, the item's line and its text once, and for each pull the line again.
-    pub fn next_command<S: Source>(
+    pub fn next_item<S: Source>(
         &mut self,
         alloc: Global,
         source: &mut S,
-    ) -> Result<Item, ScriptError>
+    ) -> Result<Option<Item>, ScriptError>
         ensures only { S.only source.old source.new }
         ensures later { (S.source source.old).faults ≤ (S.source source.new).faults }
         ensures rose { IsErrOf result ScriptError.Failed → Rose (S.source source.old).faults (S.source source.new).faults }
@@ -78,49 +84,156 @@ impl Reader {
             × IsCalm since self.old pulled self.new
             × Says self.old.passed (since ++ pulled) result self.new) }
         // Nothing is pulled while an item, a fault or the end stands in the bytes taken before.
-        ensures calm { (since : List ℕ) → StandsFor self.old since → first self.old.ended since ≢ First.More → source.new ≡ source.old }
-        ensures bound { self.new.passed + length self.new.bytes ≤ 2 ^ 40 }
+        ensures calm { (since : List ℕ) → StandsFor self.old since → ¬ (Waits self.old.ended since) → source.new ≡ source.old }
+        // Nor is it while one stands in those taken within the call.
+        ensures awaited { (since : List ℕ) → StandsFor self.old since → ((lefts : List (List ℕ)) × S.pulled source.old lefts source.new
+            × (S.source_tells → All (IsAwaited since (S.source source.old).left) lefts)) }
+        ensures bound { taken self.new ≤ 2 ^ 40 }
         // The end, once told, is the source's.
         ensures end { S.source_tells → (self.old.ended ≡ true → (S.source source.old).left ≡ []) → self.new.ended ≡ true → (S.source source.new).left ≡ [] }
     {
         'turns: loop {
             match self.front(alloc)? {
-                First::Whole(command, n) => {
+                First::Whole(piece, n) => {
                     self.advance(n);
-                    return Ok(Item::Command(command));
+                    if piece.is_some() {
+                        return Ok(piece);
+                    }
                 }
                 First::Broken(n) => {
                     return Err(ScriptError::Broken {
                         at: self.passed + n as u64,
                     });
                 }
-                First::End => return Ok(Item::Finished),
+                First::End => return Ok(None),
                 First::More => self.pull(source)?,
             }
         }
     }
 
-    /// What the bytes since the last item begin with. Costs as `first_of`.
-    fn front(&self, alloc: Global) -> Result<First, AllocError>
-        ensures value { IfOk result (λ f. f ≡ first self.now.ended self.now.bytes) }
-        ensures within { IfOk result (λ f. IsWithin (length self.now.bytes) f) }
-        ensures bound { self.now.passed + length self.now.bytes ≤ 2 ^ 40 }
+    /// What the bytes since the last item begin with. Lets go what is at hand of a text that is
+    /// passed over, and the line of one that is from now on. Costs as `first_of`.
+    fn front(&mut self, alloc: Global) -> Result<First, AllocError>
+        ensures stands { (since : List ℕ) → StandsFor self.old since → StandsFor self.new since }
+        ensures value { IfOk result (λ f. f ≡ found self.new) }
+        ensures within { IfOk result (λ f. IsWithin (gone self.new.over) (gone self.new.over + length self.new.bytes) f) }
+        ensures passed { self.new.passed ≡ self.old.passed }
+        ensures ended { self.new.ended ≡ self.old.ended }
+        ensures taken { taken self.new ≡ taken self.old }
+        ensures shorter { length self.new.bytes ≤ length self.old.bytes }
+        ensures bound { taken self.new ≤ 2 ^ 40 }
     {
-        let since = &self.buffer[self.start..];
-        if self.ended {
-            last_of(alloc, since)
-        } else {
-            first_of(alloc, since)
+        match self.over {
+            Some(over) => Ok(self.front_of_text(over)),
+            None => self.front_of_line(alloc),
         }
     }
 
-    /// Lets the first bytes go. Constant cost.
-    fn advance(&mut self, n: usize)
-        requires { n ≤ length self.old.bytes }
-        ensures { self.new ≡ record { bytes = drop n self.old.bytes; passed = self.old.passed + n; ended = self.old.ended } }
+    /// The same, where a text is passed over. Constant cost.
+    fn front_of_text(&mut self, over: Over) -> First
+        requires { self.old.over ≡ Some over }
+        ensures stands { (since : List ℕ) → StandsFor self.old since → StandsFor self.new since }
+        ensures value { result ≡ found self.new }
+        ensures small { IsSmall self.new.over }
+        ensures passed { self.new.passed ≡ self.old.passed }
+        ensures ended { self.new.ended ≡ self.old.ended }
+        ensures taken { taken self.new ≡ taken self.old }
+        ensures shorter { length self.new.bytes ≤ length self.old.bytes }
     {
-        self.start += n;
+        let over = self.let_go(over);
+        long_piece(self.ended, over, self.at_hand())
+    }
+
+    /// Lets go what is at hand of a text that is passed over, and answers where it is now. Constant
+    /// cost.
+    fn let_go(&mut self, over: Over) -> Over
+        requires { self.old.over ≡ Some over }
+        ensures stands { (since : List ℕ) → StandsFor self.old since → StandsFor self.new since }
+        ensures over { self.new.over ≡ Some result }
+        ensures passed { self.new.passed ≡ self.old.passed }
+        ensures ended { self.new.ended ≡ self.old.ended }
+        ensures taken { taken self.new ≡ taken self.old }
+        ensures shorter { length self.new.bytes ≤ length self.old.bytes }
+    {
+        let n = (self.at_hand().len() as u64).min(over.size - over.gone);
+        let over = Over {
+            doc: over.doc,
+            at: over.at,
+            size: over.size,
+            line: over.line,
+            gone: over.gone + n,
+        };
+        self.start += n as usize;
+        self.over = Some(over);
+        over
+    }
+
+    /// The same as `front`, where no text is passed over yet.
+    fn front_of_line(&mut self, alloc: Global) -> Result<First, AllocError>
+        requires { self.old.over ≡ None }
+        ensures stands { (since : List ℕ) → StandsFor self.old since → StandsFor self.new since }
+        ensures value { IfOk result (λ f. f ≡ found self.new) }
+        ensures small { IsSmall self.new.over }
+        ensures passed { self.new.passed ≡ self.old.passed }
+        ensures ended { self.new.ended ≡ self.old.ended }
+        ensures taken { taken self.new ≡ taken self.old }
+        ensures shorter { length self.new.bytes ≤ length self.old.bytes }
+    {
+        match first_of(alloc, self.ended, self.at_hand())? {
+            First::More => {
+                self.begin_text(alloc)?;
+                Ok(First::More)
+            }
+            first => Ok(first),
+        }
+    }
+
+    /// Lets the first line go where it asks for a text above the limit, which is passed over from
+    /// then on. Costs the line.
+    fn begin_text(&mut self, alloc: Global) -> Result<(), AllocError>
+        requires { self.old.over ≡ None }
+        ensures stands { StandsFor self.new self.old.bytes }
+        ensures small { IsSmall self.new.over }
+        ensures passed { self.new.passed ≡ self.old.passed }
+        ensures ended { self.new.ended ≡ self.old.ended }
+        ensures taken { taken self.new ≡ taken self.old }
+        ensures shorter { length self.new.bytes ≤ length self.old.bytes }
+    {
+        let Some(over) = long_text(alloc, self.at_hand())? else {
+            return Ok(());
+        };
+        self.start += over.line as usize;
+        self.over = Some(over);
+        Ok(())
+    }
+
+    /// Lets the first bytes go, those that are gone among them. Constant cost.
+    fn advance(&mut self, n: usize)
+        requires some { gone self.old.over ≤ n }
+        requires within { n ≤ gone self.old.over + length self.old.bytes }
+        ensures { self.new ≡ record { bytes = drop (n - gone self.old.over) self.old.bytes; passed = self.old.passed + n; ended = self.old.ended; over = None } }
+    {
+        self.start += n - self.gone() as usize;
         self.passed += n as u64;
+        self.over = None;
+    }
+
+    /// The bytes at hand. Constant cost.
+    fn at_hand(&self) -> &[u8]
+        ensures value { result.now ≡ self.now.bytes }
+        ensures bound { length result.now ≤ 2 ^ 40 }
+    {
+        &self.buffer[self.start..]
+    }
+
+    /// How many bytes of the item at hand are gone. Constant cost.
+    fn gone(&self) -> u64
+        ensures { result ≡ gone self.now.over }
+    {
+        match self.over {
+            Some(over) => over.line + over.gone,
+            None => 0,
+        }
     }
 
     /// Takes the next block of the source, or its word that there is none. Costs the block, and the
@@ -128,19 +241,21 @@ impl Reader {
     fn pull<S: Source>(&mut self, source: &mut S) -> Result<(), ScriptError>
         requires { self.old.ended ≡ false }
         ensures only { S.only source.old source.new }
+        ensures asked { (lefts : List (List ℕ)) × S.pulled source.old lefts source.new × All (λ left. left ≡ (S.source source.old).left) lefts }
         ensures rose { IsErrOf result ScriptError.Failed → Rose (S.source source.old).faults (S.source source.new).faults }
         ensures bytes { (pulled : List ℕ) × (S.source_tells → (S.source source.old).left ≡ pulled ++ (S.source source.new).left)
             × (self.new.bytes ≡ self.old.bytes ++ pulled) }
         ensures passed { self.new.passed ≡ self.old.passed }
-        ensures bound { self.new.passed + length self.new.bytes ≤ 2 ^ 40 }
+        ensures over { self.new.over ≡ self.old.over }
+        ensures bound { taken self.new ≤ 2 ^ 40 }
         ensures nearer { OnOk result (turns self.new < turns self.old) }
         ensures end { S.source_tells → self.new.ended ≡ true → (S.source source.new).left ≡ [] }
         ensures err { OnErr result (self.new ≡ self.old) }
-        ensures failed { IsErrOf result ScriptError.Failed → self.new.passed + length self.new.bytes < 2 ^ 40 }
-        ensures spent { IsErrOf result ScriptError.Budget → self.new.passed + length self.new.bytes ≡ 2 ^ 40 }
+        ensures failed { IsErrOf result ScriptError.Failed → taken self.new < 2 ^ 40 }
+        ensures spent { IsErrOf result ScriptError.Budget → taken self.new ≡ 2 ^ 40 }
         ensures why { IfErr result (λ e. IsPullError e) }
     {
-        let taken = self.passed + (self.buffer.len() - self.start) as u64;
+        let taken = self.passed + self.gone() + self.at_hand().len() as u64;
         if taken == MOST_INPUT_BYTES {
             return Err(ScriptError::Budget);
         }
@@ -175,6 +290,7 @@ fn take_block<S: Source>(
     requires some { 1 ≤ most }
     requires room { most ≤ length block.old }
     ensures only { S.only source.old source.new }
+    ensures asked { (lefts : List (List ℕ)) × S.pulled source.old lefts source.new × All (λ left. left ≡ (S.source source.old).left) lefts }
     ensures rose { IsErrOf result ScriptError.Failed → Rose (S.source source.old).faults (S.source source.new).faults }
     ensures bytes { (pulled : List ℕ) × (S.source_tells → (S.source source.old).left ≡ pulled ++ (S.source source.new).left)
         × (buffer.new.items ≡ buffer.old.items ++ pulled) × IfOk result (λ n. length pulled ≡ n) × OnErr result (pulled ≡ []) }

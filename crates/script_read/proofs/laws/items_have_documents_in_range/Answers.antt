@@ -1,4 +1,4 @@
-use Rattle.script_read.proofs.RangeLemmas.{Items-documents}
+use Rattle.script_read.proofs.Ranges.{Items-documents}
 use Rattle.script_read.proofs.laws.items_have_documents_in_range.Goals as goal
 
 pub returns : goal.returns

@@ -1,0 +1,258 @@
+-- What lines name is in range.
+use Rattle.std.specs.Prelude.{◌≡◌, ℕ, ◌+◌, ◌<◌, ◌^◌, Bool, true, false, nat_lt, ◌&&◌, ◌==◌, not, if◌then◌else◌, List, [], ◌∷◌, length, take, drop, filter_map, Option, Some, None, IfSome, option_map, bytes_eq, codes, All, refl}
+use Rattle.std.specs.List.{position_or_len}
+use Rattle.std.proofs.Common.{subst, ltb-true}
+use Rattle.std.proofs.lemmas.List.Elements.{All-nil, All-cons}
+use Rattle.time_base.specs.declared.ids.DocId.{DocId}
+use Rattle.time_base.specs.declared.time.Time.{Time}
+use Rattle.commands.specs.declared.command.Command.{Command}
+use Rattle.commands.specs.declared.command.Command.TheVariants.{Arrive, Delete, Plan, Propose, Find, Between, Show, Certificate, Verify}
+use Rattle.commands.specs.declared.command.Item.{Item}
+use Rattle.commands.specs.declared.command.Item.TheVariants as item
+use Rattle.commands.specs.Documents.{HasDocument}
+use Rattle.script_read.specs.declared.line.Meaning.{Meaning}
+use Rattle.script_read.specs.declared.line.Meaning.TheVariants.{Skipped, Alone, Arrival, Faulty}
+use Rattle.script_read.specs.declared.first.First.{First}
+use Rattle.script_read.specs.declared.first.First.TheVariants.{Whole, Broken, More, End}
+use Rattle.script_read.specs.Words.{word, after_word, is_blank, phrase}
+use Rattle.script_read.specs.Numbers.{value_of, are_digits, number}
+use Rattle.script_read.specs.Values.{document, time, text, fraction, or_else, both, all_three, only_if}
+use Rattle.script_read.specs.Items.{text_at, without_cr, short, text_end, piece_of, last_piece, open_line, closed_line, first, Pieces, Items}
+use Rattle.script_read.specs.Lines.{kind, window, version, deletion, showing, planning, proposing, finding, spanning, certifying, verifying, change, question, report, command, arrival_by, arrival, alone, is_skipped, meaning}
+
+number-below : (limit : ℕ) (word : List ℕ) → IfSome (number limit word) (λ n. n < limit)
+number-below limit word = go (are_digits word) (nat_lt (value_of word) limit) refl
+  where
+    go : (a b : Bool) → nat_lt (value_of word) limit ≡ b → IfSome (if a && b then Some (value_of word) else None) (λ n. n < limit)
+    go true true h = ltb-true _ _ h
+    go true false h = tt
+    go false b h = tt
+
+abbrev IsInRange : DocId → Type 0
+IsInRange doc = doc.0 < 2 ^ 32
+
+document-below : (word : List ℕ) → IfSome (document word) IsInRange
+document-below word = go (number (2 ^ 32) word) (number-below (2 ^ 32) word)
+  where
+    go : (o : Option ℕ) → IfSome o (λ n. n < 2 ^ 32) → IfSome (option_map (λ n. let doc : DocId = record { 0 = n } in doc) o) IsInRange
+    go (Some n) h = h
+    go None h = tt
+
+-- what a line says names a document below 2^32 and a text of fewer than 2^40 bytes
+abbrev pub IsFit : Meaning → Type 0
+IsFit Skipped = Unit {0}
+IsFit (Alone item) = HasDocument item
+IsFit (Arrival doc at n) = (doc.0 < 2 ^ 32) × (n < 2 ^ 40)
+IsFit Faulty = Unit {0}
+
+arrival-fits : (words : List ℕ) → IsFit (arrival words)
+arrival-fits words = go (document (word words)) (time (word more)) (number (2 ^ 40) (word last)) (is_blank (after_word last)) (document-below (word words)) (number-below (2 ^ 40) (word last))
+  where
+    more : List ℕ
+    more = after_word words
+
+    last : List ℕ
+    last = after_word more
+
+    go : (d : Option DocId) (t : Option Time) (s : Option ℕ) (b : Bool) → IfSome d IsInRange → IfSome s (λ n. n < 2 ^ 40) → IsFit (arrival_by d t s b)
+    go (Some d) (Some t) (Some s) true h k = (h, k)
+    go (Some d) (Some t) (Some s) false h k = tt
+    go (Some d) (Some t) None b h k = tt
+    go (Some d) None s b h k = tt
+    go None t s b h k = tt
+
+-- the meaning of any line fits: arrivals by their own lemma, the others where their commands do
+commands-fit : (o : Option Command) → IfSome o (λ c. HasDocument (item.Command c)) → IsFit (alone o)
+commands-fit (Some c) h = h
+commands-fit None h = tt
+
+abbrev Fits : Command → Type 0
+Fits c = HasDocument (item.Command c)
+
+or-fits : (a b : Option Command) → IfSome a Fits → IfSome b Fits → IfSome (or_else a b) Fits
+or-fits (Some a) b h k = h
+or-fits None b h k = k
+
+only-fits : (b : Bool) (o : Option Command) → IfSome o Fits → IfSome (only_if b o) Fits
+only-fits true o h = h
+only-fits false o h = tt
+
+map-fits : {A : Type 0} (f : A → Command) (o : Option A) → ((a : A) → Fits (f a)) → IfSome (option_map f o) Fits
+map-fits f (Some a) h = h a
+map-fits f None h = tt
+
+both-fit : {A B : Type 0} (f : A → B → Command) (a : Option A) (b : Option B) → ((x : A) (y : B) → Fits (f x y)) → IfSome (both f a b) Fits
+both-fit f (Some a) (Some b) h = h a b
+both-fit f (Some a) None h = tt
+both-fit f None b h = tt
+
+three-fit : {A B C : Type 0} (f : A → B → C → Command) (a : Option A) (b : Option B) (c : Option C) → ((x : A) (y : B) (z : C) → Fits (f x y z))
+    → IfSome (all_three f a b c) Fits
+three-fit f (Some a) b c h = both-fit (f a) b c (h a)
+three-fit f None b c h = tt
+
+one-of-two : (p q : Bool) (a b : Option Command) → IfSome a Fits → IfSome b Fits → IfSome (if p then a else (if q then b else None)) Fits
+one-of-two true q a b h k = h
+one-of-two false true a b h k = k
+one-of-two false false a b h k = tt
+
+one-of-three : (p q r : Bool) (a b c : Option Command) → IfSome a Fits → IfSome b Fits → IfSome c Fits → IfSome (if p then a else (if q then b else (if r then c else None))) Fits
+one-of-three true q r a b c h k l = h
+one-of-three false q r a b c h k l = one-of-two q r b c k l
+
+-- the document of a line that has one and a time
+version-fits : (f : DocId → Time → Command) → ((doc : DocId) (at : Time) → IsInRange doc → Fits (f doc at)) → (words : List ℕ)
+    → IfSome (option_map (λ (v : DocId × Time). f v.0 v.1) (version words)) Fits
+version-fits f holds words = go (is_blank (after_word (after_word words))) (document (word words)) (time (word (after_word words))) (document-below (word words))
+  where
+    go : (b : Bool) (d : Option DocId) (t : Option Time) → IfSome d IsInRange
+        → IfSome (option_map (λ (v : DocId × Time). f v.0 v.1) (only_if b (both (λ doc at. (doc, at)) d t))) Fits
+    go true (Some d) (Some t) h = holds d t h
+    go true (Some d) None h = tt
+    go true None t h = tt
+    go false d t h = tt
+
+finding-fits : (words : List ℕ) → IfSome (finding words) Fits
+finding-fits words =
+    only-fits (not (is_blank (after_word words))) (both Find (time (word words)) (text (phrase (after_word words))))
+    (both-fit Find (time (word words)) (text (phrase (after_word words))) (λ t e. tt))
+
+spanning-fits : (words : List ℕ) → IfSome (spanning words) Fits
+spanning-fits words =
+    let span = window (word words) (word (after_word words)) in
+    let expr = text (phrase (after_word (after_word words))) in
+    only-fits (not (is_blank (after_word (after_word words)))) (both Between span expr) (both-fit Between span expr (λ s e. tt))
+
+proposing-fits : (words : List ℕ) → IfSome (proposing words) Fits
+proposing-fits words =
+    let bound = after_word (after_word words) in
+    let goes = bytes_eq (word (after_word words)) (codes "guarantee") && is_blank (after_word bound) in
+    only-fits goes (both Propose (text (word words)) (fraction (word bound))) (both-fit Propose (text (word words)) (fraction (word bound)) (λ w f. tt))
+
+certifying-fits : (words : List ℕ) → IfSome (certifying words) Fits
+certifying-fits words =
+    only-fits (not (is_blank words) && is_blank (after_word words)) (option_map Certificate (text (word words))) (map-fits Certificate (text (word words)) (λ w. tt))
+
+planning-fits : (words : List ℕ) → IfSome (planning words) Fits
+planning-fits words =
+    let bound = after_word (after_word words) in
+    three-fit Plan (text (word words)) (kind (word (after_word words)) (after_word bound)) (fraction (word bound)) (λ w k f. tt)
+
+verifying-fits : (words : List ℕ) → IfSome (verifying words) Fits
+verifying-fits words = let fits : Fits Verify = tt in only-fits (is_blank words) (Some Verify) fits
+
+change-fits : (name words : List ℕ) → IfSome (change name words) Fits
+change-fits name words =
+    one-of-two (bytes_eq name (codes "delete")) (bytes_eq name (codes "plan")) (deletion words) (planning words) (version-fits Delete (λ d t h. h) words) (planning-fits words)
+
+question-fits : (name words : List ℕ) → IfSome (question name words) Fits
+question-fits name words =
+    one-of-three (bytes_eq name (codes "find")) (bytes_eq name (codes "between")) (bytes_eq name (codes "show")) (finding words) (spanning words) (showing words)
+    (finding-fits words) (spanning-fits words) (version-fits Show (λ d t h. h) words)
+
+report-fits : (name words : List ℕ) → IfSome (report name words) Fits
+report-fits name words =
+    one-of-three (bytes_eq name (codes "propose")) (bytes_eq name (codes "certificate")) (bytes_eq name (codes "verify")) (proposing words) (certifying words) (verifying words)
+    (proposing-fits words) (certifying-fits words) (verifying-fits words)
+
+pub meaning-fits : (line : List ℕ) → IsFit (meaning line)
+unfolding meaning
+meaning-fits line = go (is_skipped line) (bytes_eq (word line) (codes "arrive"))
+  where
+    behind : List ℕ
+    behind = after_word line
+
+    all : IfSome (command (word line) behind) Fits
+    all = or-fits (change (word line) behind) (or_else (question (word line) behind) (report (word line) behind)) (change-fits (word line) behind)
+        (or-fits (question (word line) behind) (report (word line) behind) (question-fits (word line) behind) (report-fits (word line) behind))
+
+    go : (s a : Bool) → IsFit (if s then Skipped else (if a then arrival behind else alone (command (word line) behind)))
+    go true a = tt
+    go false true = arrival-fits behind
+    go false false = commands-fit (command (word line) behind) all
+
+-- the item that bytes begin with names a document below 2^32
+abbrev IsFitting : First → Type 0
+IsFitting (Whole (Some item) n) = HasDocument item
+IsFitting (Whole None n) = Unit {0}
+IsFitting (Broken n) = Unit {0}
+IsFitting More = Unit {0}
+IsFitting End = Unit {0}
+
+short-fits : (e : Bool) (len : ℕ) → IsFitting (short e len)
+short-fits true len = tt
+short-fits false len = tt
+
+text_end-fits : (e : Bool) (len used : ℕ) (item : Item) (bs : List ℕ) → HasDocument item → IsFitting (text_end e len used item bs)
+text_end-fits e len used item [] h = short-fits e len
+text_end-fits e len used item (b ∷ []) h = go (b == 10) (b == 13)
+  where
+    go : (p q : Bool) → IsFitting (if p then Whole (Some item) (used + 1) else (if q then short e len else Broken used))
+    go true q = h
+    go false true = short-fits e len
+    go false false = tt
+text_end-fits e len used item (b ∷ c ∷ bs) h = go (b == 10) ((b == 13) && (c == 10))
+  where
+    go : (p q : Bool) → IsFitting (if p then Whole (Some item) (used + 1) else (if q then Whole (Some item) (used + 2) else Broken used))
+    go true q = h
+    go false true = h
+    go false false = tt
+
+piece_of-fits : (e : Bool) (m : Meaning) (used : ℕ) (bs : List ℕ) → IsFit m → IsFitting (piece_of e m used bs)
+piece_of-fits e Skipped used bs h = tt
+piece_of-fits e (Alone item) used bs h = h
+piece_of-fits e Faulty used bs h = tt
+piece_of-fits e (Arrival doc at n) used bs h = go (nat_lt (length bs) (used + n))
+  where
+    arrival_item : Item
+    arrival_item = item.Command (Arrive doc at (text_at n (drop used bs)))
+
+    go : (b : Bool) → IsFitting (if b then short e (length bs) else text_end e (length bs) (used + n) arrival_item (drop (used + n) bs))
+    go true = short-fits e (length bs)
+    go false = text_end-fits e (length bs) (used + n) arrival_item (drop (used + n) bs) h.0
+
+last_piece-fits : (m : Meaning) (n : ℕ) → IsFit m → IsFitting (last_piece m n)
+last_piece-fits Skipped n h = tt
+last_piece-fits (Alone item) n h = h
+last_piece-fits (Arrival doc at size) n h = tt
+last_piece-fits Faulty n h = tt
+
+first-fits : (e : Bool) (bs : List ℕ) → IsFitting (first e bs)
+first-fits e bs = go (nat_lt n (length bs))
+  where
+    n : ℕ
+    n = position_or_len (λ b. b == 10) bs
+
+    line : List ℕ
+    line = without_cr (take n bs)
+
+    closed : (b : Bool) → IsFitting (if b then Broken 0 else piece_of e (meaning line) (n + 1) bs)
+    closed true = tt
+    closed false = piece_of-fits e (meaning line) (n + 1) bs (meaning-fits line)
+
+    unended : (e : Bool) (bs : List ℕ) → IsFitting (open_line meaning e bs)
+    unended false bs = two (nat_lt 4096 (length (without_cr bs)))
+      where
+        two : (b : Bool) → IsFitting (if b then Broken 0 else More)
+        two true = tt
+        two false = tt
+    unended true [] = tt
+    unended true (c ∷ bs) = two (nat_lt 4096 (length (c ∷ bs)))
+      where
+        two : (b : Bool) → IsFitting (if b then Broken 0 else last_piece (meaning (c ∷ bs)) (length (c ∷ bs)))
+        two true = tt
+        two false = last_piece-fits (meaning (c ∷ bs)) (length (c ∷ bs)) (meaning-fits (c ∷ bs))
+
+    go : (b : Bool) → IsFitting (if b then closed_line meaning e n line bs else open_line meaning e bs)
+    go true = closed (nat_lt 4096 (length line))
+    go false = unended e bs
+
+pieces-documents : (e : Bool) (bs rest : List ℕ) (pieces : List (Option Item)) → Pieces e bs pieces rest → All HasDocument (filter_map (λ p. p) pieces)
+pieces-documents e bs rest [] p = All-nil HasDocument
+pieces-documents e bs rest (None ∷ pieces) (n, whole, p) = pieces-documents e (drop n bs) rest pieces p
+pieces-documents e bs rest (Some i ∷ pieces) (n, whole, p) =
+    All-cons HasDocument i (filter_map (λ p. p) pieces) (subst IsFitting whole (first-fits e bs)) (pieces-documents e (drop n bs) rest pieces p)
+
+-- The documents that the items of any bytes name are numbers below 2^32.
+pub Items-documents : (e : Bool) (bs : List ℕ) (items : List Item) (rest : List ℕ) → Items e bs items rest → All HasDocument items
+Items-documents e bs items rest i = subst (All HasDocument) i.items_are (pieces-documents e bs rest i.pieces i.in_turn)

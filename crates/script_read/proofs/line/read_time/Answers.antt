@@ -1,8 +1,0 @@
-use Rattle.std.proofs.Common.{◌∙◌, ap, sym}
-use Rattle.std.specs.Prelude.{option_and_then}
-use Rattle.time_base.specs.Times.{time_of}
-use Rattle.script_read.proofs.LineLemmas.{time_of_new}
-use Rattle.script_read.proofs.line.read_time.Goals as goal
-
-pub returns : goal.returns
-returns c = time_of_new _ _ c.new.ensures.valid c.new.ensures.value ∙ ap (option_and_then time_of) (sym c.in_ok-number_below.was ∙ c.number_below.ensures)
