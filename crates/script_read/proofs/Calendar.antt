@@ -1,10 +1,10 @@
 -- The days of this crate are those of the calendar of `jiff`.
-use Rattle.std.specs.Prelude.{◌≡◌, ℕ, zero, suc, ◌+◌, ◌-◌, ◌*◌, ◌<◌, ◌≤◌, ℤ, pos, ◌+ℤ◌, ◌-ℤ◌, ◌*ℤ◌, unsigned_abs, refl}
-use Rattle.std.specs.Prelude.{int_div, true, Some, None}
-use Rattle.std.proofs.Common.{arith, ap, sym, subst, ◌∙◌, le-leb}
+use Rattle.std.specs.Prelude.{◌≡◌, ℕ, zero, suc, ◌+◌, ◌-◌, ◌*◌, ◌≤◌, ℤ, pos, ◌+ℤ◌, ◌-ℤ◌, ◌*ℤ◌, unsigned_abs, refl}
+use Rattle.std.specs.Prelude.{int_div, true}
+use Rattle.std.proofs.Common.{arith, ap, ◌∙◌, le-leb}
 use Rattle.jiff.proofs.SpanFacts.{signed_arith}
 use Rattle.jiff_core.specs.Calendar.{days_in_year as jiff_year, days_of_years as jiff_years, days_of_months as jiff_months, day_count, days_from_civil}
-use Rattle.script_read.specs.Dates.{is_leap_year, days_in_year, days_in_month, days_of_years, days_of_months, day_number, is_day}
+use Rattle.script_read.specs.Dates.{days_in_year, days_in_month, days_of_years, days_of_months, day_number, is_day}
 
 months : (y n : ℕ) → jiff_months (pos y) n ≡ days_of_months y n
 unfolding jiff_months

@@ -1,21 +1,18 @@
 -- What bytes begin with is the same however they are cut. Nothing here depends on what a line says.
-use Rattle.std.specs.Prelude.{◌≡◌, ◌≢◌, ℕ, ◌+◌, ◌-◌, ◌<◌, ◌≤◌, Bool, true, false, nat_eq, nat_lt, cond, if◌then◌else◌, not, ◌==◌, ◌&&◌, List, [], ◌∷◌, ◌++◌, length, take, drop, slice_index, Option, Some, None, refl}
+use Rattle.std.specs.Prelude.{◌≡◌, ◌≢◌, ℕ, ◌+◌, ◌-◌, ◌<◌, ◌≤◌, Bool, true, false, nat_eq, nat_lt, cond, if◌then◌else◌, not, ◌==◌, ◌&&◌, List, [], ◌∷◌, ◌++◌, length, take, drop, slice_index, Option, Some, refl}
 use Rattle.std.specs.List.{position_or_len}
 use Rattle.std.proofs.Common.{arith, ap, sym, ◌∙◌, subst, ltb-true, ltb-false, eqb-true, lt-ltb, le-ltb, length-append, length-drop, length-take, append-nil}
-use Rattle.std.proofs.lemmas.List.{take-append-le, drop-append-le, length-take-le}
+use Rattle.std.proofs.lemmas.List.{take-append-le, drop-append-le}
 use Rattle.std.proofs.Math.Seq.{take-append-add}
 use Rattle.std.proofs.lemmas.List.Folds.{prefix_len-append}
 use Rattle.std.proofs.lemmas.List.Sums.{prefix_len-le-length}
-use Rattle.time_base.specs.declared.ids.DocId.{DocId}
-use Rattle.time_base.specs.declared.time.Time.{Time}
 use Rattle.commands.specs.declared.text.Text.TheVariants.{Bytes, TooLong}
 use Rattle.commands.specs.declared.command.Command.TheVariants.{Arrive}
 use Rattle.commands.specs.declared.command.Item.{Item}
-use Rattle.commands.specs.declared.command.Item.TheVariants.{Command, Line}
+use Rattle.commands.specs.declared.command.Item.TheVariants.{Command}
 use Rattle.script_read.specs.declared.line.Meaning.{Meaning}
 use Rattle.script_read.specs.declared.line.Meaning.TheVariants.{Skipped, Alone, Arrival, Faulty}
-use Rattle.script_read.specs.declared.first.First.{First}
-use Rattle.script_read.specs.declared.first.First.TheVariants.{Whole, Broken, More, End}
+use Rattle.script_read.specs.declared.first.First.TheVariants.{Whole, Broken, More}
 use Rattle.script_read.specs.Reading.{IsWithin}
 use Rattle.script_read.specs.Lines.{meaning}
 use Rattle.script_read.specs.Items.{without_cr, text_at, short, text_end, piece_of, last_piece, open_line, closed_line, from_line, first_by, first, Pieces}
@@ -232,9 +229,11 @@ first_by-within say e bs = go (nat_lt n (length bs)) refl
 -- the pieces of bytes are pieces of any longer ones
 pub pieces-append : (e : Bool) (bs x rest : List ℕ) (pieces : List (Option Item)) → Pieces false bs pieces rest → Pieces e (bs ++ x) pieces (rest ++ x)
 pieces-append e bs x rest [] p = ap (λ l. l ++ x) p
-pieces-append e bs x rest (piece ∷ pieces) (n, whole, p) =
-    (n, first_by-append meaning e bs x (λ m. apart (sym whole ∙ m)) ∙ whole,
-     subst (λ l. Pieces e l pieces (rest ++ x)) (sym (drop-append-le n bs x (used n bs whole))) (pieces-append e (drop n bs) x rest pieces p))
+pieces-append e bs x rest (piece ∷ pieces) (n, whole, p) = (
+  n,
+  first_by-append meaning e bs x (λ m. apart (sym whole ∙ m)) ∙ whole,
+  subst (λ l. Pieces e l pieces (rest ++ x)) (sym (drop-append-le n bs x (used n bs whole))) (pieces-append e (drop n bs) x rest pieces p),
+)
   where
     apart : Whole piece n ≢ More
     apart h = cc

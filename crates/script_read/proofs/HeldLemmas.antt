@@ -1,14 +1,20 @@
 -- What a reader holds, and what it stands for.
-use Rattle.std.specs.Prelude.{◌≡◌, ℕ, ◌+◌, ◌-◌, ◌<◌, ◌≤◌, min, Bool, true, false, nat_lt, if◌then◌else◌, List, [], ◌∷◌, ◌++◌, length, take, drop, Option, Some, None, IfSome, refl}
+use Rattle.std.specs.Prelude.{◌≡◌, ◌≢◌, ℕ, ◌+◌, ◌-◌, ◌≤◌, min, Bool, true, false, ◌==◌, ◌&&◌, nat_lt, if◌then◌else◌, List, [], ◌∷◌, ◌++◌, length, take, drop, Option, Some, None, IfSome, refl}
 use Rattle.std.proofs.Common.{arith, ap, sym, ◌∙◌, subst, ltb-false, append_assoc, length-append, length-drop, take-append-drop}
 use Rattle.std.proofs.lemmas.List.{drop-drop}
 use Rattle.std.proofs.Math.Seq.{drop-append-add}
 use Rattle.script_read.specs.declared.passing.Over.{Over}
 use Rattle.script_read.specs.declared.first.First.{First}
-use Rattle.script_read.specs.declared.first.First.TheVariants.{More}
-use Rattle.script_read.specs.Items.{first, short, text_end}
+use Rattle.script_read.specs.declared.first.First.TheVariants.{Whole, Broken, More}
+use Rattle.script_read.specs.declared.line.Meaning.{Meaning}
+use Rattle.script_read.specs.declared.line.Meaning.TheVariants.{Skipped, Alone, Arrival, Faulty}
+use Rattle.commands.specs.declared.command.Command.TheVariants.{Arrive}
+use Rattle.commands.specs.declared.command.Item.{Item}
+use Rattle.commands.specs.declared.command.Item.TheVariants.{Command}
+use Rattle.std.specs.List.{position_or_len}
+use Rattle.script_read.specs.Items.{first, short, text_end, text_at, piece_of, last_piece, open_line, closed_line, without_cr}
 use Rattle.script_read.specs.Lines.{meaning}
-use Rattle.script_read.specs.Reading.{Held, AsksFor, StandsForLong, StandsBy, StandsFor, IsSmall, IsWithin, gone, taken, long_piece, passed_item, found_by, found}
+use Rattle.script_read.specs.Reading.{Held, AsksFor, StandsForLong, StandsBy, StandsFor, IsSmall, IsWithin, gone, long_piece, passed_item, found_by, found}
 use Rattle.script_read.proofs.Cuts.{first_by-within, text_end-within}
 use Rattle.script_read.proofs.LongTexts.{goes_on, found-long}
 
@@ -32,12 +38,12 @@ length-since h since stands = length-by h.over h.bytes since stands
 pub stands-more : (over : Option Over) (bytes since p : List ℕ) → StandsBy over bytes since → StandsBy over (bytes ++ p) (since ++ p)
 stands-more None bytes since p same = ap (λ l. l ++ p) same
 stands-more (Some over) bytes since p s = record {
-    line = s.line;
-    text = s.text;
-    asks = s.asks;
-    are_gone = s.are_gone;
-    joined = ap (λ l. l ++ p) s.joined ∙ append_assoc s.line (s.text ++ bytes) p ∙ ap (λ l. s.line ++ l) (append_assoc s.text bytes p);
-  }
+  line = s.line;
+  text = s.text;
+  asks = s.asks;
+  are_gone = s.are_gone;
+  joined = ap (λ l. l ++ p) s.joined ∙ append_assoc s.line (s.text ++ bytes) p ∙ ap (λ l. s.line ++ l) (append_assoc s.text bytes p);
+}
 
 -- the first bytes go, those that are gone among them
 pub stands-drop : (over : Option Over) (bytes since : List ℕ) (n : ℕ) → gone over ≤ n → StandsBy over bytes since → drop (n - gone over) bytes ≡ drop n since
@@ -46,7 +52,7 @@ stands-drop (Some over) bytes since n h s =
     let front : length (s.line ++ s.text) ≡ over.line + over.gone = omega (arith, length-append s.line s.text, s.are_gone, s.asks.length_is) in
     let split : n ≡ length (s.line ++ s.text) + (n - (over.line + over.gone)) = omega (arith, front, h) in
     sym (ap (drop n) (s.joined ∙ sym (append_assoc s.line s.text bytes)) ∙ ap (λ k. drop k ((s.line ++ s.text) ++ bytes)) split
-      ∙ drop-append-add (s.line ++ s.text) bytes (n - (over.line + over.gone)))
+    ∙ drop-append-add (s.line ++ s.text) bytes (n - (over.line + over.gone)))
 
 -- what is at hand of a text is let go
 pub stands-on : (now : Held) (over : Over) (start n : ℕ) (items : List ℕ) → drop start items ≡ now.bytes → now.over ≡ Some over → IsSmall now.over
@@ -99,7 +105,7 @@ long-within ended over bytes h = go ended (nat_lt (over.gone + length bytes) ove
     go true true k = omega arith
     go false true k = tt
     go e false k =
-      text_end-within (over.line + over.gone) e len (over.line + over.size) (passed_item over) behind (omega arith)
+        text_end-within (over.line + over.gone) e len (over.line + over.size) (passed_item over) behind (omega arith)
         (omega (arith, ltb-false _ _ k, length-drop (over.size - over.gone) bytes))
 
 -- what is found takes what is gone and something at hand
@@ -110,3 +116,83 @@ found-within ended (Some over) bytes small = long-within ended over bytes small.
 
 pub within-of : (h : Held) (f : First) → IsSmall h.over → f ≡ found h → IsWithin (gone h.over) (gone h.over + length h.bytes) f
 within-of h f small value = let P : First → Type 0 = λ f. IsWithin (gone h.over) (gone h.over + length h.bytes) f in subst P (sym value) (found-within h.ended h.over h.bytes small)
+
+-- at the end of the input nothing is left open
+short-told : (len : ℕ) → short true len ≢ More
+short-told len = λ e. cc
+
+text_end-told : (len used : ℕ) (item : Item) (bs : List ℕ) → text_end true len used item bs ≢ More
+text_end-told len used item [] = λ e. cc
+text_end-told len used item (b ∷ []) = go (b == 10) (b == 13)
+  where
+    go : (p q : Bool) → (if p then Whole (Some item) (used + 1) else (if q then Broken len else Broken used)) ≢ More
+    go true q = λ e. cc
+    go false true = λ e. cc
+    go false false = λ e. cc
+text_end-told len used item (b ∷ c ∷ bs) = go (b == 10) ((b == 13) && (c == 10))
+  where
+    go : (p q : Bool) → (if p then Whole (Some item) (used + 1) else (if q then Whole (Some item) (used + 2) else Broken used)) ≢ More
+    go true q = λ e. cc
+    go false true = λ e. cc
+    go false false = λ e. cc
+
+piece_of-told : (m : Meaning) (used : ℕ) (bs : List ℕ) → piece_of true m used bs ≢ More
+piece_of-told Skipped used bs = λ e. cc
+piece_of-told (Alone item) used bs = λ e. cc
+piece_of-told Faulty used bs = λ e. cc
+piece_of-told (Arrival doc at n) used bs = go (nat_lt (length bs) (used + n))
+  where
+    item : Item
+    item = Command (Arrive doc at (text_at n (drop used bs)))
+
+    go : (b : Bool) → (if b then short true (length bs) else text_end true (length bs) (used + n) item (drop (used + n) bs)) ≢ More
+    go true = short-told (length bs)
+    go false = text_end-told (length bs) (used + n) item (drop (used + n) bs)
+
+last_piece-told : (m : Meaning) (n : ℕ) → last_piece m n ≢ More
+last_piece-told Skipped n = λ e. cc
+last_piece-told (Alone item) n = λ e. cc
+last_piece-told (Arrival doc at size) n = λ e. cc
+last_piece-told Faulty n = λ e. cc
+
+pub first-told : (bs : List ℕ) → first true bs ≢ More
+first-told bs = go (nat_lt n (length bs))
+  where
+    n : ℕ
+    n = position_or_len (λ b. b == 10) bs
+
+    line : List ℕ
+    line = without_cr (take n bs)
+
+    closed : (b : Bool) → (if b then Broken 0 else piece_of true (meaning line) (n + 1) bs) ≢ More
+    closed true = λ e. cc
+    closed false = piece_of-told (meaning line) (n + 1) bs
+
+    unended : (bs : List ℕ) → open_line meaning true bs ≢ More
+    unended [] = λ e. cc
+    unended (c ∷ bs) = two (nat_lt 4096 (length (c ∷ bs)))
+      where
+        two : (b : Bool) → (if b then Broken 0 else last_piece (meaning (c ∷ bs)) (length (c ∷ bs))) ≢ More
+        two true = λ e. cc
+        two false = last_piece-told (meaning (c ∷ bs)) (length (c ∷ bs))
+
+    go : (b : Bool) → (if b then closed_line meaning true n line bs else open_line meaning true bs) ≢ More
+    go true = closed (nat_lt 4096 (length line))
+    go false = unended bs
+
+long-told : (over : Over) (bytes : List ℕ) → long_piece true over bytes ≢ More
+long-told over bytes = go (nat_lt (over.gone + length bytes) over.size)
+  where
+    go : (b : Bool) → (if b then short true (over.line + over.gone + length bytes)
+        else text_end true (over.line + over.gone + length bytes) (over.line + over.size) (passed_item over) (drop (over.size - over.gone) bytes)) ≢ More
+    go true = short-told (over.line + over.gone + length bytes)
+    go false = text_end-told (over.line + over.gone + length bytes) (over.line + over.size) (passed_item over) (drop (over.size - over.gone) bytes)
+
+open-by : (ended : Bool) (over : Option Over) (bytes : List ℕ) → More ≡ found_by ended over bytes → ended ≡ false
+open-by false over bytes e = refl
+open-by true None bytes e = absurd (first-told bytes (sym e))
+open-by true (Some over) bytes e = absurd (long-told over bytes (sym e))
+
+-- where more is wanted the end was not told
+pub still-open : (h : Held) → More ≡ found h → h.ended ≡ false
+still-open h e = open-by h.ended h.over h.bytes e

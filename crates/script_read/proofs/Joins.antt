@@ -1,6 +1,6 @@
 -- Runs of items join.
 use Rattle.std.specs.Prelude.{◌≡◌, ℕ, Bool, false, List, [], ◌∷◌, ◌++◌, drop, filter_map, Option, Some, None, refl}
-use Rattle.std.proofs.Common.{ap, sym, subst, ◌∙◌}
+use Rattle.std.proofs.Common.{ap, subst, ◌∙◌}
 use Rattle.commands.specs.declared.command.Item.{Item}
 use Rattle.script_read.specs.Items.{Pieces, Items}
 use Rattle.script_read.proofs.Cuts.{pieces-append}
@@ -16,10 +16,10 @@ somes-append (Some x ∷ xs) ys = ap (λ l. x ∷ l) (somes-append xs ys)
 
 pub items-join : (e : Bool) (bytes mid rest : List ℕ) (xs ys : List Item) → Items e bytes xs mid → Items e mid ys rest → Items e bytes (xs ++ ys) rest
 items-join e bytes mid rest xs ys a b = record {
-    pieces = a.pieces ++ b.pieces;
-    items_are = somes-append a.pieces b.pieces ∙ ap (λ l. l ++ filter_map (λ p. p) b.pieces) a.items_are ∙ ap (λ l. xs ++ l) b.items_are;
-    in_turn = pieces-join e bytes mid rest a.pieces b.pieces a.in_turn b.in_turn
-  }
+  pieces = a.pieces ++ b.pieces;
+  items_are = somes-append a.pieces b.pieces ∙ ap (λ l. l ++ filter_map (λ p. p) b.pieces) a.items_are ∙ ap (λ l. xs ++ l) b.items_are;
+  in_turn = pieces-join e bytes mid rest a.pieces b.pieces a.in_turn b.in_turn;
+}
 
 -- the items of bytes are those of any longer ones
 pub items-append : (e : Bool) (bytes x rest : List ℕ) (items : List Item) → Items false bytes items rest → Items e (bytes ++ x) items (rest ++ x)

@@ -1,11 +1,9 @@
 -- A text that is passed over goes on, and begins.
-use Rattle.std.specs.Prelude.{◌≡◌, ℕ, Bool, ◌+◌, ◌<◌, ◌≤◌, ◌==◌, List, [], ◌∷◌, ◌++◌, length, take, drop, refl}
-use Rattle.std.specs.List.{position_or_len}
+use Rattle.std.specs.Prelude.{◌≡◌, ℕ, Bool, ◌+◌, ◌≤◌, List, ◌++◌, length, take, drop}
 use Rattle.std.proofs.Common.{arith, ap, sym, ◌∙◌, length-append, length-take, take-append-drop, append_assoc}
-use Rattle.script_read.specs.declared.line.Meaning.TheVariants.{Arrival}
 use Rattle.script_read.specs.Lines.{meaning}
-use Rattle.script_read.specs.Items.{first, without_cr}
-use Rattle.script_read.specs.Reading.{AsksFor, StandsForLong, long_piece}
+use Rattle.script_read.specs.Items.{first}
+use Rattle.script_read.specs.Reading.{StandsForLong, long_piece}
 use Rattle.script_read.specs.declared.passing.Over.{Over}
 use Rattle.script_read.proofs.PassedOver.{AsksForLong, passed_over}
 
@@ -13,12 +11,12 @@ use Rattle.script_read.proofs.PassedOver.{AsksForLong, passed_over}
 pub goes_on : (over : Over) (bytes since : List ℕ) (k : ℕ) → k ≤ length bytes → over.gone + k ≤ over.size → StandsForLong over bytes since
     → StandsForLong (record { doc = over.doc; at = over.at; size = over.size; line = over.line; gone = over.gone + k }) (drop k bytes) since
 goes_on over bytes since k h fits s = record {
-    line = s.line;
-    text = s.text ++ take k bytes;
-    asks = record { place = s.asks.place; one_line = s.asks.one_line; takes = s.asks.takes; length_is = s.asks.length_is; short_line = s.asks.short_line; says = s.asks.says; long = s.asks.long; partly = fits };
-    are_gone = omega (arith, s.are_gone, length-append s.text (take k bytes), length-take k bytes, h);
-    joined = s.joined ∙ ap (λ b. s.line ++ (s.text ++ b)) (sym (take-append-drop k bytes)) ∙ ap (λ b. s.line ++ b) (sym (append_assoc s.text (take k bytes) (drop k bytes)))
-  }
+  line = s.line;
+  text = s.text ++ take k bytes;
+  asks = record { place = s.asks.place; one_line = s.asks.one_line; takes = s.asks.takes; length_is = s.asks.length_is; short_line = s.asks.short_line; says = s.asks.says; long = s.asks.long; partly = fits };
+  are_gone = omega (arith, s.are_gone, length-append s.text (take k bytes), length-take k bytes, h);
+  joined = s.joined ∙ ap (λ b. s.line ++ (s.text ++ b)) (sym (take-append-drop k bytes)) ∙ ap (λ b. s.line ++ b) (sym (append_assoc s.text (take k bytes) (drop k bytes)));
+}
 
 -- what the bytes since the last item begin with is found from what is at hand
 pub found-long : (over : Over) (ended : Bool) (bytes since : List ℕ) → StandsForLong over bytes since

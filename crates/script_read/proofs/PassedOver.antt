@@ -1,18 +1,15 @@
 -- A text above the limit need not be held: what bytes begin with depends on its length alone.
-use Rattle.std.specs.Prelude.{◌≡◌, ℕ, ◌+◌, ◌-◌, ◌<◌, ◌≤◌, Bool, true, false, nat_lt, if◌then◌else◌, ◌==◌, List, [], ◌∷◌, ◌++◌, length, take, drop, Option, Some, None, refl}
+use Rattle.std.specs.Prelude.{◌≡◌, ℕ, ◌+◌, ◌-◌, ◌<◌, ◌≤◌, Bool, true, false, nat_lt, ◌==◌, List, ◌++◌, length, take, drop, refl}
 use Rattle.std.specs.List.{position_or_len}
 use Rattle.std.proofs.Common.{arith, ap, sym, ◌∙◌, lt-ltb, le-ltb, ltb-true, ltb-false, length-append}
 use Rattle.std.proofs.lemmas.List.{take-append-le}
 use Rattle.std.proofs.Math.Seq.{drop-append-add}
 use Rattle.time_base.specs.declared.ids.DocId.{DocId}
 use Rattle.time_base.specs.declared.time.Time.{Time}
-use Rattle.commands.specs.declared.text.Text.TheVariants.{Bytes, TooLong}
-use Rattle.commands.specs.declared.command.Command.TheVariants.{Arrive}
-use Rattle.commands.specs.declared.command.Item.TheVariants.{Command}
+use Rattle.commands.specs.declared.text.Text.TheVariants.{TooLong}
 use Rattle.script_read.specs.declared.line.Meaning.{Meaning}
 use Rattle.script_read.specs.declared.line.Meaning.TheVariants.{Arrival}
-use Rattle.script_read.specs.declared.first.First.{First}
-use Rattle.script_read.specs.Items.{without_cr, short, text_end, text_at, piece_of, closed_line, from_line, first_by}
+use Rattle.script_read.specs.Items.{without_cr, text_at, piece_of, closed_line, from_line, first_by}
 use Rattle.script_read.specs.Reading.{long_piece}
 use Rattle.script_read.proofs.Cuts.{place-append, from_line-closed}
 

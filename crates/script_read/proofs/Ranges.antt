@@ -115,7 +115,7 @@ version-fits f holds words = go (is_blank (after_word (after_word words))) (docu
 finding-fits : (words : List ℕ) → IfSome (finding words) Fits
 finding-fits words =
     only-fits (not (is_blank (after_word words))) (both Find (time (word words)) (text (phrase (after_word words))))
-      (both-fit Find (time (word words)) (text (phrase (after_word words))) (λ t e. tt))
+    (both-fit Find (time (word words)) (text (phrase (after_word words))) (λ t e. tt))
 
 spanning-fits : (words : List ℕ) → IfSome (spanning words) Fits
 spanning-fits words =
@@ -148,12 +148,12 @@ change-fits name words =
 question-fits : (name words : List ℕ) → IfSome (question name words) Fits
 question-fits name words =
     one-of-three (bytes_eq name (codes "find")) (bytes_eq name (codes "between")) (bytes_eq name (codes "show")) (finding words) (spanning words) (showing words)
-      (finding-fits words) (spanning-fits words) (version-fits Show (λ d t h. h) words)
+    (finding-fits words) (spanning-fits words) (version-fits Show (λ d t h. h) words)
 
 report-fits : (name words : List ℕ) → IfSome (report name words) Fits
 report-fits name words =
     one-of-three (bytes_eq name (codes "propose")) (bytes_eq name (codes "certificate")) (bytes_eq name (codes "verify")) (proposing words) (certifying words) (verifying words)
-      (proposing-fits words) (certifying-fits words) (verifying-fits words)
+    (proposing-fits words) (certifying-fits words) (verifying-fits words)
 
 pub meaning-fits : (line : List ℕ) → IsFit (meaning line)
 unfolding meaning
@@ -164,7 +164,7 @@ meaning-fits line = go (is_skipped line) (bytes_eq (word line) (codes "arrive"))
 
     all : IfSome (command (word line) behind) Fits
     all = or-fits (change (word line) behind) (or_else (question (word line) behind) (report (word line) behind)) (change-fits (word line) behind)
-      (or-fits (question (word line) behind) (report (word line) behind) (question-fits (word line) behind) (report-fits (word line) behind))
+        (or-fits (question (word line) behind) (report (word line) behind) (question-fits (word line) behind) (report-fits (word line) behind))
 
     go : (s a : Bool) → IsFit (if s then Skipped else (if a then arrival behind else alone (command (word line) behind)))
     go true a = tt

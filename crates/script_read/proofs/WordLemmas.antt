@@ -1,7 +1,7 @@
 -- Words and their ends.
-use Rattle.std.specs.Prelude.{◌≡◌, ℕ, ◌+◌, ◌-◌, ◌<◌, ◌≤◌, Bool, true, false, ◌&&◌, nat_lt, cond, if◌then◌else◌, List, [], ◌∷◌, ◌++◌, length, take, slice_index, position, unwrap_or, Option, Some, None, not, refl}
-use Rattle.std.specs.List.{position_or_len, list_all}
-use Rattle.std.proofs.Common.{arith, ap, sym, ◌∙◌, ltb-true, ltb-false}
+use Rattle.std.specs.Prelude.{◌≡◌, ℕ, ◌+◌, ◌-◌, ◌<◌, ◌≤◌, Bool, true, false, ◌&&◌, nat_lt, cond, if◌then◌else◌, List, [], ◌∷◌, ◌++◌, length, take, slice_index, position, unwrap_or, Some, None, not, refl}
+use Rattle.std.specs.List.{position_or_len}
+use Rattle.std.proofs.Common.{arith, ap, sym, ◌∙◌, ltb-false}
 use Rattle.std.proofs.lemmas.List.{take_more}
 use Rattle.std.proofs.lemmas.List.Sums.{prefix_len-le-length}
 use Rattle.script_read.specs.Words.{is_space, is_blank, without_last_spaces}

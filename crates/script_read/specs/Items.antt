@@ -1,14 +1,12 @@
 -- The pieces and the items of a script. Where pieces end rests on what lines say by four answers alone, so the definitions up to
 -- `first_by` are for any function `say` that gives a line one of them.
-use Rattle.std.specs.Prelude.{◌≡◌, ℕ, ◌+◌, ◌-◌, ◌<◌, ◌≤◌, Bool, true, false, nat_lt, if◌then◌else◌, ◌==◌, ◌&&◌, List, [], ◌∷◌, ◌++◌, length, take, drop, slice_index, Option, Some, None, filter_map}
+use Rattle.std.specs.Prelude.{◌≡◌, ℕ, ◌+◌, ◌-◌, Bool, true, false, nat_lt, if◌then◌else◌, ◌==◌, ◌&&◌, List, [], ◌∷◌, length, take, drop, slice_index, Option, Some, None, filter_map}
 use Rattle.std.specs.List.{position_or_len}
-use Rattle.time_base.specs.declared.ids.DocId.{DocId}
-use Rattle.time_base.specs.declared.time.Time.{Time}
 use Rattle.commands.specs.declared.text.Text.{Text}
 use Rattle.commands.specs.declared.text.Text.TheVariants.{Bytes, TooLong}
 use Rattle.commands.specs.declared.command.Command.TheVariants.{Arrive}
 use Rattle.commands.specs.declared.command.Item.{Item}
-use Rattle.commands.specs.declared.command.Item.TheVariants.{Command, Line}
+use Rattle.commands.specs.declared.command.Item.TheVariants.{Command}
 use Rattle.script_read.specs.declared.line.Meaning.{Meaning}
 use Rattle.script_read.specs.declared.line.Meaning.TheVariants.{Skipped, Alone, Arrival, Faulty}
 use Rattle.script_read.specs.declared.first.First.{First}

@@ -40,7 +40,11 @@ pub(crate) fn without_cr(line: &[u8]) -> &[u8]
 pub(crate) fn short(ended: bool, len: usize) -> First
     ensures { result ≡ short ended len }
 {
-    if ended { First::Broken(len) } else { First::More }
+    if ended {
+        First::Broken(len)
+    } else {
+        First::More
+    }
 }
 
 /// What comes of an item whose text ends at this place of so many bytes, with the bytes behind it.
@@ -128,12 +132,7 @@ fn piece_of(
 }
 
 /// What bytes begin with whose first LF stands at this place.
-fn closed_line(
-    alloc: Global,
-    ended: bool,
-    place: usize,
-    bytes: &[u8],
-) -> Result<First, AllocError>
+fn closed_line(alloc: Global, ended: bool, place: usize, bytes: &[u8]) -> Result<First, AllocError>
     requires within { place < length bytes.now }
     requires small { length bytes.now < 2 ^ 62 }
     ensures { IfOk result (λ f. f ≡ closed_line meaning ended place (without_cr (take place bytes.now)) bytes.now) }

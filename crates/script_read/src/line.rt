@@ -43,7 +43,12 @@ fn arrival(words: &[u8]) -> Meaning
     let (doc, more) = next_word(words);
     let (at, last) = next_word(more);
     let (bytes, rest) = next_word(last);
-    match (document(doc), time(at), number_below(1 << 40, bytes), is_blank(rest)) {
+    match (
+        document(doc),
+        time(at),
+        number_below(1 << 40, bytes),
+        is_blank(rest),
+    ) {
         (Some(doc), Some(at), Some(bytes), true) => Meaning::Arrival { doc, at, bytes },
         _ => Meaning::Faulty,
     }

@@ -1,4 +1,4 @@
-use Rattle.std.proofs.Common.{arith, ap, sym, ◌∙◌, ◌≡◌, ◌≤◌, ◌<◌, length, take, ℕ}
+use Rattle.std.proofs.Common.{arith, ap, sym, ◌∙◌, ◌≡◌, take}
 use Rattle.script_read.specs.Words.{without_last_spaces}
 use Rattle.script_read.proofs.WordLemmas.{front-space, front-byte}
 use Rattle.script_read.proofs.words.without_last_spaces.Goals as goal
@@ -11,5 +11,6 @@ loop-n-preserved c =
 pub returns-clause-value : goal.returns-clause-value
 returns-clause-value c =
     elim c.loop-n-test.branch [
-      then-loop-n-test+else-is_space w ↦ sym (front-byte c.args.line.now c.loop-n.n (omega arith) c.loop-n.invariant.0 (sym w.is_space.ensures ∙ w.if-is_space.false)) ∙ c.loop-n.invariant.1
-    | else-loop-n-test w ↦ (let e : c.loop-n.n ≡ 0 = omega arith in ap (λ n. take n c.args.line.now) e ∙ ap (λ n. without_last_spaces (take n c.args.line.now)) (sym e) ∙ c.loop-n.invariant.1) ]
+      | then-loop-n-test+else-is_space w ↦ sym (front-byte c.args.line.now c.loop-n.n (omega arith) c.loop-n.invariant.0 (sym w.is_space.ensures ∙ w.if-is_space.false)) ∙ c.loop-n.invariant.1
+      | else-loop-n-test w ↦ (let e : c.loop-n.n ≡ 0 = omega arith in ap (λ n. take n c.args.line.now) e ∙ ap (λ n. without_last_spaces (take n c.args.line.now)) (sym e) ∙ c.loop-n.invariant.1)
+    ]

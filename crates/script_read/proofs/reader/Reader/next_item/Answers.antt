@@ -1,41 +1,112 @@
-use Rattle.std.proofs.Common.{rules, ◌≡◌, ◌≤◌, ◌+◌, ◌-◌, ◌<◌, ◌^◌, ◌++◌, List, [], ℕ, true, false, length, vec_len, vec_capacity, drop, All, None, Some, IfOk, IfErr, OnOk, OnErr, IsErrOf, ◌*◌, ◌/◌, ◌%◌, Bool, nat_eq, nat_lt, ◌∷◌, slice_index_or, slice_set, bit_and, bit_or, Fits, w8, w32, w64, Bor, MutBor}
-use Rattle.machine_model.specs.Causes.{Rose}
-use Rattle.script_read.specs.Items.{first, Waits}
-use Rattle.script_read.specs.Reading.{Held, fresh, gone, taken, found, StandsFor, Says, IsCalm, IsAwaited, IsSmall, IsWithin, IsPullError, IsMissing, turns}
+use Rattle.std.proofs.Common.{◌≡◌, ◌+◌, ◌++◌, [], ap, sym, ◌∙◌, refl}
+use Rattle.std.proofs.lemmas.List.Elements.{All-nil}
+use Rattle.std.proofs.lemmas.Result.{err_from_is_err_and}
+use Rattle.script_read.specs.Reading.{IsAwaited, found}
+use Rattle.script_read.specs.declared.first.First.TheVariants.{More}
+use Rattle.script_read.proofs.HeldLemmas.{still-open}
+use Rattle.script_read.proofs.CallLemmas.{goes-start, goes-front, goes-piece, goes-pull, goes-skipped, wanted, awaited-more, says-piece, says-none, says-broken, says-failed}
 use Rattle.script_read.proofs.reader.Reader.next_item.Goals as goal
 
--- src/reader.rt:95:9
 pub turns-init : goal.turns-init
-turns-init g c = ?
+turns-init g c = record {
+  only = g.met.S.Source.only_same c.args.source.now;
+  went = λ since stands. goes-start _ _ c.args.self.now since stands;
+  still = λ since stands quiet. refl;
+  awaited = λ since stands. ([], g.met.S.Source.pulled_none c.args.source.now, λ tells. All-nil (IsAwaited since (g.S.Source.source c.args.source.now).left));
+  end = λ tells first told. first told;
+}
 
--- src/reader.rt:100:25
 pub returns-then-is_some-clause-says : goal.returns-then-is_some-clause-says
-returns-then-is_some-clause-says g c = ?
+returns-then-is_some-clause-says g c = λ since stands.
+    let front = c.in_ok-piece.ensures in
+    let went = goes-front _ _ _ c.args.self.now c.turns.self c.front.new.self since [] (c.turns.invariant.went since stands) front.stands front.passed front.ended in
+    let within = rw c.in-Whole.is at front.within in
+    says-piece _ _ _ c.args.self.now c.advance.new.self since c.in-Whole.piece (sym c.is_some.ensures ∙ c.if-is_some.true)
+    (goes-piece _ _ _ c.args.self.now c.front.new.self c.advance.new.self since c.in-Whole.piece c.in-Whole.n went (sym c.in-Whole.is ∙ front.value) within.0 within.1 c.advance.ensures)
 
--- src/reader.rt:95:9
 pub turns-preserved-else-is_some-10 : goal.turns-preserved-else-is_some-10
-turns-preserved-else-is_some-10 g c = ?
+turns-preserved-else-is_some-10 g c =
+    let run = c.turns.invariant in
+    let front = c.in_ok-piece.ensures in
+    let within = rw c.in-Whole.is at front.within in
+    record {
+      only = run.only;
+      went = λ since stands.
+          goes-skipped _ _ _ c.args.self.now c.advance.new.self since c.in-Whole.piece (sym c.is_some.ensures ∙ c.if-is_some.false)
+          (goes-piece _ _ _ c.args.self.now c.front.new.self c.advance.new.self since c.in-Whole.piece c.in-Whole.n
+          (goes-front _ _ _ c.args.self.now c.turns.self c.front.new.self since [] (run.went since stands) front.stands front.passed front.ended)
+          (sym c.in-Whole.is ∙ front.value) within.0 within.1 c.advance.ensures);
+      still = run.still;
+      awaited = run.awaited;
+      end = λ tells first told. run.end tells first (sym front.ended ∙ sym (ap (λ h. h.ended) c.advance.ensures) ∙ told);
+    }
 
--- src/reader.rt:104:21
 pub returns-in-Broken-clause-says : goal.returns-in-Broken-clause-says
-returns-in-Broken-clause-says g c = ?
+returns-in-Broken-clause-says g c = λ since stands.
+    let front = c.in_ok-piece.ensures in
+    let went = goes-front _ _ _ c.args.self.now c.turns.self c.front.new.self since [] (c.turns.invariant.went since stands) front.stands front.passed front.ended in
+    says-broken _ _ _ c.args.self.now c.front.new.self since c.in-Broken.n _ went (sym c.in-Broken.is ∙ front.value) (ap (λ h. h.passed + c.in-Broken.n) c.self.view_is)
 
--- src/reader.rt:108:31
 pub returns-in-End-clause-says : goal.returns-in-End-clause-says
-returns-in-End-clause-says g c = ?
+returns-in-End-clause-says g c = λ since stands.
+    let front = c.in_ok-piece.ensures in
+    let went = goes-front _ _ _ c.args.self.now c.turns.self c.front.new.self since [] (c.turns.invariant.went since stands) front.stands front.passed front.ended in
+    says-none _ _ _ c.args.self.now c.front.new.self since went (sym c.in-End.is ∙ front.value)
 
--- src/reader.rt:95:9
 pub turns-preserved : goal.turns-preserved
-turns-preserved g c = ?
+turns-preserved g c =
+    let run = c.turns.invariant in
+    let front = c.in_ok-piece.ensures in
+    let pull = c.pull.ensures in
+    let more : More ≡ found c.front.new.self = sym c.in-More.is ∙ front.value in
+    record {
+      only = g.met.S.Source.only_joins _ _ _ run.only pull.only;
+      went = λ since stands.
+          goes-pull _ _ _ _ c.args.self.now c.front.new.self c.pull.new.self since pull.bytes.0
+          (goes-front _ _ _ c.args.self.now c.turns.self c.front.new.self since [] (run.went since stands) front.stands front.passed front.ended)
+          more (still-open c.front.new.self more) pull.bytes.1 pull.bytes.2 pull.passed pull.over;
+      still = λ since stands quiet.
+          absurd (wanted _ _ _ c.args.self.now c.front.new.self since
+          (goes-front _ _ _ c.args.self.now c.turns.self c.front.new.self since [] (run.went since stands) front.stands front.passed front.ended) more quiet);
+      awaited = λ since stands.
+          let earlier = run.awaited since stands in (
+            earlier.0 ++ pull.asked.0,
+            g.met.S.Source.pulled_joins _ _ _ _ _ earlier.1 pull.asked.1,
+            awaited-more _ _ _ c.args.self.now c.front.new.self since
+                (goes-front _ _ _ c.args.self.now c.turns.self c.front.new.self since [] (run.went since stands) front.stands front.passed front.ended)
+                more (still-open c.front.new.self more) earlier.0 pull.asked.0 earlier.2 pull.asked.2,
+          );
+      end = λ tells first told. pull.end tells told;
+    }
 
--- src/reader.rt:109:32
 pub returns-in_err-pull-in-More-clause-says : goal.returns-in_err-pull-in-More-clause-says
-returns-in_err-pull-in-More-clause-says g c = ?
+returns-in_err-pull-in-More-clause-says g c = λ since stands.
+    let front = c.in_ok-piece.ensures in
+    let pull = c.in_err-pull-in-More.ensures in
+    let more : More ≡ found c.front.new.self = sym c.in-More.is ∙ front.value in
+    let p = err_from_is_err_and c.from_residual-in_err-pull-in-More.result c.from_residual-in_err-pull-in-More.ensures.1 in
+    rw (p.1, p.2) (says-failed _ _ _ c.args.self.now c.pull.new.self since c.pull.result _
+    (goes-pull _ _ _ _ c.args.self.now c.front.new.self c.pull.new.self since pull.bytes.0
+    (goes-front _ _ _ c.args.self.now c.turns.self c.front.new.self since [] (c.turns.invariant.went since stands) front.stands front.passed front.ended)
+    more (still-open c.front.new.self more) pull.bytes.1 pull.bytes.2 pull.passed pull.over)
+    (more ∙ sym (ap found pull.err)) c.in_err-pull-in-More.was c.pull.ensures.why c.pull.ensures.failed c.pull.ensures.spent)
 
--- src/reader.rt:109:32
 pub returns-in_err-pull-in-More-clause-calm : goal.returns-in_err-pull-in-More-clause-calm
-returns-in_err-pull-in-More-clause-calm g c = ?
+returns-in_err-pull-in-More-clause-calm g c = λ since stands quiet.
+    let front = c.in_ok-piece.ensures in
+    absurd (wanted _ _ _ c.args.self.now c.front.new.self since
+    (goes-front _ _ _ c.args.self.now c.turns.self c.front.new.self since [] (c.turns.invariant.went since stands) front.stands front.passed front.ended)
+    (sym c.in-More.is ∙ front.value) quiet)
 
--- src/reader.rt:109:32
 pub returns-in_err-pull-in-More-clause-awaited : goal.returns-in_err-pull-in-More-clause-awaited
-returns-in_err-pull-in-More-clause-awaited g c = ?
+returns-in_err-pull-in-More-clause-awaited g c = λ since stands.
+    let front = c.in_ok-piece.ensures in
+    let pull = c.pull.ensures in
+    let more : More ≡ found c.front.new.self = sym c.in-More.is ∙ front.value in
+    let earlier = c.turns.invariant.awaited since stands in (
+      earlier.0 ++ pull.asked.0,
+      g.met.S.Source.pulled_joins _ _ _ _ _ earlier.1 pull.asked.1,
+      awaited-more _ _ _ c.args.self.now c.front.new.self since
+          (goes-front _ _ _ c.args.self.now c.turns.self c.front.new.self since [] (c.turns.invariant.went since stands) front.stands front.passed front.ended)
+          more (still-open c.front.new.self more) earlier.0 pull.asked.0 earlier.2 pull.asked.2,
+    )
