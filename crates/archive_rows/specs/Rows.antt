@@ -23,7 +23,9 @@ use Rattle.query_eval.specs.declared.answer.Row.{Row}
 use Rattle.query_eval.proofs.Ranks.{same-row, here, here-or-later, none}
 use Rattle.archive_state.specs.Histories.{History, text_at}
 use Rattle.archive_state.specs.Answers.{frequency_at, IsAnswerAt, IsWordList}
-use Rattle.archive_state.specs.Steps.{Find, Show, Refused, Found, Shown, Finds, Step}
+use Rattle.commands.specs.declared.command.Command.TheVariants.{Find, Show}
+use Rattle.commands.specs.declared.command.Item.TheVariants.{Command}
+use Rattle.archive_state.specs.Steps.{Refused, Found, Shown, Finds, Step}
 use Rattle.archive_state.specs.Replies.{reply_text}
 
 abbrev doc : ℕ → DocId
@@ -52,10 +54,10 @@ unfolding ucd_category caseless unicode_normalization chars encode
 frequencies = (refl, refl, refl)
 
 -- what is no query is refused, and a text is shown while it is alive
-refused : Step one_arrival (Find ten (codes "red blue")) (Refused (refusals.BadQuery 0)) one_arrival
+refused : Step one_arrival (Command (Find ten (codes "red blue"))) (Refused (refusals.BadQuery 0)) one_arrival
 refused = (refl, refl)
 
-shown : Step one_arrival (Show (doc 7) ten) (Shown (Some (codes "red a"))) one_arrival × Step one_arrival (Show (doc 7) nine) (Shown None) one_arrival
+shown : Step one_arrival (Command (Show (doc 7) ten)) (Shown (Some (codes "red a"))) one_arrival × Step one_arrival (Command (Show (doc 7) nine)) (Shown None) one_arrival
 shown = ((refl, refl), (refl, refl))
 
 -- the texts of the replies
@@ -129,7 +131,7 @@ is_red : query_of (codes "red") ≡ Some (Word red)
 unfolding ucd_category caseless unicode_normalization chars encode
 is_red = refl
 
-found : Step one_arrival (Find ten (codes "red")) (Found (hit ∷ []) 1) one_arrival
+found : Step one_arrival (Command (Find ten (codes "red"))) (Found (hit ∷ []) 1) one_arrival
 found =
     let F : Option Query → Type 0 = λ q. Finds one_arrival ten q (Found (hit ∷ []) 1) in
     (refl, subst F (sym is_red) (hit ∷ [], 1, one_row, (posting ∷ [], 0, one_posting, refl, refl), refl))

@@ -1,37 +1,8 @@
 //! What is found as of a time, and the texts that are shown.
 use crate::deletions::{expect_changes, made};
-use crate::rig::{FIRST_JOURNAL, join, make_machine, read_journal, run_on};
+use crate::rig::{FIRST_JOURNAL, Row, expect_rows, join, make_machine, read_journal, run_on};
 use archive_shell::Status;
-use std::alloc::Global;
-use std::process::Abort;
 use std::test::Fail;
-
-/// A script, and the replies to it.
-#[derive(Clone, Copy, Debug)]
-struct Row<'a> {
-    script: &'a [u8],
-    replies: &'a [u8],
-}
-
-/// Runs each script on a disk with this journal, to its end and with these replies.
-fn expect_rows(
-    rt: &impl Abort,
-    alloc: Global,
-    journal: &[u8],
-    rows: &[Row<'_>],
-) -> Result<(), Fail> {
-    for row in rows {
-        let mut machine = make_machine(rt, alloc, row.script, journal, &[])?;
-        assert_eq!(rt;
-            run_on(rt, alloc, &mut machine),
-            Status::Done,
-            "{:?}",
-            row.script
-        );
-        assert_eq!(rt; machine.shown(), row.replies, "{:?}", row.script);
-    }
-    Ok(())
-}
 
 #[test]
 fn a_word_is_found_while_a_version_has_it(rt: HostRuntime) -> Result<(), Fail> {

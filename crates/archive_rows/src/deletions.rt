@@ -1,5 +1,6 @@
 //! Deletions, by the calls of an archive in hand.
-ghost use Rattle.std.specs.Prelude.{◌≤◌, IsTrue, OnOk};
+ghost use Rattle.std.specs.Prelude.{IsTrue, OnOk};
+ghost use Rattle.archive_core.specs.States.{Reaches};
 ghost use Rattle.machine_mem.specs.Meaning.{disk_state};
 
 use crate::rig::{expect_entries, load_image, make_machine, pick_image, read_journal};
@@ -58,8 +59,8 @@ fn call(
     at: Time,
 ) -> Result<u64, ChangeError>
     requires live { IsTrue archive.old.live }
-    requires within { archive.old.end ≤ (disk_state machine.old).reach.journal }
-    ensures within { IsTrue archive.new.live → archive.new.end ≤ (disk_state machine.new).reach.journal }
+    requires within { Reaches (disk_state machine.old).reach archive.old }
+    ensures within { Reaches (disk_state machine.new).reach archive.new }
 {
     match change.text {
         Some(text) => archive.arrive(alloc, machine, DocId(change.doc), at, text),
@@ -75,8 +76,8 @@ fn expect_change(
     archive: &mut Archive,
     change: &Change<'_>,
 ) -> Result<(), Fail>
-    requires within { archive.old.end ≤ (disk_state machine.old).reach.journal }
-    ensures within { OnOk result (archive.new.end ≤ (disk_state machine.new).reach.journal) }
+    requires within { Reaches (disk_state machine.old).reach archive.old }
+    ensures within { OnOk result (Reaches (disk_state machine.new).reach archive.new) }
 {
     let at = Time::new(change.at).ok_or("no time")?;
     assert!(rt; archive.is_live());

@@ -16,6 +16,8 @@ mod faults;
 #[cfg(test)]
 mod foreign;
 #[cfg(test)]
+mod lines;
+#[cfg(test)]
 mod pieces;
 #[cfg(test)]
 mod replies;

@@ -60,7 +60,7 @@ fn a_broken_script_in_any_pieces(rt: HostRuntime) -> Result<(), Fail> {
         ],
     )?;
     let want = Outcome {
-        status: Status::Script { at: 44 },
+        status: Status::Script { at: 62 },
         replies: b"ok 1\nno 4 NoDocument\nok 2\n",
         journal: b"TIMETRAVELTEXT\x00\x01\
             \xa5\x00\x00\x00\x12\x01\x00\x00\x00\x07\x00\x00\x00\x00\x00\x00\x00\x0ared a\
@@ -142,4 +142,27 @@ fn a_pull_that_fails_ends_the_run_behind_the_items_that_are_whole(
         assert_eq!(rt; machine.shown(), &MIXED_REPLIES[..shown], "{nth}");
     }
     Ok(())
+}
+
+#[test]
+fn skipped_lines_refused_lines_and_line_ends_in_any_pieces(rt: HostRuntime) -> Result<(), Fail> {
+    let alloc = rt.alloc();
+    let script = join(
+        alloc,
+        &[
+            b"# note\r\n\r\n",
+            FIRST_SCRIPT,
+            "\r\nhello\r\narrive 8 20 8\r\nStraße\r\r\n".as_bytes(),
+            b"#\narrive 9 20 2\n\xc3\x28\nverify",
+        ],
+    )?;
+    let want = Outcome {
+        status: Status::Done,
+        replies: b"ok 1\nno 1 Line\nok 2\nno 6 BadText 0\nno 1 Line\n",
+        journal: b"TIMETRAVELTEXT\x00\x01\
+            \xa5\x00\x00\x00\x12\x01\x00\x00\x00\x07\x00\x00\x00\x00\x00\x00\x00\x0ared a\
+            \xa5\x00\x00\x00\x15\x01\x00\x00\x00\x08\x00\x00\x00\x00\x00\x00\x00\x14Stra\xc3\x9fe\r\
+            \x00",
+    };
+    expect_alike(&rt, alloc, &script, &want)
 }

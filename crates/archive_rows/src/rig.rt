@@ -1,5 +1,6 @@
 //! Machines for a row, the run over one, and what it leaves.
-ghost use Rattle.std.specs.Prelude.{◌≤◌, IsTrue, IfOk};
+ghost use Rattle.std.specs.Prelude.{IsTrue, IfOk};
+ghost use Rattle.archive_core.specs.States.{Reaches};
 ghost use Rattle.machine_mem.specs.Meaning.{disk_state};
 
 use archive_core::Archive;
@@ -94,7 +95,7 @@ pub fn load_image(
     image: Image,
 ) -> Result<(Archive, MemMachine), Fail>
     ensures live { IfOk result (λ p. IsTrue p.0.live) }
-    ensures within { IfOk result (λ p. p.0.end ≤ (disk_state p.1).reach.journal) }
+    ensures within { IfOk result (λ p. Reaches (disk_state p.1).reach p.0) }
 {
     assert!(rt; image.journal.len() <= 1 << 40);
     assert!(rt; image.pages.len() <= 1 << 40);
@@ -198,6 +199,33 @@ pub fn expect_shown(
         let least = entries.saturating_add(replies_at(rt, alloc, machine, moment)?);
         let most = least.saturating_add(1);
         expect_entries(rt, alloc, machine, moment, least, most)?;
+    }
+    Ok(())
+}
+
+/// A script, and the replies to it.
+#[derive(Clone, Copy, Debug)]
+pub struct Row<'a> {
+    pub script: &'a [u8],
+    pub replies: &'a [u8],
+}
+
+/// Runs each script on a disk with this journal, to its end and with these replies.
+pub fn expect_rows(
+    rt: &impl Abort,
+    alloc: Global,
+    journal: &[u8],
+    rows: &[Row<'_>],
+) -> Result<(), Fail> {
+    for row in rows {
+        let mut machine = make_machine(rt, alloc, row.script, journal, &[])?;
+        assert_eq!(rt;
+            run_on(rt, alloc, &mut machine),
+            Status::Done,
+            "{:?}",
+            row.script
+        );
+        assert_eq!(rt; machine.shown(), row.replies, "{:?}", row.script);
     }
     Ok(())
 }

@@ -8,7 +8,8 @@ use Rattle.commands.specs.Documents.{HasDocument}
 use Rattle.commands.specs.declared.command.Item.{Item}
 use Rattle.script_read.specs.Items.{Items}
 use Rattle.script_read.proofs.Ranges.{Items-documents}
-use Rattle.script_read.proofs.Joins.{items-join, each_splits}
+use Rattle.script_read.proofs.Joins.{items-join}
+use Rattle.script_read.proofs.Splitting.{each_splits}
 use Rattle.archive_state.specs.Histories.{History, IsLegal}
 use Rattle.archive_state.specs.Steps.{Reply, Step}
 use Rattle.archive_state.specs.Replies.{reply_text}

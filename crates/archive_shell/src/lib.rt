@@ -16,5 +16,5 @@ mod show;
 mod status;
 mod stop;
 
-pub use program::run;
+pub use program::{are_refused, run};
 pub use status::Status;

@@ -1,5 +1,5 @@
 //! The program's run.
-ghost use Rattle.std.specs.Prelude.{◌≡◌, ◌⊎◌, ◌↔◌, ◌<◌, ◌≤◌, ◌^◌, ℕ, List, length};
+ghost use Rattle.std.specs.Prelude.{◌≡◌, ◌⊎◌, ◌↔◌, ◌<◌, ◌≤◌, ◌^◌, ℕ, List, length, IsTrue};
 ghost use Rattle.machine_model.specs.Calls.{Syncs};
 ghost use Rattle.machine_model.specs.Causes.{Rose};
 ghost use Rattle.machine_model.specs.Pulls.{Pull};
@@ -14,6 +14,14 @@ use crate::status::Status;
 use archive_core::Archive;
 use machine_model::Machine;
 use std::alloc::Global;
+
+/// Whether a run refuses these words of the command line, without the program's name, before it
+/// touches anything: each word is one too many. Constant cost.
+pub fn are_refused(words: &[String]) -> bool
+    ensures { IsTrue result ↔ (1 ≤ length words.now) }
+{
+    !words.is_empty()
+}
 
 /// Runs the program on a machine: `words` are those of the command line without the program's name.
 ///
@@ -53,7 +61,7 @@ pub fn run<M: Machine>(alloc: Global, words: &[String], machine: &mut M) -> Stat
         (Rose (M.sink machine.old).faults (M.sink machine.new).faults → ⊥) →
         (result ≡ Status.Done) ⊎ (result ≡ Status.Memory) }
 {
-    if !words.is_empty() {
+    if are_refused(words) {
         return Status::Usage;
     }
     let mut desk = match Desk::new(alloc) {

@@ -1,5 +1,5 @@
 //! The reader of a script.
-ghost use Rattle.std.specs.Prelude.{◌≡◌, ◌≤◌, ◌+◌, ◌-◌, ◌<◌, ◌^◌, ◌++◌, List, [], ℕ, true, false, length, vec_len, vec_capacity, drop, All, None, Some, IfOk, IfErr, OnOk, OnErr, IsErrOf};
+ghost use Rattle.std.specs.Prelude.{◌≡◌, ◌≤◌, ◌+◌, ◌-◌, ◌<◌, ◌^◌, ◌++◌, List, [], ℕ, true, false, length, vec_len, vec_capacity, drop, All, None, Some, IsSome, IfOk, IfErr, OnOk, OnErr, IsErrOf};
 ghost use Rattle.machine_model.specs.Causes.{Rose};
 ghost use Rattle.script_read.specs.Items.{first, Waits};
 ghost use Rattle.script_read.specs.Reading.{Held, fresh, gone, taken, found, StandsFor, Says, IsCalm, IsAwaited, IsSmall, IsWithin, IsPullError, IsMissing, turns};
@@ -89,6 +89,8 @@ impl Reader {
         ensures awaited { (since : List ℕ) → StandsFor self.old since → ((lefts : List (List ℕ)) × S.pulled source.old lefts source.new
             × (S.source_tells → All (IsAwaited since (S.source source.old).left) lefts)) }
         ensures bound { taken self.new ≤ 2 ^ 40 }
+        // An item lets bytes go.
+        ensures further { IfOk result (λ item. IsSome item → self.old.passed < self.new.passed) }
         // The end, once told, is the source's.
         ensures end { S.source_tells → (self.old.ended ≡ true → (S.source source.old).left ≡ []) → self.new.ended ≡ true → (S.source source.new).left ≡ [] }
     {

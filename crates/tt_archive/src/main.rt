@@ -19,7 +19,7 @@ mod sink;
 mod source;
 mod store;
 
-use archive_shell::{Status, run};
+use archive_shell::{Status, are_refused, run};
 use machine::open_machine;
 use std::env::Env;
 use std::fs::Files;
@@ -44,18 +44,30 @@ fn finish<R: Eprint>(rt: &R, status: Status) -> ExitCode
     ExitCode::from(code)
 }
 
-/// Opens the files of the working folder and runs the words of the command line on them. Words
-/// that aren't text count as one word too many.
+/// Reads the words of the command line, and then opens the files of the working folder and runs
+/// the words on them. Words that are refused touch no file.
 fn run_here<R: Files + Input + Print + Env + AllocGlobal>(rt: &R) -> Status
 where
     R::File: FileExt,
 {
+    let words = match words(rt) {
+        Ok(words) => words,
+        Err(error) => return status_of_words(&error),
+    };
+    if are_refused(&words) {
+        return Status::Usage;
+    }
     let Ok(mut machine) = open_machine(rt) else {
         return Status::Disk;
     };
-    match words(rt) {
-        Ok(words) => run(rt.alloc(), &words, &mut machine),
-        Err(_) => Status::Usage,
+    run(rt.alloc(), &words, &mut machine)
+}
+
+/// How a run ends whose words couldn't be read: there was no memory for them, or one isn't text.
+fn status_of_words(error: &io::Error) -> Status {
+    match error.kind() {
+        io::ErrorKind::OutOfMemory => Status::Memory,
+        _ => Status::Usage,
     }
 }
 

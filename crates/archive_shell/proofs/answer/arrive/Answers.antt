@@ -1,27 +1,23 @@
-use Rattle.std.proofs.Common.{List, ℕ, Err, ap, inl, inr, subst, refl}
-use Rattle.archive_state.specs.Steps.{Arrive}
+use Rattle.std.proofs.Common.{ℕ, List, refl, sym, subst}
+use Rattle.commands.specs.declared.command.Command.TheVariants as plain
+use Rattle.commands.specs.declared.command.Item.TheVariants as items
+use Rattle.commands.specs.declared.text.Text.{Text}
+use Rattle.commands.specs.declared.text.Text.TheVariants as texts
+use Rattle.archive_state.specs.declared.refusal.Refusal.TheVariants as refusals
+use Rattle.archive_core.specs.Takes.{Takes, changed}
 use Rattle.archive_shell.specs.Turns.{Answers}
-use Rattle.archive_shell.proofs.TurnLemmas.{arrived, not_arrived}
+use Rattle.archive_shell.proofs.TurnLemmas.{answers_by, refused_by}
 use Rattle.archive_shell.proofs.answer.arrive.Goals as goal
 
-pub returns-in-Ok-clause-turn : goal.returns-in-Ok-clause-turn
-returns-in-Ok-clause-turn g c = λ tells h kept.
-    let made = c.in-Ok.ensures in
-    let P : List ℕ → Type 0 = λ text. Answers h (Arrive c.args.doc c.args.at text) c.accept.result (g.D.Disk.disk c.args.disk.now) (g.D.Disk.disk c.arrive.new.disk) c.arrive.new.self c.accept.new.page.bytes in
-    subst P c.as_slice.ensures (arrived h c.args.doc c.args.at c.as_slice.result.now c.in-Ok.length (g.D.Disk.disk c.args.disk.now) (g.D.Disk.disk c.arrive.new.disk) c.arrive.new.self c.accept.result c.accept.new.page.bytes
-    (made.allowed h kept.stands (inl refl)) (made.stands h kept.stands).1 c.accept.ensures.reply (made.crash tells h kept) (made.kept tells h kept))
+pub returns-in-Bytes-clause-turn : goal.returns-in-Bytes-clause-turn
+returns-in-Bytes-clause-turn g c = λ tells h kept.
+    let T : Text → Type 0 = λ t. Answers h (items.Command (plain.Arrive c.args.doc c.args.at t)) c.write_change.result (g.D.Disk.disk c.args.disk.now) (g.D.Disk.disk c.arrive-result.new.disk) c.arrive-result.new.self c.write_change.new.page.bytes in
+    let B : List ℕ → Type 0 = λ b. Takes h (items.Command (plain.Arrive c.args.doc c.args.at (texts.Bytes b))) (changed c.arrive-result.result) (g.D.Disk.disk c.args.disk.now) (g.D.Disk.disk c.arrive-result.new.disk) c.arrive-result.new.self in
+    subst T (sym c.in-Bytes.is) (answers_by h (items.Command (plain.Arrive c.args.doc c.args.at (texts.Bytes c.in-Bytes.content))) (changed c.arrive-result.result) c.write_change.result _ _ c.arrive-result.new.self c.write_change.new.page.bytes
+    (subst B c.as_slice.ensures.value (c.arrive-result.ensures.takes tells h kept)) c.write_change.ensures.writes)
 
-pub returns-clause-turn : goal.returns-clause-turn
-returns-clause-turn g c = λ tells h kept.
-    let failed = c.in-Err.ensures in
-    let P : List ℕ → Type 0 = λ text. Answers h (Arrive c.args.doc c.args.at text) c.refuse.result (g.D.Disk.disk c.args.disk.now) (g.D.Disk.disk c.arrive.new.disk) c.arrive.new.self c.refuse.new.page.bytes in
-    subst P c.as_slice.ensures (not_arrived h c.args.doc c.args.at c.as_slice.result.now c.in-Err.error (g.D.Disk.disk c.args.disk.now) (g.D.Disk.disk c.arrive.new.disk) c.args.archive.now c.arrive.new.self c.refuse.result c.refuse.new.page.bytes
-    (record {
-      refused = λ why is. failed.refused h kept.stands why (ap Err is);
-      same = λ why is. (let same = failed.same why (ap Err is) in (same.0, ap g.D.Disk.disk same.1));
-      allowed = λ is. failed.allowed h kept.stands (inr (ap Err is));
-      memory = λ is. ap g.D.Disk.disk (failed.memory (ap Err is));
-      leads = failed.crash tells h kept;
-      kept = kept;
-    })
-    c.refuse.ensures)
+pub returns-in-TooLong-clause-turn : goal.returns-in-TooLong-clause-turn
+returns-in-TooLong-clause-turn g c = λ tells h kept.
+    let T : Text → Type 0 = λ t. Answers h (items.Command (plain.Arrive c.args.doc c.args.at t)) c.refuse.result (g.D.Disk.disk c.args.disk.now) (g.D.Disk.disk c.args.disk.now) c.args.archive.now c.refuse.new.page.bytes in
+    subst T (sym c.in-TooLong.is) (refused_by h (items.Command (plain.Arrive c.args.doc c.args.at (texts.TooLong c.in-TooLong.bytes))) (refusals.TooLong 4194304) c.refuse.result _ c.args.archive.now c.refuse.new.page.bytes
+    (refl, refl) kept c.refuse.ensures.goes_on c.refuse.ensures.reply)

@@ -1,4 +1,6 @@
-use Rattle.std.proofs.Common.{◌≡◌, ◌⊎◌, Err, refl, inr, ap, sym, subst}
+use Rattle.std.proofs.Common.{◌≡◌, ◌⊎◌, ◌<◌, ℕ, [], length, Err, refl, inl, inr, ap, sym, subst}
+use Rattle.std.proofs.lemmas.Bool.{cases_lt}
+use Rattle.machine_model.specs.Calls.{Syncs}
 use Rattle.machine_model.specs.Causes.{Rose}
 use Rattle.machine_model.specs.States.{SourceState, SinkState}
 use Rattle.archive_state.specs.Histories.{History}
@@ -6,14 +8,39 @@ use Rattle.archive_state.proofs.StandsLemmas.{spells_one_history, stands_is_arch
 use Rattle.archive_core.specs.States.{IsKept}
 use Rattle.archive_shell.specs.Headline.{Headline, EndsEarly}
 use Rattle.archive_shell.specs.declared.status.Status.{Status}
-use Rattle.archive_shell.specs.declared.status.Status.TheVariants.{Done, NotArchive, Memory}
-use Rattle.archive_shell.proofs.EndLemmas.{keeps_still, not_begun, serving_start, whole_run, completes, load_early, load_refused, load_completes, rose_earlier, serves_of}
+use Rattle.archive_shell.specs.declared.status.Status.TheVariants.{Done, NotArchive, Disk, Memory}
+use Rattle.archive_shell.proofs.EndLemmas.{keeps_still, syncs_still, not_begun, serving_start, whole_run, completes, load_early, load_refused, load_completes, rose_earlier, serves_of}
 use Rattle.archive_shell.proofs.program.run.Goals as goal
+
+pub returns-in-Err-clause-left_alone : goal.returns-in-Err-clause-left_alone
+returns-in-Err-clause-left_alone g c = λ disk_tells none at refused. (refl, refl, syncs_still (g.M.Disk.disk c.args.machine.now))
 
 pub returns-in-Err-clause-headline : goal.returns-in-Err-clause-headline
 returns-in-Err-clause-headline g c = λ source_tells sink_tells disk_tells none h stands.
+    let m = c.args.machine.now in (
+      [],
+      g.met.M.Machine.disk_asks_nothing m m (g.met.M.Disk.only_same m),
+      not_begun h Memory (record { source = g.M.Source.source m; sink = g.M.Sink.sink m; disk = g.M.Disk.disk m }) (g.M.Sink.sink m) (g.M.Disk.disk m) (inr (inr refl)) refl
+          (g.met.M.Machine.beside_shown m sink_tells disk_tells) (λ each. keeps_still h (g.M.Disk.disk m) each),
+    )
+
+pub returns-in-Err-load-clause-refused : goal.returns-in-Err-load-clause-refused
+returns-in-Err-load-clause-refused g c = λ disk_tells none at refused.
+    let P : Status → Type 0 = λ s. (s ≡ NotArchive at) ⊎ ((s ≡ Disk) ⊎ (s ≡ Memory)) in
+    subst P (sym c.from.ensures) (load_refused c.in-Err-load.error at (λ place is. not_archive_once (g.M.Disk.disk c.args.machine.now).holds place at (c.in-Err-load.ensures.not_archive disk_tells place (ap Err is)) refused))
+
+pub returns-in-Err-load-clause-left_alone : goal.returns-in-Err-load-clause-left_alone
+returns-in-Err-load-clause-left_alone g c = λ disk_tells none at refused.
     let m = c.args.machine.now in
-    not_begun h Memory (g.M.Source.source m) (g.M.Sink.sink m) (g.M.Sink.sink m) (g.M.Disk.disk m) (g.M.Disk.disk m) (inr (inr refl)) refl (g.met.M.Machine.beside_shown m sink_tells disk_tells) (λ each. keeps_still h (g.M.Disk.disk m) each)
+    let image = (g.M.Disk.disk m).holds in
+    let alone = g.met.M.Machine.disk_alone m c.load.new.disk c.load.ensures.only in (
+      alone.0,
+      alone.1,
+      elim (cases_lt 17 (length image.journal)) as (λ _. Syncs (g.M.Disk.disk m) (g.M.Disk.disk c.load.new.disk)) [
+        | inl long ↦ c.in-Err-load.ensures.longer disk_tells long
+        | inr short ↦ absurd (stands_is_archive [] image at (record { spelled = inl (short, refl); legal = tt }) refused)
+      ],
+    )
 
 pub returns-in-Err-load-clause-headline : goal.returns-in-Err-load-clause-headline
 returns-in-Err-load-clause-headline g c = λ source_tells sink_tells disk_tells none h stands.
@@ -22,14 +49,12 @@ returns-in-Err-load-clause-headline g c = λ source_tells sink_tells disk_tells 
     let alone = g.met.M.Machine.disk_alone m n c.load.ensures.only in
     let early = load_early c.in-Err-load.error (λ at is. stands_is_archive h (g.M.Disk.disk m).holds at stands (c.in-Err-load.ensures.not_archive disk_tells at (ap Err is))) in
     let E : Status → Type 0 = λ s. EndsEarly s in
-    let S : SourceState → Type 0 = λ s. Headline h c.from.result (g.M.Source.source m) s (g.M.Sink.sink m) (g.M.Sink.sink n) (g.M.Disk.disk m) (g.M.Disk.disk n) in
-    subst S (sym alone.0) (not_begun h c.from.result (g.M.Source.source m) (g.M.Sink.sink m) (g.M.Sink.sink n) (g.M.Disk.disk m) (g.M.Disk.disk n) (subst E (sym c.from.ensures) early) alone.1
-    (g.met.M.Machine.beside_shown m sink_tells disk_tells) (λ each. c.in-Err-load.ensures.crash disk_tells h each))
-
-pub returns-in-Err-load-clause-refused : goal.returns-in-Err-load-clause-refused
-returns-in-Err-load-clause-refused g c = λ disk_tells none at refused.
-    let P : Status → Type 0 = λ s. (s ≡ NotArchive at) ⊎ EndsEarly s in
-    subst P (sym c.from.ensures) (load_refused c.in-Err-load.error at (λ place is. not_archive_once (g.M.Disk.disk c.args.machine.now).holds.journal place at (c.in-Err-load.ensures.not_archive disk_tells place (ap Err is)) refused))
+    let S : SourceState → Type 0 = λ s. Headline h c.from.result (record { source = g.M.Source.source m; sink = g.M.Sink.sink m; disk = g.M.Disk.disk m }) (record { source = s; sink = g.M.Sink.sink n; disk = g.M.Disk.disk n }) [] in (
+      [],
+      g.met.M.Machine.disk_asks_nothing m n c.load.ensures.only,
+      subst S (sym alone.0) (not_begun h c.from.result (record { source = g.M.Source.source m; sink = g.M.Sink.sink m; disk = g.M.Disk.disk m }) (g.M.Sink.sink n) (g.M.Disk.disk n) (subst E (sym c.from.ensures) early) alone.1
+          (g.met.M.Machine.beside_shown m sink_tells disk_tells) (λ each. c.in-Err-load.ensures.crash disk_tells h each)),
+    )
 
 pub returns-in-Err-load-clause-complete : goal.returns-in-Err-load-clause-complete
 returns-in-Err-load-clause-complete g c = λ source_tells sink_tells disk_tells none archive script few disk source sink.
@@ -39,34 +64,43 @@ returns-in-Err-load-clause-complete g c = λ source_tells sink_tells disk_tells 
 pub returns-clause-refused : goal.returns-clause-refused
 returns-clause-refused g c = λ disk_tells none at refused. absurd (c.in-Ok-load.ensures.exact disk_tells at refused)
 
+pub returns-clause-left_alone : goal.returns-clause-left_alone
+returns-clause-left_alone g c = λ disk_tells none at refused. absurd (c.in-Ok-load.ensures.exact disk_tells at refused)
+
 pub returns-clause-headline : goal.returns-clause-headline
 returns-clause-headline g c = λ source_tells sink_tells disk_tells none h stands.
     let m = c.args.machine.now in
     let n = c.load.new.disk in
+    let last = c.serve.new.machine in
     let alone = g.met.M.Machine.disk_alone m n c.load.ensures.only in
     let found = c.in-Ok-load.ensures.found disk_tells in
-    let same = spells_one_history (g.M.Disk.disk m).holds.journal found.0 h found.2 found.1.stands.legal stands.spelled stands.legal in
+    let same = spells_one_history (g.M.Disk.disk m).holds.journal found.0 h found.2 found.1.stands.loadable stands.spelled stands.legal in
     let K : History → Type 0 = λ k. IsKept (g.M.Disk.disk n) c.in-Ok-load.archive k in
     let served = c.serve.ensures.served source_tells sink_tells disk_tells h
-    (serving_start h (g.M.Source.source n) (g.M.Sink.sink n) (g.M.Disk.disk n) c.in-Ok-load.archive c.in-Ok.desk.reader c.in-Ok.ensures (g.met.M.Machine.beside_shown n sink_tells disk_tells) (subst K same found.1)) in
-    let here = serves_of h c.serve.result (g.M.Source.source n) (g.M.Source.source m) (g.M.Source.source c.serve.new.machine) (g.M.Sink.sink n) (g.M.Sink.sink m) (g.M.Sink.sink c.serve.new.machine)
-    (g.M.Disk.disk n) (g.M.Disk.disk c.serve.new.machine) alone.0 alone.1 served in
-    whole_run h c.serve.result (g.M.Source.source m) (g.M.Source.source c.serve.new.machine) (g.M.Sink.sink m) (g.M.Sink.sink c.serve.new.machine) (g.M.Disk.disk m) (g.M.Disk.disk n) (g.M.Disk.disk c.serve.new.machine)
-    (g.met.M.Machine.beside_shown m sink_tells disk_tells) (λ each. c.in-Ok-load.ensures.crash disk_tells h each) here
+    (serving_start h (record { source = g.M.Source.source n; sink = g.M.Sink.sink n; disk = g.M.Disk.disk n }) c.in-Ok-load.archive c.in-Ok.desk.reader c.in-Ok.ensures (g.met.M.Machine.beside_shown n sink_tells disk_tells) (subst K same found.1)) in
+    let here = serves_of h c.serve.result (g.M.Source.source n) (g.M.Source.source m) (g.M.Sink.sink n) (g.M.Sink.sink m) (g.M.Disk.disk n)
+    (record { source = g.M.Source.source last; sink = g.M.Sink.sink last; disk = g.M.Disk.disk last }) served.0 alone.0 alone.1 served.2 in (
+      served.0,
+      g.M.Machine.asked_joins m n last [] served.0 (g.met.M.Machine.disk_asks_nothing m n c.load.ensures.only) served.1,
+      whole_run h c.serve.result (record { source = g.M.Source.source m; sink = g.M.Sink.sink m; disk = g.M.Disk.disk m }) (g.M.Disk.disk n)
+          (record { source = g.M.Source.source last; sink = g.M.Sink.sink last; disk = g.M.Disk.disk last }) served.0
+          (g.met.M.Machine.beside_shown m sink_tells disk_tells) (λ each. c.in-Ok-load.ensures.crash disk_tells h each) here,
+    )
 
 pub returns-clause-complete : goal.returns-clause-complete
 returns-clause-complete g c = λ source_tells sink_tells disk_tells none archive script few disk source sink.
     let m = c.args.machine.now in
     let n = c.load.new.disk in
+    let last = c.serve.new.machine in
     let alone = g.met.M.Machine.disk_alone m n c.load.ensures.only in
     let found = c.in-Ok-load.ensures.found disk_tells in
     let served = c.serve.ensures.served source_tells sink_tells disk_tells found.0
-    (serving_start found.0 (g.M.Source.source n) (g.M.Sink.sink n) (g.M.Disk.disk n) c.in-Ok-load.archive c.in-Ok.desk.reader c.in-Ok.ensures (g.met.M.Machine.beside_shown n sink_tells disk_tells) found.1) in
-    let here = serves_of found.0 c.serve.result (g.M.Source.source n) (g.M.Source.source m) (g.M.Source.source c.serve.new.machine) (g.M.Sink.sink n) (g.M.Sink.sink m) (g.M.Sink.sink c.serve.new.machine)
-    (g.M.Disk.disk n) (g.M.Disk.disk c.serve.new.machine) alone.0 alone.1 served in
-    let S : SourceState → Type 0 = λ s. Rose s.faults (g.M.Source.source c.serve.new.machine).faults in
-    let T : SinkState → Type 0 = λ s. Rose s.faults (g.M.Sink.sink c.serve.new.machine).faults in
-    completes found.0 c.serve.result (g.M.Source.source m) (g.M.Source.source c.serve.new.machine) (g.M.Sink.sink m) (g.M.Sink.sink c.serve.new.machine) (g.M.Disk.disk n) (g.M.Disk.disk c.serve.new.machine) here script few
+    (serving_start found.0 (record { source = g.M.Source.source n; sink = g.M.Sink.sink n; disk = g.M.Disk.disk n }) c.in-Ok-load.archive c.in-Ok.desk.reader c.in-Ok.ensures (g.met.M.Machine.beside_shown n sink_tells disk_tells) found.1) in
+    let here = serves_of found.0 c.serve.result (g.M.Source.source n) (g.M.Source.source m) (g.M.Sink.sink n) (g.M.Sink.sink m) (g.M.Disk.disk n)
+    (record { source = g.M.Source.source last; sink = g.M.Sink.sink last; disk = g.M.Disk.disk last }) served.0 alone.0 alone.1 served.2 in
+    let S : SourceState → Type 0 = λ s. Rose s.faults (g.M.Source.source last).faults in
+    let T : SinkState → Type 0 = λ s. Rose s.faults (g.M.Sink.sink last).faults in
+    completes found.0 c.serve.result (record { source = g.M.Source.source m; sink = g.M.Sink.sink m; disk = g.M.Disk.disk n }) (record { source = g.M.Source.source last; sink = g.M.Sink.sink last; disk = g.M.Disk.disk last }) served.0 here script few
     c.serve.ensures.no_usage c.serve.ensures.no_load
-    (λ is. disk (rose_earlier (g.M.Disk.disk m).faults (g.M.Disk.disk n).faults (g.M.Disk.disk c.serve.new.machine).faults (g.met.M.Disk.only_faults m n c.load.ensures.only) (c.serve.ensures.disk_fault is)))
+    (λ is. disk (rose_earlier (g.M.Disk.disk m).faults (g.M.Disk.disk n).faults (g.M.Disk.disk last).faults (g.met.M.Disk.only_faults m n c.load.ensures.only) (c.serve.ensures.disk_fault is)))
     (λ is. source (subst S alone.0 (c.serve.ensures.source_fault is))) (λ is. sink (subst T alone.1 (c.serve.ensures.sink_fault is)))

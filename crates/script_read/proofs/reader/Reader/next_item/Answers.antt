@@ -1,4 +1,4 @@
-use Rattle.std.proofs.Common.{◌≡◌, ◌+◌, ◌++◌, [], ap, sym, ◌∙◌, refl}
+use Rattle.std.proofs.Common.{◌≡◌, ◌+◌, ◌<◌, ◌++◌, [], ap, sym, ◌∙◌, refl, arith}
 use Rattle.std.proofs.lemmas.List.Elements.{All-nil}
 use Rattle.std.proofs.lemmas.Result.{err_from_is_err_and}
 use Rattle.script_read.specs.Reading.{IsAwaited, found}
@@ -13,6 +13,7 @@ turns-init g c = record {
   went = λ since stands. goes-start _ _ c.args.self.now since stands;
   still = λ since stands quiet. refl;
   awaited = λ since stands. ([], g.met.S.Source.pulled_none c.args.source.now, λ tells. All-nil (IsAwaited since (g.S.Source.source c.args.source.now).left));
+  further = omega arith;
   end = λ tells first told. first told;
 }
 
@@ -23,6 +24,13 @@ returns-then-is_some-clause-says g c = λ since stands.
     let within = rw c.in-Whole.is at front.within in
     says-piece _ _ _ c.args.self.now c.advance.new.self since c.in-Whole.piece (sym c.is_some.ensures ∙ c.if-is_some.true)
     (goes-piece _ _ _ c.args.self.now c.front.new.self c.advance.new.self since c.in-Whole.piece c.in-Whole.n went (sym c.in-Whole.is ∙ front.value) within.0 within.1 c.advance.ensures)
+
+pub returns-then-is_some-clause-further : goal.returns-then-is_some-clause-further
+returns-then-is_some-clause-further g c =
+    let front = c.in_ok-piece.ensures in
+    let within = rw c.in-Whole.is at front.within in
+    let later : c.args.self.now.passed < c.advance.new.self.passed = omega (arith, c.turns.invariant.further, front.passed, within.0, ap (λ h. h.passed) c.advance.ensures) in
+    λ some. later
 
 pub turns-preserved-else-is_some-10 : goal.turns-preserved-else-is_some-10
 turns-preserved-else-is_some-10 g c =
@@ -38,6 +46,7 @@ turns-preserved-else-is_some-10 g c =
           (sym c.in-Whole.is ∙ front.value) within.0 within.1 c.advance.ensures);
       still = run.still;
       awaited = run.awaited;
+      further = omega (arith, run.further, front.passed, within.0, ap (λ h. h.passed) c.advance.ensures);
       end = λ tells first told. run.end tells first (sym front.ended ∙ sym (ap (λ h. h.ended) c.advance.ensures) ∙ told);
     }
 
@@ -76,6 +85,7 @@ turns-preserved g c =
                 (goes-front _ _ _ c.args.self.now c.turns.self c.front.new.self since [] (run.went since stands) front.stands front.passed front.ended)
                 more (still-open c.front.new.self more) earlier.0 pull.asked.0 earlier.2 pull.asked.2,
           );
+      further = omega (arith, run.further, front.passed, pull.passed);
       end = λ tells first told. pull.end tells told;
     }
 

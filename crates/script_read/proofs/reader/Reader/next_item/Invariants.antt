@@ -1,4 +1,4 @@
-use Rattle.std.proofs.Common.{◌≡◌, true, List, [], ℕ, All}
+use Rattle.std.proofs.Common.{◌≡◌, ◌≤◌, true, List, [], ℕ, All}
 use Rattle.script_read.specs.Items.{Waits}
 use Rattle.script_read.specs.Reading.{StandsFor, IsAwaited, turns}
 use Rattle.script_read.proofs.CallLemmas.{Goes}
@@ -12,6 +12,7 @@ invariant-turns g l = record {
   still : (since : List ℕ) → StandsFor l.initial.self since → ¬ (Waits l.initial.self.ended since) → l.source ≡ l.initial.source;
   awaited : (since : List ℕ) → StandsFor l.initial.self since → ((lefts : List (List ℕ)) × g.S.Source.pulled l.initial.source lefts l.source
       × (g.S.Source.source_tells → All (IsAwaited since (g.S.Source.source l.initial.source).left) lefts));
+  further : l.initial.self.passed ≤ l.self.passed;
   end : g.S.Source.source_tells → (l.initial.self.ended ≡ true → (g.S.Source.source l.initial.source).left ≡ []) → l.self.ended ≡ true → (g.S.Source.source l.source).left ≡ [];
 }
 

@@ -1,0 +1,53 @@
+use Rattle.std.proofs.Common.{ℕ, List, refl, sym, subst}
+use Rattle.commands.specs.declared.command.Command.{Command}
+use Rattle.commands.specs.declared.command.Command.TheVariants as plain
+use Rattle.commands.specs.declared.command.Item.TheVariants as items
+use Rattle.archive_state.specs.declared.refusal.Refusal.TheVariants as refusals
+use Rattle.archive_core.specs.Takes.{Takes, changed, found, shown}
+use Rattle.archive_shell.specs.Turns.{Answers}
+use Rattle.archive_shell.proofs.TurnLemmas.{answers_by, refused_by}
+use Rattle.archive_shell.proofs.answer.carry_out.Goals as goal
+
+pub returns-in-Delete-clause-turn : goal.returns-in-Delete-clause-turn
+returns-in-Delete-clause-turn g c = λ tells h kept.
+    let C : Command → Type 0 = λ d. Answers h (items.Command d) c.write_change.result (g.D.Disk.disk c.args.disk.now) (g.D.Disk.disk c.delete-result.new.disk) c.delete-result.new.self c.write_change.new.page.bytes in
+    subst C (sym c.in-Delete.is) (answers_by h (items.Command (plain.Delete c.in-Delete.doc c.in-Delete.at)) (changed c.delete-result.result) c.write_change.result _ _ c.delete-result.new.self c.write_change.new.page.bytes
+    (c.delete-result.ensures.takes tells h kept) c.write_change.ensures.writes)
+
+pub returns-in-Find-clause-turn : goal.returns-in-Find-clause-turn
+returns-in-Find-clause-turn g c = λ tells h kept.
+    let C : Command → Type 0 = λ d. Answers h (items.Command d) c.write_found.result (g.D.Disk.disk c.args.disk.now) (g.D.Disk.disk c.find-result.new.disk) c.args.archive.now c.write_found.new.page.bytes in
+    let B : List ℕ → Type 0 = λ b. Takes h (items.Command (plain.Find c.in-Find.at b)) (found c.find-result.result) (g.D.Disk.disk c.args.disk.now) (g.D.Disk.disk c.find-result.new.disk) c.args.archive.now in
+    subst C (sym c.in-Find.is) (answers_by h (items.Command (plain.Find c.in-Find.at c.in-Find.expr)) (found c.find-result.result) c.write_found.result _ _ c.args.archive.now c.write_found.new.page.bytes
+    (subst B c.as_str.ensures.value (c.find-result.ensures.takes tells h kept)) c.write_found.ensures.writes)
+
+pub returns-in-Show-clause-turn : goal.returns-in-Show-clause-turn
+returns-in-Show-clause-turn g c = λ tells h kept.
+    let C : Command → Type 0 = λ d. Answers h (items.Command d) c.write_shown.result (g.D.Disk.disk c.args.disk.now) (g.D.Disk.disk c.show-result.new.disk) c.args.archive.now c.write_shown.new.page.bytes in
+    subst C (sym c.in-Show.is) (answers_by h (items.Command (plain.Show c.in-Show.doc c.in-Show.at)) (shown (λ v. v.items) c.show-result.result) c.write_shown.result _ _ c.args.archive.now c.write_shown.new.page.bytes
+    (c.show-result.ensures.takes tells h kept) c.write_shown.ensures.writes)
+
+pub returns-in-Plan-clause-turn : goal.returns-in-Plan-clause-turn
+returns-in-Plan-clause-turn g c = λ tells h kept.
+    let C : Command → Type 0 = λ d. Answers h (items.Command d) c.refuse.result (g.D.Disk.disk c.args.disk.now) (g.D.Disk.disk c.args.disk.now) c.args.archive.now c.refuse.new.page.bytes in
+    subst C (sym c.in-Plan.is) (refused_by h (items.Command (plain.Plan c.in-Plan.word c.in-Plan.kind c.in-Plan.fraction)) refusals.Line c.refuse.result _ c.args.archive.now c.refuse.new.page.bytes (refl, refl) kept c.refuse.ensures.goes_on c.refuse.ensures.reply)
+
+pub returns-in-Propose-clause-turn : goal.returns-in-Propose-clause-turn
+returns-in-Propose-clause-turn g c = λ tells h kept.
+    let C : Command → Type 0 = λ d. Answers h (items.Command d) c.refuse-in-Propose.result (g.D.Disk.disk c.args.disk.now) (g.D.Disk.disk c.args.disk.now) c.args.archive.now c.refuse-in-Propose.new.page.bytes in
+    subst C (sym c.in-Propose.is) (refused_by h (items.Command (plain.Propose c.in-Propose.word c.in-Propose.fraction)) refusals.Line c.refuse-in-Propose.result _ c.args.archive.now c.refuse-in-Propose.new.page.bytes (refl, refl) kept c.refuse-in-Propose.ensures.goes_on c.refuse-in-Propose.ensures.reply)
+
+pub returns-in-Between-clause-turn : goal.returns-in-Between-clause-turn
+returns-in-Between-clause-turn g c = λ tells h kept.
+    let C : Command → Type 0 = λ d. Answers h (items.Command d) c.refuse-in-Between.result (g.D.Disk.disk c.args.disk.now) (g.D.Disk.disk c.args.disk.now) c.args.archive.now c.refuse-in-Between.new.page.bytes in
+    subst C (sym c.in-Between.is) (refused_by h (items.Command (plain.Between c.in-Between.span c.in-Between.expr)) refusals.Line c.refuse-in-Between.result _ c.args.archive.now c.refuse-in-Between.new.page.bytes (refl, refl) kept c.refuse-in-Between.ensures.goes_on c.refuse-in-Between.ensures.reply)
+
+pub returns-in-Certificate-clause-turn : goal.returns-in-Certificate-clause-turn
+returns-in-Certificate-clause-turn g c = λ tells h kept.
+    let C : Command → Type 0 = λ d. Answers h (items.Command d) c.refuse-in-Certificate.result (g.D.Disk.disk c.args.disk.now) (g.D.Disk.disk c.args.disk.now) c.args.archive.now c.refuse-in-Certificate.new.page.bytes in
+    subst C (sym c.in-Certificate.is) (refused_by h (items.Command (plain.Certificate c.in-Certificate.word)) refusals.Line c.refuse-in-Certificate.result _ c.args.archive.now c.refuse-in-Certificate.new.page.bytes (refl, refl) kept c.refuse-in-Certificate.ensures.goes_on c.refuse-in-Certificate.ensures.reply)
+
+pub returns-clause-turn : goal.returns-clause-turn
+returns-clause-turn g c = λ tells h kept.
+    let C : Command → Type 0 = λ d. Answers h (items.Command d) c.refuse-in-Verify.result (g.D.Disk.disk c.args.disk.now) (g.D.Disk.disk c.args.disk.now) c.args.archive.now c.refuse-in-Verify.new.page.bytes in
+    subst C (sym c.in-Verify.is) (refused_by h (items.Command (plain.Verify)) refusals.Line c.refuse-in-Verify.result _ c.args.archive.now c.refuse-in-Verify.new.page.bytes (refl, refl) kept c.refuse-in-Verify.ensures.goes_on c.refuse-in-Verify.ensures.reply)

@@ -1,0 +1,24 @@
+use Rattle.std.proofs.Common.{◌++◌, List, arith}
+use Rattle.machine_model.specs.Pulls.{Pull}
+use Rattle.archive_shell.proofs.serve.serve.Goals as goal
+
+pub items-preserved : goal.items-preserved
+items-preserved g c =
+    let was = c.items.invariant in
+    let now = c.in-Ok.ensures in
+    record {
+      ready = now.ready;
+      source_later = omega (arith, was.source_later, now.source_later);
+      sink_later = omega (arith, was.sink_later, now.sink_later);
+      disk_later = omega (arith, was.disk_later, now.disk_later);
+      serving = λ source_tells sink_tells disk_tells h start.
+          let so_far = was.serving source_tells sink_tells disk_tells h start in
+          let next = now.goes_on source_tells sink_tells disk_tells h _ so_far.0 so_far.2 in
+          (so_far.0 ++ next.0, g.M.Machine.asked_joins _ _ _ so_far.0 next.0 so_far.1 next.1, next.2);
+    }
+
+pub returns-in-Err-clause-served : goal.returns-in-Err-clause-served
+returns-in-Err-clause-served g c = λ source_tells sink_tells disk_tells h start.
+    let so_far = c.items.invariant.serving source_tells sink_tells disk_tells h start in
+    let next = c.in-Err.ensures.goes_on source_tells sink_tells disk_tells h _ so_far.0 so_far.2 in
+    (so_far.0 ++ next.0, g.M.Machine.asked_joins _ _ _ so_far.0 next.0 so_far.1 next.1, next.2)
