@@ -17,8 +17,11 @@ struct Pieces<'a> {
 }
 
 impl Source for Pieces<'_> {
-    ghost use Rattle.std.specs.Prelude.{[], ◌≡◌, ◌≤◌};
-    ghost use Rattle.std.proofs.Common.{arith, rules, refl};
+    ghost use Rattle.std.specs.Prelude.{[], ◌≤◌, ℕ, refl};
+    ghost use Rattle.std.proofs.Common.{ap, arith};
+    ghost use Rattle.machine_model.specs.States.{SourceState};
+    ghost use Rattle.machine_model.specs.Pulls.{ArePulls};
+    ghost use Rattle.machine_model.proofs.PullLemmas.{pulls_join};
 
     ghost source_tells = { ⊥ };
 
@@ -26,17 +29,17 @@ impl Source for Pieces<'_> {
 
     ghost only = { λ x y. x.faults ≤ y.faults };
 
-    ghost pulled = { λ x lefts y. lefts ≡ [] → y ≡ x };
+    ghost pulled = { λ x lefts y. ArePulls (λ (faults : ℕ). []) (λ m n. Unit {0}) x.faults lefts y.faults };
 
     ghost only_same = { λ x. Prim.omega arith };
 
     ghost only_joins = { λ x y z a b. Prim.omega arith };
 
-    ghost pulled_none = { λ x same. refl };
+    ghost pulled_none = { λ x. refl };
 
-    ghost pulled_joins = { λ x y z a b one two none. Prim.search rules };
+    ghost pulled_joins = { λ x y z a b one two. pulls_join (λ (faults : ℕ). []) (λ m n. Unit {0}) x.faults y.faults z.faults a b one two };
 
-    ghost pulled_still = { λ x y still. Prim.search rules };
+    ghost pulled_still = { λ x y still. let state : ℕ → SourceState = λ n. record { left = []; faults = n } in ap state still };
 
     ghost only_faults = { λ x y a. a };
 
