@@ -5,3 +5,4 @@ pub mod Values
 pub mod Lines
 pub mod Items
 pub mod Reading
+pub mod Rows

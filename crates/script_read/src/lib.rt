@@ -18,6 +18,8 @@ mod laws;
 mod line;
 mod passing;
 mod reader;
+#[cfg(test)]
+mod tests;
 mod values;
 mod words;
 
