@@ -5,7 +5,7 @@ use Rattle.std.proofs.lemmas.List.Sums.{fold_push, sum_by_push, count_by-le-leng
 use Rattle.std.proofs.lemmas.Map.Keys.{IsDistinct-push, IsDistinct-head, IsDistinct-tail}
 use Rattle.std.specs.Cmp.Lexicographic.{nat_list_eq_equiv, bytes_decides}
 use Rattle.std.specs.List.{list_any, IsDistinct, AllByRecursion}
-use Rattle.std.specs.Map.{lookup}
+use Rattle.std.specs.Map.{lookup, set_value}
 use Rattle.std.specs.Str.{bytes_eq}
 use Rattle.indexmap.specs.IndexMap.{insert_entry}
 use Rattle.std.proofs.Common.{filter, option_to_list, append-nil, chars, IsUtf8}
@@ -15,7 +15,7 @@ use Rattle.std.proofs.lemmas.List.Sums.{length-filter}
 use Rattle.std.proofs.lemmas.Str.{encodes-chars, length-le-encodes}
 use Rattle.caseless.proofs.Computing.{caseless}
 use Rattle.fold_tokens.specs.Terms.{times, key, is_key, term_of, keys_of, closed}
-use Rattle.fold_tokens.specs.Words.{entered, with_all, distinct, counted}
+use Rattle.fold_tokens.specs.Words.{entered, with_all, distinct, counted, bump}
 
 -- words that are found equal are one
 pub same : (one other : List ℕ) → bytes_eq one other ≡ true → one ≡ other
@@ -24,7 +24,7 @@ same one other e = (bytes_decides one other).0 e
 pub itself : (word : List ℕ) → bytes_eq word word ≡ true
 itself word = (bytes_decides word word).1 refl
 
-flipped : (one other : List ℕ) → bytes_eq one other ≡ bytes_eq other one
+pub flipped : (one other : List ℕ) → bytes_eq one other ≡ bytes_eq other one
 flipped = nat_list_eq_equiv.symm
 
 -- the words after one is entered
@@ -156,3 +156,39 @@ length-keys_of done = omega (arith, length-filter is_key (map key done), count_b
 -- and no more characters than bytes
 pub length-chars : (bs : List ℕ) → IsUtf8 bs → length (chars bs) ≤ length bs
 length-chars bs text = omega (arith, length-le-encodes (chars bs), ap length (encodes-chars bs text))
+
+-- a count written in its place is one more
+pub bump-known : {X : Type 0} (eq : X → X → Bool) (es : List (X × ℕ)) (x : X) (c : ℕ) → lookup (eq x) es ≡ Some c → set_value (eq x) es (c + 1) ≡ bump eq es x
+bump-known eq [] x c h = absurd cc
+bump-known eq (e ∷ es) x c h = by (eq x e.0) h (bump-known eq es x c)
+  where
+    by : (b : Bool) → cond b (Some e.1) (lookup (eq x) es) ≡ Some c → (lookup (eq x) es ≡ Some c → set_value (eq x) es (c + 1) ≡ bump eq es x)
+        → cond b ((e.0, c + 1) ∷ es) (e ∷ set_value (eq x) es (c + 1)) ≡ (if b then (e.0, e.1 + 1) ∷ es else e ∷ bump eq es x)
+    by true i rest = let n : e.1 ≡ c = cc in ap (λ m. (e.0, m + 1) ∷ es) (sym n)
+    by false i rest = ap (λ l. e ∷ l) (rest i)
+
+pub bump-new : {X : Type 0} (eq : X → X → Bool) (es : List (X × ℕ)) (x : X) → lookup (eq x) es ≡ None → insert_entry eq es x 1 ≡ bump eq es x
+bump-new eq [] x h = refl
+bump-new eq (e ∷ es) x h = by (eq x e.0) h (bump-new eq es x)
+  where
+    by : (b : Bool) → cond b (Some e.1) (lookup (eq x) es) ≡ None → (lookup (eq x) es ≡ None → insert_entry eq es x 1 ≡ bump eq es x)
+        → (if b then (e.0, 1) ∷ es else e ∷ insert_entry eq es x 1) ≡ (if b then (e.0, e.1 + 1) ∷ es else e ∷ bump eq es x)
+    by true i rest = absurd cc
+    by false i rest = ap (λ l. e ∷ l) (rest i)
+
+insert_known : {X : Type 0} (eq : X → X → Bool) (es : List (X × ℕ)) (x : X) (c : ℕ) → lookup (eq x) es ≡ Some c → insert_entry eq es x (c + 1) ≡ bump eq es x
+insert_known eq [] x c h = absurd cc
+insert_known eq (e ∷ es) x c h = by (eq x e.0) h (insert_known eq es x c)
+  where
+    by : (b : Bool) → cond b (Some e.1) (lookup (eq x) es) ≡ Some c → (lookup (eq x) es ≡ Some c → insert_entry eq es x (c + 1) ≡ bump eq es x)
+        → (if b then (e.0, c + 1) ∷ es else e ∷ insert_entry eq es x (c + 1)) ≡ (if b then (e.0, e.1 + 1) ∷ es else e ∷ bump eq es x)
+    by true i rest = let n : e.1 ≡ c = cc in ap (λ m. (e.0, m + 1) ∷ es) (sym n)
+    by false i rest = ap (λ l. e ∷ l) (rest i)
+
+-- the counts of one key more
+pub counted-bump : (found : List (List ℕ)) (k : List ℕ) → bump bytes_eq (counted found) k ≡ counted (found ++ k ∷ [])
+counted-bump found k = by (lookup (bytes_eq k) (counted found)) refl
+  where
+    by : (o : Option ℕ) → lookup (bytes_eq k) (counted found) ≡ o → bump bytes_eq (counted found) k ≡ counted (found ++ k ∷ [])
+    by None e = sym (bump-new bytes_eq (counted found) k e) ∙ ap (insert_entry bytes_eq (counted found) k) (let t = lookup-counted-none k found e in omega (arith, t)) ∙ counted-push found k
+    by (Some c) e = sym (insert_known bytes_eq (counted found) k c e) ∙ ap (λ n. insert_entry bytes_eq (counted found) k (n + 1)) (sym (lookup-counted-some k found c e)) ∙ counted-push found k

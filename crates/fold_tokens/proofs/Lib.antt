@@ -4,3 +4,7 @@ pub mod CountLemmas
 pub mod FrequencyLemmas
 pub mod WordLemmas
 pub mod NumberingLemmas
+pub mod CutLemmas
+pub mod WeighLemmas
+pub mod NewLemmas
+pub mod WeightLemmas

@@ -1,3 +1,4 @@
 pub mod Terms
 pub mod Words
 pub mod Rows
+pub mod Weighing

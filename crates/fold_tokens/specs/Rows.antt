@@ -6,7 +6,7 @@ use Rattle.ucd_category.proofs.Computing.{ucd_category}
 use Rattle.unicode_normalization.proofs.Computing.{unicode_normalization}
 use Rattle.caseless.proofs.Computing.{caseless}
 use Rattle.fold_tokens.specs.Terms.{keys, one_term, occurrences}
-use Rattle.fold_tokens.specs.Words.{counted}
+use Rattle.fold_tokens.specs.Words.{counted, weights_of}
 
 -- "Straße" and "STRASSE" are one word
 pub straße : keys (codes "Stra" ++ 0xC3 ∷ 0x9F ∷ codes "e STRASSE") ≡ codes "strasse" ∷ codes "strasse" ∷ []
@@ -42,3 +42,8 @@ two_words = refl
 pub frequency : occurrences (codes "be") (codes "To be, or not to be") ≡ 2
 unfolding ucd_category caseless unicode_normalization chars encode
 frequency = refl
+
+-- words with a number come first, and those without get the next ones
+pub four_weights : weights_of (codes "be" ∷ codes "or" ∷ []) (counted (keys (codes "To be, or not to be"))) ≡ (0, 2) ∷ (1, 1) ∷ (2, 2) ∷ (3, 1) ∷ []
+unfolding ucd_category caseless unicode_normalization chars encode
+four_weights = refl

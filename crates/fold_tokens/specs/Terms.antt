@@ -1,5 +1,5 @@
 -- What the words of a text are.
-use Rattle.std.specs.Prelude.{ℕ, List, [], ◌∷◌, ◌++◌, Bool, ◌&&◌, ◌||◌, nat_le, Option, Some, None, if◌then◌else◌, length, map, filter, count_by, chars, encode_utf8_all}
+use Rattle.std.specs.Prelude.{ℕ, List, [], ◌∷◌, ◌++◌, Bool, not, ◌&&◌, ◌||◌, nat_le, nat_lt, Option, Some, None, if◌then◌else◌, length, map, filter, count_by, chars, encode_utf8_all}
 use Rattle.std.specs.Str.{bytes_eq}
 use Rattle.unicode.specs.GeneralCategory.{general_category}
 use Rattle.unicode.specs.GeneralCategoryGroup.{in_group}
@@ -9,6 +9,14 @@ use Rattle.caseless.specs.Caseless.{canonical_key}
 -- a letter, a mark or a number, by the character's general category
 abbrev pub is_term : ℕ → Bool
 is_term c = in_group Letter (general_category c) || in_group Mark (general_category c) || in_group Number (general_category c)
+
+-- an ASCII letter or digit
+abbrev pub is_ascii_term : ℕ → Bool
+is_ascii_term c = nat_lt c 128 && is_term c
+
+-- any other character of ASCII
+abbrev pub is_ascii_gap : ℕ → Bool
+is_ascii_gap c = nat_lt c 128 && not (is_term c)
 
 -- a stretch of characters as a run; none where it is empty
 abbrev pub closed : List ℕ → List (List ℕ)

@@ -1,18 +1,22 @@
 //! How often one word occurs in a text.
-ghost use Rattle.std.specs.Prelude.{◌≡◌, ◌<◌, ◌^◌, [], length, chars, string_bytes, if◌then◌else◌, IfOk, OnOk};
+ghost use Rattle.std.specs.Prelude.{◌≡◌, ◌<◌, ◌^◌, length, chars, if◌then◌else◌, IfOk};
 ghost use Rattle.fold_tokens.specs.Terms.{closed, keys_of, times, occurrences};
 
-use crate::runs::{is_term_char, take_key};
+use crate::cuts::first_run;
+use crate::runs::key_of;
 use std::alloc::{AllocError, Global};
 use time_base::Key;
 
-/// Ends the run in the buffer, which is then empty: whether it was the word.
-fn ends_word(alloc: Global, word: &Key, run: &mut String) -> Result<bool, AllocError>
-    ensures word { IfOk result (λ is. times word.now (keys_of (closed (chars (string_bytes run.old)))) ≡ (if is then 1 else 0)) }
-    ensures emptied { OnOk result (string_bytes run.new ≡ []) }
+/// Whether a run is the word.
+fn is_word(alloc: Global, word: &Key, spare: &mut String, run: &str) -> Result<bool, AllocError>
+    ensures { IfOk result (λ is. times word.now (keys_of (closed (chars run.now))) ≡ (if is then 1 else 0)) }
 {
-    match take_key(alloc, run)? {
-        Some(key) => Ok(*word == key),
+    match key_of(alloc, spare, run)? {
+        Some(key) => {
+            let is = *word == key;
+            *spare = key.into_text();
+            Ok(is)
+        }
         None => Ok(false),
     }
 }
@@ -24,13 +28,12 @@ pub fn occurrences(alloc: Global, word: &Key, text: &str) -> Result<u32, AllocEr
     ensures { IfOk result (λ n. n ≡ occurrences word.now text.now) }
 {
     let mut count = 0;
-    let mut run = String::new(alloc);
-    for c in text.chars() {
-        if is_term_char(c) {
-            run.push(c)?;
-        } else {
-            count += u32::from(ends_word(alloc, word, &mut run)?);
-        }
+    let mut spare = String::new(alloc);
+    let mut rest = text;
+    while !rest.is_empty() {
+        let (run, after) = first_run(rest);
+        count += u32::from(is_word(alloc, word, &mut spare, run)?);
+        rest = after;
     }
-    Ok(count + u32::from(ends_word(alloc, word, &mut run)?))
+    Ok(count)
 }

@@ -11,19 +11,23 @@
 #![tactic(auto)]
 
 mod counts;
+mod cuts;
 mod frequency;
 mod laws;
 mod runs;
 mod vocabulary;
+mod weigh;
 
 pub use counts::terms;
 pub use frequency::occurrences;
 pub use laws::{
     a_word_occurs_at_most_once_a_byte, counts_are_frequencies, distinct_keys_stand_in_order,
-    keys_match_without_case, runs_are_maximal_stretches,
+    fresh_words_get_the_next_numbers, keys_match_without_case, runs_are_maximal_stretches,
+    weights_are_frequencies,
 };
 pub use runs::one_term;
 pub use vocabulary::{NumberError, Vocabulary};
+pub use weigh::{Places, Weighed};
 
 #[cfg(test)]
 mod tests;

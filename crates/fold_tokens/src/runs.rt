@@ -1,7 +1,8 @@
 //! Runs of a text, and their keys.
-ghost use Rattle.std.specs.Prelude.{◌≡◌, [], ◌++◌, map, chars, string_bytes, IsAscii, IfOk, OnOk};
-ghost use Rattle.fold_tokens.specs.Terms.{is_term, closed, runs, key, term_of, one_term};
+ghost use Rattle.std.specs.Prelude.{◌≡◌, chars, string_bytes, IsAscii, IfOk};
+ghost use Rattle.fold_tokens.specs.Terms.{is_term, key, term_of, one_term};
 
+use crate::cuts::next_run;
 use caseless::default_case_fold_str;
 use std::alloc::{AllocError, Global};
 use std::mem;
@@ -40,59 +41,37 @@ fn folded_key(alloc: Global, run: &str) -> Result<Option<Key>, AllocError>
 }
 
 /// The key of a run of ASCII, if it is a term, which is its lower case: no normal form is made. The
-/// run itself is lowered.
-fn lowered_key(alloc: Global, run: &mut String) -> Result<Option<Key>, AllocError>
-    requires { IsAscii (string_bytes run.old) }
-    ensures { IfOk result (λ k. k ≡ term_of (chars (string_bytes run.old))) }
+/// key is made in the spare text's memory.
+fn lowered_key(alloc: Global, spare: &mut String, run: &str) -> Result<Option<Key>, AllocError>
+    requires { IsAscii run.now }
+    ensures { IfOk result (λ k. k ≡ term_of (chars run.now)) }
 {
-    run.make_ascii_lowercase();
-    Key::new(alloc, run.as_str())
-}
-
-/// The key of a run, if it is a term; the run is taken out of its buffer.
-pub(crate) fn take_key(alloc: Global, run: &mut String) -> Result<Option<Key>, AllocError>
-    ensures key { IfOk result (λ k. k ≡ term_of (chars (string_bytes run.old))) }
-    ensures emptied { OnOk result (string_bytes run.new ≡ []) }
-{
-    if run.as_str().is_ascii() {
-        let key = lowered_key(alloc, run)?;
-        run.clear();
-        Ok(key)
-    } else {
-        let key = folded_key(alloc, run.as_str())?;
-        run.clear();
-        Ok(key)
-    }
-}
-
-/// Ends the run in the buffer, which is then empty.
-fn close(alloc: Global, found: &mut Vec<String>, run: &mut String) -> Result<(), AllocError>
-    ensures found { OnOk result (map (λ s. chars (string_bytes s)) found.new.items
-        ≡ map (λ s. chars (string_bytes s)) found.old.items ++ closed (chars (string_bytes run.old))) }
-    ensures emptied { OnOk result (string_bytes run.new ≡ []) }
-{
-    if run.as_str().is_empty() {
-        return Ok(());
-    }
-    found.push(mem::replace(run, String::new(alloc)))?;
-    Ok(())
-}
-
-/// The runs of a text, in order.
-fn runs_of(alloc: Global, text: &str) -> Result<Vec<String>, AllocError>
-    ensures { IfOk result (λ v. map (λ s. chars (string_bytes s)) v.items ≡ runs (chars text.now)) }
-{
-    let mut found = Vec::new(alloc);
-    let mut run = String::new(alloc);
-    for c in text.chars() {
-        if is_term_char(c) {
-            run.push(c)?;
-        } else {
-            close(alloc, &mut found, &mut run)?;
+    spare.clear();
+    spare.push_str(run)?;
+    spare.make_ascii_lowercase();
+    match Key::from_text(mem::replace(spare, String::new(alloc))) {
+        Ok(key) => Ok(Some(key)),
+        Err(text) => {
+            *spare = text;
+            Ok(None)
         }
     }
-    close(alloc, &mut found, &mut run)?;
-    Ok(found)
+}
+
+/// The key of a run, if it is a term. Where the run is of ASCII the key is made in the spare text's
+/// memory, which is best given back when the key is done with.
+pub(crate) fn key_of(
+    alloc: Global,
+    spare: &mut String,
+    run: &str,
+) -> Result<Option<Key>, AllocError>
+    ensures { IfOk result (λ k. k ≡ term_of (chars run.now)) }
+{
+    if run.is_ascii() {
+        lowered_key(alloc, spare, run)
+    } else {
+        folded_key(alloc, run)
+    }
 }
 
 /// The key of the text's only run: None where the text has no run or more than one, and where the
@@ -100,13 +79,10 @@ fn runs_of(alloc: Global, text: &str) -> Result<Vec<String>, AllocError>
 pub fn one_term(alloc: Global, text: &str) -> Result<Option<Key>, AllocError>
     ensures { IfOk result (λ term. term ≡ one_term text.now) }
 {
-    let mut found = runs_of(alloc, text)?;
-    let Some(mut run) = found.pop() else {
+    let (run, rest) = next_run(text);
+    let (other, _) = next_run(rest);
+    if run.is_empty() || !other.is_empty() {
         return Ok(None);
-    };
-    if found.is_empty() {
-        take_key(alloc, &mut run)
-    } else {
-        Ok(None)
     }
+    key_of(alloc, &mut String::new(alloc), run)
 }

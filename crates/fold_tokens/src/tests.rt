@@ -17,6 +17,15 @@ fn shown(rt: &impl Abort, alloc: Global, text: &str) -> Result<String, AllocErro
     Ok(out)
 }
 
+/// Asserts of each row that the terms of its first text are shown as the second.
+fn assert_terms(rt: &impl Abort, alloc: Global, rows: &[(&str, &str)]) -> Result<(), AllocError> {
+    for (text, wanted) in rows {
+        let found = shown(rt, alloc, text)?;
+        assert_eq!(rt; found.as_str(), *wanted, "in {text}");
+    }
+    Ok(())
+}
+
 /// A text so many times over.
 fn repeated(alloc: Global, text: &str, times: usize) -> Result<String, AllocError> {
     let mut out = String::new(alloc);
@@ -30,8 +39,7 @@ fn repeated(alloc: Global, text: &str, times: usize) -> Result<String, AllocErro
 // the runs by `unicodedata.category`.
 #[test]
 fn terms_are_those_of_unicode(rt: HostRuntime) -> Result<(), Fail> {
-    let alloc = rt.alloc();
-    for (text, wanted) in [
+    let rows = [
         ("", ""),
         ("e-mail", "e 1, mail 1, "),
         ("snake_case don't", "snake 1, case 1, don 1, t 1, "),
@@ -56,11 +64,34 @@ fn terms_are_those_of_unicode(rt: HostRuntime) -> Result<(), Fail> {
         ("\u{e000} \u{378} x\u{e000}y", "x 1, y 1, "),
         ("\u{1f469}\u{1f3fd}\u{200d}\u{1f680}", ""),
         ("\u{2764}\u{fe0f}", "\u{fe0f} 1, "),
-    ] {
-        let found = shown(&rt, alloc, text)?;
-        assert_eq!(rt; found.as_str(), wanted, "in {text}");
-    }
-    Ok(())
+    ];
+    Ok(assert_terms(&rt, rt.alloc(), &rows)?)
+}
+
+// What is wanted is written down from the Unicode Character Database: categories, canonical
+// decompositions and combining classes from UnicodeData.txt, folds from the lines C and F of
+// CaseFolding.txt, and Hangul syllables by section 3.12 of The Unicode Standard.
+#[test]
+fn terms_of_eight_scripts(rt: HostRuntime) -> Result<(), Fail> {
+    let rows = [
+        ("Straße İSTANBUL", "strasse 1, i\u{307}stanbul 1, "),
+        ("\u{1e9b}\u{323} \u{1c5}", "s\u{323}\u{307} 1, \u{1c6} 1, "),
+        ("ΌΔΟΣ, όδος", "ο\u{301}δοσ 2, "),
+        ("ЁЖ Ёж; Йод", "е\u{308}ж 2, и\u{306}од 1, "),
+        ("\u{622}\u{628}", "\u{627}\u{653}\u{628} 1, "),
+        (
+            "\u{628}\u{651}\u{64e} \u{628}\u{64e}\u{651}",
+            "\u{628}\u{64e}\u{651} 2, ",
+        ),
+        ("\u{958}लम हिन्दी", "\u{915}\u{93c}लम 1, हिन्दी 1, "),
+        (
+            "\u{d55c}\u{ae00}",
+            "\u{1112}\u{1161}\u{11ab}\u{1100}\u{1173}\u{11af} 1, ",
+        ),
+        ("漢字、\u{f900}", "漢字 1, \u{8c48} 1, "),
+        ("1\u{fe0f}\u{20e3} \u{1f600}", "1\u{fe0f}\u{20e3} 1, "),
+    ];
+    Ok(assert_terms(&rt, rt.alloc(), &rows)?)
 }
 
 /// How often the word occurs in the text.
@@ -95,6 +126,7 @@ fn occurrences_are_runs_of_the_same_key(rt: HostRuntime) -> Result<(), Fail> {
     Ok(())
 }
 
+// By UnicodeData.txt U+0390 decomposes into three characters of two bytes each.
 #[test]
 fn long_runs_are_no_terms(rt: HostRuntime) -> Result<(), Fail> {
     let alloc = rt.alloc();
@@ -103,6 +135,8 @@ fn long_runs_are_no_terms(rt: HostRuntime) -> Result<(), Fail> {
         ("a", 256, false),
         ("あ", 85, true),
         ("あ", 86, false),
+        ("\u{390}", 42, true),
+        ("\u{390}", 43, false),
         ("a", 1 << 20, false),
     ] {
         let text = repeated(alloc, unit, times)?;
@@ -186,5 +220,35 @@ fn words_are_numbered_in_the_order_in_which_they_come(rt: HostRuntime) -> Result
     assert_eq!(rt; vocabulary.find(&key), Some(id));
     let key = one_term(alloc, "not")?.expect(&rt, "a term");
     assert_eq!(rt; vocabulary.find(&key), None);
+    Ok(())
+}
+
+#[test]
+fn words_are_weighed_by_number_or_by_key(rt: HostRuntime) -> Result<(), Fail> {
+    let alloc = rt.alloc();
+    let mut vocabulary = Vocabulary::new(alloc)?;
+    for text in ["be", "or", "\u{e9}"] {
+        let _ = number(alloc, &mut vocabulary, text).expect(&rt, "room");
+    }
+    let mut places = Places::new(alloc);
+    for (text, wanted) in [
+        ("", ""),
+        ("To be, or not to be", "0 2, 1 1, to 2, not 1, "),
+        ("E\u{301} Be \u{c9} NOT bE", "2 2, 0 2, not 1, "),
+        ("or", "1 1, "),
+    ] {
+        assert!(rt; text.len() < 4294967296);
+        let found = vocabulary.weigh(alloc, &mut places, text)?;
+        let mut out = String::new(alloc);
+        for (number, count) in &found.known {
+            let term = format!(in alloc; "{} {}, ", *number, *count)?;
+            out.push_str(term.as_str())?;
+        }
+        for (key, count) in &found.fresh {
+            let term = format!(in alloc; "{} {}, ", key.as_str(), *count)?;
+            out.push_str(term.as_str())?;
+        }
+        assert_eq!(rt; out.as_str(), wanted, "in {text}");
+    }
     Ok(())
 }

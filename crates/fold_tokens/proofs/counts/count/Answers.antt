@@ -1,14 +1,13 @@
-use Rattle.std.proofs.Common.{◌≡◌, ◌∙◌, sym, ap}
-use Rattle.std.specs.Option.{option_copied}
-use Rattle.fold_tokens.specs.Terms.{times}
-use Rattle.fold_tokens.proofs.CountLemmas.{counted-push, lookup-counted-none, lookup-counted-some}
+use Rattle.std.proofs.Common.{◌∙◌, ◌+◌, List, ℕ, sym, ap, rules}
+use Rattle.indexmap.specs.IndexMap.{insert_entry}
+use Rattle.std.specs.Str.{bytes_eq}
+use Rattle.fold_tokens.proofs.CountLemmas.{bump-known, bump-new}
 use Rattle.fold_tokens.proofs.counts.count.Goals as goal
-use Rattle.fold_tokens.proofs.counts.count.Goals.{in-Some, in-None}
+
+pub returns-in-Some : goal.returns-in-Some
+returns-in-Some c =
+    (c.get_mut.follows.holds (c.in-Some.n.now + 1)).0
+    ∙ bump-known bytes_eq c.args.counts.now.entries c.args.key c.in-Some.n.now (sym c.in-Some.ensures.value)
 
 pub returns : goal.returns
-returns c = λ found e.
-    let before : c.match-get.before ≡ times c.args.key found = elim c.match-get.branch [
-      | in-Some w ↦ w.before-is ∙ sym (lookup-counted-some c.args.key found _ (rw e at (sym c.get.ensures.value ∙ ap option_copied w.in-Some.is)))
-      | in-None w ↦ w.before-is ∙ sym (lookup-counted-none c.args.key found (rw e at (sym c.get.ensures.value ∙ ap option_copied w.in-None.is)))
-    ] in
-    c.in_ok-insert.ensures.entries ∙ rw (e, before) (counted-push found c.args.key)
+returns c = c.in_ok-insert.ensures.entries ∙ ap (λ (l : List (List ℕ × ℕ)). insert_entry bytes_eq l c.args.key 1) (search rules) ∙ bump-new bytes_eq c.args.counts.now.entries c.args.key (sym c.in_default.ensures.value)

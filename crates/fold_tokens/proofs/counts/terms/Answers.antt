@@ -1,53 +1,38 @@
-use Rattle.std.proofs.Common.{◌≡◌, ◌∙◌, sym, ap, map-id, chars, [], arith}
-use Rattle.std.proofs.lemmas.Str.{IsUtf8-string_bytes, chars-nil}
-use Rattle.std.proofs.lemmas.Iterator.{YieldsList-from_chars, items_from_collect}
-use Rattle.std.proofs.lemmas.Iterator.Consumers.{YieldsList-end, YieldsList-turn, YieldsList-from_rest}
+use Rattle.std.proofs.Common.{◌∙◌, sym, ap, chars, [], arith, rules}
+use Rattle.std.proofs.lemmas.Bool.{eqb-true, eqb-false}
+use Rattle.std.proofs.lemmas.Iterator.{items_from_collect}
+use Rattle.std.proofs.lemmas.Iterator.Consumers.{YieldsList-from_rest}
 use Rattle.fold_tokens.specs.Terms.{keys_of}
 use Rattle.fold_tokens.specs.Words.{counted}
-use Rattle.fold_tokens.proofs.RunLemmas.{AreRead-none, AreRead-inside, AreRead-between, AreRead-end, chars-push}
-use Rattle.fold_tokens.proofs.CountLemmas.{lookup-counted-le, length-keys_of, length-chars}
+use Rattle.fold_tokens.proofs.CutLemmas.{AreCut-none, AreCut-more, AreCut-end}
+use Rattle.fold_tokens.proofs.CountLemmas.{lookup-counted-le, length-keys_of}
 use Rattle.fold_tokens.proofs.counts.terms.Goals as goal
 
-pub loop-c-init : goal.loop-c-init
-loop-c-init c = ([], rw (c.new-run.ensures.bytes, chars-nil) (AreRead-none _), c.new-counts.ensures.empty)
-
-pub loop-c-preserved-in-Continue-1 : goal.loop-c-preserved-in-Continue-1
-loop-c-preserved-in-Continue-1 c =
-    let h = c.loop-c.invariant in (
-      h.0,
-      rw (chars-push _ _ c.in-Some.c (IsUtf8-string_bytes c.loop-c.run) (IsUtf8-string_bytes c.push.new.self) c.in_ok-push.ensures.bytes)
-          (AreRead-inside _ _ _ _ c.in-Some.c (sym c.is_term_char.ensures ∙ c.if-is_term_char.true) h.1),
-      h.2,
-    )
+pub loop-rest-init : goal.loop-rest-init
+loop-rest-init c = (c.utf8.text, [], AreCut-none c.args.text.now, c.new-counts.ensures.empty)
 
 pub count_run-requires : goal.count_run-requires
 count_run-requires c = λ key n e.
-    let h = c.loop-c.invariant in
-    let within = YieldsList-turn (YieldsList-from_chars c.args.text.now c.utf8.text cc) c.loop-c.yielded _ c.loop-c.yielded_by _ _ c.in-Some.c c.in-Some.is c.next.ensures.steps in
-    let n_le = lookup-counted-le key (keys_of h.0) n (rw h.2 at e) in
-    let s = h.1.short in
-    omega (arith, within.0, n_le, s, length-keys_of h.0, length-chars c.args.text.now c.utf8.text, c.requires)
+    let h = c.loop-rest.invariant in
+    let some = eqb-false _ _ (sym c.is_empty.ensures ∙ c.loop-rest-test.true) in
+    let n_le = lookup-counted-le key (keys_of h.1) n (rw h.3 at e) in
+    let s = h.2.short in
+    omega (arith, n_le, s, some, length-keys_of h.1, c.requires)
 
-pub loop-c-preserved : goal.loop-c-preserved
-loop-c-preserved c =
-    let h = c.loop-c.invariant in (
+pub loop-rest-preserved : goal.loop-rest-preserved
+loop-rest-preserved c =
+    let h = c.loop-rest.invariant in
+    let some = eqb-false _ _ (sym c.is_empty.ensures ∙ c.loop-rest-test.true) in
+    let shorter = c.first_run.ensures.shorter (omega (arith, some)) in (
+      search rules,
       _,
-      rw (c.in_ok-count_run.ensures.emptied, chars-nil) (AreRead-between _ _ _ _ c.in-Some.c (sym c.is_term_char.ensures ∙ c.if-is_term_char.false) h.1),
-      c.in_ok-count_run.ensures.counted h.0 h.2,
+      AreCut-more c.args.text.now c.loop-rest.rest.now c.first_run.result.1.now (chars c.first_run.result.0.now) h.1 c.first_run.ensures.runs shorter h.2,
+      c.in_ok-count_run.ensures h.1 h.3,
     )
-
-pub count_run-requires-2 : goal.count_run-requires-2
-count_run-requires-2 c = λ key n e.
-    let h = c.loop-c.invariant in
-    let all = YieldsList-end (YieldsList-from_chars c.args.text.now c.utf8.text cc) c.loop-c.yielded _ c.loop-c.yielded_by _ _ c.in-None.is c.next.ensures.steps in
-    let n_le = lookup-counted-le key (keys_of h.0) n (rw h.2 at e) in
-    let s = h.1.short in
-    omega (arith, all.1, n_le, s, length-keys_of h.0, length-chars c.args.text.now c.utf8.text, c.requires)
 
 pub returns : goal.returns
 returns c =
-    let h = c.loop-c.invariant in
-    let all = YieldsList-end (YieldsList-from_chars c.args.text.now c.utf8.text cc) c.loop-c.yielded _ c.loop-c.yielded_by _ _ c.in-None.is c.next.ensures.steps in
-    let whole : c.loop-c.yielded ≡ chars c.args.text.now = sym (map-id c.loop-c.yielded) ∙ all.0 in
-    let entries = c.in_ok-count_run-2.ensures.counted h.0 h.2 ∙ ap (λ l. counted (keys_of l)) (AreRead-end _ _ _ (rw whole at h.1)) in
+    let h = c.loop-rest.invariant in
+    let none = eqb-true _ _ (sym c.is_empty.ensures ∙ c.loop-rest-test.false) in
+    let entries = h.3 ∙ ap (λ l. counted (keys_of l)) (AreCut-end c.args.text.now c.loop-rest.rest.now h.1 none h.2) in
     items_from_collect _ c.collect.ensures.ran (YieldsList-from_rest _ (c.into_iter.ensures.into_iter_gives.0 ∙ entries))

@@ -1,8 +1,13 @@
-use Rattle.std.proofs.Common.{◌≡◌, List, ℕ, chars, string_bytes}
+use Rattle.std.proofs.Common.{◌≡◌, List, ℕ, length}
+use denote.Shadow.{shadow}
+use denote.Text.{Utf8}
 use Rattle.fold_tokens.specs.Terms.{keys_of}
 use Rattle.fold_tokens.specs.Words.{counted}
-use Rattle.fold_tokens.proofs.RunLemmas.{AreRead}
+use Rattle.fold_tokens.proofs.CutLemmas.{AreCut}
 use Rattle.fold_tokens.proofs.counts.terms.Given as goal
 
-abbrev pub invariant-loop-c : goal.invariant-loop-c
-invariant-loop-c l = (done : List (List ℕ)) × AreRead (chars l.text) l.yielded (chars (string_bytes l.run)) done × (l.counts.entries ≡ counted (keys_of done))
+abbrev pub invariant-loop-rest : goal.invariant-loop-rest
+invariant-loop-rest l = shadow (Utf8 l.rest) × (done : List (List ℕ)) × AreCut l.text l.rest done × (l.counts.entries ≡ counted (keys_of done))
+
+abbrev pub decreases-loop-rest : goal.decreases-loop-rest
+decreases-loop-rest l = length l.rest

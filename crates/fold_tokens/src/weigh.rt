@@ -1,0 +1,150 @@
+//! The words of a text by number, with their counts.
+ghost use Rattle.std.specs.Prelude.{◌≡◌, ◌+◌, ◌<◌, ◌≤◌, ◌^◌, ◌++◌, ℕ, List, length, chars, slice_index_or, nat_eq, Some, IfOk, OnOk};
+ghost use Rattle.std.specs.Str.{bytes_eq};
+ghost use Rattle.indexmap.specs.IndexMap.{get};
+ghost use Rattle.fold_tokens.specs.Terms.{closed, keys, keys_of};
+ghost use Rattle.fold_tokens.specs.Words.{bump, counted, known_of, fresh_of, ArePlaced};
+ghost use Rattle.fold_tokens.specs.Weighing.{IsTallied};
+
+use crate::counts::count;
+use crate::cuts::first_run;
+use crate::runs::key_of;
+use crate::vocabulary::Vocabulary;
+use indexmap::IndexMap;
+use std::alloc::{AllocError, Global};
+use time_base::Key;
+
+/// Memory that the weighing of one text leaves to that of the next. What is in it means nothing.
+#[derive(Drop)]
+pub struct Places {
+    by_number: Vec<u32>,
+}
+
+impl Places {
+    /// No memory yet. Constant cost.
+    pub fn new(alloc: Global) -> Places {
+        Places {
+            by_number: Vec::new(alloc),
+        }
+    }
+}
+
+/// The distinct words of a text with their counts, in the order of first occurrence.
+#[derive(Drop)]
+pub struct Weighed {
+    /// The numbers of the words that have one.
+    pub known: Vec<(u32, u32)>,
+    /// The words that have none.
+    pub fresh: Vec<(Key, u32)>,
+}
+
+/// The counts of a text's words as they come.
+#[derive(Drop)]
+pub(crate) struct Tally {
+    pub(crate) known: Vec<(u32, u32)>,
+    pub(crate) fresh: IndexMap<Key, u32>,
+    pub(crate) spare: String,
+}
+
+/// Counts one more occurrence of the word of that number.
+fn count_known(
+    places: &mut [u32],
+    known: &mut Vec<(u32, u32)>,
+    number: u32,
+) -> Result<(), AllocError>
+    requires within { number < length places.old }
+    requires placed { ArePlaced places.old known.old.items }
+    requires few { length known.old.items < 2 ^ 32 }
+    requires small { (p : ℕ) → p < length known.old.items → (slice_index_or known.old.items p (0, 0)).1 + 1 < 2 ^ 32 }
+    ensures counted { OnOk result (known.new.items ≡ bump nat_eq known.old.items number) }
+    ensures placed { OnOk result (ArePlaced places.new known.new.items) }
+{
+    let place = places[number as usize] as usize;
+    if place < known.len() && known[place].0 == number {
+        known[place].1 += 1;
+        return Ok(());
+    }
+    places[number as usize] = known.len() as u32;
+    known.push((number, 1))?;
+    Ok(())
+}
+
+/// Counts a run, if it is a term.
+fn weigh_run(
+    alloc: Global,
+    vocabulary: &Vocabulary,
+    places: &mut [u32],
+    tally: &mut Tally,
+    run: &str,
+) -> Result<(), AllocError>
+    requires numbered { length vocabulary.now.words ≤ length places.old }
+    requires some { (done : List (List ℕ)) × IsTallied vocabulary.now.words places.old tally.old done × (length done + 1 < 2 ^ 32) }
+    ensures { OnOk result ((done : List (List ℕ)) → IsTallied vocabulary.now.words places.old tally.old done
+        → IsTallied vocabulary.now.words places.new tally.new (done ++ closed (chars run.now))) }
+{
+    let Some(key) = key_of(alloc, &mut tally.spare, run)? else {
+        return Ok(());
+    };
+    match vocabulary.find(&key) {
+        Some(id) => {
+            count_known(places, &mut tally.known, id.number())?;
+            tally.spare = key.into_text();
+            Ok(())
+        }
+        None => count(&mut tally.fresh, &mut tally.spare, key),
+    }
+}
+
+/// Counts the words of a text.
+fn tally_of(
+    alloc: Global,
+    vocabulary: &Vocabulary,
+    places: &mut [u32],
+    text: &str,
+) -> Result<Tally, AllocError>
+    requires numbered { length vocabulary.now.words ≤ length places.old }
+    requires short { length text.now < 2 ^ 32 }
+    ensures { IfOk result (λ tally. (tally.known.items ≡ known_of vocabulary.now.words (counted (keys text.now)))
+        × (tally.fresh.entries ≡ fresh_of vocabulary.now.words (counted (keys text.now)))) }
+{
+    let mut tally = Tally {
+        known: Vec::new(alloc),
+        fresh: IndexMap::new(alloc),
+        spare: String::new(alloc),
+    };
+    let mut rest = text;
+    while !rest.is_empty() {
+        let (run, after) = first_run(rest);
+        weigh_run(alloc, vocabulary, places, &mut tally, run)?;
+        rest = after;
+    }
+    Ok(tally)
+}
+
+impl Vocabulary {
+    /// The distinct words of a text with their counts, those with a number apart from those
+    /// without. The text is read once; a run costs a look-up, or two where its word has no number,
+    /// and, where it isn't ASCII, its normal forms. A run of ASCII takes no memory where its word
+    /// has a number or was counted before.
+    pub fn weigh(
+        &self,
+        alloc: Global,
+        places: &mut Places,
+        text: &str,
+    ) -> Result<Weighed, AllocError>
+        requires { length text.now < 2 ^ 32 }
+        ensures known { IfOk result (λ w. w.known.items ≡ known_of self.now.words (counted (keys text.now))) }
+        ensures fresh { IfOk result (λ w. w.fresh.items ≡ fresh_of self.now.words (counted (keys text.now))) }
+    {
+        let words = self.len() as usize;
+        if places.by_number.len() < words {
+            places.by_number.resize(words, 0)?;
+        }
+        let tally = tally_of(alloc, self, &mut places.by_number, text)?;
+        let fresh = tally.fresh.into_iter().collect(alloc)?;
+        Ok(Weighed {
+            known: tally.known,
+            fresh,
+        })
+    }
+}
