@@ -5,3 +5,4 @@ pub mod Distinct
 pub mod Cuts
 pub mod Walk
 pub mod LeastAlive
+pub mod Reaching

@@ -1,3 +1,4 @@
 pub mod Boundaries
 pub mod Counts
 pub mod Partitions
+pub mod Reaches

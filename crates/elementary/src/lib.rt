@@ -8,8 +8,10 @@
 #![tactic(auto)]
 
 mod partition;
+mod reach;
 mod sorting;
 mod table;
 
-pub use partition::{Partition, is_within};
+pub use partition::Partition;
+pub use reach::reaches;
 pub use table::Table;

@@ -169,7 +169,7 @@ fn fits_in(times: &[u64], cuts: &[u64]) -> bool
 }
 
 /// Whether a size is within the factor of a number of postings alive.
-pub fn is_within(size: u64, factor: Fraction, alive: u64) -> bool
+pub(crate) fn is_within(size: u64, factor: Fraction, alive: u64) -> bool
     requires size { size < 2 ^ 38 }
     requires alive { alive < 2 ^ 38 }
     ensures { IsTrue result ↔ (size * factor.under ≤ factor.over * alive) }

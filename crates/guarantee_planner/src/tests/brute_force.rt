@@ -84,7 +84,7 @@ fn plans_of_random_lists_take_the_least_space(rt: HostRuntime) -> Result<(), Fai
         let factor = factor(under + numbers.below(4) as u32, under)?;
         let (partition, certificate) = plan(alloc, &table, factor)?;
         assert!(rt;
-            check(&table, factor, &partition, &certificate),
+            check(alloc, &table, factor, &partition, &certificate)?,
             "round {round}"
         );
 
