@@ -43,13 +43,13 @@ fn reach_to(table: &Table, factor: Fraction, k: usize, window: &mut WindowMin)
 /// For each boundary the first one from which a segment to it is admissible, by place; 0 for the first
 /// boundary. Since what is inside an admissible segment is admissible, the segments from all later
 /// boundaries are too, and the places never fall; so one pass finds them all, with a moving minimum of
-/// what is alive. Costs time in the boundaries.
+/// what is alive. Costs time in the boundaries, and 32 bytes of memory for each of them, of which 8 stay.
 pub fn reaches(alloc: Global, table: &Table, factor: Fraction) -> Result<Vec<usize>, AllocError>
     ensures { IfOk result (λ v. AreReaches table.now factor v.items (length table.now.boundaries)) }
 {
     let boundaries = table.boundaries().len();
-    let mut window = WindowMin::new(alloc);
-    let mut lows = Vec::new(alloc);
+    let mut window = WindowMin::with_capacity(alloc, boundaries)?;
+    let mut lows = Vec::with_capacity(alloc, boundaries)?;
     lows.push(0)?;
     for k in 1..boundaries {
         window.push(u128::from(table.alive(k - 1)))?;

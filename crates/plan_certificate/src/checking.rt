@@ -36,7 +36,7 @@ fn edges_hold(
     ensures { IfOk result (λ b. IsTrue b ↔ EdgesBelow table.now factor pi.now (length pi.now)) }
 {
     let lows = reaches(alloc, table, factor)?;
-    let mut window = WindowMin::new(alloc);
+    let mut window = WindowMin::with_capacity(alloc, pi.len())?;
     for k in 1..pi.len() {
         let low = lows[k];
         let left = cheapest_left(table, pi, low, k, &mut window)?;
@@ -77,8 +77,7 @@ fn numbers_certify(
 }
 
 /// Whether the certificate shows that the partition is least for the factor, of the list that the table
-/// is of. Costs time in the boundaries, but for the logarithm of these for each cut, and memory for some
-/// numbers a boundary.
+/// is of. Costs time in the boundaries, and 32 bytes of memory for each of them.
 pub fn check(
     alloc: Global,
     table: &Table,

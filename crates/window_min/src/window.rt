@@ -29,18 +29,21 @@ impl Model for WindowMin {
 }
 
 impl WindowMin {
-    /// The window that starts at place 0 of no values. Constant cost.
-    pub fn new(alloc: Global) -> WindowMin
-        ensures values { result.values ≡ [] }
-        ensures from { result.from ≡ 0 }
+    /// The window that starts at place 0 of no values, with room for so many values. Costs memory for
+    /// these and their places, 24 bytes each.
+    pub fn with_capacity(alloc: Global, capacity: usize) -> Result<WindowMin, AllocError>
+        ensures values { IfOk result (λ w. w.values ≡ []) }
+        ensures from { IfOk result (λ w. w.from ≡ 0) }
     {
-        WindowMin {
-            values: Vec::new(alloc),
+        let values = Vec::with_capacity(alloc, capacity)?;
+        let places = Vec::with_capacity(alloc, capacity)?;
+        Ok(WindowMin {
+            values,
             from: 0,
-            places: Vec::new(alloc),
+            places,
             head: 0,
             end: 0,
-        }
+        })
     }
 
     /// The place where the window starts. Constant cost.
@@ -50,8 +53,9 @@ impl WindowMin {
         self.from
     }
 
-    /// Adds a value at the end. Costs memory for it and its place, and time in the queued places whose
-    /// values aren't less, each of which leaves the queue for good. Without memory the window stays.
+    /// Adds a value at the end. Costs memory for it and its place where the room is used up, and time in
+    /// the queued places whose values aren't less, each of which leaves the queue for good. Without memory
+    /// the window stays.
     pub fn push(&mut self, value: u128) -> Result<(), AllocError>
         ensures values { IfOk result (λ _. self.new.values ≡ self.old.values ++ value ∷ []) }
         ensures from { IfOk result (λ _. self.new.from ≡ self.old.from) }

@@ -8,12 +8,12 @@ use Rattle.elementary.proofs.Reaching.{none_more, reach_none, reaches_first, rea
 use Rattle.elementary.proofs.reach.reaches.Goals as goal
 
 pub loop-k-init : goal.loop-k-init
-loop-k-init c = let made : c.push.new.self.items ≡ 0 ∷ [] = c.in_ok-push.ensures.items ∙ ap (λ (l : List ℕ). l ++ 0 ∷ []) c.new-lows.ensures.items in record {
+loop-k-init c = let made : c.push.new.self.items ≡ 0 ∷ [] = c.in_ok-push.ensures.items ∙ ap (λ (l : List ℕ). l ++ 0 ∷ []) c.in_ok-lows.ensures.items in record {
   some = omega arith;
-  alive = values_none (alive_in c.args.table.now) _ c.new-window.ensures.values;
-  before = omega (arith, c.new-window.ensures.from);
-  none = λ j l. absurd (omega (arith, c.new-window.ensures.from));
-  last = ap (λ (l : List ℕ). slice_index l 0) made ∙ sym c.new-window.ensures.from;
+  alive = values_none (alive_in c.args.table.now) _ c.in_ok-window.ensures.values;
+  before = omega (arith, c.in_ok-window.ensures.from);
+  none = λ j l. absurd (omega (arith, c.in_ok-window.ensures.from));
+  last = ap (λ (l : List ℕ). slice_index l 0) made ∙ sym c.in_ok-window.ensures.from;
   reaches = reaches_first c.args.table.now c.args.factor c.push.new.self.items made;
 }
 
