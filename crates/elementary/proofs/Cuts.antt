@@ -1,15 +1,16 @@
 -- Cuts by their places.
-use Rattle.std.specs.Prelude.{◌≡◌, ◌⊎◌, ◌↔◌, ℕ, zero, suc, ◌+◌, ◌-◌, ◌<◌, ◌≤◌, nat_lt, nat_le, Bool, IsTrue, true, false, List, [], ◌∷◌, drop, length, slice_index, Contains, refl}
+use Rattle.std.specs.Prelude.{◌≡◌, ◌⊎◌, ◌↔◌, ℕ, zero, suc, ◌+◌, ◌-◌, ◌<◌, ◌≤◌, nat_lt, nat_le, Bool, IsTrue, true, false, List, [], ◌∷◌, drop, length, slice_index, All, Contains, refl}
 use Rattle.std.specs.List.Sorted.{IsStrictlyIncreasing}
 use Rattle.std.proofs.Common.{arith, ap, sym, ◌∙◌, subst, inl, inr, add-one, drop-cons, nat_eq}
 use Rattle.std.proofs.lemmas.Bool.{cases_lt}
 use Rattle.std.proofs.lemmas.Bool.Decides.{nat_tests}
+use Rattle.std.proofs.lemmas.List.Elements.{All-get_or}
 use Rattle.time_base.specs.declared.posting.Posting.{Posting}
 use Rattle.time_base.specs.declared.fraction.Fraction.{Fraction}
 use Rattle.postings.specs.Sizes.{size}
 use Rattle.elementary.specs.Partitions.{IsInSegment, IsAdmissible, Covers, space}
 use Rattle.elementary.specs.Counts.{Counts, Tabulates, AdmissibleBetween}
-use Rattle.elementary.proofs.Places.{place_of, rises, contains_at}
+use Rattle.elementary.proofs.Places.{place_of, rises}
 use Rattle.elementary.proofs.Tables.{admissible_from_counts, counts_from_admissible}
 
 pub le_from : (a b : ℕ) → nat_le a b ≡ true → a ≤ b
@@ -55,8 +56,13 @@ eq_from a b h = grind (arith, nat_tests)
 pub is_eq : (a b : ℕ) → a ≡ b → IsTrue (nat_eq a b)
 is_eq a b h = grind (arith, nat_tests)
 
-pub among : (xs : List ℕ) (t n : ℕ) → ((k : ℕ) → k < n → slice_index xs k < t) → ((k : ℕ) → n ≤ k → k < length xs → t ≤ slice_index xs k) → IsStrictlyIncreasing xs → n < length xs → IsTrue (nat_eq (slice_index xs n) t) ↔ Contains xs t
-among xs t n below above up l = (λ e. contains_at xs n t l (eq_from _ _ e), λ c. is_eq _ _ (found_there xs t n below above up c).1)
+-- the boundaries of a table, by another name
+pub there : (times boundaries cuts : List ℕ) (k : ℕ) → times ≡ boundaries → k < length cuts → All (Contains boundaries) cuts → Contains times (slice_index cuts k)
+there times boundaries cuts k same l all = subst (λ (xs : List ℕ). Contains xs (slice_index cuts k)) (sym same) (All-get_or (Contains boundaries) cuts k 0 l all)
+
+-- the next cut comes after the place of the one before
+pub place_before : (times cuts : List ℕ) (k at : ℕ) → IsStrictlyIncreasing cuts → 1 ≤ k → k < length cuts → slice_index times at ≡ slice_index cuts (k - 1) → slice_index times at < slice_index cuts k
+place_before times cuts k at up some l e = omega (arith, e, rises cuts up (k - 1) k (omega arith) l)
 
 -- a segment between places is one between times
 pub segment_is : (list : List Posting) (horizon : ℕ) (table : Counts) (factor : Fraction) (times : List ℕ) → times ≡ table.boundaries → Tabulates list horizon table → (j k f g : ℕ) → j < k → k < length times
@@ -74,6 +80,12 @@ segment_is list horizon table factor times same t j k f g lt l d e b h = (
 
     m : k < length table.boundaries
     m = omega (arith, l, ap length same)
+
+pub size_between_is : (list : List Posting) (times boundaries : List ℕ) → times ≡ boundaries → (j k f g s : ℕ) → s ≡ size (slice_index boundaries j) (slice_index boundaries k) list → slice_index times j ≡ f → slice_index times k ≡ g → s ≡ size f g list
+size_between_is list times boundaries same j k f g s h d e =
+    let left : slice_index boundaries j ≡ f = ap (λ l. slice_index l j) (sym same) ∙ d in
+    let right : slice_index boundaries k ≡ g = ap (λ l. slice_index l k) (sym same) ∙ e in
+    h ∙ (λ i. size (left i) (right i) list)
 
 pub ascends_more : (xs : List ℕ) (k : ℕ) → 1 ≤ k → ((i : ℕ) → i + 1 < k → slice_index xs i < slice_index xs (i + 1)) → slice_index xs (k - 1) < slice_index xs k → (i : ℕ) → i + 1 < k + 1 → slice_index xs i < slice_index xs (i + 1)
 ascends_more xs k some h lt i l = go (cases_lt (i + 1) k)

@@ -5,3 +5,8 @@ pub mod Distinct
 pub mod Cuts
 pub mod Walk
 pub mod LeastAlive
+pub mod Reaching
+pub mod Ordering
+pub mod Searching
+pub mod Bests
+pub mod Narrow

@@ -1,3 +1,5 @@
 pub mod Boundaries
 pub mod Counts
+pub mod Laws
 pub mod Partitions
+pub mod Reaches

@@ -9,7 +9,7 @@ use Rattle.elementary.specs.Boundaries.{IsBoundary, IsFirst, AreBoundaries}
 
 -- The most boundaries that a plan may have.
 abbrev pub widest : ℕ
-widest = 4096
+widest = 1048576
 
 -- [f, g) may be a segment: at each time in it, the size of its sublist is at most the factor times what is alive.
 abbrev pub IsAdmissible : List Posting → Fraction → ℕ → ℕ → Type 0

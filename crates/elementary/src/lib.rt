@@ -7,9 +7,16 @@
 //! and the checker meet, stand here too. `Table::new` alone takes memory.
 #![tactic(auto)]
 
+mod laws;
 mod partition;
+mod reach;
 mod sorting;
 mod table;
 
-pub use partition::{Partition, is_within};
+pub use laws::{
+    each_list_has_a_least, each_list_has_a_least_plan, each_list_has_best,
+    each_list_has_boundaries, one_list_of_best, one_list_of_boundaries, partitions_are_narrow,
+};
+pub use partition::Partition;
+pub use reach::reaches;
 pub use table::Table;

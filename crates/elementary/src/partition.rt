@@ -6,7 +6,7 @@ ghost use Rattle.elementary.specs.Counts.{Tabulates, AdmissibleBetween};
 ghost use Rattle.postings.specs.Sizes.{size};
 ghost use Rattle.elementary.specs.Partitions.{IsPartition, IsInSegment, IsFitting, IsAdmissible, Covers, space};
 
-use crate::sorting::{first_after, is_among, place_among};
+use crate::sorting::{first_after, first_from, is_at, place_after};
 use crate::table::Table;
 use std::marker::Model;
 use time_base::{Fraction, Time};
@@ -70,8 +70,8 @@ impl Partition {
         segment_in(&self.cuts, t.seconds())
     }
 
-    /// Whether the cuts are boundaries of the table, from its first to its last. Costs the logarithm of
-    /// the boundaries for each cut.
+    /// Whether the cuts are boundaries of the table, from its first to its last. Costs time in the
+    /// boundaries.
     pub fn fits(&self, table: &Table) -> bool
         ensures { IsTrue result ↔ IsFitting table.now.boundaries self.now }
     {
@@ -88,8 +88,7 @@ impl Partition {
         are_admissible(table, factor, self.cuts())
     }
 
-    /// The space of the partition, which fits the table, in postings. Costs the logarithm of the
-    /// boundaries for each cut.
+    /// The space of the partition, which fits the table, in postings. Costs time in the boundaries.
     pub fn whole_space(&self, table: &Table) -> u128
         requires fits { IsFitting table.now.boundaries self.now }
         ensures value { (list : List Posting) (horizon : ℕ) → Tabulates list horizon table.now → result ≡ space list (slice_index self.now 0) (drop 1 self.now) }
@@ -99,7 +98,7 @@ impl Partition {
     }
 
     /// The space of the partition, which fits the table and has at most 2^24 segments, in postings.
-    /// Costs the logarithm of the boundaries for each cut.
+    /// Costs time in the boundaries.
     pub fn space(&self, table: &Table) -> u64
         requires fits { IsFitting table.now.boundaries self.now }
         requires few { length self.now ≤ 2 ^ 24 + 1 }
@@ -139,13 +138,19 @@ fn segment_in(cuts: &[u64], t: u64) -> Option<usize>
     Some(next - 1)
 }
 
-/// Whether all cuts are among the times.
+/// Whether all cuts are among the times, of which the first is the first cut. Costs time in both.
 fn are_among(times: &[u64], cuts: &[u64]) -> bool
-    requires { IsStrictlyIncreasing times.now }
+    requires times { IsStrictlyIncreasing times.now }
+    requires cuts { IsStrictlyIncreasing cuts.now }
+    requires some { 0 < length times.now }
+    requires many { 0 < length cuts.now }
+    requires first { slice_index cuts.now 0 ≡ slice_index times.now 0 }
     ensures { IsTrue result ↔ All (Contains times.now) cuts.now }
 {
-    for cut in cuts {
-        if !is_among(times, *cut) {
+    let mut at = 0;
+    for k in 1..cuts.len() {
+        at = first_from(times, at, cuts[k]);
+        if !is_at(times, at, cuts[k]) {
             return false;
         }
     }
@@ -155,6 +160,7 @@ fn are_among(times: &[u64], cuts: &[u64]) -> bool
 /// Whether the cuts are among the times, from the first of these to the last.
 fn fits_in(times: &[u64], cuts: &[u64]) -> bool
     requires ascending { IsStrictlyIncreasing times.now }
+    requires rising { IsStrictlyIncreasing cuts.now }
     requires times { 0 < length times.now }
     requires cuts { 0 < length cuts.now }
     ensures { IsTrue result ↔ IsFitting times.now cuts.now }
@@ -169,7 +175,7 @@ fn fits_in(times: &[u64], cuts: &[u64]) -> bool
 }
 
 /// Whether a size is within the factor of a number of postings alive.
-pub fn is_within(size: u64, factor: Fraction, alive: u64) -> bool
+pub(crate) fn is_within(size: u64, factor: Fraction, alive: u64) -> bool
     requires size { size < 2 ^ 38 }
     requires alive { alive < 2 ^ 38 }
     ensures { IsTrue result ↔ (size * factor.under ≤ factor.over * alive) }
@@ -192,59 +198,42 @@ fn is_admissible_between(table: &Table, factor: Fraction, j: usize, k: usize) ->
     true
 }
 
-/// Whether `[f, g)` is admissible, where both are boundaries.
-fn is_segment(table: &Table, factor: Fraction, f: u64, g: u64) -> bool
-    requires order { f < g }
-    requires left { Contains table.now.boundaries f }
-    requires right { Contains table.now.boundaries g }
-    ensures { (list : List Posting) (horizon : ℕ) → Tabulates list horizon table.now → (IsTrue result ↔ IsAdmissible list factor f g) }
-{
-    let times = table.boundaries();
-    let j = place_among(times, f);
-    let k = place_among(times, g);
-    is_admissible_between(table, factor, j, k)
-}
-
-/// How many postings have a time in `[f, g)`, where both are boundaries.
-fn size_of(table: &Table, f: u64, g: u64) -> u64
-    requires order { f < g }
-    requires left { Contains table.now.boundaries f }
-    requires right { Contains table.now.boundaries g }
-    ensures value { (list : List Posting) (horizon : ℕ) → Tabulates list horizon table.now → result ≡ size f g list }
-    ensures bound { result < 2 ^ 38 }
-{
-    let times = table.boundaries();
-    let j = place_among(times, f);
-    let k = place_among(times, g);
-    table.size(j, k)
-}
-
-/// Whether each segment between the cuts is admissible.
+/// Whether each segment between the cuts is admissible. Costs time in the boundaries.
 fn are_admissible(table: &Table, factor: Fraction, cuts: &[u64]) -> bool
     requires ascending { IsStrictlyIncreasing cuts.now }
     requires some { 0 < length cuts.now }
+    requires first { slice_index cuts.now 0 ≡ slice_index table.now.boundaries 0 }
     requires inside { All (Contains table.now.boundaries) cuts.now }
     ensures { (list : List Posting) (horizon : ℕ) → Tabulates list horizon table.now → (IsTrue result ↔ Covers list factor (slice_index cuts.now 0) (drop 1 cuts.now) (slice_index cuts.now (length cuts.now - 1))) }
 {
+    let times = table.boundaries();
+    let mut at = 0;
     for k in 1..cuts.len() {
-        if !is_segment(table, factor, cuts[k - 1], cuts[k]) {
+        let next = place_after(times, at, cuts[k]);
+        if !is_admissible_between(table, factor, at, next) {
             return false;
         }
+        at = next;
     }
     true
 }
 
-/// The sizes of the segments between the cuts, added up.
+/// The sizes of the segments between the cuts, added up. Costs time in the boundaries.
 fn space_between(table: &Table, cuts: &[u64]) -> u128
     requires ascending { IsStrictlyIncreasing cuts.now }
     requires some { 0 < length cuts.now }
+    requires first { slice_index cuts.now 0 ≡ slice_index table.now.boundaries 0 }
     requires inside { All (Contains table.now.boundaries) cuts.now }
     ensures value { (list : List Posting) (horizon : ℕ) → Tabulates list horizon table.now → result ≡ space list (slice_index cuts.now 0) (drop 1 cuts.now) }
     ensures bound { result ≤ (length cuts.now - 1) * 2 ^ 38 }
 {
+    let times = table.boundaries();
+    let mut at = 0;
     let mut total = 0;
     for k in 1..cuts.len() {
-        total += u128::from(size_of(table, cuts[k - 1], cuts[k]));
+        let next = place_after(times, at, cuts[k]);
+        total += u128::from(table.size(at, next));
+        at = next;
     }
     total
 }

@@ -47,14 +47,21 @@ fn count_to(numbers: &[u64], t: u64) -> u64
     numbers.partition_point(|x| *x <= t) as u64
 }
 
-/// The place of the first of the ascending numbers that isn't below `t`.
-pub(crate) fn first_from(numbers: &[u64], t: u64) -> usize
-    requires { IsStrictlyIncreasing numbers.now }
+/// The place of the first of the ascending numbers that isn't below `t`, found from place `at` on, whose
+/// number isn't above `t`. Costs time in the numbers between.
+pub(crate) fn first_from(numbers: &[u64], at: usize, t: u64) -> usize
+    requires ascending { IsStrictlyIncreasing numbers.now }
+    requires on { at < length numbers.now }
+    requires before { slice_index numbers.now at ≤ t }
     ensures inside { result ≤ length numbers.now }
     ensures below { (k : ℕ) → k < result → slice_index numbers.now k < t }
     ensures above { (k : ℕ) → result ≤ k → k < length numbers.now → t ≤ slice_index numbers.now k }
 {
-    numbers.partition_point(|x| *x < t)
+    let mut place = at;
+    while place < numbers.len() && numbers[place] < t {
+        place += 1;
+    }
+    place
 }
 
 /// The place of the first of the ascending numbers that is above `t`.
@@ -67,26 +74,27 @@ pub(crate) fn first_after(numbers: &[u64], t: u64) -> usize
     numbers.partition_point(|x| *x <= t)
 }
 
-/// Whether `t` is one of the ascending numbers.
-pub(crate) fn is_among(numbers: &[u64], t: u64) -> bool
-    requires { IsStrictlyIncreasing numbers.now }
-    ensures { IsTrue result ↔ Contains numbers.now t }
+/// Whether `t` stands at a place of the numbers.
+pub(crate) fn is_at(numbers: &[u64], place: usize, t: u64) -> bool
+    ensures { IsTrue result ↔ ((place < length numbers.now) × (slice_index numbers.now place ≡ t)) }
 {
-    let k = first_from(numbers, t);
-    if k == numbers.len() {
+    if place >= numbers.len() {
         return false;
     }
-    numbers[k] == t
+    numbers[place] == t
 }
 
-/// The place of `t` among the ascending numbers.
-pub(crate) fn place_among(numbers: &[u64], t: u64) -> usize
+/// The place of `t` among the ascending numbers, after place `at`. Costs time in the numbers between.
+pub(crate) fn place_after(numbers: &[u64], at: usize, t: u64) -> usize
     requires ascending { IsStrictlyIncreasing numbers.now }
+    requires on { at < length numbers.now }
+    requires before { slice_index numbers.now at < t }
     requires there { Contains numbers.now t }
+    ensures after { at < result }
     ensures inside { result < length numbers.now }
     ensures value { slice_index numbers.now result ≡ t }
 {
-    first_from(numbers, t)
+    first_from(numbers, at, t)
 }
 
 /// For each time, how many of the ascending numbers are below it.

@@ -3,7 +3,7 @@ ghost use Rattle.std.specs.Prelude.{◌≡◌, ℕ, ◌+◌, ◌-◌, ◌<◌, �
 ghost use Rattle.std.specs.List.Sorted.{IsStrictlyIncreasing};
 ghost use Rattle.time_base.specs.declared.posting.Posting.{Posting};
 ghost use Rattle.postings.specs.Sizes.{size, alive_count};
-ghost use Rattle.elementary.specs.Counts.{Tabulates, size_between, alive_in};
+ghost use Rattle.elementary.specs.Counts.{Tabulates, AreOrdered, size_between, alive_in};
 
 use crate::sorting::{counts_below, counts_to, distinct, sorted, starts_of, stops_of};
 use std::alloc::{AllocError, Global};
@@ -59,6 +59,7 @@ impl Table {
         ensures many { 2 ≤ length result.now }
         ensures ascending { IsStrictlyIncreasing result.now }
         ensures in_time { All (λ x. x < 2 ^ 40) result.now }
+        ensures ordered { AreOrdered self.now.boundaries self.now.begun self.now.ended }
     {
         &self.boundaries
     }

@@ -1,5 +1,5 @@
 -- The way back along left ends as a partition.
-use Rattle.std.specs.Prelude.{◌≡◌, ◌⊎◌, ℕ, zero, suc, ◌+◌, ◌-◌, ◌*◌, ◌<◌, ◌≤◌, List, [], ◌∷◌, ◌++◌, map, drop, length, slice_index, All, Contains, Option, Some, IfSome, reverse, refl}
+use Rattle.std.specs.Prelude.{◌≡◌, ◌⊎◌, ℕ, zero, suc, ◌+◌, ◌-◌, ◌*◌, ◌<◌, ◌≤◌, List, [], ◌∷◌, ◌++◌, map, length, slice_index, All, Contains, Option, Some, IfSome, reverse, refl}
 use Rattle.std.specs.List.Sorted.{IsStrictlyIncreasing}
 use Rattle.std.proofs.Common.{arith, ap, sym, ◌∙◌, subst, inl, inr}
 use Rattle.std.proofs.lemmas.Bool.{cases_lt}
@@ -8,14 +8,13 @@ use Rattle.std.proofs.lemmas.List.Elements.{All-nil, All-cons, Contains-get_or}
 use Rattle.time_base.specs.declared.posting.Posting.{Posting}
 use Rattle.time_base.specs.declared.fraction.Fraction.{Fraction}
 use Rattle.postings.specs.Sizes.{size}
-use Rattle.elementary.specs.Boundaries.{IsBoundary}
 use Rattle.elementary.specs.Counts.{Counts, Tabulates, size_between, alive_in}
-use Rattle.elementary.specs.Partitions.{IsAdmissible, Covers, IsLeast, AreBest, IsBest, IsFitting, IsPartition, space}
+use Rattle.elementary.specs.Partitions.{IsAdmissible, Covers, AreBest, IsBest, IsFitting, IsPartition, space}
 use Rattle.elementary.proofs.Places.{rises}
 use Rattle.elementary.proofs.Tables.{size_is, admissible_from_counts, counts_from_admissible, last_is_horizon}
 use Rattle.elementary.proofs.Walk.{AreBounds, paths_cost}
 use Rattle.plan_certificate.specs.Certificates.{CertifiesCuts}
-use Rattle.guarantee_planner.specs.Steps.{IsBestLeft, AreSettled, LeadsBy, IsWay}
+use Rattle.guarantee_planner.specs.Steps.{AreSettled, LeadsBy, IsWay}
 
 -- the way grows at its front
 pub way_more : (times lefts : List ℕ) (at next end : ℕ) (cuts : List ℕ) (x : ℕ) → next ≡ slice_index lefts at → x ≡ slice_index times next → next < at → at < length lefts

@@ -1,35 +1,12 @@
 //! The numbers at the boundaries, and the way back along their best last segments.
-ghost use Rattle.std.specs.Prelude.{◌≡◌, ℕ, ◌+◌, ◌-◌, ◌*◌, ◌<◌, ◌≤◌, ◌^◌, List, length, slice_index, IfOk};
-ghost use Rattle.guarantee_planner.specs.Steps.{IsBestLeft, AreSettled, IsWay};
+ghost use Rattle.std.specs.Prelude.{◌≡◌, ℕ, ◌-◌, ◌<◌, ◌≤◌, ◌^◌, length, slice_index, IfOk};
+ghost use Rattle.guarantee_planner.specs.Steps.{AreSettled, IsWay};
 
-use elementary::{Table, is_within};
+use elementary::{Table, reaches};
+use plan_certificate::cheapest_left;
 use std::alloc::{AllocError, Global};
 use time_base::Fraction;
-
-/// The left end of the best last segment that ends at boundary `k`.
-fn best_left(table: &Table, factor: Fraction, pi: &[u64], k: usize) -> usize
-    requires some { 0 < k }
-    requires inside { k < length table.now.boundaries }
-    requires settled { k ≤ length pi.now }
-    requires small { (j : ℕ) → j < k → slice_index pi.now j < 2 ^ 62 }
-    ensures { IsBestLeft table.now factor pi.now k result }
-{
-    let mut left = k - 1;
-    let mut best = pi[left] + table.size(left, k);
-    let mut least = table.alive(left);
-    let mut j = left;
-    while j > 0 {
-        j -= 1;
-        least = least.min(table.alive(j));
-        let size = table.size(j, k);
-        let cost = pi[j] + size;
-        if is_within(size, factor, least) && cost < best {
-            best = cost;
-            left = j;
-        }
-    }
-    left
-}
+use window_min::WindowMin;
 
 /// The least space up to each boundary, and the left end of the last segment of a partition that takes
 /// it.
@@ -38,18 +15,22 @@ pub(crate) struct Settled {
     pub(crate) lefts: Vec<usize>,
 }
 
-/// The numbers at all boundaries.
+/// The numbers at all boundaries. Costs time in the boundaries, and 48 bytes of memory for each of them,
+/// of which 16 stay.
 pub(crate) fn settle(alloc: Global, table: &Table, factor: Fraction) -> Result<Settled, AllocError>
     requires { length table.now.boundaries ≤ 2 ^ 20 }
     ensures { IfOk result (λ s. AreSettled table.now factor s.pi.items s.lefts.items (length table.now.boundaries)) }
 {
     let boundaries = table.boundaries().len();
-    let mut pi = Vec::new(alloc);
-    let mut lefts = Vec::new(alloc);
+    let lows = reaches(alloc, table, factor)?;
+    let mut window = WindowMin::with_capacity(alloc, boundaries)?;
+    let mut pi = Vec::with_capacity(alloc, boundaries)?;
+    let mut lefts = Vec::with_capacity(alloc, boundaries)?;
     pi.push(0)?;
     lefts.push(0)?;
     for k in 1..boundaries {
-        let left = best_left(table, factor, &pi, k);
+        let low = lows[k];
+        let left = cheapest_left(table, &pi, low, k, &mut window)?;
         let number = pi[left] + table.size(left, k);
         pi.push(number)?;
         lefts.push(left)?;

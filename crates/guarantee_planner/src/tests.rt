@@ -1,3 +1,4 @@
+mod all_pairs;
 mod brute_force;
 mod certificates;
 mod given;

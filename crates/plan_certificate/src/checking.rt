@@ -1,85 +1,94 @@
 //! The check of a certificate.
-ghost use Rattle.std.specs.Prelude.{◌≡◌, ◌↔◌, ℕ, ◌+◌, ◌<◌, ◌≤◌, List, drop, length, slice_index, IsTrue};
+ghost use Rattle.std.specs.Prelude.{◌≡◌, ◌↔◌, ℕ, ◌+◌, ◌<◌, ◌≤◌, List, drop, length, slice_index, IsTrue, IfOk};
 ghost use Rattle.time_base.specs.declared.posting.Posting.{Posting};
-ghost use Rattle.elementary.specs.Counts.{Tabulates, AdmissibleBetween, size_between};
+ghost use Rattle.elementary.specs.Counts.{Tabulates, size_between};
 ghost use Rattle.elementary.specs.Partitions.{IsLeast};
 ghost use Rattle.plan_certificate.specs.Certificates.{CertifiesCuts, CertificateShowsLeast};
-ghost use Rattle.plan_certificate.specs.Edges.{EdgesTo, EdgesBelow};
+ghost use Rattle.plan_certificate.specs.Edges.{EdgesBelow};
 
 use crate::certificate::Certificate;
-use elementary::{Partition, Table, is_within};
+use crate::lefts::cheapest_left;
+use elementary::{Partition, Table, reaches};
+use std::alloc::{AllocError, Global};
 use time_base::Fraction;
+use window_min::WindowMin;
 
-/// Whether the number at boundary `k` is at most the number at each earlier boundary and the size of
-/// the segment between them, where that segment is admissible.
-fn edges_to(table: &Table, factor: Fraction, pi: &[u64], k: usize) -> bool
-    requires some { 0 < k }
+/// Whether the number at boundary `k` is at most the number at boundary `left` and the size of the
+/// segment between them.
+fn is_edge(table: &Table, pi: &[u64], left: usize, k: usize) -> bool
+    requires order { left < k }
     requires inside { k < length table.now.boundaries }
     requires long { length pi.now ≡ length table.now.boundaries }
-    ensures { IsTrue result ↔ EdgesTo table.now factor pi.now k }
+    ensures { IsTrue result ↔ (slice_index pi.now k ≤ slice_index pi.now left + size_between table.now left k) }
 {
-    let mut least = table.alive(k - 1);
-    let mut j = k;
-    while j > 0 {
-        j -= 1;
-        least = least.min(table.alive(j));
-        let size = table.size(j, k);
-        if is_within(size, factor, least)
-            && u128::from(pi[j]) + u128::from(size) < u128::from(pi[k])
-        {
-            return false;
-        }
-    }
-    true
+    u128::from(pi[k]) <= u128::from(pi[left]) + u128::from(table.size(left, k))
 }
 
-/// Whether the same holds at each boundary.
-fn edges_hold(table: &Table, factor: Fraction, pi: &[u64]) -> bool
+/// Whether the number at each boundary is at most the number at each earlier boundary and the size of
+/// the segment between them, where that segment is admissible.
+fn edges_hold(
+    alloc: Global,
+    table: &Table,
+    factor: Fraction,
+    pi: &[u64],
+) -> Result<bool, AllocError>
     requires { length pi.now ≡ length table.now.boundaries }
-    ensures { IsTrue result ↔ EdgesBelow table.now factor pi.now (length pi.now) }
+    ensures { IfOk result (λ b. IsTrue b ↔ EdgesBelow table.now factor pi.now (length pi.now)) }
 {
+    let lows = reaches(alloc, table, factor)?;
+    let mut window = WindowMin::with_capacity(alloc, pi.len())?;
     for k in 1..pi.len() {
-        if !edges_to(table, factor, pi, k) {
-            return false;
+        let low = lows[k];
+        let left = cheapest_left(table, pi, low, k, &mut window)?;
+        if !is_edge(table, pi, left, k) {
+            return Ok(false);
         }
     }
-    true
+    Ok(true)
 }
 
 /// Whether the numbers certify the partition.
-fn numbers_certify(table: &Table, factor: Fraction, partition: &Partition, pi: &[u64]) -> bool
-    ensures { (list : List Posting) (horizon : ℕ) → Tabulates list horizon table.now → (IsTrue result ↔ CertifiesCuts list factor table.now.boundaries pi.now partition.now horizon) }
+fn numbers_certify(
+    alloc: Global,
+    table: &Table,
+    factor: Fraction,
+    partition: &Partition,
+    pi: &[u64],
+) -> Result<bool, AllocError>
+    ensures { IfOk result (λ b. (list : List Posting) (horizon : ℕ) → Tabulates list horizon table.now → (IsTrue b ↔ CertifiesCuts list factor table.now.boundaries pi.now partition.now horizon)) }
 {
     if pi.len() != table.boundaries().len() {
-        return false;
+        return Ok(false);
     }
     if !partition.fits(table) {
-        return false;
+        return Ok(false);
     }
     if pi[0] != 0 {
-        return false;
+        return Ok(false);
     }
-    if !edges_hold(table, factor, pi) {
-        return false;
+    let holds = edges_hold(alloc, table, factor, pi)?;
+    if !holds {
+        return Ok(false);
     }
     if !partition.admissible(table, factor) {
-        return false;
+        return Ok(false);
     }
-    u128::from(pi[pi.len() - 1]) == partition.whole_space(table)
+    Ok(u128::from(pi[pi.len() - 1]) == partition.whole_space(table))
 }
 
 /// Whether the certificate shows that the partition is least for the factor, of the list that the table
-/// is of. Takes no memory, and time in the square of the boundaries.
+/// is of. Costs time in the boundaries, and 32 bytes of memory for each of them.
 pub fn check(
+    alloc: Global,
     table: &Table,
     factor: Fraction,
     partition: &Partition,
     certificate: &Certificate,
-) -> bool
-    ensures exact { (list : List Posting) (horizon : ℕ) → Tabulates list horizon table.now → (IsTrue result ↔ CertifiesCuts list factor table.now.boundaries certificate.now partition.now horizon) }
-    ensures least { (list : List Posting) (horizon : ℕ) → Tabulates list horizon table.now → IsTrue result → IsLeast list factor (slice_index partition.now 0) (drop 1 partition.now) horizon }
+) -> Result<bool, AllocError>
+    ensures exact { IfOk result (λ b. (list : List Posting) (horizon : ℕ) → Tabulates list horizon table.now → (IsTrue b ↔ CertifiesCuts list factor table.now.boundaries certificate.now partition.now horizon)) }
+    ensures least { IfOk result (λ b. (list : List Posting) (horizon : ℕ) → Tabulates list horizon table.now → IsTrue b → IsLeast list factor (slice_index partition.now 0) (drop 1 partition.now) horizon) }
 {
-    numbers_certify(table, factor, partition, certificate.pi())
+    numbers_certify(alloc, table, factor, partition, certificate.pi())
 }
 
 /// A certified partition takes the least space of all admissible ones, whatever their cut times. Does

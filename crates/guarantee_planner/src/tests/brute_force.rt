@@ -1,29 +1,9 @@
 //! Plans of small lists beside the least space that trying every set of cuts finds.
-ghost use Rattle.std.specs.Prelude.{◌<◌};
-
-use super::given::{factor, listed, table_of};
+use super::given::{Numbers, factor, listed, table_of};
 use crate::plan;
 use plan_certificate::check;
 use std::test::Fail;
 use time_base::{Fraction, Posting};
-
-/// Numbers that look random: a linear congruential generator, with Knuth's multiplier for 64 bits.
-#[derive(Drop)]
-struct Numbers(u64);
-
-impl Numbers {
-    /// The next number below `end`.
-    fn below(&mut self, end: u64) -> u64
-        requires { 0 < end }
-        ensures { result < end }
-    {
-        self.0 = self
-            .0
-            .wrapping_mul(6364136223846793005)
-            .wrapping_add(1442695040888963407);
-        (self.0 >> 33) % end
-    }
-}
 
 /// How many postings have a time in `[from, to)`.
 fn size(list: &[Posting], from: u64, to: u64) -> u64 {
@@ -84,7 +64,7 @@ fn plans_of_random_lists_take_the_least_space(rt: HostRuntime) -> Result<(), Fai
         let factor = factor(under + numbers.below(4) as u32, under)?;
         let (partition, certificate) = plan(alloc, &table, factor)?;
         assert!(rt;
-            check(&table, factor, &partition, &certificate),
+            check(alloc, &table, factor, &partition, &certificate)?,
             "round {round}"
         );
 

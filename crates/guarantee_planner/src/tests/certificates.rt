@@ -46,7 +46,7 @@ fn certificates_pass_exactly_where_they_certify(rt: HostRuntime) -> Result<(), F
     ] {
         let certificate = Certificate::new(pi.to_vec(alloc)?);
         assert_eq!(rt;
-            check(&table, factor, &cut_at(alloc, cuts)?, &certificate),
+            check(alloc, &table, factor, &cut_at(alloc, cuts)?, &certificate)?,
             passes,
             "{why}"
         );

@@ -1,4 +1,6 @@
-//! Lists, tables and factors for the tests.
+//! Lists, tables, factors and numbers for the tests.
+ghost use Rattle.std.specs.Prelude.{◌<◌};
+
 use elementary::{Partition, Table};
 use std::alloc::Global;
 use std::test::Fail;
@@ -46,4 +48,22 @@ pub(crate) fn factor(over: u32, under: u32) -> Result<Fraction, Fail> {
 /// The partition with these cuts.
 pub(crate) fn cut_at(alloc: Global, cuts: &[u64]) -> Result<Partition, Fail> {
     Ok(Partition::new(cuts.to_vec(alloc)?).ok_or("a partition")?)
+}
+
+/// Numbers that look random: a linear congruential generator, with Knuth's multiplier for 64 bits.
+#[derive(Drop)]
+pub(crate) struct Numbers(pub(crate) u64);
+
+impl Numbers {
+    /// The next number below `end`.
+    pub(crate) fn below(&mut self, end: u64) -> u64
+        requires { 0 < end }
+        ensures { result < end }
+    {
+        self.0 = self
+            .0
+            .wrapping_mul(6364136223846793005)
+            .wrapping_add(1442695040888963407);
+        (self.0 >> 33) % end
+    }
 }

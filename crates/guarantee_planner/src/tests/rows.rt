@@ -3,6 +3,7 @@ use super::given::{FIVE, OVERLAP, factor, listed, table_of};
 use crate::{PlanError, WIDEST, plan};
 use plan_certificate::check;
 use std::test::Fail;
+use time_base::{DocId, Posting, Span};
 
 #[test]
 fn plans_are_those_worked_out_by_hand(rt: HostRuntime) -> Result<(), Fail> {
@@ -45,32 +46,67 @@ fn plans_are_those_worked_out_by_hand(rt: HostRuntime) -> Result<(), Fail> {
         let (partition, certificate) = plan(alloc, &table, factor)?;
         assert_eq!(rt; partition.cuts(), cuts, "at {over}/{under}");
         assert_eq!(rt; certificate.pi(), pi, "at {over}/{under}");
-        assert!(rt; check(&table, factor, &partition, &certificate));
+        assert!(rt; check(alloc, &table, factor, &partition, &certificate)?);
     }
     Ok(())
 }
 
 /// One document that is alive in every second time, from 2 on; each span has two boundaries.
 #[test]
-fn the_widest_plan_and_one_that_is_too_wide(rt: HostRuntime) -> Result<(), Fail> {
+fn no_segment_reaches_over_a_time_without_postings(rt: HostRuntime) -> Result<(), Fail> {
     let alloc = rt.alloc();
     let factor = factor(1, 1)?;
     let mut spans = Vec::new(alloc);
-    for at in 1..2049u64 {
+    for at in 1..2050u64 {
         spans.push((1, 2 * at, 2 * at + 1))?;
     }
-    let table = table_of(alloc, &listed(alloc, &spans)?, 4097)?;
+    let table = table_of(alloc, &listed(alloc, &spans)?, 4099)?;
+    assert_eq!(rt; table.boundaries().len(), 4098);
+    let (partition, certificate) = plan(alloc, &table, factor)?;
+    assert_eq!(rt; partition.segments(), 4097);
+    assert_eq!(rt; certificate.pi().last(), Some(&2049));
+    assert!(rt; check(alloc, &table, factor, &partition, &certificate)?);
+    Ok(())
+}
+
+/// The posting of a document in one second, with a frequency of its own in every other one.
+fn in_second(at: u64) -> Result<Posting, Fail> {
+    let span = Span::new(at, at.saturating_add(1)).ok_or("a span")?;
+    let tf = if at % 2 == 0 { 1 } else { 2 };
+    Ok(Posting {
+        doc: DocId(1),
+        span,
+        tf,
+    })
+}
+
+/// One document with a posting in each second: as many boundaries as a plan may have, and one more. A
+/// test has no time to compare all pairs of them.
+#[test]
+fn the_widest_plan_and_one_that_is_too_wide(rt: HostRuntime) -> Result<(), Fail> {
+    let alloc = rt.alloc();
+    let seconds = WIDEST as u64 - 1;
+    let factor = factor(seconds as u32, 1)?;
+    let mut list = Vec::new(alloc);
+    for at in 0..seconds {
+        list.push(in_second(at)?)?;
+    }
+    let table = table_of(alloc, &list, seconds)?;
     assert_eq!(rt; table.boundaries().len(), WIDEST);
     let (partition, certificate) = plan(alloc, &table, factor)?;
-    assert_eq!(rt; partition.segments(), 4095);
-    assert_eq!(rt; certificate.pi().last(), Some(&2048));
-    assert!(rt; check(&table, factor, &partition, &certificate));
+    assert_eq!(rt; certificate.pi().len(), WIDEST);
+    for (k, number) in certificate.pi().iter().enumerate() {
+        assert_eq!(rt; *number, k as u64);
+    }
+    assert!(rt; check(alloc, &table, factor, &partition, &certificate)?);
 
-    spans.push((1, 4098, 4099))?;
-    let wider = table_of(alloc, &listed(alloc, &spans)?, 4099)?;
+    list.push(in_second(seconds)?)?;
+    let wider = table_of(alloc, &list, seconds + 1)?;
     assert_eq!(rt;
         plan(alloc, &wider, factor).err(),
-        Some(PlanError::TooWide { boundaries: 4098 })
+        Some(PlanError::TooWide {
+            boundaries: 1_048_577
+        })
     );
     Ok(())
 }

@@ -1,6 +1,11 @@
-use Rattle.std.proofs.Common.{take}
-use Rattle.std.specs.Prelude.{All, Contains}
+use Rattle.std.proofs.Common.{◌≡◌, ℕ, ◌-◌, ◌<◌, ◌≤◌, length}
+use Rattle.std.specs.Prelude.{Contains, slice_index}
 use Rattle.elementary.proofs.partition.are_among.Given as goal
 
-abbrev pub invariant-loop-cut : goal.invariant-loop-cut
-invariant-loop-cut l = All (Contains l.times) (take l.cut-index l.cuts)
+abbrev pub invariant-loop-k : goal.invariant-loop-k
+invariant-loop-k l = record {
+  some : 1 ≤ l.k;
+  inside : l.at < length l.times;
+  at : slice_index l.times l.at ≡ slice_index l.cuts (l.k - 1);
+  among : (m : ℕ) → m < l.k → Contains l.times (slice_index l.cuts m);
+}

@@ -1,4 +1,4 @@
-use Rattle.std.proofs.Common.{◌≡◌, ℕ, ◌+◌, ◌-◌, ◌*◌, ◌^◌, ◌≤◌, List, drop}
+use Rattle.std.proofs.Common.{◌≡◌, ℕ, ◌+◌, ◌-◌, ◌*◌, ◌^◌, ◌<◌, ◌≤◌, List, drop, length}
 use Rattle.std.specs.Prelude.{slice_index}
 use Rattle.time_base.specs.declared.posting.Posting.{Posting}
 use Rattle.elementary.specs.Counts.{Tabulates}
@@ -8,6 +8,8 @@ use Rattle.elementary.proofs.partition.space_between.Given as goal
 abbrev pub invariant-loop-k : goal.invariant-loop-k
 invariant-loop-k l = record {
   some : 1 ≤ l.k;
+  inside : l.at < length l.times;
+  at : slice_index l.times l.at ≡ slice_index l.cuts (l.k - 1);
   left : (list : List Posting) (horizon : ℕ) → Tabulates list horizon l.table
       → l.total + space list (slice_index l.cuts (l.k - 1)) (drop l.k l.cuts) ≡ space list (slice_index l.cuts 0) (drop 1 l.cuts);
   bound : l.total ≤ (l.k - 1) * 2 ^ 38;

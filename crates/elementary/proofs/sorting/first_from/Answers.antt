@@ -1,17 +1,9 @@
-use Rattle.std.proofs.Common.{◌≡◌, rules, arith, true, false, nat_lt}
-use Rattle.std.specs.List.Sorted.{IsPartitionPoint}
-use Rattle.std.proofs.lemmas.List.Sorted.{IsPartitionPoint-from_clause, IsPartitionedBy-ltb}
-use Rattle.elementary.proofs.Cuts.{lt_from, le_from_not}
-use Rattle.elementary.proofs.Places.{not_falling_by}
+use Rattle.std.proofs.Common.{arith}
+use Rattle.elementary.proofs.Places.{rises, not_falling}
 use Rattle.elementary.proofs.sorting.first_from.Goals as goal
 
-point : (c : goal.After-partition_point) → IsPartitionPoint (λ y. nat_lt y c.args.t ≡ true) (λ y. nat_lt y c.args.t ≡ false) c.args.numbers.now c.partition_point.result
-point c =
-    IsPartitionPoint-from_clause (λ x. nat_lt x c.args.t) c.args.numbers.now c.partition_point.result c.partition_point.ensures.partitioned
-    (IsPartitionedBy-ltb (λ x. x) c.args.numbers.now c.args.t (not_falling_by c.args.numbers.now c.requires)) (λ a r q k. search rules)
+pub loop-place-init : goal.loop-place-init
+loop-place-init c = record { inside = omega arith; below = λ k l. omega (arith, rises c.args.numbers.now c.requires.ascending k c.args.at l c.requires.on, c.requires.before) }
 
-pub returns-clause-below : goal.returns-clause-below
-returns-clause-below c k l = lt_from _ _ ((point c).0 k 0 (omega arith) l)
-
-pub returns-clause-above : goal.returns-clause-above
-returns-clause-above c k l m = le_from_not _ _ ((point c).1 k 0 l m)
+pub returns-else-numbers-place-clause-above : goal.returns-else-numbers-place-clause-above
+returns-else-numbers-place-clause-above c k le l = omega (arith, not_falling c.args.numbers.now c.requires.ascending c.loop-place.place k le l)

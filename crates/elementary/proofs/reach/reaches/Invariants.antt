@@ -1,0 +1,16 @@
+use Rattle.std.proofs.Common.{◌≡◌, ◌-◌, ◌<◌, ◌≤◌}
+use Rattle.std.specs.Prelude.{slice_index}
+use Rattle.window_min.specs.Windows.{AreValues}
+use Rattle.elementary.specs.Counts.{alive_in}
+use Rattle.elementary.specs.Reaches.{AreReaches, NoneBefore}
+use Rattle.elementary.proofs.reach.reaches.Given as goal
+
+abbrev pub invariant-loop-k : goal.invariant-loop-k
+invariant-loop-k l = record {
+  some : 1 ≤ l.k;
+  alive : AreValues (alive_in l.table) l.window.values (l.k - 1);
+  before : l.window.from < l.k;
+  none : NoneBefore l.table l.factor (l.k - 1) l.window.from;
+  last : slice_index l.lows.items (l.k - 1) ≡ l.window.from;
+  reaches : AreReaches l.table l.factor l.lows.items l.k;
+}

@@ -1,0 +1,13 @@
+pub mod BestLemmas
+pub mod CapLemmas
+pub mod CellLemmas
+pub mod Choosing
+pub mod CostLemmas
+pub mod CourseLemmas
+pub mod CutLemmas
+pub mod FrontLemmas
+pub mod LegLemmas
+pub mod PlanLemmas
+pub mod StopLemmas
+pub mod ThereIsABest
+pub mod WeightLemmas

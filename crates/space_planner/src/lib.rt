@@ -1,0 +1,28 @@
+//! The planner under a space bound: of all partitions that cut at candidates and are charged at most a
+//! budget, and the one piece, one whose reads are expected to cost least under a load.
+//!
+//! A dynamic program over candidates, at most 128, and charges, at most 4,096: for each candidate the
+//! least cost from there to the horizon for at most each charge. So the paths are read from their
+//! start, as partitions are. The definitions stand in `specs/Caps`, `Costs`, `Loads` and `Plans`.
+#![tactic(auto)]
+
+mod course;
+mod fronts;
+mod laws;
+mod limits;
+mod load;
+mod planning;
+mod point;
+mod settling;
+mod steps;
+mod stops;
+mod surveying;
+mod weights;
+
+pub use laws::{each_list_has_a_best, eligible_is_capped};
+pub use load::Load;
+pub use planning::{front, plan};
+pub use point::Point;
+
+#[cfg(test)]
+mod tests;

@@ -1,0 +1,4 @@
+mod brute_force;
+mod calls;
+mod given;
+mod rows;

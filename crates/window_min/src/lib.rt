@@ -1,0 +1,12 @@
+//! The least value of a window that moves on over a growing list of values.
+//!
+//! A window holds the values from one place on. Values are added at its end, and its start moves on;
+//! it tells a place where the least value in it stands. Contracts see the list of all values and the
+//! place where the window starts. Any number of steps together cost time in the values added, by the
+//! usual queue of places whose values rise.
+#![tactic(auto)]
+
+mod queue;
+mod window;
+
+pub use window::WindowMin;
