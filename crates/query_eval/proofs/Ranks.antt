@@ -17,7 +17,7 @@ pub same-row : (a b : Row) → a.doc.0 ≡ b.doc.0 → a.score ≡ b.score → a
 same-row a b d s = ap {B = Row} (λ n. record { doc = record { 0 = n }; score = a.score }) d ∙ ap {B = Row} (λ n. record { doc = b.doc; score = n }) s
 
 -- of two rows one is the other, or they are in order
-in-order : (a b : Row) → RanksBefore a b ⊎ ((a ≡ b) ⊎ RanksBefore b a)
+pub in-order : (a b : Row) → RanksBefore a b ⊎ ((a ≡ b) ⊎ RanksBefore b a)
 in-order a b = elim (cases_lt b.score a.score) [
   | inl h ↦ inl (inl h)
   | inr h ↦ elim (cases_lt a.score b.score) [

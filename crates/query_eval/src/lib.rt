@@ -1,5 +1,7 @@
 //! Queries, and their answers from posting lists.
 //!
+//! `found` has answers to queries of `query_lang` over any lists (`trait Lists`).
+//!
 //! A query is a word, which contracts see by its key (`specs/Queries.antt`). Its answer at a time is
 //! a row for each document that is alive and has the word, the most frequent first
 //! (`specs/Answers.antt`). To the layer above it promises that what it reads is exactly what the
@@ -8,12 +10,19 @@
 #![tactic(auto)]
 
 mod answer;
+mod asking;
+pub mod found;
+mod hit;
 mod laws;
+mod part;
 mod query;
 
 pub use answer::{Answer, Row, answer_at};
 pub use laws::{an_answer_is_one, each_list_has_an_answer};
+pub use part::{EvalError, Lists, Part};
 pub use query::{Query, QueryError};
 
+#[cfg(test)]
+mod found_tests;
 #[cfg(test)]
 mod tests;

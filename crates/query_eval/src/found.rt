@@ -1,0 +1,219 @@
+//! Answers to queries over any lists.
+ghost use Rattle.std.specs.Prelude.{option_to_list, ◌++◌, OnOk, ◌≡◌, ◌<◌, ◌≤◌, ◌+◌, ◌∷◌, if◌then◌else◌, drop, ℕ, List, [], Ok, length, Contains, IfOk, IsErrOf};
+ghost use Rattle.std.specs.List.{filter_map, slice_index_or};
+ghost use Rattle.std.specs.List.Sorted.{IsNonDecreasingBy};
+ghost use Rattle.query_lang.specs.Meaning.{words_of};
+ghost use Rattle.query_eval.specs.Asked.{Asks, AsksFront, AsksToFault, read_of};
+ghost use Rattle.query_eval.specs.Found.{told, row_of, once, IsAnswerOf};
+ghost use Rattle.query_eval.specs.Given.{OnlyHitsMatter};
+ghost use Rattle.query_eval.specs.Hits.{found, Tell};
+ghost use Rattle.query_eval.specs.declared.answer.Row.{Row as RowValue};
+ghost use Rattle.query_eval.specs.declared.part.Part.{Part as PartValue};
+ghost use Rattle.time_base.specs.declared.ids.DocId.{DocId as DocValue};
+
+use crate::answer::{Answer, Row};
+use crate::asking::{When, parts_when};
+use crate::hit::{Hit, count_words, group_of, hits_at};
+use crate::part::{EvalError, Lists, Part};
+use query_lang::{Pile, Query};
+use std::alloc::{AllocError, Global};
+use std::cmp::Reverse;
+use time_base::{DocId, Time};
+
+/// The row of a document by its hits, where it matches. Costs the query's length, or nothing where
+/// there is no hit.
+fn row_by(
+    query: &Query,
+    doc: DocId,
+    group: &[Hit],
+    counts: &mut [u32],
+    truths: &mut Pile<bool>,
+) -> Result<Option<Row>, AllocError>
+    requires { length counts.old ≡ length (words_of query.now) }
+    ensures { IfOk result (λ row. (often : List ℕ → ℕ)
+        → ((k : ℕ) → k < length (words_of query.now) → found group.now k ≡ often (slice_index_or (words_of query.now) k []))
+        → row ≡ row_of query.now often doc) }
+{
+    if group.is_empty() {
+        if query.matches_without_words() {
+            return Ok(Some(Row { doc, score: 0 }));
+        }
+        return Ok(None);
+    }
+    count_words(counts, group);
+    if query.matches(counts, truths)? {
+        return Ok(Some(Row {
+            doc,
+            score: query.score(counts),
+        }));
+    }
+    Ok(None)
+}
+
+/// Whether the row at a place is the next one too.
+fn is_repeated(rows: &[Row], i: usize) -> bool
+    requires { i < length rows.now }
+    ensures { (d : RowValue) → once (drop i rows.now) ≡ (if result then once (drop (i + 1) rows.now)
+        else slice_index_or rows.now i d ∷ once (drop (i + 1) rows.now)) }
+{
+    if i + 1 == rows.len() {
+        return false;
+    }
+    rows[i] == rows[i + 1]
+}
+
+/// The row of a document among hits that stand by document, where it matches.
+fn row_among(
+    query: &Query,
+    doc: DocId,
+    hits: &[Hit],
+    counts: &mut [u32],
+    truths: &mut Pile<bool>,
+) -> Result<Option<Row>, AllocError>
+    requires sorted { IsNonDecreasingBy (λ h. h.doc.0) hits.now }
+    requires room { length counts.old ≡ length (words_of query.now) }
+    ensures { IfOk result (λ row. (often : DocValue → List ℕ → ℕ) → Tell hits.now (words_of query.now) often
+        → row ≡ row_of query.now (often doc) doc) }
+{
+    row_by(query, doc, group_of(hits, doc), counts, truths)
+}
+
+/// The row at a place, if the next one isn't it too.
+fn kept(rows: &[Row], i: usize) -> Option<Row>
+    requires { i < length rows.now }
+    ensures { once (drop i rows.now) ≡ option_to_list result ++ once (drop (i + 1) rows.now) }
+{
+    if is_repeated(rows, i) {
+        None
+    } else {
+        Some(rows[i])
+    }
+}
+
+fn put(rows: &mut Vec<Row>, row: Option<Row>) -> Result<(), AllocError>
+    ensures { OnOk result (rows.new.items ≡ rows.old.items ++ option_to_list row) }
+{
+    if let Some(row) = row {
+        rows.push(row)?;
+    }
+    Ok(())
+}
+
+/// Rows without those that the next one repeats.
+fn once(alloc: Global, rows: &[Row]) -> Result<Vec<Row>, AllocError>
+    ensures { IfOk result (λ v. v.items ≡ once rows.now) }
+{
+    let mut all = Vec::new(alloc);
+    for i in 0..rows.len() {
+        put(&mut all, kept(rows, i))?;
+    }
+    Ok(all)
+}
+
+/// The rows of documents, in the order of these; `counts` is room for the words' frequencies.
+fn rows_of(
+    alloc: Global,
+    query: &Query,
+    hits: &[Hit],
+    alive: &[DocId],
+    counts: &mut [u32],
+) -> Result<Vec<Row>, AllocError>
+    requires sorted { IsNonDecreasingBy (λ h. h.doc.0) hits.now }
+    requires room { length counts.old ≡ length (words_of query.now) }
+    ensures { IfOk result (λ rows. (often : DocValue → List ℕ → ℕ) → Tell hits.now (words_of query.now) often
+        → rows.items ≡ filter_map (λ doc. row_of query.now (often doc) doc) alive.now) }
+{
+    let mut truths = Pile::new(alloc);
+    let mut rows = Vec::new(alloc);
+    for i in 0..alive.len() {
+        let row = row_among(query, alive[i], hits, counts, &mut truths)?;
+        put(&mut rows, row)?;
+    }
+    Ok(rows)
+}
+
+/// The sum of what was read for parts, of which there are few.
+fn read_of(parts: &[Part]) -> u64
+    requires { length parts.now ≤ 4096 }
+    ensures { result ≡ read_of parts.now }
+{
+    let mut read = 0;
+    for part in parts {
+        read += part.read;
+    }
+    read
+}
+
+/// What the query finds at a time among these documents, by the parts of the lists of its words, one
+/// for each distinct word in order. A document has a word as often as the first posting of its part
+/// says that holds the time. Costs the parts, a sort of their postings, and for each document two
+/// searches, and, where it has a hit, the query's length.
+pub fn answer_from(
+    alloc: Global,
+    query: &Query,
+    t: Time,
+    parts: &[Part],
+    alive: &[DocId],
+) -> Result<Answer, AllocError>
+    requires { length parts.now ≡ length (words_of query.now) }
+    ensures rows { IfOk result (λ a. IsAnswerOf (λ doc. Contains alive.now doc)
+        (λ doc. told (words_of query.now) parts.now t.seconds doc.0) query.now a.rows.items) }
+    ensures read { IfOk result (λ a. a.read ≡ read_of parts.now) }
+{
+    let hits = hits_at(alloc, parts, t)?;
+    let mut counts = vec![in alloc; 0; query.words().len()]?;
+    let mut rows = rows_of(alloc, query, &hits, alive, &mut counts)?;
+    rows.sort_unstable_by_key(|row| (Reverse(row.score), row.doc));
+    let rows = once(alloc, &rows)?;
+    Ok(Answer {
+        rows,
+        read: read_of(parts),
+    })
+}
+
+/// The parts of the lists of a query's distinct words at a time, one call of `at` for each in order.
+pub fn parts_at<L: Lists>(
+    alloc: Global,
+    query: &Query,
+    t: Time,
+    lists: &mut L,
+) -> Result<Vec<Part>, EvalError<L::Fault>>
+    ensures asked { IfOk result (λ parts. Asks (λ x w r y. L.asked_at x w t.seconds r y) lists.old (words_of query.now) parts.items lists.new) }
+    ensures many { IfOk result (λ parts. length parts.items ≡ length (words_of query.now)) }
+    ensures fault { (e : _) → IsErrOf result (EvalError.Lists e) → AsksToFault (λ x w r y. L.asked_at x w t.seconds r y) lists.old (words_of query.now) e lists.new }
+    ensures memory { IsErrOf result EvalError.Memory → AsksFront (λ x w r y. L.asked_at x w t.seconds r y) lists.old (words_of query.now) lists.new }
+{
+    parts_when(alloc, lists, query.words(), When::At(t))
+}
+
+/// What the query finds at a time among these documents in the lists, which are asked for one part
+/// for each distinct word, in order. Costs what `answer_from` does.
+pub fn answer_at<L: Lists>(
+    alloc: Global,
+    query: &Query,
+    t: Time,
+    lists: &mut L,
+    alive: &[DocId],
+) -> Result<Answer, EvalError<L::Fault>>
+    ensures rows { IfOk result (λ a. (parts : List PartValue) × Asks (λ x w r y. L.asked_at x w t.seconds r y) lists.old (words_of query.now) parts lists.new
+        × IsAnswerOf (λ doc. Contains alive.now doc) (λ doc. told (words_of query.now) parts t.seconds doc.0) query.now a.rows.items
+        × (a.read ≡ read_of parts)) }
+    ensures fault { (e : _) → IsErrOf result (EvalError.Lists e) → AsksToFault (λ x w r y. L.asked_at x w t.seconds r y) lists.old (words_of query.now) e lists.new }
+    ensures memory { IsErrOf result EvalError.Memory → AsksFront (λ x w r y. L.asked_at x w t.seconds r y) lists.old (words_of query.now) lists.new }
+{
+    let parts = match parts_at(alloc, query, t, lists) {
+        Ok(parts) => parts,
+        Err(e) => return Err(e),
+    };
+    match answer_from(alloc, query, t, &parts, alive) {
+        Ok(answer) => Ok(answer),
+        Err(_) => Err(EvalError::Memory),
+    }
+}
+
+/// Where `Query::matches_without_words` is false, only the documents alive that have one of the words
+/// need be given: the answer over them is the answer over all documents alive. Does nothing when it
+/// runs.
+pub fn only_hits_matter()
+    ensures { OnlyHitsMatter }
+{}

@@ -1,0 +1,11 @@
+pub mod Codes
+pub mod Evaluation
+pub mod Grammar
+pub mod Machine
+pub mod Meaning
+pub mod Numbered
+pub mod Piles
+pub mod Postfix
+pub mod Rows
+pub mod Stacks
+pub mod Tokens

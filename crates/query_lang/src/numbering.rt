@@ -1,0 +1,76 @@
+//! The distinct words of operators, and their places among these.
+ghost use Rattle.std.specs.Prelude.{◌≡◌, [], ◌∷◌, ◌<◌, length, All, get_or, IfOk, OnOk};
+ghost use Rattle.fold_tokens.specs.Words.{entered, with_all, distinct};
+ghost use Rattle.query_lang.specs.Numbered.{IsPlaced, named_by, named};
+ghost use Rattle.query_lang.specs.Postfix.{pushed, pushed_even};
+
+use crate::op::Op;
+use indexmap::IndexSet;
+use std::alloc::{AllocError, Global};
+use time_base::Key;
+
+/// The place of a word among words, behind which it is put where it is none of them.
+fn place_of(words: &mut IndexSet<Key>, key: &Key) -> Result<usize, AllocError>
+    ensures words { OnOk result (words.new.keys ≡ entered words.old.keys key.now) }
+    ensures inside { IfOk result (λ n. n < length words.new.keys) }
+    ensures place { IfOk result (λ n. get_or words.new.keys n [] ≡ key.now) }
+{
+    let (place, _) = words.insert_full(key.clone()?)?;
+    Ok(place)
+}
+
+/// Enters the words of an operator, and names its word by its place.
+fn number(
+    op: &Op<Key>,
+    words: &mut IndexSet<Key>,
+    affirmed: &mut IndexSet<Key>,
+) -> Result<Op<usize>, AllocError>
+    ensures words { OnOk result (words.new.keys ≡ with_all words.old.keys (pushed (op.now ∷ []))) }
+    ensures affirmed { OnOk result (affirmed.new.keys ≡ with_all affirmed.old.keys (pushed_even (op.now ∷ []))) }
+    ensures op { IfOk result (λ o. named_by words.new.keys o ≡ op.now) }
+    ensures placed { IfOk result (λ o. IsPlaced (length words.new.keys) o) }
+{
+    match op {
+        Op::Push(key, even) => {
+            let place = place_of(words, key)?;
+            if *even {
+                let _ = place_of(affirmed, key)?;
+            }
+            Ok(Op::Push(place, *even))
+        }
+        Op::Negate => Ok(Op::Negate),
+        Op::Conjoin => Ok(Op::Conjoin),
+        Op::Disjoin => Ok(Op::Disjoin),
+    }
+}
+
+/// Operators with the places of their words.
+#[derive(Drop)]
+pub(crate) struct Numbering {
+    /// The distinct words in the order of first occurrence.
+    pub(crate) words: IndexSet<Key>,
+    /// Those that stand somewhere under an even number of `not`.
+    pub(crate) affirmed: IndexSet<Key>,
+    /// The operators.
+    pub(crate) ops: Vec<Op<usize>>,
+}
+
+/// The operators with the places of their words. Costs a look-up for each.
+pub(crate) fn numbered(alloc: Global, laid: &[Op<Key>]) -> Result<Numbering, AllocError>
+    ensures words { IfOk result (λ n. n.words.keys ≡ distinct (pushed laid.now)) }
+    ensures affirmed { IfOk result (λ n. n.affirmed.keys ≡ distinct (pushed_even laid.now)) }
+    ensures ops { IfOk result (λ n. named n.words.keys n.ops.items ≡ laid.now) }
+    ensures placed { IfOk result (λ n. All (IsPlaced (length n.words.keys)) n.ops.items) }
+{
+    let mut words = IndexSet::new(alloc);
+    let mut affirmed = IndexSet::new(alloc);
+    let mut ops = Vec::new(alloc);
+    for op in laid {
+        ops.push(number(op, &mut words, &mut affirmed)?)?;
+    }
+    Ok(Numbering {
+        words,
+        affirmed,
+        ops,
+    })
+}

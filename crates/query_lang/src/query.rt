@@ -1,0 +1,160 @@
+//! Queries.
+ghost use Rattle.std.specs.Prelude.{◌≡◌, ◌≤◌, ℕ, List, [], true, length, map, All, Ok, Err, IfOk, IsErrOf};
+ghost use Rattle.std.specs.List.{list_any};
+ghost use Rattle.std.specs.Str.{bytes_eq};
+ghost use Rattle.query_lang.specs.Grammar.{IsRead};
+ghost use Rattle.query_lang.specs.Meaning.{matches, words_of, is_positive, score};
+ghost use Rattle.query_lang.specs.Postfix.{postfix, pushed, tree};
+ghost use Rattle.query_lang.specs.Tokens.{key_of};
+ghost use Rattle.query_lang.specs.Evaluation.{truths_of, top_truth};
+ghost use Rattle.query_lang.specs.Numbered.{IsPlaced};
+
+use crate::error::QueryError;
+use crate::evaluation::{evaluated, scored};
+use crate::numbering::{Numbering, numbered};
+use crate::op::Op;
+use crate::pile::Pile;
+use crate::reader::laid_of;
+use crate::token::tokens_of;
+use indexmap::IndexSet;
+use std::alloc::{AllocError, Global};
+use std::marker::Model;
+use time_base::Key;
+
+/// The most bytes of a query's text.
+pub const MOST_QUERY_BYTES: usize = 4096;
+
+/// What to look for. Contracts see the tree.
+///
+/// It is kept in postfix form, each operator behind what it joins, so that reading and evaluating
+/// need no recursion: a chain of 2,000 words is a list of 4,000 operators.
+#[derive(Drop)]
+pub struct Query {
+    words: IndexSet<Key>,
+    positive: Vec<bool>,
+    ops: Vec<Op<usize>>,
+    bare: bool,
+}
+
+impl Model for Query {
+    ghost use Rattle.query_lang.specs.Grammar.{Query as Meaning};
+    ghost use Rattle.query_lang.specs.Codes.{query_code};
+    ghost use Rattle.query_lang.specs.Numbered.{named, AreQuery};
+    ghost use Rattle.query_lang.specs.Postfix.{tree};
+
+    ghost Value = { Meaning };
+
+    ghost coded = { query_code };
+
+    ghost view = { λ q. tree (named q.words.keys q.ops.items) };
+
+    ghost invariant = { λ q. AreQuery q.words.keys q.positive.items q.ops.items q.bare };
+}
+
+impl Query {
+    /// The query that a text spells. Its tokens are the parentheses and the longest stretches of
+    /// bytes without spaces and parentheses; `and`, `or` and `not` in these letters are operators,
+    /// and another token is a word where `one_term` gives its key. `BadQuery` names the token behind
+    /// the longest front that begins some query. Its cost grows with the length of the text.
+    pub fn read(alloc: Global, text: &str) -> Result<Query, QueryError>
+        requires { length text.now ≤ 4096 }
+        ensures query { IfOk result (λ q. IsRead key_of text.now (Ok q)) }
+        ensures bad { (at : ℕ) → IsErrOf result (QueryError.BadQuery at)
+            → IsRead key_of text.now (Err at) }
+    {
+        let tokens = tokens_of(alloc, text.as_bytes())?;
+        match laid_of(alloc, &tokens, text.len()) {
+            Ok(laid) => Ok(query_of(alloc, &laid)?),
+            Err(e) => Err(e),
+        }
+    }
+
+    /// The distinct words in the order of first occurrence. Constant cost.
+    pub fn words(&self) -> &[Key]
+        ensures words { result.now ≡ words_of self.now }
+        ensures few { length result.now ≤ 4096 }
+    {
+        self.words.as_slice()
+    }
+
+    /// Which of the words are positive, by their places: each that stands somewhere under an even
+    /// number of `not`. Constant cost.
+    pub fn positive(&self) -> &[bool]
+        ensures { result.now ≡ map (is_positive self.now) (words_of self.now) }
+    {
+        self.positive.as_slice()
+    }
+
+    /// Whether a text that has none of the words matches. Where it doesn't, only documents with one
+    /// of the words can match. Constant cost.
+    pub fn matches_without_words(&self) -> bool
+        ensures { result ≡ matches self.now (λ _. 0) }
+    {
+        self.bare
+    }
+
+    /// Whether a text matches in which each word is as frequent as `counts` says at its place. Costs
+    /// the query's length; `truths` is room that can be used again.
+    pub fn matches(&self, counts: &[u32], truths: &mut Pile<bool>) -> Result<bool, AllocError>
+        requires { length counts.now ≡ length (words_of self.now) }
+        ensures { IfOk result (λ b. (often : List ℕ → ℕ) → counts.now ≡ map often (words_of self.now)
+            → b ≡ matches self.now often) }
+    {
+        evaluated(&self.ops, counts, truths)
+    }
+
+    /// The score of a text in which each word is as frequent as `counts` says at its place. Costs
+    /// the number of words.
+    pub fn score(&self, counts: &[u32]) -> u64
+        requires { length counts.now ≡ length (words_of self.now) }
+        ensures { (often : List ℕ → ℕ) → counts.now ≡ map often (words_of self.now)
+            → result ≡ score self.now often }
+    {
+        scored(&self.positive, counts)
+    }
+}
+
+/// Which of the words are among those that are affirmed.
+fn positive_of(
+    alloc: Global,
+    words: &IndexSet<Key>,
+    affirmed: &IndexSet<Key>,
+) -> Result<Vec<bool>, AllocError>
+    ensures { IfOk result (λ v. v.items ≡ map (λ w. list_any (bytes_eq w) affirmed.now.keys) words.now.keys) }
+{
+    words
+        .as_slice()
+        .iter()
+        .map(|word| affirmed.contains(word))
+        .collect(alloc)
+}
+
+/// Whether a text matches in which each of so many words occurs 0 times.
+fn bare_of(alloc: Global, ops: &[Op<usize>], words: usize) -> Result<bool, AllocError>
+    requires { All (IsPlaced words) ops.now }
+    ensures { IfOk result (λ b. b ≡ top_truth (truths_of (λ _. 0) ops.now [])) }
+{
+    let counts = vec![in alloc; 0; words]?;
+    evaluated(ops, &counts, &mut Pile::new(alloc))
+}
+
+/// The query of operators in postfix form.
+fn query_of(alloc: Global, laid: &[Op<Key>]) -> Result<Query, AllocError>
+    requires spelled { laid.now ≡ postfix true (tree laid.now) }
+    requires few { length (pushed laid.now) ≤ 4096 }
+    ensures { IfOk result (λ q. q ≡ tree laid.now) }
+{
+    let Numbering {
+        words,
+        affirmed,
+        ops,
+    } = numbered(alloc, laid)?;
+    let positive = positive_of(alloc, &words, &affirmed)?;
+    let bare = bare_of(alloc, &ops, words.len())?;
+    Ok(Query {
+        words,
+        positive,
+        ops,
+        bare,
+    })
+}

@@ -1,0 +1,141 @@
+//! The tokens of a query's text.
+ghost use Rattle.std.specs.Prelude.{◌≡◌, ◌+◌, ◌-◌, ◌≤◌, ◌<◌, [], ◌∷◌, ◌++◌, ℕ, List, length, take, drop, slice_index, IfOk, OnOk};
+ghost use Rattle.query_lang.specs.Tokens.{role, token_of, closed, tokens_from, tokens, key_of};
+
+use fold_tokens::one_term;
+use std::alloc::{AllocError, Global};
+use std::str;
+use time_base::Key;
+
+/// A token of a query's text.
+#[derive(Debug, Drop)]
+pub(crate) enum Token {
+    /// A word by its key.
+    Word(Key),
+    /// What is no operator and has no key.
+    Wordless,
+    And,
+    Or,
+    Not,
+    Open,
+    Close,
+}
+
+/// A token and its place.
+#[derive(Debug, Drop)]
+pub(crate) struct Placed {
+    /// The place of its first byte in the text, in bytes.
+    pub(crate) at: usize,
+    pub(crate) token: Token,
+}
+
+/// What a byte does to the token before it.
+#[derive(Clone, Copy, Debug, PartialEq, Eq)]
+pub(crate) enum Role {
+    /// It ends it.
+    Space,
+    /// It ends it, and is a token by itself.
+    Opening,
+    Closing,
+    /// It goes on with it.
+    Letter,
+}
+
+fn role_of(b: u8) -> Role
+    ensures { result ≡ role b }
+{
+    if b == b' ' {
+        return Role::Space;
+    }
+    if b == b'(' {
+        return Role::Opening;
+    }
+    if b == b')' {
+        return Role::Closing;
+    }
+    Role::Letter
+}
+
+/// The key of bytes that are one word.
+fn key_of(alloc: Global, bytes: &[u8]) -> Result<Option<Key>, AllocError>
+    ensures { IfOk result (λ k. k ≡ key_of bytes.now) }
+{
+    match str::from_utf8(bytes) {
+        Ok(text) => one_term(alloc, text),
+        Err(_) => Ok(None),
+    }
+}
+
+/// The token of bytes without spaces and parentheses.
+fn token_of(alloc: Global, bytes: &[u8]) -> Result<Token, AllocError>
+    ensures { IfOk result (λ t. t ≡ token_of key_of bytes.now) }
+{
+    if bytes == b"and".as_slice() {
+        return Ok(Token::And);
+    }
+    if bytes == b"or".as_slice() {
+        return Ok(Token::Or);
+    }
+    if bytes == b"not".as_slice() {
+        return Ok(Token::Not);
+    }
+    match key_of(alloc, bytes)? {
+        Some(key) => Ok(Token::Word(key)),
+        None => Ok(Token::Wordless),
+    }
+}
+
+/// Ends the token that has these bytes, where it has any.
+fn close(alloc: Global, found: &mut Vec<Placed>, at: usize, run: &[u8]) -> Result<(), AllocError>
+    ensures { OnOk result (found.new.items ≡ found.old.items ++ closed key_of at run.now) }
+{
+    if run.is_empty() {
+        return Ok(());
+    }
+    let token = token_of(alloc, run)?;
+    found.push(Placed { at, token })?;
+    Ok(())
+}
+
+/// Goes on by one byte with the token that begins at `start`, and answers where the token begins
+/// that stands before the next byte.
+fn pass(
+    alloc: Global,
+    found: &mut Vec<Placed>,
+    text: &[u8],
+    start: usize,
+    i: usize,
+) -> Result<usize, AllocError>
+    requires begun { start ≤ i }
+    requires inside { i < length text.now }
+    ensures behind { IfOk result (λ next. next ≤ i + 1) }
+    ensures tokens { IfOk result (λ next. (rest : List ℕ) →
+        found.new.items ++ tokens_from key_of next (take (i + 1 - next) (drop next text.now)) rest
+        ≡ found.old.items ++ tokens_from key_of start (take (i - start) (drop start text.now))
+        (slice_index text.now i ∷ rest)) }
+{
+    let token = match role_of(text[i]) {
+        Role::Letter => return Ok(start),
+        Role::Space => None,
+        Role::Opening => Some(Token::Open),
+        Role::Closing => Some(Token::Close),
+    };
+    close(alloc, found, start, &text[start..i])?;
+    if let Some(token) = token {
+        found.push(Placed { at: i, token })?;
+    }
+    Ok(i + 1)
+}
+
+/// The tokens of a text, each with its place. Costs its length.
+pub(crate) fn tokens_of(alloc: Global, text: &[u8]) -> Result<Vec<Placed>, AllocError>
+    ensures { IfOk result (λ v. v.items ≡ tokens key_of text.now) }
+{
+    let mut found = Vec::new(alloc);
+    let mut start = 0;
+    for i in 0..text.len() {
+        start = pass(alloc, &mut found, text, start, i)?;
+    }
+    close(alloc, &mut found, start, &text[start..])?;
+    Ok(found)
+}
