@@ -4,6 +4,7 @@ use Rattle.machine_model.specs.Areas.{Bytes, part, replaced}
 use Rattle.machine_model.specs.States.{SourceState, SinkState, DiskState}
 use Rattle.machine_model.specs.Moments.{GoesOn}
 use Rattle.machine_model.specs.Calls.{written}
+use Rattle.machine_model.specs.Pulls.{Pull}
 use Rattle.machine_model.specs.Pushes.{IsSameBeside, OnlyShows, IsShownByPiece, taken}
 use Rattle.machine_mem.specs.Moments.{along}
 use Rattle.machine_model.specs.declared.area.Area.{Area}
@@ -16,6 +17,10 @@ pub record MachineState : Type 0 where
   pub disk : DiskState
   pub last : Bytes
   pub pull_limit : ℕ
+
+-- a pull of a machine in this state
+abbrev pub IsBefore : MachineState → Pull → Type 0
+IsBefore x pull = (x.source.left ≡ pull.left) × (x.sink.shown ≡ pull.shown)
 
 -- the calls of the source alone
 pub record OnlySource (x y : MachineState) : Type 0 where

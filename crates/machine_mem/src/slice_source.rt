@@ -1,4 +1,6 @@
-ghost use Rattle.std.specs.Prelude.{◌≡◌};
+ghost use Rattle.std.specs.Prelude.{◌≡◌, refl};
+ghost use Rattle.machine_model.specs.Pulls.{ArePulls};
+ghost use Rattle.machine_model.proofs.PullLemmas.{pulls_join};
 ghost use Rattle.std.proofs.Common.{lit≤};
 ghost use Rattle.machine_mem.specs.Slices.{slice_state};
 
@@ -26,6 +28,14 @@ impl<'a> Source for SliceSource<'a> {
     ghost source = { slice_state };
 
     ghost only = { λ x y. Unit {0} };
+
+    ghost pulled = { λ x lefts y. ArePulls (λ s. s.left) (λ s t. Unit {0}) (slice_state x) lefts (slice_state y) };
+
+    ghost pulled_none = { λ x. refl };
+
+    ghost pulled_joins = { λ x y z a b one two. pulls_join (λ s. s.left) (λ s t. Unit {0}) (slice_state x) (slice_state y) (slice_state z) a b one two };
+
+    ghost pulled_still = { λ x y still. still };
 
     ghost only_same = { λ x. tt };
 

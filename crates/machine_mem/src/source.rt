@@ -3,9 +3,12 @@ use crate::faults::CallKind;
 use machine_model::{Failed, Source};
 
 impl Source for MemMachine {
-    ghost use Rattle.std.specs.Prelude.{◌≡◌, ℕ, ◌≤◌, ◌++◌, [], min, length, take, IfOk, OnErr, IsErr};
+    ghost use Rattle.std.specs.Prelude.{◌≡◌, ℕ, ◌≤◌, ◌++◌, [], ◌∷◌, min, length, take, IfOk, OnErr, IsErr, refl};
+    ghost use Rattle.std.proofs.Common.{ap};
     ghost use Rattle.machine_model.specs.Causes.{HasCause};
     ghost use Rattle.machine_mem.specs.Machines.{OnlySource, pulled, failed_source};
+    ghost use Rattle.machine_model.specs.Pulls.{ArePulls};
+    ghost use Rattle.machine_model.proofs.PullLemmas.{pulls_join};
     ghost use Rattle.machine_mem.specs.MachineLaws.{OnlySource-same, OnlySource-joins};
     ghost use Rattle.machine_mem.specs.Outcomes.{IsDue, called, script_of, Serves, Stays};
     ghost use Rattle.machine_mem.specs.Meaning.{meaning, source_state};
@@ -15,6 +18,14 @@ impl Source for MemMachine {
     ghost source = { source_state };
 
     ghost only = { λ x y. OnlySource (meaning x) (meaning y) };
+
+    ghost pulled = { λ x lefts y. ArePulls (λ m. m.source.left) OnlySource (meaning x) lefts (meaning y) };
+
+    ghost pulled_none = { λ x. refl };
+
+    ghost pulled_joins = { λ x y z a b one two. pulls_join (λ m. m.source.left) OnlySource (meaning x) (meaning y) (meaning z) a b one two };
+
+    ghost pulled_still = { λ x y still. ap (λ m. m.source) still };
 
     ghost only_same = { λ x. OnlySource-same (meaning x) };
 
@@ -26,6 +37,7 @@ impl Source for MemMachine {
 
     fn pull(&mut self, buf: &mut [u8]) -> Result<usize, Failed>
         ensures only { OnlySource (meaning self.old) (meaning self.new) }
+        ensures pulled { ArePulls (λ m. m.source.left) OnlySource (meaning self.old) ((source_state self.old).left ∷ []) (meaning self.new) }
         ensures cause { HasCause (source_state self.old).faults (source_state self.new).faults result }
         ensures count { IfOk result (λ n. n ≤ length buf.new) }
         ensures bytes { IfOk result (λ n. (source_state self.old).left ≡ take n buf.new ++ (source_state self.new).left) }

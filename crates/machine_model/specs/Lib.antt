@@ -4,4 +4,5 @@ pub mod States
 pub mod Images
 pub mod Moments
 pub mod Calls
+pub mod Pulls
 pub mod Pushes

@@ -1,4 +1,5 @@
-ghost use Rattle.std.specs.Prelude.{◌≡◌, ℕ, List, Result};
+ghost use Rattle.std.specs.Prelude.{◌≡◌, ℕ, List, [], ◌++◌, map, Result};
+ghost use Rattle.machine_model.specs.Pulls.{Pull};
 ghost use Rattle.machine_model.specs.Pushes.{IsSameBeside, OnlyShows, IsShownByPiece, taken};
 
 use crate::{Disk, Sink, Source};
@@ -7,6 +8,10 @@ use crate::{Disk, Sink, Source};
 /// stands beside the disk's images, so that each push makes moments of the disk.
 pub trait Machine: Source + Sink + Disk {
     ghost use Rattle.machine_model.specs.declared.area.Failed.{Failed};
+
+    /// The machine came from the first state to the second by calls of any trait, these pulls among
+    /// them, the first first.
+    ghost asked: { Self → List Pull → Self → Type 0 };
 
     ghost source_alone: { (x y : Self) → Self.Source.only x y → (Self.sink y ≡ Self.sink x) × (Self.disk y ≡ Self.disk x) };
 
@@ -19,4 +24,14 @@ pub trait Machine: Source + Sink + Disk {
     ghost shows: { (x y : Self) → Self.sink_tells → Self.disk_tells → Self.Sink.only x y → OnlyShows (Self.disk x) (Self.disk y) (Self.sink x).shown (Self.sink y).shown };
     // one push, exactly
     ghost shows_piece: { (x y : Self) (piece : List ℕ) (answer : Result ℕ Failed) → Self.sink_tells → Self.disk_tells → Self.pushed x piece answer y → IsShownByPiece (Self.sink x).shown piece (taken answer) (Self.disk x) (Self.disk y) };
+    // the pulls of the source, beside what is shown
+    ghost asked_by: { (x y : Self) (lefts : List (List ℕ)) → Self.pulled x lefts y → asked x (map (λ before. record { left = before; shown = (Self.sink x).shown }) lefts) y };
+    // the other traits pull nothing
+    ghost sink_asks_nothing: { (x y : Self) → Self.Sink.only x y → asked x [] y };
+
+    ghost disk_asks_nothing: { (x y : Self) → Self.Disk.only x y → asked x [] y };
+
+    ghost asked_joins: { (x y z : Self) (a b : List Pull) → asked x a y → asked y b z → asked x (a ++ b) z };
+    // without a pull the source is as it was
+    ghost asked_still: { (x y : Self) → asked x [] y → Self.source y ≡ Self.source x };
 }

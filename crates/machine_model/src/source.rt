@@ -1,4 +1,4 @@
-ghost use Rattle.std.specs.Prelude.{◌≡◌, ◌≤◌, ◌^◌, ◌-◌, ◌++◌, [], length, take, IfOk, OnErr};
+ghost use Rattle.std.specs.Prelude.{◌≡◌, ◌≤◌, ◌^◌, ◌-◌, ◌++◌, [], ◌∷◌, ℕ, List, length, take, IfOk, OnErr};
 ghost use Rattle.machine_model.specs.States.{SourceState};
 ghost use Rattle.machine_model.specs.Causes.{HasCause};
 
@@ -15,10 +15,15 @@ pub trait Source {
     /// The source came from the first state to the second by calls of this trait alone.
     ghost only: { Self → Self → Type 0 };
 
+    /// The source came from the first state to the second by pulls, before each of which these bytes
+    /// were left, the first first.
+    ghost pulled: { Self → List (List ℕ) → Self → Type 0 };
+
     /// Takes the next bytes into the front of `buf`, and answers how many. With an empty buffer it
     /// answers 0; with another one, 0 is the end of the input. `Failed` takes nothing.
     fn pull(&mut self, buf: &mut [u8]) -> Result<usize, Failed>
         ensures only { only self.old self.new }
+        ensures pulled { pulled self.old ((source self.old).left ∷ []) self.new }
         ensures cause { HasCause (source self.old).faults (source self.new).faults result }
         ensures count { IfOk result (λ n. n ≤ length buf.new) }
         ensures bytes { source_tells → IfOk result (λ n. (source self.old).left ≡ take n buf.new ++ (source self.new).left) }
@@ -29,6 +34,12 @@ pub trait Source {
     ghost only_same: { (x : Self) → only x x };
 
     ghost only_joins: { (x y z : Self) → only x y → only y z → only x z };
+
+    ghost pulled_none: { (x : Self) → pulled x [] x };
+
+    ghost pulled_joins: { (x y z : Self) (a b : List (List ℕ)) → pulled x a y → pulled y b z → pulled x (a ++ b) z };
+    // without a pull the source is as it was
+    ghost pulled_still: { (x y : Self) → pulled x [] y → source y ≡ source x };
 
     ghost only_faults: { (x y : Self) → only x y → (source x).faults ≤ (source y).faults };
     // the count is that of a real machine's counter

@@ -2,12 +2,17 @@
 use Rattle.std.specs.Prelude.{◌≡◌, ℕ, ◌≤◌, []}
 use Rattle.machine_model.specs.Areas.{Both}
 use Rattle.machine_model.specs.States.{SourceState, SinkState, DiskState}
+use Rattle.machine_model.specs.Pulls.{Pull}
 
 -- the three meanings
 pub record MachineState : Type 0 where
   pub source : SourceState
   pub sink : SinkState
   pub disk : DiskState
+
+-- a pull of a machine in this state
+abbrev pub IsBefore : MachineState → Pull → Type 0
+IsBefore x pull = (x.source.left ≡ pull.left) × (x.sink.shown ≡ pull.shown)
 
 -- no byte is told
 abbrev pub source_from : ℕ → SourceState

@@ -7,6 +7,10 @@ use std::io::{Read, Seek, Write};
 use std::os::unix::fs::FileExt;
 
 impl<F: FileExt + Seek + OpenFile, I: Read, O: Write> Source for FileMachine<F, I, O> {
+    ghost use Rattle.std.specs.Prelude.{refl};
+    ghost use Rattle.std.proofs.Common.{ap};
+    ghost use Rattle.machine_model.specs.Pulls.{ArePulls};
+    ghost use Rattle.machine_model.proofs.PullLemmas.{pulls_join};
     ghost use Rattle.tt_archive.specs.Telling.{OnlySource};
     ghost use Rattle.tt_archive.specs.Laws.{OnlySource-same, OnlySource-joins};
     ghost use Rattle.tt_archive.specs.Meaning.{meaning, source_state};
@@ -16,6 +20,14 @@ impl<F: FileExt + Seek + OpenFile, I: Read, O: Write> Source for FileMachine<F, 
     ghost source = { source_state };
 
     ghost only = { λ x y. OnlySource (meaning x) (meaning y) };
+
+    ghost pulled = { λ x lefts y. ArePulls (λ m. m.source.left) OnlySource (meaning x) lefts (meaning y) };
+
+    ghost pulled_none = { λ x. refl };
+
+    ghost pulled_joins = { λ x y z a b one two. pulls_join (λ m. m.source.left) OnlySource (meaning x) (meaning y) (meaning z) a b one two };
+
+    ghost pulled_still = { λ x y still. ap (λ m. m.source) still };
 
     ghost only_same = { λ x. OnlySource-same (meaning x) };
 
