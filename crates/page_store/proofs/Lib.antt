@@ -1,0 +1,9 @@
+pub mod RunLemmas
+pub mod PutLemmas
+pub mod CutLemmas
+pub mod StayLemmas
+pub mod PlacingLemmas
+pub mod TakenLemmas
+pub mod GiveLemmas
+pub mod ChangeLemmas
+pub mod WroteLemmas

@@ -1,0 +1,34 @@
+use Rattle.std.proofs.Common.{List, take, arith, sym, subst, All}
+use Rattle.time_base.specs.declared.extent.Extent.{Extent}
+use Rattle.page_store.specs.Taken.{HasTaken}
+use Rattle.page_store.specs.Live.{IsInside, IsNext}
+use Rattle.page_store.proofs.TakenLemmas.{next_extent, inside_more}
+use Rattle.page_store.proofs.pages.Pages.from_live.Goals as goal
+
+pub returns-then-end-reach-clause-refused : goal.returns-then-end-reach-clause-refused
+returns-then-end-reach-clause-refused c =
+    let next : IsNext c.args.live.now c.args.reach c.loop-index.index c.index-live-index.result = record {
+      within = c.loop-index-test.true;
+      is = c.index-live-index.is;
+      pass = (c.loop-index.invariant.inside, c.loop-index.invariant.taken.apart);
+    } in
+    (c.index-live-index.result, (next, omega (arith, c.if-end-reach.true, c.end.ensures)))
+
+pub returns-then-not-branch-clause-refused : goal.returns-then-not-branch-clause-refused
+returns-then-not-branch-clause-refused c =
+    let next : IsNext c.args.live.now c.args.reach c.loop-index.index c.index-live-index.result = record {
+      within = c.loop-index-test.true;
+      is = c.index-live-index.is;
+      pass = (c.loop-index.invariant.inside, c.loop-index.invariant.taken.apart);
+    } in
+    (c.index-live-index.result, (next, (omega (arith, c.if-end-reach.false, c.end.ensures), c.in_ok-claim.ensures.no c.if-not-branch.true (take c.loop-index.index c.args.live.now) c.loop-index.invariant.taken)))
+
+pub loop-index-preserved : goal.loop-index-preserved
+loop-index-preserved c =
+    let live = c.args.live.now in
+    let next = next_extent live c.loop-index.index c.index-live-index.result c.loop-index-test.true c.index-live-index.is in
+    record {
+      taken = subst (λ (xs : List Extent). HasTaken c.claim.new.self xs) (sym next) (c.in_ok-claim.ensures.yes c.if-not-branch.false (take c.loop-index.index live) c.loop-index.invariant.taken);
+      inside = subst (λ (xs : List Extent). All (IsInside c.args.reach) xs) (sym next)
+          (inside_more c.args.reach (take c.loop-index.index live) c.index-live-index.result c.loop-index.invariant.inside (omega (arith, c.if-end-reach.false, c.end.ensures)));
+    }

@@ -1,0 +1,21 @@
+use Rattle.machine_model.specs.declared.area.Area.TheVariants.{Journal}
+use Rattle.page_store.proofs.ChangeLemmas.{changes_nothing, changes_written, changes_extent}
+use Rattle.page_store.proofs.WroteLemmas.{written_piece}
+use Rattle.page_store.proofs.pages.Pages.write_extent.Goals as goal
+
+pub returns-then-is_empty-clause-images : goal.returns-then-is_empty-clause-images
+returns-then-is_empty-clause-images g c = λ tells. changes_nothing _ _
+
+pub returns-in_err-write-clause-journal : goal.returns-in_err-write-clause-journal
+returns-in_err-write-clause-journal g c = c.in_err-write.ensures.between.elsewhere Journal (λ same. cc)
+
+pub returns-in_err-write-clause-images : goal.returns-in_err-write-clause-images
+returns-in_err-write-clause-images g c = λ tells.
+    changes_extent c.args.extent _ _ c.start.ensures c.requires (changes_written (c.write.ensures.images tells) (λ a. g.met.D.Disk.stable_bytes _ a tells))
+
+pub returns-clause-images : goal.returns-clause-images
+returns-clause-images g c = λ tells.
+    changes_extent c.args.extent _ _ c.start.ensures c.requires (changes_written (c.write.ensures.images tells) (λ a. g.met.D.Disk.stable_bytes _ a tells))
+
+pub returns-clause-wrote : goal.returns-clause-wrote
+returns-clause-wrote g c = λ tells. written_piece (record { extent = c.args.extent; bytes = c.args.bytes.now }) _ _ _ _ c.requires c.start.ensures (λ i. c.args.bytes.now) (c.in_ok-write.ensures.holds tells)

@@ -1,0 +1,7 @@
+pub mod Ranges
+pub mod Crash
+pub mod Runs
+pub mod Taken
+pub mod Wrote
+pub mod Live
+pub mod Placing

@@ -1,0 +1,87 @@
+-- Reading front after front, as a loop does.
+use Rattle.std.specs.Prelude.{◌≡◌, ℕ, zero, suc, ◌+◌, ◌<◌, ◌≤◌, List, [], ◌∷◌, ◌++◌, length, Option, Result, Ok, Err, refl}
+use Rattle.std.proofs.Common.{sym, ap, ◌∙◌, append_assoc, arith}
+use Rattle.std.proofs.lemmas.List.{append-nil}
+use Rattle.sublist_codec.specs.Steps.{◌>>=◌, last_of, all_at}
+
+-- what was read before, and what is still read
+abbrev pub with_front : {A : Type 0} → List A → Result (List A) ℕ → Result (List A) ℕ
+with_front front read = read >>= λ xs. Ok (front ++ xs)
+
+-- total is what was read, and then what reading the rest behind this value gives
+pub record IsRead {A : Type 0} (front_at : Option A → List ℕ → Result (List A × List ℕ) ℕ) (total : Result (List A) ℕ) (front : List A) (before : Option A) (rest : List ℕ) : Type 0 where
+  pub readings : ℕ
+  pub enough : length rest ≤ readings
+  pub same : with_front front (all_at front_at readings before rest) ≡ total
+
+with_none : {A : Type 0} (read : Result (List A) ℕ) → with_front [] read ≡ read
+with_none (Ok xs) = refl
+with_none (Err left) = refl
+
+regroup : {A : Type 0} (front xs : List A) (read : Result (List A) ℕ) → with_front front (read >>= λ ys. Ok (xs ++ ys)) ≡ with_front (front ++ xs) read
+regroup front xs (Ok ys) = ap (λ zs. Ok zs) (simp append_assoc)
+regroup front xs (Err left) = refl
+
+pub begins : {A : Type 0} (front_at : Option A → List ℕ → Result (List A × List ℕ) ℕ) (before : Option A) (bytes : List ℕ) → IsRead front_at (all_at front_at (length bytes) before bytes) [] before bytes
+begins front_at before bytes = record { readings = length bytes; enough = omega arith; same = with_none (all_at front_at (length bytes) before bytes) }
+
+pub goes_on : {A : Type 0} (front_at : Option A → List ℕ → Result (List A × List ℕ) ℕ) (total : Result (List A) ℕ) (front : List A) (before : Option A) (rest : List ℕ) (xs : List A) (behind : List ℕ)
+    → IsRead front_at total front before rest → 0 < length rest → front_at before rest ≡ Ok (xs, behind) → length behind < length rest
+    → IsRead front_at total (front ++ xs) (last_of before xs) behind
+goes_on front_at total front before rest xs behind r some e shorter = go r.readings rest some e shorter r.enough r.same
+  where
+    go : (n : ℕ) (rest : List ℕ) → 0 < length rest → front_at before rest ≡ Ok (xs, behind) → length behind < length rest → length rest ≤ n
+        → with_front front (all_at front_at n before rest) ≡ total → IsRead front_at total (front ++ xs) (last_of before xs) behind
+    go n [] some e shorter le same = absurd (omega arith)
+    go zero (b ∷ bytes) some e shorter le same = absurd (omega arith)
+    go (suc n) (b ∷ bytes) some e shorter le same = record {
+      readings = n;
+      enough = omega arith;
+      same = sym (regroup front xs (all_at front_at n (last_of before xs) behind)) ∙ (rw e at same);
+    }
+
+pub ends : {A : Type 0} (front_at : Option A → List ℕ → Result (List A × List ℕ) ℕ) (total : Result (List A) ℕ) (front : List A) (before : Option A) (rest : List ℕ) (left : ℕ)
+    → IsRead front_at total front before rest → 0 < length rest → front_at before rest ≡ Err left → total ≡ Err left
+ends front_at total front before rest left r some e = go r.readings rest some e r.enough r.same
+  where
+    go : (n : ℕ) (rest : List ℕ) → 0 < length rest → front_at before rest ≡ Err left → length rest ≤ n
+        → with_front front (all_at front_at n before rest) ≡ total → total ≡ Err left
+    go n [] some e le same = absurd (omega arith)
+    go zero (b ∷ bytes) some e le same = absurd (omega arith)
+    go (suc n) (b ∷ bytes) some e le same = sym (rw e at same)
+
+pub is_done : {A : Type 0} (front_at : Option A → List ℕ → Result (List A × List ℕ) ℕ) (total : Result (List A) ℕ) (front : List A) (before : Option A) (rest : List ℕ)
+    → IsRead front_at total front before rest → length rest ≡ 0 → total ≡ Ok front
+is_done front_at total front before rest r none = go r.readings rest none r.same
+  where
+    go : (n : ℕ) (rest : List ℕ) → length rest ≡ 0 → with_front front (all_at front_at n before rest) ≡ total → total ≡ Ok front
+    go n [] none same = sym same ∙ ap (λ xs. Ok xs) (append-nil front)
+    go n (b ∷ bytes) none same = absurd (omega arith)
+
+-- one front, and then the others
+pub all_step : {A : Type 0} (front_at : Option A → List ℕ → Result (List A × List ℕ) ℕ) (n : ℕ) (before : Option A) (bytes : List ℕ) (xs : List A) (behind : List ℕ) → 0 < length bytes → front_at before bytes ≡ Ok (xs, behind)
+    → all_at front_at (suc n) before bytes ≡ (all_at front_at n (last_of before xs) behind >>= λ ys. Ok (xs ++ ys))
+all_step front_at n before [] xs behind some e = absurd (omega arith)
+all_step front_at n before (b ∷ bytes) xs behind some e = rw e refl
+
+pub all_left : {A : Type 0} (front_at : Option A → List ℕ → Result (List A × List ℕ) ℕ)
+    → ((before : Option A) (bytes : List ℕ) (left : ℕ) → front_at before bytes ≡ Err left → left ≤ length bytes)
+    → ((before : Option A) (bytes : List ℕ) (x : List A × List ℕ) → front_at before bytes ≡ Ok x → length x.1 ≤ length bytes)
+    → (n : ℕ) (before : Option A) (bytes : List ℕ) (left : ℕ) → all_at front_at n before bytes ≡ Err left → left ≤ length bytes
+all_left front_at fails shorter n before [] left e = absurd cc
+all_left front_at fails shorter zero before (b ∷ bytes) left e = let same : length bytes + 1 ≡ left = cc in omega arith
+all_left {A} front_at fails shorter (suc n) before (b ∷ bytes) left e =
+    go (front_at before (b ∷ bytes)) (λ l is. fails before (b ∷ bytes) l is) (λ x is. shorter before (b ∷ bytes) x is) (λ x is. all_left front_at fails shorter n (last_of before x.0) x.1 left is) e
+  where
+    next : (xs : List A) (r : Result (List A) ℕ) → (r >>= λ ys. Ok (xs ++ ys)) ≡ Err left → r ≡ Err left
+    next xs (Ok ys) e = absurd cc
+    next xs (Err m) e = cc
+
+    go : (r : Result (List A × List ℕ) ℕ) → ((l : ℕ) → r ≡ Err l → l ≤ length (b ∷ bytes)) → ((x : List A × List ℕ) → r ≡ Ok x → length x.1 ≤ length (b ∷ bytes))
+        → ((x : List A × List ℕ) → all_at front_at n (last_of before x.0) x.1 ≡ Err left → left ≤ length x.1)
+        → (r >>= λ x. all_at front_at n (last_of before x.0) x.1 >>= λ ys. Ok (x.0 ++ ys)) ≡ Err left → left ≤ length (b ∷ bytes)
+    go (Ok x) f s again e =
+        let le = s x refl in
+        let h = again x (next x.0 (all_at front_at n (last_of before x.0) x.1) e) in
+        omega arith
+    go (Err m) f s again e = let same : m ≡ left = cc in let le = f m refl in omega arith

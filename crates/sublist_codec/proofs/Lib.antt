@@ -1,0 +1,13 @@
+pub mod Bytes
+pub mod Steps
+pub mod AllAt
+pub mod FieldLemmas
+pub mod LayoutLemmas
+pub mod FlatLemmas
+pub mod NumberLemmas
+pub mod BlockLemmas
+pub mod WriteLemmas
+pub mod BlockLaws
+pub mod BlockWalk
+pub mod BlockCodec
+pub mod FrameLemmas

@@ -1,0 +1,35 @@
+use Rattle.std.proofs.Common.{◌<◌, ◌∙◌, length, sym, ap, arith}
+use Rattle.std.proofs.lemmas.Bool.{eqb-false}
+use Rattle.std.proofs.lemmas.List.{length-take, length-drop}
+use Rattle.std.specs.Prelude.{List, ◌++◌, map}
+use Rattle.time_base.specs.declared.posting.Posting.{Posting}
+use Rattle.sublist_codec.specs.Fields.{fields}
+use Rattle.sublist_codec.specs.Blocks.{block, block_spelling}
+use Rattle.sublist_codec.proofs.WriteLemmas.{cut_begins, cut_more, list-take, list-drop}
+use Rattle.sublist_codec.proofs.block_writing.encode_blocks.Goals as goal
+
+pub loop-rest-init : goal.loop-rest-init
+loop-rest-init c = record { list = c.requires; cut = rw c.in_ok-bytes.ensures.items (cut_begins c.args.list.now) }
+
+pub put_block-requires-clause-list : goal.put_block-requires-clause-list
+put_block-requires-clause-list c = rw c.split.ensures.front (list-take 128 c.loop-rest.rest.now c.loop-rest.invariant.list)
+
+pub put_block-requires-clause-some : goal.put_block-requires-clause-some
+put_block-requires-clause-some c =
+    let some : 0 < length c.loop-rest.rest.now = let h = eqb-false _ _ (sym c.is_empty.ensures ∙ c.loop-rest-test.true) in omega arith in
+    rw c.split.ensures.front (omega (arith, length-take 128 c.loop-rest.rest.now))
+
+pub put_block-requires-clause-most : goal.put_block-requires-clause-most
+put_block-requires-clause-most c = rw c.split.ensures.front (omega (arith, length-take 128 c.loop-rest.rest.now))
+
+pub loop-rest-smaller : goal.loop-rest-smaller
+loop-rest-smaller c =
+    let some : 0 < length c.loop-rest.rest.now = let h = eqb-false _ _ (sym c.is_empty.ensures ∙ c.loop-rest-test.true) in omega arith in
+    omega (arith, length-drop 128 c.loop-rest.rest.now, ap (λ (ps : List Posting). length ps) c.split.ensures.behind)
+
+pub loop-rest-preserved : goal.loop-rest-preserved
+loop-rest-preserved c =
+    let rest = c.loop-rest.rest.now in
+    let some : 0 < length rest = let h = eqb-false _ _ (sym c.is_empty.ensures ∙ c.loop-rest-test.true) in omega arith in
+    let new = c.in_ok-put_block.ensures ∙ ap (λ (ps : List Posting). c.loop-rest.bytes.items ++ block (map fields ps)) c.split.ensures.front in
+    rw c.split.ensures.behind (record { list = list-drop 128 rest c.loop-rest.invariant.list; cut = cut_more (block_spelling c.args.list.now) c.loop-rest.bytes.items rest c.put_block.new.bytes.items c.loop-rest.invariant.cut some new })

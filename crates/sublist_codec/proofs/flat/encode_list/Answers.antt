@@ -1,0 +1,6 @@
+use Rattle.std.proofs.Common.{arith}
+use Rattle.sublist_codec.proofs.FlatLemmas.{spelling_more}
+use Rattle.sublist_codec.proofs.flat.encode_list.Goals as goal
+
+pub loop-posting-preserved : goal.loop-posting-preserved
+loop-posting-preserved c = spelling_more c.args.list.now c.loop-posting.posting-index c.posting-item.result c.loop-posting.bytes.items c.bytes_of.result c.extend_from_slice.new.self.items (omega arith) c.posting-item.is c.loop-posting.invariant c.bytes_of.ensures c.in_ok-extend_from_slice.ensures.items

@@ -1,0 +1,10 @@
+pub mod Fields
+pub mod Steps
+pub mod Numbers
+pub mod Layouts
+pub mod Flat
+pub mod Decoding
+pub mod Blocks
+pub mod Gives
+pub mod Heads
+pub mod Frames

@@ -1,0 +1,113 @@
+//! The flat layout: 24 bytes a posting, one after another.
+ghost use Rattle.std.specs.Prelude.{◌≡◌, ◌≢◌, ℕ, List, length, map, option_map, Ok, OnOk, IfOk, IfErr};
+ghost use Rattle.time_base.specs.declared.posting.Posting.{Posting};
+ghost use Rattle.postings.specs.Lists.{IsList};
+ghost use Rattle.sublist_codec.specs.Fields.{fields, seen, may_follow};
+ghost use Rattle.sublist_codec.specs.Layouts.{IsFaultOf};
+ghost use Rattle.sublist_codec.specs.Flat.{spelled, spelling, posting_at, list_at};
+ghost use Rattle.sublist_codec.specs.Decoding.{OrMemory};
+
+use crate::error::ListError;
+use crate::front::{u32_front, u64_front};
+use std::alloc::{AllocError, Global};
+use time_base::{DocId, Posting, Span};
+
+/// The bytes of a posting: document 4, frequency 4, from 8, to 8.
+pub const POSTING_BYTES: usize = 24;
+
+/// Whether a posting of this document and start may stand behind the one before it.
+fn follows(before: Option<Posting>, doc: u32, span: Span) -> bool
+    ensures { (tf : ℕ) → result ≡ may_follow (seen before) (record { doc = doc; tf = tf; from = span.from; to = span.to }) }
+{
+    match before {
+        None => true,
+        Some(last) => last.doc.0 < doc || (last.doc.0 == doc && last.span.to <= span.from),
+    }
+}
+
+/// A posting that may stand behind the one before it, and the bytes behind it.
+#[tactic(auto, unfolding(crate::specs::Flat::posting_at))]
+fn posting_at(before: Option<Posting>, bytes: &[u8]) -> Option<(Posting, &[u8])>
+    ensures { option_map (λ x. (fields x.0, x.1.now)) result ≡ posting_at (seen before) bytes.now }
+{
+    if bytes.len() < POSTING_BYTES {
+        return None;
+    }
+    let (doc, rest) = u32_front(bytes);
+    let (tf, rest) = u32_front(rest);
+    let (from, rest) = u64_front(rest);
+    let (to, rest) = u64_front(rest);
+    let Some(span) = Span::new(from, to) else {
+        return None;
+    };
+    if tf < 1 || !follows(before, doc, span) {
+        return None;
+    }
+    let posting = Posting {
+        doc: DocId(doc),
+        span,
+        tf,
+    };
+    Some((posting, rest))
+}
+
+/// The postings that the bytes spell.
+fn list_at(alloc: Global, bytes: &[u8]) -> Result<Vec<Posting>, ListError>
+    ensures found { IfOk result (λ v. list_at bytes.now ≡ Ok (map fields v.items)) }
+    ensures fault { IfErr result (OrMemory (IsFaultOf list_at bytes.now)) }
+{
+    let mut list = Vec::with_capacity(alloc, bytes.len() / POSTING_BYTES)?;
+    let mut before = None;
+    let mut rest = bytes;
+    while !rest.is_empty() {
+        let Some((posting, behind)) = posting_at(before, rest) else {
+            return Err(ListError::Form {
+                at: (bytes.len() - rest.len()) as u64,
+            });
+        };
+        list.push(posting)?;
+        before = Some(posting);
+        rest = behind;
+    }
+    Ok(list)
+}
+
+/// The bytes of a posting.
+fn bytes_of(posting: Posting) -> [u8; POSTING_BYTES]
+    ensures { result ≡ spelled (fields posting) }
+{
+    let doc = posting.doc.0.to_be_bytes();
+    let tf = posting.tf.to_be_bytes();
+    let from = posting.span.from.to_be_bytes();
+    let to = posting.span.to.to_be_bytes();
+    [
+        doc[0], doc[1], doc[2], doc[3], tf[0], tf[1], tf[2], tf[3], from[0], from[1], from[2],
+        from[3], from[4], from[5], from[6], from[7], to[0], to[1], to[2], to[3], to[4], to[5],
+        to[6], to[7],
+    ]
+}
+
+/// The bytes of a list. One pass over it.
+pub fn encode_list(alloc: Global, list: &[Posting]) -> Result<Vec<u8>, AllocError>
+    ensures { IfOk result (λ v. v.items ≡ spelling list.now) }
+{
+    let mut bytes = Vec::with_capacity(alloc, list.len() * POSTING_BYTES)?;
+    for posting in list {
+        bytes.extend_from_slice(&bytes_of(*posting))?;
+    }
+    Ok(bytes)
+}
+
+/// The list that bytes spell. One pass over them.
+pub fn decode_list(alloc: Global, bytes: &[u8]) -> Result<Vec<Posting>, ListError>
+    // What is read is a list, and is spelled so.
+    ensures found { IfOk result (λ v. IsList v.items × (bytes.now ≡ spelling v.items)) }
+    // The list that is spelled so is what is read.
+    ensures only { (list : List Posting) → IsList list → bytes.now ≡ spelling list → IfOk result (λ v. v.items ≡ list) }
+    // Where a place is named, no list is spelled.
+    ensures nothing { IfErr result (OrMemory (λ _. (list : List Posting) → IsList list → bytes.now ≢ spelling list)) }
+    // Which place is named.
+    ensures fault { IfErr result (OrMemory (IsFaultOf list_at bytes.now)) }
+{
+    list_at(alloc, bytes)
+}
