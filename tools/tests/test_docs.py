@@ -52,7 +52,7 @@ class Stories(unittest.TestCase):
                 (folder / "examples").symlink_to(TOP / "examples")
                 (folder / "bin").mkdir()
                 tt = folder / "bin" / "tt"
-                tt.write_text(f'#!/bin/sh\nexec {shlex.join([sys.executable, str(TOOLS / "tt")])} "$@"\n')
+                tt.write_text(f'#!/bin/sh\nexec {shlex.join([sys.executable, "-S", "-E", str(TOOLS / "tt")])} "$@"\n')
                 tt.chmod(0o755)
                 for command, printed in (pair for block in blocks for pair in commands_of(block)):
                     self.assertEqual(run(command, folder), printed, command)

@@ -43,7 +43,7 @@ class Shards(ArchiveCase):
         self.assertEqual(len(questions), QUESTIONS)
         rows = 0
         with self.open() as one, self.open(self.shards) as four:
-            self.assertEqual(len(four.folders), 4)
+            self.assertEqual(len(four.shards), 4)
             for question in questions:
                 if question.startswith(b"show"):
                     doc = int(question.split()[1])
@@ -102,6 +102,23 @@ class Shards(ArchiveCase):
         whole = self.tt("find", "w1", "--at", "1972-10-20").stdout
         for how in (["--parallel"], ["--sshlogin", ":"]):
             self.assertEqual(self.tt("-C", self.shards, "find", "w1", "--at", "1972-10-20", *how).stdout, whole)
+
+    def test_shards_on_other_machines(self) -> None:
+        self.tt("shard", 4, self.shards)
+        whole = self.tt("find", "w1", "--at", "1972-10-20").stdout
+        (self.folder / "bin").mkdir()
+        ssh = self.folder / "bin" / "ssh"
+        ssh.write_text(f'#!/bin/sh\n# Runs here what is meant for there.\necho "$1" >>{self.folder}/logins\nshift\n[ "$1" = -- ] && shift\nexec sh -c "$*"\n')
+        ssh.chmod(0o755)
+        path = {"PATH": f"{ssh.parent}:{os.environ['PATH']}"}
+        (self.shards / "shards.tsv").write_text("".join(
+            f"{self.shards}/shard-{index}\tfar\n" if index % 2 else f"shard-{index}\n" for index in range(4)
+        ))  # fmt: skip
+        ways: list[list[str]] = [[], ["--parallel"]] if shutil.which("parallel") else [[]]
+        for way in ways:
+            self.assertEqual(self.tt("-C", self.shards, "find", "w1", "--at", "1972-10-20", *way, **path).stdout, whole)
+        self.assertEqual(set((self.folder / "logins").read_text().split()), {"far"})
+        self.assertIn("of which 2 on other machines", self.tt("-C", self.shards, "status", **path).stdout)
 
     @unittest.skipIf(shutil.which("parallel"), "GNU parallel is installed")
     def test_without_parallel(self) -> None:

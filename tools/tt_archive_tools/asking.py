@@ -7,9 +7,9 @@ import re
 import sys
 
 from . import commands
-from .collection import SHARDS, Collection, shard_folders
+from .collection import SHARDS, Collection, shards_of
 from .errors import ToolError
-from .journal import Summary, summary
+from .journal import summary
 from .ledger import FILE as LEDGER
 from .ledger import Ledger
 from .names import FILE as NAMES
@@ -45,7 +45,8 @@ def between(options: argparse.Namespace) -> None:
     ]
     _show_rows(options, ("from", "to", "score", "document"), shown)
     if not options.tsv:
-        print(f"{counted(len(shown), 'span')} from {show_time(start)} to {show_time(end)}; {counted(rows.read, 'posting')} read")
+        window = f"from {show_time(start)} to {show_time(end)}"
+        print(f"{counted(len(shown), 'span')} {window}; {counted(rows.read, 'posting')} read")
 
 
 def show(options: argparse.Namespace) -> None:
@@ -88,15 +89,16 @@ def plan(options: argparse.Namespace) -> None:
 
 def status(options: argparse.Namespace) -> None:
     with Collection(options.archive, find_program(options.program)) as collection:
-        held = Summary()
-        for folder in collection.folders:
-            held.add(summary(folder))
+        held = summary(collection.shards)
         names = len(collection.names)
-        shards = len(collection.folders)
-    if shards > 1:
-        print(f"shards     {shards}")
+        shards = collection.shards
+    if len(shards) > 1:
+        away = sum(bool(shard.login) for shard in shards)
+        apart = f", of which {away} on other machines aren't counted here" if away else ""
+        print(f"shards     {len(shards)}{apart}")
     print(f"documents  {held.documents}, of which {held.alive} have a text now; {counted(names, 'name')}")
-    print(f"entries    {counted(held.arrivals, 'version')}, {counted(held.deletions, 'deletion')}, {counted(held.others, 'other')}")
+    kinds = ((held.arrivals, "version"), (held.deletions, "deletion"), (held.others, "other"))
+    print("entries    " + ", ".join(counted(count, what) for count, what in kinds))
     if held.first is not None and held.last is not None:
         print(f"times      {show_time(held.first)} to {show_time(held.last)}")
     print(f"journal    {held.bytes} bytes")
@@ -113,7 +115,7 @@ def _rows(options: argparse.Namespace, question: bytes) -> tuple[Rows, NameTable
             return collection.ask_rows(question), collection.names
     if not (options.archive / SHARDS).exists():
         raise ToolError(f"{options.archive} isn't split: `tt shard` does so")
-    replies = ask_with_parallel(shard_folders(options.archive), command, options.sshlogin, question)
+    replies = ask_with_parallel(shards_of(options.archive), command, options.sshlogin, question)
     parts = [Collection.rows_of(reply) for reply in replies]
     return merge_rows(parts), NameTable(options.archive / NAMES)
 

@@ -1,7 +1,8 @@
 """An archive in its folder, or N of them that share its documents: opened, asked and fed.
 
-A folder with a file `shards.tsv` is N archives, one to a line; document d stands in number
-d mod N. Any other folder is one archive. Names and what was imported stand in the folder itself.
+A folder with a file `shards.tsv` is N archives, one to a line: its folder and, where it is on
+another machine, a tab and the login there. Document d stands in number d mod N. Any other folder
+is one archive. Names and what was imported stand in the folder itself.
 """
 
 from __future__ import annotations
@@ -19,7 +20,7 @@ from . import commands
 from .errors import NotBuilt, ProgramFailed, ToolError
 from .names import FILE as NAMES
 from .names import NameTable
-from .program import Answer, Program
+from .program import Answer, Program, Shard
 from .replies import Refused, Reply, Rows, merge_rows
 
 SHARDS = "shards.tsv"
@@ -32,18 +33,21 @@ _MOST_UNDER_WAY = 8_192
 Handler = Callable[[Any, Reply], None]
 
 
-def shard_folders(folder: Path) -> list[Path]:
-    """The folders of a collection's archives."""
+def shards_of(folder: Path) -> list[Shard]:
+    """The archives of a collection."""
     table = folder / SHARDS
     if not table.exists():
-        return [folder]
-    folders = [folder / line for line in table.read_text().splitlines() if line]
-    if not folders:
+        return [Shard(folder)]
+    shards = []
+    for line in table.read_text().splitlines():
+        place, _, login = line.partition("\t")
+        shards.append(Shard(Path(place), login) if login else Shard(folder / place))
+    if not shards:
         raise ToolError(f"{table}: there is no shard")
-    for shard in folders:
-        if not shard.is_dir():
-            raise ToolError(f"{table}: there is no folder {shard}")
-    return folders
+    for shard in shards:
+        if not shard.login and not shard.folder.is_dir():
+            raise ToolError(f"{table}: there is no folder {shard.folder}")
+    return shards
 
 
 @dataclass
@@ -61,8 +65,8 @@ class Collection:
         if not folder.is_dir():
             raise ToolError(f"there is no folder {folder}")
         self.folder = folder
-        self.folders = shard_folders(folder)
-        if not any((place / file).exists() for place in (folder, *self.folders) for file in (NAMES, JOURNAL)):
+        self.shards = shards_of(folder)
+        if not any((folder / file).exists() for file in (NAMES, JOURNAL)):
             raise ToolError(f"{folder} has no archive: `tt init {folder}` makes one")
         self._command = command
         self._answers: SimpleQueue[Answer] = SimpleQueue()
@@ -78,8 +82,8 @@ class Collection:
             raise ToolError(f"another tt is at work in {self.folder}") from None
         try:
             self.names = NameTable(self.folder / NAMES)
-            for index, folder in enumerate(self.folders):
-                self._sides.append(_Side(Program(self._command, folder, index, self._answers), deque()))
+            for index, shard in enumerate(self.shards):
+                self._sides.append(_Side(Program(self._command, shard, index, self._answers), deque()))
         except BaseException:
             self._close()
             raise
@@ -90,9 +94,9 @@ class Collection:
     ) -> None:
         ends = self._close()
         if kind is None:
-            for folder, (status, said) in zip(self.folders, ends):
+            for shard, (status, said) in zip(self.shards, ends):
                 if status != 0:
-                    raise ProgramFailed(f"{folder}: {said or 'status %d' % status}")
+                    raise ProgramFailed(f"{shard}: {said or 'status %d' % status}")
 
     def side_of(self, doc: int) -> int:
         """Which of the archives has the document."""
@@ -171,10 +175,10 @@ class Collection:
             side.program.end_input()
             status, said = side.program.wait()
             raise ProgramFailed(
-                f"{side.program.folder}: {said or answer or 'tt_archive ended with status %d' % status}"
+                f"{side.program.shard}: {said or answer or 'tt_archive ended with status %d' % status}"
             )
         if not side.under_way:
-            raise ProgramFailed(f"{side.program.folder}: a reply to nothing that was asked: {answer}")
+            raise ProgramFailed(f"{side.program.shard}: a reply to nothing that was asked: {answer}")
         token, handle = side.under_way.popleft()
         self._count -= 1
         handle(token, answer)

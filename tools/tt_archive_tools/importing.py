@@ -55,7 +55,7 @@ def shard(options: argparse.Namespace) -> None:
         print(f"{counted(options.count, 'empty archive')}, in {options.into}")
         return
     with Collection(options.archive, command) as archive:
-        if len(archive.folders) > 1:
+        if len(archive.shards) > 1:
             raise ToolError(f"{options.archive} is split already")
     make_shards(options.into, options.count)
     with Collection(options.into, command) as shards:
@@ -91,9 +91,10 @@ def _import(options: argparse.Namespace, source: Source) -> None:
 def _report(tally: Tally, notes: Notes) -> None:
     print(f"{counted(tally.arrived, 'version')} and {counted(tally.ended, 'deletion')} are in the archive")
     if tally.skipped_until is not None:
-        print(f"imported before, until {show_time(tally.skipped_until)}: {counted(tally.skipped + tally.again, 'change')}")
+        before = counted(tally.skipped + tally.again, "change")
+        print(f"imported before, until {show_time(tally.skipped_until)}: {before}")
     if tally.late:
-        print(f"of these new in the source, and too late for an archive, which takes nothing before its last time: {tally.late}")
+        print(f"of these new in the source, and too late, since an archive takes nothing before its last time: {tally.late}")
     for name, count in tally.refused.items():
         print(f"refused, {name}: {count}")
     for kind, count in notes.counts.items():

@@ -4,10 +4,11 @@ from __future__ import annotations
 
 from dataclasses import dataclass
 from pathlib import Path
-from typing import BinaryIO, Iterator
+from typing import BinaryIO, Iterable, Iterator
 
 from .collection import JOURNAL
 from .errors import InputError
+from .program import Shard
 
 _HEADER = b"TIMETRAVELTEXT\x00\x01"
 _OPEN = b"\xa5"
@@ -85,8 +86,16 @@ class Summary:
         self.last = max((time for time in (self.last, other.last) if time is not None), default=None)
 
 
-def summary(folder: Path) -> Summary:
-    """What the archive of this folder holds."""
+def summary(shards: Iterable[Shard]) -> Summary:
+    """What the archives hold that are on this machine."""
+    held = Summary()
+    for shard in shards:
+        if not shard.login:
+            held.add(_summary(shard.folder))
+    return held
+
+
+def _summary(folder: Path) -> Summary:
     found = Summary(bytes=(folder / JOURNAL).stat().st_size if (folder / JOURNAL).exists() else 0)
     alive: dict[int, bool] = {}
     if not found.bytes:

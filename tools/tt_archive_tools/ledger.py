@@ -1,4 +1,4 @@
-"""What was imported from where: `imports.tsv` beside an archive, so that an import goes on where the last one of its source ended.
+"""What was imported from where: `imports.tsv` beside an archive, so that an import goes on where the last one ended.
 
 A line is `begin` or `end`, the archive's last time then (`-` where it had none), how many changes
 of the source lie up to there (`-` at a beginning), and the source. An import that has no `end`

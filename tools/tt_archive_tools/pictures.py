@@ -19,10 +19,8 @@ def draw_timeline(options: argparse.Namespace) -> None:
         picture = timeline.draw(line, collection)
         page = timeline.page(line, picture, collection) if options.html else ""
     if not line.exact:
-        print(
-            f"tt: this tt_archive doesn't answer `between` yet: the picture shows {len(line.costs)} times, and no change between them",
-            file=sys.stderr,
-        )
+        shown = f"the picture shows {len(line.costs)} times, and no change between them"
+        print(f"tt: this tt_archive doesn't answer `between` yet: {shown}", file=sys.stderr)
     _write(options.output or _named_after(options.word), picture)
     if options.html:
         _write(options.html, page)

@@ -1,4 +1,4 @@
-"""Plans that were made with these tools: `plans.tsv`, for what the program doesn't show again (a space plan's horizon)."""
+"""Plans made with these tools: `plans.tsv`, for what the program doesn't show again (a space plan's horizon)."""
 
 from __future__ import annotations
 

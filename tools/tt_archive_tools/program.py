@@ -7,6 +7,7 @@ import shlex
 import shutil
 import subprocess
 import threading
+from dataclasses import dataclass
 from pathlib import Path
 from queue import SimpleQueue
 from typing import Sequence
@@ -40,28 +41,41 @@ def find_program(named: str | None) -> list[str]:
     )
 
 
+@dataclass(frozen=True)
+class Shard:
+    """Where an archive is: a folder, here or on the machine of a login."""
+
+    folder: Path
+    login: str = ""
+
+    def __str__(self) -> str:
+        return f"{self.login}:{self.folder}" if self.login else str(self.folder)
+
+
 class Program:
-    """A tt_archive in its folder. Each reply goes into the queue with this program's index; after
-    the last one None, or what was wrong with it."""
+    """A tt_archive in its folder, run through ssh where that is on another machine. Each reply goes
+    into the queue with this program's index; after the last one None, or what was wrong with it."""
 
     def __init__(
-        self, command: Sequence[str], folder: Path, index: int, answers: SimpleQueue[Answer]
+        self, command: Sequence[str], shard: Shard, index: int, answers: SimpleQueue[Answer]
     ) -> None:
-        self.folder = folder
+        self.shard = shard
         self._index = index
         self._answers = answers
         self._end: tuple[int, str] | None = None
+        if shard.login:
+            command = ["ssh", shard.login, f"cd {shlex.quote(str(shard.folder))} && exec {shlex.join(command)}"]
         try:
             self._process = subprocess.Popen(
                 command,
-                cwd=folder,
+                cwd=None if shard.login else shard.folder,
                 stdin=subprocess.PIPE,
                 stdout=subprocess.PIPE,
                 stderr=subprocess.PIPE,
                 start_new_session=True,  # Ctrl-C stops the tool, which ends the program in order
             )
         except OSError as error:
-            raise ToolError(f"{command[0]} can't be started in {folder}: {error.strerror}") from None
+            raise ToolError(f"{command[0]} can't be started in {shard}: {error.strerror}") from None
         self._reader = threading.Thread(target=self._read, daemon=True)
         self._reader.start()
 

@@ -6,7 +6,6 @@ of the one archive.
 
 from __future__ import annotations
 
-import os
 import shlex
 import shutil
 import subprocess
@@ -20,6 +19,7 @@ from .errors import ProgramFailed, ToolError
 from .journal import entries
 from .names import FILE as NAMES
 from .names import NameTable
+from .program import Shard
 from .replies import Ok, Reply, read_reply
 
 _BATCH_BYTES = 1 << 20
@@ -78,28 +78,49 @@ def _taken(line: Any, reply: Reply) -> None:
 
 
 def ask_with_parallel(
-    folders: Sequence[Path], command: Sequence[str], logins: str | None, question: bytes
+    shards: Sequence[Shard], command: Sequence[str], logins: str | None, question: bytes
 ) -> list[Reply]:
-    """The shards' replies to one question, each shard run by GNU parallel: on this machine, or on
-    those of `logins`, which need the program and the folders at the same paths."""
+    """The shards' replies to one question, each shard run by GNU parallel: where its line in the
+    table says, or all on the machines of `logins`, which then need the folders at the same paths."""
     if shutil.which("parallel") is None:
         raise ToolError("there is no GNU parallel: install the package parallel")
-    words = ["parallel", "--will-cite", "--pipe", "--tee", "--keep-order", "--halt", "now,fail=1"]
-    if logins:
-        words += ["--sshlogin", logins]
-    run = "cd {} && exec " + shlex.join(command)
-    environment = {name: value for name, value in os.environ.items() if not name.startswith("PARALLEL")}
-    done = subprocess.run(
-        [*words, run, ":::", *(str(folder.resolve()) for folder in folders)],
-        input=question, capture_output=True, env=environment,
-    )  # fmt: skip
+    run = "cd {1} && printf '%s\\n' {2} | " + shlex.join(command)
+    words = ["parallel", "--will-cite", "--keep-order", "--halt", "now,fail=1", *_machines(shards, logins), run]
+    words += [":::", *_places(shards, logins), ":::", question.decode().rstrip("\n")]
+    done = subprocess.run(words, stdin=subprocess.DEVNULL, capture_output=True)
     if done.returncode != 0:
-        said = done.stderr.decode("utf-8", "replace").strip()
-        raise ProgramFailed(said.splitlines()[-1] if said else f"parallel ended with status {done.returncode}")
+        said = done.stderr.decode("utf-8", "replace").strip().splitlines()
+        own = next((line for line in said if line.startswith("tt_archive:")), "; ".join(said))
+        raise ProgramFailed(own or f"parallel ended with status {done.returncode}")
     stream = BytesIO(done.stdout)
     replies = []
     while reply := read_reply(stream):
         replies.append(reply)
-    if len(replies) != len(folders):
-        raise ProgramFailed(f"{len(folders)} shards gave {len(replies)} replies")
+    if len(replies) != len(shards):
+        raise ProgramFailed(f"{len(shards)} shards gave {len(replies)} replies")
     return replies
+
+
+def _machines(shards: Sequence[Shard], logins: str | None) -> list[str]:
+    """Parallel's words for where to run: each login is a group of its own, `g0` and so on."""
+    if logins:
+        return ["--sshlogin", logins]
+    words = []
+    for index, login in enumerate(_logins(shards)):
+        words += ["--sshlogin", f"@g{index}/{login or ':'}"]
+    return ["--hostgroups", *words]
+
+
+def _places(shards: Sequence[Shard], logins: str | None) -> list[str]:
+    """The folders, each with the group that may run it."""
+    places = [str(shard.folder if shard.login else shard.folder.resolve()) for shard in shards]
+    if logins:
+        return places
+    if any("@" in place for place in places):
+        raise ToolError("GNU parallel takes no folder with an @ in its name")
+    groups = _logins(shards)
+    return [f"{place}@g{groups.index(shard.login)}" for place, shard in zip(places, shards)]
+
+
+def _logins(shards: Sequence[Shard]) -> list[str]:
+    return sorted({shard.login for shard in shards})

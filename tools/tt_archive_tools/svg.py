@@ -6,7 +6,7 @@ import math
 from dataclasses import dataclass, field
 from datetime import datetime, timedelta, timezone
 from html import escape
-from typing import Callable, Iterable, Sequence
+from typing import Iterable, Sequence
 
 from .times import DAY
 
@@ -54,7 +54,8 @@ class Picture:
 
     def text(self, x: float, y: float, text: str, anchor: str = "start", colour: str = INK, size: int = 12) -> None:
         self.parts.append(
-            f'<text x="{x:.1f}" y="{y:.1f}" text-anchor="{anchor}" fill="{colour}" font-size="{size}">{escape(text)}</text>'
+            f'<text x="{x:.1f}" y="{y:.1f}" text-anchor="{anchor}" fill="{colour}" font-size="{size}">'
+            f"{escape(text)}</text>"
         )
 
     def words(self, x: float, y: float, parts: Iterable[tuple[str, str]], size: int = 13) -> None:
@@ -146,13 +147,11 @@ def _moment(seconds: int) -> datetime:
     return _EPOCH + timedelta(seconds=seconds)
 
 
-def axes(
-    picture: Picture, x: Scale, y: Scale, values: Sequence[float], label: str, form: Callable[[float], str] = lambda v: f"{v:g}"
-) -> None:
+def axes(picture: Picture, x: Scale, y: Scale, values: Sequence[float], label: str) -> None:
     """Lines across for the values, and the label above them."""
     for value in values:
         picture.line(x.start, y(value), x.end, y(value), GRID)
-        picture.text(x.start - 8, y(value) + 4, form(value), "end", FAINT, 11)
+        picture.text(x.start - 8, y(value) + 4, f"{value:g}", "end", FAINT, 11)
     picture.text(x.start, y(values[-1]) - 10, label, size=13)
 
 

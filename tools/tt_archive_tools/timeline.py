@@ -9,7 +9,7 @@ from typing import Sequence
 from . import commands, svg
 from .collection import Collection
 from .errors import NotBuilt, ToolError
-from .journal import Summary, summary
+from .journal import summary
 from .plans import stored_horizon
 from .replies import Hit, Pieces, Rows, Span
 from .times import LAST_TIME, show_day, show_time
@@ -92,10 +92,7 @@ def counts_of(moves: Sequence[Move]) -> tuple[tuple[int, int], ...]:
 
 
 def _sampled(collection: Collection, word: str, last: int, horizons: tuple[int, ...]) -> Timeline:
-    held = Summary()
-    for folder in collection.folders:
-        held.add(summary(folder))
-    first = held.first if held.first is not None else 0
+    first = summary(collection.shards).first or 0
     times = sorted({first + (last - first) * k // _SAMPLES for k in range(_SAMPLES + 1)})
     found: list[tuple[int, Rows]] = [(time, collection.ask_rows(commands.find(time, word))) for time in times]
     if not any(rows.read for _, rows in found):

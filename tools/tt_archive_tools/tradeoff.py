@@ -89,7 +89,8 @@ def draw(tradeoff: Tradeoff) -> str:
         picture.text(place[0] + 7, place[1] - 6, _factors(group), size=11)
     picture.dot(x(tradeoff.whole), y(tradeoff.whole), svg.ORANGE, "without a plan")
     picture.text(x(tradeoff.whole) + 7, y(tradeoff.whole) - 6, "no plan", colour=svg.ORANGE, size=11)
-    picture.text(70, 464, "Each dot is a least plan, with the factors that give it; where there is no room, the pointer tells them.", colour=svg.FAINT, size=12)
+    note = "Each dot is a least plan, with the factors that give it; where there is no room, the pointer tells them."
+    picture.text(70, 464, note, colour=svg.FAINT, size=12)
     return picture.render()
 
 

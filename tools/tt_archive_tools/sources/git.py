@@ -12,7 +12,7 @@ import subprocess
 import tempfile
 from contextlib import contextmanager
 from dataclasses import dataclass
-from itertools import groupby
+from itertools import groupby, islice
 from operator import attrgetter
 from pathlib import Path
 from typing import IO, Iterator
@@ -24,6 +24,8 @@ from ..texts import Reading
 _FILES = {b"100644", b"100755"}
 _KINDS = {b"120000": "symbolic link, so without a text", b"160000": "submodule, so without a text"}
 _GONE = b"000000"
+#: So many contents are asked for at once: their names fit into a pipe, which so never blocks.
+_BATCH = 256
 
 
 @dataclass(frozen=True)
@@ -51,7 +53,8 @@ class GitSource:
 
     @property
     def identity(self) -> str:
-        return " ".join(part for part in ("git", str(self.repository.resolve()), self.branch, self.prefix, *self.only) if part)
+        parts = ("git", str(self.repository.resolve()), self.branch, self.prefix, *self.only)
+        return " ".join(part for part in parts if part)
 
     def changes(self, reading: Reading, notes: Notes) -> Iterator[Change]:
         commits = self._commits(notes)
@@ -64,10 +67,13 @@ class GitSource:
             raw = ("diff-tree", "--stdin", "-r", "-z", "--raw", "--no-renames", "--no-abbrev", "--", *self.only)
             with _running(self._git(*raw), pairs) as trees, \
                  _running(self._git("cat-file", "--batch"), subprocess.PIPE) as blobs:  # fmt: skip
-                for commit, change in _differences(trees, commits):
-                    place = f"{commit.hash[:12]}:{change.path}"
-                    text = _text(change, blobs, reading, place, notes)
-                    yield Change(commit.time, self.prefix + change.path, text, place)
+                differences = _differences(trees, commits)
+                while batch := list(islice(differences, _BATCH)):
+                    _ask_for(blobs, batch)
+                    for commit, change in batch:
+                        place = f"{commit.hash[:12]}:{change.path}"
+                        text = _text(change, blobs, reading, place, notes)
+                        yield Change(commit.time, self.prefix + change.path, text, place)
                 if trees.wait() != 0:
                     raise InputError(str(self.repository), "git diff-tree failed")
 
@@ -141,6 +147,13 @@ def _fields(process: subprocess.Popen[bytes]) -> Iterator[bytes]:
         yield rest
 
 
+def _ask_for(blobs: subprocess.Popen[bytes], batch: list[tuple[_Commit, _FileChange]]) -> None:
+    """Asks for the contents of all files of a batch, in their order."""
+    assert blobs.stdin
+    blobs.stdin.write(b"".join(change.blob + b"\n" for _, change in batch if change.mode in _FILES))
+    blobs.stdin.flush()
+
+
 def _text(
     change: _FileChange, blobs: subprocess.Popen[bytes], reading: Reading, place: str, notes: Notes
 ) -> bytes | None:
@@ -148,9 +161,7 @@ def _text(
         if change.mode != _GONE:
             notes.add(_KINDS.get(change.mode, "of no known kind, so without a text"), place)
         return None
-    assert blobs.stdin and blobs.stdout
-    blobs.stdin.write(change.blob + b"\n")
-    blobs.stdin.flush()
+    assert blobs.stdout
     header = blobs.stdout.readline().split()
     if len(header) != 3:
         raise InputError(place, "git doesn't have this file's content (a partial clone?)")

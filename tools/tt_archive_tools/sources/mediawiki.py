@@ -101,7 +101,8 @@ def _read(path: Path, dump: _Dump, notes: Notes) -> None:
                 reader.take(event, element)
         except ElementTree.ParseError as error:
             line, column = error.position
-            raise InputError(f"{path}:{line}:{column + 1}", f"no XML: {error.msg.partition(':')[0]}{reader.where()}") from None
+            what = f"no XML: {error.msg.partition(':')[0]}{reader.where()}"
+            raise InputError(f"{path}:{line}:{column + 1}", what) from None
         except (EOFError, OSError) as error:
             raise InputError(str(path), f"it can't be read on{reader.where()}: {error}") from None
         if not reader.found:

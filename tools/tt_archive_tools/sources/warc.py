@@ -113,6 +113,7 @@ class _Captures:
             return None
         body = response.content()
         if body is None:
-            self._notes.add(f"content encoding {response.get('content-encoding')!r} can't be read, left without a text", place)
+            encoding = response.get("content-encoding")
+            self._notes.add(f"content encoding {encoding!r} can't be read, left without a text", place)
             return None
         return self._reading.of_bytes(body, kind in _HTML_TYPES, charset, place, self._notes)
