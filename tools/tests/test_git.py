@@ -149,6 +149,25 @@ class GitImport(ArchiveCase):
         self.assertIn("refused, TimeBack: 1", done.stdout)
         self.assertIn(f"early.txt ({other.git('rev-list', 'HEAD').decode().split()[1][:12]}:early.txt): refused: TimeBack", done.stderr)
 
+    def test_what_was_refused_may_come_again(self) -> None:
+        self.tt("import", "git", self.repository.path)
+        other = Repository(self.folder / "other")
+        other.commit(START + DAY, same_txt=b"the same text\n", gone_txt=b"gone before it could come\n")
+        other.commit(START + 20 * DAY, same_txt=b"another text\n", gone_txt=None)
+        self.tt("import", "git", other.path, "--branch", "HEAD~1")
+        self.assertEqual(self.texts_at(START + 20 * DAY), [as_texts(self.repository.tree_at(START + 20 * DAY))])
+        other.commit(START + 21 * DAY, same_txt=b"the same text\n")
+        other.commit(START + 21 * DAY, same_txt=b"the same text\n", last_txt=b"last\n")
+        done = self.tt("import", "git", other.path)
+        self.assertIn("refused, TimeBack: 2", done.stdout)
+        self.repository.commit(START + 22 * DAY, a_txt=b"a again\n")
+        self.assertNotIn("refused", self.tt("import", "git", self.repository.path).stdout)
+        done = self.tt("import", "git", other.path)
+        self.assertIn("0 versions and 0 deletions are in the archive\nimported before, until 1997-06-09: 5 changes\n", done.stdout)
+        [texts] = self.texts_at(START + 22 * DAY)
+        self.assertEqual((texts["same.txt"], texts["last.txt"], texts["a.txt"]), ("the same text\n", "last\n", "a again\n"))
+        self.assertNotIn("gone.txt", texts)
+
     def test_two_repositories_in_one_order(self) -> None:
         other = Repository(self.folder / "other")
         other.commit(START + DAY + 5, early_txt=b"between\n")

@@ -18,6 +18,7 @@ from typing import Any, Callable, Sequence
 
 from . import commands
 from .errors import NotBuilt, ProgramFailed, ToolError
+from .ledger import FILE as IMPORTS
 from .names import FILE as NAMES
 from .names import NameTable
 from .program import Answer, Program, Shard
@@ -194,9 +195,10 @@ class Collection:
 
 
 def make_archive(folder: Path, command: Sequence[str]) -> None:
-    """Makes the folder, an empty archive in it where there is none, and the table of names."""
+    """Makes the folder, an empty archive in it where there is none, and the tables beside it."""
     folder.mkdir(parents=True, exist_ok=True)
-    (folder / NAMES).touch()
+    for file in (NAMES, IMPORTS):
+        (folder / file).touch()
     with Collection(folder, command):
         pass
     descriptor = os.open(folder, os.O_RDONLY)

@@ -9,7 +9,7 @@ from dataclasses import dataclass, field
 from typing import Iterable, NamedTuple
 
 from . import commands
-from .changes import Change, Notes, tidied
+from .changes import Change, Notes, Tidier
 from .collection import Collection
 from .errors import ProgramFailed
 from .ledger import FILE as LEDGER
@@ -42,9 +42,8 @@ class Tally:
     arrived: int = 0
     ended: int = 0
     refused: Counter[str] = field(default_factory=Counter)
-    again: int = 0
-    skipped: int = 0
-    skipped_until: int | None = None
+    before: int = 0
+    before_until: int = 0
     late: int = 0
 
 
@@ -57,12 +56,17 @@ class Progress:
         self._count = 0
 
     def step(self, count: int, at: int) -> None:
+        """So many changes more were sent, the last of this time."""
+        self._start = self._start if self._count else clock.monotonic()
         self._count += count
+        rate = self._count / max(clock.monotonic() - self._start, 0.001)
+        self.show(f"{self._count:,} changes, {show_time(at)}, {rate:,.0f} a second")
+
+    def show(self, text: str) -> None:
         now = clock.monotonic()
         if self._shown and now - self._last >= 0.2:
             self._last = now
-            rate = self._count / (now - self._start)
-            sys.stderr.write(f"\r\x1b[K{self._count:,} changes, {show_time(at)}, {rate:,.0f} a second")
+            sys.stderr.write(f"\r\x1b[K{text}")
             sys.stderr.flush()
 
     def clear(self) -> None:
@@ -77,21 +81,29 @@ def import_source(
     """Feeds a source's changes, from where the last import of this source ended."""
     last = collection.last_time()
     ledger = Ledger(collection.folder / LEDGER)
-    feeder = _Feeder(collection, last, ledger.done(source.identity, last), notes, progress)
+    tidier = Tidier(collection.names.__contains__, notes)
+    feeder = _Feeder(collection, last, ledger.done(source.identity, last), tidier, notes, progress)
     ledger.begin(source.identity, last)
-    feeder.feed(tidied(source.changes(reading, notes), collection.names.__contains__, notes))
+    feeder.feed(tidier.tidied(source.changes(reading, notes)))
     ledger.end(source.identity, collection.last_time(), feeder.changes_until_last())
     return feeder.tally
 
 
 class _Feeder:
     def __init__(
-        self, collection: Collection, last: int | None, done: Done | None, notes: Notes, progress: Progress
+        self,
+        collection: Collection,
+        last: int | None,
+        done: Done | None,
+        tidier: Tidier,
+        notes: Notes,
+        progress: Progress,
     ) -> None:
-        self.tally = Tally()
+        self.tally = Tally(before_until=done.end if done else 0)
         self._collection = collection
         self._last = last
         self._done = done
+        self._tidier = tidier
         self._notes = notes
         self._progress = progress
         self._changes = 0
@@ -101,24 +113,24 @@ class _Feeder:
         self._bytes = 0
 
     def feed(self, changes: Iterable[Change]) -> None:
-        done_before = self._done.time if self._done else -1
         done_changes = 0
         for change in changes:
             self._changes += not change.maybe
-            if change.time <= done_before:
+            if self._done and change.time <= self._done.end:
                 done_changes += not change.maybe
-            if change.time < done_before:
-                self.tally.skipped += 1
-                self.tally.skipped_until = done_before
-            elif self._last is not None and change.time < self._last:
-                self._refuse(_sent(change, False), Refused(2, "TimeBack", str(self._last)))
-            else:
+            if self._last is None or change.time >= self._last:
                 self._add(change)
+            elif self._done and self._done.reached(change.time):
+                # Fed by an earlier import, or refused by it and told then.
+                self.tally.before += 1
+                if not self._done.fed(change.time):
+                    self._tidier.forget(change.name)
+            else:
+                self._tidier.forget(change.name)
+                self._refuse(_sent(change, False), Refused(2, "TimeBack", str(self._last)))
         self._send()
         self._collection.settle()
         self._progress.clear()
-        if self.tally.again and self.tally.skipped_until is None:
-            self.tally.skipped_until = done_before
         if self._done and self._done.changes is not None:
             self.tally.late = max(0, done_changes - self._done.changes)
 
@@ -146,7 +158,7 @@ class _Feeder:
                 lines.append(commands.delete(doc, change.time))
             else:
                 lines.append(commands.arrive(doc, change.time, change.text))
-            sent.append(_sent(change, self._done is not None and change.time == self._done.time))
+            sent.append(_sent(change, self._done is not None and change.time <= self._done.end))
         for side, (lines, sent) in scripts.items():
             self._collection.send(side, b"".join(lines), len(sent), sent, self._answered)
         self._progress.step(len(self._batch), self._batch[-1].time)
@@ -160,7 +172,7 @@ class _Feeder:
                 self.tally.arrived += sent.arrives
                 self.tally.ended += not sent.arrives
             case Refused(name="SameTime" | "NoDocument") if sent.again:
-                self.tally.again += 1
+                self.tally.before += 1
             case Refused(name="NoDocument") if sent.maybe:
                 self._notes.count("ends of documents that had none")
             case Refused():

@@ -81,7 +81,7 @@ def _import(options: argparse.Namespace, source: Source) -> None:
         progress.clear()
         print(line, file=sys.stderr)
 
-    notes = Notes(tell)
+    notes = Notes(tell, progress.show)
     reading = Reading(options.charset, options.keep_html)
     with Collection(options.archive, find_program(options.program)) as collection:
         tally = import_source(collection, source, reading, notes, progress)
@@ -90,11 +90,11 @@ def _import(options: argparse.Namespace, source: Source) -> None:
 
 def _report(tally: Tally, notes: Notes) -> None:
     print(f"{counted(tally.arrived, 'version')} and {counted(tally.ended, 'deletion')} are in the archive")
-    if tally.skipped_until is not None:
-        before = counted(tally.skipped + tally.again, "change")
-        print(f"imported before, until {show_time(tally.skipped_until)}: {before}")
+    if tally.before:
+        print(f"imported before, until {show_time(tally.before_until)}: {counted(tally.before, 'change')}")
     if tally.late:
-        print(f"of these new in the source, and too late, since an archive takes nothing before its last time: {tally.late}")
+        why = "since an archive takes nothing before its last time"
+        print(f"of these new in the source, and too late, {why}: {tally.late}")
     for name, count in tally.refused.items():
         print(f"refused, {name}: {count}")
     for kind, count in notes.counts.items():

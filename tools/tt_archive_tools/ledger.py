@@ -1,8 +1,9 @@
 """What was imported from where: `imports.tsv` beside an archive, so that an import goes on where the last one ended.
 
 A line is `begin` or `end`, the archive's last time then (`-` where it had none), how many changes
-of the source lie up to there (`-` at a beginning), and the source. An import that has no `end`
-was stopped; all that it fed lies up to the last time of the next `begin`, or of the archive.
+of the source lie up to there (`-` at a beginning), and the source. Imports don't overlap, since an
+archive has one writer. One that has no `end` was stopped: all that it fed lies up to the last time
+of the next `begin`, or of the archive.
 """
 
 from __future__ import annotations
@@ -19,11 +20,23 @@ FILE = "imports.tsv"
 
 @dataclass(frozen=True)
 class Done:
-    """The source's changes before `time` were fed. Those at it may have been, too. `changes` says
-    how many there were up to it, where the import came to its end."""
+    """What was fed of a source: its changes from the first time of a range up to the last. `changes`
+    says how many there were in all up to the end, where the last import came to it."""
 
-    time: int
+    ranges: tuple[tuple[int, int], ...]
     changes: int | None
+
+    @property
+    def end(self) -> int:
+        return self.ranges[-1][1]
+
+    def reached(self, time: int) -> bool:
+        """The changes of this time were fed or refused. Of those at the end this is known where the
+        last import came to its own."""
+        return time < self.end or (time == self.end and self.changes is not None)
+
+    def fed(self, time: int) -> bool:
+        return any(start <= time <= end for start, end in self.ranges)
 
 
 @dataclass(frozen=True)
@@ -45,15 +58,19 @@ class Ledger:
 
     def done(self, source: str, last: int | None) -> Done | None:
         """How far the source was imported, where the archive's last time is `last`."""
-        for index in range(len(self.lines) - 1, -1, -1):
-            line = self.lines[index]
+        ranges: list[tuple[int, int]] = []
+        changes = None
+        for index, line in enumerate(self.lines):
             if line.source != source:
                 continue
             if line.ended:
-                return Done(line.last, line.changes) if line.last is not None else None
-            later = self.lines[index + 1].last if index + 1 < len(self.lines) else last
-            return Done(later, None) if later is not None else None
-        return None
+                start = ranges.pop()[0] if ranges else 0
+                end, changes = line.last, line.changes
+            else:
+                start = line.last or 0
+                end, changes = (self.lines[index + 1].last if index + 1 < len(self.lines) else last), None
+            ranges.append((start, start if end is None else max(start, end)))
+        return Done(tuple(ranges), changes) if ranges else None
 
     def begin(self, source: str, last: int | None) -> None:
         self._append(Line(False, last, None, source))

@@ -178,6 +178,7 @@ class _Reader:
         redirect = _REDIRECT.match(content)
         word = redirect[1].lower() if redirect else None
         self._newest = max(self._newest, (time, word), key=lambda pair: pair[0])
+        self._notes.read(len(self._dump.spool), "revisions and log entries")
         event = _Event(_Kind.REVISED, self._title, number, self._dump.spool.put(content.encode()), word)
         self._dump.spool.add((time, event.kind, number), event)
 

@@ -82,6 +82,7 @@ class _Captures:
         capture = self._capture(record, address)
         if capture:
             self._count += 1
+            self._notes.read(self._count, "captures")
             self.spool.add((time, self._count), capture)
 
     def _capture(self, record: Record, address: str) -> _Capture | None:
