@@ -7,7 +7,7 @@ import re
 import sys
 
 from . import commands
-from .collection import SHARDS, Collection, shards_of
+from .collection import SHARDS, Collection, locked, shards_of
 from .errors import ToolError
 from .journal import summary
 from .ledger import FILE as LEDGER
@@ -92,6 +92,7 @@ def status(options: argparse.Namespace) -> None:
         held = summary(collection.shards)
         names = len(collection.names)
         shards = collection.shards
+        lines = Ledger(collection.folder / LEDGER).lines
     if len(shards) > 1:
         away = sum(bool(shard.login) for shard in shards)
         apart = f", of which {away} on other machines aren't counted here" if away else ""
@@ -102,7 +103,7 @@ def status(options: argparse.Namespace) -> None:
     if held.first is not None and held.last is not None:
         print(f"times      {show_time(held.first)} to {show_time(held.last)}")
     print(f"journal    {held.bytes} bytes")
-    ends = {line.source: line for line in Ledger(options.archive / LEDGER).lines if line.ended}
+    ends = {line.source: line for line in lines if line.ended}
     for source, line in ends.items():
         print(f"imported   {source}, until {'-' if line.last is None else show_time(line.last)}")
 
@@ -115,9 +116,10 @@ def _rows(options: argparse.Namespace, question: bytes) -> tuple[Rows, NameTable
             return collection.ask_rows(question), collection.names
     if not (options.archive / SHARDS).exists():
         raise ToolError(f"{options.archive} isn't split: `tt shard` does so")
-    replies = ask_with_parallel(shards_of(options.archive), command, options.sshlogin, question)
-    parts = [Collection.rows_of(reply) for reply in replies]
-    return merge_rows(parts), NameTable(options.archive / NAMES)
+    with locked(options.archive):
+        replies = ask_with_parallel(shards_of(options.archive), command, options.sshlogin, question)
+        names = NameTable(options.archive / NAMES)
+    return merge_rows(Collection.rows_of(reply) for reply in replies), names
 
 
 def _show_rows(options: argparse.Namespace, heads: tuple[str, ...], rows: list[tuple[object, ...]]) -> None:

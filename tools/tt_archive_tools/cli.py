@@ -40,6 +40,9 @@ def main(words: Sequence[str] | None = None) -> int:
     except BrokenPipeError:
         sys.stderr.close()
         return 1
+    except OSError as error:
+        print(f"tt: {error}", file=sys.stderr)
+        return 1
     return 0
 
 

@@ -10,11 +10,12 @@ from __future__ import annotations
 import fcntl
 import os
 from collections import deque
+from contextlib import ExitStack, contextmanager
 from dataclasses import dataclass
 from pathlib import Path
 from queue import SimpleQueue
 from types import TracebackType
-from typing import Any, Callable, Sequence
+from typing import Any, Callable, Iterator, Sequence
 
 from . import commands
 from .errors import NotBuilt, ProgramFailed, ToolError
@@ -51,6 +52,17 @@ def shards_of(folder: Path) -> list[Shard]:
     return shards
 
 
+@contextmanager
+def locked(folder: Path) -> Iterator[None]:
+    """One tt at a time works in a folder; what stands beside the archive is read and written so."""
+    with open(folder / _LOCK, "ab") as lock:
+        try:
+            fcntl.flock(lock, fcntl.LOCK_EX | fcntl.LOCK_NB)
+        except BlockingIOError:
+            raise ToolError(f"another tt is at work in {folder}") from None
+        yield
+
+
 @dataclass
 class _Side:
     """One archive's program, and what it has not yet answered."""
@@ -70,17 +82,13 @@ class Collection:
         if not any((folder / file).exists() for file in (NAMES, JOURNAL)):
             raise ToolError(f"{folder} has no archive: `tt init {folder}` makes one")
         self._command = command
+        self._lock = ExitStack()
         self._answers: SimpleQueue[Answer] = SimpleQueue()
         self._sides: list[_Side] = []
         self._count = 0
 
     def __enter__(self) -> Collection:
-        self._lock = open(self.folder / _LOCK, "ab")
-        try:
-            fcntl.flock(self._lock, fcntl.LOCK_EX | fcntl.LOCK_NB)
-        except OSError:
-            self._lock.close()
-            raise ToolError(f"another tt is at work in {self.folder}") from None
+        self._lock.enter_context(locked(self.folder))
         try:
             self.names = NameTable(self.folder / NAMES)
             for index, shard in enumerate(self.shards):

@@ -57,9 +57,9 @@ def shard(options: argparse.Namespace) -> None:
     with Collection(options.archive, command) as archive:
         if len(archive.shards) > 1:
             raise ToolError(f"{options.archive} is split already")
-    make_shards(options.into, options.count)
-    with Collection(options.into, command) as shards:
-        entries = split(options.archive, shards)
+        make_shards(options.into, options.count)
+        with Collection(options.into, command) as shards:
+            entries = split(archive, shards)
     print(f"{entries} versions and deletions are in {counted(options.count, 'archive')} in {options.into}")
 
 

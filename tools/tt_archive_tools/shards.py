@@ -18,7 +18,6 @@ from .collection import JOURNAL, SHARDS, Collection
 from .errors import ProgramFailed, ToolError
 from .journal import entries
 from .names import FILE as NAMES
-from .names import NameTable
 from .program import Shard
 from .replies import Ok, Reply, read_reply
 
@@ -39,16 +38,16 @@ def make_shards(into: Path, count: int) -> None:
     (into / SHARDS).write_text("".join(folder + "\n" for folder in folders))
 
 
-def split(archive: Path, into: Collection) -> int:
+def split(archive: Collection, into: Collection) -> int:
     """Feeds the arrivals and deletions of an archive to the shards, in their order. Plans aren't
     taken over: they are made anew. Answers how many entries the shards have."""
-    for number, name in NameTable(archive / NAMES).items():
+    for number, name in archive.names.items():
         into.names.add(number, name)
     into.names.keep()
     fed = 0
     lines: dict[int, list[bytes]] = {}
     size = 0
-    for entry in entries(archive, texts=True):
+    for entry in entries(archive.folder, texts=True):
         if entry.arrives:
             line = commands.arrive(entry.doc, entry.time, entry.text)
         elif entry.deletes:
