@@ -3,12 +3,28 @@
 from __future__ import annotations
 
 import os
+import sys
 
 from support import ArchiveCase
 
 DAY = 86_400
 #: 2007-07-23
 START = 13_717 * DAY
+
+#: In place of tt_archive: takes a version where its document's number is in the table of names.
+LOOKING = """
+import sys
+count = 0
+for line in sys.stdin.buffer:
+    match line.split():
+        case [b"delete", _, _]:
+            print("no 4 NoDocument", flush=True)
+        case [b"arrive", doc, _, size]:
+            sys.stdin.buffer.read(int(size) + 1)
+            count += 1
+            named = doc in (row.split()[0] for row in open("names.tsv", "rb"))
+            print(f"ok {count}" if named else "no 99 Unnamed", flush=True)
+"""
 
 
 class FolderImport(ArchiveCase):
@@ -73,6 +89,19 @@ class FolderImport(ArchiveCase):
         self.tt("import", "folder", self.folder / "tree")
         self.assertEqual(names.read_text(), "1\tone.txt\n2\ttwo.txt\n")
         self.assertEqual(self.texts_at(START + 1), [{"one.txt": "one", "two.txt": "two"}])
+
+    def test_a_name_stands_before_its_first_version_is_sent(self) -> None:
+        looking = self.folder / "looking"
+        looking.write_text(LOOKING)
+        for index in range(300):
+            self.write(f"{index}.txt", f"text {index}", START + index)
+        done = self.tt("import", "folder", self.folder / "tree", TT_ARCHIVE=f"{sys.executable} -S -E {looking}")
+        self.assertEqual(done.stdout, "300 versions and 0 deletions are in the archive\n")
+
+    def test_an_empty_text(self) -> None:
+        self.write("empty.txt", "", START)
+        self.tt("import", "folder", self.folder / "tree")
+        self.assertEqual(self.texts_at(START), [{"empty.txt": ""}])
 
     def test_one_at_a_time(self) -> None:
         with self.open():

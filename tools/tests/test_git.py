@@ -81,6 +81,8 @@ def sample(path: Path) -> Repository:
     repository.commit(START + 6 * DAY)
     repository.commit(START + 7 * DAY, b_txt=None)
     os.symlink("doc/renamed.txt", path / "link")
+    (path / "doc" / "c.txt").unlink()
+    os.symlink("renamed.txt", path / "doc" / "c.txt")
     repository.commit(START + 8 * DAY)
     repository.commit(START + 9 * DAY, pic_bin=b"now a text\n", side_txt=b"now \0 binary\n")
     repository.commit(START + 10 * DAY, b_txt=b"green pears again\n", x_txt=b"first of one second\n")
@@ -114,7 +116,7 @@ class GitImport(ArchiveCase):
     def test_is_what_git_says_at_all_times(self) -> None:
         done = self.tt("import", "git", self.repository.path)
         self.assert_as_git_says(*self.all_times())
-        self.assertIn("symbolic link, so without a text: 1", done.stdout)
+        self.assertIn("symbolic link, so without a text: 2", done.stdout)
         self.assertIn("binary, so without a text: 2", done.stdout)
         self.assertIn("commits that another of the same second replaced: 2", done.stdout)
         self.assertNotIn("refused", done.stdout)
