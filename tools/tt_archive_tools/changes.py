@@ -95,7 +95,7 @@ class Tidier:
         unknown = change.name not in self._texts and self._known(change.name)
         had_text = self._texts.get(change.name) is not None
         if change.text is not None and len(change.text) > MOST_TEXT:
-            # The archive refuses this text. What the document had before isn't its text any more.
+            # An archive refuses this text. What the document had before isn't its text any more.
             yield change
             change = replace(change, text=None, place=f"{change.place} (too long: the version before ends)")
         if change.text is None:

@@ -119,7 +119,7 @@ class _Feeder:
             if self._done and change.time <= self._done.end:
                 done_changes += not change.maybe
             if self._last is None or change.time >= self._last:
-                self._add(change)
+                self._take(change)
             elif self._done and self._done.reached(change.time):
                 # Fed by an earlier import, or refused by it and told then.
                 self.tally.before += 1
@@ -138,7 +138,11 @@ class _Feeder:
         """How many of the changes lie up to the archive's last time."""
         return self._changes - sum(time > self._latest for time in self._refused_times)
 
-    def _add(self, change: Change) -> None:
+    def _take(self, change: Change) -> None:
+        if len(change.text or b"") > commands.MOST_TEXT:
+            # The archive would refuse it, by its length alone.
+            self._refuse(_sent(change, False), Refused(5, "TooLong", str(commands.MOST_TEXT)))
+            return
         self._batch.append(change)
         self._bytes += len(change.text or b"")
         if len(self._batch) >= _BATCH or self._bytes >= _BATCH_BYTES:
