@@ -11,7 +11,7 @@ import tempfile
 import unittest
 from pathlib import Path
 
-from support import TOOLS, needs
+from support import TOOLS, answers
 
 TOP = TOOLS.parent
 STORY = re.compile(r"^## (.+?)\n(.*?)(?=^## |\Z)", re.MULTILINE | re.DOTALL)
@@ -38,14 +38,24 @@ def run(command: str, folder: Path) -> str:
     return done.stdout
 
 
+def missing(story: str) -> list[str]:
+    """What a story asks for and the program under test doesn't answer yet."""
+    wanted = {
+        "utf8": "warc",
+        "queries": r'find "[^"]+ [^"]+"',
+        "between": r"tt -C archive (between|timeline)",
+        "plans": r"tt -C archive (plan|tradeoff)",
+    }
+    return [what for what, words in wanted.items() if re.search(words, story) and not answers(what)]
+
+
 class Stories(unittest.TestCase):
-    @needs("utf8", "queries", "between", "plans")
     def test_stories(self) -> None:
         text = (TOP / "docs" / "keepers.md").read_text()
         told = 0
         for story, body in STORY.findall(text):
             blocks = BLOCK.findall(body)
-            if not blocks:
+            if not blocks or missing(body):
                 continue
             with self.subTest(story), tempfile.TemporaryDirectory() as kept:
                 folder = Path(kept)
@@ -57,4 +67,5 @@ class Stories(unittest.TestCase):
                 for command, printed in (pair for block in blocks for pair in commands_of(block)):
                     self.assertEqual(run(command, folder), printed, command)
                     told += 1
-        self.assertGreater(told, 10)
+        if not any(missing(body) for _, body in STORY.findall(text)):
+            self.assertGreater(told, 20)

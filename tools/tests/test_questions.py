@@ -143,7 +143,7 @@ class Pictures(ArchiveCase):
         root = ElementTree.parse(picture).getroot()
         self.assertEqual(root.tag, "{http://www.w3.org/2000/svg}svg")
         tips = [element.text for element in root.iter("{http://www.w3.org/2000/svg}title")]
-        self.assertGreater(len(tips), 20)
+        self.assertGreater(sum(len(tip.splitlines()) for tip in tips), 30)
         self.assertIn("<tr><td>", page.read_text())
         self.assertIn("no document ever had the word 'heron'", self.tt("timeline", "heron", status=1).stderr)
 

@@ -18,6 +18,8 @@ from .times import LAST_TIME, show_day, show_time
 _MOST_QUESTIONS = 300
 #: Where the program can't tell the spans, the word is looked for at so many times.
 _SAMPLES = 120
+#: Of the changes that fall on one mark so many are named.
+_MOST_TOLD = 8
 
 
 @dataclass(frozen=True)
@@ -140,14 +142,26 @@ def draw(line: Timeline, collection: Collection) -> str:
     heading = [("versions in which that changed: ", svg.INK)]
     kinds = [("it comes", svg.GREEN), (", its count changes", svg.FAINT), (", it goes", svg.RED)]
     picture.words(70, 258, heading + (kinds if line.exact else [("not known to this program", svg.FAINT)]))
-    for move in line.moves:
-        kind = svg.GREEN if move.before == 0 else svg.RED if move.after == 0 else svg.FAINT
-        top, bottom = (266, 278) if move.before == 0 else (280, 292) if move.after == 0 else (273, 285)
-        name = collection.names.name(move.doc)
-        picture.mark(x(move.time), top, bottom, kind, f"{show_time(move.time)} {name}: {move.before} to {move.after}")
-
+    _draw_moves(picture, line, x, collection)
     _draw_costs(picture, line, x, end)
     return picture.render()
+
+
+def _draw_moves(picture: svg.Picture, line: Timeline, x: svg.Scale, collection: Collection) -> None:
+    """A mark for the changes of one kind that fall on one place of the picture."""
+    marks: dict[tuple[float, str], list[Move]] = {}
+    for move in line.moves:
+        kind = svg.GREEN if move.before == 0 else svg.RED if move.after == 0 else svg.FAINT
+        marks.setdefault((round(x(move.time)), kind), []).append(move)
+    tops = {svg.GREEN: 266, svg.FAINT: 273, svg.RED: 280}
+    for (place, kind), moves in marks.items():
+        tips = [
+            f"{show_time(move.time)} {collection.names.name(move.doc)}: {move.before} to {move.after}"
+            for move in moves[:_MOST_TOLD]
+        ]
+        if len(moves) > _MOST_TOLD:
+            tips.append(f"and {len(moves) - _MOST_TOLD} more")
+        picture.mark(place, tops[kind], tops[kind] + 12, kind, "\n".join(tips))
 
 
 def _draw_costs(picture: svg.Picture, line: Timeline, x: svg.Scale, end: int) -> None:
