@@ -90,6 +90,9 @@ class Questions(ArchiveCase):
         done = self.tt("timeline", "bridge", "-o", picture, **without)
         self.assertIn("doesn't answer `between` yet: the picture shows 121 times", done.stderr)
         ElementTree.parse(picture)
+        older = {"FAKE_BREAKS": "between plan propose certificate"}
+        self.assertEqual(self.tt("between", "bridge", status=1, **older).stderr, "tt: this tt_archive doesn't answer `between` yet\n")
+        self.assertIn("the picture shows 121 times", self.tt("timeline", "bridge", "-o", picture, **older).stderr)
 
 
 class Pictures(ArchiveCase):

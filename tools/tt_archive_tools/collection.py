@@ -91,8 +91,7 @@ class Collection:
         self._lock.enter_context(locked(self.folder))
         try:
             self.names = NameTable(self.folder / NAMES)
-            for index, shard in enumerate(self.shards):
-                self._sides.append(_Side(Program(self._command, shard, index, self._answers), deque()))
+            self._start()
         except BaseException:
             self._close()
             raise
@@ -155,13 +154,15 @@ class Collection:
 
     def _ask(self, sides: Sequence[int], question: bytes) -> list[Reply]:
         replies: dict[int, Reply] = {}
-        for side in sides:
-            self.send(side, question, 1, [side], replies.__setitem__)
         try:
+            for side in sides:
+                self.send(side, question, 1, [side], replies.__setitem__)
             self.settle()
         except ProgramFailed as failed:
-            # An older program takes a line that it doesn't know for a broken script.
+            # An older program takes a line that it doesn't know for a broken script, and ends.
             if "script fault" in str(failed):
+                self._end()
+                self._start()
                 raise NotBuilt(question.split()[0].decode()) from failed
             raise
         for reply in replies.values():
@@ -192,13 +193,25 @@ class Collection:
         self._count -= 1
         handle(token, answer)
 
-    def _close(self) -> list[tuple[int, str]]:
+    def _start(self) -> None:
+        self._answers = SimpleQueue()
+        self._count = 0
+        for index, shard in enumerate(self.shards):
+            self._sides.append(_Side(Program(self._command, shard, index, self._answers), deque()))
+
+    def _end(self) -> list[tuple[int, str]]:
+        """Ends the programs, whose last replies nobody takes."""
         try:
             for side in self._sides:
                 side.program.end_input()
             return [side.program.wait() for side in self._sides]
         finally:
             self._sides.clear()
+
+    def _close(self) -> list[tuple[int, str]]:
+        try:
+            return self._end()
+        finally:
             self._lock.close()
 
 

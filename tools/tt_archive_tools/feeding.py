@@ -130,7 +130,6 @@ class _Feeder:
                 self._refuse(_sent(change, False), Refused(2, "TimeBack", str(self._last)))
         self._send()
         self._collection.settle()
-        self._progress.clear()
         if self._done and self._done.changes is not None:
             self.tally.late = max(0, done_changes - self._done.changes)
 

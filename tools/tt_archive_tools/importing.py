@@ -83,8 +83,11 @@ def _import(options: argparse.Namespace, source: Source) -> None:
 
     notes = Notes(tell, progress.show)
     reading = Reading(options.charset, options.keep_html)
-    with Collection(options.archive, find_program(options.program)) as collection:
-        tally = import_source(collection, source, reading, notes, progress)
+    try:
+        with Collection(options.archive, find_program(options.program)) as collection:
+            tally = import_source(collection, source, reading, notes, progress)
+    finally:
+        progress.clear()
     _report(tally, notes)
 
 
