@@ -207,6 +207,8 @@ class GitImport(ArchiveCase):
         [texts] = self.texts_at(START + 11 * DAY)
         self.assertEqual(texts["page.html"], "Öl\nfür alle")
         self.assertEqual(texts["caf\udce9\t.txt"], "Grüße")
+        self.assertEqual(self.tt("find", "grüsse", "--tsv").stdout, "1\tcaf\\xe9\\t.txt\n")
+        self.assertEqual(self.tt("show", "caf\\xe9\\t.txt").stdout, "Grüße\n")
 
     def test_no_repository(self) -> None:
         done = self.tt("import", "git", self.folder / "none", status=1)

@@ -140,6 +140,7 @@ class Pictures(ArchiveCase):
 
     @needs("between")
     def test_timeline_is_drawn(self) -> None:
+        self.fill([Version(self.versions[-1].time + DAY, "odd <name>\x1b\udce9", "w2")])
         picture, page = self.folder / "picture.svg", self.folder / "page.html"
         done = self.tt("timeline", "w2".upper(), "-o", picture, "--html", page)
         self.assertEqual(done.stdout, f"{picture}\n{page}\n")
@@ -147,7 +148,7 @@ class Pictures(ArchiveCase):
         self.assertEqual(root.tag, "{http://www.w3.org/2000/svg}svg")
         tips = [element.text for element in root.iter("{http://www.w3.org/2000/svg}title")]
         self.assertGreater(sum(len(tip.splitlines()) for tip in tips), 30)
-        self.assertIn("<tr><td>", page.read_text())
+        self.assertIn("<td>odd &lt;name&gt;\\x1b\\xe9</td>", page.read_text())
         self.assertIn("no document ever had the word 'heron'", self.tt("timeline", "heron", status=1).stderr)
 
     @needs("plans")

@@ -46,8 +46,8 @@ class Texts(unittest.TestCase):
         self.assertEqual(text_of_html("a<!-- b -->c"), "ac")
 
     def test_names_on_a_line(self) -> None:
-        name = "a\tb\\n\nc\rd\udce9\\x41"
-        self.assertEqual(escape(name), "a\\tb\\\\n\\nc\\rd\\xe9\\\\x41")
+        name = "a\tb\\n\nc\rd\udce9\\x41\x1b[1m\x7f"
+        self.assertEqual(escape(name), "a\\tb\\\\n\\nc\\rd\\xe9\\\\x41\\x1b[1m\\x7f")
         self.assertEqual(unescape(escape(name)), name)
 
     def test_times(self) -> None:

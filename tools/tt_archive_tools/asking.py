@@ -27,7 +27,7 @@ _FORM = re.compile(r"(?:guarantee \d+/\d+|space \d+/\d+ (?:uniform|since \S+))\Z
 def find(options: argparse.Namespace) -> None:
     at = parse_time(options.at)
     rows, names = _rows(options, commands.find(at, options.words))
-    shown = [(row.score, names.name(row.doc)) for row in rows.rows if isinstance(row, Hit)]
+    shown = [(row.score, names.shown(row.doc)) for row in rows.rows if isinstance(row, Hit)]
     _show_rows(options, ("score", "document"), shown)
     if not options.tsv:
         print(f"{counted(len(shown), 'document')} at {show_time(at)}; {counted(rows.read, 'posting')} read")
@@ -39,7 +39,7 @@ def between(options: argparse.Namespace) -> None:
         raise ToolError("the first time isn't before the second")
     rows, names = _rows(options, commands.between(start, end, options.words))
     shown = [
-        (show_time(row.start), show_time(row.end), row.score, names.name(row.doc))
+        (show_time(row.start), show_time(row.end), row.score, names.shown(row.doc))
         for row in rows.rows
         if isinstance(row, Span)
     ]

@@ -5,15 +5,16 @@ from __future__ import annotations
 import argparse
 import sys
 from pathlib import Path
-from typing import Callable, Sequence
+from typing import Callable, Sequence, TypeAlias
 
 from . import asking, importing, pictures
 from .errors import ToolError
 from .program import VARIABLE
+from .wording import one_line
 
 Run = Callable[[argparse.Namespace], None]
 #: The commands of a parser, or the sources of `import`.
-Kinds = "argparse._SubParsersAction[argparse.ArgumentParser]"
+Kinds: TypeAlias = "argparse._SubParsersAction[argparse.ArgumentParser]"
 
 _ABOUT = """Fills a time-travel text archive from what keepers have, asks it by names and dates, and draws what it
 holds. The tools write scripts for tt_archive and read its replies."""
@@ -32,7 +33,7 @@ def main(words: Sequence[str] | None = None) -> int:
         options.run(options)
         sys.stdout.flush()
     except ToolError as error:
-        print(f"tt: {error}", file=sys.stderr)
+        print(f"tt: {one_line(str(error))}", file=sys.stderr)
         return 1
     except KeyboardInterrupt:
         print(f"tt: {_STOPPED}", file=sys.stderr)
@@ -50,7 +51,7 @@ def _parser() -> argparse.ArgumentParser:
     parser = argparse.ArgumentParser(prog="tt", description=_ABOUT)
     add = parser.add_argument
     add("-C", "--archive", type=Path, default=Path("."), metavar="FOLDER", help="the archive's folder (here)")
-    add("--program", metavar="WORDS", help=f"the tt_archive to run (${VARIABLE}, or the one on the path, or built here)")
+    add("--program", metavar="WORDS", help=f"the tt_archive to run (${VARIABLE}, on the path, or built here)")
     add("-q", "--quiet", action="store_true", help="no progress on a terminal")
     kinds = parser.add_subparsers(required=True, metavar="COMMAND")
     _add_filling(kinds)
@@ -80,14 +81,14 @@ def _add_sources(parser: argparse.ArgumentParser) -> None:
     sources = parser.add_subparsers(required=True, metavar="SOURCE")
     git = _command(sources, "git", importing.import_git, "import the files of a branch, as each commit left them")
     git.add_argument("repositories", type=Path, nargs="+", metavar="REPOSITORY")
-    git.add_argument("--branch", default="HEAD", help="the branch, tag or commit whose first parents are followed (HEAD)")
+    git.add_argument("--branch", default="HEAD", help="the branch whose first parents are followed (HEAD)")
     git.add_argument("--only", nargs="+", default=[], metavar="PATH", help="the files that these paths name for git")
-    wiki = _command(sources, "mediawiki", importing.import_mediawiki, "import a MediaWiki export, and logs of deletions")
+    wiki = _command(sources, "mediawiki", importing.import_mediawiki, "import a MediaWiki export and its logs")
     wiki.add_argument("files", type=Path, nargs="+", metavar="DUMP.xml[.gz|.bz2]")
     wiki.add_argument("--keep-redirects", action="store_true", help="keep redirects as texts")
     warc = _command(sources, "warc", importing.import_warc, "import web captures")
     warc.add_argument("files", type=Path, nargs="+", metavar="FILE.warc[.gz]")
-    folder = _command(sources, "folder", importing.import_folder, "import folders with dates, or files by their times")
+    folder = _command(sources, "folder", importing.import_folder, "import folders with dates, or files by time")
     folder.add_argument("trees", type=Path, nargs="+", metavar="TREE")
     for source in (git, wiki, warc, folder):
         source.add_argument("--prefix", default="", help="what the documents' names begin with")
@@ -102,7 +103,7 @@ def _add_questions(kinds: Kinds) -> None:
     between = _command(kinds, "between", asking.between, "find when documents had these words")
     between.add_argument("words", metavar="WORDS")
     between.add_argument("--from", dest="start", default="1970", metavar="TIME", help=_TIME)
-    between.add_argument("--to", dest="end", default="now", metavar="TIME", help="the first time that isn't asked about")
+    between.add_argument("--to", dest="end", default="now", metavar="TIME", help="the first time not asked about")
     for question in (find, between):
         question.add_argument("--limit", type=int, default=0, metavar="N", help="show the first N rows (all)")
         question.add_argument("--tsv", action="store_true", help="rows as tab-separated values, and nothing else")
@@ -113,11 +114,11 @@ def _add_questions(kinds: Kinds) -> None:
     show.add_argument("--at", default="now", metavar="TIME", help=_TIME)
     plan = _command(kinds, "plan", asking.plan, "store a plan of a word's list, which bounds reading or space")
     plan.add_argument("word", metavar="WORD")
-    plan.add_argument("form", nargs="+", metavar="FORM", help="guarantee A/B | space A/B uniform | space A/B since TIME")
+    plan.add_argument("form", nargs="+", metavar="FORM", help="guarantee A/B, space A/B uniform, space A/B since TIME")
 
 
 def _add_pictures(kinds: Kinds) -> None:
-    line = _command(kinds, "timeline", pictures.draw_timeline, "draw where a word stands over time, and what it costs to ask")
+    line = _command(kinds, "timeline", pictures.draw_timeline, "draw a word over time, and what it costs to ask")
     trade = _command(kinds, "tradeoff", pictures.draw_tradeoff, "draw space against reading, for factors from 1 to 4")
     for picture in (line, trade):
         picture.add_argument("word", metavar="WORD")

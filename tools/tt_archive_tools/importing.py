@@ -19,7 +19,7 @@ from .sources.mediawiki import MediaWikiSource
 from .sources.warc import WarcSource
 from .texts import Reading
 from .times import show_time
-from .wording import counted
+from .wording import counted, one_line
 
 
 def init(options: argparse.Namespace) -> None:
@@ -79,7 +79,7 @@ def _import(options: argparse.Namespace, source: Source) -> None:
 
     def tell(line: str) -> None:
         progress.clear()
-        print(line, file=sys.stderr)
+        print(one_line(line), file=sys.stderr)
 
     notes = Notes(tell, progress.show)
     reading = Reading(options.charset, options.keep_html)

@@ -1,9 +1,10 @@
 """The table of document numbers and names that stands beside an archive: `names.tsv`.
 
 A line is a number, a tab and a name. Names are file names, titles and addresses, so a backslash,
-a tab, a line feed and a carriage return are written `\\\\`, `\\t`, `\\n` and `\\r`, and a byte of
-a file name that isn't UTF-8 `\\xHH`. A line is durable before the document's first version is
-sent, so a stop loses no name; a last line without its line feed was never used and is taken away.
+a tab, a line feed and a carriage return are written `\\\\`, `\\t`, `\\n` and `\\r`, and another
+control character, or a byte of a file name that isn't UTF-8, `\\xHH`. A line is durable before the
+document's first version is sent, so a stop loses no name; a last line without its line feed was
+never used and is taken away.
 """
 
 from __future__ import annotations
@@ -21,21 +22,22 @@ FILE = "names.tsv"
 
 _ESCAPES = {"\\": "\\\\", "\t": "\\t", "\n": "\\n", "\r": "\\r"}
 _PLAIN = {written: char for char, written in _ESCAPES.items()}
-_TO_ESCAPE = re.compile("[\\\\\t\n\r\udc80-\udcff]")
+#: A backslash, control characters of ASCII, and what stands for a byte that isn't UTF-8.
+_TO_ESCAPE = re.compile("[\\\\\0-\x1f\x7f\udc80-\udcff]")
 _ESCAPED = re.compile(r"\\(?:[\\tnr]|x[0-9a-f]{2})")
 
 
 def escape(name: str) -> str:
-    """The name on one line of a table; bytes that aren't UTF-8 are `\\xHH`."""
-    return _TO_ESCAPE.sub(
-        lambda found: _ESCAPES.get(found[0]) or f"\\x{ord(found[0]) - 0xDC00:02x}", name
-    )
+    """The name on one line of a table."""
+    return _TO_ESCAPE.sub(lambda found: _ESCAPES.get(found[0]) or f"\\x{ord(found[0]) & 0xFF:02x}", name)
 
 
 def unescape(written: str) -> str:
-    return _ESCAPED.sub(
-        lambda found: _PLAIN.get(found[0]) or chr(0xDC00 + int(found[0][2:], 16)), written
-    )
+    return _ESCAPED.sub(lambda found: _PLAIN.get(found[0]) or _char(int(found[0][2:], 16)), written)
+
+
+def _char(byte: int) -> str:
+    return chr(byte) if byte < 0x80 else chr(0xDC00 + byte)
 
 
 class NameTable:
@@ -63,14 +65,19 @@ class NameTable:
         """The document's name, or `#NUMBER` where it has none."""
         return self._names.get(number, f"#{number}")
 
+    def shown(self, number: int) -> str:
+        """The document's name as `escape` writes it."""
+        return escape(self.name(number))
+
     def number(self, name: str) -> int:
-        """The number of a name, or of `#NUMBER`."""
-        if name in self._numbers:
-            return self._numbers[name]
+        """The number of a name, also as `escape` writes it, or of `#NUMBER`."""
+        for spelled in (name, unescape(name)):
+            if spelled in self._numbers:
+                return self._numbers[spelled]
         if re.fullmatch(r"#\d{1,10}", name, re.ASCII):
             return int(name[1:])
         close = difflib.get_close_matches(name, self._numbers, n=3)
-        hint = f"; near it: {', '.join(close)}" if close else ""
+        hint = f"; near it: {', '.join(map(escape, close))}" if close else ""
         raise ToolError(f"no document is named {name!r}{hint}")
 
     def give(self, name: str) -> int:

@@ -156,7 +156,7 @@ def _draw_moves(picture: svg.Picture, line: Timeline, x: svg.Scale, collection: 
     tops = {svg.GREEN: 266, svg.FAINT: 273, svg.RED: 280}
     for (place, kind), moves in marks.items():
         tips = [
-            f"{show_time(move.time)} {collection.names.name(move.doc)}: {move.before} to {move.after}"
+            f"{show_time(move.time)} {collection.names.shown(move.doc)}: {move.before} to {move.after}"
             for move in moves[:_MOST_TOLD]
         ]
         if len(moves) > _MOST_TOLD:
@@ -184,7 +184,7 @@ def _draw_costs(picture: svg.Picture, line: Timeline, x: svg.Scale, end: int) ->
 def page(line: Timeline, picture: str, collection: Collection) -> str:
     """A page with the picture, and the changes as a table."""
     rows = "\n".join(
-        f"<tr><td>{show_time(move.time)}</td><td>{escape(collection.names.name(move.doc))}</td>"
+        f"<tr><td>{show_time(move.time)}</td><td>{escape(collection.names.shown(move.doc))}</td>"
         f"<td>{move.before}</td><td>{move.after}</td></tr>"
         for move in line.moves
     )

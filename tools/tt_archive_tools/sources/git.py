@@ -102,8 +102,8 @@ class GitSource:
         except FileNotFoundError:
             raise InputError(str(self.repository), "git isn't installed: install the package git") from None
         if done.returncode != 0:
-            said = done.stderr.decode("utf-8", "replace").strip().splitlines()
-            raise InputError(str(self.repository), said[-1] if said else "git failed")
+            said = done.stderr.decode("utf-8", "replace").strip().splitlines() or ["git failed"]
+            raise InputError(str(self.repository), next((line for line in said if line.startswith("fatal:")), said[-1]))
         return done.stdout.decode("utf-8", "replace")
 
 

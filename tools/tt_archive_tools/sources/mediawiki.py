@@ -64,7 +64,7 @@ class MediaWikiSource:
 
     @property
     def identity(self) -> str:
-        files = (str(file.resolve()) for file in self.files)
+        files = sorted(str(file.resolve()) for file in self.files)
         return " ".join(part for part in ("mediawiki", self.prefix, *files) if part)
 
     def changes(self, reading: Reading, notes: Notes) -> Iterator[Change]:

@@ -42,7 +42,7 @@ class WarcSource:
 
     @property
     def identity(self) -> str:
-        files = (str(file.resolve()) for file in self.files)
+        files = sorted(str(file.resolve()) for file in self.files)
         return " ".join(part for part in ("warc", self.prefix, *files) if part)
 
     def changes(self, reading: Reading, notes: Notes) -> Iterator[Change]:
