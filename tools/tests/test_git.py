@@ -200,15 +200,15 @@ class GitImport(ArchiveCase):
 
     @needs("utf8")
     def test_texts_and_names_of_other_bytes(self) -> None:
-        (self.repository.path / os.fsdecode(b"caf\xe9\t.txt")).write_bytes("Grüße".encode("iso-8859-1"))
+        (self.repository.path / os.fsdecode(b"caf\xe9\t.txt")).write_bytes("Grüße zusammen".encode("iso-8859-1"))
         self.repository.commit(START + 11 * DAY, page_html="<title>Öl</title><p>für <b>alle</b>".encode())
         plain = self.tt("import", "git", self.repository.path, "--charset", "latin-1")
         self.assertIn("texts decoded as cp1252: 1", plain.stdout)
         [texts] = self.texts_at(START + 11 * DAY)
         self.assertEqual(texts["page.html"], "Öl\nfür alle")
-        self.assertEqual(texts["caf\udce9\t.txt"], "Grüße")
-        self.assertEqual(self.tt("find", "grüsse", "--tsv").stdout, "1\tcaf\\xe9\\t.txt\n")
-        self.assertEqual(self.tt("show", "caf\\xe9\\t.txt").stdout, "Grüße\n")
+        self.assertEqual(texts["caf\udce9\t.txt"], "Grüße zusammen")
+        self.assertEqual(self.tt("find", "Zusammen", "--tsv").stdout, "1\tcaf\\xe9\\t.txt\n")
+        self.assertEqual(self.tt("show", "caf\\xe9\\t.txt").stdout, "Grüße zusammen\n")
 
     def test_no_repository(self) -> None:
         done = self.tt("import", "git", self.folder / "none", status=1)

@@ -38,9 +38,11 @@ class Questions(ArchiveCase):
         self.assertEqual(self.tt("find", "bridge").stdout.splitlines()[1], "1      ferry")
         self.assertEqual(self.tt("find", "heron").stdout, "0 documents at now; 0 postings read\n")
 
-    @needs("queries")
+    @needs("queries", "utf8")
     def test_queries(self) -> None:
         self.assertEqual(self.tt("find", "closed and not ferry", "--at", "2007-07-25", "--tsv").stdout, "1\tbridge\n")
+        self.fill([Version(START + 4 * DAY, "gruß", "Grüße an die Brücke")])
+        self.assertEqual(self.tt("find", "GRÜSSE brücke", "--tsv").stdout, "2\tgruß\n")
         done = self.tt("find", "(closed", status=1)
         self.assertEqual(done.stderr, "tt: what is asked is no query, which shows at its byte 7\n")
 
