@@ -1,0 +1,245 @@
+"""A history of versions, kept as an archive's journal, and the answers by scanning it."""
+
+from __future__ import annotations
+
+import json
+from bisect import bisect_right
+from collections import Counter
+from dataclasses import dataclass
+from pathlib import Path
+
+from .planning import Plan, Posting, Table
+from .words import BadQuery, Query, one_term, parse, terms
+
+NOW = 1 << 40
+MOST_TEXT = 4_194_304
+HEADER = b"TIMETRAVELTEXT\x00\x01"
+
+
+class Refusal(Exception):
+    """A number, a name and a detail."""
+
+
+@dataclass(frozen=True)
+class Version:
+    """From a time on, a text, or none."""
+
+    time: int
+    text: bytes | None
+    counts: Counter[str]
+
+
+class History:
+    """An archive in a folder."""
+
+    def __init__(self, folder: Path) -> None:
+        self._path = folder / "archive.journal"
+        self._plans_path = folder / "fake.plans"
+        self._versions: dict[int, list[Version]] = {}
+        self._last: int | None = None
+        self._length = 0
+        self._plans: dict[str, dict] = {}
+        self._lists: dict[str, list[Posting]] = {}
+        if not self._path.exists():
+            self._path.write_bytes(HEADER + b"\0")
+        self._load()
+
+    def arrive(self, doc: int, time: int, text: bytes) -> list[str]:
+        if len(text) > MOST_TEXT:
+            raise Refusal(f"5 TooLong {MOST_TEXT}")
+        try:
+            text.decode()
+        except UnicodeDecodeError as error:
+            raise Refusal(f"6 BadText {error.start}") from None
+        self._in_time(time)
+        self._other_time(doc, time)
+        self._append(1, doc, time, text)
+        return [f"ok {self._length}"]
+
+    def delete(self, doc: int, time: int) -> list[str]:
+        self._in_time(time)
+        if doc not in self._versions or self._versions[doc][-1].text is None:
+            raise Refusal("4 NoDocument")
+        self._other_time(doc, time)
+        self._append(2, doc, time, b"")
+        return [f"ok {self._length}"]
+
+    def show(self, doc: int, time: int) -> bytes | None:
+        version = self._at(doc, time)
+        return version.text if version else None
+
+    def find(self, time: int, expr: str) -> list[str]:
+        query = self._query(expr)
+        rows = []
+        for doc in self._versions:
+            version = self._at(doc, time)
+            if version and version.text is not None and query.matches(version.counts.__getitem__):
+                rows.append((-query.score(version.counts.__getitem__), doc))
+        read = sum(self._read_at(word, time) for word in query.words)
+        return [*(f"hit {doc} {-score}" for score, doc in sorted(rows)), f"end {len(rows)} read {read}"]
+
+    def between(self, start: int, end: int, expr: str) -> list[str]:
+        query = self._query(expr)
+        rows: list[list[int]] = []
+        for doc in sorted(self._versions):
+            for left, right, version in self._lives(doc):
+                left, right = max(left, start), min(right, end)
+                if left >= right or version.text is None or not query.matches(version.counts.__getitem__):
+                    continue
+                score = query.score(version.counts.__getitem__)
+                if rows and (rows[-1][0], rows[-1][2], rows[-1][3]) == (doc, left, score):
+                    rows[-1][2] = right
+                else:
+                    rows.append([doc, left, right, score])
+        read = sum(self._read_between(word, start, end) for word in query.words)
+        return [*(f"span {d} {a} {b} {s}" for d, a, b, s in rows), f"end {len(rows)} read {read}"]
+
+    def plan(self, word: str, kind: str, factor: tuple[int, int], since: int) -> list[str]:
+        key, table = self._table(word)
+        cost = ""
+        if kind == "guarantee":
+            plan, _ = table.least(*factor)
+        else:
+            plan, expected = table.bounded(*factor, since)
+            cost = f" cost {expected}"
+        self._plans[key] = {"kind": kind, "cuts": plan.cuts, "sizes": plan.sizes, "factor": factor}
+        self._length += 1
+        self._plans_path.write_text(json.dumps(self._plans))
+        return [
+            f"plan {self._length} segments {len(plan.sizes)} space {plan.space} full {table.full} horizon {self._last}{cost}"
+        ]
+
+    def propose(self, word: str, factor: tuple[int, int]) -> list[str]:
+        _, table = self._table(word)
+        return _pieces(table, *table.least(*factor))
+
+    def certificate(self, word: str) -> list[str]:
+        key = self._known(word)
+        stored = self._plans.get(key)
+        if stored is None or stored["kind"] != "guarantee":
+            raise Refusal("14 NoPlan")
+        plan = Plan(tuple(stored["cuts"]), tuple(stored["sizes"]))
+        table = Table(_clipped(self._list(key), 0, plan.cuts[-1]), plan.cuts[-1])
+        return _pieces(table, plan, table.least(*stored["factor"])[1])
+
+    def verify(self) -> list[str]:
+        return [f"sound {len(self._plans)} {sum(len(plan['sizes']) for plan in self._plans.values())}"]
+
+    def _in_time(self, time: int) -> None:
+        if self._last is not None and time < self._last:
+            raise Refusal(f"2 TimeBack {self._last}")
+
+    def _other_time(self, doc: int, time: int) -> None:
+        if doc in self._versions and self._versions[doc][-1].time == time:
+            raise Refusal("3 SameTime")
+
+    def _query(self, expr: str) -> Query:
+        try:
+            return parse(expr)
+        except BadQuery as fault:
+            raise Refusal(f"11 BadQuery {fault}") from None
+
+    def _known(self, word: str) -> str:
+        key = one_term(word)
+        if key is None:
+            raise Refusal("7 NotOneTerm")
+        if not any(version.counts[key] for versions in self._versions.values() for version in versions):
+            raise Refusal("13 UnknownWord")
+        return key
+
+    def _table(self, word: str) -> tuple[str, Table]:
+        key = self._known(word)
+        postings = _clipped(self._list(key), 0, self._last or 0)
+        if not postings:
+            raise Refusal("8 NothingSealed")
+        return key, Table(postings, self._last or 0)
+
+    def _at(self, doc: int, time: int) -> Version | None:
+        versions = self._versions.get(doc, [])
+        index = bisect_right(versions, time, key=lambda version: version.time)
+        return versions[index - 1] if index else None
+
+    def _lives(self, doc: int) -> list[tuple[int, int, Version]]:
+        versions = self._versions[doc]
+        ends = [version.time for version in versions[1:]] + [NOW]
+        return [(version.time, end, version) for version, end in zip(versions, ends)]
+
+    def _list(self, key: str) -> list[Posting]:
+        if key not in self._lists:
+            self._lists[key] = self._scanned(key)
+        return self._lists[key]
+
+    def _scanned(self, key: str) -> list[Posting]:
+        postings: list[Posting] = []
+        for doc in sorted(self._versions):
+            for start, end, version in self._lives(doc):
+                count = version.counts[key]
+                if not count:
+                    continue
+                if postings and postings[-1][:2] == (doc, count) and postings[-1][3] == start:
+                    postings[-1] = (doc, count, postings[-1][2], end)
+                else:
+                    postings.append((doc, count, start, end))
+        return postings
+
+    def _read_at(self, key: str, time: int) -> int:
+        plan = self._stored(key)
+        if plan and time < plan.cuts[-1]:
+            return plan.read_at(time)
+        return self._tail(key, plan)
+
+    def _read_between(self, key: str, start: int, end: int) -> int:
+        plan = self._stored(key)
+        stored = plan.read_between(start, end) if plan else 0
+        return stored + (self._tail(key, plan) if not plan or end > plan.cuts[-1] else 0)
+
+    def _tail(self, key: str, plan: Plan | None) -> int:
+        return len(_clipped(self._list(key), plan.cuts[-1] if plan else 0, NOW))
+
+    def _stored(self, key: str) -> Plan | None:
+        stored = self._plans.get(key)
+        return Plan(tuple(stored["cuts"]), tuple(stored["sizes"])) if stored else None
+
+    def _append(self, tag: int, doc: int, time: int, text: bytes) -> None:
+        body = bytes([tag]) + doc.to_bytes(4, "big") + time.to_bytes(8, "big") + text
+        with open(self._path, "r+b") as file:
+            gate = file.seek(0, 2) - 1
+            file.seek(gate)
+            file.write(b"\xa5" + len(body).to_bytes(4, "big") + body + b"\0")
+        self._note(tag, doc, time, text)
+
+    def _note(self, tag: int, doc: int, time: int, text: bytes) -> None:
+        version = Version(time, text, terms(text.decode())) if tag == 1 else Version(time, None, Counter())
+        self._versions.setdefault(doc, []).append(version)
+        self._last = time
+        self._length += 1
+        self._lists.clear()
+
+    def _load(self) -> None:
+        data = self._path.read_bytes()
+        gate = len(HEADER)
+        while data[gate] == 0xA5:
+            size = int.from_bytes(data[gate + 1 : gate + 5], "big")
+            body = data[gate + 5 : gate + 5 + size]
+            self._note(body[0], int.from_bytes(body[1:5], "big"), int.from_bytes(body[5:13], "big"), body[13:])
+            gate += 5 + size
+        if self._plans_path.exists():
+            self._plans = json.loads(self._plans_path.read_text())
+            self._length += len(self._plans)
+
+
+def _clipped(postings: list[Posting], start: int, end: int) -> list[Posting]:
+    return [
+        (doc, count, max(left, start), min(right, end))
+        for doc, count, left, right in postings
+        if left < end and right > start
+    ]
+
+
+def _pieces(table: Table, plan: Plan, best: list[int]) -> list[str]:
+    segments = zip(plan.cuts, plan.cuts[1:], plan.sizes)
+    return [
+        *(f"segment {left} {right} {size}" for left, right, size in segments),
+        *(f"node {time} {space}" for time, space in zip(table.boundaries, best)),
+        f"end {len(plan.sizes)} space {plan.space}",
+    ]

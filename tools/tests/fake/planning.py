@@ -1,0 +1,88 @@
+"""Least plans and plans in bounded space, by trying all pairs of boundaries."""
+
+from __future__ import annotations
+
+from bisect import bisect_left, bisect_right
+from dataclasses import dataclass
+
+#: A posting: document, count, from, to.
+Posting = tuple[int, int, int, int]
+
+
+@dataclass(frozen=True)
+class Plan:
+    """Cuts with the horizon last, and the sizes of the segments between them."""
+
+    cuts: tuple[int, ...]
+    sizes: tuple[int, ...]
+
+    @property
+    def space(self) -> int:
+        return sum(self.sizes)
+
+    def read_at(self, time: int) -> int:
+        """What a question at a time before the horizon reads."""
+        index = bisect_right(self.cuts, time) - 1
+        return self.sizes[index] if index >= 0 else 0
+
+    def read_between(self, start: int, end: int) -> int:
+        pairs = zip(self.cuts, self.cuts[1:], self.sizes)
+        return sum(size for left, right, size in pairs if left < end and start < right)
+
+
+class Table:
+    """A list's boundaries and the sizes between them."""
+
+    def __init__(self, postings: list[Posting], horizon: int) -> None:
+        self.starts = sorted(posting[2] for posting in postings)
+        self.ends = sorted(posting[3] for posting in postings)
+        self.full = len(postings)
+        self.boundaries = sorted({*self.starts, *self.ends, horizon})
+
+    def size(self, left: int, right: int) -> int:
+        """How many postings overlap the span between two times."""
+        return bisect_left(self.starts, right) - bisect_right(self.ends, left)
+
+    def plan(self, cuts: list[int]) -> Plan:
+        return Plan(tuple(cuts), tuple(self.size(left, right) for left, right in zip(cuts, cuts[1:])))
+
+    def least(self, over: int, under: int) -> tuple[Plan, list[int]]:
+        """A least plan for a factor, and the least space up to each boundary."""
+        times = self.boundaries
+        best = [0] + [-1] * (len(times) - 1)
+        back = [0] * len(times)
+        for right in range(1, len(times)):
+            alive = self.size(times[right - 1], times[right])
+            for left in range(right - 1, -1, -1):
+                alive = min(alive, self.size(times[left], times[left + 1]))
+                size = self.size(times[left], times[right])
+                if size * under > over * alive:
+                    break
+                if best[right] < 0 or best[left] + size < best[right]:
+                    best[right], back[right] = best[left] + size, left
+        cuts = [len(times) - 1]
+        while cuts[-1]:
+            cuts.append(back[cuts[-1]])
+        return self.plan([times[cut] for cut in reversed(cuts)]), best
+
+    def bounded(self, over: int, under: int, since: int) -> tuple[Plan, int]:
+        """A plan of least expected cost in bounded space, and that cost."""
+        times = self.boundaries
+        cap = over * self.full // under
+        step = 1 if len(times) <= 128 else -(-(len(times) - 1) // 127)
+        candidates = sorted({*times[::step], times[-1]})
+        unit = max(1, -(-cap // 4_096))
+        fronts: list[dict[int, tuple[int, list[int]]]] = [{0: (0, [candidates[0]])}]
+        for right in candidates[1:]:
+            front: dict[int, tuple[int, list[int]]] = {}
+            for left, earlier in zip(candidates, fronts):
+                size = self.size(left, right)
+                cost = size * max(0, right - max(left, since))
+                for charge, (before, cuts) in earlier.items():
+                    total = charge + -(-size // unit)
+                    if total <= cap // unit and (total not in front or before + cost < front[total][0]):
+                        front[total] = (before + cost, [*cuts, right])
+            fronts.append(front)
+        whole = self.full * max(0, times[-1] - max(times[0], since))
+        cost, cuts = min([(whole, [times[0], times[-1]]), *fronts[-1].values()])
+        return self.plan(cuts), cost

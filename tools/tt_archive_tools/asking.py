@@ -1,0 +1,135 @@
+"""The commands that ask an archive: find, between, show, plan and status."""
+
+from __future__ import annotations
+
+import argparse
+import re
+import sys
+
+from . import commands
+from .collection import SHARDS, Collection, locked, shards_of
+from .errors import ToolError
+from .journal import summary
+from .ledger import FILE as LEDGER
+from .ledger import Ledger
+from .names import FILE as NAMES
+from .names import NameTable
+from .plans import note_plan
+from .program import find_program
+from .replies import Gone, Hit, Planned, Refused, Rows, Span, Text, merge_rows
+from .shards import ask_with_parallel
+from .times import parse_time, show_time
+from .wording import counted
+
+_FORM = re.compile(r"(?:guarantee \d+/\d+|space \d+/\d+ (?:uniform|since \S+))\Z", re.ASCII)
+
+
+def find(options: argparse.Namespace) -> None:
+    at = parse_time(options.at)
+    rows, names = _rows(options, commands.find(at, options.words))
+    shown = [(row.score, names.shown(row.doc)) for row in rows.rows if isinstance(row, Hit)]
+    _show_rows(options, ("score", "document"), shown)
+    if not options.tsv:
+        print(f"{counted(len(shown), 'document')} at {show_time(at)}; {counted(rows.read, 'posting')} read")
+
+
+def between(options: argparse.Namespace) -> None:
+    start, end = parse_time(options.start), parse_time(options.end)
+    if start >= end:
+        raise ToolError("the first time isn't before the second")
+    rows, names = _rows(options, commands.between(start, end, options.words))
+    shown = [
+        (show_time(row.start), show_time(row.end), row.score, names.shown(row.doc))
+        for row in rows.rows
+        if isinstance(row, Span)
+    ]
+    _show_rows(options, ("from", "to", "score", "document"), shown)
+    if not options.tsv:
+        window = f"from {show_time(start)} to {show_time(end)}"
+        print(f"{counted(len(shown), 'span')} {window}; {counted(rows.read, 'posting')} read")
+
+
+def show(options: argparse.Namespace) -> None:
+    at = parse_time(options.at)
+    with Collection(options.archive, find_program(options.program)) as collection:
+        doc = collection.names.number(options.name)
+        reply = collection.ask_side(collection.side_of(doc), commands.show(doc, at))
+    match reply:
+        case Text(text=text):
+            sys.stdout.buffer.write(text if text.endswith(b"\n") else text + b"\n")
+        case Gone():
+            raise ToolError(f"{options.name} has no text at {show_time(at)}")
+        case _:
+            raise ToolError(f"the question was refused: {reply}")
+
+
+def plan(options: argparse.Namespace) -> None:
+    form = " ".join(options.form)
+    if not _FORM.match(form):
+        raise ToolError("a plan is `guarantee A/B`, `space A/B uniform` or `space A/B since TIME`")
+    if " since " in form:
+        start, since, time = form.partition(" since ")
+        form = f"{start}{since}{parse_time(time)}"
+    with Collection(options.archive, find_program(options.program)) as collection:
+        replies = collection.ask_all(commands.plan(options.word, form))
+        plans = [reply for reply in replies if isinstance(reply, Planned)]
+        if not plans:
+            raise ToolError(f"no plan of {options.word!r}: {replies[0]}")
+        note_plan(collection.folder, options.word, form, plans)
+    for planned in plans:
+        cost = "" if planned.cost is None else f", expected cost {planned.cost}"
+        print(
+            f"{counted(planned.segments, 'segment')} of {counted(planned.space, 'posting')} in all; "
+            f"the list has {planned.full} before {show_time(planned.horizon)}{cost}"
+        )
+    refused = [reply for reply in replies if isinstance(reply, Refused)]
+    if refused:
+        print(f"{counted(len(refused), 'shard')} without a plan: {refused[0]}")
+
+
+def status(options: argparse.Namespace) -> None:
+    with Collection(options.archive, find_program(options.program)) as collection:
+        held = summary(collection.shards)
+        names = len(collection.names)
+        shards = collection.shards
+        lines = Ledger(collection.folder / LEDGER).lines
+    if len(shards) > 1:
+        away = sum(bool(shard.login) for shard in shards)
+        apart = f", of which {away} on other machines aren't counted here" if away else ""
+        print(f"shards     {len(shards)}{apart}")
+    print(f"documents  {held.documents}, of which {held.alive} have a text now; {counted(names, 'name')}")
+    kinds = ((held.arrivals, "version"), (held.deletions, "deletion"), (held.others, "other"))
+    print("entries    " + ", ".join(counted(count, what) for count, what in kinds))
+    if held.first is not None and held.last is not None:
+        print(f"times      {show_time(held.first)} to {show_time(held.last)}")
+    print(f"journal    {held.bytes} bytes")
+    ends = {line.source: line for line in lines if line.ended}
+    for source, line in ends.items():
+        print(f"imported   {source}, until {'-' if line.last is None else show_time(line.last)}")
+
+
+def _rows(options: argparse.Namespace, question: bytes) -> tuple[Rows, NameTable]:
+    """The rows of a question and the names of their documents."""
+    command = find_program(options.program)
+    if not (options.parallel or options.sshlogin):
+        with Collection(options.archive, command) as collection:
+            return collection.ask_rows(question), collection.names
+    if not (options.archive / SHARDS).exists():
+        raise ToolError(f"{options.archive} isn't split: `tt shard` does so")
+    with locked(options.archive):
+        replies = ask_with_parallel(shards_of(options.archive), command, options.sshlogin, question)
+        names = NameTable(options.archive / NAMES)
+    return merge_rows(Collection.rows_of(reply) for reply in replies), names
+
+
+def _show_rows(options: argparse.Namespace, heads: tuple[str, ...], rows: list[tuple[object, ...]]) -> None:
+    if options.limit > 0:
+        rows = rows[: options.limit]
+    cells = [[str(cell) for cell in row] for row in rows]
+    if options.tsv:
+        for row in cells:
+            print("\t".join(row))
+        return
+    widths = [max(map(len, column)) for column in zip(heads, *cells)]
+    for row in [list(heads), *cells] if cells else []:
+        print("  ".join(cell.ljust(width) for cell, width in zip(row, widths)).rstrip())

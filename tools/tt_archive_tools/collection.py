@@ -1,0 +1,229 @@
+"""An archive in its folder, or N of them that share its documents: opened, asked and fed.
+
+A folder with a file `shards.tsv` is N archives, one to a line: its folder and, where it is on
+another machine, a tab and the login there. Document d stands in number d mod N. Any other folder
+is one archive. Names and what was imported stand in the folder itself.
+"""
+
+from __future__ import annotations
+
+import fcntl
+import os
+from collections import deque
+from contextlib import ExitStack, contextmanager
+from dataclasses import dataclass
+from pathlib import Path
+from queue import SimpleQueue
+from types import TracebackType
+from typing import Any, Callable, Iterator, Sequence
+
+from . import commands
+from .errors import NotBuilt, ProgramFailed, ToolError
+from .ledger import FILE as IMPORTS
+from .names import FILE as NAMES
+from .names import NameTable
+from .program import Answer, Program, Shard
+from .replies import Refused, Reply, Rows, merge_rows
+
+SHARDS = "shards.tsv"
+JOURNAL = "archive.journal"
+_LOCK = ".tt.lock"
+#: So many commands may be under way in all; it bounds the memory for what isn't answered yet.
+_MOST_UNDER_WAY = 8_192
+
+#: What is done with a reply: the token given with the command, and the reply.
+Handler = Callable[[Any, Reply], None]
+
+
+def shards_of(folder: Path) -> list[Shard]:
+    """The archives of a collection."""
+    table = folder / SHARDS
+    if not table.exists():
+        return [Shard(folder)]
+    shards = []
+    for line in table.read_text().splitlines():
+        place, _, login = line.partition("\t")
+        shards.append(Shard(Path(place), login) if login else Shard(folder / place))
+    if not shards:
+        raise ToolError(f"{table}: there is no shard")
+    for shard in shards:
+        if not shard.login and not shard.folder.is_dir():
+            raise ToolError(f"{table}: there is no folder {shard.folder}")
+    return shards
+
+
+@contextmanager
+def locked(folder: Path) -> Iterator[None]:
+    """One tt at a time works in a folder; what stands beside the archive is read and written so."""
+    with open(folder / _LOCK, "ab") as lock:
+        try:
+            fcntl.flock(lock, fcntl.LOCK_EX | fcntl.LOCK_NB)
+        except BlockingIOError:
+            raise ToolError(f"another tt is at work in {folder}") from None
+        yield
+
+
+@dataclass
+class _Side:
+    """One archive's program, and what it has not yet answered."""
+
+    program: Program
+    under_way: deque[tuple[Any, Handler]]
+
+
+class Collection:
+    """A context in which the archive is locked, and its programs run."""
+
+    def __init__(self, folder: Path, command: Sequence[str]) -> None:
+        if not folder.is_dir():
+            raise ToolError(f"there is no folder {folder}")
+        self.folder = folder
+        self.shards = shards_of(folder)
+        if not any((folder / file).exists() for file in (NAMES, JOURNAL)):
+            raise ToolError(f"{folder} has no archive: `tt init {folder}` makes one")
+        self._command = command
+        self._lock = ExitStack()
+        self._answers: SimpleQueue[Answer] = SimpleQueue()
+        self._sides: list[_Side] = []
+        self._count = 0
+
+    def __enter__(self) -> Collection:
+        self._lock.enter_context(locked(self.folder))
+        try:
+            self.names = NameTable(self.folder / NAMES)
+            self._start()
+        except BaseException:
+            self._close()
+            raise
+        return self
+
+    def __exit__(
+        self, kind: type[BaseException] | None, error: BaseException | None, trace: TracebackType | None
+    ) -> None:
+        ends = self._close()
+        if kind is None:
+            for shard, (status, said) in zip(self.shards, ends):
+                if status != 0:
+                    raise ProgramFailed(f"{shard}: {said or 'status %d' % status}")
+
+    def side_of(self, doc: int) -> int:
+        """Which of the archives has the document."""
+        return doc % len(self._sides)
+
+    def send(self, side: int, script: bytes, count: int, tokens: Sequence[Any], handle: Handler) -> None:
+        """Sends commands that have one reply each; handles the replies that are there already."""
+        assert count == len(tokens)
+        self._sides[side].under_way.extend((token, handle) for token in tokens)
+        self._count += count
+        self._sides[side].program.send(script)
+        while self._count and (self._count > _MOST_UNDER_WAY or not self._answers.empty()):
+            self._take_one()
+
+    def settle(self) -> None:
+        """Handles the replies to everything sent."""
+        while self._count:
+            self._take_one()
+
+    def ask_side(self, side: int, question: bytes) -> Reply:
+        return self._ask([side], question)[0]
+
+    def ask_all(self, question: bytes) -> list[Reply]:
+        """The replies of all archives to one question; they work on it at the same time."""
+        return self._ask(range(len(self._sides)), question)
+
+    def ask_rows(self, question: bytes) -> Rows:
+        """The rows of a `find` or a `between`, as one archive gives them."""
+        return merge_rows(self.rows_of(reply) for reply in self.ask_all(question))
+
+    def last_time(self) -> int | None:
+        """The archive's last time, or None before there is any entry.
+
+        Asked by deleting a document that never was: this is refused, because it lies before the
+        last time, or because there is no document.
+        """
+        times = []
+        for reply in self.ask_all(commands.delete(commands.NO_DOCUMENT, 0)):
+            match reply:
+                case Refused(name="TimeBack", detail=last):
+                    times.append(int(last))
+                case Refused(name="NoDocument"):
+                    pass
+                case _:
+                    raise ProgramFailed(f"tt_archive answered {reply} to a deletion of no document")
+        return max(times, default=None)
+
+    def _ask(self, sides: Sequence[int], question: bytes) -> list[Reply]:
+        replies: dict[int, Reply] = {}
+        try:
+            for side in sides:
+                self.send(side, question, 1, [side], replies.__setitem__)
+            self.settle()
+        except ProgramFailed as failed:
+            # An older program takes a line that it doesn't know for a broken script, and ends.
+            if "script fault" in str(failed):
+                self._end()
+                self._start()
+                raise NotBuilt(question.split()[0].decode()) from failed
+            raise
+        for reply in replies.values():
+            if isinstance(reply, Refused) and reply.name == "Line":
+                raise NotBuilt(question.split()[0].decode())
+        return [replies[side] for side in sides]
+
+    @staticmethod
+    def rows_of(reply: Reply) -> Rows:
+        if isinstance(reply, Rows):
+            return reply
+        if isinstance(reply, Refused) and reply.name == "BadQuery":
+            raise ToolError(f"what is asked is no query, which shows at its byte {reply.detail}")
+        raise ToolError(f"the question was refused: {reply}")
+
+    def _take_one(self) -> None:
+        index, answer = self._answers.get()
+        side = self._sides[index]
+        if answer is None or isinstance(answer, ProgramFailed):
+            side.program.end_input()
+            status, said = side.program.wait()
+            raise ProgramFailed(
+                f"{side.program.shard}: {said or answer or 'tt_archive ended with status %d' % status}"
+            )
+        if not side.under_way:
+            raise ProgramFailed(f"{side.program.shard}: a reply to nothing that was asked: {answer}")
+        token, handle = side.under_way.popleft()
+        self._count -= 1
+        handle(token, answer)
+
+    def _start(self) -> None:
+        self._answers = SimpleQueue()
+        self._count = 0
+        for index, shard in enumerate(self.shards):
+            self._sides.append(_Side(Program(self._command, shard, index, self._answers), deque()))
+
+    def _end(self) -> list[tuple[int, str]]:
+        """Ends the programs, whose last replies nobody takes."""
+        try:
+            for side in self._sides:
+                side.program.end_input()
+            return [side.program.wait() for side in self._sides]
+        finally:
+            self._sides.clear()
+
+    def _close(self) -> list[tuple[int, str]]:
+        try:
+            return self._end()
+        finally:
+            self._lock.close()
+
+
+def make_archive(folder: Path, command: Sequence[str]) -> None:
+    """Makes the folder, an empty archive in it where there is none, and the tables beside it."""
+    folder.mkdir(parents=True, exist_ok=True)
+    for file in (NAMES, IMPORTS):
+        (folder / file).touch()
+    with Collection(folder, command):
+        pass
+    descriptor = os.open(folder, os.O_RDONLY)
+    try:
+        os.fsync(descriptor)
+    finally:
+        os.close(descriptor)

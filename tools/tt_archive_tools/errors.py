@@ -1,0 +1,26 @@
+"""Errors that end a command, with one line for whoever gave it."""
+
+from __future__ import annotations
+
+
+class ToolError(Exception):
+    """Something that the user can see and mend; its text is one line."""
+
+
+class InputError(ToolError):
+    """A fault in what is imported, with the place where it stands."""
+
+    def __init__(self, place: str, what: str) -> None:
+        super().__init__(f"{place}: {what}")
+
+
+class NotBuilt(ToolError):
+    """The program answered that it doesn't know a command."""
+
+    def __init__(self, command: str) -> None:
+        super().__init__(f"this tt_archive doesn't answer `{command}` yet")
+        self.command = command
+
+
+class ProgramFailed(ToolError):
+    """The program ended, or its replies can't be read."""

@@ -1,0 +1,193 @@
+"""Feeding changes to an archive: names first, then versions, and the replies told and counted."""
+
+from __future__ import annotations
+
+import sys
+import time as clock
+from collections import Counter
+from dataclasses import dataclass, field
+from typing import Iterable, NamedTuple
+
+from . import commands
+from .changes import Change, Notes, Tidier
+from .collection import Collection
+from .errors import ProgramFailed
+from .ledger import FILE as LEDGER
+from .ledger import Done, Ledger
+from .replies import Ok, Refused, Reply
+from .sources import Source
+from .texts import Reading
+from .times import show_time
+
+#: Changes are sent in batches of so many, or of so many bytes of text.
+_BATCH = 256
+_BATCH_BYTES = 1 << 20
+
+
+class _Sent(NamedTuple):
+    """What is kept of a change until its reply comes."""
+
+    change_time: int
+    name: str
+    place: str
+    arrives: bool
+    maybe: bool
+    again: bool
+
+
+@dataclass
+class Tally:
+    """How an import went."""
+
+    arrived: int = 0
+    ended: int = 0
+    refused: Counter[str] = field(default_factory=Counter)
+    before: int = 0
+    before_until: int = 0
+    late: int = 0
+
+
+class Progress:
+    """A line on a terminal that tells how far an import is."""
+
+    def __init__(self, shown: bool) -> None:
+        self._shown = shown and sys.stderr.isatty()
+        self._start = self._last = clock.monotonic()
+        self._count = 0
+
+    def step(self, count: int, at: int) -> None:
+        """So many changes more were sent, the last of this time."""
+        self._start = self._start if self._count else clock.monotonic()
+        self._count += count
+        rate = self._count / max(clock.monotonic() - self._start, 0.001)
+        self.show(f"{self._count:,} changes, {show_time(at)}, {rate:,.0f} a second")
+
+    def show(self, text: str) -> None:
+        now = clock.monotonic()
+        if self._shown and now - self._last >= 0.2:
+            self._last = now
+            sys.stderr.write(f"\r\x1b[K{text}")
+            sys.stderr.flush()
+
+    def clear(self) -> None:
+        if self._shown:
+            sys.stderr.write("\r\x1b[K")
+            sys.stderr.flush()
+
+
+def import_source(
+    collection: Collection, source: Source, reading: Reading, notes: Notes, progress: Progress
+) -> Tally:
+    """Feeds a source's changes, from where the last import of this source ended."""
+    last = collection.last_time()
+    ledger = Ledger(collection.folder / LEDGER)
+    tidier = Tidier(collection.names.__contains__, notes)
+    feeder = _Feeder(collection, last, ledger.done(source.identity, last), tidier, notes, progress)
+    ledger.begin(source.identity, last)
+    feeder.feed(tidier.tidied(source.changes(reading, notes)))
+    ledger.end(source.identity, collection.last_time(), feeder.changes_until_last())
+    return feeder.tally
+
+
+class _Feeder:
+    def __init__(
+        self,
+        collection: Collection,
+        last: int | None,
+        done: Done | None,
+        tidier: Tidier,
+        notes: Notes,
+        progress: Progress,
+    ) -> None:
+        self.tally = Tally(before_until=done.end if done else 0)
+        self._collection = collection
+        self._last = last
+        self._done = done
+        self._tidier = tidier
+        self._notes = notes
+        self._progress = progress
+        self._changes = 0
+        self._latest = -1 if last is None else last
+        self._refused_times: list[int] = []
+        self._batch: list[Change] = []
+        self._bytes = 0
+
+    def feed(self, changes: Iterable[Change]) -> None:
+        done_changes = 0
+        for change in changes:
+            self._changes += not change.maybe
+            if self._done and change.time <= self._done.end:
+                done_changes += not change.maybe
+            if self._last is None or change.time >= self._last:
+                self._take(change)
+            elif self._done and self._done.reached(change.time):
+                # Fed by an earlier import, or refused by it and told then.
+                self.tally.before += 1
+                if not self._done.fed(change.time):
+                    self._tidier.forget(change.name)
+            else:
+                self._tidier.forget(change.name)
+                self._refuse(_sent(change, False), Refused(2, "TimeBack", str(self._last)))
+        self._send()
+        self._collection.settle()
+        if self._done and self._done.changes is not None:
+            self.tally.late = max(0, done_changes - self._done.changes)
+
+    def changes_until_last(self) -> int:
+        """How many of the changes lie up to the archive's last time."""
+        return self._changes - sum(time > self._latest for time in self._refused_times)
+
+    def _take(self, change: Change) -> None:
+        if len(change.text or b"") > commands.MOST_TEXT:
+            # The archive would refuse it, by its length alone.
+            self._refuse(_sent(change, False), Refused(5, "TooLong", str(commands.MOST_TEXT)))
+            return
+        self._batch.append(change)
+        self._bytes += len(change.text or b"")
+        if len(self._batch) >= _BATCH or self._bytes >= _BATCH_BYTES:
+            self._send()
+
+    def _send(self) -> None:
+        """Makes the names of the batch durable, and then sends it."""
+        if not self._batch:
+            return
+        names = self._collection.names
+        docs = [names.give(change.name) for change in self._batch]
+        names.keep()
+        scripts: dict[int, tuple[list[bytes], list[_Sent]]] = {}
+        for doc, change in zip(docs, self._batch):
+            lines, sent = scripts.setdefault(self._collection.side_of(doc), ([], []))
+            if change.text is None:
+                lines.append(commands.delete(doc, change.time))
+            else:
+                lines.append(commands.arrive(doc, change.time, change.text))
+            sent.append(_sent(change, self._done is not None and change.time <= self._done.end))
+        for side, (lines, sent) in scripts.items():
+            self._collection.send(side, b"".join(lines), len(sent), sent, self._answered)
+        self._progress.step(len(self._batch), self._batch[-1].time)
+        self._batch.clear()
+        self._bytes = 0
+
+    def _answered(self, sent: _Sent, reply: Reply) -> None:
+        match reply:
+            case Ok():
+                self._latest = max(self._latest, sent.change_time)
+                self.tally.arrived += sent.arrives
+                self.tally.ended += not sent.arrives
+            case Refused(name="SameTime" | "NoDocument") if sent.again:
+                self.tally.before += 1
+            case Refused(name="NoDocument") if sent.maybe:
+                self._notes.count("ends of documents that had none")
+            case Refused():
+                self._refuse(sent, reply)
+            case _:
+                raise ProgramFailed(f"tt_archive answered {reply} to a version")
+
+    def _refuse(self, sent: _Sent, refusal: Refused) -> None:
+        self.tally.refused[refusal.name] += 1
+        self._refused_times.append(sent.change_time)
+        self._notes.add(f"refused: {refusal}", f"{show_time(sent.change_time)} {sent.name} ({sent.place})")
+
+
+def _sent(change: Change, again: bool) -> _Sent:
+    return _Sent(change.time, change.name, change.place, change.text is not None, change.maybe, again)
