@@ -1,5 +1,7 @@
 //! Scripts that are broken: the place, and what was carried out before it.
-use crate::rig::{FIRST_JOURNAL, FIRST_SCRIPT, NEW_JOURNAL, join, make_machine, read_journal, run_on};
+use crate::rig::{
+    FIRST_JOURNAL, FIRST_SCRIPT, NEW_JOURNAL, join, make_machine, read_journal, run_on,
+};
 use archive_shell::Status;
 use std::alloc::Global;
 use std::process::Abort;
@@ -29,7 +31,9 @@ fn expect_broken(rt: &impl Abort, alloc: Global, bytes: &[u8], place: u64) -> Re
 }
 
 #[test]
-fn an_arrival_that_is_none_breaks_the_script_at_its_first_byte(rt: HostRuntime) -> Result<(), Fail> {
+fn an_arrival_that_is_none_breaks_the_script_at_its_first_byte(
+    rt: HostRuntime,
+) -> Result<(), Fail> {
     let alloc = rt.alloc();
     for item in [
         b"arrive 4294967296 10 5\nred a\n".as_slice(),

@@ -295,9 +295,11 @@ stopped history old now sink disk archive archive_new held held_now before item 
 
     before_it : EachStands disk (last_state history serving.turns) → (j : ℕ) × (j ≤ length (serving.turns ++ out.turn ∷ [])) × EachStands disk (state_after history (serving.turns ++ out.turn ∷ []) j)
     before_it each =
-        let E : History → Type 0 = λ h. EachStands disk h in
-        (length serving.turns, omega (arith, length-append serving.turns (out.turn ∷ [])),
-        subst E (sym (state_after_front history serving.turns (out.turn ∷ []) (length serving.turns) (omega arith) ∙ state_after_all history serving.turns)) each)
+        let E : History → Type 0 = λ h. EachStands disk h in (
+          length serving.turns,
+          omega (arith, length-append serving.turns (out.turn ∷ [])),
+          subst E (sym (state_after_front history serving.turns (out.turn ∷ []) (length serving.turns) (omega arith) ∙ state_after_all history serving.turns)) each,
+        )
 
     after_it : EachStands disk out.turn.next → (j : ℕ) × (j ≤ length (serving.turns ++ out.turn ∷ [])) × EachStands disk (state_after history (serving.turns ++ out.turn ∷ []) j)
     after_it each =

@@ -45,13 +45,13 @@ pub fn run<M: Machine>(alloc: Global, words: &[String], machine: &mut M) -> Stat
     // Such bytes are left as they are: they are synced and read, and nothing is pulled, shown or written.
     ensures left_alone { M.disk_tells → length words.now ≡ 0 → (at : ℕ) → IsNotArchive (M.disk machine.old).holds at →
         (M.source machine.new ≡ M.source machine.old) × (M.sink machine.new ≡ M.sink machine.old)
-            × Syncs (M.disk machine.old) (M.disk machine.new) }
+        × Syncs (M.disk machine.old) (M.disk machine.new) }
     // From the history that the journal stands for: one run of the abstract machine over the items of the bytes pulled, what is shown of it
     // and when, what each image left at any moment stands for, and where the input stood.
     ensures headline { M.source_tells → M.sink_tells → M.disk_tells → length words.now ≡ 0 → (h : History) → Stands h (M.disk machine.old).holds →
         (pulls : List Pull) × M.asked machine.old pulls machine.new
-            × Headline h result (record { source = M.source machine.old; sink = M.sink machine.old; disk = M.disk machine.old })
-            (record { source = M.source machine.new; sink = M.sink machine.new; disk = M.disk machine.new }) pulls }
+        × Headline h result (record { source = M.source machine.old; sink = M.sink machine.old; disk = M.disk machine.old })
+        (record { source = M.source machine.new; sink = M.sink machine.new; disk = M.disk machine.new }) pulls }
     // Where nothing is wrong, the run comes to the end of the input, unless memory runs out.
     ensures complete { M.source_tells → M.sink_tells → M.disk_tells → length words.now ≡ 0 →
         ((at : ℕ) → IsNotArchive (M.disk machine.old).holds at → ⊥) →

@@ -71,10 +71,10 @@ pub(crate) fn serve<M: Machine>(
     ensures no_load { (at : ℕ) → result ≡ Status.NotArchive at → ⊥ }
     ensures served { M.source_tells → M.sink_tells → M.disk_tells → (h : History) →
         Serving h (record { source = M.source machine.old; sink = M.sink machine.old; disk = M.disk machine.old })
-            (record { source = M.source machine.old; sink = M.sink machine.old; disk = M.disk machine.old }) archive.old reader.old [] →
+        (record { source = M.source machine.old; sink = M.sink machine.old; disk = M.disk machine.old }) archive.old reader.old [] →
         (pulls : List Pull) × M.asked machine.old pulls machine.new
-            × Serves h result (record { source = M.source machine.old; sink = M.sink machine.old; disk = M.disk machine.old })
-            (record { source = M.source machine.new; sink = M.sink machine.new; disk = M.disk machine.new }) pulls }
+        × Serves h result (record { source = M.source machine.old; sink = M.sink machine.old; disk = M.disk machine.old })
+        (record { source = M.source machine.new; sink = M.sink machine.new; disk = M.disk machine.new }) pulls }
 {
     'items: loop {
         match step(alloc, machine, reader, archive, page) {
