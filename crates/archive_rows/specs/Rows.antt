@@ -45,8 +45,13 @@ words : (query_of (codes "RED") ≡ Some (Word (codes "red"))) × (query_of (cod
 unfolding ucd_category caseless unicode_normalization chars encode
 words = (refl, refl)
 
-no_words : (query_of (codes "and") ≡ None) × (query_of (codes "red blue") ≡ None) × (query_of (codes "e-mail") ≡ None)
+no_words : (query_of (codes "and") ≡ None) × (query_of (codes "red blue") ≡ None) × (query_of (codes "(red)") ≡ None)
 no_words = (refl, refl, refl)
+
+-- one word, with a mark behind it, and two words
+marks : (query_of (codes "red.") ≡ Some (Word (codes "red"))) × (query_of (codes "e-mail") ≡ None)
+unfolding ucd_category caseless unicode_normalization chars encode
+marks = (refl, refl)
 
 -- the word is there from the version's time on
 frequencies : (frequency_at one_arrival (codes "red") (doc 7) 9 ≡ 0) × (frequency_at one_arrival (codes "red") (doc 7) 10 ≡ 1) × (frequency_at one_arrival (codes "moon") (doc 7) 10 ≡ 0)

@@ -56,7 +56,7 @@ fn rows_come_by_score_and_then_by_document(rt: HostRuntime) -> Result<(), Fail> 
 }
 
 #[test]
-fn a_word_is_letters_and_digits_in_any_case(rt: HostRuntime) -> Result<(), Fail> {
+fn a_word_is_found_in_any_case_and_script(rt: HostRuntime) -> Result<(), Fail> {
     let rows = [
         Row {
             script: b"arrive 7 10 12\nRed RED red2\nfind 10 red\nfind 10 RED\nfind 10 Red2\nfind 10 re\n",
@@ -68,7 +68,11 @@ fn a_word_is_letters_and_digits_in_any_case(rt: HostRuntime) -> Result<(), Fail>
         },
         Row {
             script: b"arrive 7 10 9\nred blue.\nfind 10 red blue\nfind 10 red.\nfind 10 e-mail\nfind 10 (red)\nfind 10 blue\n",
-            replies: b"ok 1\nno 11 BadQuery 0\nno 11 BadQuery 0\nno 11 BadQuery 0\nno 11 BadQuery 0\nhit 7 1\nend 1 read 1\n",
+            replies: b"ok 1\nno 11 BadQuery 0\nhit 7 1\nend 1 read 1\nno 11 BadQuery 0\nno 11 BadQuery 0\nhit 7 1\nend 1 read 1\n",
+        },
+        Row {
+            script: b"arrive 7 10 7\nStra\xc3\x9fe\nfind 10 STRASSE\nfind 10 stra\xc3\x9fe\nfind 10 Strase\n",
+            replies: b"ok 1\nhit 7 1\nend 1 read 1\nhit 7 1\nend 1 read 1\nend 0 read 0\n",
         },
         Row {
             script: b"arrive 7 10 0\n\narrive 8 10 1\na\nfind 10 a\nshow 7 10\nshow 8 10\n",

@@ -1,6 +1,6 @@
 //! Queries as they are written.
 ghost use Rattle.std.specs.Prelude.{◌≡◌, ℕ, Some, None, IfOk, IsErrOf};
-ghost use Rattle.query_eval.specs.Queries.{Word, is_operator, is_plain_word, query_of};
+ghost use Rattle.query_eval.specs.Queries.{Word, is_letter, is_operator, is_plain_word, query_of};
 
 use fold_tokens::one_term;
 use std::alloc::{AllocError, Global};
@@ -45,8 +45,9 @@ impl From<AllocError> for QueryError {
 }
 
 impl Query {
-    /// The query that a text spells: 1 to 255 letters and digits of ASCII that are no operator
-    /// (`and`, `or`, `not`, in lower case). Its cost grows with the length of the text.
+    /// The query that a text spells: a word in any script, without spaces and parentheses, that is
+    /// no operator (`and`, `or`, `not`, in lower case) and whose key has 1 to 255 bytes. Its cost
+    /// grows with the length of the text.
     pub fn read(alloc: Global, text: &str) -> Result<Query, QueryError>
         ensures query { IfOk result (λ q. query_of text.now ≡ Some q) }
         ensures bad { (at : ℕ) → IsErrOf result (QueryError.BadQuery at)
@@ -69,12 +70,19 @@ impl Query {
     }
 }
 
-/// Whether the text is letters and digits of ASCII and no operator. Its cost grows with the length
-/// of the text.
+/// Whether the text has no space and no parenthesis, and is no operator. Its cost grows with the
+/// length of the text.
 fn is_plain_word(text: &str) -> bool
     ensures { result ≡ is_plain_word text.now }
 {
-    text.bytes().all(|b| b.is_ascii_alphanumeric()) && !is_operator(text)
+    text.bytes().all(|b| is_letter(b)) && !is_operator(text)
+}
+
+/// Whether the byte is other than a space and the parentheses. Constant cost.
+fn is_letter(byte: u8) -> bool
+    ensures { result ≡ is_letter byte }
+{
+    !(byte == b' ' || byte == b'(' || byte == b')')
 }
 
 /// Whether the text is the word of an operator. Constant cost.
