@@ -5,6 +5,7 @@ pub mod FieldLemmas
 pub mod LayoutLemmas
 pub mod FlatLemmas
 pub mod NumberLemmas
+pub mod NumberReading
 pub mod BlockLemmas
 pub mod WriteLemmas
 pub mod BlockLaws

@@ -2,7 +2,7 @@
 use Rattle.std.specs.Prelude.{◌≡◌, ℕ, zero, suc, ◌+◌, ◌-◌, ◌*◌, ◌/◌, ◌%◌, ◌^◌, ◌<◌, ◌≤◌, false, cond, nat_lt, ◌==◌, List, [], ◌∷◌, ◌++◌, length, Option, Some, None, refl}
 use Rattle.std.proofs.Common.{sym, ap, subst, ◌∙◌, arith, append_assoc, inl, inr}
 use Rattle.std.proofs.lemmas.Bool.{cases_lt, lt-ltb, le-ltb, eqb-false, ne_eqb}
-use Rattle.std.proofs.Math.Nat.{pow-succ', pow-le-pow_right, one-le-pow}
+use Rattle.std.proofs.Math.Nat.{pow-succ', one-le-pow}
 use Rattle.sublist_codec.proofs.Steps.{guard_some}
 use Rattle.sublist_codec.proofs.Bytes.{IsBytes}
 use Rattle.sublist_codec.specs.Numbers.{number_bytes, with_low, number_at}
@@ -19,14 +19,8 @@ pub record IsWritten (old : List ℕ) (number : ℕ) (out : List ℕ) (rest : �
 pow_one_more : (most : ℕ) → 0 < most → 128 ^ most ≡ 128 * 128 ^ (most - 1)
 pow_one_more most some = let e : most ≡ suc (most - 1) = omega arith in ap (λ k. 128 ^ k) e ∙ pow-succ' 128 (most - 1)
 
-pub low_bound : (most low : ℕ) → 0 < most → low < 128 → low < 128 ^ most
+low_bound : (most low : ℕ) → 0 < most → low < 128 → low < 128 ^ most
 low_bound most low some lt = omega (arith, pow_one_more most some, one-le-pow (most - 1) 128 (omega arith))
-
-pub high_bound : (most low high : ℕ) → 0 < most → low < 256 → high < 128 ^ (most - 1) → low - 128 + 128 * high < 128 ^ most
-high_bound most low high some lt fits = omega (arith, pow_one_more most some)
-
-pub within_bound : (most n : ℕ) → most ≤ 6 → n < 128 ^ most → n < 2 ^ 42
-within_bound most n le lt = omega (arith, pow-le-pow_right {n = 128} (omega arith) {i = most} {j = 6} le)
 
 -- ---- writing
 

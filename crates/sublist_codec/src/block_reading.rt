@@ -12,7 +12,7 @@ ghost use Rattle.sublist_codec.specs.Decoding.{OrMemory};
 
 use crate::error::{ListError, ReadError};
 use crate::head::{BlockHead, HEAD_BYTES, head_front, may_lead};
-use crate::numbers::{MOST_NUMBER_BYTES, number_within};
+use crate::numbers::number_front;
 use std::alloc::Global;
 use time_base::{DocId, NOW, Posting, Span};
 
@@ -32,7 +32,7 @@ fn number_in(least: u64, limit: u64, bytes: &[u8]) -> Result<(u64, &[u8]), ReadE
     ensures least { IfOk result (λ x. least ≤ x.0) }
     ensures limit { IfOk result (λ x. x.0 < limit) }
 {
-    let Some((number, rest)) = number_within(MOST_NUMBER_BYTES, bytes) else {
+    let Some((number, rest)) = number_front(bytes) else {
         return Err(fault(bytes));
     };
     if least <= number && number < limit {
