@@ -1,5 +1,5 @@
 -- What parts tell of documents, and the answer that is made of it.
-use Rattle.std.proofs.Common.{option_to_list, ◌≡◌, ◌≢◌, ◌⊎◌, ℕ, zero, suc, ◌+◌, ◌<◌, ◌==◌, ◌&&◌, Bool, true, false, cond, List, [], ◌∷◌, ◌++◌, length, map, take, drop, get_or, filter, sum_by, All, Contains, Option, Some, None, refl, sym, ap, subst, ◌∙◌, arith, inl, inr, add-one, if◌then◌else◌}
+use Rattle.std.proofs.Common.{option_to_list, ◌≡◌, ◌≢◌, ◌⊎◌, ◌↔◌, ℕ, zero, suc, ◌+◌, ◌<◌, ◌==◌, ◌&&◌, Bool, true, false, cond, List, [], ◌∷◌, ◌++◌, length, map, take, drop, get_or, filter, sum_by, All, Contains, Option, Some, None, refl, sym, ap, subst, ◌∙◌, arith, inl, inr, add-one, if◌then◌else◌}
 use Rattle.std.proofs.lemmas.Bool.{eq-eqb, eqb-true}
 use Rattle.std.proofs.lemmas.Bool.Decides.{nat_tests, eqb_tells}
 use Rattle.std.proofs.lemmas.List.{get_or-map, length-map, same_lists, take_more}
@@ -7,7 +7,7 @@ use Rattle.std.proofs.lemmas.List.Elements.{filter-append, filter_map-append}
 use Rattle.std.proofs.lemmas.List.Sums.{sum_by-cons}
 use Rattle.std.proofs.lemmas.List.Sorted.{Contains-permutation, IsPermutation-sym}
 use Rattle.std.specs.List.{filter_map, cons_option, AllByRecursion, IsDistinct}
-use Rattle.std.specs.List.Sorted.{IsPermutation, IsSortedBy}
+use Rattle.std.specs.List.Sorted.{IsPermutation}
 use Rattle.std.specs.Ordering.{is_lt, nat_cmp, ordering_then}
 use Rattle.std.specs.Str.{bytes_eq}
 use Rattle.time_base.specs.declared.ids.DocId.{DocId}
@@ -18,13 +18,13 @@ use Rattle.postings.proofs.Order.{Heads, next-cons}
 use Rattle.query_lang.specs.Grammar.{Query}
 use Rattle.query_lang.specs.Meaning.{matches, words_of, is_positive, score}
 use Rattle.query_lang.proofs.Deciding.{agreeing, matches-same, score-same}
-use Rattle.query_eval.specs.Answers.{RanksBefore, AreRanked}
-use Rattle.query_eval.specs.Found.{told, row_of, same_row, once, IsAnswerOf}
+use Rattle.query_eval.specs.Answers.{RanksBefore, AreRanked, IsRow, IsAnswer}
+use Rattle.query_eval.specs.Found.{told, row_of, same_row, once, AreSorted}
 use Rattle.query_eval.specs.Hits.{hit_of, hits_in, gathered, is_of, hits_of, found}
 use Rattle.query_eval.specs.declared.answer.Row.{Row}
 use Rattle.query_eval.specs.declared.hit.Hit.{Hit}
 use Rattle.query_eval.specs.declared.part.Part.{Part}
-use Rattle.query_eval.proofs.Ranks.{same-row, in-order, here, later, here-or-later, none}
+use Rattle.query_eval.proofs.Ranks.{same-row, in-order, in_order, here, later, here-or-later, none}
 
 -- a place of a list by any default
 pub get-any : {X : Type 0} (xs : List X) (k : ℕ) (d e : X) → k < length xs → get_or xs k d ≡ get_or xs k e
@@ -230,20 +230,35 @@ row-is query often doc row e = go (matches query often) refl e
         (ap (λ (x : Row). x.doc) same, m, sym (ap (λ (x : Row). x.score) same))
     go false m e = absurd cc
 
+-- the rows made of documents are those of the answer
+made-rows : (alive : List DocId) (often : DocId → List ℕ → ℕ) (query : Query) (row : Row) → Contains (filter_map (λ doc. row_of query (often doc) doc) alive) row ↔ IsRow (λ doc. Contains alive doc) often query row
+made-rows alive often query row = (
+  λ c.
+      let (doc, k, e) = made-from (λ doc. row_of query (often doc) doc) row alive c in
+      let (d, t, n) = row-is query (often doc) doc row e in
+      record { alive = subst (λ x. Contains alive x) d k; matching = subst (λ x. matches query (often x) ≡ true) d t; scored = subst (λ x. row.score ≡ score query (often x)) d n },
+  λ r.
+      let e : row_of query (often row.doc) row.doc ≡ Some row = sym (row-some query (often row.doc) row.doc row.score r.matching r.scored) in
+      made-in (λ doc. row_of query (often doc) doc) row row.doc alive r.alive e,
+)
+
+-- in some order they are the answer
+pub each-answer : (alive : List DocId) (often : DocId → List ℕ → ℕ) (query : Query) → (rows : List Row) × IsAnswer (λ doc. Contains alive doc) often query rows
+each-answer alive often query =
+    let (rows, o) = in_order (filter_map (λ doc. row_of query (often doc) doc) alive) in
+    (rows, record { ranked = o.ranked; each = λ row. (λ c. (made-rows alive often query row).0 ((o.each row).0 c), λ r. (o.each row).1 ((made-rows alive often query row).1 r)) })
+
 -- what a sort by score, downwards, and then by document makes of the rows is the answer, without repeats
 pub answer-is : (alive : List DocId) (often : DocId → List ℕ → ℕ) (query : Query) (made sorted rows : List Row) → made ≡ filter_map (λ doc. row_of query (often doc) doc) alive → IsPermutation made sorted
-    → IsSortedBy (λ x y. is_lt (ordering_then (nat_cmp y.score x.score) (nat_cmp x.doc.0 y.doc.0))) sorted → rows ≡ once sorted → IsAnswerOf (λ doc. Contains alive doc) often query rows
+    → AreSorted sorted → rows ≡ once sorted → IsAnswer (λ doc. Contains alive doc) often query rows
 answer-is alive often query made sorted rows m p s o = record {
   ranked = subst AreRanked (sym o) (ranked-once sorted (λ k d i b. backwards (get_or sorted k d) (get_or sorted (suc k) d) (rw add-one at (s k d (omega arith) (omega (arith, i)))) b));
   each = λ row. (
     λ c.
         let made_row = subst (λ l. Contains l row) m (Contains-permutation sorted made row (IsPermutation-sym _ _ p) (once-from row sorted (subst (λ l. Contains l row) o c))) in
-        let (doc, k, e) = made-from (λ doc. row_of query (often doc) doc) row alive made_row in
-        let (d, t, n) = row-is query (often doc) doc row e in
-        record { alive = subst (λ x. Contains alive x) d k; matching = subst (λ x. matches query (often x) ≡ true) d t; scored = subst (λ x. row.score ≡ score query (often x)) d n },
+        (made-rows alive often query row).0 made_row,
     λ r.
-        let e : row_of query (often row.doc) row.doc ≡ Some row = sym (row-some query (often row.doc) row.doc row.score r.matching r.scored) in
-        let made_row = made-in (λ doc. row_of query (often doc) doc) row row.doc alive r.alive e in
+        let made_row = (made-rows alive often query row).1 r in
         subst (λ l. Contains l row) (sym o) (once-in row sorted (Contains-permutation made sorted row p (subst (λ l. Contains l row) (sym m) made_row))),
   );
 }

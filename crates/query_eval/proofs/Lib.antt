@@ -1,4 +1,3 @@
-pub mod Answering
 pub mod CallLemmas
 pub mod FoundLemmas
 pub mod GivenLemmas
@@ -6,3 +5,4 @@ pub mod HitLemmas
 pub mod HitPlaces
 pub mod Ranks
 pub mod Sorting
+pub mod HasHitLemmas

@@ -1,5 +1,5 @@
 -- The order of rows: which rows there are has one list in their order.
-use Rattle.std.specs.Prelude.{◌≡◌, ◌⊎◌, ℕ, zero, suc, ◌≢◌, ◌<◌, ◌↔◌, List, [], ◌∷◌, length, get_or, Contains, refl}
+use Rattle.std.specs.Prelude.{◌≡◌, ◌⊎◌, zero, suc, ◌↔◌, List, [], ◌∷◌, Contains, refl}
 use Rattle.std.proofs.Common.{arith, ap, sym, ◌∙◌, subst, inl, inr}
 use Rattle.std.proofs.lemmas.Bool.{cases_lt}
 use Rattle.postings.proofs.Order.{Heads, next-tail, next-cons, next-later}
@@ -115,18 +115,3 @@ one_order (x ∷ xs) (y ∷ ys) a b s = go (here-or-later y x ys ((s x).0 (here 
     go (inl e) d rest = joined (sym e) rest
     go (inr c) (inl e) rest = joined e rest
     go (inr c) (inr d) rest = absurd (never-both x y (next-later RanksBefore ranks-trans x y xs a d) (next-later RanksBefore ranks-trans y x ys b c))
-
--- in order by score and then by document, of which no two are one, is in order
-pub ranked-sorted : (rows : List Row) → ((k : ℕ) (d : Row) → suc k < length rows → RanksBefore (get_or rows (suc k) d) (get_or rows k d) → ⊥)
-    → ((k : ℕ) (d : Row) → suc k < length rows → (get_or rows k d).doc.0 ≢ (get_or rows (suc k) d).doc.0) → AreRanked rows
-ranked-sorted [] s n = tt
-ranked-sorted (x ∷ []) s n = tt
-ranked-sorted (x ∷ y ∷ ys) s n = (
-  first (in-order x y) (s 0 x (omega arith)) (n 0 x (omega arith)),
-  ranked-sorted (y ∷ ys) (λ k d l. s (suc k) d (omega (arith, l))) (λ k d l. n (suc k) d (omega (arith, l))),
-)
-  where
-    first : RanksBefore x y ⊎ ((x ≡ y) ⊎ RanksBefore y x) → (RanksBefore y x → ⊥) → x.doc.0 ≢ y.doc.0 → RanksBefore x y
-    first (inl b) s n = b
-    first (inr (inl e)) s n = absurd (n (ap (λ (r : Row). r.doc.0) e))
-    first (inr (inr a)) s n = absurd (s a)

@@ -1,11 +1,12 @@
--- What the answer to a query is, by the parts of lists that were had.
-use Rattle.std.specs.Prelude.{◌≡◌, ◌↔◌, ℕ, ◌&&◌, ◌==◌, Bool, true, if◌then◌else◌, List, [], ◌∷◌, Option, Some, None, Contains}
+-- What the parts of lists that were had say of documents, and the rows that come of it.
+use Rattle.std.specs.Prelude.{ℕ, ◌<◌, ◌&&◌, ◌==◌, Bool, if◌then◌else◌, List, [], ◌∷◌, length, get_or, Option, Some, None}
+use Rattle.std.specs.List.Sorted.{IsSortedBy}
+use Rattle.std.specs.Ordering.{is_lt, nat_cmp, ordering_then}
 use Rattle.std.specs.Str.{bytes_eq}
 use Rattle.time_base.specs.declared.ids.DocId.{DocId}
 use Rattle.postings.specs.Lists.{frequency}
 use Rattle.query_lang.specs.Grammar.{Query}
 use Rattle.query_lang.specs.Meaning.{matches, score}
-use Rattle.query_eval.specs.Answers.{AreRanked}
 use Rattle.query_eval.specs.declared.answer.Row.{Row}
 use Rattle.query_eval.specs.declared.part.Part.{Part}
 
@@ -15,16 +16,11 @@ told [] parts t d word = 0
 told (w ∷ words) [] t d word = 0
 told (w ∷ words) (part ∷ parts) t d word = if bytes_eq w word then frequency d t part.list.items else told words parts t d word
 
--- A document that is alive and matches has this row. Which documents are alive, and how often each has each word, is given.
-pub record IsRowOf (IsAlive : DocId → Type 0) (often : DocId → List ℕ → ℕ) (query : Query) (row : Row) : Type 0 where
-  pub alive : IsAlive row.doc
-  pub matching : matches query (often row.doc) ≡ true
-  pub scored : row.score ≡ score query (often row.doc)
-
--- the answer to a query: the rows of the documents that are alive and match, and no others, the highest score first and of one score by document
-pub record IsAnswerOf (IsAlive : DocId → Type 0) (often : DocId → List ℕ → ℕ) (query : Query) (rows : List Row) : Type 0 where
-  pub ranked : AreRanked rows
-  pub each : (row : Row) → (Contains rows row ↔ IsRowOf IsAlive often query row)
+-- a document has one of the words at a time, by the parts that were answered for them
+pub record HasHit (words : List (List ℕ)) (parts : List Part) (t : ℕ) (doc : DocId) : Type 0 where
+  pub place : ℕ
+  pub within : place < length words
+  pub some : 0 < told words parts t doc.0 (get_or words place [])
 
 -- the row of a document, where it matches
 abbrev pub row_of : Query → (List ℕ → ℕ) → DocId → Option Row
@@ -39,3 +35,7 @@ abbrev pub once : List Row → List Row
 once [] = []
 once (x ∷ []) = x ∷ []
 once (x ∷ y ∷ rows) = if same_row x y then once (y ∷ rows) else x ∷ once (y ∷ rows)
+
+-- rows by score, downwards, and then by document
+abbrev pub AreSorted : List Row → Type 0
+AreSorted rows = IsSortedBy (λ x y. is_lt (ordering_then (nat_cmp y.score x.score) (nat_cmp x.doc.0 y.doc.0))) rows

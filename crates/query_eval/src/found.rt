@@ -1,11 +1,11 @@
 //! Answers to queries over any lists.
 ghost use Rattle.std.specs.Prelude.{option_to_list, ◌++◌, OnOk, ◌≡◌, ◌<◌, ◌≤◌, ◌+◌, ◌∷◌, if◌then◌else◌, drop, ℕ, List, [], Ok, length, Contains, IfOk, IsErrOf};
 ghost use Rattle.std.specs.List.{filter_map, slice_index_or};
-ghost use Rattle.std.specs.List.Sorted.{IsNonDecreasingBy};
+ghost use Rattle.std.specs.List.Sorted.{IsNonDecreasingBy, IsPermutation};
 ghost use Rattle.query_lang.specs.Meaning.{words_of};
+ghost use Rattle.query_eval.specs.Answers.{IsAnswer};
 ghost use Rattle.query_eval.specs.Asked.{Asks, AsksFront, AsksToFault, read_of};
-ghost use Rattle.query_eval.specs.Found.{told, row_of, once, IsAnswerOf};
-ghost use Rattle.query_eval.specs.Given.{OnlyHitsMatter};
+ghost use Rattle.query_eval.specs.Found.{told, HasHit, row_of, once, AreSorted};
 ghost use Rattle.query_eval.specs.Hits.{found, Tell};
 ghost use Rattle.query_eval.specs.declared.answer.Row.{Row as RowValue};
 ghost use Rattle.query_eval.specs.declared.part.Part.{Part as PartValue};
@@ -13,7 +13,7 @@ ghost use Rattle.time_base.specs.declared.ids.DocId.{DocId as DocValue};
 
 use crate::answer::{Answer, Row};
 use crate::asking::{When, parts_when};
-use crate::hit::{Hit, count_words, group_of, hits_at};
+use crate::hit::{Hit, count_words, documents_of, group_of, hits_at};
 use crate::part::{EvalError, Lists, Part};
 use query_lang::{Pile, Query};
 use std::alloc::{AllocError, Global};
@@ -144,6 +144,41 @@ fn read_of(parts: &[Part]) -> u64
     read
 }
 
+/// Rows in their order, each once, with how many postings were read.
+fn answer_of(alloc: Global, rows: Vec<Row>, parts: &[Part]) -> Result<Answer, AllocError>
+    requires { length parts.now ≤ 4096 }
+    ensures rows { IfOk result (λ a. (sorted : List RowValue) × IsPermutation rows.items sorted × AreSorted sorted × (a.rows.items ≡ once sorted)) }
+    ensures read { IfOk result (λ a. a.read ≡ read_of parts.now) }
+{
+    let mut rows = rows;
+    rows.sort_unstable_by_key(|row| (Reverse(row.score), row.doc));
+    let rows = once(alloc, &rows)?;
+    Ok(Answer {
+        rows,
+        read: read_of(parts),
+    })
+}
+
+/// What the query finds by hits among these documents.
+fn answer_among(
+    alloc: Global,
+    query: &Query,
+    parts: &[Part],
+    hits: &[Hit],
+    alive: &[DocId],
+) -> Result<Answer, AllocError>
+    requires many { length parts.now ≡ length (words_of query.now) }
+    requires sorted { IsNonDecreasingBy (λ h. h.doc.0) hits.now }
+    ensures rows { IfOk result (λ a. (often : DocValue → List ℕ → ℕ) → Tell hits.now (words_of query.now) often
+        → IsAnswer (λ doc. Contains alive.now doc) often query.now a.rows.items) }
+    ensures read { IfOk result (λ a. a.read ≡ read_of parts.now) }
+{
+    let mut counts = vec![in alloc; 0; query.words().len()]?;
+    let rows = rows_of(alloc, query, hits, alive, &mut counts)?;
+    let answer = answer_of(alloc, rows, parts)?;
+    Ok(answer)
+}
+
 /// What the query finds at a time among these documents, by the parts of the lists of its words, one
 /// for each distinct word in order. A document has a word as often as the first posting of its part
 /// says that holds the time. Costs the parts, a sort of their postings, and for each document two
@@ -156,19 +191,35 @@ pub fn answer_from(
     alive: &[DocId],
 ) -> Result<Answer, AllocError>
     requires { length parts.now ≡ length (words_of query.now) }
-    ensures rows { IfOk result (λ a. IsAnswerOf (λ doc. Contains alive.now doc)
+    ensures rows { IfOk result (λ a. IsAnswer (λ doc. Contains alive.now doc)
         (λ doc. told (words_of query.now) parts.now t.seconds doc.0) query.now a.rows.items) }
     ensures read { IfOk result (λ a. a.read ≡ read_of parts.now) }
 {
     let hits = hits_at(alloc, parts, t)?;
-    let mut counts = vec![in alloc; 0; query.words().len()]?;
-    let mut rows = rows_of(alloc, query, &hits, alive, &mut counts)?;
-    rows.sort_unstable_by_key(|row| (Reverse(row.score), row.doc));
-    let rows = once(alloc, &rows)?;
-    Ok(Answer {
-        rows,
-        read: read_of(parts),
-    })
+    let answer = answer_among(alloc, query, parts, &hits, alive)?;
+    Ok(answer)
+}
+
+/// What the query finds at a time among the documents that have one of its words then, by the parts
+/// of the lists of its words as in `answer_from`. Where `Query::matches_without_words` is false and
+/// whatever has a word is alive, no document is missed (`only_hits_matter`). Costs what `answer_from`
+/// does for those documents.
+pub fn answer_by_hits(
+    alloc: Global,
+    query: &Query,
+    t: Time,
+    parts: &[Part],
+) -> Result<Answer, AllocError>
+    requires { length parts.now ≡ length (words_of query.now) }
+    ensures rows { IfOk result (λ a. IsAnswer (HasHit (words_of query.now) parts.now t.seconds)
+        (λ doc. told (words_of query.now) parts.now t.seconds doc.0) query.now a.rows.items) }
+    ensures read { IfOk result (λ a. a.read ≡ read_of parts.now) }
+{
+    let all = hits_at(alloc, parts, t)?;
+    let hits = all.as_slice();
+    let docs = documents_of(alloc, hits)?;
+    let answer = answer_among(alloc, query, parts, hits, docs.as_slice())?;
+    Ok(answer)
 }
 
 /// The parts of the lists of a query's distinct words at a time, one call of `at` for each in order.
@@ -196,7 +247,7 @@ pub fn answer_at<L: Lists>(
     alive: &[DocId],
 ) -> Result<Answer, EvalError<L::Fault>>
     ensures rows { IfOk result (λ a. (parts : List PartValue) × Asks (λ x w r y. L.asked_at x w t.seconds r y) lists.old (words_of query.now) parts lists.new
-        × IsAnswerOf (λ doc. Contains alive.now doc) (λ doc. told (words_of query.now) parts t.seconds doc.0) query.now a.rows.items
+        × IsAnswer (λ doc. Contains alive.now doc) (λ doc. told (words_of query.now) parts t.seconds doc.0) query.now a.rows.items
         × (a.read ≡ read_of parts)) }
     ensures fault { (e : _) → IsErrOf result (EvalError.Lists e) → AsksToFault (λ x w r y. L.asked_at x w t.seconds r y) lists.old (words_of query.now) e lists.new }
     ensures memory { IsErrOf result EvalError.Memory → AsksFront (λ x w r y. L.asked_at x w t.seconds r y) lists.old (words_of query.now) lists.new }
@@ -210,10 +261,3 @@ pub fn answer_at<L: Lists>(
         Err(_) => Err(EvalError::Memory),
     }
 }
-
-/// Where `Query::matches_without_words` is false, only the documents alive that have one of the words
-/// need be given: the answer over them is the answer over all documents alive. Does nothing when it
-/// runs.
-pub fn only_hits_matter()
-    ensures { OnlyHitsMatter }
-{}

@@ -1,5 +1,6 @@
 //! The hits of documents.
-ghost use Rattle.std.specs.Prelude.{◌≡◌, ◌<◌, ◌≤◌, ◌++◌, true, false, ℕ, length, slice_index, filter, IfOk, OnOk};
+ghost use Rattle.std.specs.Prelude.{◌≡◌, ◌⊎◌, ◌↔◌, ◌<◌, ◌≤◌, ◌++◌, true, false, ℕ, length, slice_index, filter, map, Contains, IfOk, OnOk};
+ghost use Rattle.time_base.specs.declared.ids.DocId.{DocId as Document};
 ghost use Rattle.std.specs.List.Sorted.{IsNonDecreasingBy, IsPartitionPoint};
 ghost use Rattle.query_eval.specs.Hits.{hits_of, found, is_before, is_up_to, is_of, hits_in, gathered};
 
@@ -106,4 +107,25 @@ pub(crate) fn count_words(counts: &mut [u32], group: &[Hit])
             counts[hit.place] = hit.tf;
         }
     }
+}
+
+/// Puts a document behind others, where it isn't the last of them.
+fn note_document(docs: &mut Vec<DocId>, doc: DocId) -> Result<(), AllocError>
+    ensures { OnOk result ((d : Document) → (Contains docs.new.items d ↔ (Contains docs.old.items d ⊎ (doc ≡ d)))) }
+{
+    if docs.last() != Some(&doc) {
+        docs.push(doc)?;
+    }
+    Ok(())
+}
+
+/// The documents that have a hit. One pass over the hits.
+pub(crate) fn documents_of(alloc: Global, hits: &[Hit]) -> Result<Vec<DocId>, AllocError>
+    ensures { IfOk result (λ docs. (d : Document) → (Contains docs.items d ↔ Contains (map (λ h. h.doc) hits.now) d)) }
+{
+    let mut docs = Vec::new(alloc);
+    for hit in hits {
+        note_document(&mut docs, hit.doc)?;
+    }
+    Ok(docs)
 }

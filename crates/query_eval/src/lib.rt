@@ -1,28 +1,22 @@
-//! Queries, and their answers from posting lists.
+//! Answers to queries of `query_lang`, from lists that lie anywhere.
 //!
-//! `found` has answers to queries of `query_lang` over any lists (`trait Lists`).
-//!
-//! A query is a word, which contracts see by its key (`specs/Queries.antt`). Its answer at a time is
-//! a row for each document that is alive and has the word, the most frequent first
-//! (`specs/Answers.antt`). To the layer above it promises that what it reads is exactly what the
-//! text spells, and that what it finds in the word's list is the answer by the frequencies that the
-//! list gives. It knows nothing of texts, versions or files.
+//! The answer at a time is a row for each document that is alive and matches, the highest score first
+//! (`specs/Answers.antt`). To the layer above it promises that lists (`trait Lists`) are asked once for
+//! each distinct word, in order, and that the rows are the answer by the frequencies in the parts that
+//! they gave, over the documents given. It knows nothing of texts, versions or files.
 #![tactic(auto)]
 
 mod answer;
 mod asking;
-pub mod found;
+mod found;
 mod hit;
 mod laws;
 mod part;
-mod query;
 
-pub use answer::{Answer, Row, answer_at};
-pub use laws::{an_answer_is_one, each_list_has_an_answer};
+pub use answer::{Answer, Row};
+pub use found::{answer_at, answer_by_hits, answer_from, parts_at};
+pub use laws::{an_answer_is_one, each_query_has_an_answer, only_hits_matter, only_words_matter};
 pub use part::{EvalError, Lists, Part};
-pub use query::{Query, QueryError};
 
-#[cfg(test)]
-mod found_tests;
 #[cfg(test)]
 mod tests;

@@ -1,5 +1,5 @@
 //! The list of a word from changes.
-ghost use Rattle.std.specs.Prelude.{◌≡◌, ◌^◌, ◌<◌, IfOk, OnOk, unwrap_or};
+ghost use Rattle.std.specs.Prelude.{◌≡◌, ◌^◌, ◌<◌, ◌≤◌, ◌+◌, length, IfOk, OnOk, unwrap_or};
 ghost use Rattle.std.specs.List.Sorted.{IsNonDecreasingBy};
 ghost use Rattle.time_base.specs.declared.ids.DocId.{DocId as Document};
 ghost use Rattle.version_store.specs.Changes.{changes_of};
@@ -14,11 +14,12 @@ use time_base::{DocId, Posting};
 use version_store::{Change, held_as_changes_come};
 
 /// The word's list from how often each version has it; a tombstone holds nothing. The changes are
-/// those of all documents, in which each document's come in the order of time. An `Err` means that
-/// memory ran out. Costs n log n in the changes.
+/// those of all documents, in which each document's come in the order of time. It has at most a
+/// posting for each change. An `Err` means that memory ran out. Costs n log n in the changes.
 pub fn list_of(alloc: Global, changes: &[Change<u32>]) -> Result<Vec<Posting>, AllocError>
     requires { RiseByDocument changes.now }
-    ensures { IfOk result (λ list. IsListOf (frequency_by changes.now) 0 (2 ^ 40) list.items) }
+    ensures list { IfOk result (λ list. IsListOf (frequency_by changes.now) 0 (2 ^ 40) list.items) }
+    ensures few { IfOk result (λ list. length list.items ≤ length changes.now) }
 {
     held_as_changes_come::<u32>();
     let sorted = by_document(alloc, changes)?;
@@ -36,6 +37,7 @@ fn by_document(alloc: Global, changes: &[Change<u32>]) -> Result<Vec<Change<u32>
     ensures ascending { IfOk result (λ sorted. IsNonDecreasingBy (λ c. c.doc.0) sorted.items) }
     ensures same { IfOk result (λ sorted. (doc : Document) →
         changes_of doc sorted.items ≡ changes_of doc changes.now) }
+    ensures many { IfOk result (λ sorted. length sorted.items ≡ length changes.now) }
 {
     let mut sorted = Vec::from_slice(alloc, changes)?;
     sorted.sort_by_key(|change| change.doc.0)?;
@@ -45,9 +47,10 @@ fn by_document(alloc: Global, changes: &[Change<u32>]) -> Result<Vec<Change<u32>
 /// Passes the tail on by a change of a document, where `before` is the change that stands in front
 /// of it by document. With the documents ascending this appends.
 fn pass(tail: &mut Tail, before: Option<Change<u32>>, change: Change<u32>) -> Result<(), AllocError>
-    ensures { OnOk result (IsTurned change.doc.0 change.at.seconds
+    ensures turned { OnOk result (IsTurned change.doc.0 change.at.seconds
         (frequency_before change.doc before) (unwrap_or change.held 0)
         tail.old.list tail.new.list) }
+    ensures longer { OnOk result (length tail.new.list ≤ length tail.old.list + 1) }
 {
     tail.reserve_turn()?;
     let old = frequency_before(change.doc, before);

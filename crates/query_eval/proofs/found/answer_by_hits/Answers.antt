@@ -1,0 +1,28 @@
+use Rattle.std.proofs.Common.{◌≡◌, ℕ, Contains, ap, sym, subst, ◌∙◌, filter}
+use Rattle.time_base.specs.declared.ids.DocId.{DocId}
+use Rattle.fold_tokens.proofs.CountLemmas.{IsDistinct-distinct}
+use Rattle.query_lang.specs.Meaning.{words_of, occurring}
+use Rattle.query_eval.specs.Found.{told, HasHit}
+use Rattle.query_eval.specs.Hits.{is_of, gathered}
+use Rattle.query_eval.proofs.FoundLemmas.{hits-tell}
+use Rattle.query_eval.proofs.GivenLemmas.{same_alive}
+use Rattle.query_eval.proofs.HasHitLemmas.{documents-are}
+use Rattle.query_eval.proofs.found.answer_by_hits.Goals as goal
+
+pub returns-clause-rows : goal.returns-clause-rows
+returns-clause-rows c =
+    let words = words_of c.args.query.now in
+    let t = c.args.t.seconds in
+    let parts = c.args.parts.now in
+    let hits = c.as_slice-hits.result.now in
+    let each : (d : ℕ) → filter (is_of d) hits ≡ filter (is_of d) (gathered t 0 parts) = λ d. ap (filter (is_of d)) c.as_slice-hits.ensures.value ∙ c.in_ok-all.ensures.each d in
+    let tell = hits-tell t words parts hits (IsDistinct-distinct (occurring c.args.query.now)) c.requires each in
+    same_alive (HasHit words parts t) _ (λ (doc : DocId). told words parts t doc.0) c.args.query.now _
+    (λ doc.
+    let made = documents-are t words parts hits c.requires each tell doc in
+    let docs = c.in_ok-docs.ensures doc in
+    let same = c.as_slice.ensures.value in (
+      λ k. made.0 (docs.0 (subst (λ l. Contains l doc) same k)),
+      λ k. subst (λ l. Contains l doc) (sym same) (docs.1 (made.1 k)),
+    ))
+    (c.in_ok-answer.ensures.rows (λ (doc : DocId). told words parts t doc.0) tell)
