@@ -8,3 +8,4 @@ pub mod Law
 pub mod Steps
 pub mod Ascending
 pub mod Holding
+pub mod Alive

@@ -1,8 +1,13 @@
 //! What holds of changes by their definitions, for whoever proves something over them. Nothing here
 //! runs.
-ghost use Rattle.version_store.specs.Laws.{HeldAsChangesCome};
+ghost use Rattle.version_store.specs.Laws.{HeldAsChangesCome, TheAliveHoldSomething};
 
 /// What a document holds at a time where one change more comes behind others. Does nothing.
 pub fn held_as_changes_come<T>()
     ensures { HeldAsChangesCome T }
+{}
+
+/// The documents alive at a time are those of which something is held then. Does nothing.
+pub fn the_alive_hold_something<T>()
+    ensures { TheAliveHoldSomething T }
 {}

@@ -18,5 +18,5 @@ mod walk;
 
 pub use change::Change;
 pub use directory::Directory;
-pub use laws::held_as_changes_come;
+pub use laws::{held_as_changes_come, the_alive_hold_something};
 pub use refusal::VersionRefusal;
