@@ -1,5 +1,5 @@
 -- Each item has one turn: from a legal history to a legal one.
-use Rattle.std.proofs.Common.{subst, sym, ◌≡◌, ℕ, ◌<◌, ◌≤◌, ◌^◌, Bool, true, false, not, nat_lt, List, [], ◌∷◌, ◌++◌, length, All, Option, Some, None, IsSome, refl, ap, arith, unwrap_or, ◌∙◌}
+use Rattle.std.proofs.Common.{subst, sym, ◌≡◌, ℕ, ◌+◌, ◌<◌, ◌≤◌, ◌^◌, Bool, true, false, not, nat_lt, List, [], ◌∷◌, ◌++◌, length, All, Contains, Option, Some, None, IsSome, Result, Ok, Err, refl, ap, arith, unwrap_or, ◌∙◌}
 use Rattle.std.specs.Str.{is_utf8}
 use Rattle.std.specs.Option.{option_map}
 use Rattle.std.proofs.lemmas.Bool.{ltb-false}
@@ -14,16 +14,22 @@ use Rattle.fold_tokens.specs.Terms.{occurrences}
 use Rattle.fold_tokens.proofs.FrequencyLemmas.{occurrences-le}
 use Rattle.version_store.specs.declared.change.Change.{Change}
 use Rattle.version_store.specs.Changes.{valid_at}
+use Rattle.version_store.specs.Changes as changed
+use Rattle.version_store.proofs.Alive.{alive-has}
 use Rattle.version_store.specs.Tests.{first_of, when}
 use Rattle.version_store.proofs.Holding.{held_has}
 use Rattle.version_store.proofs.Latest.{changes_of-none}
 use Rattle.record_codec.specs.Spelling.{most_text}
 use Rattle.record_codec.specs.declared.entry.Entry.{Entry}
 use Rattle.record_codec.specs.declared.entry.Entry.TheVariants as entries
-use Rattle.query_eval.specs.Queries.{Query, Word, query_of, words_of}
-use Rattle.query_eval.specs.Laws.{IsAnswerBy}
+use Rattle.query_lang.specs.Grammar.{Query, IsRead}
+use Rattle.query_lang.specs.Machine.{read}
+use Rattle.query_lang.specs.Meaning.{words_of}
+use Rattle.query_lang.specs.Tokens.{key_of}
+use Rattle.query_lang.proofs.ReadingLaws.{is_read, one_reading}
 use Rattle.query_eval.specs.declared.answer.Row.{Row}
-use Rattle.query_eval.proofs.Answering.{each_answer, lists_answer, one_answer}
+use Rattle.query_eval.proofs.FoundLemmas.{each-answer}
+use Rattle.query_eval.proofs.GivenLemmas.{same_alive, one_answer}
 use Rattle.archive_state.specs.declared.refusal.Refusal.{Refusal}
 use Rattle.archive_state.specs.declared.refusal.Refusal.TheVariants as refusals
 use Rattle.archive_state.specs.Histories.{History, changes, text_at, AreLegalAfter, IsLegal, IsLegalEntry, entry_refusal}
@@ -34,7 +40,7 @@ use Rattle.commands.specs.declared.command.Command.TheVariants as commands
 use Rattle.commands.specs.declared.command.Item.{Item}
 use Rattle.commands.specs.declared.command.Item.TheVariants as items
 use Rattle.commands.specs.declared.text.Text.TheVariants as texts
-use Rattle.archive_state.specs.Steps.{Reply, Accepted, Refused, Found, Shown, Adds, Declines, Finds, CarriesOut, Step, too_long, bad_text, full_journal, arrival_refusal, deletion_refusal}
+use Rattle.archive_state.specs.Steps.{Reply, Accepted, Refused, Found, Shown, Adds, Declines, Finds, FindsBy, CarriesOut, Step, too_long, bad_text, full_journal, arrival_refusal, deletion_refusal}
 use Rattle.archive_state.specs.Runs.{Turn}
 use Rattle.archive_state.proofs.HistoryLemmas.{legal-push}
 
@@ -107,29 +113,31 @@ each_word_list h word legal =
     each_has_a_list (λ d t. frequency_at h word (record { 0 = d }) t) 0 (2 ^ 40) (omega arith) (λ d t. frequency_few h word (record { 0 = d }) t legal) (λ d t far. frequency_none h word d t legal far)
 
 -- whatever has a word is alive
-has_word : (word : List ℕ) (held : Option (List ℕ)) → 0 < unwrap_or (option_map (occurrences word) held) 0 → IsSome held
+pub has_word : (word : List ℕ) (held : Option (List ℕ)) → 0 < unwrap_or (option_map (occurrences word) held) 0 → IsSome held
 has_word word None some = absurd (omega (arith, some))
 has_word word (Some text) some = refl
 
--- the answer by a word's list is that of scanning the texts
-pub list_answers : (h : History) (at : Time) (word : List ℕ) (list : List Posting) (rows : List Row) → IsWordList h word list
-    → IsAnswerBy list at.seconds (Word word) rows → IsAnswerAt h at.seconds (Word word) rows
-list_answers h at word list rows is answer =
-    lists_answer (λ doc. IsSome (text_at h doc at.seconds)) (λ doc key. frequency_at h key doc at.seconds) list at.seconds word rows
-    (λ doc some. has_word word (text_at h doc at.seconds) some)
-    (λ doc. is.same doc.0 at.seconds (omega arith) at.before_now) answer
-
-pub finds_by : (h : History) (at : Time) (word : List ℕ) (list : List Posting) (rows : List Row) (read : ℕ) → IsWordList h word list
-    → IsAnswerBy list at.seconds (Word word) rows → read ≡ length list → Finds h at (Some (Word word)) (Found rows read)
-finds_by h at word list rows read is answer size =
-    (rows, read, list_answers h at word list rows is answer, (list, 0, is, refl, omega (arith, size)), refl)
-
-pub each_finds : (h : History) (at : Time) (query : Option Query) → IsLegal h → (reply : Reply) × Finds h at query reply
-each_finds h at None legal = (Refused (refusals.BadQuery 0), refl)
-each_finds h at (Some (Word word)) legal =
+-- each query is answered at each time
+each_read : (h : History) (words : List (List ℕ)) → IsLegal h → (n : ℕ) × IsReadFor h words n
+each_read h [] legal = (0, refl)
+each_read h (word ∷ words) legal =
     let list = each_word_list h word legal in
-    let answer = each_answer (Word word) list.0 at.seconds list.1.ordered in
-    (Found answer.0 (length list.0), finds_by h at word list.0 answer.0 (length list.0) list.1 answer.1 refl)
+    let more = each_read h words legal in
+    (length list.0 + more.0, (list.0, more.0, list.1, more.1, refl))
+
+each_found : (h : History) (at : Time) (query : Result Query ℕ) → IsLegal h → (reply : Reply) × FindsBy h at query reply
+each_found h at (Err place) legal = (Refused (refusals.BadQuery place), refl)
+each_found h at (Ok query) legal =
+    let often = λ (doc : DocId) (word : List ℕ). frequency_at h word doc at.seconds in
+    let given = each-answer (changed.alive at.seconds (changes h)) often query in
+    let read = each_read h (words_of query) legal in
+    let answer = same_alive (λ doc. IsSome (text_at h doc at.seconds)) (λ doc. Contains (changed.alive at.seconds (changes h)) doc) often query given.0 (λ doc. alive-has at.seconds (changes h) doc) given.1 in
+    (Found given.0 read.0, (given.0, read.0, answer, read.1, refl))
+
+pub each_finds : (h : History) (at : Time) (text : List ℕ) → IsLegal h → (reply : Reply) × Finds h at text reply
+each_finds h at text legal =
+    let found = each_found h at (read key_of text) legal in
+    (found.0, (read key_of text, is_read key_of text, found.1))
 
 declines_turn : (h : History) (why : Refusal) → (turn : Turn Reply History) × Declines h why turn.reply turn.next
 declines_turn h why = (record { reply = Refused why; next = h }, (refl, refl))
@@ -139,7 +147,7 @@ each_command h (commands.Arrive doc at (texts.Bytes text)) legal = adds_turn h (
 each_command h (commands.Arrive doc at (texts.TooLong bytes)) legal = declines_turn h (refusals.TooLong most_text)
 each_command h (commands.Delete doc at) legal = adds_turn h (entries.Delete doc at) (deletion_refusal h doc at)
 each_command h (commands.Find at expr) legal =
-    let found = each_finds h at (query_of expr) legal in
+    let found = each_finds h at expr legal in
     (record { reply = found.0; next = h }, (refl, found.1))
 each_command h (commands.Show doc at) legal = (record { reply = Shown (text_at h doc at.seconds); next = h }, (refl, refl))
 each_command h (commands.Plan word kind fraction) legal = declines_turn h refusals.Line
@@ -190,12 +198,17 @@ one_read h (word ∷ words) one other a b =
     let list = one_list_of (λ d t. frequency_at h word (record { 0 = d }) t) 0 (2 ^ 40) a.0 b.0 a.2 b.2 in
     omega (arith, a.4, b.4, one_read h words a.1 b.1 a.3 b.3, ap length list)
 
-one_finds : (h : History) (at : Time) (query : Option Query) (reply other : Reply) → Finds h at query reply → Finds h at query other → reply ≡ other
-one_finds h at None reply other a b = a ∙ sym b
-one_finds h at (Some query) reply other a b =
+one_found : (h : History) (at : Time) (query : Result Query ℕ) (reply other : Reply) → FindsBy h at query reply → FindsBy h at query other → reply ≡ other
+one_found h at (Err place) reply other a b = a ∙ sym b
+one_found h at (Ok query) reply other a b =
     let rows = one_answer (λ doc. IsSome (text_at h doc at.seconds)) (λ doc word. frequency_at h word doc at.seconds) query a.0 b.0 a.2 b.2 in
     let read = one_read h (words_of query) a.1 b.1 a.3 b.3 in
     a.4 ∙ ap (λ (r : List Row). Found r a.1) rows ∙ ap (λ (n : ℕ). Found b.0 n) read ∙ sym b.4
+
+one_finds : (h : History) (at : Time) (text : List ℕ) (reply other : Reply) → Finds h at text reply → Finds h at text other → reply ≡ other
+one_finds h at text reply other a b =
+    let F : Result Query ℕ → Type 0 = λ q. FindsBy h at q reply in
+    one_found h at b.0 reply other (subst F (one_reading key_of text a.0 b.0 a.1 b.1) a.2) b.2
 
 one_stays : (h : History) (reply other : Reply) (next then : History) → next ≡ h → then ≡ h → reply ≡ other → IsOne reply other next then
 one_stays h reply other next then a b same = (same, a ∙ sym b)
@@ -207,7 +220,7 @@ one_command : (h : History) (c : Command) (reply other : Reply) (next then : His
 one_command h (commands.Arrive doc at (texts.Bytes text)) reply other next then a b = one_adds h (entries.Arrive doc at text) (arrival_refusal h doc at text) reply other next then a b
 one_command h (commands.Arrive doc at (texts.TooLong bytes)) reply other next then a b = one_declines h (refusals.TooLong most_text) reply other next then a b
 one_command h (commands.Delete doc at) reply other next then a b = one_adds h (entries.Delete doc at) (deletion_refusal h doc at) reply other next then a b
-one_command h (commands.Find at expr) reply other next then a b = one_stays h reply other next then a.0 b.0 (one_finds h at (query_of expr) reply other a.1 b.1)
+one_command h (commands.Find at expr) reply other next then a b = one_stays h reply other next then a.0 b.0 (one_finds h at expr reply other a.1 b.1)
 one_command h (commands.Show doc at) reply other next then a b = one_stays h reply other next then a.0 b.0 (a.1 ∙ sym b.1)
 one_command h (commands.Plan word kind fraction) reply other next then a b = one_declines h refusals.Line reply other next then a b
 one_command h (commands.Propose word fraction) reply other next then a b = one_declines h refusals.Line reply other next then a b

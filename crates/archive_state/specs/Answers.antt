@@ -4,7 +4,7 @@ use Rattle.time_base.specs.declared.ids.DocId.{DocId}
 use Rattle.time_base.specs.declared.posting.Posting.{Posting}
 use Rattle.postings.specs.ListsOf.{IsListOf}
 use Rattle.fold_tokens.specs.Terms.{occurrences}
-use Rattle.query_eval.specs.Queries.{Query}
+use Rattle.query_lang.specs.Grammar.{Query}
 use Rattle.query_eval.specs.Answers.{IsAnswer}
 use Rattle.query_eval.specs.declared.answer.Row.{Row}
 use Rattle.archive_state.specs.Histories.{History, text_at}

@@ -1,5 +1,5 @@
 -- The machine that an archive is: what an item of the input does to a history, and what is replied.
-use Rattle.std.specs.Prelude.{◌≡◌, ℕ, nat_lt, not, List, [], ◌∷◌, ◌++◌, length, Option, Some, None}
+use Rattle.std.specs.Prelude.{◌≡◌, ℕ, nat_lt, not, List, [], ◌∷◌, ◌++◌, length, Option, Some, None, Result, Ok, Err}
 use Rattle.std.specs.Str.{is_utf8}
 use Rattle.std.specs.Str.Lossy.{utf8_valid_len}
 use Rattle.time_base.specs.Limits.{limit_of}
@@ -16,7 +16,9 @@ use Rattle.version_store.specs.Tests.{first_of, when}
 use Rattle.record_codec.specs.Spelling.{most_text}
 use Rattle.record_codec.specs.declared.entry.Entry.{Entry}
 use Rattle.record_codec.specs.declared.entry.Entry.TheVariants as entries
-use Rattle.query_eval.specs.Queries.{Query, query_of, words_of}
+use Rattle.query_lang.specs.Grammar.{Query, IsRead}
+use Rattle.query_lang.specs.Meaning.{words_of}
+use Rattle.query_lang.specs.Tokens.{key_of}
 use Rattle.query_eval.specs.declared.answer.Row.{Row}
 use Rattle.archive_state.specs.declared.refusal.Refusal.{Refusal}
 use Rattle.archive_state.specs.declared.refusal.Refusal.TheVariants as refusals
@@ -60,11 +62,15 @@ abbrev pub Adds : History → Entry → Option Refusal → Reply → History →
 Adds old entry None reply new = (new ≡ old ++ entry ∷ []) × (reply ≡ Accepted (length new))
 Adds old entry (Some why) reply new = (new ≡ old) × (reply ≡ Refused why)
 
--- What is found at a time by a query, if one was written.
-abbrev pub Finds : History → Time → Option Query → Reply → Type 0
-Finds history at None reply = reply ≡ Refused (refusals.BadQuery 0)
-Finds history at (Some query) reply =
+-- What is found at a time by a query; or the place where a text shows that it is none.
+abbrev pub FindsBy : History → Time → Result Query ℕ → Reply → Type 0
+FindsBy history at (Ok query) reply =
     (rows : List Row) × (read : ℕ) × IsAnswerAt history at.seconds query rows × IsReadFor history (words_of query) read × (reply ≡ Found rows read)
+FindsBy history at (Err place) reply = reply ≡ Refused (refusals.BadQuery place)
+
+-- what is found at a time by a text, as it is read
+abbrev pub Finds : History → Time → List ℕ → Reply → Type 0
+Finds history at text reply = (query : Result Query ℕ) × IsRead key_of text query × FindsBy history at query reply
 
 -- a command that is refused changes nothing
 abbrev pub Declines : History → Refusal → Reply → History → Type 0
@@ -80,7 +86,7 @@ Arrives old doc at (texts.TooLong bytes) reply new = Declines old (refusals.TooL
 abbrev pub CarriesOut : History → Command → Reply → History → Type 0
 CarriesOut old (commands.Arrive doc at text) reply new = Arrives old doc at text reply new
 CarriesOut old (commands.Delete doc at) reply new = Adds old (entries.Delete doc at) (deletion_refusal old doc at) reply new
-CarriesOut old (commands.Find at expr) reply new = (new ≡ old) × Finds old at (query_of expr) reply
+CarriesOut old (commands.Find at expr) reply new = (new ≡ old) × Finds old at expr reply
 CarriesOut old (commands.Show doc at) reply new = (new ≡ old) × (reply ≡ Shown (text_at old doc at.seconds))
 CarriesOut old (commands.Plan word kind fraction) reply new = Declines old refusals.Line reply new
 CarriesOut old (commands.Propose word fraction) reply new = Declines old refusals.Line reply new
