@@ -9,3 +9,4 @@ pub mod ReplayLemmas
 pub mod LoadLemmas
 pub mod PrepareLemmas
 pub mod TakeLemmas
+pub mod AnswerLemmas

@@ -9,7 +9,8 @@ use Rattle.commands.specs.declared.command.Command.TheVariants as commands
 use Rattle.commands.specs.declared.command.Item.{Item}
 use Rattle.commands.specs.declared.command.Item.TheVariants as items
 use Rattle.record_codec.specs.declared.entry.Entry.{Entry}
-use Rattle.query_eval.specs.Queries.{Query, query_of}
+use Rattle.query_lang.specs.Grammar.{IsRead}
+use Rattle.query_lang.specs.Tokens.{key_of}
 use Rattle.query_eval.specs.declared.answer.Answer.{Answer}
 use Rattle.archive_state.specs.declared.refusal.Refusal.{Refusal}
 use Rattle.archive_state.specs.declared.refusal.Refusal.TheVariants as refusals
@@ -104,19 +105,19 @@ takes_question h item reply Faulted old new a step same kept gives =
 
 -- a query that was asked
 pub takes_find : (h : History) (at : Time) (text : List ℕ) (r : Result Answer AskError) (old new : DiskState) (a : ArchiveState)
-    → ((why : Refusal) → r ≡ Err (asks.Refused why) → (query_of text ≡ None) × (why ≡ refusals.BadQuery 0)) → IfOk r (λ answer. Finds h at (query_of text) (Found answer.rows.items answer.read))
+    → ((why : Refusal) → r ≡ Err (asks.Refused why) → (place : ℕ) × IsRead key_of text (Err place) × (why ≡ refusals.BadQuery place))
+    → IfOk r (λ answer. Finds h at text (Found answer.rows.items answer.read))
     → OnlyReads old new → IsKept old a h → Takes h (items.Command (commands.Find at text)) (found r) old new a
 takes_find h at text (Ok answer) old new a refused finds same kept =
     takes_question h (items.Command (commands.Find at text)) (Found answer.rows.items answer.read) (found (Ok answer)) old new a (refl, finds) same kept refl
 takes_find h at text (Err (asks.Refused why)) old new a refused finds same kept =
-    let is = refused why refl in
-    let F : Option Query → Type 0 = λ q. Finds h at q (Refused (refusals.BadQuery 0)) in
-    takes_question h (items.Command (commands.Find at text)) (Refused (refusals.BadQuery 0)) (found (Err (asks.Refused why))) old new a (refl, subst F (sym is.0) refl) same kept (ap Refused (sym is.1))
+    let (place, read, is) = refused why refl in
+    takes_question h (items.Command (commands.Find at text)) (Refused (refusals.BadQuery place)) (found (Err (asks.Refused why))) old new a (refl, (Err place, read, refl)) same kept (sym (ap Refused is))
 takes_find h at text (Err asks.Failed) old new a refused finds same kept =
-    let any = each_finds h at (query_of text) kept.stands.loadable in
+    let any = each_finds h at text kept.stands.loadable in
     takes_question h (items.Command (commands.Find at text)) any.0 Faulted old new a (refl, any.1) same kept tt
 takes_find h at text (Err asks.Memory) old new a refused finds same kept =
-    let any = each_finds h at (query_of text) kept.stands.loadable in
+    let any = each_finds h at text kept.stands.loadable in
     takes_question h (items.Command (commands.Find at text)) any.0 Starved old new a (refl, any.1) same kept tt
 
 -- a version that was asked for

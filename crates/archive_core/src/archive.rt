@@ -86,8 +86,11 @@ impl Archive {
 
     /// The journal, whose end is the archive's. Constant cost.
     pub(crate) fn journal(&self) -> &Journal
-        ensures { result.now.end ≡ self.now.end }
+        ensures end { result.now.end ≡ self.now.end }
+        ensures most { result.now.end ≤ 2 ^ 40 }
     {
+        // The call tells how far a journal reaches at most.
+        let _ = self.journal.end();
         &self.journal
     }
 
@@ -105,7 +108,7 @@ impl Archive {
     /// `Refused`: it isn't allowed, for the first cause in order: the text is too long, the text
     /// isn't UTF-8, the time lies before the last one, the document's latest change has this time,
     /// or the documents, the versions or the journal are full. Nothing was changed.
-    /// `Failed`, `Memory`: the archive is spent.
+    /// `Failed`, `Memory`: the archive is spent, and keeps what it had.
     /// Costs the text's length, two look-ups and two synced writes.
     pub fn arrive<D: Disk>(
         &mut self,
@@ -128,6 +131,8 @@ impl Archive {
         ensures same { (why : Refusal) → IsErrOf result (ChangeError.Refused why) → (self.new ≡ self.old) × (disk.new ≡ disk.old) }
         // All memory is taken before the first call of the disk.
         ensures memory { IsErrOf result ChangeError.Memory → disk.new ≡ disk.old }
+        // Where it is spent, it has the entries and the texts that it had.
+        ensures spent { (IsErrOf result ChangeError.Memory ⊎ IsErrOf result ChangeError.Failed) → self.new ≡ record self.old { live = false } }
         // In step, it is a step of the abstract machine; each image left since stands for the history before it or after it.
         ensures takes { D.disk_tells → (h : History) → IsKept (D.disk disk.old) self.old h → Takes h (items.Command (commands.Arrive doc at (texts.Bytes text.now))) (changed result) (D.disk disk.old) (D.disk disk.new) self.new }
         ensures pages { D.disk_tells → KeepsPages (D.disk disk.old) (D.disk disk.new) }
@@ -143,7 +148,7 @@ impl Archive {
     /// `Refused`: it isn't allowed, for the first cause in order: the time lies before the last one,
     /// the document has no version or its latest is a tombstone, its latest version has this time,
     /// or the versions or the journal are full. Nothing was changed.
-    /// `Failed`, `Memory`: the archive is spent.
+    /// `Failed`, `Memory`: the archive is spent, and keeps what it had.
     /// Costs two look-ups and two synced writes.
     pub fn delete<D: Disk>(
         &mut self,
@@ -165,6 +170,8 @@ impl Archive {
         ensures same { (why : Refusal) → IsErrOf result (ChangeError.Refused why) → (self.new ≡ self.old) × (disk.new ≡ disk.old) }
         // All memory is taken before the first call of the disk.
         ensures memory { IsErrOf result ChangeError.Memory → disk.new ≡ disk.old }
+        // Where it is spent, it has the entries and the texts that it had.
+        ensures spent { (IsErrOf result ChangeError.Memory ⊎ IsErrOf result ChangeError.Failed) → self.new ≡ record self.old { live = false } }
         // In step, it is a step of the abstract machine; each image left since stands for the history before it or after it.
         ensures takes { D.disk_tells → (h : History) → IsKept (D.disk disk.old) self.old h → Takes h (items.Command (commands.Delete doc at)) (changed result) (D.disk disk.old) (D.disk disk.new) self.new }
         ensures pages { D.disk_tells → KeepsPages (D.disk disk.old) (D.disk disk.new) }
@@ -191,6 +198,7 @@ impl Archive {
         ensures live { IsTrue self.new.live ↔ (IsOk result ⊎ ((why : Refusal) × IsErrOf result (ChangeError.Refused why))) }
         ensures same { (why : Refusal) → IsErrOf result (ChangeError.Refused why) → (self.new ≡ self.old) × (disk.new ≡ disk.old) }
         ensures memory { IsErrOf result ChangeError.Memory → disk.new ≡ disk.old }
+        ensures spent { (IsErrOf result ChangeError.Memory ⊎ IsErrOf result ChangeError.Failed) → self.new ≡ record self.old { live = false } }
         ensures adds { (h : History) (entry : Entry) (refusal : Option Refusal) → StandsFor self.old h → IsPrepared h entry refusal prepared → Adds h entry refusal result self.new }
         ensures leads { D.disk_tells → (h : History) (entry : Entry) (refusal : Option Refusal) → IsKept (D.disk disk.old) self.old h → IsPrepared h entry refusal prepared →
             LeadsTo h (h ++ entry ∷ []) (D.disk disk.old) (D.disk disk.new) × OnOk result (IsKept (D.disk disk.new) self.new (h ++ entry ∷ [])) }
@@ -237,6 +245,7 @@ impl Archive {
         ensures same { (why : Refusal) → IsErrOf result (ChangeError.Refused why) → (self.new ≡ self.old) × (disk.new ≡ disk.old) }
         // All memory is taken before the first call of the disk.
         ensures memory { IsErrOf result ChangeError.Memory → disk.new ≡ disk.old }
+        ensures spent { (IsErrOf result ChangeError.Memory ⊎ IsErrOf result ChangeError.Failed) → self.new ≡ record self.old { live = false } }
         ensures more { IfOk result (λ n. IsMore self.old self.new change body.now × (n ≡ self.new.length)) }
         ensures crash { D.disk_tells → (bodies : List (List ℕ)) → IsInStep (D.disk disk.old) self.old.end bodies → Appends bodies body.now (D.disk disk.old) (D.disk disk.new) }
         ensures in_step { D.disk_tells → (bodies : List (List ℕ)) → IsInStep (D.disk disk.old) self.old.end bodies → OnOk result (IsInStep (D.disk disk.new) self.new.end (bodies ++ body.now ∷ [])) }

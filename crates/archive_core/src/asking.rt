@@ -1,14 +1,18 @@
 //! What an archive is asked: the text of a document at a time, and what a query finds.
-ghost use Rattle.std.specs.Prelude.{◌≡◌, ◌⊎◌, ◌≤◌, None, IsSome, IsOk, IfOk, IsErrOf, option_map};
+ghost use Rattle.std.specs.Prelude.{◌≡◌, ◌⊎◌, ◌≤◌, ◌^◌, ◌++◌, ◌∷◌, [], ℕ, Ok, Err, length, IsOk, IfOk, OnOk, IsErrOf, option_map};
 ghost use Rattle.machine_model.specs.Causes.{Rose};
 ghost use Rattle.machine_model.specs.Calls.{OnlyReads};
-ghost use Rattle.postings.specs.Lists.{IsList};
-ghost use Rattle.query_eval.specs.Queries.{query_of};
+ghost use Rattle.query_lang.specs.Grammar.{Query as Meaning, IsRead};
+ghost use Rattle.query_lang.specs.Meaning.{words_of};
+ghost use Rattle.query_lang.specs.Tokens.{key_of};
+ghost use Rattle.query_eval.specs.Asked.{read_of};
+ghost use Rattle.query_eval.specs.declared.part.Part.{Part as PartValue};
 ghost use Rattle.archive_state.specs.Histories.{History, text_at};
-ghost use Rattle.archive_state.specs.Answers.{IsWordList};
+ghost use Rattle.archive_state.specs.Answers.{IsAnswerAt, IsWordList};
 ghost use Rattle.archive_state.specs.Steps.{Found, Finds};
-ghost use Rattle.archive_core.specs.States.{IsKept, Reaches};
+ghost use Rattle.archive_core.specs.States.{StandsFor, IsKept, Reaches};
 ghost use Rattle.archive_core.specs.Takes.{Takes, found, shown};
+ghost use Rattle.archive_core.specs.Whole.{AreWholeLists};
 ghost use Rattle.commands.specs.declared.command.Command.TheVariants as commands;
 ghost use Rattle.commands.specs.declared.command.Item.TheVariants as items;
 
@@ -17,9 +21,11 @@ use crate::counting::count_all;
 use crate::error::AskError;
 use crate::texts::read_text;
 use archive_state::Refusal;
+use commands::Phrase;
 use machine_model::Disk;
-use query_eval::{Answer, Query, QueryError, answer_at};
-use std::alloc::Global;
+use query_eval::{Answer, Part, answer_by_hits, answer_from};
+use query_lang::{Query, QueryError};
+use std::alloc::{AllocError, Global};
 use time_base::{DocId, Key, Posting, Time};
 use word_lists::list_of;
 
@@ -28,56 +34,95 @@ impl Archive {
     /// postings were read for them. Nothing is changed.
     ///
     /// `Refused`: the text is no query.
-    /// Costs a read of the journal's texts from the first on, each once, to make the list of the
-    /// query's word.
+    /// Costs, for each distinct word of the query, a read of the journal's texts from the first on,
+    /// each once, to make the word's list.
     pub fn find<D: Disk>(
         &self,
         alloc: Global,
         disk: &mut D,
         at: Time,
-        query: &str,
+        expr: &Phrase,
     ) -> Result<Answer, AskError>
         requires within { Reaches (D.disk disk.old).reach self.now }
         ensures only { D.Disk.only disk.old disk.new }
         ensures same { OnlyReads (D.disk disk.old) (D.disk disk.new) }
         ensures failed { IsErrOf result AskError.Failed → Rose (D.disk disk.old).faults (D.disk disk.new).faults }
-        // A refusal comes of a text that is no query, and wherever it is none (but for want of memory).
-        ensures refused { (why : Refusal) → IsErrOf result (AskError.Refused why) → (query_of query.now ≡ None) × (why ≡ Refusal.BadQuery 0) }
-        ensures asked { (IsOk result ⊎ IsErrOf result AskError.Failed) → IsSome (query_of query.now) }
+        // A refusal comes of a text that is no query, at the place where that shows, and wherever it is none (but for want of memory).
+        ensures refused { (why : Refusal) → IsErrOf result (AskError.Refused why) → (place : ℕ) × IsRead key_of expr.now (Err place) × (why ≡ Refusal.BadQuery place) }
+        ensures asked { (IsOk result ⊎ IsErrOf result AskError.Failed) → (query : Meaning) × IsRead key_of expr.now (Ok query) }
         // In step, it is a step of the abstract machine.
         ensures takes { D.disk_tells → (h : History) → IsKept (D.disk disk.old) self.now h →
-            Takes h (items.Command (commands.Find at query.now)) (found result) (D.disk disk.old) (D.disk disk.new) self.now }
+            Takes h (items.Command (commands.Find at expr.now)) (found result) (D.disk disk.old) (D.disk disk.new) self.now }
     {
-        self.answer_of(alloc, disk, at, query)
+        self.answer_of(alloc, disk, at, expr)
     }
 
-    /// The answer to a query by the list of its word.
+    /// The answer to a query by the lists of its words.
     fn answer_of<D: Disk>(
         &self,
         alloc: Global,
         disk: &mut D,
         at: Time,
-        query: &str,
+        expr: &Phrase,
     ) -> Result<Answer, AskError>
         requires within { Reaches (D.disk disk.old).reach self.now }
         ensures only { D.Disk.only disk.old disk.new }
         ensures same { OnlyReads (D.disk disk.old) (D.disk disk.new) }
         ensures failed { IsErrOf result AskError.Failed → Rose (D.disk disk.old).faults (D.disk disk.new).faults }
-        ensures refused { (why : Refusal) → IsErrOf result (AskError.Refused why) → (query_of query.now ≡ None) × (why ≡ Refusal.BadQuery 0) }
-        ensures asked { (IsOk result ⊎ IsErrOf result AskError.Failed) → IsSome (query_of query.now) }
+        ensures refused { (why : Refusal) → IsErrOf result (AskError.Refused why) → (place : ℕ) × IsRead key_of expr.now (Err place) × (why ≡ Refusal.BadQuery place) }
+        ensures asked { (IsOk result ⊎ IsErrOf result AskError.Failed) → (query : Meaning) × IsRead key_of expr.now (Ok query) }
         ensures found { D.disk_tells → (h : History) → IsKept (D.disk disk.old) self.now h →
-            IfOk result (λ answer. Finds h at (query_of query.now) (Found answer.rows.items answer.read)) }
+            IfOk result (λ answer. Finds h at expr.now (Found answer.rows.items answer.read)) }
     {
-        let query = match Query::read(alloc, query) {
-            Ok(query) => query,
-            Err(QueryError::BadQuery { at }) => {
-                return Err(AskError::Refused(Refusal::BadQuery { offset: at }));
-            }
-            Err(QueryError::Memory) => return Err(AskError::Memory),
-        };
-        let list = self.list_of(alloc, disk, query.word())?;
-        let answer = answer_at(alloc, &query, at, &list)?;
+        let query = query_of(alloc, expr)?;
+        let parts = self.parts_of(alloc, disk, query.words())?;
+        let answer = self.answer_by(alloc, &query, at, &parts)?;
         Ok(answer)
+    }
+
+    /// The answer to a query by the whole lists of its words.
+    fn answer_by(
+        &self,
+        alloc: Global,
+        query: &Query,
+        at: Time,
+        parts: &[Part],
+    ) -> Result<Answer, AllocError>
+        requires { length parts.now ≡ length (words_of query.now) }
+        ensures read { IfOk result (λ answer. answer.read ≡ read_of parts.now) }
+        ensures rows { (h : History) → StandsFor self.now h → AreWholeLists h (words_of query.now) parts.now →
+            IfOk result (λ answer. IsAnswerAt h at.seconds query.now answer.rows.items) }
+    {
+        if query.matches_without_words() {
+            let alive = self.directory().alive(alloc, at)?;
+            let answer = answer_from(alloc, query, at, parts, &alive)?;
+            return Ok(answer);
+        }
+        let answer = answer_by_hits(alloc, query, at, parts)?;
+        Ok(answer)
+    }
+
+    /// The whole lists of words, in order.
+    fn parts_of<D: Disk>(
+        &self,
+        alloc: Global,
+        disk: &mut D,
+        words: &[Key],
+    ) -> Result<Vec<Part>, AskError>
+        requires within { Reaches (D.disk disk.old).reach self.now }
+        ensures only { D.Disk.only disk.old disk.new }
+        ensures same { OnlyReads (D.disk disk.old) (D.disk disk.new) }
+        ensures failed { IsErrOf result AskError.Failed → Rose (D.disk disk.old).faults (D.disk disk.new).faults }
+        ensures never { (why : Refusal) → IsErrOf result (AskError.Refused why) → ⊥ }
+        ensures many { IfOk result (λ parts. length parts.items ≡ length words.now) }
+        ensures whole { D.disk_tells → (h : History) → IsKept (D.disk disk.old) self.now h → IfOk result (λ parts. AreWholeLists h words.now parts.items) }
+    {
+        let mut parts = Vec::new(alloc);
+        for word in words {
+            let list = self.list_of(alloc, disk, word)?;
+            put_whole(&mut parts, list)?;
+        }
+        Ok(parts)
     }
 
     /// The list of a word, from the texts of all versions. Costs a read of the texts, each once.
@@ -92,7 +137,7 @@ impl Archive {
         ensures same { OnlyReads (D.disk disk.old) (D.disk disk.new) }
         ensures failed { IsErrOf result AskError.Failed → Rose (D.disk disk.old).faults (D.disk disk.new).faults }
         ensures never { (why : Refusal) → IsErrOf result (AskError.Refused why) → ⊥ }
-        ensures list { IfOk result (λ list. IsList list.items) }
+        ensures few { IfOk result (λ list. length list.items ≤ 2 ^ 40) }
         ensures listed { D.disk_tells → (h : History) → IsKept (D.disk disk.old) self.now h → IfOk result (λ list. IsWordList h word.now list.items) }
     {
         let counts = count_all(
@@ -149,4 +194,28 @@ impl Archive {
         let text = read_text(alloc, disk, self.journal(), place)?;
         Ok(Some(text))
     }
+}
+
+/// The query of a phrase, or where it shows that there is none.
+fn query_of(alloc: Global, expr: &Phrase) -> Result<Query, AskError>
+    ensures query { IfOk result (λ query. IsRead key_of expr.now (Ok query)) }
+    ensures refused { (why : Refusal) → IsErrOf result (AskError.Refused why) → (place : ℕ) × IsRead key_of expr.now (Err place) × (why ≡ Refusal.BadQuery place) }
+    ensures failed { IsErrOf result AskError.Failed → ⊥ }
+{
+    match Query::read(alloc, expr.as_str()) {
+        Ok(query) => Ok(query),
+        Err(QueryError::BadQuery { at }) => Err(AskError::Refused(Refusal::BadQuery { offset: at })),
+        Err(QueryError::Memory) => Err(AskError::Memory),
+    }
+}
+
+/// Puts a list behind others, as a part that is read whole.
+fn put_whole(parts: &mut Vec<Part>, list: Vec<Posting>) -> Result<(), AllocError>
+    requires { length list.items ≤ 2 ^ 40 }
+    ensures { OnOk result ((part : PartValue) × (parts.new.items ≡ parts.old.items ++ part ∷ [])
+        × (part.list.items ≡ list.items) × (part.read ≡ length list.items)) }
+{
+    let read = list.len() as u64;
+    parts.push(Part { list, read })?;
+    Ok(())
 }

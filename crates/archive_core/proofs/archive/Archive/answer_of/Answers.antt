@@ -1,18 +1,19 @@
-use Rattle.std.proofs.Common.{◌≡◌, List, Option, Some, length, subst, sym, ◌∙◌, ap}
-use Rattle.time_base.specs.declared.posting.Posting.{Posting}
-use Rattle.query_eval.specs.Queries.{Query, Word, query_of}
-use Rattle.query_eval.specs.Laws.{IsAnswerBy}
-use Rattle.archive_state.specs.Steps.{Found, Finds}
-use Rattle.archive_state.proofs.TurnLemmas.{finds_by}
+use Rattle.std.proofs.Common.{ℕ, Ok, List, refl, subst, sym, ap, ◌∙◌}
+use Rattle.query_lang.specs.Meaning.{words_of}
+use Rattle.query_eval.specs.Asked.{read_of}
+use Rattle.query_eval.specs.declared.part.Part.{Part}
+use Rattle.archive_state.specs.Answers.{IsReadFor}
+use Rattle.archive_core.specs.Whole.{AreWholeLists}
+use Rattle.archive_core.proofs.AnswerLemmas.{whole_read}
 use Rattle.archive_core.proofs.archive.Archive.answer_of.Goals as goal
 
 pub returns-clause-found : goal.returns-clause-found
 returns-clause-found g c = λ tells h kept.
-    let answer = c.in_ok-answer.answer in
-    let list = c.in_ok-list.list.items in
-    let query : query_of c.args.query.now ≡ Some (Word c.word.result.now) = c.in-Ok.ensures.query ∙ ap Some c.word.ensures in
-    let F : Option Query → Type 0 = λ q. Finds h c.args.at q (Found answer.rows.items answer.read) in
-    let L : List Posting → Type 0 = λ l. IsAnswerBy l c.args.at.seconds c.in-Ok.query answer.rows.items in
-    let Q : Query → Type 0 = λ q. IsAnswerBy list c.args.at.seconds q answer.rows.items in
-    subst F (sym query) (finds_by h c.args.at c.word.result.now list answer.rows.items answer.read (c.in_ok-list.ensures.listed tells h kept)
-    (subst Q c.word.ensures (subst L c.deref.ensures.value c.in_ok-answer.ensures.rows)) (c.in_ok-answer.ensures.read ∙ ap length c.deref.ensures.value))
+    let query = c.in_ok-query.query in
+    let parts = c.deref.result.now in
+    let W : List (List ℕ) → Type 0 = λ words. AreWholeLists h words c.in_ok-parts.parts.items in
+    let P : List Part → Type 0 = λ l. AreWholeLists h (words_of query) l in
+    let whole = subst P (sym c.deref.ensures.value) (subst W c.words.ensures.words (c.in_ok-parts.ensures.whole tells h kept)) in
+    let R : ℕ → Type 0 = λ n. IsReadFor h (words_of query) n in
+    let read = subst R (sym c.in_ok-answer.ensures.read) (whole_read h (words_of query) parts whole) in
+    (Ok query, c.in_ok-query.ensures.query, (c.in_ok-answer.answer.rows.items, c.in_ok-answer.answer.read, c.in_ok-answer.ensures.rows h kept.stands whole, read, refl))

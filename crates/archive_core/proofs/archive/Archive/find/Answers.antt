@@ -3,4 +3,4 @@ use Rattle.archive_core.proofs.archive.Archive.find.Goals as goal
 
 pub returns-clause-takes : goal.returns-clause-takes
 returns-clause-takes g c = λ tells h kept.
-    takes_find h c.args.at c.args.query.now c.answer_of.result _ _ c.args.self.now c.answer_of.ensures.refused (c.answer_of.ensures.found tells h kept) c.answer_of.ensures.same kept
+    takes_find h c.args.at c.args.expr.now c.answer_of.result _ _ c.args.self.now c.answer_of.ensures.refused (c.answer_of.ensures.found tells h kept) c.answer_of.ensures.same kept

@@ -1,0 +1,5 @@
+use Rattle.std.proofs.Common.{rules, arith, refl}
+use Rattle.archive_core.proofs.asking.put_whole.Goals as goal
+
+pub returns : goal.returns
+returns c = (_, c.in_ok-push.ensures.items, refl, search rules)
