@@ -1,5 +1,5 @@
 -- Worked rows of what is asked, which hold by computation: what the definitions say of a small history.
-use Rattle.std.specs.Prelude.{◌≡◌, ℕ, ◌<◌, ◌≤◌, ◌==◌, ◌&&◌, ◌^◌, nat_le, nat_lt, unwrap_or, option_map, Option, Bool, true, false, cond, List, [], ◌∷◌, ◌++◌, Some, None, IsSome, Contains, codes, refl}
+use Rattle.std.specs.Prelude.{◌≡◌, ℕ, ◌<◌, ◌≤◌, ◌==◌, ◌&&◌, ◌^◌, nat_le, nat_lt, unwrap_or, option_map, Option, Result, Ok, Err, Bool, true, false, cond, List, [], ◌∷◌, ◌++◌, Some, None, IsSome, Contains, codes, refl}
 use Rattle.std.specs.Str.{chars}
 use Rattle.std.specs.Fmt.{digits}
 use lib.Utf8.{encode}
@@ -12,7 +12,10 @@ use Rattle.caseless.proofs.Computing.{caseless}
 use Rattle.time_base.specs.declared.ids.DocId.{DocId}
 use Rattle.time_base.specs.declared.time.Time.{Time}
 use Rattle.record_codec.specs.declared.entry.Entry.TheVariants as entries
-use Rattle.query_eval.specs.Queries.{Query, Word, query_of}
+use Rattle.query_lang.specs.Grammar.{Query, Has, Both, Lacks, IsRead}
+use Rattle.query_lang.specs.Machine.{read}
+use Rattle.query_lang.specs.Tokens.{key_of}
+use Rattle.query_lang.proofs.ReadingLaws.{is_read}
 use Rattle.archive_state.specs.declared.refusal.Refusal.TheVariants as refusals
 use Rattle.time_base.specs.declared.posting.Posting.{Posting}
 use Rattle.fold_tokens.specs.Terms.{occurrences}
@@ -25,7 +28,7 @@ use Rattle.archive_state.specs.Histories.{History, text_at}
 use Rattle.archive_state.specs.Answers.{frequency_at, IsAnswerAt, IsWordList}
 use Rattle.commands.specs.declared.command.Command.TheVariants.{Find, Show}
 use Rattle.commands.specs.declared.command.Item.TheVariants.{Command}
-use Rattle.archive_state.specs.Steps.{Refused, Found, Shown, Finds, Step}
+use Rattle.archive_state.specs.Steps.{Refused, Found, Shown, Step}
 use Rattle.archive_state.specs.Replies.{reply_text}
 
 abbrev doc : ℕ → DocId
@@ -40,27 +43,33 @@ ten = record { seconds = 10; before_now = lit< tt }
 abbrev one_arrival : History
 one_arrival = entries.Arrive (doc 7) ten (codes "red a") ∷ []
 
--- a word in any case, and the operators, which are kept
-words : (query_of (codes "RED") ≡ Some (Word (codes "red"))) × (query_of (codes "And") ≡ Some (Word (codes "and")))
+-- a word in any case, and one that is no operator
+words : (read key_of (codes "RED") ≡ Ok (Has (codes "red"))) × (read key_of (codes "And") ≡ Ok (Has (codes "and")))
 unfolding ucd_category caseless unicode_normalization chars encode
 words = (refl, refl)
 
-no_words : (query_of (codes "and") ≡ None) × (query_of (codes "red blue") ≡ None) × (query_of (codes "(red)") ≡ None)
+no_words : (read key_of (codes "and") ≡ Err 0) × (read key_of (codes "not") ≡ Err 3) × (read key_of (codes "()") ≡ Err 1)
 no_words = (refl, refl, refl)
 
--- one word, with a mark behind it, and two words
-marks : (query_of (codes "red.") ≡ Some (Word (codes "red"))) × (query_of (codes "e-mail") ≡ None)
+-- one word, with a mark behind it; two words; and one that isn't one
+marks : (read key_of (codes "red.") ≡ Ok (Has (codes "red"))) × (read key_of (codes "red not blue") ≡ Ok (Both (Has (codes "red")) (Lacks (Has (codes "blue"))))) × (read key_of (codes "e-mail") ≡ Err 0)
 unfolding ucd_category caseless unicode_normalization chars encode
-marks = (refl, refl)
+marks = (refl, refl, refl)
 
 -- the word is there from the version's time on
 frequencies : (frequency_at one_arrival (codes "red") (doc 7) 9 ≡ 0) × (frequency_at one_arrival (codes "red") (doc 7) 10 ≡ 1) × (frequency_at one_arrival (codes "moon") (doc 7) 10 ≡ 0)
 unfolding ucd_category caseless unicode_normalization chars encode
 frequencies = (refl, refl, refl)
 
--- what is no query is refused, and a text is shown while it is alive
-refused : Step one_arrival (Command (Find ten (codes "red blue"))) (Refused (refusals.BadQuery 0)) one_arrival
-refused = (refl, refl)
+-- what is no query is refused where that shows, and a text is shown while it is alive
+red_or : read key_of (codes "red or") ≡ Err 6
+unfolding ucd_category caseless unicode_normalization chars encode
+red_or = refl
+
+refused : Step one_arrival (Command (Find ten (codes "red or"))) (Refused (refusals.BadQuery 6)) one_arrival
+refused =
+    let R : Result Query ℕ → Type 0 = λ r. IsRead key_of (codes "red or") r in
+    (refl, (Err 6, subst R red_or (is_read key_of (codes "red or")), refl))
 
 shown : Step one_arrival (Command (Show (doc 7) ten)) (Shown (Some (codes "red a"))) one_arrival × Step one_arrival (Command (Show (doc 7) nine)) (Shown None) one_arrival
 shown = ((refl, refl), (refl, refl))
@@ -90,18 +99,18 @@ only_seven d t alive = go (7 == d) refl alive
     go false e alive = absurd cc
 
 -- the row stands for document 7 alone
-one_row : IsAnswerAt one_arrival 10 (Word red) (hit ∷ [])
+one_row : IsAnswerAt one_arrival 10 (Has red) (hit ∷ [])
 unfolding ucd_category caseless unicode_normalization chars encode
 one_row = record { ranked = tt; each = λ row. (has row, is row) }
   where
-    has : (row : Row) → Contains (hit ∷ []) row → IsRow (λ d. IsSome (text_at one_arrival d 10)) (λ d word. frequency_at one_arrival word d 10) (Word red) row
+    has : (row : Row) → Contains (hit ∷ []) row → IsRow (λ d. IsSome (text_at one_arrival d 10)) (λ d word. frequency_at one_arrival word d 10) (Has red) row
     has row there = elim (here-or-later hit row [] there) [
-      | inl same ↦ (let P : Row → Type 0 = λ r. IsRow (λ d. IsSome (text_at one_arrival d 10)) (λ d word. frequency_at one_arrival word d 10) (Word red) r in
+      | inl same ↦ (let P : Row → Type 0 = λ r. IsRow (λ d. IsSome (text_at one_arrival d 10)) (λ d word. frequency_at one_arrival word d 10) (Has red) r in
           subst P same (record { alive = refl; matching = refl; scored = refl }))
       | inr later ↦ absurd (none row later)
     ]
 
-    is : (row : Row) → IsRow (λ d. IsSome (text_at one_arrival d 10)) (λ d word. frequency_at one_arrival word d 10) (Word red) row → Contains (hit ∷ []) row
+    is : (row : Row) → IsRow (λ d. IsSome (text_at one_arrival d 10)) (λ d word. frequency_at one_arrival word d 10) (Has red) row → Contains (hit ∷ []) row
     is row has =
         let seven : row.doc.0 ≡ 7 = only_seven row.doc.0 10 has.alive in
         let F : ℕ → Type 0 = λ d. row.score ≡ frequency_at one_arrival red (doc d) 10 in
@@ -132,11 +141,11 @@ one_posting = record {
   same = λ d t some before. frequency_is d t before;
 }
 
-is_red : query_of (codes "red") ≡ Some (Word red)
+is_red : read key_of (codes "red") ≡ Ok (Has red)
 unfolding ucd_category caseless unicode_normalization chars encode
 is_red = refl
 
 found : Step one_arrival (Command (Find ten (codes "red"))) (Found (hit ∷ []) 1) one_arrival
 found =
-    let F : Option Query → Type 0 = λ q. Finds one_arrival ten q (Found (hit ∷ []) 1) in
-    (refl, subst F (sym is_red) (hit ∷ [], 1, one_row, (posting ∷ [], 0, one_posting, refl, refl), refl))
+    let R : Result Query ℕ → Type 0 = λ r. IsRead key_of (codes "red") r in
+    (refl, (Ok (Has red), subst R is_red (is_read key_of (codes "red")), (hit ∷ [], 1, one_row, (posting ∷ [], 0, one_posting, refl, refl), refl)))

@@ -2,6 +2,7 @@
 use crate::deletions::{expect_changes, made};
 use crate::rig::{FIRST_JOURNAL, Row, expect_rows, join, make_machine, read_journal, run_on};
 use archive_shell::Status;
+use std::alloc::{AllocError, Global};
 use std::test::Fail;
 
 #[test]
@@ -64,11 +65,11 @@ fn a_word_is_found_in_any_case_and_script(rt: HostRuntime) -> Result<(), Fail> {
         },
         Row {
             script: b"arrive 7 10 12\nsand and And\nfind 10 And\nfind 10 and\nfind 10 or\nfind 10 not\n",
-            replies: b"ok 1\nhit 7 2\nend 1 read 1\nno 11 BadQuery 0\nno 11 BadQuery 0\nno 11 BadQuery 0\n",
+            replies: b"ok 1\nhit 7 2\nend 1 read 1\nno 11 BadQuery 0\nno 11 BadQuery 0\nno 11 BadQuery 3\n",
         },
         Row {
             script: b"arrive 7 10 9\nred blue.\nfind 10 red blue\nfind 10 red.\nfind 10 e-mail\nfind 10 (red)\nfind 10 blue\n",
-            replies: b"ok 1\nno 11 BadQuery 0\nhit 7 1\nend 1 read 1\nno 11 BadQuery 0\nno 11 BadQuery 0\nhit 7 1\nend 1 read 1\n",
+            replies: b"ok 1\nhit 7 2\nend 1 read 2\nhit 7 1\nend 1 read 1\nno 11 BadQuery 0\nhit 7 1\nend 1 read 1\nhit 7 1\nend 1 read 1\n",
         },
         Row {
             script: b"arrive 7 10 7\nStra\xc3\x9fe\nfind 10 STRASSE\nfind 10 stra\xc3\x9fe\nfind 10 Strase\n",
@@ -80,6 +81,78 @@ fn a_word_is_found_in_any_case_and_script(rt: HostRuntime) -> Result<(), Fail> {
         },
     ];
     expect_rows(&rt, rt.alloc(), b"", &rows)
+}
+
+#[test]
+fn words_are_joined_by_and_or_and_not(rt: HostRuntime) -> Result<(), Fail> {
+    let rows = [
+        Row {
+            script: b"arrive 1 10 8\nred blue\narrive 2 10 7\nred red\narrive 3 10 5\ngreen\nfind 10 red\nfind 10 red not blue\nfind 10 blue or green\nfind 10 not red\nfind 10 red or\nfind 10 red )\nfind 10 e-mail\n",
+            replies: b"ok 1\nok 2\nok 3\nhit 2 2\nhit 1 1\nend 2 read 2\nhit 2 2\nend 1 read 3\nhit 1 1\nhit 3 1\nend 2 read 2\nhit 3 0\nend 1 read 2\nno 11 BadQuery 6\nno 11 BadQuery 4\nno 11 BadQuery 0\n",
+        },
+        Row {
+            script: b"arrive 1 10 8\nred blue\narrive 2 10 7\nred red\nfind 10 red\nfind 10 red blue\nfind 10 red or\n",
+            replies: b"ok 1\nok 2\nhit 2 2\nhit 1 1\nend 2 read 2\nhit 1 2\nend 1 read 3\nno 11 BadQuery 6\n",
+        },
+        // `not` binds tighter than `and`, and `and` tighter than `or`
+        Row {
+            script: b"arrive 1 10 3\nred\narrive 2 10 10\nblue green\nfind 10 red or blue green\nfind 10 (red or blue) green\nfind 10 not red blue\nfind 10 not (red blue)\n",
+            replies: b"ok 1\nok 2\nhit 2 2\nhit 1 1\nend 2 read 3\nhit 2 2\nend 1 read 3\nhit 2 1\nend 1 read 2\nhit 1 0\nhit 2 0\nend 2 read 2\n",
+        },
+        // a word counts once, and where one of its places is under an even number of `not`
+        Row {
+            script: b"arrive 7 10 7\nred red\nfind 10 red red\nfind 10 RED and red\nfind 10 red not red\nfind 10 red or not red\nfind 10 not not red\n",
+            replies: b"ok 1\nhit 7 2\nend 1 read 1\nhit 7 2\nend 1 read 1\nend 0 read 1\nhit 7 2\nend 1 read 1\nhit 7 2\nend 1 read 1\n",
+        },
+    ];
+    expect_rows(&rt, rt.alloc(), b"", &rows)
+}
+
+#[test]
+fn what_lacks_a_word_is_found_while_it_is_alive(rt: HostRuntime) -> Result<(), Fail> {
+    let rows = [Row {
+        script: b"arrive 1 10 4\nblue\narrive 2 20 3\nred\ndelete 1 30\narrive 2 40 5\ngreen\nfind 9 not red\nfind 10 not red\nfind 20 not red\nfind 30 not red\nfind 40 not red\nfind 40 not red blue\n",
+        replies: b"ok 1\nok 2\nok 3\nok 4\nend 0 read 1\nhit 1 0\nend 1 read 1\nhit 1 0\nend 1 read 1\nend 0 read 1\nhit 2 0\nend 1 read 1\nend 0 read 2\n",
+    }];
+    expect_rows(&rt, rt.alloc(), b"", &rows)
+}
+
+/// A script's question with a text so many times in front of a word, and another behind it.
+fn nested(
+    alloc: Global,
+    times: usize,
+    open: &[u8],
+    close: &[u8],
+) -> Result<Vec<u8>, AllocError> {
+    let mut script = Vec::from_slice(alloc, b"arrive 7 10 3\nred\nfind 10 ")?;
+    for _ in 0..times {
+        script.extend_from_slice(open)?;
+    }
+    script.extend_from_slice(b"red")?;
+    for _ in 0..times {
+        script.extend_from_slice(close)?;
+    }
+    script.push(b'\n')?;
+    Ok(script)
+}
+
+#[test]
+fn sixty_four_may_be_open_at_once(rt: HostRuntime) -> Result<(), Fail> {
+    let alloc = rt.alloc();
+    for (times, open, close, replies) in [
+        (64, "(", ")", "ok 1\nhit 7 1\nend 1 read 1\n"),
+        (65, "(", ")", "ok 1\nno 11 BadQuery 64\n"),
+        (64, "not ", "", "ok 1\nhit 7 1\nend 1 read 1\n"),
+        (65, "not ", "", "ok 1\nno 11 BadQuery 256\n"),
+    ] {
+        let script = nested(alloc, times, open.as_bytes(), close.as_bytes())?;
+        let rows = [Row {
+            script: &script,
+            replies: replies.as_bytes(),
+        }];
+        expect_rows(&rt, alloc, b"", &rows)?;
+    }
+    Ok(())
 }
 
 #[test]
