@@ -1,6 +1,6 @@
 -- Worked rows of what is asked, which hold by computation: what the definitions say of a small history.
 use Rattle.std.specs.Prelude.{◌≡◌, ℕ, ◌<◌, ◌≤◌, ◌==◌, ◌&&◌, ◌^◌, nat_le, nat_lt, unwrap_or, option_map, Option, Result, Ok, Err, Bool, true, false, cond, List, [], ◌∷◌, ◌++◌, Some, None, IsSome, Contains, codes, refl}
-use Rattle.std.specs.Str.{chars}
+use Rattle.std.specs.Str.{chars, is_utf8}
 use Rattle.std.specs.Fmt.{digits}
 use lib.Utf8.{encode}
 use Rattle.std.proofs.Common.{arith, lit<, lit≤, sym, subst, inl, inr}
@@ -45,7 +45,7 @@ one_arrival = entries.Arrive (doc 7) ten (codes "red a") ∷ []
 
 -- a word in any case, and one that is no operator
 words : (read key_of (codes "RED") ≡ Ok (Has (codes "red"))) × (read key_of (codes "And") ≡ Ok (Has (codes "and")))
-unfolding ucd_category caseless unicode_normalization chars encode
+unfolding ucd_category caseless unicode_normalization chars encode is_utf8
 words = (refl, refl)
 
 no_words : (read key_of (codes "and") ≡ Err 0) × (read key_of (codes "not") ≡ Err 3) × (read key_of (codes "()") ≡ Err 1)
@@ -53,7 +53,7 @@ no_words = (refl, refl, refl)
 
 -- one word, with a mark behind it; two words; and one that isn't one
 marks : (read key_of (codes "red.") ≡ Ok (Has (codes "red"))) × (read key_of (codes "red not blue") ≡ Ok (Both (Has (codes "red")) (Lacks (Has (codes "blue"))))) × (read key_of (codes "e-mail") ≡ Err 0)
-unfolding ucd_category caseless unicode_normalization chars encode
+unfolding ucd_category caseless unicode_normalization chars encode is_utf8
 marks = (refl, refl, refl)
 
 -- the word is there from the version's time on
@@ -63,7 +63,7 @@ frequencies = (refl, refl, refl)
 
 -- what is no query is refused where that shows, and a text is shown while it is alive
 red_or : read key_of (codes "red or") ≡ Err 6
-unfolding ucd_category caseless unicode_normalization chars encode
+unfolding ucd_category caseless unicode_normalization chars encode is_utf8
 red_or = refl
 
 refused : Step one_arrival (Command (Find ten (codes "red or"))) (Refused (refusals.BadQuery 6)) one_arrival
@@ -114,7 +114,8 @@ one_row = record { ranked = tt; each = λ row. (has row, is row) }
     is row has =
         let seven : row.doc.0 ≡ 7 = only_seven row.doc.0 10 has.alive in
         let F : ℕ → Type 0 = λ d. row.score ≡ frequency_at one_arrival red (doc d) 10 in
-        let score : row.score ≡ 1 = subst F seven has.scored in
+        let scored : row.score ≡ frequency_at one_arrival red row.doc 10 = omega (arith, has.scored) in
+        let score : row.score ≡ 1 = subst F seven scored in
         let C : Row → Type 0 = λ r. Contains (hit ∷ []) r in
         subst C (same-row hit row (sym seven) (sym score)) (here hit [])
 
@@ -142,7 +143,7 @@ one_posting = record {
 }
 
 is_red : read key_of (codes "red") ≡ Ok (Has red)
-unfolding ucd_category caseless unicode_normalization chars encode
+unfolding ucd_category caseless unicode_normalization chars encode is_utf8
 is_red = refl
 
 found : Step one_arrival (Command (Find ten (codes "red"))) (Found (hit ∷ []) 1) one_arrival
