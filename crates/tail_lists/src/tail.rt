@@ -1,5 +1,5 @@
 //! One word's tail.
-ghost use Rattle.std.specs.Prelude.{◌≡◌, ◌+◌, ◌≤◌, [], OnOk};
+ghost use Rattle.std.specs.Prelude.{◌≡◌, ◌+◌, ◌≤◌, [], length, OnOk};
 ghost use Rattle.tail_lists.specs.Turns.{IsTurned, IsTrimmed};
 
 use crate::trim::trim_to;
@@ -65,6 +65,7 @@ impl Tail {
     pub fn turn(&mut self, doc: DocId, at: Time, old: u32, new: u32)
         requires room { 1 ≤ self.old.room }
         ensures turned { IsTurned doc.0 at.seconds old new self.old.list self.new.list }
+        ensures longer { length self.new.list ≤ length self.old.list + 1 }
         ensures same { old ≡ new → self.new ≡ self.old }
         ensures room { self.old.room ≤ self.new.room + 1 }
     {
@@ -81,6 +82,7 @@ impl Tail {
     /// Cuts the tail to the times from `h` on. No memory. One pass over the tail.
     pub fn trim(&mut self, h: Time)
         ensures trimmed { IsTrimmed h.seconds self.old.list self.new.list }
+        ensures shorter { length self.new.list ≤ length self.old.list }
         ensures room { self.old.room ≤ self.new.room }
     {
         trim_to(&mut self.postings, h);

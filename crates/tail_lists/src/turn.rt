@@ -73,6 +73,7 @@ pub(crate) fn write(list: &mut Vec<Posting>, place: usize, q: Posting)
 pub(crate) fn begin(list: &mut Vec<Posting>, doc: DocId, at: Time, new: u32)
     requires room { vec_len list.old < vec_capacity list.old }
     ensures turned { IsTurned doc.0 at.seconds 0 new list.old.items list.new.items }
+    ensures longer { vec_len list.new ≤ vec_len list.old + 1 }
     ensures room { vec_capacity list.old + vec_len list.new ≤ vec_capacity list.new + vec_len list.old + 1 }
 {
     let place = place_of(list.as_slice(), doc);
@@ -88,6 +89,7 @@ pub(crate) fn pass(list: &mut Vec<Posting>, doc: DocId, at: Time, old: u32, new:
     requires differ { old ≢ new }
     requires room { vec_len list.old < vec_capacity list.old }
     ensures turned { IsTurned doc.0 at.seconds old new list.old.items list.new.items }
+    ensures longer { vec_len list.new ≤ vec_len list.old + 1 }
     ensures room { vec_capacity list.old + vec_len list.new ≤ vec_capacity list.new + vec_len list.old + 1 }
 {
     let place = place_of(list.as_slice(), doc);
