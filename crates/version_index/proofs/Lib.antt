@@ -1,2 +1,3 @@
 pub mod WordSteps
 pub mod Steps
+pub mod Keeping

@@ -1,2 +1,4 @@
 pub mod Words
 pub mod Indexing
+pub mod Newest
+pub mod Turned

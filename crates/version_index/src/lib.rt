@@ -2,5 +2,8 @@
 #![tactic(auto)]
 
 mod laws;
+mod newest;
+mod weights;
+mod word_tails;
 
 pub use laws::an_index_goes_on;
