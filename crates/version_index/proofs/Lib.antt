@@ -1,3 +1,5 @@
 pub mod WordSteps
 pub mod Steps
 pub mod Keeping
+pub mod Measures
+pub mod Measured

@@ -2,3 +2,4 @@ pub mod Words
 pub mod Indexing
 pub mod Newest
 pub mod Turned
+pub mod Measuring

@@ -2,6 +2,7 @@
 #![tactic(auto)]
 
 mod laws;
+mod measure;
 mod newest;
 mod weights;
 mod word_tails;
