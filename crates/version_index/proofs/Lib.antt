@@ -3,3 +3,5 @@ pub mod Steps
 pub mod Keeping
 pub mod Measures
 pub mod Measured
+pub mod NumberSteps
+pub mod Lookups

@@ -3,3 +3,4 @@ pub mod Indexing
 pub mod Newest
 pub mod Turned
 pub mod Measuring
+pub mod Indexes
