@@ -5,3 +5,4 @@ pub mod Measures
 pub mod Measured
 pub mod NumberSteps
 pub mod Lookups
+pub mod Loading

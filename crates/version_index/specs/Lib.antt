@@ -4,3 +4,4 @@ pub mod Newest
 pub mod Turned
 pub mod Measuring
 pub mod Indexes
+pub mod Loads

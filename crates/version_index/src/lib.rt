@@ -3,6 +3,7 @@
 
 mod index;
 mod laws;
+mod loader;
 mod measure;
 mod newest;
 mod numbering;
@@ -12,4 +13,5 @@ mod word_tails;
 
 pub use index::Index;
 pub use laws::an_index_goes_on;
+pub use loader::Loader;
 pub use prepared::Prepared;
