@@ -1,5 +1,5 @@
 -- What one change more makes of the turns, and what the turns make.
-use Rattle.std.proofs.Common.{◌≡◌, ◌⊎◌, ℕ, ◌+◌, ◌^◌, ◌<◌, ◌≤◌, ◌==◌, ◌&&◌, nat_le, Bool, true, false, cond, List, [], ◌∷◌, ◌++◌, length, slice_get, Some, map, reverse, append-nil, All, refl, ap, sym, subst, ◌∙◌, arith, length-append}
+use Rattle.std.proofs.Common.{◌≡◌, ℕ, ◌^◌, ◌<◌, ◌==◌, ◌&&◌, nat_le, Bool, true, false, cond, List, [], ◌∷◌, ◌++◌, length, slice_get, Some, map, reverse, append-nil, All, refl, ap, sym, subst, ◌∙◌, arith, length-append}
 use Rattle.std.proofs.lemmas.Bool.Decides.{nat_tests}
 use Rattle.std.proofs.lemmas.List.{map-append, reverse-append}
 use Rattle.std.proofs.lemmas.List.Elements.{filter-append, All-append, All-cons, All-nil, All-pop}
@@ -15,7 +15,7 @@ use Rattle.tail_lists.specs.Turns.{turned_one, AreTails}
 use Rattle.tail_lists.specs.Weights.{AreWeights, weight_of}
 use Rattle.tail_lists.proofs.Followed.{list-same}
 use Rattle.version_index.specs.Words.{keys_in, words_in, count_of, often}
-use Rattle.version_index.specs.Indexing.{IndexValue, AreOpen, AreIndexed, ComesLater}
+use Rattle.version_index.specs.Indexing.{AreIndexed, ComesLater}
 use Rattle.version_index.specs.Loads.{Loaded, AreLoaded}
 use Rattle.version_index.specs.Measuring.{IsMeasured}
 use Rattle.version_index.proofs.WordSteps.{words_in-push}

@@ -6,7 +6,7 @@ use Rattle.std.specs.Str.{bytes_eq}
 use Rattle.std.proofs.lemmas.List.{length-map}
 use Rattle.std.proofs.lemmas.List.Elements.{All-weaker}
 use Rattle.fold_tokens.specs.Terms.{times}
-use Rattle.fold_tokens.specs.Words.{with_all, distinct, counted, known_of, fresh_of, numbered_from, weights_of, weight_at}
+use Rattle.fold_tokens.specs.Words.{with_all, distinct, counted, fresh_of, numbered_from, weights_of, weight_at}
 use Rattle.fold_tokens.proofs.NewLemmas.{new_in, fresh-keys, with_all-new, with_all-behind}
 use Rattle.fold_tokens.proofs.WeightLemmas.{weight-times, weights-distinct, weights-counts}
 use Rattle.tail_lists.specs.declared.weight.Weight.{Weight}

@@ -1,18 +1,17 @@
 -- What one change more makes of the frequencies, the tails and the weights.
-use Rattle.std.proofs.Common.{◌≡◌, ◌≢◌, ◌⊎◌, ℕ, ◌+◌, ◌^◌, ◌<◌, ◌≤◌, ◌==◌, Bool, true, false, cond, List, [], ◌∷◌, ◌++◌, append-nil, slice_get, Option, Some, All, refl, ap, sym, subst, ◌∙◌, arith, inl, inr}
+use Rattle.std.proofs.Common.{◌≡◌, ◌≢◌, ◌⊎◌, ℕ, ◌+◌, ◌^◌, ◌<◌, ◌≤◌, ◌==◌, true, false, cond, List, [], ◌∷◌, ◌++◌, append-nil, slice_get, Option, Some, All, refl, ap, sym, subst, ◌∙◌, arith, inl, inr}
 use Rattle.std.proofs.lemmas.Bool.{eq-eqb, cases_lt, lt-leb, le-leb}
 use Rattle.std.proofs.lemmas.Bool.Decides.{eqb_tells}
 use Rattle.std.proofs.lemmas.List.Elements.{filter-append, All-weaker, All-pop}
 use Rattle.time_base.specs.declared.ids.DocId.{DocId}
-use Rattle.time_base.specs.declared.posting.Posting.{Posting}
 use Rattle.version_store.specs.declared.change.Change.{Change}
 use Rattle.version_store.specs.Changes.{changes_of, held_at}
 use Rattle.version_store.specs.Laws.{HeldAsChangesCome}
 use Rattle.fold_tokens.specs.Words.{with_all}
-use Rattle.tail_lists.specs.Turns.{turned_one, AreTails}
+use Rattle.tail_lists.specs.Turns.{turned_one, IsTurned}
 use Rattle.tail_lists.proofs.Followed.{list-same}
 use Rattle.version_index.specs.Words.{keys_in, words_in, count_of, often}
-use Rattle.version_index.specs.Indexing.{IndexValue, AreOpen, AreIndexed, ComesLater, IsChanged, GoesOn}
+use Rattle.version_index.specs.Indexing.{IndexValue, AreOpen, AreIndexed, ComesLater}
 use Rattle.version_index.proofs.WordSteps.{words_in-push, words-kept}
 
 module _ (law : HeldAsChangesCome (List ℕ)) (changes : List (Change (List ℕ))) (c : Change (List ℕ)) (early : ComesLater changes c) (weights : ℕ → ℕ) (weights_are : (w : ℕ) → weights w ≡ count_of (slice_get (words_in (changes ++ c ∷ [])) w) c.held) where
@@ -70,8 +69,16 @@ module _ (law : HeldAsChangesCome (List ℕ)) (changes : List (Change (List ℕ)
           is d w ∙ ap (λ b. cond b (weights w) (was d w)) a.0 ∙ subst A (sym a.1) open-here w t before
       go (inr a) w t before = is d w ∙ ap (λ b. cond b (weights w) (was d w)) a.0 ∙ open-other d (was d) a.1 (stands d) w t before
 
--- an index that is changed goes on to the changes with one more
-pub goes_on : GoesOn
+-- what is done to an index for one change more
+pub record IsChanged (c : Change (List ℕ)) (weights : ℕ → ℕ) (old new : IndexValue) : Type 0 where
+  pub weights_are : (w : ℕ) → weights w ≡ count_of (slice_get (with_all old.words (keys_in c)) w) c.held
+  pub words_are : new.words ≡ with_all old.words (keys_in c)
+  pub turned : (w : ℕ) → IsTurned c.doc.0 c.at.seconds (old.newest c.doc.0 w) (weights w) (old.tails w) (new.tails w)
+  pub open_are : (d w : ℕ) → new.newest d w ≡ cond (d == c.doc.0) (weights w) (old.newest d w)
+
+-- what was the index of some changes, and is so changed, is the index of the changes with one more
+pub goes_on : HeldAsChangesCome (List ℕ) → (changes : List (Change (List ℕ))) (c : Change (List ℕ)) (weights : ℕ → ℕ) (old new : IndexValue)
+    → AreIndexed old changes → ComesLater changes c → IsChanged c weights old new → AreIndexed new (changes ++ c ∷ [])
 goes_on law changes c weights old new stands early x = record {
   words_are = words;
   tails_are = λ w m.

@@ -1,12 +1,10 @@
 -- What an index is seen as, and when it is that of some changes.
-use Rattle.std.specs.Prelude.{◌≡◌, ℕ, ◌≤◌, ◌<◌, ◌==◌, if◌then◌else◌, List, [], ◌∷◌, ◌++◌, slice_get, All}
+use Rattle.std.specs.Prelude.{◌≡◌, ℕ, ◌≤◌, ◌<◌, List, All}
 use Rattle.time_base.specs.declared.posting.Posting.{Posting}
 use Rattle.version_store.specs.declared.change.Change.{Change}
 use Rattle.version_store.specs.Changes.{changes_of}
-use Rattle.version_store.specs.Laws.{HeldAsChangesCome}
-use Rattle.fold_tokens.specs.Words.{with_all}
-use Rattle.tail_lists.specs.Turns.{AreTails, IsTurned}
-use Rattle.version_index.specs.Words.{keys_in, words_in, count_of, often}
+use Rattle.tail_lists.specs.Turns.{AreTails}
+use Rattle.version_index.specs.Words.{words_in, often}
 
 -- what an index is seen as: the words by number, the list of each number, and how often the newest version of a
 -- document (first) has each number
@@ -28,15 +26,3 @@ pub record AreIndexed (value : IndexValue) (changes : List (Change (List ℕ))) 
 -- the change comes later than its document's earlier ones
 abbrev pub ComesLater : {A : Type 0} → List (Change A) → Change A → Type 0
 ComesLater changes c = All (λ d. d.at.seconds < c.at.seconds) (changes_of c.doc changes)
-
--- what is done to an index for one change more
-pub record IsChanged (c : Change (List ℕ)) (weights : ℕ → ℕ) (old new : IndexValue) : Type 0 where
-  pub weights_are : (w : ℕ) → weights w ≡ count_of (slice_get (with_all old.words (keys_in c)) w) c.held
-  pub words_are : new.words ≡ with_all old.words (keys_in c)
-  pub turned : (w : ℕ) → IsTurned c.doc.0 c.at.seconds (old.newest c.doc.0 w) (weights w) (old.tails w) (new.tails w)
-  pub open_are : (d w : ℕ) → new.newest d w ≡ (if d == c.doc.0 then weights w else old.newest d w)
-
--- what is so changed is the index of the changes with one more
-abbrev pub GoesOn : Type 0
-GoesOn = HeldAsChangesCome (List ℕ) → (changes : List (Change (List ℕ))) (c : Change (List ℕ)) (weights : ℕ → ℕ) (old new : IndexValue)
-    → AreIndexed old changes → ComesLater changes c → IsChanged c weights old new → AreIndexed new (changes ++ c ∷ [])

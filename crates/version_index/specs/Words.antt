@@ -1,5 +1,5 @@
 -- The words of texts by their numbers, and how often documents have them.
-use Rattle.std.specs.Prelude.{ℕ, ◌^◌, List, [], ◌∷◌, Option, Some, None, unwrap_or, option_map, slice_get}
+use Rattle.std.specs.Prelude.{ℕ, ◌^◌, List, [], Option, Some, None, unwrap_or, option_map, slice_get}
 use Rattle.std.specs.List.{flat_map}
 use Rattle.time_base.specs.declared.posting.Posting.{Posting}
 use Rattle.version_store.specs.declared.change.Change.{Change}

@@ -1,7 +1,6 @@
-use Rattle.std.proofs.Common.{◌≡◌, ◌≤◌, ◌^◌, ℕ, List, length, option_map, ap, sym, ◌∙◌, arith, subst}
+use Rattle.std.proofs.Common.{length, option_map, ap, arith}
 use Rattle.std.proofs.lemmas.Result.{err_from_is_err_and}
 use Rattle.fold_tokens.specs.Words.{with_all}
-use Rattle.version_index.specs.Measuring.{words_with, IsParted}
 use Rattle.version_index.proofs.Measured.{fresh-are, longer, once, occur, measured}
 use Rattle.version_index.proofs.measure.measure.Goals as goal
 

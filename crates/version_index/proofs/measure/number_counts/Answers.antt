@@ -1,5 +1,4 @@
 use Rattle.std.proofs.Common.{◌∙◌, ap, sym, append_assoc, ◌+◌, ◌++◌, ◌∷◌, [], get_or, arith}
-use Rattle.version_index.specs.Measuring.{numbered}
 use Rattle.version_index.proofs.Measures.{numbered-more}
 use Rattle.version_index.proofs.measure.number_counts.Goals as goal
 

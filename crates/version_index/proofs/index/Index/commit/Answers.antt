@@ -1,6 +1,5 @@
 use Rattle.std.proofs.Common.{◌≡◌, ℕ, ◌==◌, Bool, true, false, cond, List, [], ◌∷◌, ◌++◌, refl, ap, subst, ◌∙◌}
 use Rattle.time_base.specs.declared.ids.DocId.{DocId}
-use Rattle.version_store.specs.declared.change.Change.{Change}
 use Rattle.tail_lists.specs.declared.weight.Weight.{Weight}
 use Rattle.tail_lists.specs.Weights.{weight_of}
 use Rattle.version_index.specs.declared.index.Index.{Index}

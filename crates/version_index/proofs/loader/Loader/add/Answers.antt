@@ -1,4 +1,4 @@
-use Rattle.std.proofs.Common.{◌≡◌, ◌<◌, ◌^◌, ◌++◌, ◌∷◌, [], length, vec_len, option_map, refl, ap, sym, subst, ◌∙◌, arith, rules}
+use Rattle.std.proofs.Common.{◌≡◌, ◌++◌, ◌∷◌, [], length, vec_len, option_map, refl, ap, sym, subst, ◌∙◌, arith, rules}
 use Rattle.tail_lists.specs.declared.document.Turn.{Turn}
 use Rattle.fold_tokens.specs.Words.{with_all}
 use Rattle.version_index.specs.declared.loader.Loader.{Loader}
