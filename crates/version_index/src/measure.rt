@@ -107,7 +107,7 @@ fn weights_by(alloc: Global, counts: Vec<(u32, u32)>) -> Result<Weights, AllocEr
 {
     let mut counts = counts;
     counts.sort_unstable_by_key(|p| p.0);
-    let mut items = Vec::new(alloc);
+    let mut items = Vec::with_capacity(alloc, counts.len())?;
     for &(number, count) in &counts {
         items.push(weight(number, count))?;
     }
