@@ -59,8 +59,8 @@ impl Index {
 
     /// Prepares a new text of the document, or its deletion: measures the text and makes all room.
     /// No answer changes, also after an `Err`. `Full` comes where there would be more than 2^20
-    /// words. The text is read once; it costs the text's words, and those of the document's newest
-    /// version.
+    /// words, and `Memory` where there is none, or where 2^40 changes were committed. The text is
+    /// read once; it costs the text's words, and those of the document's newest version.
     pub fn prepare(
         &mut self,
         alloc: Global,

@@ -46,8 +46,9 @@ impl Loader {
     }
 
     /// Takes the next change: a new text of the document, or its deletion. An `Err` leaves the
-    /// loader as it was. `Full` comes where there would be more than 2^20 words. The text is read
-    /// once; it costs the text's words.
+    /// loader as it was. `Full` comes where there would be more than 2^20 words, and `Memory` where
+    /// there is none, or where 2^40 changes were added. The text is read once; it costs the text's
+    /// words.
     pub fn add(
         &mut self,
         alloc: Global,
