@@ -36,6 +36,15 @@ frequency-kept (Turns doc at new ∷ acts) w d t = elim (cases_eq doc d) [
 ]
 frequency-kept (Trims word h ∷ acts) w d t = frequency-kept acts w d t
 
+-- and so are the weights that it has open
+open-kept : (acts : List Act) (w d : ℕ) → open_after (filter (is_act_of d) acts) w d ≡ open_after acts w d
+open-kept [] w d = refl
+open-kept (Turns doc at new ∷ acts) w d = elim (cases_eq doc d) [
+  | inl e ↦ ap (λ z. open_after z w d) (kept-here doc at new acts d e) ∙ open-here doc at new (filter (is_act_of d) acts) w d (sym e) ∙ sym (open-here doc at new acts w d (sym e))
+  | inr n ↦ ap (λ z. open_after z w d) (kept-away doc at new acts d n) ∙ open-kept acts w d ∙ sym (open-away doc at new acts w d (λ u. n (sym u)))
+]
+open-kept (Trims word h ∷ acts) w d = open-kept acts w d
+
 -- acts are in order exactly where those of each document are
 order-kept : (acts : List Act) (d : ℕ) → AreInOrder acts → AreInOrder (filter (is_act_of d) acts)
 order-kept [] d o = tt
@@ -96,6 +105,10 @@ sorted-order turns sorted s o = order-from (acts_of sorted) (λ d. subst AreInOr
 pub sorted-frequency : (turns sorted : List Turn) → ((d : ℕ) → filter (is_of d) sorted ≡ filter (is_of d) turns) → (w d t : ℕ) → frequency_after (acts_of sorted) w d t ≡ frequency_after (acts_of turns) w d t
 sorted-frequency turns sorted s w d t =
     sym (frequency-kept (acts_of sorted) w d t) ∙ ap (λ z. frequency_after z w d t) (alike turns sorted s d) ∙ frequency-kept (acts_of turns) w d t
+
+pub sorted-open : (turns sorted : List Turn) → ((d : ℕ) → filter (is_of d) sorted ≡ filter (is_of d) turns) → (w d : ℕ) → open_after (acts_of sorted) w d ≡ open_after (acts_of turns) w d
+sorted-open turns sorted s w d =
+    sym (open-kept (acts_of sorted) w d) ∙ ap (λ z. open_after z w d) (alike turns sorted s d) ∙ open-kept (acts_of turns) w d
 
 -- one turn more
 acts-more : (turns : List Turn) (k : ℕ) (x : Turn) → k < length turns → acts_of (take (k + 1) turns) ≡ act_of (get_or turns k x) ∷ acts_of (take k turns)

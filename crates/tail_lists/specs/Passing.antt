@@ -1,5 +1,5 @@
 -- How far a turn of a document has come over the words of two lists of weights.
-use Rattle.std.specs.Prelude.{◌≡◌, ◌⊎◌, ℕ, ◌+◌, ◌≤◌, ◌==◌, if◌then◌else◌, List, [], ◌∷◌, All}
+use Rattle.std.specs.Prelude.{◌≡◌, ◌⊎◌, ℕ, ◌+◌, ◌≤◌, ◌==◌, if◌then◌else◌, List, [], ◌∷◌, length, All}
 use Rattle.tail_lists.specs.declared.weight.Weight.{Weight}
 use Rattle.tail_lists.specs.Held.{Held}
 use Rattle.tail_lists.specs.Tails.{held_of, tail_of, room_of, HaveRoom}
@@ -25,6 +25,7 @@ pub record IsDone (doc at : ℕ) (old new lost gained : List Weight) (was now : 
   pub none_lost : weight_of w lost ≡ 0
   pub none_gained : weight_of w gained ≡ 0
   pub turned : IsTurned doc at (weight_of w old) (weight_of w new) (tail_of was w) (tail_of now w)
+  pub longer : length (tail_of now w) ≤ length (tail_of was w) + 1
   pub same : weight_of w old ≡ weight_of w new → held_of now w ≡ held_of was w
   pub room : room_of was w ≤ room_of now w + 1
 

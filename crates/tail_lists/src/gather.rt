@@ -1,5 +1,5 @@
 //! All tails at once from a history's turns.
-ghost use Rattle.std.specs.Prelude.{◌≡◌, ℕ, ◌<◌, filter, length, slice_index_or, take, All, IfOk, OnOk};
+ghost use Rattle.std.specs.Prelude.{◌≡◌, ℕ, ◌<◌, ◌≤◌, filter, length, slice_index_or, take, All, IfOk, OnOk};
 ghost use Rattle.std.specs.List.Sorted.{IsNonDecreasingBy, IsPermutation};
 ghost use Rattle.tail_lists.specs.declared.document.Turn.{Turn};
 ghost use Rattle.tail_lists.specs.Turns.{AreTails};
@@ -16,18 +16,20 @@ use std::alloc::{AllocError, Global};
 impl Tails {
     /// The tails after all turns of a history, which are given in the order of time. The turns are
     /// sorted by document, once; then each one goes to the end of its tails, without a move. For n
-    /// weights in all the cost is n log n.
-    pub fn gather(alloc: Global, turns: Vec<Turn>) -> Result<Tails, AllocError>
-        requires in_order { AreInOrder (acts_of turns.items) }
-        requires ascending { All (λ x. AreWeights x.weights.items) turns.items }
-        ensures { IfOk result (λ tails. AreTails (frequency_after (acts_of turns.items)) (λ w. 0) (tail_of tails)) }
+    /// weights in all the cost is n log n. The turns stay with the caller, sorted by document.
+    pub fn gather(alloc: Global, turns: &mut Vec<Turn>) -> Result<Tails, AllocError>
+        requires in_order { AreInOrder (acts_of turns.old.items) }
+        requires ascending { All (λ x. AreWeights x.weights.items) turns.old.items }
+        ensures tails { IfOk result (λ tails. AreTails (frequency_after (acts_of turns.old.items)) (λ w. 0) (tail_of tails)) }
+        ensures short { IfOk result (λ tails. (w : ℕ) → length (tail_of tails w) ≤ length turns.old.items) }
+        ensures permutation { IsPermutation turns.old.items turns.new.items }
+        ensures open { (w d : ℕ) → open_after (acts_of turns.new.items) w d ≡ open_after (acts_of turns.old.items) w d }
     {
-        let mut turns = turns;
-        sort_by_doc(&mut turns)?;
+        sort_by_doc(turns)?;
         let mut tails = Tails::new(alloc);
         for i in 0..turns.len() {
             let turn = &turns[i];
-            let old = open_before(&turns, i);
+            let old = open_before(turns, i);
             tails.reserve_turn(old, &turn.weights)?;
             tails.turn(turn.doc, turn.at, old, &turn.weights);
         }
@@ -40,6 +42,7 @@ fn sort_by_doc(turns: &mut Vec<Turn>) -> Result<(), AllocError>
     ensures permutation { IsPermutation turns.old.items turns.new.items }
     ensures sorted { OnOk result (IsNonDecreasingBy (λ x. x.doc.0) turns.new.items) }
     ensures stable { (d : ℕ) → filter (is_of d) turns.new.items ≡ filter (is_of d) turns.old.items }
+    ensures open { (w d : ℕ) → open_after (acts_of turns.new.items) w d ≡ open_after (acts_of turns.old.items) w d }
 {
     turns.sort_by_key(|x| x.doc.0)?;
     Ok(())

@@ -82,6 +82,7 @@ impl Tail {
     /// Cuts the tail to the times from `h` on. No memory. One pass over the tail.
     pub fn trim(&mut self, h: Time)
         ensures trimmed { IsTrimmed h.seconds self.old.list self.new.list }
+        ensures shorter { length self.new.list ≤ length self.old.list }
         ensures room { self.old.room ≤ self.new.room }
     {
         trim_to(&mut self.postings, h);

@@ -1,5 +1,5 @@
 //! The tails of all words.
-ghost use Rattle.std.specs.Prelude.{◌≡◌, ◌≢◌, ℕ, ◌+◌, ◌≤◌, [], OnOk};
+ghost use Rattle.std.specs.Prelude.{◌≡◌, ◌≢◌, ℕ, ◌+◌, ◌≤◌, [], length, OnOk};
 ghost use Rattle.tail_lists.specs.Turns.{IsTurned, IsTrimmed};
 ghost use Rattle.tail_lists.specs.Tails.{held_of, tail_of, room_of, HaveRoom};
 ghost use Rattle.tail_lists.specs.Weights.{AreWeights, weight_of};
@@ -70,6 +70,7 @@ impl Tails {
         requires room_for_old { HaveRoom old.now self.old }
         requires room_for_new { HaveRoom new.now self.old }
         ensures turned { (w : ℕ) → IsTurned doc.0 at.seconds (weight_of w old.now) (weight_of w new.now) (tail_of self.old w) (tail_of self.new w) }
+        ensures longer { (w : ℕ) → length (tail_of self.new w) ≤ length (tail_of self.old w) + 1 }
         ensures others { (w : ℕ) → weight_of w old.now ≡ weight_of w new.now → held_of self.new w ≡ held_of self.old w }
         ensures room { (w : ℕ) → room_of self.old w ≤ room_of self.new w + 1 }
     {
@@ -87,6 +88,7 @@ impl Tails {
     /// Cuts the word's tail to the times from `h` on. No memory. One pass over the word's tail.
     pub fn trim(&mut self, word: WordId, h: Time)
         ensures trimmed { IsTrimmed h.seconds (tail_of self.old word.number) (tail_of self.new word.number) }
+        ensures shorter { length (tail_of self.new word.number) ≤ length (tail_of self.old word.number) }
         ensures others { (w : ℕ) → w ≢ word.number → held_of self.new w ≡ held_of self.old w }
         ensures room { (w : ℕ) → room_of self.old w ≤ room_of self.new w }
     {
@@ -126,6 +128,7 @@ impl Tails {
     fn turn_word(&mut self, word: WordId, doc: DocId, at: Time, old: u32, new: u32)
         requires room { old ≢ new → 1 ≤ room_of self.old word.number }
         ensures turned { IsTurned doc.0 at.seconds old new (tail_of self.old word.number) (tail_of self.new word.number) }
+        ensures longer { length (tail_of self.new word.number) ≤ length (tail_of self.old word.number) + 1 }
         ensures same { old ≡ new → held_of self.new word.number ≡ held_of self.old word.number }
         ensures others { (w : ℕ) → w ≢ word.number → held_of self.new w ≡ held_of self.old w }
         ensures room { room_of self.old word.number ≤ room_of self.new word.number + 1 }

@@ -134,7 +134,7 @@ fn turns_are_gathered(rt: HostRuntime) -> Result<(), Fail> {
         Time::new(20).ok_or("20")?,
         Time::new(30).ok_or("30")?,
     ];
-    let turns = vec![in alloc;
+    let mut turns = vec![in alloc;
         Turn {
             doc: DocId(2),
             at: times[0],
@@ -151,7 +151,7 @@ fn turns_are_gathered(rt: HostRuntime) -> Result<(), Fail> {
             weights: Vec::new(alloc)
         },
     ]?;
-    let tails = Tails::gather(alloc, turns)?;
+    let tails = Tails::gather(alloc, &mut turns)?;
     let open = posting(1, 20, NOW, 4).ok_or("document 1")?;
     let ended = posting(2, 10, 30, 1).ok_or("document 2")?;
     assert_eq!(rt; tails.tail(word), [open, ended].as_slice());

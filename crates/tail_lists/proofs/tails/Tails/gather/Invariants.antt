@@ -1,4 +1,4 @@
-use Rattle.std.proofs.Common.{ℕ, ◌^◌, take}
+use Rattle.std.proofs.Common.{ℕ, ◌≤◌, ◌^◌, length, take}
 use Rattle.postings.specs.ListsOf.{IsListOf}
 use Rattle.tail_lists.specs.Acts.{frequency_after}
 use Rattle.tail_lists.specs.Gathered.{acts_of}
@@ -6,4 +6,7 @@ use Rattle.tail_lists.specs.Tails.{tail_of}
 use Rattle.tail_lists.proofs.tails.Tails.gather.Given as goal
 
 abbrev pub invariant-loop-i : goal.invariant-loop-i
-invariant-loop-i l = (w : ℕ) → IsListOf (frequency_after (acts_of (take l.i l.turns.items)) w) 0 (2 ^ 40) (tail_of l.tails w)
+invariant-loop-i l = record {
+  lists : (w : ℕ) → IsListOf (frequency_after (acts_of (take l.i l.turns.items)) w) 0 (2 ^ 40) (tail_of l.tails w);
+  short : (w : ℕ) → length (tail_of l.tails w) ≤ l.i;
+}

@@ -1,0 +1,115 @@
+//! The index.
+ghost use Rattle.std.specs.Prelude.{◌≡◌, ℕ, ◌<◌, ◌≤◌, ◌^◌, ◌↔◌, List, [], ◌∷◌, ◌++◌, length, Option, option_map, Contains, Err, IfOk, OnOk, IfSome, IsTrue};
+ghost use Rattle.version_store.specs.declared.change.Change.{Change};
+ghost use Rattle.version_index.specs.Words.{words_in, IsWordList};
+ghost use Rattle.version_index.specs.Indexing.{ComesLater};
+ghost use Rattle.version_index.specs.Indexes.{seen, Indexes, IsPrepared, IsPreparedFor};
+
+use crate::measure::{Measured, measure};
+use crate::newest::Newest;
+use crate::numbering::number_all;
+use crate::prepared::Prepared;
+use crate::word_tails::WordTails;
+use fold_tokens::{NumberError, Places, Vocabulary};
+use std::alloc::{AllocError, Global};
+use time_base::{DocId, Key, Posting, Time};
+use version_store::held_as_changes_come;
+
+/// For each word of all versions so far, the list of how often each document has it at each time.
+///
+/// Contracts speak of it by `Indexes`: it is the index of a list of changes.
+#[derive(Drop)]
+pub struct Index {
+    pub(crate) vocabulary: Vocabulary,
+    pub(crate) places: Places,
+    pub(crate) tails: WordTails,
+    pub(crate) newest: Newest,
+}
+
+impl Index {
+    /// The index of no changes. Constant cost.
+    pub fn new(alloc: Global) -> Result<Index, AllocError>
+        ensures { IfOk result (λ index. Indexes index []) }
+    {
+        Ok(Index {
+            vocabulary: Vocabulary::new(alloc)?,
+            places: Places::new(alloc),
+            tails: WordTails::new(alloc),
+            newest: Newest::new(alloc),
+        })
+    }
+
+    /// The word's list; empty for a word that no text has. It costs one look-up.
+    pub fn list(&self, word: &Key) -> &[Posting]
+        ensures list { (changes : List (Change (List ℕ))) → Indexes self.now changes → IsWordList changes word.now result.now }
+        ensures short { length result.now ≤ 2 ^ 40 }
+    {
+        match self.vocabulary.find(word) {
+            Some(id) => self.tails.list(id),
+            None => &[],
+        }
+    }
+
+    /// Whether some text has the word. It costs one look-up.
+    pub fn knows(&self, word: &Key) -> bool
+        ensures { (changes : List (Change (List ℕ))) → Indexes self.now changes → (IsTrue result ↔ Contains (words_in changes) word.now) }
+    {
+        self.vocabulary.find(word).is_some()
+    }
+
+    /// Prepares a new text of the document, or its deletion: measures the text and makes all room.
+    /// No answer changes, also after an `Err`. `Full` comes where there would be more than 2^20
+    /// words, and `Memory` where there is none, or where 2^40 changes were committed. The text is
+    /// read once; it costs the text's words, and those of the document's newest version.
+    pub fn prepare(
+        &mut self,
+        alloc: Global,
+        doc: DocId,
+        text: Option<&str>,
+    ) -> Result<Prepared, NumberError>
+        requires { IfSome text (λ t. length t.now < 2 ^ 32) }
+        ensures prepared { IfOk result (λ change. IsPrepared self.new change) }
+        ensures content { IfOk result (λ change. IsPreparedFor self.new doc (option_map (λ t. t.now) text.entry) change) }
+        ensures same { seen self.new ≡ seen self.old }
+        ensures fits { OnOk result ((changes : List (Change (List ℕ))) (c : Change (List ℕ)) → Indexes self.old changes
+            → c.held ≡ option_map (λ t. t.now) text.entry → length (words_in (changes ++ c ∷ [])) ≤ 2 ^ 20) }
+        ensures full { result ≡ Err NumberError.Full → (changes : List (Change (List ℕ))) (c : Change (List ℕ)) → Indexes self.old changes
+            → c.held ≡ option_map (λ t. t.now) text.entry → 2 ^ 20 < length (words_in (changes ++ c ∷ [])) }
+    {
+        let measured = measure(alloc, &mut self.vocabulary, &mut self.places, text)?;
+        let Measured { fresh, weights } = measured;
+        if self.tails.is_full() {
+            return Err(NumberError::Memory);
+        }
+        self.tails
+            .reserve_turn(self.newest.weights(doc), weights.as_slice())?;
+        self.newest.reserve()?;
+        Ok(Prepared {
+            doc,
+            fresh,
+            weights,
+        })
+    }
+
+    /// Makes the prepared change, at a time behind the document's earlier ones. It takes no memory
+    /// and can't fail. It costs two look-ups, and for each word whose frequency changes the
+    /// logarithm of its list's length, and a move of the postings of later documents.
+    pub fn commit(&mut self, change: Prepared, at: Time)
+        requires { IsPrepared self.old change }
+        ensures { (changes : List (Change (List ℕ))) (doc : DocId) (held : Option (List ℕ)) → Indexes self.old changes
+            → IsPreparedFor self.old doc held change
+            → ComesLater changes (record { doc = doc; at = at; held = held })
+            → Indexes self.new (changes ++ record { doc = doc; at = at; held = held } ∷ []) }
+    {
+        held_as_changes_come::<Key>();
+        let Prepared {
+            doc,
+            fresh,
+            weights,
+        } = change;
+        number_all(&mut self.vocabulary, fresh);
+        self.tails
+            .turn(doc, at, self.newest.weights(doc), weights.as_slice());
+        self.newest.put(doc, weights);
+    }
+}

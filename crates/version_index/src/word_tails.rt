@@ -1,0 +1,102 @@
+//! The lists of all words, and how many turns they took.
+ghost use Rattle.std.specs.Prelude.{◌≡◌, ℕ, ◌+◌, ◌<◌, ◌≤◌, ◌^◌, ◌↔◌, [], length, All, IfOk, OnOk, IsTrue};
+ghost use Rattle.std.specs.List.Sorted.{IsPermutation};
+ghost use Rattle.tail_lists.specs.Acts.{frequency_after, open_after, AreInOrder};
+ghost use Rattle.tail_lists.specs.Gathered.{acts_of};
+ghost use Rattle.tail_lists.specs.Tails.{tail_of, HaveRoom};
+ghost use Rattle.tail_lists.specs.Turns.{AreTails, IsTurned};
+ghost use Rattle.tail_lists.specs.Weights.{AreWeights, weight_of};
+
+use std::alloc::{AllocError, Global};
+use std::marker::Model;
+use tail_lists::{Tails, Turn, Weight};
+use time_base::{DocId, Posting, Time, WordId};
+
+/// The most turns. Lists of so many postings have no memory.
+pub(crate) const MOST_TURNS: u64 = 1 << 40;
+
+/// The lists of all words from time 0 on, and how many turns of documents they took: no list has
+/// more postings.
+#[derive(Drop)]
+pub(crate) struct WordTails {
+    tails: Tails,
+    turns: u64,
+}
+
+impl Model for WordTails {
+    ghost use Rattle.std.specs.Prelude.{ℕ, ◌≤◌, ◌^◌, length};
+    ghost use Rattle.tail_lists.specs.Tails.{tail_of};
+    ghost use Rattle.version_index.specs.Turned.{Turned};
+
+    ghost Value = { Turned };
+
+    ghost view = { λ t. record { tails = t.tails; turns = t.turns } };
+
+    ghost invariant = { λ t. (t.turns ≤ 2 ^ 40) × ((w : ℕ) → length (tail_of t.tails w) ≤ t.turns) };
+}
+
+impl WordTails {
+    /// An empty list for each word.
+    pub(crate) fn new(alloc: Global) -> WordTails
+        ensures { (w : ℕ) → tail_of result.tails w ≡ [] }
+    {
+        WordTails {
+            tails: Tails::new(alloc),
+            turns: 0,
+        }
+    }
+
+    /// The lists after all turns of a history, which are given in the order of time.
+    pub(crate) fn gather(alloc: Global, turns: &mut Vec<Turn>) -> Result<WordTails, AllocError>
+        requires in_order { AreInOrder (acts_of turns.old.items) }
+        requires ascending { All (λ x. AreWeights x.weights.items) turns.old.items }
+        requires few { length turns.old.items ≤ 2 ^ 40 }
+        ensures tails { IfOk result (λ t. AreTails (frequency_after (acts_of turns.old.items)) (λ w. 0) (tail_of t.tails)) }
+        ensures permutation { IsPermutation turns.old.items turns.new.items }
+        ensures open { (w d : ℕ) → open_after (acts_of turns.new.items) w d ≡ open_after (acts_of turns.old.items) w d }
+    {
+        let tails = Tails::gather(alloc, turns)?;
+        Ok(WordTails {
+            tails,
+            turns: turns.len() as u64,
+        })
+    }
+
+    /// The word's list.
+    pub(crate) fn list(&self, word: WordId) -> &[Posting]
+        ensures value { result.now ≡ tail_of self.now.tails word.number }
+        ensures short { length result.now ≤ 2 ^ 40 }
+    {
+        self.tails.tail(word)
+    }
+
+    /// Whether there may be no turn more.
+    pub(crate) fn is_full(&self) -> bool
+        ensures { IsTrue result ↔ (2 ^ 40 ≤ self.now.turns) }
+    {
+        MOST_TURNS <= self.turns
+    }
+
+    /// Makes room for one turn of a document from the weights `old` to `new`.
+    pub(crate) fn reserve_turn(&mut self, old: &[Weight], new: &[Weight]) -> Result<(), AllocError>
+        ensures room_for_old { OnOk result (HaveRoom old.now self.new.tails) }
+        ensures room_for_new { OnOk result (HaveRoom new.now self.new.tails) }
+        ensures turns { self.new.turns ≡ self.old.turns }
+        ensures same { (w : ℕ) → tail_of self.new.tails w ≡ tail_of self.old.tails w }
+    {
+        self.tails.reserve_turn(old, new)
+    }
+
+    /// At `at` the document passes from the weights `old` to `new`. It takes no memory.
+    pub(crate) fn turn(&mut self, doc: DocId, at: Time, old: &[Weight], new: &[Weight])
+        requires old { AreWeights old.now }
+        requires new { AreWeights new.now }
+        requires room_for_old { HaveRoom old.now self.old.tails }
+        requires room_for_new { HaveRoom new.now self.old.tails }
+        requires few { self.old.turns < 2 ^ 40 }
+        ensures turned { (w : ℕ) → IsTurned doc.0 at.seconds (weight_of w old.now) (weight_of w new.now) (tail_of self.old.tails w) (tail_of self.new.tails w) }
+    {
+        self.tails.turn(doc, at, old, new);
+        self.turns += 1;
+    }
+}
