@@ -1,6 +1,7 @@
 -- The weights of the documents' newest versions, by a map.
 use Rattle.std.specs.Prelude.{ℕ, ◌==◌, List, [], Option, Some, None}
-use Rattle.std.specs.HashMap.{HashMap, get, spare}
+use Rattle.std.specs.HashMap.{HashMap, spare}
+use Rattle.std.specs.Map.{lookup}
 use Rattle.std.specs.declared.hash.FoldHasher.{FoldHasher}
 use Rattle.std.specs.declared.hash.BuildHasherDefault.{BuildHasherDefault}
 use Rattle.time_base.specs.declared.ids.DocId.{DocId}
@@ -16,9 +17,12 @@ abbrev pub kept : Option (List Weight) → List Weight
 kept None = []
 kept (Some weights) = weights
 
--- the weights of a document
+-- the weights of a document among those of documents
+abbrev pub newest_of : List (DocId × List Weight) → ℕ → List Weight
+newest_of newest d = kept (lookup (λ doc. d == doc.0) newest)
+
 abbrev pub weights_in : ByDocument → ℕ → List Weight
-weights_in map d = kept (get (λ a b. a.0 == b.0) map (record { 0 = d }))
+weights_in map d = newest_of map.entries d
 
 abbrev pub weights_of : Newest → ℕ → List Weight
 weights_of newest d = weights_in newest.by_document d

@@ -3,7 +3,7 @@ ghost use Rattle.std.specs.Prelude.{◌≡◌, ℕ, ◌<◌, ◌≤◌, ◌^◌,
 ghost use Rattle.version_store.specs.declared.change.Change.{Change};
 ghost use Rattle.version_index.specs.Words.{words_in, IsWordList};
 ghost use Rattle.version_index.specs.Indexing.{ComesLater};
-ghost use Rattle.version_index.specs.Indexes.{seen, Indexes, IsPrepared, IsPreparedFor};
+ghost use Rattle.version_index.specs.Indexes.{state_of, seen, Indexes, HasRoom, IsPreparedFor};
 
 use crate::measure::{Measured, measure};
 use crate::newest::Newest;
@@ -29,7 +29,7 @@ pub struct Index {
 impl Index {
     /// The index of no changes. Constant cost.
     pub fn new(alloc: Global) -> Result<Index, AllocError>
-        ensures { IfOk result (λ index. Indexes index []) }
+        ensures { IfOk result (λ index. Indexes (state_of index) []) }
     {
         Ok(Index {
             vocabulary: Vocabulary::new(alloc)?,
@@ -41,7 +41,7 @@ impl Index {
 
     /// The word's list; empty for a word that no text has. It costs one look-up.
     pub fn list(&self, word: &Key) -> &[Posting]
-        ensures list { (changes : List (Change (List ℕ))) → Indexes self.now changes → IsWordList changes word.now result.now }
+        ensures list { (changes : List (Change (List ℕ))) → Indexes (state_of self.now) changes → IsWordList changes word.now result.now }
         ensures short { length result.now ≤ 2 ^ 40 }
     {
         match self.vocabulary.find(word) {
@@ -52,15 +52,14 @@ impl Index {
 
     /// Whether some text has the word. It costs one look-up.
     pub fn knows(&self, word: &Key) -> bool
-        ensures { (changes : List (Change (List ℕ))) → Indexes self.now changes → (IsTrue result ↔ Contains (words_in changes) word.now) }
+        ensures { (changes : List (Change (List ℕ))) → Indexes (state_of self.now) changes → (IsTrue result ↔ Contains (words_in changes) word.now) }
     {
         self.vocabulary.find(word).is_some()
     }
 
-    /// Prepares a new text of the document, or its deletion: measures the text and makes all room.
-    /// No answer changes, also after an `Err`. `Full` comes where there would be more than 2^20
-    /// words, and `Memory` where there is none, or where 2^40 changes were committed. The text is
-    /// read once; it costs the text's words, and those of the document's newest version.
+    /// Prepares a new text of the document, or its deletion: measures the text. Nothing changes.
+    /// `Full` comes where there would be more than 2^20 words. The text is read once; it costs the
+    /// text's words.
     pub fn prepare(
         &mut self,
         alloc: Global,
@@ -68,22 +67,15 @@ impl Index {
         text: Option<&str>,
     ) -> Result<Prepared, NumberError>
         requires { IfSome text (λ t. length t.now < 2 ^ 32) }
-        ensures prepared { IfOk result (λ change. IsPrepared self.new change) }
-        ensures content { IfOk result (λ change. IsPreparedFor self.new doc (option_map (λ t. t.now) text.entry) change) }
-        ensures same { seen self.new ≡ seen self.old }
-        ensures fits { OnOk result ((changes : List (Change (List ℕ))) (c : Change (List ℕ)) → Indexes self.old changes
+        ensures prepared { IfOk result (λ change. IsPreparedFor (state_of self.old) doc (option_map (λ t. t.now) text.entry) change) }
+        ensures same { state_of self.new ≡ state_of self.old }
+        ensures fits { OnOk result ((changes : List (Change (List ℕ))) (c : Change (List ℕ)) → Indexes (state_of self.old) changes
             → c.held ≡ option_map (λ t. t.now) text.entry → length (words_in (changes ++ c ∷ [])) ≤ 2 ^ 20) }
-        ensures full { result ≡ Err NumberError.Full → (changes : List (Change (List ℕ))) (c : Change (List ℕ)) → Indexes self.old changes
+        ensures full { result ≡ Err NumberError.Full → (changes : List (Change (List ℕ))) (c : Change (List ℕ)) → Indexes (state_of self.old) changes
             → c.held ≡ option_map (λ t. t.now) text.entry → 2 ^ 20 < length (words_in (changes ++ c ∷ [])) }
     {
-        let measured = measure(alloc, &mut self.vocabulary, &mut self.places, text)?;
+        let measured = measure(alloc, &self.vocabulary, &mut self.places, text)?;
         let Measured { fresh, weights } = measured;
-        if self.tails.is_full() {
-            return Err(NumberError::Memory);
-        }
-        self.tails
-            .reserve_turn(self.newest.weights(doc), weights.as_slice())?;
-        self.newest.reserve()?;
         Ok(Prepared {
             doc,
             fresh,
@@ -91,15 +83,33 @@ impl Index {
         })
     }
 
+    /// Makes room for a change, so that its commit takes no memory. No answer changes, also after an
+    /// `Err`. `Full` comes where there would be more than 2^20 words, and `Memory` where there is
+    /// none, or where 2^40 changes were committed. It costs a look-up for each fresh word, and
+    /// constant cost on average for each word of the text and of the document's newest version.
+    pub fn make_room(&mut self, change: &Prepared) -> Result<(), NumberError>
+        ensures room { OnOk result (HasRoom (state_of self.new) change.now) }
+        ensures same { seen (state_of self.new) ≡ seen (state_of self.old) }
+    {
+        if self.tails.is_full() {
+            return Err(NumberError::Memory);
+        }
+        self.vocabulary.reserve(&change.fresh)?;
+        self.tails
+            .reserve_turn(self.newest.weights(change.doc), change.weights.as_slice())?;
+        self.newest.reserve()?;
+        Ok(())
+    }
+
     /// Makes the prepared change, at a time behind the document's earlier ones. It takes no memory
     /// and can't fail. It costs two look-ups, and for each word whose frequency changes the
     /// logarithm of its list's length, and a move of the postings of later documents.
     pub fn commit(&mut self, change: Prepared, at: Time)
-        requires { IsPrepared self.old change }
-        ensures { (changes : List (Change (List ℕ))) (doc : DocId) (held : Option (List ℕ)) → Indexes self.old changes
-            → IsPreparedFor self.old doc held change
+        requires { HasRoom (state_of self.old) change }
+        ensures { (changes : List (Change (List ℕ))) (doc : DocId) (held : Option (List ℕ)) → Indexes (state_of self.old) changes
+            → IsPreparedFor (state_of self.old) doc held change
             → ComesLater changes (record { doc = doc; at = at; held = held })
-            → Indexes self.new (changes ++ record { doc = doc; at = at; held = held } ∷ []) }
+            → Indexes (state_of self.new) (changes ++ record { doc = doc; at = at; held = held } ∷ []) }
     {
         held_as_changes_come::<Key>();
         let Prepared {

@@ -7,7 +7,7 @@ ghost use Rattle.tail_lists.specs.Weights.{AreWeights, weight_of};
 ghost use Rattle.version_index.specs.Words.{words_in};
 ghost use Rattle.version_index.specs.Newest.{weights_of};
 ghost use Rattle.version_index.specs.Indexing.{ComesLater};
-ghost use Rattle.version_index.specs.Indexes.{Indexes};
+ghost use Rattle.version_index.specs.Indexes.{state_of, Indexes};
 ghost use Rattle.version_index.specs.Loads.{loaded, Loads};
 
 use crate::index::Index;
@@ -71,8 +71,9 @@ impl Loader {
             return Err(NumberError::Memory);
         }
         self.turns.reserve(1)?;
-        let measured = measure(alloc, &mut self.vocabulary, &mut self.places, text)?;
+        let measured = measure(alloc, &self.vocabulary, &mut self.places, text)?;
         let Measured { fresh, weights } = measured;
+        self.vocabulary.reserve(&fresh)?;
         number_all(&mut self.vocabulary, fresh);
         self.turns.push_reserved(Turn {
             doc,
@@ -85,7 +86,7 @@ impl Loader {
     /// The index of the changes that were added. For n weights in all it costs n log n.
     pub fn finish(self, alloc: Global) -> Result<Index, AllocError>
         requires { (changes : List (Change (List ℕ))) × Loads self changes }
-        ensures { IfOk result (λ index. (changes : List (Change (List ℕ))) → Loads self changes → Indexes index changes) }
+        ensures { IfOk result (λ index. (changes : List (Change (List ℕ))) → Loads self changes → Indexes (state_of index) changes) }
     {
         let Loader {
             vocabulary,

@@ -10,7 +10,7 @@ use crate::weights::Weights;
 use fold_tokens::{NumberError, Places, Vocabulary, Weighed};
 use std::alloc::{AllocError, Global};
 use tail_lists::Weight;
-use time_base::{Key, WordId};
+use time_base::{Key, MOST_WORDS, WordId};
 
 /// What a text has, by the numbers that its words have once the fresh ones are numbered.
 #[derive(Drop)]
@@ -114,20 +114,17 @@ fn weights_by(alloc: Global, counts: Vec<(u32, u32)>) -> Result<Weights, AllocEr
     Ok(Weights::new(items))
 }
 
-/// Measures a text, or nothing for a deletion, and makes room in the vocabulary for its fresh
-/// words. The text is read once.
+/// Measures a text, or nothing for a deletion. The text is read once.
 pub(crate) fn measure(
     alloc: Global,
-    vocabulary: &mut Vocabulary,
+    vocabulary: &Vocabulary,
     places: &mut Places,
     text: Option<&str>,
 ) -> Result<Measured, NumberError>
     requires { IfSome text (λ t. length t.now < 2 ^ 32) }
-    ensures measured { IfOk result (λ m. IsMeasured vocabulary.old.words (option_map (λ t. t.now) text.entry) m.fresh.items m.weights) }
-    ensures room { IfOk result (λ m. length (with_all vocabulary.old.words m.fresh.items) ≤ length vocabulary.old.words + vocabulary.new.spare) }
-    ensures fits { OnOk result (length (words_with vocabulary.old.words (option_map (λ t. t.now) text.entry)) ≤ 2 ^ 20) }
-    ensures full { result ≡ Err NumberError.Full → 2 ^ 20 < length (words_with vocabulary.old.words (option_map (λ t. t.now) text.entry)) }
-    ensures same { vocabulary.new.words ≡ vocabulary.old.words }
+    ensures measured { IfOk result (λ m. IsMeasured vocabulary.now.words (option_map (λ t. t.now) text.entry) m.fresh.items m.weights) }
+    ensures fits { OnOk result (length (words_with vocabulary.now.words (option_map (λ t. t.now) text.entry)) ≤ 2 ^ 20) }
+    ensures full { result ≡ Err NumberError.Full → 2 ^ 20 < length (words_with vocabulary.now.words (option_map (λ t. t.now) text.entry)) }
 {
     let words = vocabulary.len();
     let weighed = weigh_held(alloc, vocabulary, places, text)?;
@@ -137,7 +134,9 @@ pub(crate) fn measure(
         fresh,
         counts,
     } = parted;
-    vocabulary.reserve(&fresh)?;
+    if MOST_WORDS < u64::from(words) + counts.len() as u64 {
+        return Err(NumberError::Full);
+    }
     let counts = number_counts(known, words, &counts)?;
     let weights = weights_by(alloc, counts)?;
     Ok(Measured { fresh, weights })

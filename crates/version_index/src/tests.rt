@@ -30,6 +30,7 @@ fn commit(
 ) {
     assert!(rt; is_short(text));
     let change = index.prepare(alloc, doc, text).expect(rt, "room");
+    assert!(rt; index.make_room(&change).is_ok());
     index.commit(change, at);
 }
 

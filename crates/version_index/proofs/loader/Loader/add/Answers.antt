@@ -15,6 +15,6 @@ returns-clause-added c = λ changes stands early.
     let n : vec_len c.args.self.now.turns ≡ length c.args.self.now.turns.items = search rules in
     added c.held_as_changes_come.ensures (loaded c.args.self.now) (loaded after) changes (record { doc = c.args.doc; at = c.args.at; held = held }) x c.in_ok-measured.measured.fresh.items refl refl
     (subst (IsMeasured c.args.self.now.vocabulary.words held c.in_ok-measured.measured.fresh.items) (sym c.into_items.ensures.value) c.in_ok-measured.ensures.measured)
-    (c.number_all.ensures ∙ ap (λ ws. with_all ws c.in_ok-measured.measured.fresh.items) c.measure.ensures.same)
+    (c.number_all.ensures ∙ ap (λ ws. with_all ws c.in_ok-measured.measured.fresh.items) c.in_ok-reserve-2.ensures.same)
     (c.push_reserved.ensures.items ∙ ap (λ l. l ++ x ∷ []) c.in_ok-reserve.ensures.items)
     c.into_items.ensures.ascending (omega (arith, n, c.len.ensures, c.if-len-ge-MOST_TURNS.false)) stands early

@@ -1,0 +1,1 @@
+use Rattle.version_index.proofs.index.Index.make_room.Goals as goal
