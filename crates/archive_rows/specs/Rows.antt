@@ -26,9 +26,10 @@ use Rattle.query_eval.specs.declared.answer.Row.{Row}
 use Rattle.query_eval.proofs.Ranks.{same-row, here, here-or-later, none}
 use Rattle.archive_state.specs.Histories.{History, text_at}
 use Rattle.archive_state.specs.Answers.{frequency_at, IsAnswerAt, IsWordList}
-use Rattle.commands.specs.declared.command.Command.TheVariants.{Find, Show}
+use Rattle.commands.specs.declared.command.Command.TheVariants.{Arrive, Find, Show}
 use Rattle.commands.specs.declared.command.Item.TheVariants.{Command}
-use Rattle.archive_state.specs.Steps.{Refused, Found, Shown, Step}
+use Rattle.commands.specs.declared.text.Text.TheVariants.{Bytes}
+use Rattle.archive_state.specs.Steps.{Accepted, Refused, Found, Shown, Step}
 use Rattle.archive_state.specs.Replies.{reply_text}
 
 abbrev doc : ℕ → DocId
@@ -42,6 +43,11 @@ ten = record { seconds = 10; before_now = lit< tt }
 
 abbrev one_arrival : History
 one_arrival = entries.Arrive (doc 7) ten (codes "red a") ∷ []
+
+-- the first arrival is accepted
+accepted : Step [] (Command (Arrive (doc 7) ten (Bytes (codes "red a")))) (Accepted 1) one_arrival
+unfolding ucd_category caseless unicode_normalization chars encode is_utf8
+accepted = (refl, refl)
 
 -- a word in any case, and one that is no operator
 words : (read key_of (codes "RED") ≡ Ok (Has (codes "red"))) × (read key_of (codes "And") ≡ Ok (Has (codes "and")))

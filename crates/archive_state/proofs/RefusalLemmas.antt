@@ -7,9 +7,10 @@ use Rattle.std.proofs.lemmas.Bool.{lt-ltb, le-ltb, false_from_ne_true}
 use Rattle.time_base.specs.Limits.{limit_of}
 use Rattle.time_base.specs.declared.ids.DocId.{DocId}
 use Rattle.time_base.specs.declared.time.Time.{Time}
-use Rattle.time_base.specs.declared.which.Which.TheVariants.{Journal}
+use Rattle.time_base.specs.declared.which.Which.TheVariants.{Words, Journal}
 use Rattle.version_store.specs.Tests.{first_of, when}
 use Rattle.version_store.specs.declared.refusal.VersionRefusal.{VersionRefusal}
+use Rattle.version_store.specs.Refusals.{arrive_refusal}
 use Rattle.std.specs.Option.{option_map}
 use Rattle.archive_state.specs.Refusals.{refusal_of}
 use Rattle.record_codec.specs.Spelling.{most_text}
@@ -17,7 +18,7 @@ use Rattle.record_codec.specs.declared.entry.Entry.{Entry}
 use Rattle.record_codec.specs.declared.entry.Entry.TheVariants.{Arrive}
 use Rattle.archive_state.specs.declared.refusal.Refusal.{Refusal}
 use Rattle.archive_state.specs.declared.refusal.Refusal.TheVariants.{TooLong, BadText, Full}
-use Rattle.archive_state.specs.Histories.{History, entry_refusal, end_of}
+use Rattle.archive_state.specs.Histories.{History, changes, vocabulary, full_words, entry_refusal, end_of}
 use Rattle.archive_state.specs.Steps.{too_long, bad_text, full_journal, arrival_refusal}
 
 -- the first cause of a list that goes on
@@ -41,6 +42,27 @@ when_false test why fails = rw fails refl
 pub not_refused : (o : Option VersionRefusal) → option_map refusal_of o ≡ None → o ≡ None
 not_refused None none = refl
 not_refused (Some why) none = absurd cc
+
+-- why an arrival may not come: the directory's cause, then want of numbers for words
+pub arrival-refused : (h : History) (doc : DocId) (at : Time) (text : List ℕ) (why : VersionRefusal) → arrive_refusal doc at (changes h) ≡ Some why
+    → entry_refusal h (Arrive doc at text) ≡ Some (refusal_of why)
+arrival-refused h doc at text why refused = ap (λ (o : Option VersionRefusal). first_of (option_map refusal_of o ∷ full_words h (Arrive doc at text) ∷ [])) refused
+
+pub arrival-words : (h : History) (doc : DocId) (at : Time) (text : List ℕ) → arrive_refusal doc at (changes h) ≡ None → entry_refusal h (Arrive doc at text) ≡ first_of (full_words h (Arrive doc at text) ∷ [])
+arrival-words h doc at text allowed = ap (λ (o : Option VersionRefusal). first_of (option_map refusal_of o ∷ full_words h (Arrive doc at text) ∷ [])) allowed
+
+pub arrival-allowed : (h : History) (doc : DocId) (at : Time) (text : List ℕ) → entry_refusal h (Arrive doc at text) ≡ None → arrive_refusal doc at (changes h) ≡ None
+arrival-allowed h doc at text none = go (arrive_refusal doc at (changes h)) none
+  where
+    go : (o : Option VersionRefusal) → first_of (option_map refusal_of o ∷ full_words h (Arrive doc at text) ∷ []) ≡ None → o ≡ None
+    go None none = refl
+    go (Some why) none = absurd cc
+
+pub too_many_words : (h : History) (e : Entry) → limit_of Words < length (vocabulary (h ++ e ∷ [])) → full_words h e ≡ Some (Full Words (limit_of Words))
+too_many_words h e over = when_true _ (Full Words (limit_of Words)) (lt-ltb (limit_of Words) (length (vocabulary (h ++ e ∷ []))) over)
+
+pub words_fit : (h : History) (e : Entry) → length (vocabulary (h ++ e ∷ [])) ≤ limit_of Words → full_words h e ≡ None
+words_fit h e within = when_false _ (Full Words (limit_of Words)) (le-ltb (limit_of Words) (length (vocabulary (h ++ e ∷ []))) within)
 
 -- a text that is too long, bad, or neither
 pub too_long-yes : (text : List ℕ) → most_text < length text → too_long text ≡ Some (TooLong most_text)

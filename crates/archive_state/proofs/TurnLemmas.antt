@@ -22,7 +22,7 @@ use Rattle.version_store.proofs.Latest.{changes_of-none}
 use Rattle.record_codec.specs.Spelling.{most_text}
 use Rattle.record_codec.specs.declared.entry.Entry.{Entry}
 use Rattle.record_codec.specs.declared.entry.Entry.TheVariants as entries
-use Rattle.query_lang.specs.Grammar.{Query, IsRead}
+use Rattle.query_lang.specs.Grammar.{Query}
 use Rattle.query_lang.specs.Machine.{read}
 use Rattle.query_lang.specs.Meaning.{words_of}
 use Rattle.query_lang.specs.Tokens.{key_of}
@@ -33,7 +33,7 @@ use Rattle.query_eval.proofs.GivenLemmas.{same_alive, one_answer}
 use Rattle.archive_state.specs.declared.refusal.Refusal.{Refusal}
 use Rattle.archive_state.specs.declared.refusal.Refusal.TheVariants as refusals
 use Rattle.archive_state.specs.Histories.{History, changes, text_at, AreLegalAfter, IsLegal, IsLegalEntry, entry_refusal}
-use Rattle.archive_state.specs.Answers.{frequency_at, IsAnswerAt, IsWordList, IsReadFor}
+use Rattle.archive_state.specs.Answers.{frequency_at, IsWordList, IsReadFor}
 use Rattle.commands.specs.Documents.{HasDocument}
 use Rattle.commands.specs.declared.command.Command.{Command}
 use Rattle.commands.specs.declared.command.Command.TheVariants as commands

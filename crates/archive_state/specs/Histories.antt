@@ -1,15 +1,21 @@
 -- The history of an archive: what it is, when it is legal, and which texts are alive at a time.
-use Rattle.std.specs.Prelude.{◌≡◌, ℕ, ◌+◌, List, [], ◌∷◌, ◌++◌, length, sum_by, Option, Some, None}
+use Rattle.std.specs.Prelude.{◌≡◌, ℕ, ◌+◌, nat_lt, List, [], ◌∷◌, ◌++◌, length, sum_by, Option, Some, None}
 use Rattle.std.specs.List.{flat_map, filter_map}
 use Rattle.std.specs.Option.{option_map}
+use Rattle.time_base.specs.Limits.{limit_of}
 use Rattle.time_base.specs.declared.ids.DocId.{DocId}
+use Rattle.time_base.specs.declared.which.Which.TheVariants.{Words}
+use Rattle.fold_tokens.specs.Terms.{keys}
+use Rattle.fold_tokens.specs.Words.{distinct}
 use Rattle.version_store.specs.declared.change.Change.{Change}
 use Rattle.version_store.specs.Changes.{held_at, documents}
 use Rattle.version_store.specs.Refusals.{arrive_refusal, delete_refusal}
+use Rattle.version_store.specs.Tests.{first_of, when}
 use Rattle.record_codec.specs.Spelling.{spelling, IsEntry}
 use Rattle.record_codec.specs.declared.entry.Entry.{Entry}
 use Rattle.record_codec.specs.declared.entry.Entry.TheVariants.{Arrive, Delete}
 use Rattle.archive_state.specs.declared.refusal.Refusal.{Refusal}
+use Rattle.archive_state.specs.declared.refusal.Refusal.TheVariants as refusals
 use Rattle.archive_state.specs.Refusals.{refusal_of}
 
 -- a history: the entries of an archive, in order
@@ -25,9 +31,22 @@ acts (Delete doc at) = record { doc = doc; at = at; held = None } ∷ []
 abbrev pub changes : History → List (Change (List ℕ))
 changes history = flat_map acts history
 
+-- the keys of the words of an entry's text, each as often as it occurs
+abbrev pub entry_keys : Entry → List (List ℕ)
+entry_keys (Arrive doc at text) = keys text
+entry_keys (Delete doc at) = []
+
+-- the distinct words of all texts, in the order of first occurrence
+abbrev pub vocabulary : History → List (List ℕ)
+vocabulary history = distinct (flat_map entry_keys history)
+
+-- with an entry there would be more words than there may be
+abbrev pub full_words : History → Entry → Option Refusal
+full_words before entry = when (nat_lt (limit_of Words) (length (vocabulary (before ++ entry ∷ [])))) (refusals.Full Words (limit_of Words))
+
 -- why an entry may not come after a history: the first cause in order
 abbrev pub entry_refusal : History → Entry → Option Refusal
-entry_refusal before (Arrive doc at text) = option_map refusal_of (arrive_refusal doc at (changes before))
+entry_refusal before (Arrive doc at text) = first_of (option_map refusal_of (arrive_refusal doc at (changes before)) ∷ full_words before (Arrive doc at text) ∷ [])
 entry_refusal before (Delete doc at) = option_map refusal_of (delete_refusal doc at (changes before))
 
 -- an entry is legal after a history: its fields are in their ranges, and nothing refuses it

@@ -36,12 +36,7 @@ spelled = refl
 ends_at_40 : end_of one_arrival ≡ 40
 ends_at_40 = refl
 
--- the first arrival is accepted
-accepted : Step [] (arrival 7 (record { seconds = 10; before_now = lit< tt }) (codes "red a")) (Accepted 1) one_arrival
-unfolding is_utf8 chars encode
-accepted = (refl, refl)
-
--- the same again is refused, and a document that is new may have an earlier version's time but none before the last
+-- what arrived is refused when it comes again, and a document that is new may have an earlier version's time but none before the last
 same_time_refused : Step one_arrival (arrival 7 (record { seconds = 10; before_now = lit< tt }) (codes "red a")) (Refused refusals.SameTime) one_arrival
 unfolding is_utf8 chars encode
 same_time_refused = (refl, refl)
