@@ -54,9 +54,9 @@ pub by_alive : (a : ArchiveState) (h : History) (at : Time) (query : Query) (par
     → docs ≡ alive at.seconds a.changes → IsAnswer (λ doc. Contains docs doc) (λ doc. told (words_of query) parts at.seconds doc.0) query rows → IsAnswerAt h at.seconds query rows
 by_alive a h at query parts docs rows stands whole is answer =
     let same : docs ≡ alive at.seconds (changes h) =
-        is ∙ sym (alive-mapped (nothing {A = TextPlace}) at.seconds a.changes) ∙ ap (alive at.seconds) (bare_changes 16 h a.changes stands.changes_are) ∙ alive-mapped (nothing {A = List ℕ}) at.seconds (changes h) in
+    is ∙ sym (alive-mapped (nothing {A = TextPlace}) at.seconds a.changes) ∙ ap (alive at.seconds) (bare_changes 16 h a.changes stands.changes_are) ∙ alive-mapped (nothing {A = List ℕ}) at.seconds (changes h) in
     let each : (doc : DocId) → Contains docs doc ↔ IsSome (text_at h doc at.seconds) =
-        λ doc. let has = alive-has at.seconds (changes h) doc in (λ c. has.0 (subst (λ l. Contains l doc) same c), λ s. subst (λ l. Contains l doc) (sym same) (has.1 s)) in
+    λ doc. let has = alive-has at.seconds (changes h) doc in (λ c. has.0 (subst (λ l. Contains l doc) same c), λ s. subst (λ l. Contains l doc) (sym same) (has.1 s)) in
     by_told h query parts at.seconds rows at.before_now whole
     (same_alive (λ doc. IsSome (text_at h doc at.seconds)) (λ doc. Contains docs doc) (λ doc. told (words_of query) parts at.seconds doc.0) query rows each answer)
 

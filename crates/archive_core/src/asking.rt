@@ -204,7 +204,9 @@ fn query_of(alloc: Global, expr: &Phrase) -> Result<Query, AskError>
 {
     match Query::read(alloc, expr.as_str()) {
         Ok(query) => Ok(query),
-        Err(QueryError::BadQuery { at }) => Err(AskError::Refused(Refusal::BadQuery { offset: at })),
+        Err(QueryError::BadQuery { at }) => Err(AskError::Refused(Refusal::BadQuery {
+            offset: at,
+        })),
         Err(QueryError::Memory) => Err(AskError::Memory),
     }
 }

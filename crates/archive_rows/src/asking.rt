@@ -118,12 +118,7 @@ fn what_lacks_a_word_is_found_while_it_is_alive(rt: HostRuntime) -> Result<(), F
 }
 
 /// A script's question with a text so many times in front of a word, and another behind it.
-fn nested(
-    alloc: Global,
-    times: usize,
-    open: &[u8],
-    close: &[u8],
-) -> Result<Vec<u8>, AllocError> {
+fn nested(alloc: Global, times: usize, open: &[u8], close: &[u8]) -> Result<Vec<u8>, AllocError> {
     let mut script = Vec::from_slice(alloc, b"arrive 7 10 3\nred\nfind 10 ")?;
     for _ in 0..times {
         script.extend_from_slice(open)?;
