@@ -7,6 +7,7 @@ use Rattle.machine_model.specs.Images.{MayLeave}
 use Rattle.machine_model.proofs.MomentLemmas.{goes_on_same, left_now}
 use Rattle.time_base.specs.Limits.{limit_of}
 use Rattle.time_base.specs.declared.which.Which.TheVariants.{Journal}
+use Rattle.time_base.specs.declared.ids.DocId.{DocId}
 use Rattle.time_base.specs.declared.text_place.TextPlace.{TextPlace}
 use Rattle.version_store.specs.declared.change.Change.{Change}
 use Rattle.gate_journal.specs.Spelled.{Spells}
@@ -15,7 +16,7 @@ use Rattle.gate_journal.specs.Crash.{Appends, KeepsPages}
 use Rattle.record_codec.specs.Spelling.{spelling}
 use Rattle.record_codec.specs.declared.entry.Entry.{Entry}
 use Rattle.record_codec.specs.declared.entry.Entry.TheVariants.{Arrive, Delete}
-use Rattle.archive_state.specs.Histories.{History, IsLegal, IsLegalEntry, end_of}
+use Rattle.archive_state.specs.Histories.{History, IsLegal, IsLegalEntry, changes, end_of}
 use Rattle.archive_state.specs.Stands.{bodies_of, Stands, EachStands}
 use Rattle.archive_state.proofs.HistoryLemmas.{bodies_of-push, end_of-push, end_of-least, legal-push}
 use Rattle.archive_state.specs.declared.refusal.Refusal.{Refusal}
@@ -24,9 +25,15 @@ use Rattle.version_store.specs.Tests.{first_of}
 use Rattle.archive_state.specs.Steps.{full_journal}
 use Rattle.archive_state.proofs.RefusalLemmas.{cause, cause-allowed, cause-full, cause-none}
 use Rattle.archive_core.specs.States.{ArchiveState, IsPlaced, ArePlaced, StandsFor, IsKept}
-use Rattle.archive_core.specs.Adding.{Adds, GivesUp, IsNext, IsHeld, IsMore, IsPrepared, Makes}
+use Rattle.time_base.specs.declared.time.Time.{Time}
+use Rattle.version_index.specs.Indexing.{IndexValue, AreIndexed, ComesLater}
+use Rattle.version_index.specs.Measuring.{IsMeasured}
+use Rattle.version_index.specs.Indexes.{IndexState, Indexes, IsPreparedFor, seen}
+use Rattle.version_index.specs.declared.prepared.Prepared.{Prepared as Words}
+use Rattle.archive_core.specs.Adding.{Adds, GivesUp, IsNext, IsHeld, IsMore, IsPrepared, Makes, document_of, text_of}
+use Rattle.archive_core.proofs.IndexLemmas.{takes_change}
 use Rattle.archive_core.specs.declared.error.ChangeError.{ChangeError}
-use Rattle.archive_core.specs.declared.error.ChangeError.TheVariants as changes
+use Rattle.archive_core.specs.declared.error.ChangeError.TheVariants as errors
 use Rattle.archive_core.specs.declared.preparing.Unprepared.{Unprepared}
 use Rattle.archive_core.specs.declared.preparing.Unprepared.TheVariants as unprepared
 use Rattle.archive_core.specs.Changing.{LeadsTo}
@@ -40,9 +47,13 @@ makes_placed (Arrive doc at text) gate x held makes is =
 makes_placed (Delete doc at) gate x held makes is =
     (sym makes.0, sym makes.1, let P : Option ℕ → Type 0 = λ n. IsHeld (gate + 18) n held in subst P makes.2 is)
 
-pub stands_more : (a b : ArchiveState) (h : History) (e : Entry) (x : Change ℕ) (body : List ℕ)
-    → StandsFor a h → IsNext h e x body → IsMore a b x body → StandsFor b (h ++ e ∷ [])
-stands_more a b h e x body stands next more =
+makes_document : (e : Entry) (x : Change ℕ) → Makes e x → document_of e ≡ x.doc
+makes_document (Arrive doc at text) x makes = makes.0
+makes_document (Delete doc at) x makes = makes.0
+
+pub stands_more : (a b : ArchiveState) (h : History) (e : Entry) (x : Change ℕ) (body : List ℕ) (words : Words)
+    → StandsFor a h → IsNext h e x body → IsPreparedFor a.index (document_of e) (text_of e) words → IsMore a b x body words → StandsFor b (h ++ e ∷ [])
+stands_more a b h e x body words stands next prepared more =
     let least : 17 ≤ end_of h = omega (arith, end_of-least h) in
     let c : Change TextPlace = record { doc = x.doc; at = x.at; held = more.held } in
     let gate : ℕ = end_of h - 1 in
@@ -55,14 +66,39 @@ stands_more a b h e x body stands next more =
       end_is = omega (arith, more.end_is, stands.end_is, end_of-push h e, ap length next.spelled);
       length_is = omega (arith, more.length_is, stands.length_is, length_push h e);
       changes_are = subst Q (sym more.changes_are) placed;
+      index_is = takes_change (Indexes b.index) h e x (text_of e) next.makes refl stands.loadable next.legal (more.indexed (changes h) x.doc (text_of e) stands.index_is (let D : DocId → Type 0 = λ d. IsPreparedFor a.index d (text_of e) words in subst D (makes_document e x next.makes) prepared));
     }
 
+-- what the calls of a commit made of an archive
+pub is_more : (inside a b : ArchiveState) (mid : IndexState) (x : Change ℕ) (p : Change TextPlace) (body frame : List ℕ) (words : Words) (early : List (Change TextPlace)) (place : ℕ) → inside ≡ a
+    → frame ≡ body → b.end ≡ inside.end + 5 + length frame → b.length ≡ inside.length + 1 → place ≡ inside.end + 4 → IsHeld (place + 13) x.held p.held → p.doc ≡ x.doc → p.at ≡ x.at
+    → early ≡ inside.changes → b.changes ≡ early ++ p ∷ [] → seen mid ≡ seen inside.index
+    → ((texts : List (Change (List ℕ))) (doc : DocId) (text : Option (List ℕ)) → Indexes mid texts → IsPreparedFor mid doc text words
+    → ComesLater texts (record { doc = doc; at = x.at; held = text }) → Indexes b.index (texts ++ record { doc = doc; at = x.at; held = text } ∷ []))
+    → IsMore a b x body words
+is_more inside a b mid x p body frame words early place is same end length_is at held doc time kept pushed index indexed =
+    let P : ArchiveState → Type 0 = λ s. IsMore s b x body words in
+    let H : ℕ → Type 0 = λ n. IsHeld n x.held p.held in
+    subst P is (record {
+      end_is = omega (arith, end, ap length same);
+      length_is = length_is;
+      held = p.held;
+      held_is = subst H (omega (arith, at)) held;
+      changes_are = pushed ∙ ap (λ (l : List (Change TextPlace)). l ++ p ∷ []) kept
+          ∙ ap (λ (d : DocId). inside.changes ++ record { doc = d; at = p.at; held = p.held } ∷ []) doc
+          ∙ ap (λ (t : Time). inside.changes ++ record { doc = x.doc; at = t; held = p.held } ∷ []) time;
+      indexed = λ texts doc text stands prepared later.
+          let V : IndexValue → Type 0 = λ v. AreIndexed v texts in
+          let M : List (List ℕ) → Type 0 = λ ws. IsMeasured ws text words.fresh.items words.weights in
+          indexed texts doc text (subst V (sym index) stands) (record { doc_is = prepared.doc_is; measured = subst M (sym (ap (λ (v : IndexValue). v.words) index)) prepared.measured }) later;
+    })
+
 -- an archive that stood for a history stands for one, with an entry more
-pub stands_on : (a b : ArchiveState) (x : Change ℕ) (body : List ℕ) → ((h : History) → StandsFor a h → (e : Entry) × IsNext h e x body)
-    → (h : History) × StandsFor a h → IsMore a b x body → (h : History) × StandsFor b h
-stands_on a b x body next stands more =
+pub stands_on : (a b : ArchiveState) (x : Change ℕ) (body : List ℕ) (words : Words) → ((h : History) → StandsFor a h → (e : Entry) × IsNext h e x body × IsPreparedFor a.index (document_of e) (text_of e) words)
+    → (h : History) × StandsFor a h → IsMore a b x body words → (h : History) × StandsFor b h
+stands_on a b x body words next stands more =
     let e = next stands.0 stands.1 in
-    (stands.0 ++ e.0 ∷ [], stands_more a b stands.0 e.0 x body stands.1 e.1 more)
+    (stands.0 ++ e.0 ∷ [], stands_more a b stands.0 e.0 x body words stands.1 e.1 e.2 more)
 
 -- where the journal spells an image's bodies, the image stands for the history
 pub leads_to : (h : History) (e : Entry) (body : List ℕ) (old new : DiskState) → IsLegal h → IsLegalEntry h e → body ≡ spelling e
@@ -131,12 +167,12 @@ next_allowed a h e x body stands next room =
     cause-none h e next.legal.allowed (omega (arith, room, stands.end_is, end_of-push h e, ap length next.spelled))
 
 -- what is known of an entry that was added, or for which there was no room
-pub adds_entry : (r : Result ℕ ChangeError) (a b : ArchiveState) (h : History) (e : Entry) (refusal : Option Refusal) (x : Change ℕ) (body : List ℕ)
-    → StandsFor a h → IsNext h e x body → refusal ≡ first_of (full_journal h e ∷ [])
-    → ((why : Refusal) → r ≡ Err (changes.Refused why) → (why ≡ Full Journal (limit_of Journal)) × (limit_of Journal < a.end + 5 + length body))
-    → (IsOk r ⊎ (r ≡ Err changes.Failed) → a.end + 5 + length body ≤ limit_of Journal)
-    → IfOk r (λ n. IsMore a b x body × (n ≡ b.length)) → Adds h e refusal r b
-adds_entry r a b h e refusal x body stands next cause_is full room more =
+pub adds_entry : (r : Result ℕ ChangeError) (a b : ArchiveState) (h : History) (e : Entry) (refusal : Option Refusal) (x : Change ℕ) (body : List ℕ) (words : Words)
+    → StandsFor a h → IsNext h e x body → IsPreparedFor a.index (document_of e) (text_of e) words → refusal ≡ first_of (full_journal h e ∷ [])
+    → ((why : Refusal) → r ≡ Err (errors.Refused why) → (why ≡ Full Journal (limit_of Journal)) × (limit_of Journal < a.end + 5 + length body))
+    → (IsOk r ⊎ (r ≡ Err errors.Failed) → a.end + 5 + length body ≤ limit_of Journal)
+    → IfOk r (λ n. IsMore a b x body words × (n ≡ b.length)) → Adds h e refusal r b
+adds_entry r a b h e refusal x body words stands next prepared cause_is full room more =
     let here : refusal ≡ cause h e = cause_is ∙ sym (cause-allowed h e next.legal.allowed) in
     record {
       refused = λ why is. here ∙ next_refused a h e x body why stands next (full why is);
@@ -144,30 +180,30 @@ adds_entry r a b h e refusal x body stands next cause_is full room more =
       stands = go r more;
     }
   where
-    go : (r : Result ℕ ChangeError) → IfOk r (λ n. IsMore a b x body × (n ≡ b.length)) → IfOk r (λ n. StandsFor b (h ++ e ∷ []) × (n ≡ length h + 1))
-    go (Ok n) more = (stands_more a b h e x body stands next more.0, omega (arith, more.1, more.0.length_is, stands.length_is))
+    go : (r : Result ℕ ChangeError) → IfOk r (λ n. IsMore a b x body words × (n ≡ b.length)) → IfOk r (λ n. StandsFor b (h ++ e ∷ []) × (n ≡ length h + 1))
+    go (Ok n) more = (stands_more a b h e x body words stands next prepared more.0, omega (arith, more.1, more.0.length_is, stands.length_is))
     go (Err error) more = tt
 
 -- and of its images
-pub leads_entry : (r : Result ℕ ChangeError) (a b : ArchiveState) (old new : DiskState) (h : History) (e : Entry) (x : Change ℕ) (body : List ℕ)
-    → IsKept old a h → IsNext h e x body → IfOk r (λ n. IsMore a b x body × (n ≡ b.length)) → Appends (bodies_of h) body old new
+pub leads_entry : (r : Result ℕ ChangeError) (a b : ArchiveState) (old new : DiskState) (h : History) (e : Entry) (x : Change ℕ) (body : List ℕ) (words : Words)
+    → IsKept old a h → IsNext h e x body → IsPreparedFor a.index (document_of e) (text_of e) words → IfOk r (λ n. IsMore a b x body words × (n ≡ b.length)) → Appends (bodies_of h) body old new
     → OnOk r (IsInStep new b.end (bodies_of h ++ body ∷ [])) → LeadsTo h (h ++ e ∷ []) old new × OnOk r (IsKept new b (h ++ e ∷ []))
-leads_entry r a b old new h e x body kept next more appends step = (leads_to h e body old new kept.stands.loadable next.legal next.spelled appends, go r more step)
+leads_entry r a b old new h e x body words kept next prepared more appends step = (leads_to h e body old new kept.stands.loadable next.legal next.spelled appends, go r more step)
   where
-    go : (r : Result ℕ ChangeError) → IfOk r (λ n. IsMore a b x body × (n ≡ b.length)) → OnOk r (IsInStep new b.end (bodies_of h ++ body ∷ [])) → OnOk r (IsKept new b (h ++ e ∷ []))
-    go (Ok n) more step = kept_more new b h e body (stands_more a b h e x body kept.stands next more.0) next.spelled step
+    go : (r : Result ℕ ChangeError) → IfOk r (λ n. IsMore a b x body words × (n ≡ b.length)) → OnOk r (IsInStep new b.end (bodies_of h ++ body ∷ [])) → OnOk r (IsKept new b (h ++ e ∷ []))
+    go (Ok n) more step = kept_more new b h e body (stands_more a b h e x body words kept.stands next prepared more.0) next.spelled step
     go (Err error) more step = tt
 
 -- what is known of an entry that was not prepared
 pub adds_none : (why : Unprepared) (r : Result ℕ ChangeError) (a b : ArchiveState) (h : History) (e : Entry) (refusal : Option Refusal)
-    → IsPrepared h e refusal (Err why) → GivesUp why r a b → Adds h e refusal r b
+    → IsPrepared h a.index e refusal (Err why) → GivesUp why r a b → Adds h e refusal r b
 adds_none (unprepared.Refused why) r a b h e refusal prepared gives = record {
   refused = λ other is. (let same : why ≡ other = (let one = gives.0 in cc) in prepared ∙ ap (λ (w : Refusal). Some w) same);
   allowed = λ is. absurd (never is);
   stands = (let P : Result ℕ ChangeError → Type 0 = λ s. IfOk s (λ n. StandsFor b (h ++ e ∷ []) × (n ≡ length h + 1)) in subst P (sym gives.0) tt);
 }
   where
-    never : IsOk r ⊎ (r ≡ Err changes.Failed) → ⊥
+    never : IsOk r ⊎ (r ≡ Err errors.Failed) → ⊥
     never (inl ok) = let P : Result ℕ ChangeError → Type 0 = λ s. IsOk s in (let bad = subst P gives.0 ok in cc)
     never (inr failed) = let one = gives.0 in cc
 adds_none unprepared.Memory r a b h e refusal prepared gives = record {
@@ -176,7 +212,7 @@ adds_none unprepared.Memory r a b h e refusal prepared gives = record {
   stands = (let P : Result ℕ ChangeError → Type 0 = λ s. IfOk s (λ n. StandsFor b (h ++ e ∷ []) × (n ≡ length h + 1)) in subst P (sym gives.0) tt);
 }
   where
-    never : IsOk r ⊎ (r ≡ Err changes.Failed) → ⊥
+    never : IsOk r ⊎ (r ≡ Err errors.Failed) → ⊥
     never (inl ok) = let P : Result ℕ ChangeError → Type 0 = λ s. IsOk s in (let bad = subst P gives.0 ok in cc)
     never (inr failed) = let one = gives.0 in cc
 

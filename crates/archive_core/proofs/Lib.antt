@@ -1,8 +1,6 @@
 pub mod PlaceLemmas
 pub mod TextLemmas
-pub mod CountLemmas
 pub mod RisingLemmas
-pub mod ListLemmas
 pub mod AddLemmas
 pub mod HeadLemmas
 pub mod ReplayLemmas
@@ -10,3 +8,4 @@ pub mod LoadLemmas
 pub mod PrepareLemmas
 pub mod TakeLemmas
 pub mod AnswerLemmas
+pub mod IndexLemmas

@@ -12,6 +12,8 @@ use Rattle.gate_journal.specs.Crash.{KeepsBodies, KeepsPages}
 use Rattle.time_base.specs.declared.text_place.TextPlace.{TextPlace}
 use Rattle.version_store.specs.declared.change.Change.{Change}
 use Rattle.record_codec.specs.Spelling.{spelling}
+use Rattle.version_index.specs.Indexes.{IndexState, Indexes}
+use Rattle.archive_state.specs.Histories as histories
 use Rattle.archive_state.specs.Histories.{History, IsLegal, end_of}
 use Rattle.archive_state.specs.Stands.{bodies_of, Stands, EachStands, IsNotArchive}
 use Rattle.archive_state.proofs.HistoryLemmas.{end_of_is, end_of-least}
@@ -68,18 +70,20 @@ pub replayed_length : (h : History) (heads : List Head) (changes : List (Change 
 replayed_length h heads changes replayed = ap length replayed.heads_are ∙ length_heads 16 (bodies_of h) ∙ length-map h spelling
 
 -- an archive of what was gone over
-pub record IsMadeOf (a : ArchiveState) (end : ℕ) (heads : List Head) (changes : List (Change TextPlace)) : Type 0 where
+pub record IsMadeOf (a : ArchiveState) (end : ℕ) (heads : List Head) (changes : List (Change TextPlace)) (index : IndexState) : Type 0 where
   pub end_is : a.end ≡ end
   pub length_is : a.length ≡ length heads
   pub changes_are : a.changes ≡ changes
+  pub index_is : a.index ≡ index
 
-pub stands_replayed : (a : ArchiveState) (h : History) (heads : List Head) (changes : List (Change TextPlace)) (end : ℕ) → IsMadeOf a end heads changes
-    → AreInRow 16 heads end → IsReplayed h heads changes → StandsFor a h
-stands_replayed a h heads changes end made row replayed = record {
+pub stands_replayed : (a : ArchiveState) (h : History) (heads : List Head) (changes : List (Change TextPlace)) (index : IndexState) (end : ℕ) → IsMadeOf a end heads changes index
+    → AreInRow 16 heads end → IsReplayed h heads changes → Indexes index (histories.changes h) → StandsFor a h
+stands_replayed a h heads changes index end made row replayed indexed = record {
   loadable = replayed.loadable;
   end_is = made.end_is ∙ replayed_end h heads changes end row replayed;
   length_is = made.length_is ∙ replayed_length h heads changes replayed;
   changes_are = let P : List (Change TextPlace) → Type 0 = λ l. ArePlaced 16 h l in subst P (sym made.changes_are) replayed.placed;
+  index_is = let I : IndexState → Type 0 = λ i. Indexes i (histories.changes h) in subst I (sym made.index_is) indexed;
 }
 
 -- entries are fewer than bytes
@@ -100,16 +104,16 @@ finds_it a d image g h kept spelled stands =
     subst P (spells_one_history image.journal g h spelled kept.stands.loadable stands.spelled stands.legal) kept
 
 -- the archive is in step with the disk for the history that was found
-pub found_all : (a : ArchiveState) (mid new : DiskState) (bytes : List ℕ) (end : ℕ) (heads : List Head) (changes : List (Change TextPlace)) (bodies : List (List ℕ)) (h : History)
-    → IsMadeOf a end heads changes → AreInRow 16 heads end → IsReplayed h heads changes → bodies_of h ≡ bodies → IsInStep mid end bodies → OnlyReads mid new → Spells bytes bodies
+pub found_all : (a : ArchiveState) (mid new : DiskState) (bytes : List ℕ) (end : ℕ) (heads : List Head) (changes : List (Change TextPlace)) (index : IndexState) (bodies : List (List ℕ)) (h : History)
+    → IsMadeOf a end heads changes index → AreInRow 16 heads end → IsReplayed h heads changes → Indexes index (histories.changes h) → bodies_of h ≡ bodies → IsInStep mid end bodies → OnlyReads mid new → Spells bytes bodies
     → (g : History) × IsKept new a g × Spells bytes (bodies_of g)
-found_all a mid new bytes end heads changes bodies h made row replayed same step reads spelled =
+found_all a mid new bytes end heads changes index bodies h made row replayed indexed same step reads spelled =
     let P : List (List ℕ) → Type 0 = λ l. IsInStep new a.end l in
     let Q : ℕ → Type 0 = λ n. IsInStep new n bodies in
     let R : List (List ℕ) → Type 0 = λ l. Spells bytes l in (
       h,
       record {
-        stands = stands_replayed a h heads changes end made row replayed;
+        stands = stands_replayed a h heads changes index end made row replayed indexed;
         in_step = subst P (sym same) (subst Q (sym made.end_is) (step_reads mid new end bodies step reads));
       },
       subst R (sym same) spelled,

@@ -1,7 +1,6 @@
 -- Changes with the places of the texts: the same refusals, and one change more.
-use Rattle.std.proofs.Common.{◌≡◌, ℕ, ◌+◌, ◌≤◌, List, [], ◌∷◌, ◌++◌, length, map, sum_by, Option, Some, None, refl, ap, subst, sym, ◌∙◌, arith}
+use Rattle.std.proofs.Common.{◌≡◌, ℕ, ◌+◌, List, [], ◌∷◌, ◌++◌, length, map, sum_by, Option, Some, None, refl, ap, subst, sym, ◌∙◌, arith}
 use Rattle.std.specs.Option.{option_map}
-use Rattle.std.proofs.lemmas.List.{length-map}
 use Rattle.std.proofs.lemmas.List.Sums.{sum_by-cons}
 use Rattle.time_base.specs.declared.ids.DocId.{DocId}
 use Rattle.time_base.specs.declared.time.Time.{Time}
@@ -13,9 +12,8 @@ use Rattle.record_codec.specs.Spelling.{spelling}
 use Rattle.record_codec.specs.declared.entry.Entry.{Entry}
 use Rattle.record_codec.specs.declared.entry.Entry.TheVariants.{Arrive, Delete}
 use Rattle.archive_state.specs.Histories.{History, changes, end_of}
-use Rattle.archive_state.proofs.HistoryLemmas.{end_of-least}
 use Rattle.archive_core.specs.Texts.{nothing, bare}
-use Rattle.archive_core.specs.States.{ArchiveState, StandsFor, IsPlace, IsPlaced, ArePlaced}
+use Rattle.archive_core.specs.States.{IsPlace, IsPlaced, ArePlaced}
 
 abbrev a_text : Option (Unit {0})
 a_text = Some tt
@@ -65,14 +63,3 @@ placed_after gate last (x ∷ h) (d ∷ cs) e c placed at next = (
 pub placed_push : (h : History) (cs : List (Change TextPlace)) (e : Entry) (c : Change TextPlace) (gate : ℕ) → ArePlaced 16 h cs
     → end_of h ≡ gate + 1 → IsPlaced gate e c → ArePlaced 16 (h ++ e ∷ []) (cs ++ c ∷ [])
 placed_push h cs e c gate placed at next = placed_after 16 gate h cs e c placed (omega (arith, at)) next
-
--- there are as many changes as entries, and fewer than the journal has bytes
-placed_many : (gate : ℕ) (h : History) (cs : List (Change TextPlace)) → ArePlaced gate h cs → length cs ≡ length h
-placed_many gate [] [] placed = refl
-placed_many gate [] (c ∷ cs) placed = absurd placed
-placed_many gate (e ∷ h) [] placed = absurd placed
-placed_many gate (e ∷ h) (c ∷ cs) placed = omega (arith, placed_many (gate + 5 + length (spelling e)) h cs placed.1)
-
-pub few_counts : {A : Type 0} (a : ArchiveState) (h : History) (counts : List (Change A)) → StandsFor a h → map bare counts ≡ map bare a.changes → length counts ≤ a.end
-few_counts a h counts stands same =
-    omega (arith, end_of-least h, stands.end_is, placed_many 16 h a.changes stands.changes_are, length-map counts bare, length-map a.changes bare, ap length same)

@@ -1,5 +1,5 @@
 -- The changes of a legal history: each change of a document comes later than the one before it.
-use Rattle.std.proofs.Common.{◌≡◌, ℕ, ◌-◌, ◌<◌, ◌≤◌, ◌==◌, Bool, true, false, nat_lt, inl, inr, append_assoc, option_and_then, List, [], ◌∷◌, ◌++◌, length, map, All, Option, Some, None, refl, ap, subst, sym, ◌∙◌, arith}
+use Rattle.std.proofs.Common.{◌≡◌, ℕ, ◌-◌, ◌<◌, ◌≤◌, ◌==◌, Bool, true, false, nat_lt, inl, inr, append_assoc, option_and_then, List, [], ◌∷◌, ◌++◌, length, All, Option, Some, None, refl, ap, subst, sym, ◌∙◌, arith}
 use Rattle.std.proofs.lemmas.Bool.{ltb-false, eq-eqb, cases_lt}
 use Rattle.std.proofs.lemmas.Option.{slice_get_within, get_or_from_slice_get}
 use Rattle.std.proofs.lemmas.List.{append-nil}
@@ -15,16 +15,11 @@ use Rattle.version_store.specs.Tests.{first_of, when}
 use Rattle.version_store.proofs.Latest.{changes_of-same, changes_of-other, last_time-push}
 use Rattle.version_store.proofs.Indexed.{same-is}
 use Rattle.version_store.proofs.Law.{last_of-cons}
-use Rattle.version_store.proofs.Mapped.{changes_of-mapped}
-use Rattle.word_lists.specs.Frequencies.{RiseByDocument}
 use Rattle.record_codec.specs.declared.entry.Entry.{Entry}
 use Rattle.record_codec.specs.declared.entry.Entry.TheVariants.{Arrive, Delete}
 use Rattle.archive_state.specs.Histories.{History, changes, acts, IsLegal, IsLegalEntry, AreLegalAfter}
 use Rattle.archive_state.proofs.HistoryLemmas.{changes-push}
-use Rattle.archive_state.proofs.RefusalLemmas.{not_refused}
-use Rattle.archive_core.specs.States.{ArchiveState, StandsFor}
-use Rattle.archive_core.specs.Texts.{nothing, bare}
-use Rattle.archive_core.proofs.PlaceLemmas.{bare_changes}
+use Rattle.archive_state.proofs.RefusalLemmas.{not_refused, arrival-allowed}
 
 -- each next, with one element more
 each_push : {X : Type 0} (R : X → X → Type 0) (xs : List X) (x : X) → EachNext R xs → ((l : X) → last_of xs ≡ Some l → R l x) → EachNext R (xs ++ x ∷ [])
@@ -34,6 +29,10 @@ each_push R (y ∷ z ∷ ys) x each next = (each.0, each_push R (z ∷ ys) x eac
 
 all_last : {X : Type 0} (P : X → Type 0) (xs : List X) (l : X) → All P xs → last_of xs ≡ Some l → P l
 all_last P xs l all e = subst P (get_or_from_slice_get xs (length xs - 1) l l e) (all (length xs - 1) l (slice_get_within xs (length xs - 1) l e))
+
+-- each change of a document comes later than the one before it
+abbrev pub RiseByDocument : List (Change (List ℕ)) → Type 0
+RiseByDocument cs = (doc : DocId) → EachNext (λ a b. a.at.seconds < b.at.seconds) (changes_of doc cs)
 
 -- changes that rise, and the last time
 record IsRising (cs : List (Change (List ℕ))) : Type 0 where
@@ -106,7 +105,7 @@ rising_more before (e ∷ h) legal was =
     go : (e : Entry) → IsLegalEntry before e → IsRising (changes before ++ acts e)
     go (Arrive doc at text) next =
         let cs = changes before in
-        let one = none_found (time_back at cs) (same_time doc at cs ∷ full_documents doc cs ∷ full_versions cs ∷ []) (not_refused _ next.allowed) in
+        let one = none_found (time_back at cs) (same_time doc at cs ∷ full_documents doc cs ∷ full_versions cs ∷ []) (arrival-allowed before doc at text next.allowed) in
         let two = none_found (same_time doc at cs) (full_documents doc cs ∷ full_versions cs ∷ []) one.1 in
         rising_push cs (record { doc = doc; at = at; held = Some text }) was one.0 two.0
     go (Delete doc at) next =
@@ -116,24 +115,5 @@ rising_more before (e ∷ h) legal was =
         let three = none_found (same_time doc at cs) (full_versions cs ∷ []) two.1 in
         rising_push cs (record { doc = doc; at = at; held = None }) was one.0 three.0
 
-legal_rises : (h : History) → IsLegal h → RiseByDocument (changes h)
+pub legal_rises : (h : History) → IsLegal h → RiseByDocument (changes h)
 legal_rises h legal = (rising_more [] h legal (record { last = 0; all = All-nil (λ c. c.at.seconds ≤ 0); back = λ at none. omega arith; rise = λ doc. tt })).rise
-
--- whatever changes hold, they rise or don't
-bare_each : {A : Type 0} (cs : List (Change A)) → EachNext (λ a b. a.at.seconds < b.at.seconds) cs → EachNext (λ a b. a.at.seconds < b.at.seconds) (map bare cs)
-bare_each [] each = tt
-bare_each (c ∷ []) each = tt
-bare_each (c ∷ d ∷ cs) each = (each.0, bare_each (d ∷ cs) each.1)
-
-each_bare : {A : Type 0} (cs : List (Change A)) → EachNext (λ a b. a.at.seconds < b.at.seconds) (map bare cs) → EachNext (λ a b. a.at.seconds < b.at.seconds) cs
-each_bare [] each = tt
-each_bare (c ∷ []) each = tt
-each_bare (c ∷ d ∷ cs) each = (each.0, each_bare (d ∷ cs) each.1)
-
--- changes that are those of an archive in hand but for what they hold
-pub archive_rises : {A : Type 0} (a : ArchiveState) (h : History) (cs : List (Change A)) → StandsFor a h → map bare cs ≡ map bare a.changes → RiseByDocument cs
-archive_rises {A} a h cs stands same = λ doc.
-    let E : List (Change (Unit {0})) → Type 0 = λ l. EachNext (λ a b. a.at.seconds < b.at.seconds) l in
-    let is : map bare (changes_of doc (changes h)) ≡ map bare (changes_of doc cs) =
-    sym (changes_of-mapped (nothing {A = List ℕ}) doc (changes h)) ∙ ap (changes_of doc) (sym (bare_changes 16 h a.changes stands.changes_are) ∙ sym same) ∙ changes_of-mapped (nothing {A = A}) doc cs in
-    each_bare (changes_of doc cs) (subst E is (bare_each (changes_of doc (changes h)) (legal_rises h stands.loadable doc)))

@@ -1,5 +1,5 @@
 -- A call that carries out an item is a step of the abstract machine.
-use Rattle.std.proofs.Common.{◌≡◌, ℕ, List, [], ◌∷◌, ◌++◌, length, Option, Some, None, Result, Ok, Err, OnOk, IfOk, refl, inl, inr, ap, subst, sym, ◌∙◌, arith, length-append}
+use Rattle.std.proofs.Common.{◌≡◌, ℕ, List, [], ◌∷◌, ◌++◌, length, Option, Result, Ok, Err, OnOk, IfOk, refl, inl, inr, ap, subst, sym, arith, length-append}
 use Rattle.std.specs.Option.{option_map}
 use Rattle.machine_model.specs.States.{DiskState}
 use Rattle.machine_model.specs.Calls.{OnlyReads}
@@ -104,21 +104,21 @@ takes_question h item reply Faulted old new a step same kept gives =
     record { turn = record { reply = reply; next = h }; step = step; leads = reads_lead h old new a kept same; ends = tt }
 
 -- a query that was asked
-pub takes_find : (h : History) (at : Time) (text : List ℕ) (r : Result Answer AskError) (old new : DiskState) (a : ArchiveState)
+pub takes_find : (h : History) (at : Time) (text : List ℕ) (r : Result Answer AskError) (d : DiskState) (a : ArchiveState)
     → ((why : Refusal) → r ≡ Err (asks.Refused why) → (place : ℕ) × IsRead key_of text (Err place) × (why ≡ refusals.BadQuery place))
     → IfOk r (λ answer. Finds h at text (Found answer.rows.items answer.read))
-    → OnlyReads old new → IsKept old a h → Takes h (items.Command (commands.Find at text)) (found r) old new a
-takes_find h at text (Ok answer) old new a refused finds same kept =
-    takes_question h (items.Command (commands.Find at text)) (Found answer.rows.items answer.read) (found (Ok answer)) old new a (refl, finds) same kept refl
-takes_find h at text (Err (asks.Refused why)) old new a refused finds same kept =
+    → IsKept d a h → Takes h (items.Command (commands.Find at text)) (found r) d d a
+takes_find h at text (Ok answer) d a refused finds kept =
+    takes_question h (items.Command (commands.Find at text)) (Found answer.rows.items answer.read) (found (Ok answer)) d d a (refl, finds) refl kept refl
+takes_find h at text (Err (asks.Refused why)) d a refused finds kept =
     let (place, read, is) = refused why refl in
-    takes_question h (items.Command (commands.Find at text)) (Refused (refusals.BadQuery place)) (found (Err (asks.Refused why))) old new a (refl, (Err place, read, refl)) same kept (sym (ap Refused is))
-takes_find h at text (Err asks.Failed) old new a refused finds same kept =
+    takes_question h (items.Command (commands.Find at text)) (Refused (refusals.BadQuery place)) (found (Err (asks.Refused why))) d d a (refl, (Err place, read, refl)) refl kept (sym (ap Refused is))
+takes_find h at text (Err asks.Failed) d a refused finds kept =
     let any = each_finds h at text kept.stands.loadable in
-    takes_question h (items.Command (commands.Find at text)) any.0 Faulted old new a (refl, any.1) same kept tt
-takes_find h at text (Err asks.Memory) old new a refused finds same kept =
+    takes_question h (items.Command (commands.Find at text)) any.0 Faulted d d a (refl, any.1) refl kept tt
+takes_find h at text (Err asks.Memory) d a refused finds kept =
     let any = each_finds h at text kept.stands.loadable in
-    takes_question h (items.Command (commands.Find at text)) any.0 Starved old new a (refl, any.1) same kept tt
+    takes_question h (items.Command (commands.Find at text)) any.0 Starved d d a (refl, any.1) refl kept tt
 
 -- a version that was asked for
 pub takes_show : {T : Type 0} (bytes : T → List ℕ) (h : History) (doc : DocId) (at : Time) (r : Result (Option T) AskError) (old new : DiskState) (a : ArchiveState)

@@ -19,11 +19,27 @@ use Rattle.archive_core.specs.States.{ArchiveState, StandsFor, IsPlace}
 use Rattle.archive_core.specs.declared.error.ChangeError.{ChangeError}
 use Rattle.archive_core.specs.declared.error.ChangeError.TheVariants as changes
 use Rattle.archive_state.specs.Histories.{History, IsLegalEntry}
+use Rattle.version_index.specs.Indexing.{ComesLater}
+use Rattle.version_index.specs.Indexes.{IndexState, Indexes, IsPreparedFor, seen}
+use Rattle.version_index.specs.declared.prepared.Prepared.{Prepared as Words}
 
 -- the change that an entry makes, with the length of its text
 abbrev pub Makes : Entry → Change ℕ → Type 0
 Makes (Arrive doc at text) change = (doc ≡ change.doc) × (at ≡ change.at) × (change.held ≡ Some (length text))
 Makes (Delete doc at) change = (doc ≡ change.doc) × (at ≡ change.at) × (change.held ≡ None)
+
+-- the document of an entry, its time, and the text that it has then
+abbrev pub document_of : Entry → DocId
+document_of (Arrive doc at text) = doc
+document_of (Delete doc at) = doc
+
+abbrev pub time_of : Entry → Time
+time_of (Arrive doc at text) = at
+time_of (Delete doc at) = at
+
+abbrev pub text_of : Entry → Option (List ℕ)
+text_of (Arrive doc at text) = Some text
+text_of (Delete doc at) = None
 
 -- an entry may come next after a history, makes this change, and has this spelling
 pub record IsNext (history : History) (entry : Entry) (change : Change ℕ) (body : List ℕ) : Type 0 where
@@ -44,19 +60,30 @@ refusal_by None doc at changes = delete_refusal doc at changes
 abbrev pub change_refusal : {A B : Type 0} → Change A → List (Change B) → Option VersionRefusal
 change_refusal change changes = refusal_by change.held change.doc change.at changes
 
--- an archive with one entry more, which makes this change and has this spelling
-pub record IsMore (old new : ArchiveState) (change : Change ℕ) (body : List ℕ) : Type 0 where
+-- an archive with one entry more, which makes this change and has this spelling; its words were prepared
+pub record IsMore (old new : ArchiveState) (change : Change ℕ) (body : List ℕ) (words : Words) : Type 0 where
   pub end_is : new.end ≡ old.end + 5 + length body
   pub length_is : new.length ≡ old.length + 1
   pub held : Option TextPlace
   pub held_is : IsHeld (old.end + 17) change.held held
   pub changes_are : new.changes ≡ old.changes ++ record { doc = change.doc; at = change.at; held = held } ∷ []
+  pub indexed : (texts : List (Change (List ℕ))) (doc : DocId) (text : Option (List ℕ)) → Indexes old.index texts → IsPreparedFor old.index doc text words
+      → ComesLater texts (record { doc = doc; at = change.at; held = text }) → Indexes new.index (texts ++ record { doc = doc; at = change.at; held = text } ∷ [])
+
+-- an archive that is spent has what it had, and may be changed no more
+pub record IsSpent (old new : ArchiveState) : Type 0 where
+  pub end_is : new.end ≡ old.end
+  pub length_is : new.length ≡ old.length
+  pub changes_are : new.changes ≡ old.changes
+  pub index_is : seen new.index ≡ seen old.index
+  pub live_is : new.live ≡ false
 
 -- An entry is prepared that may come next after a history, but for the journal's room; or this is why it may not.
-abbrev pub IsPrepared : History → Entry → Option Refusal → Result Prepared Unprepared → Type 0
-IsPrepared history entry refusal (Ok p) = IsNext history entry p.change p.body.items × (refusal ≡ first_of (full_journal history entry ∷ []))
-IsPrepared history entry refusal (Err (unprepared.Refused why)) = refusal ≡ Some why
-IsPrepared history entry refusal (Err unprepared.Memory) = Unit {0}
+abbrev pub IsPrepared : History → IndexState → Entry → Option Refusal → Result Prepared Unprepared → Type 0
+IsPrepared history index entry refusal (Ok p) = IsNext history entry p.change p.body.items × IsPreparedFor index (document_of entry) (text_of entry) p.words
+    × (refusal ≡ first_of (full_journal history entry ∷ []))
+IsPrepared history index entry refusal (Err (unprepared.Refused why)) = refusal ≡ Some why
+IsPrepared history index entry refusal (Err unprepared.Memory) = Unit {0}
 
 -- what an archive in hand says of an entry that was to be added, for the history that it stood for
 pub record Adds (history : History) (entry : Entry) (refusal : Option Refusal) (result : Result ℕ ChangeError) (new : ArchiveState) : Type 0 where

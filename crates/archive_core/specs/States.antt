@@ -8,16 +8,18 @@ use Rattle.version_store.specs.declared.change.Change.{Change}
 use Rattle.record_codec.specs.Spelling.{spelling}
 use Rattle.record_codec.specs.declared.entry.Entry.{Entry}
 use Rattle.record_codec.specs.declared.entry.Entry.TheVariants.{Arrive, Delete}
-use Rattle.archive_state.specs.Histories.{History, IsLoadable, end_of}
+use Rattle.archive_state.specs.Histories.{History, IsLoadable, changes, end_of}
+use Rattle.version_index.specs.Indexes.{IndexState, Indexes}
 use Rattle.archive_state.specs.Stands.{bodies_of}
 
--- an archive in hand: where its journal ends, whether it may be changed, how many entries it has, and the changes of documents
--- with the places of the texts
+-- an archive in hand: where its journal ends, whether it may be changed, how many entries it has, the changes of documents with
+-- the places of the texts, and the index of the texts
 pub record ArchiveState : Type 0 where
   pub end : ℕ
   pub live : Bool
   pub length : ℕ
   pub changes : List (Change TextPlace)
+  pub index : IndexState
 
 -- the place of a text of so many bytes in the journal
 abbrev pub IsPlace : ℕ → ℕ → Option TextPlace → Type 0
@@ -42,6 +44,7 @@ pub record StandsFor (archive : ArchiveState) (history : History) : Type 0 where
   pub end_is : archive.end ≡ end_of history
   pub length_is : archive.length ≡ length history
   pub changes_are : ArePlaced 16 history archive.changes
+  pub index_is : Indexes archive.index (changes history)
 
 -- a disk of these lengths reaches as far as an archive in hand: what it may read is there
 abbrev pub Reaches : Both ℕ → ArchiveState → Type 0

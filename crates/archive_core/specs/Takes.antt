@@ -4,7 +4,6 @@ use Rattle.std.specs.Option.{option_map}
 use Rattle.machine_model.specs.States.{DiskState}
 use Rattle.commands.specs.declared.command.Item.{Item}
 use Rattle.query_eval.specs.declared.answer.Answer.{Answer}
-use Rattle.archive_state.specs.declared.refusal.Refusal.{Refusal}
 use Rattle.archive_state.specs.Histories.{History}
 use Rattle.archive_state.specs.Steps.{Reply, Accepted, Refused, Found, Shown, Step}
 use Rattle.archive_state.specs.Runs.{Turn}

@@ -1,10 +1,8 @@
 -- Texts by their places in the journal.
-use Rattle.std.specs.Prelude.{ℕ, ◌+◌, ◌≤◌, if◌then◌else◌, List, take, drop, Option, Some, None}
-use Rattle.std.specs.Str.{is_utf8}
+use Rattle.std.specs.Prelude.{ℕ, ◌+◌, ◌≤◌, List, take, drop, Option, Some, None}
 use Rattle.time_base.specs.declared.text_place.TextPlace.{TextPlace}
 use Rattle.version_store.specs.declared.change.Change.{Change}
 use Rattle.version_store.specs.Changes.{mapped}
-use Rattle.fold_tokens.specs.Terms.{occurrences}
 
 -- the bytes at a place of the journal
 abbrev pub text_in : List ℕ → TextPlace → List ℕ
@@ -14,14 +12,6 @@ text_in journal place = take place.bytes (drop place.at journal)
 abbrev pub LiesIn : ℕ → Option TextPlace → Type 0
 LiesIn end None = Unit {0}
 LiesIn end (Some place) = place.at + place.bytes ≤ end
-
--- how often a word occurs in bytes; bytes that aren't UTF-8 have no words
-abbrev pub counted : List ℕ → List ℕ → ℕ
-counted word bytes = if is_utf8 bytes then occurrences word bytes else 0
-
--- how often a word occurs at a place of the journal
-abbrev pub counted_at : List ℕ → List ℕ → TextPlace → ℕ
-counted_at journal word place = counted word (text_in journal place)
 
 -- a change without what it holds
 abbrev pub nothing : {A : Type 0} → A → Unit {0}

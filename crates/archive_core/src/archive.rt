@@ -10,7 +10,9 @@ ghost use Rattle.archive_core.specs.States.{StandsFor, IsKept, Reaches};
 ghost use Rattle.archive_core.specs.Changing.{LeadsTo};
 ghost use Rattle.archive_core.specs.Takes.{Takes, changed};
 ghost use Rattle.record_codec.specs.declared.entry.Entry.{Entry};
-ghost use Rattle.archive_core.specs.Adding.{Adds, GivesUp, IsMore, IsNext, IsPrepared, change_refusal};
+ghost use Rattle.archive_core.specs.Adding.{Adds, GivesUp, IsMore, IsNext, IsPrepared, IsSpent, document_of, text_of, change_refusal};
+ghost use Rattle.version_index.specs.Indexes.{IsPreparedFor, state_of};
+ghost use Rattle.version_index.specs.declared.prepared.Prepared.{Prepared as Words};
 ghost use Rattle.record_codec.specs.declared.entry.Entry.TheVariants as entries;
 ghost use Rattle.commands.specs.declared.command.Command.TheVariants as commands;
 ghost use Rattle.commands.specs.declared.command.Item.TheVariants as items;
@@ -20,18 +22,20 @@ use crate::change::{TEXT_AT, note, placed};
 use crate::error::ChangeError;
 use crate::preparing::{Prepared, Unprepared, prepare_arrival, prepare_deletion};
 use archive_state::Refusal;
-use gate_journal::{AppendError, Frame, Journal};
+use gate_journal::{Frame, Journal};
 use machine_model::Disk;
 use std::alloc::Global;
 use std::marker::Model;
 use time_base::{DocId, Time, Which};
-use version_store::{Change, Directory};
+use version_index::Index;
+use version_store::Directory;
 
 /// An archive in hand.
 #[derive(Drop)]
 pub struct Archive {
     journal: Journal,
     directory: Directory,
+    index: Index,
     entries: u64,
     live: bool,
 }
@@ -40,30 +44,33 @@ impl Model for Archive {
     ghost use Rattle.std.specs.Prelude.{◌+◌, ◌≤◌, IsTrue};
     ghost use Rattle.archive_state.specs.Histories.{History};
     ghost use Rattle.archive_core.specs.States.{ArchiveState, StandsFor};
+    ghost use Rattle.version_index.specs.Indexes.{state_of};
 
     ghost Value = { ArchiveState };
 
-    ghost view = { λ a. record { end = a.journal.end; live = a.live; length = a.entries; changes = a.directory.changes } };
+    ghost view = { λ a. record { end = a.journal.end; live = a.live; length = a.entries; changes = a.directory.changes; index = state_of a.index } };
 
     // It stands for a history, which it shows on any disk.
     ghost invariant = { λ a. (IsTrue a.live → IsTrue a.journal.live) × (a.entries + 17 ≤ a.journal.end)
-        × ((h : History) × StandsFor (record { end = a.journal.end; live = a.live; length = a.entries; changes = a.directory.changes }) h) };
+        × ((h : History) × StandsFor (record { end = a.journal.end; live = a.live; length = a.entries; changes = a.directory.changes; index = state_of a.index }) h) };
 }
 
 impl Archive {
-    // The archive of a loaded journal, by the changes of its entries.
-    pub(crate) fn of(journal: Journal, directory: Directory, entries: u64) -> Archive
+    // The archive of a loaded journal, by the changes of its entries and the index of their texts.
+    pub(crate) fn of(journal: Journal, directory: Directory, index: Index, entries: u64) -> Archive
         requires live { IsTrue journal.live }
         requires few { entries + 17 ≤ journal.end }
-        requires stands { (h : History) × StandsFor (record { end = journal.end; live = true; length = entries; changes = directory.changes }) h }
+        requires stands { (h : History) × StandsFor (record { end = journal.end; live = true; length = entries; changes = directory.changes; index = state_of index }) h }
         ensures end { result.end ≡ journal.end }
         ensures live { IsTrue result.live }
         ensures length { result.length ≡ entries }
         ensures changes { result.changes ≡ directory.changes }
+        ensures index { result.index ≡ state_of index }
     {
         Archive {
             journal,
             directory,
+            index,
             entries,
             live: true,
         }
@@ -86,11 +93,8 @@ impl Archive {
 
     /// The journal, whose end is the archive's. Constant cost.
     pub(crate) fn journal(&self) -> &Journal
-        ensures end { result.now.end ≡ self.now.end }
-        ensures most { result.now.end ≤ 2 ^ 40 }
+        ensures { result.now.end ≡ self.now.end }
     {
-        // The call tells how far a journal reaches at most.
-        let _ = self.journal.end();
         &self.journal
     }
 
@@ -102,14 +106,22 @@ impl Archive {
         &self.directory
     }
 
+    /// The index of the texts. Constant cost.
+    pub(crate) fn index(&self) -> &Index
+        ensures { state_of result.now ≡ self.now.index }
+    {
+        &self.index
+    }
+
     /// Adds a version of a document, and answers how many entries there are. At `Ok` the entry is
     /// durable: each image that a stop may leave has it. All memory is taken before the first write.
     ///
     /// `Refused`: it isn't allowed, for the first cause in order: the text is too long, the text
     /// isn't UTF-8, the time lies before the last one, the document's latest change has this time,
-    /// or the documents, the versions or the journal are full. Nothing was changed.
+    /// or the documents, the versions, the words or the journal are full. Nothing was changed.
     /// `Failed`, `Memory`: the archive is spent, and keeps what it had.
-    /// Costs the text's length, two look-ups and two synced writes.
+    /// Costs the text's words, with a look-up in the index for each and a move of the later postings of
+    /// each whose frequency changes; two look-ups of the document; and two synced writes.
     pub fn arrive<D: Disk>(
         &mut self,
         alloc: Global,
@@ -132,12 +144,12 @@ impl Archive {
         // All memory is taken before the first call of the disk.
         ensures memory { IsErrOf result ChangeError.Memory → disk.new ≡ disk.old }
         // Where it is spent, it has the entries and the texts that it had.
-        ensures spent { (IsErrOf result ChangeError.Memory ⊎ IsErrOf result ChangeError.Failed) → self.new ≡ record self.old { live = false } }
+        ensures spent { (IsErrOf result ChangeError.Memory ⊎ IsErrOf result ChangeError.Failed) → IsSpent self.old self.new }
         // In step, it is a step of the abstract machine; each image left since stands for the history before it or after it.
         ensures takes { D.disk_tells → (h : History) → IsKept (D.disk disk.old) self.old h → Takes h (items.Command (commands.Arrive doc at (texts.Bytes text.now))) (changed result) (D.disk disk.old) (D.disk disk.new) self.new }
         ensures pages { D.disk_tells → KeepsPages (D.disk disk.old) (D.disk disk.new) }
     {
-        let prepared = prepare_arrival(alloc, &self.directory, doc, at, text);
+        let prepared = prepare_arrival(alloc, &self.directory, &mut self.index, doc, at, text);
         self.add(alloc, disk, prepared)
     }
 
@@ -149,7 +161,8 @@ impl Archive {
     /// the document has no version or its latest is a tombstone, its latest version has this time,
     /// or the versions or the journal are full. Nothing was changed.
     /// `Failed`, `Memory`: the archive is spent, and keeps what it had.
-    /// Costs two look-ups and two synced writes.
+    /// Costs, for each word of the document's newest version, a look-up in the index and a move of its
+    /// later postings; two look-ups of the document; and two synced writes.
     pub fn delete<D: Disk>(
         &mut self,
         alloc: Global,
@@ -171,12 +184,12 @@ impl Archive {
         // All memory is taken before the first call of the disk.
         ensures memory { IsErrOf result ChangeError.Memory → disk.new ≡ disk.old }
         // Where it is spent, it has the entries and the texts that it had.
-        ensures spent { (IsErrOf result ChangeError.Memory ⊎ IsErrOf result ChangeError.Failed) → self.new ≡ record self.old { live = false } }
+        ensures spent { (IsErrOf result ChangeError.Memory ⊎ IsErrOf result ChangeError.Failed) → IsSpent self.old self.new }
         // In step, it is a step of the abstract machine; each image left since stands for the history before it or after it.
         ensures takes { D.disk_tells → (h : History) → IsKept (D.disk disk.old) self.old h → Takes h (items.Command (commands.Delete doc at)) (changed result) (D.disk disk.old) (D.disk disk.new) self.new }
         ensures pages { D.disk_tells → KeepsPages (D.disk disk.old) (D.disk disk.new) }
     {
-        let prepared = prepare_deletion(alloc, &self.directory, doc, at);
+        let prepared = prepare_deletion(alloc, &self.directory, &mut self.index, doc, at);
         self.add(alloc, disk, prepared)
     }
 
@@ -191,21 +204,21 @@ impl Archive {
         requires within { Reaches (D.disk disk.old).reach self.old }
         requires fits { IfOk prepared (λ p. length p.body.items < 2 ^ 32) }
         requires allowed { IfOk prepared (λ p. change_refusal p.change self.old.changes ≡ None) }
-        requires next { (h : History) → StandsFor self.old h → (entry : Entry) × (refusal : Option Refusal) × IsPrepared h entry refusal prepared }
+        requires next { (h : History) → StandsFor self.old h → (entry : Entry) × (refusal : Option Refusal) × IsPrepared h self.old.index entry refusal prepared }
         ensures only { D.Disk.only disk.old disk.new }
         ensures failed { IsErrOf result ChangeError.Failed → Rose (D.disk disk.old).faults (D.disk disk.new).faults }
         ensures within { Reaches (D.disk disk.new).reach self.new }
         ensures live { IsTrue self.new.live ↔ (IsOk result ⊎ ((why : Refusal) × IsErrOf result (ChangeError.Refused why))) }
         ensures same { (why : Refusal) → IsErrOf result (ChangeError.Refused why) → (self.new ≡ self.old) × (disk.new ≡ disk.old) }
         ensures memory { IsErrOf result ChangeError.Memory → disk.new ≡ disk.old }
-        ensures spent { (IsErrOf result ChangeError.Memory ⊎ IsErrOf result ChangeError.Failed) → self.new ≡ record self.old { live = false } }
-        ensures adds { (h : History) (entry : Entry) (refusal : Option Refusal) → StandsFor self.old h → IsPrepared h entry refusal prepared → Adds h entry refusal result self.new }
-        ensures leads { D.disk_tells → (h : History) (entry : Entry) (refusal : Option Refusal) → IsKept (D.disk disk.old) self.old h → IsPrepared h entry refusal prepared →
+        ensures spent { (IsErrOf result ChangeError.Memory ⊎ IsErrOf result ChangeError.Failed) → IsSpent self.old self.new }
+        ensures adds { (h : History) (entry : Entry) (refusal : Option Refusal) → StandsFor self.old h → IsPrepared h self.old.index entry refusal prepared → Adds h entry refusal result self.new }
+        ensures leads { D.disk_tells → (h : History) (entry : Entry) (refusal : Option Refusal) → IsKept (D.disk disk.old) self.old h → IsPrepared h self.old.index entry refusal prepared →
             LeadsTo h (h ++ entry ∷ []) (D.disk disk.old) (D.disk disk.new) × OnOk result (IsKept (D.disk disk.new) self.new (h ++ entry ∷ [])) }
         ensures pages { D.disk_tells → KeepsPages (D.disk disk.old) (D.disk disk.new) }
     {
         match prepared {
-            Ok(prepared) => self.commit(alloc, disk, prepared.change, &prepared.body),
+            Ok(prepared) => self.commit(alloc, disk, prepared),
             Err(why) => self.give_up(why),
         }
     }
@@ -223,49 +236,57 @@ impl Archive {
         }
     }
 
-    // Makes a change that may come. The body is its entry's spelling.
+    // Makes a change that may come, if the journal has room for its entry.
     fn commit<D: Disk>(
         &mut self,
         alloc: Global,
         disk: &mut D,
-        change: Change<u32>,
-        body: &[u8],
+        prepared: Prepared,
     ) -> Result<u64, ChangeError>
         requires live { IsTrue self.old.live }
         requires within { Reaches (D.disk disk.old).reach self.old }
-        requires fits { length body.now < 2 ^ 32 }
-        requires allowed { change_refusal change self.old.changes ≡ None }
-        requires next { (h : History) → StandsFor self.old h → (entry : Entry) × IsNext h entry change body.now }
+        requires fits { length prepared.body.items < 2 ^ 32 }
+        requires allowed { change_refusal prepared.change self.old.changes ≡ None }
+        requires next { (h : History) → StandsFor self.old h → (entry : Entry) × IsNext h entry prepared.change prepared.body.items
+            × IsPreparedFor self.old.index (document_of entry) (text_of entry) prepared.words }
         ensures only { D.Disk.only disk.old disk.new }
         ensures failed { IsErrOf result ChangeError.Failed → Rose (D.disk disk.old).faults (D.disk disk.new).faults }
         ensures within { Reaches (D.disk disk.new).reach self.new }
         ensures live { IsTrue self.new.live ↔ (IsOk result ⊎ ((why : Refusal) × IsErrOf result (ChangeError.Refused why))) }
-        ensures refused { (why : Refusal) → IsErrOf result (ChangeError.Refused why) → (why ≡ Refusal.Full Which.Journal (limit_of Which.Journal)) × (limit_of Which.Journal < self.old.end + 5 + length body.now) }
-        ensures allowed { (IsOk result ⊎ IsErrOf result ChangeError.Failed) → self.old.end + 5 + length body.now ≤ limit_of Which.Journal }
+        ensures refused { (why : Refusal) → IsErrOf result (ChangeError.Refused why) → (why ≡ Refusal.Full Which.Journal (limit_of Which.Journal)) × (limit_of Which.Journal < self.old.end + 5 + length prepared.body.items) }
+        ensures allowed { (IsOk result ⊎ IsErrOf result ChangeError.Failed) → self.old.end + 5 + length prepared.body.items ≤ limit_of Which.Journal }
         ensures same { (why : Refusal) → IsErrOf result (ChangeError.Refused why) → (self.new ≡ self.old) × (disk.new ≡ disk.old) }
         // All memory is taken before the first call of the disk.
         ensures memory { IsErrOf result ChangeError.Memory → disk.new ≡ disk.old }
-        ensures spent { (IsErrOf result ChangeError.Memory ⊎ IsErrOf result ChangeError.Failed) → self.new ≡ record self.old { live = false } }
-        ensures more { IfOk result (λ n. IsMore self.old self.new change body.now × (n ≡ self.new.length)) }
-        ensures crash { D.disk_tells → (bodies : List (List ℕ)) → IsInStep (D.disk disk.old) self.old.end bodies → Appends bodies body.now (D.disk disk.old) (D.disk disk.new) }
-        ensures in_step { D.disk_tells → (bodies : List (List ℕ)) → IsInStep (D.disk disk.old) self.old.end bodies → OnOk result (IsInStep (D.disk disk.new) self.new.end (bodies ++ body.now ∷ [])) }
+        ensures spent { (IsErrOf result ChangeError.Memory ⊎ IsErrOf result ChangeError.Failed) → IsSpent self.old self.new }
+        ensures more { IfOk result (λ n. IsMore self.old self.new prepared.change prepared.body.items prepared.words × (n ≡ self.new.length)) }
+        ensures crash { D.disk_tells → (bodies : List (List ℕ)) → IsInStep (D.disk disk.old) self.old.end bodies → Appends bodies prepared.body.items (D.disk disk.old) (D.disk disk.new) }
+        ensures in_step { D.disk_tells → (bodies : List (List ℕ)) → IsInStep (D.disk disk.old) self.old.end bodies → OnOk result (IsInStep (D.disk disk.new) self.new.end (bodies ++ prepared.body.items ∷ [])) }
         ensures pages { D.disk_tells → KeepsPages (D.disk disk.old) (D.disk disk.new) }
     {
+        let Prepared {
+            change,
+            body,
+            words,
+        } = prepared;
+        if Which::Journal.limit() < self.journal.end() + 5 + body.len() as u64 {
+            return Err(ChangeError::Refused(full_journal()));
+        }
         self.live = false;
-        let frame = Frame::new(alloc, body)?;
+        let frame = Frame::new(alloc, &body)?;
         self.directory.reserve(change.doc)?;
+        if self.index.make_room(&words).is_err() {
+            return Err(ChangeError::Memory);
+        }
         match self.journal.append(disk, &frame) {
             Ok(place) => {
                 note(&mut self.directory, placed(change, place + TEXT_AT));
+                self.index.commit(words, change.at);
                 self.entries += 1;
                 self.live = true;
                 Ok(self.entries)
             }
-            Err(AppendError::Full) => {
-                self.live = true;
-                Err(ChangeError::Refused(full_journal()))
-            }
-            Err(AppendError::Failed) => Err(ChangeError::Failed),
+            Err(_) => Err(ChangeError::Failed),
         }
     }
 }

@@ -2,13 +2,14 @@
 ghost use Rattle.std.specs.Prelude.{◌≡◌, ◌⊎◌, ◌≤◌, ◌^◌, ◌++◌, ◌∷◌, [], ℕ, Ok, Err, length, IsOk, IfOk, OnOk, IsErrOf, option_map};
 ghost use Rattle.machine_model.specs.Causes.{Rose};
 ghost use Rattle.machine_model.specs.Calls.{OnlyReads};
+ghost use Rattle.machine_model.specs.States.{DiskState};
 ghost use Rattle.query_lang.specs.Grammar.{Query as Meaning, IsRead};
 ghost use Rattle.query_lang.specs.Meaning.{words_of};
 ghost use Rattle.query_lang.specs.Tokens.{key_of};
 ghost use Rattle.query_eval.specs.Asked.{read_of};
 ghost use Rattle.query_eval.specs.declared.part.Part.{Part as PartValue};
 ghost use Rattle.archive_state.specs.Histories.{History, text_at};
-ghost use Rattle.archive_state.specs.Answers.{IsAnswerAt, IsWordList};
+ghost use Rattle.archive_state.specs.Answers.{IsAnswerAt};
 ghost use Rattle.archive_state.specs.Steps.{Found, Finds};
 ghost use Rattle.archive_core.specs.States.{StandsFor, IsKept, Reaches};
 ghost use Rattle.archive_core.specs.Takes.{Takes, found, shown};
@@ -17,7 +18,6 @@ ghost use Rattle.commands.specs.declared.command.Command.TheVariants as commands
 ghost use Rattle.commands.specs.declared.command.Item.TheVariants as items;
 
 use crate::archive::Archive;
-use crate::counting::count_all;
 use crate::error::AskError;
 use crate::texts::read_text;
 use archive_state::Refusal;
@@ -27,55 +27,34 @@ use query_eval::{Answer, Part, answer_by_hits, answer_from};
 use query_lang::{Query, QueryError};
 use std::alloc::{AllocError, Global};
 use time_base::{DocId, Key, Posting, Time};
-use word_lists::list_of;
 
 impl Archive {
     /// What a query finds as of a time: the rows of the documents alive then that match, and how many
-    /// postings were read for them. Nothing is changed.
+    /// postings were read for them. Nothing is changed, and no disk is asked.
     ///
-    /// `Refused`: the text is no query.
-    /// Costs, for each distinct word of the query, a read of the journal's texts from the first on,
-    /// each once, to make the word's list.
-    pub fn find<D: Disk>(
-        &self,
-        alloc: Global,
-        disk: &mut D,
-        at: Time,
-        expr: &Phrase,
-    ) -> Result<Answer, AskError>
-        requires within { Reaches (D.disk disk.old).reach self.now }
-        ensures only { D.Disk.only disk.old disk.new }
-        ensures same { OnlyReads (D.disk disk.old) (D.disk disk.new) }
-        ensures failed { IsErrOf result AskError.Failed → Rose (D.disk disk.old).faults (D.disk disk.new).faults }
+    /// `Refused`: the text is no query. It is never `Failed`.
+    /// Costs the query's length, the postings of its words, and a sort of those that hold the time;
+    /// where it matches without any of its words, also a look-up for each document.
+    pub fn find(&self, alloc: Global, at: Time, expr: &Phrase) -> Result<Answer, AskError>
+        ensures failed { IsErrOf result AskError.Failed → ⊥ }
         // A refusal comes of a text that is no query, at the place where that shows, and wherever it is none (but for want of memory).
         ensures refused { (why : Refusal) → IsErrOf result (AskError.Refused why) → (place : ℕ) × IsRead key_of expr.now (Err place) × (why ≡ Refusal.BadQuery place) }
-        ensures asked { (IsOk result ⊎ IsErrOf result AskError.Failed) → (query : Meaning) × IsRead key_of expr.now (Ok query) }
-        // In step, it is a step of the abstract machine.
-        ensures takes { D.disk_tells → (h : History) → IsKept (D.disk disk.old) self.now h →
-            Takes h (items.Command (commands.Find at expr.now)) (found result) (D.disk disk.old) (D.disk disk.new) self.now }
+        ensures asked { IsOk result → (query : Meaning) × IsRead key_of expr.now (Ok query) }
+        // In step with a disk, it is a step of the abstract machine.
+        ensures takes { (d : DiskState) (h : History) → IsKept d self.now h → Takes h (items.Command (commands.Find at expr.now)) (found result) d d self.now }
     {
-        self.answer_of(alloc, disk, at, expr)
+        self.answer_of(alloc, at, expr)
     }
 
     /// The answer to a query by the lists of its words.
-    fn answer_of<D: Disk>(
-        &self,
-        alloc: Global,
-        disk: &mut D,
-        at: Time,
-        expr: &Phrase,
-    ) -> Result<Answer, AskError>
-        requires within { Reaches (D.disk disk.old).reach self.now }
-        ensures only { D.Disk.only disk.old disk.new }
-        ensures same { OnlyReads (D.disk disk.old) (D.disk disk.new) }
-        ensures failed { IsErrOf result AskError.Failed → Rose (D.disk disk.old).faults (D.disk disk.new).faults }
+    fn answer_of(&self, alloc: Global, at: Time, expr: &Phrase) -> Result<Answer, AskError>
+        ensures failed { IsErrOf result AskError.Failed → ⊥ }
         ensures refused { (why : Refusal) → IsErrOf result (AskError.Refused why) → (place : ℕ) × IsRead key_of expr.now (Err place) × (why ≡ Refusal.BadQuery place) }
-        ensures asked { (IsOk result ⊎ IsErrOf result AskError.Failed) → (query : Meaning) × IsRead key_of expr.now (Ok query) }
-        ensures found { D.disk_tells → (h : History) → IsKept (D.disk disk.old) self.now h →
-            IfOk result (λ answer. Finds h at expr.now (Found answer.rows.items answer.read)) }
+        ensures asked { IsOk result → (query : Meaning) × IsRead key_of expr.now (Ok query) }
+        ensures found { (h : History) → StandsFor self.now h → IfOk result (λ answer. Finds h at expr.now (Found answer.rows.items answer.read)) }
     {
         let query = query_of(alloc, expr)?;
-        let parts = self.parts_of(alloc, disk, query.words())?;
+        let parts = self.parts_of(alloc, query.words())?;
         let answer = self.answer_by(alloc, &query, at, &parts)?;
         Ok(answer)
     }
@@ -102,53 +81,16 @@ impl Archive {
         Ok(answer)
     }
 
-    /// The whole lists of words, in order.
-    fn parts_of<D: Disk>(
-        &self,
-        alloc: Global,
-        disk: &mut D,
-        words: &[Key],
-    ) -> Result<Vec<Part>, AskError>
-        requires within { Reaches (D.disk disk.old).reach self.now }
-        ensures only { D.Disk.only disk.old disk.new }
-        ensures same { OnlyReads (D.disk disk.old) (D.disk disk.new) }
-        ensures failed { IsErrOf result AskError.Failed → Rose (D.disk disk.old).faults (D.disk disk.new).faults }
-        ensures never { (why : Refusal) → IsErrOf result (AskError.Refused why) → ⊥ }
+    /// The whole lists of words, in order. Costs their postings.
+    pub(crate) fn parts_of(&self, alloc: Global, words: &[Key]) -> Result<Vec<Part>, AllocError>
         ensures many { IfOk result (λ parts. length parts.items ≡ length words.now) }
-        ensures whole { D.disk_tells → (h : History) → IsKept (D.disk disk.old) self.now h → IfOk result (λ parts. AreWholeLists h words.now parts.items) }
+        ensures whole { (h : History) → StandsFor self.now h → IfOk result (λ parts. AreWholeLists h words.now parts.items) }
     {
         let mut parts = Vec::new(alloc);
         for word in words {
-            let list = self.list_of(alloc, disk, word)?;
-            put_whole(&mut parts, list)?;
+            put_whole(alloc, &mut parts, self.index().list(word))?;
         }
         Ok(parts)
-    }
-
-    /// The list of a word, from the texts of all versions. Costs a read of the texts, each once.
-    fn list_of<D: Disk>(
-        &self,
-        alloc: Global,
-        disk: &mut D,
-        word: &Key,
-    ) -> Result<Vec<Posting>, AskError>
-        requires within { Reaches (D.disk disk.old).reach self.now }
-        ensures only { D.Disk.only disk.old disk.new }
-        ensures same { OnlyReads (D.disk disk.old) (D.disk disk.new) }
-        ensures failed { IsErrOf result AskError.Failed → Rose (D.disk disk.old).faults (D.disk disk.new).faults }
-        ensures never { (why : Refusal) → IsErrOf result (AskError.Refused why) → ⊥ }
-        ensures few { IfOk result (λ list. length list.items ≤ 2 ^ 40) }
-        ensures listed { D.disk_tells → (h : History) → IsKept (D.disk disk.old) self.now h → IfOk result (λ list. IsWordList h word.now list.items) }
-    {
-        let counts = count_all(
-            alloc,
-            disk,
-            self.journal(),
-            self.directory().changes(),
-            word,
-        )?;
-        let list = list_of(alloc, &counts)?;
-        Ok(list)
     }
 
     /// The text of the document's version that is alive at the time; None exactly where the document
@@ -197,7 +139,7 @@ impl Archive {
 }
 
 /// The query of a phrase, or where it shows that there is none.
-fn query_of(alloc: Global, expr: &Phrase) -> Result<Query, AskError>
+pub(crate) fn query_of(alloc: Global, expr: &Phrase) -> Result<Query, AskError>
     ensures query { IfOk result (λ query. IsRead key_of expr.now (Ok query)) }
     ensures refused { (why : Refusal) → IsErrOf result (AskError.Refused why) → (place : ℕ) × IsRead key_of expr.now (Err place) × (why ≡ Refusal.BadQuery place) }
     ensures failed { IsErrOf result AskError.Failed → ⊥ }
@@ -212,12 +154,13 @@ fn query_of(alloc: Global, expr: &Phrase) -> Result<Query, AskError>
 }
 
 /// Puts a list behind others, as a part that is read whole.
-fn put_whole(parts: &mut Vec<Part>, list: Vec<Posting>) -> Result<(), AllocError>
-    requires { length list.items ≤ 2 ^ 40 }
+fn put_whole(alloc: Global, parts: &mut Vec<Part>, list: &[Posting]) -> Result<(), AllocError>
+    requires { length list.now ≤ 2 ^ 40 }
     ensures { OnOk result ((part : PartValue) × (parts.new.items ≡ parts.old.items ++ part ∷ [])
-        × (part.list.items ≡ list.items) × (part.read ≡ length list.items)) }
+        × (part.list.items ≡ list.now) × (part.read ≡ length list.now)) }
 {
     let read = list.len() as u64;
+    let list = Vec::from_slice(alloc, list)?;
     parts.push(Part { list, read })?;
     Ok(())
 }

@@ -9,7 +9,6 @@
 mod archive;
 mod asking;
 mod change;
-mod counting;
 mod error;
 mod laws;
 mod loading;

@@ -1,6 +1,8 @@
 //! Preparing a change: the tests of it that need no disk, and the spelling of its entry.
 ghost use Rattle.std.specs.Prelude.{◌≡◌, ◌<◌, ◌^◌, length, ℕ, IfOk};
-ghost use Rattle.archive_state.specs.Histories.{History};
+ghost use Rattle.time_base.specs.Limits.{limit_of};
+ghost use Rattle.archive_state.specs.Histories.{History, changes};
+ghost use Rattle.version_index.specs.Indexes.{state_of, Indexes};
 ghost use Rattle.archive_state.specs.Steps.{arrival_refusal, deletion_refusal};
 ghost use Rattle.record_codec.specs.declared.entry.Entry.TheVariants as entries;
 ghost use Rattle.archive_core.specs.States.{ArePlaced};
@@ -9,16 +11,20 @@ ghost use Rattle.archive_core.specs.Adding.{IsPrepared, change_refusal};
 use crate::change::may_come;
 use crate::text::text_of;
 use archive_state::Refusal;
+use fold_tokens::NumberError;
 use record_codec::{encode_arrival, encode_deletion};
 use std::alloc::{AllocError, Global};
-use time_base::{DocId, Time};
+use time_base::{DocId, Time, Which};
+use version_index::Index;
 use version_store::{Change, Directory};
 
-/// A change that may come next, with the length of its text, and its entry's spelling.
+/// A change that may come next, with the length of its text, its entry's spelling, and what the
+/// index needs of its text.
 #[derive(Drop)]
 pub(crate) struct Prepared {
     pub(crate) change: Change<u32>,
     pub(crate) body: Vec<u8>,
+    pub(crate) words: version_index::Prepared,
 }
 
 /// Why a change was not prepared.
@@ -41,17 +47,30 @@ impl From<AllocError> for Unprepared {
     }
 }
 
-/// Prepares a version of a document. Costs the text's length and a look-up.
+/// The refusal of a text with which there would be too many words.
+fn full_words() -> Refusal
+    ensures { result ≡ Refusal.Full Which.Words (limit_of Which.Words) }
+{
+    Refusal::Full {
+        which: Which::Words,
+        limit: Which::Words.limit(),
+    }
+}
+
+/// Prepares a version of a document. Costs the text's words and a look-up.
 pub(crate) fn prepare_arrival(
     alloc: Global,
     directory: &Directory,
+    index: &mut Index,
     doc: DocId,
     at: Time,
     text: &[u8],
 ) -> Result<Prepared, Unprepared>
+    ensures same { state_of index.new ≡ state_of index.old }
     ensures fits { IfOk result (λ p. length p.body.items < 2 ^ 32) }
     ensures allowed { IfOk result (λ p. change_refusal p.change directory.now.changes ≡ None) }
-    ensures prepared { (h : History) → ArePlaced 16 h directory.now.changes → IsPrepared h (entries.Arrive doc at text.now) (arrival_refusal h doc at text.now) result }
+    ensures prepared { (h : History) → ArePlaced 16 h directory.now.changes → Indexes (state_of index.old) (changes h)
+        → IsPrepared h (state_of index.old) (entries.Arrive doc at text.now) (arrival_refusal h doc at text.now) result }
 {
     let text = match text_of(text) {
         Ok(text) => text,
@@ -66,20 +85,32 @@ pub(crate) fn prepare_arrival(
         Ok(()) => {}
         Err(why) => return Err(Unprepared::Refused(why.into())),
     }
+    let words = match index.prepare(alloc, doc, Some(text)) {
+        Ok(words) => words,
+        Err(NumberError::Full) => return Err(Unprepared::Refused(full_words())),
+        Err(NumberError::Memory) => return Err(Unprepared::Memory),
+    };
     let body = encode_arrival(alloc, doc, at, text)?;
-    Ok(Prepared { change, body })
+    Ok(Prepared {
+        change,
+        body,
+        words,
+    })
 }
 
 /// Prepares the end of a document's newest version. Costs a look-up.
 pub(crate) fn prepare_deletion(
     alloc: Global,
     directory: &Directory,
+    index: &mut Index,
     doc: DocId,
     at: Time,
 ) -> Result<Prepared, Unprepared>
+    ensures same { state_of index.new ≡ state_of index.old }
     ensures fits { IfOk result (λ p. length p.body.items < 2 ^ 32) }
     ensures allowed { IfOk result (λ p. change_refusal p.change directory.now.changes ≡ None) }
-    ensures prepared { (h : History) → ArePlaced 16 h directory.now.changes → IsPrepared h (entries.Delete doc at) (deletion_refusal h doc at) result }
+    ensures prepared { (h : History) → ArePlaced 16 h directory.now.changes → Indexes (state_of index.old) (changes h)
+        → IsPrepared h (state_of index.old) (entries.Delete doc at) (deletion_refusal h doc at) result }
 {
     let change = Change {
         doc,
@@ -90,6 +121,13 @@ pub(crate) fn prepare_deletion(
         Ok(()) => {}
         Err(why) => return Err(Unprepared::Refused(why.into())),
     }
+    let Ok(words) = index.prepare(alloc, doc, None) else {
+        return Err(Unprepared::Memory);
+    };
     let body = encode_deletion(alloc, doc, at)?;
-    Ok(Prepared { change, body })
+    Ok(Prepared {
+        change,
+        body,
+        words,
+    })
 }

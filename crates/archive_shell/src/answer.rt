@@ -63,7 +63,7 @@ fn carry_out<D: Disk>(
             write_change(page, result)
         }
         Command::Find { at, expr } => {
-            let result = archive.find(alloc, disk, at, &expr);
+            let result = archive.find(alloc, at, &expr);
             write_found(page, result)
         }
         Command::Show { doc, at } => {

@@ -1,5 +1,5 @@
 //! The index.
-ghost use Rattle.std.specs.Prelude.{◌≡◌, ℕ, ◌<◌, ◌≤◌, ◌^◌, ◌↔◌, List, [], ◌∷◌, ◌++◌, length, Option, option_map, Contains, Err, IfOk, OnOk, IfSome, IsTrue};
+ghost use Rattle.std.specs.Prelude.{◌≡◌, ℕ, ◌<◌, ◌≤◌, ◌^◌, ◌↔◌, List, [], ◌∷◌, ◌++◌, length, Option, option_map, Contains, Err, IfOk, OnOk, IfSome, IsSome, IsTrue};
 ghost use Rattle.version_store.specs.declared.change.Change.{Change};
 ghost use Rattle.version_index.specs.Words.{words_in, IsWordList};
 ghost use Rattle.version_index.specs.Indexing.{ComesLater};
@@ -58,8 +58,8 @@ impl Index {
     }
 
     /// Prepares a new text of the document, or its deletion: measures the text. Nothing changes.
-    /// `Full` comes where there would be more than 2^20 words. The text is read once; it costs the
-    /// text's words.
+    /// `Full` comes where there would be more than 2^20 words, never of a deletion. The text is read once; it costs
+    /// the text's words.
     pub fn prepare(
         &mut self,
         alloc: Global,
@@ -73,6 +73,7 @@ impl Index {
             → c.held ≡ option_map (λ t. t.now) text.entry → length (words_in (changes ++ c ∷ [])) ≤ 2 ^ 20) }
         ensures full { result ≡ Err NumberError.Full → (changes : List (Change (List ℕ))) (c : Change (List ℕ)) → Indexes (state_of self.old) changes
             → c.held ≡ option_map (λ t. t.now) text.entry → 2 ^ 20 < length (words_in (changes ++ c ∷ [])) }
+        ensures some { result ≡ Err NumberError.Full → IsSome text.entry }
     {
         let measured = measure(alloc, &self.vocabulary, &mut self.places, text)?;
         let Measured { fresh, weights } = measured;

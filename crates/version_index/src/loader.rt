@@ -1,5 +1,5 @@
 //! The index of a whole history at once.
-ghost use Rattle.std.specs.Prelude.{◌≡◌, ℕ, ◌<◌, ◌≤◌, ◌^◌, List, [], ◌∷◌, ◌++◌, length, option_map, All, Err, IfOk, OnOk, OnErr, IfSome};
+ghost use Rattle.std.specs.Prelude.{◌≡◌, ℕ, ◌<◌, ◌≤◌, ◌^◌, List, [], ◌∷◌, ◌++◌, length, option_map, All, Err, IfOk, OnOk, OnErr, IfSome, IsSome};
 ghost use Rattle.version_store.specs.declared.change.Change.{Change};
 ghost use Rattle.tail_lists.specs.Acts.{open_after};
 ghost use Rattle.tail_lists.specs.Gathered.{acts_of};
@@ -65,6 +65,7 @@ impl Loader {
             → c.held ≡ option_map (λ t. t.now) text.entry → length (words_in (changes ++ c ∷ [])) ≤ 2 ^ 20) }
         ensures full { result ≡ Err NumberError.Full → (changes : List (Change (List ℕ))) (c : Change (List ℕ)) → Loads self.old changes
             → c.held ≡ option_map (λ t. t.now) text.entry → 2 ^ 20 < length (words_in (changes ++ c ∷ [])) }
+        ensures some { result ≡ Err NumberError.Full → IsSome text.entry }
     {
         held_as_changes_come::<Key>();
         if MOST_TURNS <= self.turns.len() as u64 {

@@ -1,5 +1,5 @@
 //! A text by the numbers of its words.
-ghost use Rattle.std.specs.Prelude.{◌≡◌, ℕ, ◌+◌, ◌<◌, ◌≤◌, ◌^◌, ◌++◌, List, Option, length, map, option_map, nat_eq, All, Err, IfOk, OnOk, IfSome};
+ghost use Rattle.std.specs.Prelude.{◌≡◌, ℕ, ◌+◌, ◌<◌, ◌≤◌, ◌^◌, ◌++◌, List, Option, length, map, option_map, nat_eq, All, Err, IfOk, OnOk, IfSome, IsSome};
 ghost use Rattle.std.specs.List.{IsDistinct};
 ghost use Rattle.fold_tokens.specs.Words.{with_all, counted, known_of, fresh_of, weight_at};
 ghost use Rattle.tail_lists.specs.Weights.{weight_of};
@@ -125,6 +125,7 @@ pub(crate) fn measure(
     ensures measured { IfOk result (λ m. IsMeasured vocabulary.now.words (option_map (λ t. t.now) text.entry) m.fresh.items m.weights) }
     ensures fits { OnOk result (length (words_with vocabulary.now.words (option_map (λ t. t.now) text.entry)) ≤ 2 ^ 20) }
     ensures full { result ≡ Err NumberError.Full → 2 ^ 20 < length (words_with vocabulary.now.words (option_map (λ t. t.now) text.entry)) }
+    ensures some { result ≡ Err NumberError.Full → IsSome text.entry }
 {
     let words = vocabulary.len();
     let weighed = weigh_held(alloc, vocabulary, places, text)?;

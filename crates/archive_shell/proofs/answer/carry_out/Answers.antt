@@ -16,9 +16,9 @@ returns-in-Delete-clause-turn g c = λ tells h kept.
 
 pub returns-in-Find-clause-turn : goal.returns-in-Find-clause-turn
 returns-in-Find-clause-turn g c = λ tells h kept.
-    let C : Command → Type 0 = λ d. Answers h (items.Command d) c.write_found.result (g.D.Disk.disk c.args.disk.now) (g.D.Disk.disk c.find-result.new.disk) c.args.archive.now c.write_found.new.page.bytes in
+    let C : Command → Type 0 = λ d. Answers h (items.Command d) c.write_found.result (g.D.Disk.disk c.args.disk.now) (g.D.Disk.disk c.args.disk.now) c.args.archive.now c.write_found.new.page.bytes in
     subst C (sym c.in-Find.is) (answers_by h (items.Command (plain.Find c.in-Find.at c.in-Find.expr)) (found c.find-result.result) c.write_found.result _ _ c.args.archive.now c.write_found.new.page.bytes
-    (c.find-result.ensures.takes tells h kept) c.write_found.ensures.writes)
+    (c.find-result.ensures.takes (g.D.Disk.disk c.args.disk.now) h kept) c.write_found.ensures.writes)
 
 pub returns-in-Show-clause-turn : goal.returns-in-Show-clause-turn
 returns-in-Show-clause-turn g c = λ tells h kept.

@@ -1,4 +1,5 @@
-use Rattle.std.proofs.Common.{length, option_map, ap, arith, rules, vec_len, ◌≡◌}
+use Rattle.std.proofs.Common.{length, option_map, Option, Some, None, IsSome, refl, ap, arith, ◌≡◌}
+use Rattle.version_index.specs.Measuring.{words_with}
 use Rattle.version_index.proofs.Measured.{longer, once, occur, measured}
 use Rattle.version_index.proofs.measure.measure.Goals as goal
 
@@ -6,6 +7,16 @@ pub returns-then-from-len-gt-MOST_WORDS-clause-full : goal.returns-then-from-len
 returns-then-from-len-gt-MOST_WORDS-clause-full c = λ e.
     let parted = c.in_ok-parted.ensures c.args.vocabulary.now.words (option_map (λ t. t.now) c.args.text) c.in_ok-weighed.ensures.known c.in_ok-weighed.ensures.fresh in
     omega (arith, longer parted, c.len-words.ensures.count, c.if-from-len-gt-MOST_WORDS.true, c.len.ensures)
+
+pub returns-then-from-len-gt-MOST_WORDS-clause-some : goal.returns-then-from-len-gt-MOST_WORDS-clause-some
+returns-then-from-len-gt-MOST_WORDS-clause-some c = λ e.
+    let parted = c.in_ok-parted.ensures c.args.vocabulary.now.words (option_map (λ t. t.now) c.args.text) c.in_ok-weighed.ensures.known c.in_ok-weighed.ensures.fresh in
+    some_text c.args.text (λ none.
+    omega (arith, longer parted, ap (λ o. length (words_with c.args.vocabulary.now.words o)) (ap (option_map (λ t. t.now)) none), c.len-words.ensures.count, c.len-words.ensures.bounded, c.if-from-len-gt-MOST_WORDS.true, c.len.ensures))
+  where
+    some_text : {T : Type 0} (o : Option T) → (o ≡ None → ⊥) → IsSome o
+    some_text None never = absurd (never refl)
+    some_text (Some t) never = refl
 
 pub number_counts-requires : goal.number_counts-requires
 number_counts-requires c = omega (arith, c.if-from-len-gt-MOST_WORDS.false, c.len.ensures, ap length c.deref.ensures.value)

@@ -1,6 +1,5 @@
-use Rattle.std.proofs.Common.{ℕ, List, Result, sym, subst}
-use Rattle.archive_state.specs.Histories.{History}
-use Rattle.archive_core.specs.Adding.{IsNext, IsPrepared}
+use Rattle.std.proofs.Common.{Result, subst}
+use Rattle.archive_core.specs.Adding.{IsPrepared}
 use Rattle.archive_core.specs.declared.preparing.Prepared.{Prepared}
 use Rattle.archive_core.specs.declared.preparing.Unprepared.{Unprepared}
 use Rattle.archive_core.proofs.AddLemmas.{adds_entry, leads_entry, adds_none, gives_no_ok, leads_nowhere, pages_nowhere}
@@ -9,27 +8,25 @@ use Rattle.archive_core.proofs.archive.Archive.add.Goals as goal
 pub commit-requires-clause-next : goal.commit-requires-clause-next
 commit-requires-clause-next g c = λ h stands.
     let any = c.requires.next h stands in
-    let P : Result Prepared Unprepared → Type 0 = λ p. IsPrepared h any.0 any.1 p in
-    let B : List ℕ → Type 0 = λ b. IsNext h any.0 c.in-Ok.prepared.change b in
-    (any.0, subst B (sym c.deref.ensures.value) (subst P c.in-Ok.is any.2).0)
+    let P : Result Prepared Unprepared → Type 0 = λ p. IsPrepared h c.args.self.now.index any.0 any.1 p in
+    let is = subst P c.in-Ok.is any.2 in
+    (any.0, is.0, is.1)
 
 pub returns-in-Ok-clause-adds : goal.returns-in-Ok-clause-adds
 returns-in-Ok-clause-adds g c = λ h entry refusal stands prepared.
-    let P : Result Prepared Unprepared → Type 0 = λ p. IsPrepared h entry refusal p in
-    let B : List ℕ → Type 0 = λ b. IsNext h entry c.in-Ok.prepared.change b in
+    let P : Result Prepared Unprepared → Type 0 = λ p. IsPrepared h c.args.self.now.index entry refusal p in
     let is = subst P c.in-Ok.is prepared in
-    adds_entry c.commit.result c.args.self.now c.commit.new.self h entry refusal c.in-Ok.prepared.change c.deref.result.now stands (subst B (sym c.deref.ensures.value) is.0) is.1 c.commit.ensures.refused c.commit.ensures.allowed c.commit.ensures.more
+    adds_entry c.commit.result c.args.self.now c.commit.new.self h entry refusal c.in-Ok.prepared.change c.in-Ok.prepared.body.items c.in-Ok.prepared.words stands is.0 is.1 is.2 c.commit.ensures.refused c.commit.ensures.allowed c.commit.ensures.more
 
 pub returns-in-Ok-clause-leads : goal.returns-in-Ok-clause-leads
 returns-in-Ok-clause-leads g c = λ tells h entry refusal kept prepared.
-    let P : Result Prepared Unprepared → Type 0 = λ p. IsPrepared h entry refusal p in
-    let B : List ℕ → Type 0 = λ b. IsNext h entry c.in-Ok.prepared.change b in
+    let P : Result Prepared Unprepared → Type 0 = λ p. IsPrepared h c.args.self.now.index entry refusal p in
     let is = subst P c.in-Ok.is prepared in
-    leads_entry c.commit.result c.args.self.now c.commit.new.self _ _ h entry c.in-Ok.prepared.change c.deref.result.now kept (subst B (sym c.deref.ensures.value) is.0) c.commit.ensures.more (c.commit.ensures.crash tells _ kept.in_step) (c.commit.ensures.in_step tells _ kept.in_step)
+    leads_entry c.commit.result c.args.self.now c.commit.new.self _ _ h entry c.in-Ok.prepared.change c.in-Ok.prepared.body.items c.in-Ok.prepared.words kept is.0 is.1 c.commit.ensures.more (c.commit.ensures.crash tells _ kept.in_step) (c.commit.ensures.in_step tells _ kept.in_step)
 
 pub returns-in-Err-clause-adds : goal.returns-in-Err-clause-adds
 returns-in-Err-clause-adds g c = λ h entry refusal stands prepared.
-    let P : Result Prepared Unprepared → Type 0 = λ p. IsPrepared h entry refusal p in
+    let P : Result Prepared Unprepared → Type 0 = λ p. IsPrepared h c.args.self.now.index entry refusal p in
     adds_none c.in-Err.why c.give_up.result c.args.self.now c.give_up.new.self h entry refusal (subst P c.in-Err.is prepared) c.give_up.ensures
 
 pub returns-in-Err-clause-leads : goal.returns-in-Err-clause-leads

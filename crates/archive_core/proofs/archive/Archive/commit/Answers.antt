@@ -1,45 +1,75 @@
-use Rattle.std.proofs.Common.{◌+◌, Err, true, ap, sym, subst, arith, rules}
+use Rattle.std.proofs.Common.{◌≡◌, ◌+◌, ℕ, List, Err, true, false, refl, ap, sym, subst, ◌∙◌, arith, rules}
 use Rattle.machine_model.specs.declared.area.Area.TheVariants.{Journal}
+use Rattle.gate_journal.specs.Crash.{Appends}
+use Rattle.gate_journal.specs.State.{JournalState}
+use Rattle.gate_journal.specs.declared.error.AppendError.{AppendError}
+use Rattle.gate_journal.specs.declared.error.AppendError.TheVariants as appends
+use Rattle.version_index.specs.Indexes.{state_of}
 use Rattle.archive_state.specs.Histories.{History}
 use Rattle.archive_core.specs.States.{ArchiveState, StandsFor}
-use Rattle.archive_core.specs.Adding.{IsMore}
-use Rattle.archive_core.proofs.AddLemmas.{appends_nowhere, pages_nowhere, step_at, stands_on}
+use Rattle.archive_core.proofs.AddLemmas.{appends_nowhere, pages_nowhere, step_at, is_more, stands_on}
 use Rattle.archive_core.proofs.archive.Archive.commit.Goals as goal
 
+pub returns-then-limit-end-clause-crash : goal.returns-then-limit-end-clause-crash
+returns-then-limit-end-clause-crash g c = λ tells bodies step. appends_nowhere _ _ bodies c.args.prepared.body.items step
+
+pub returns-then-limit-end-clause-pages : goal.returns-then-limit-end-clause-pages
+returns-then-limit-end-clause-pages g c = λ tells. pages_nowhere _
+
 pub returns-in_err-frame-clause-crash : goal.returns-in_err-frame-clause-crash
-returns-in_err-frame-clause-crash g c = λ tells bodies step. appends_nowhere _ _ bodies c.args.body.now step
+returns-in_err-frame-clause-crash g c = λ tells bodies step. appends_nowhere _ _ bodies c.args.prepared.body.items step
 
 pub returns-in_err-frame-clause-pages : goal.returns-in_err-frame-clause-pages
 returns-in_err-frame-clause-pages g c = λ tells. pages_nowhere _
 
 pub returns-in_err-reserve-clause-crash : goal.returns-in_err-reserve-clause-crash
-returns-in_err-reserve-clause-crash g c = λ tells bodies step. appends_nowhere _ _ bodies c.args.body.now step
+returns-in_err-reserve-clause-crash g c = λ tells bodies step. appends_nowhere _ _ bodies c.args.prepared.body.items step
 
 pub returns-in_err-reserve-clause-pages : goal.returns-in_err-reserve-clause-pages
 returns-in_err-reserve-clause-pages g c = λ tells. pages_nowhere _
 
-pub returns-in-Ok-clause-crash : goal.returns-in-Ok-clause-crash
-returns-in-Ok-clause-crash g c = λ tells bodies step. rw (sym c.in_ok-frame.ensures.body) (c.in-Ok.ensures.crash tells bodies (step_at _ (sym (ap (λ s. s.end) c.self.view_is)) step))
+pub returns-then-is_err-clause-crash : goal.returns-then-is_err-clause-crash
+returns-then-is_err-clause-crash g c = λ tells bodies step. appends_nowhere _ _ bodies c.args.prepared.body.items step
 
-pub returns-in-Err-Full-clause-crash : goal.returns-in-Err-Full-clause-crash
-returns-in-Err-Full-clause-crash g c = λ tells bodies step. rw (sym c.in_ok-frame.ensures.body) (c.in-Err-Full.ensures.crash tells bodies (step_at _ (sym (ap (λ s. s.end) c.self.view_is)) step))
+pub returns-then-is_err-clause-pages : goal.returns-then-is_err-clause-pages
+returns-then-is_err-clause-pages g c = λ tells. pages_nowhere _
+
+pub returns-in-Ok-clause-crash : goal.returns-in-Ok-clause-crash
+returns-in-Ok-clause-crash g c = λ tells bodies step.
+    let B : List ℕ → Type 0 = λ b. Appends bodies b (g.D.Disk.disk c.args.disk.now) (g.D.Disk.disk c.append.new.disk) in
+    subst B (c.in_ok-frame.ensures.body ∙ c.deref.ensures.value) (c.in-Ok.ensures.crash tells bodies (step_at _ (sym (ap (λ s. s.end) c.self.view_is)) step))
 
 pub returns-clause-crash : goal.returns-clause-crash
-returns-clause-crash g c = λ tells bodies step. rw (sym c.in_ok-frame.ensures.body) (c.in-Err-Failed.ensures.crash tells bodies (step_at _ (sym (ap (λ s. s.end) c.self.view_is)) step))
+returns-clause-crash g c = λ tells bodies step.
+    let B : List ℕ → Type 0 = λ b. Appends bodies b (g.D.Disk.disk c.args.disk.now) (g.D.Disk.disk c.append.new.disk) in
+    subst B (c.in_ok-frame.ensures.body ∙ c.deref.ensures.value) (c.in-Err.ensures.crash tells bodies (step_at _ (sym (ap (λ s. s.end) c.self.view_is)) step))
 
 pub invariant_of-self-in-Ok : goal.invariant_of-self-in-Ok
 invariant_of-self-in-Ok g c =
     let S : ArchiveState → Type 0 = λ a. (h : History) × StandsFor a h in
-    let now : ArchiveState = record { end = c.append.new.self.end; live = true; length = c.self.inside.entries + 1; changes = c.note.new.directory.changes } in
-    let more : IsMore c.args.self.now now c.args.change c.args.body.now = search rules in (
+    let now : ArchiveState = record { end = c.append.new.self.end; live = true; length = c.self.inside.entries + 1; changes = c.note.new.directory.changes; index = state_of c.commit.new.self } in
+    let more = is_more _ c.args.self.now now (state_of c.make_room.new.self) c.args.prepared.change c.placed.result c.args.prepared.body.items c.in_ok-frame.frame c.args.prepared.words c.reserve.new.self.changes c.in-Ok.place c.self.view_is
+    (c.in_ok-frame.ensures.body ∙ c.deref.ensures.value) c.in-Ok.ensures.end refl c.in-Ok.ensures.place c.placed.ensures.held c.placed.ensures.doc c.placed.ensures.at c.reserve.ensures.same c.note.ensures c.make_room.ensures.same c.commit.ensures in (
       λ live. search rules,
       omega (arith, c.self.invariant.1, c.in-Ok.ensures.end),
-      stands_on c.args.self.now now c.args.change c.args.body.now c.requires.next (subst S c.self.view_is c.self.invariant.2) more,
+      stands_on c.args.self.now now c.args.prepared.change c.args.prepared.body.items c.args.prepared.words c.requires.next (subst S c.self.view_is c.self.invariant.2) more,
     )
 
+pub returns-in-Ok-clause-more : goal.returns-in-Ok-clause-more
+returns-in-Ok-clause-more g c =
+    let now : ArchiveState = record { end = c.append.new.self.end; live = true; length = c.self.inside.entries + 1; changes = c.note.new.directory.changes; index = state_of c.commit.new.self } in (
+      is_more _ c.args.self.now now (state_of c.make_room.new.self) c.args.prepared.change c.placed.result c.args.prepared.body.items c.in_ok-frame.frame c.args.prepared.words c.reserve.new.self.changes c.in-Ok.place c.self.view_is
+          (c.in_ok-frame.ensures.body ∙ c.deref.ensures.value) c.in-Ok.ensures.end refl c.in-Ok.ensures.place c.placed.ensures.held c.placed.ensures.doc c.placed.ensures.at c.reserve.ensures.same c.note.ensures c.make_room.ensures.same c.commit.ensures,
+      refl,
+    )
+
+-- an append that failed leaves the end
 pub returns-clause-within : goal.returns-clause-within
 returns-clause-within g c =
-    let spent = ap (λ s. s.end) (c.in-Err-Failed.ensures.spent (ap Err c.in-Err-Failed.field-0-is)) in
     let view = ap (λ s. s.end) c.self.view_is in
     let reach = g.met.D.Disk.only_reach c.args.disk.now c.append.new.disk Journal c.append.ensures.only in
-    omega (arith, spent, view, reach, c.requires.within)
+    omega (arith, end_same c.in-Err.field-0 c.append.new.self c.self.inside.journal (λ is. (c.in-Err.ensures.same (ap Err is)).0) (λ is. c.in-Err.ensures.spent (ap Err is)), view, reach, c.requires.within)
+  where
+    end_same : (e : AppendError) (new old : JournalState) → (e ≡ appends.Full → new ≡ old) → (e ≡ appends.Failed → new ≡ record old { live = false }) → new.end ≡ old.end
+    end_same appends.Full new old full failed = ap (λ (s : JournalState). s.end) (full refl)
+    end_same appends.Failed new old full failed = ap (λ (s : JournalState). s.end) (failed refl)

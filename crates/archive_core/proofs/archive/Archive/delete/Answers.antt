@@ -1,22 +1,49 @@
-use Rattle.std.proofs.Common.{ap, sym, subst}
+use Rattle.std.proofs.Common.{◌≡◌, ap, sym, subst, ◌∙◌}
 use Rattle.commands.specs.declared.command.Command.TheVariants as commands
 use Rattle.commands.specs.declared.command.Item.TheVariants as items
 use Rattle.record_codec.specs.declared.entry.Entry.TheVariants as entries
+use Rattle.version_index.specs.Indexes.{IndexState, Indexes, state_of}
+use Rattle.archive_state.specs.Histories.{changes}
 use Rattle.archive_state.specs.Steps.{deletion_refusal}
-use Rattle.archive_core.specs.States.{ArchiveState, ArePlaced}
+use Rattle.archive_core.specs.States.{ArchiveState, StandsFor, IsKept}
+use Rattle.archive_core.specs.Adding.{IsPrepared}
 use Rattle.archive_core.proofs.TakeLemmas.{takes_entry}
 use Rattle.archive_core.proofs.archive.Archive.delete.Goals as goal
 
 pub add-requires-clause-next : goal.add-requires-clause-next
-add-requires-clause-next g c = λ h stands. (entries.Delete c.args.doc c.args.at, deletion_refusal h c.args.doc c.args.at, c.prepare_deletion-prepared.ensures.prepared h (let P : ArchiveState → Type 0 = λ s. ArePlaced 16 h s.changes in subst P (sym c.self.view_is) stands.changes_are))
+add-requires-clause-next g c = λ h stands.
+    let same = c.prepare_deletion-prepared.ensures.same in
+    let I : IndexState → Type 0 = λ i. Indexes i (changes h) in
+    let P : IndexState → Type 0 = λ i. IsPrepared h i (entries.Delete c.args.doc c.args.at) (deletion_refusal h c.args.doc c.args.at) c.prepare_deletion-prepared.result in
+    ((entries.Delete c.args.doc c.args.at), (deletion_refusal h c.args.doc c.args.at), subst P (sym same) (c.prepare_deletion-prepared.ensures.prepared h stands.changes_are (subst I same stands.index_is)))
+
+pub returns-clause-same : goal.returns-clause-same
+returns-clause-same g c = λ why is.
+    let A : IndexState → ArchiveState = λ i. record { end = c.self.inside.journal.end; live = c.self.inside.live; length = c.self.inside.entries; changes = c.self.inside.directory.changes; index = i } in
+    let still = c.add.ensures.same why is in
+    (still.0 ∙ ap A c.prepare_deletion-prepared.ensures.same ∙ c.self.view_is, still.1)
 
 pub returns-clause-adds : goal.returns-clause-adds
-returns-clause-adds g c = λ h stands. c.add.ensures.adds h (entries.Delete c.args.doc c.args.at) (deletion_refusal h c.args.doc c.args.at) stands (c.prepare_deletion-prepared.ensures.prepared h (let P : ArchiveState → Type 0 = λ s. ArePlaced 16 h s.changes in subst P (sym c.self.view_is) stands.changes_are))
+returns-clause-adds g c = λ h stands.
+    let A : IndexState → ArchiveState = λ i. record { end = c.self.inside.journal.end; live = c.self.inside.live; length = c.self.inside.entries; changes = c.self.inside.directory.changes; index = i } in
+    let same = c.prepare_deletion-prepared.ensures.same in
+    let S : ArchiveState → Type 0 = λ a. StandsFor a h in
+    let I : IndexState → Type 0 = λ i. Indexes i (changes h) in
+    let P : IndexState → Type 0 = λ i. IsPrepared h i (entries.Delete c.args.doc c.args.at) (deletion_refusal h c.args.doc c.args.at) c.prepare_deletion-prepared.result in
+    let before = subst S (sym (ap A same ∙ c.self.view_is)) stands in
+    c.add.ensures.adds h (entries.Delete c.args.doc c.args.at) (deletion_refusal h c.args.doc c.args.at) before (subst P (sym same) (c.prepare_deletion-prepared.ensures.prepared h before.changes_are (subst I same before.index_is)))
 
 pub returns-clause-takes : goal.returns-clause-takes
 returns-clause-takes g c = λ tells h kept.
-    let prepared = c.prepare_deletion-prepared.ensures.prepared h (let P : ArchiveState → Type 0 = λ s. ArePlaced 16 h s.changes in subst P (sym c.self.view_is) kept.stands.changes_are) in
+    let A : IndexState → ArchiveState = λ i. record { end = c.self.inside.journal.end; live = c.self.inside.live; length = c.self.inside.entries; changes = c.self.inside.directory.changes; index = i } in
+    let same = c.prepare_deletion-prepared.ensures.same in
+    let here : A (state_of c.prepare_deletion-prepared.new.index) ≡ c.args.self.now = ap A same ∙ c.self.view_is in
+    let K : ArchiveState → Type 0 = λ a. IsKept (g.D.Disk.disk c.args.disk.now) a h in
+    let I : IndexState → Type 0 = λ i. Indexes i (changes h) in
+    let P : IndexState → Type 0 = λ i. IsPrepared h i (entries.Delete c.args.doc c.args.at) (deletion_refusal h c.args.doc c.args.at) c.prepare_deletion-prepared.result in
+    let before = subst K (sym here) kept in
+    let prepared = subst P (sym same) (c.prepare_deletion-prepared.ensures.prepared h before.stands.changes_are (subst I same before.stands.index_is)) in
     takes_entry h (items.Command (commands.Delete c.args.doc c.args.at)) (entries.Delete c.args.doc c.args.at) (deletion_refusal h c.args.doc c.args.at) c.add.result _ _ c.args.self.now c.add.new.self
-    (λ reply next adds. adds) kept (c.add.ensures.adds h (entries.Delete c.args.doc c.args.at) (deletion_refusal h c.args.doc c.args.at) kept.stands prepared)
-    (λ why is. (let same = c.add.ensures.same why is in (same.0, ap g.D.Disk.disk same.1))) (λ is. ap g.D.Disk.disk (c.add.ensures.memory is))
-    (c.add.ensures.leads tells h (entries.Delete c.args.doc c.args.at) (deletion_refusal h c.args.doc c.args.at) kept prepared)
+    (λ reply next adds. adds) kept (c.add.ensures.adds h (entries.Delete c.args.doc c.args.at) (deletion_refusal h c.args.doc c.args.at) before.stands prepared)
+    (λ why is. (let still = c.add.ensures.same why is in (still.0 ∙ here, ap g.D.Disk.disk still.1))) (λ is. ap g.D.Disk.disk (c.add.ensures.memory is))
+    (c.add.ensures.leads tells h (entries.Delete c.args.doc c.args.at) (deletion_refusal h c.args.doc c.args.at) before prepared)

@@ -15,7 +15,7 @@ pub read_text-requires-clause-inside : goal.read_text-requires-clause-inside
 read_text-requires-clause-inside g c =
     let stands = c.directory.ensures.stands in
     let held : held_at c.args.doc c.args.at.seconds c.args.self.now.changes ≡ Some c.in-Some.place = search rules in
-    omega (arith, found_lies c.args.self.now stands.0 c.args.doc c.args.at.seconds c.in-Some.place stands.1 held, c.journal.ensures.end)
+    omega (arith, found_lies c.args.self.now stands.0 c.args.doc c.args.at.seconds c.in-Some.place stands.1 held, c.journal.ensures)
 
 pub returns-clause-shown : goal.returns-clause-shown
 returns-clause-shown g c = λ tells h kept.
