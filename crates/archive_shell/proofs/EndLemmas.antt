@@ -2,7 +2,6 @@
 use Rattle.std.proofs.Common.{◌≡◌, ◌⊎◌, ℕ, ◌<◌, ◌≤◌, ◌^◌, Bool, true, false, List, [], ◌++◌, length, refl, inl, inr, ap, subst, sym, ◌∙◌, arith}
 use Rattle.std.proofs.lemmas.List.{append-nil, length-append}
 use Rattle.std.proofs.lemmas.List.Elements.{All-nil}
-use Rattle.machine_model.specs.Areas.{Bytes}
 use Rattle.machine_model.specs.Calls.{Syncs}
 use Rattle.machine_model.specs.Causes.{Rose}
 use Rattle.machine_model.specs.Images.{Leaves}
@@ -16,7 +15,6 @@ use Rattle.script_read.proofs.Splitting.{script_whole, script_unbroken}
 use Rattle.archive_state.specs.Histories.{History}
 use Rattle.archive_state.specs.Steps.{Reply}
 use Rattle.archive_state.specs.Replies.{reply_text}
-use Rattle.archive_state.specs.Runs.{Turn}
 use Rattle.archive_state.specs.Standing.{Carried}
 use Rattle.archive_state.specs.Stands.{Stands, EachStands}
 use Rattle.archive_state.proofs.RunLemmas.{carried_joins, reopens, state_after_all}

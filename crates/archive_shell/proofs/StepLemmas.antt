@@ -15,13 +15,13 @@ use Rattle.script_read.proofs.RunLemmas.{reads_on, reads_end, read_so_far, pulle
 use Rattle.archive_state.specs.Histories.{History}
 use Rattle.archive_state.specs.Steps.{Reply, Step}
 use Rattle.archive_state.specs.Replies.{reply_text}
-use Rattle.archive_state.specs.Runs.{Turn, IsRun, shown_by, state_after}
+use Rattle.archive_state.specs.Runs.{Turn, shown_by, state_after}
 use Rattle.archive_state.specs.Standing.{last_state, Carried}
 use Rattle.archive_state.specs.Stands.{Stands, EachStands}
 use Rattle.archive_state.proofs.RunLemmas.{runs_join, last_state_joins, shown_by_joins, carried_joins, state_after_all, state_after_front}
 use Rattle.archive_core.specs.States.{ArchiveState, IsKept}
 use Rattle.archive_core.proofs.AddLemmas.{kept_stands}
-use Rattle.archive_shell.specs.Headline.{CarriesOutAll, EndsEarly, IsInTurn, MachineState, StoodAt}
+use Rattle.archive_shell.specs.Headline.{EndsEarly, IsInTurn, MachineState, StoodAt}
 use Rattle.archive_shell.specs.Serving.{Serving, Serves}
 use Rattle.archive_shell.specs.Statuses.{status_of_script, status_of_stop}
 use Rattle.archive_shell.specs.Turns.{CarriesOut, StopsAt}

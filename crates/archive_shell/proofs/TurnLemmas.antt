@@ -1,5 +1,5 @@
 -- One item answered: what a call of the archive did, and what is written of it.
-use Rattle.std.proofs.Common.{◌≡◌, ◌⊎◌, ℕ, List, Result, Ok, Err, refl, inl, inr, ap, subst, sym, ◌∙◌}
+use Rattle.std.proofs.Common.{◌≡◌, ℕ, List, Result, Ok, inl, inr, ap, subst, sym, ◌∙◌}
 use Rattle.machine_model.specs.States.{DiskState}
 use Rattle.commands.specs.declared.command.Item.{Item}
 use Rattle.archive_state.specs.declared.refusal.Refusal.{Refusal}
@@ -11,7 +11,6 @@ use Rattle.archive_core.specs.Takes.{Ending, Replied, Starved, Faulted, Takes}
 use Rattle.archive_core.proofs.AddLemmas.{kept_stands, leads_nowhere}
 use Rattle.archive_shell.specs.Turns.{AnsweredBy, Answers, Writes}
 use Rattle.archive_shell.specs.declared.stop.Halt.{Halt}
-use Rattle.archive_shell.specs.declared.stop.Halt.TheVariants.{Disk, Memory}
 
 -- an item that a call took is answered by what is written of the call's end
 pub answers_by : (h : History) (item : Item) (ending : Ending) (result : Result (Unit {0}) Halt) (old new : DiskState) (archive : ArchiveState) (page : List ℕ)

@@ -1,6 +1,5 @@
 -- A run while it goes on, and when it has ended.
 use Rattle.std.specs.Prelude.{◌≡◌, ◌≤◌, ℕ, true, List, [], ◌++◌, length, All}
-use Rattle.machine_model.specs.States.{SourceState, SinkState, DiskState}
 use Rattle.machine_model.specs.Pulls.{Pull}
 use Rattle.commands.specs.declared.command.Item.{Item}
 use Rattle.script_read.specs.Reading.{Held, Reads}

@@ -1,5 +1,5 @@
 -- One item carried out: a turn of the abstract machine, and what it leaves.
-use Rattle.std.specs.Prelude.{◌≡◌, ◌⊎◌, ◌<◌, List, [], ◌∷◌, ◌++◌, ℕ, length, Result, Ok, Err, OnOk, OnErr, IsTrue}
+use Rattle.std.specs.Prelude.{◌≡◌, ◌⊎◌, ◌<◌, List, [], ◌∷◌, ◌++◌, ℕ, length, Result, Ok, Err, IsTrue}
 use Rattle.machine_model.specs.Areas.{Both}
 use Rattle.machine_model.specs.States.{DiskState}
 use Rattle.machine_model.specs.Pushes.{IsPrefix}

@@ -1,5 +1,5 @@
 -- The documents that are alive at a time are those of which something is held then.
-use Rattle.std.proofs.Common.{◌≡◌, ◌⊎◌, ◌↔◌, ℕ, zero, suc, ◌<◌, ◌==◌, Bool, true, false, cond, nat_lt, List, [], ◌∷◌, fold, filter, length, get_or, Contains, Option, Some, None, IsSome, is_some, refl, sym, ap, subst, arith, inl, inr}
+use Rattle.std.proofs.Common.{◌≡◌, ◌⊎◌, ◌↔◌, ℕ, zero, suc, ◌==◌, Bool, true, false, cond, nat_lt, List, [], ◌∷◌, fold, filter, Contains, Option, Some, None, IsSome, is_some, refl, sym, ap, subst, arith, inl, inr}
 use Rattle.std.proofs.lemmas.Bool.Decides.{eqb_tells}
 use Rattle.time_base.specs.declared.ids.DocId.{DocId}
 use Rattle.version_store.specs.declared.change.Change.{Change}

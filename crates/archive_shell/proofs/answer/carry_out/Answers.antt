@@ -1,9 +1,9 @@
-use Rattle.std.proofs.Common.{ℕ, List, refl, sym, subst}
+use Rattle.std.proofs.Common.{refl, sym, subst}
 use Rattle.commands.specs.declared.command.Command.{Command}
 use Rattle.commands.specs.declared.command.Command.TheVariants as plain
 use Rattle.commands.specs.declared.command.Item.TheVariants as items
 use Rattle.archive_state.specs.declared.refusal.Refusal.TheVariants as refusals
-use Rattle.archive_core.specs.Takes.{Takes, changed, found, shown}
+use Rattle.archive_core.specs.Takes.{changed, found, shown}
 use Rattle.archive_shell.specs.Turns.{Answers}
 use Rattle.archive_shell.proofs.TurnLemmas.{answers_by, refused_by}
 use Rattle.archive_shell.proofs.answer.carry_out.Goals as goal

@@ -1,4 +1,4 @@
-use Rattle.std.proofs.Common.{◌≡◌, ◌++◌, List, ℕ, [], Ok, Err, ap, sym, subst, ◌∙◌}
+use Rattle.std.proofs.Common.{◌≡◌, List, ℕ, [], Ok, Err, ap, sym, subst, ◌∙◌}
 use Rattle.machine_model.specs.States.{SinkState}
 use Rattle.archive_shell.specs.Turns.{Answers, CarriesOut}
 use Rattle.archive_shell.specs.declared.stop.Stop.TheVariants.{Sink}

@@ -1,4 +1,4 @@
-use Rattle.std.proofs.Common.{◌≡◌, ◌⊎◌, ◌<◌, ℕ, [], length, Err, refl, inl, inr, ap, sym, subst}
+use Rattle.std.proofs.Common.{◌≡◌, ◌⊎◌, [], length, Err, refl, inl, inr, ap, sym, subst}
 use Rattle.std.proofs.lemmas.Bool.{cases_lt}
 use Rattle.machine_model.specs.Calls.{Syncs}
 use Rattle.machine_model.specs.Causes.{Rose}
@@ -60,6 +60,26 @@ pub returns-in-Err-load-clause-complete : goal.returns-in-Err-load-clause-comple
 returns-in-Err-load-clause-complete g c = λ source_tells sink_tells disk_tells none archive script few disk source sink.
     let P : Status → Type 0 = λ s. (s ≡ Done) ⊎ (s ≡ Memory) in
     subst P (sym c.from.ensures) (load_completes c.in-Err-load.error (λ is. disk (c.in-Err-load.ensures.failed (ap Err is))) (λ at is. archive at (c.in-Err-load.ensures.not_archive disk_tells at (ap Err is))))
+
+pub returns-clause-disk_fault : goal.returns-clause-disk_fault
+returns-clause-disk_fault g c = λ is.
+    rose_earlier (g.M.Disk.disk c.args.machine.now).faults (g.M.Disk.disk c.load.new.disk).faults (g.M.Disk.disk c.serve.new.machine).faults
+    (g.met.M.Disk.only_faults c.args.machine.now c.load.new.disk c.load.ensures.only) (c.serve.ensures.disk_fault is)
+
+pub returns-clause-source_fault : goal.returns-clause-source_fault
+returns-clause-source_fault g c = λ is.
+    let alone = g.met.M.Machine.disk_alone c.args.machine.now c.load.new.disk c.load.ensures.only in
+    let S : SourceState → Type 0 = λ s. Rose s.faults (g.M.Source.source c.serve.new.machine).faults in
+    subst S alone.0 (c.serve.ensures.source_fault is)
+
+pub returns-clause-sink_fault : goal.returns-clause-sink_fault
+returns-clause-sink_fault g c = λ is.
+    let alone = g.met.M.Machine.disk_alone c.args.machine.now c.load.new.disk c.load.ensures.only in
+    let S : SinkState → Type 0 = λ s. Rose s.faults (g.M.Sink.sink c.serve.new.machine).faults in
+    subst S alone.1 (c.serve.ensures.sink_fault is)
+
+pub returns-clause-not_archive : goal.returns-clause-not_archive
+returns-clause-not_archive g c = λ disk_tells at is. absurd (c.serve.ensures.no_load at is)
 
 pub returns-clause-refused : goal.returns-clause-refused
 returns-clause-refused g c = λ disk_tells none at refused. absurd (c.in-Ok-load.ensures.exact disk_tells at refused)

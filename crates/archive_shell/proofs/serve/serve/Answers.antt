@@ -1,5 +1,4 @@
-use Rattle.std.proofs.Common.{◌++◌, List, arith}
-use Rattle.machine_model.specs.Pulls.{Pull}
+use Rattle.std.proofs.Common.{◌++◌, arith}
 use Rattle.archive_shell.proofs.serve.serve.Goals as goal
 
 pub items-preserved : goal.items-preserved

@@ -1,13 +1,11 @@
-use Rattle.std.proofs.Common.{◌≡◌, ◌++◌, ℕ, List, [], Some, None, Ok, Err, refl, sym, ap, subst, ◌∙◌, arith}
-use Rattle.std.proofs.lemmas.List.{append-nil, length-append}
-use Rattle.script_read.specs.Reading.{IsAwaited, Says, Held}
+use Rattle.std.proofs.Common.{◌++◌, ℕ, List, [], Some, None, Ok, sym, ap, subst}
+use Rattle.std.proofs.lemmas.List.{append-nil}
 use Rattle.machine_model.specs.States.{SourceState}
 use Rattle.machine_model.specs.Pulls.{Pull}
 use Rattle.archive_state.specs.Standing.{last_state}
 use Rattle.archive_shell.specs.Serving.{Serving, Serves}
 use Rattle.archive_shell.specs.Statuses.{status_of_script, status_of_stop}
 use Rattle.archive_shell.proofs.StepLemmas.{ended_by, ended_done, serving_next, stopped, serving_along, serves_as, pulls_as, pulls_in, pulls_beside}
-use Rattle.archive_shell.proofs.serve.step.Given.{Over}
 use Rattle.archive_shell.proofs.serve.step.Goals as goal
 
 pub returns-in-Err-clause-goes_on : goal.returns-in-Err-clause-goes_on

@@ -1,4 +1,4 @@
-use Rattle.std.proofs.Common.{◌<◌, ◌++◌, List, ℕ, [], take, length, Result, Ok, Err, OnErr, arith, ap, rules}
+use Rattle.std.proofs.Common.{◌<◌, take, length, Result, Ok, Err, OnErr, arith, ap, rules}
 use Rattle.std.proofs.lemmas.List.{length-append}
 use Rattle.archive_shell.proofs.show.show.Goals as goal
 

@@ -1,1 +1,0 @@
-use Rattle.version_index.proofs.index.Index.make_room.Goals as goal
