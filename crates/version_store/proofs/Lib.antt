@@ -8,3 +8,5 @@ pub mod Law
 pub mod Steps
 pub mod Ascending
 pub mod Holding
+pub mod Turning
+pub mod Laying
