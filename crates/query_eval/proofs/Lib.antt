@@ -6,3 +6,6 @@ pub mod HitLemmas
 pub mod HitPlaces
 pub mod Ranks
 pub mod Sorting
+pub mod Groups
+pub mod Turning
+pub mod FactLemmas

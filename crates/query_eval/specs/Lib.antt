@@ -1,9 +1,11 @@
 pub mod Answers
 pub mod Asked
+pub mod Facts
 pub mod Found
 pub mod Given
 pub mod Hits
 pub mod Laws
 pub mod Queries
 pub mod Rows
+pub mod Spans
 pub mod Windows

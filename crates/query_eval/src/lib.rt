@@ -11,16 +11,19 @@
 
 mod answer;
 mod asking;
+mod facts;
 pub mod found;
 mod hit;
 mod laws;
 mod part;
 mod query;
+mod spans;
 
 pub use answer::{Answer, Row, answer_at};
 pub use laws::{an_answer_is_one, each_list_has_an_answer};
 pub use part::{EvalError, Lists, Part};
 pub use query::{Query, QueryError};
+pub use spans::{SpanAnswer, SpanRow, answer_between, answer_over, parts_between};
 
 #[cfg(test)]
 mod found_tests;

@@ -49,6 +49,17 @@ filter-in p x (y ∷ xs) c h = go (p y) refl (here-or-later y x xs c) (λ k. fil
     go false e (inl i) rest = absurd (let j = ap p i in cc)
     go false e (inr k) rest = rest k
 
+pub filter-from : {X : Type 0} (p : X → Bool) (x : X) (xs : List X) → Contains (filter p xs) x → Contains xs x × (p x ≡ true)
+filter-from p x [] c = absurd (none x c)
+filter-from p x (y ∷ xs) c = go (p y) refl c (λ k. filter-from p x xs k)
+  where
+    go : (b : Bool) → p y ≡ b → Contains (cond b (y ∷ filter p xs) (filter p xs)) x → (Contains (filter p xs) x → Contains xs x × (p x ≡ true)) → Contains (y ∷ xs) x × (p x ≡ true)
+    go true e c rest = elim (here-or-later y x (filter p xs) c) [
+      | inl i ↦ (subst (λ w. Contains (y ∷ xs) w) i (here y xs), ap p (sym i) ∙ e)
+      | inr k ↦ (later y x xs (rest k).0, (rest k).1)
+    ]
+    go false e c rest = (later y x xs (rest c).0, (rest c).1)
+
 pub map-in : {X Y : Type 0} (f : X → Y) (x : X) (xs : List X) → Contains xs x → Contains (map f xs) (f x)
 map-in f x [] c = absurd (none x c)
 map-in f x (y ∷ xs) c = elim (here-or-later y x xs c) [ inl i ↦ subst (λ w. Contains (f y ∷ map f xs) w) (ap f i) (here (f y) (map f xs)) | inr k ↦ later (f y) (f x) (map f xs) (map-in f x xs k) ]

@@ -283,3 +283,20 @@ pub event-at : (events : List Event) (i : ℕ) → i < length events → (e : Ev
 event-at [] i l = absurd (omega (arith, l))
 event-at (x ∷ events) zero l = (x, refl)
 event-at (x ∷ events) (suc i) l = event-at events i (omega (arith, l))
+
+-- a step of a loop over events that are given again
+module _ {R V : Type 0} (k : Kind R V) (f : ℕ → ℕ → Option V) (a b : ℕ) (events given : List Event) (o : AreInOrder events) (w : ChangesAt events a b f) (i : ℕ) (l : i < length events) (same : given ≡ events) (rows more : List R) where
+  -- a piece in which something is said is put behind others
+  pub put : (new : List R) (r : R) → more ≡ new → ((e : Event) → e ≡ get_or given i e → (k.doc r ≡ e.doc.0) × (k.from r ≡ e.at.seconds) × (k.to r ≡ end_of e (drop (i + 1) given) b) × (f e.doc.0 e.at.seconds ≡ Some (k.value r)))
+      → ((g : ℕ → ℕ → Option V) → AreLaid k g rows → IsBehind k g r → AreLaid k (with_row k g r) new) → AreLaid k (done f a b (drop i events)) rows → AreLaid k (done f a b (drop (i + 1) events)) more
+  put new r n h p g =
+      let (e, is) = event-at events i l in
+      let (doc, from, to, some) = h e (is ∙ ap (λ x. get_or x i e) (sym same)) in
+      subst (λ x. AreLaid k (done f a b (drop (i + 1) events)) x) (sym n) (next-put f a b events o w i e l is k r doc from (to ∙ ap (λ x. end_of e (drop (i + 1) x) b) same) rows new some p g)
+
+  -- one in which nothing is said is passed
+  pub pass : more ≡ rows → ((e : Event) → e ≡ get_or given i e → (end_of e (drop (i + 1) given) b ≤ e.at.seconds) ⊎ (f e.doc.0 e.at.seconds ≡ None)) → AreLaid k (done f a b (drop i events)) rows → AreLaid k (done f a b (drop (i + 1) events)) more
+  pass n h g =
+      let (e, is) = event-at events i l in
+      subst (λ x. AreLaid k (done f a b (drop (i + 1) events)) x) (sym n)
+      (next-silent f a b events o w i e l is k rows (subst (λ x. (end_of e (drop (i + 1) x) b ≤ e.at.seconds) ⊎ (f e.doc.0 e.at.seconds ≡ None)) same (h e (is ∙ ap (λ x. get_or x i e) (sym same)))) g)
