@@ -6,3 +6,6 @@ pub mod HitPlaces
 pub mod Ranks
 pub mod Sorting
 pub mod HasHitLemmas
+pub mod Groups
+pub mod Turning
+pub mod FactLemmas

@@ -11,6 +11,7 @@ mod change;
 mod directory;
 mod laws;
 mod link;
+mod lives;
 mod refusal;
 #[cfg(test)]
 mod tests;

@@ -1,0 +1,6 @@
+pub mod Elements
+pub mod Joining
+pub mod Laid
+pub mod Longest
+pub mod Pieces
+pub mod Sorted
