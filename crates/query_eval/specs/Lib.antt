@@ -7,5 +7,6 @@ pub mod Hits
 pub mod Laws
 pub mod Queries
 pub mod Rows
+pub mod SpanLaws
 pub mod Spans
 pub mod Windows

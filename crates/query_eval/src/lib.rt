@@ -17,12 +17,14 @@ mod hit;
 mod laws;
 mod part;
 mod query;
+mod span_laws;
 mod spans;
 
 pub use answer::{Answer, Row, answer_at};
 pub use laws::{an_answer_is_one, each_list_has_an_answer};
 pub use part::{EvalError, Lists, Part};
 pub use query::{Query, QueryError};
+pub use span_laws::{a_span_answer_is_one, each_window_has_an_answer, span_rows_are_the_longest};
 pub use spans::{SpanAnswer, SpanRow, answer_between, answer_over, parts_between};
 
 #[cfg(test)]

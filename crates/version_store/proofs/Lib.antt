@@ -9,4 +9,3 @@ pub mod Steps
 pub mod Ascending
 pub mod Holding
 pub mod Turning
-pub mod Laying

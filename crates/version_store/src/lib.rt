@@ -19,5 +19,5 @@ mod walk;
 
 pub use change::Change;
 pub use directory::Directory;
-pub use laws::held_as_changes_come;
+pub use laws::{held_as_changes_come, lives_are_one};
 pub use refusal::VersionRefusal;
