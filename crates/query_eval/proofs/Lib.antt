@@ -9,3 +9,4 @@ pub mod HasHitLemmas
 pub mod Groups
 pub mod Turning
 pub mod FactLemmas
+pub mod SpanRows

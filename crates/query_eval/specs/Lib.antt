@@ -4,5 +4,6 @@ pub mod Facts
 pub mod Found
 pub mod Hits
 pub mod Laws
+pub mod SpanLaws
 pub mod Spans
 pub mod Windows

@@ -1,4 +1,5 @@
 pub mod Elements
+pub mod Existence
 pub mod Joining
 pub mod Laid
 pub mod Longest

@@ -43,13 +43,13 @@ either (x ∷ front) e rest z o c = elim (here-or-later x z (front ++ e ∷ rest
   | inr m ↦ either front e rest z (next-tail NotAfter x (front ++ e ∷ rest) o) m
 ]
 
-nothing : {V : Type 0} (c : Bool) → (if c then None else None) ≡ (let n : Option V = None in n)
+pub nothing : {V : Type 0} (c : Bool) → (if c then None else None) ≡ (let n : Option V = None in n)
 nothing true = refl
 nothing false = refl
 
 module _ {V : Type 0} (f : ℕ → ℕ → Option V) (a b : ℕ) where
   -- a time is inside, where f counts, or it doesn't
-  inside-or : (d t : ℕ) → ((a ≤ t) × (t < b) × (inside f a b d t ≡ f d t)) ⊎ (((a ≤ t) × (t < b) → ⊥) × (inside f a b d t ≡ None))
+  pub inside-or : (d t : ℕ) → ((a ≤ t) × (t < b) × (inside f a b d t ≡ f d t)) ⊎ (((a ≤ t) × (t < b) → ⊥) × (inside f a b d t ≡ None))
   inside-or d t = go (nat_le a t && nat_lt t b) refl
     where
       yes : nat_le a t && nat_lt t b ≡ true → (a ≤ t) × (t < b)

@@ -10,4 +10,3 @@ pub mod Ascending
 pub mod Holding
 pub mod Alive
 pub mod Turning
-pub mod Laying

@@ -191,7 +191,3 @@ module _ {A : Type 0} where
       map-is : (o : Option A) → is_some (option_map (λ _. let u : Unit {0} = tt in u) o) ≡ is_some o
       map-is None = refl
       map-is (Some x) = refl
-
-pub some-unit : (o : Option (Unit {0})) → IsSome o → o ≡ Some tt
-some-unit None h = absurd cc
-some-unit (Some x) h = refl

@@ -18,6 +18,10 @@ lived changes d t = option_map (λ _. tt) (held_at (record { 0 = d }) t changes)
 abbrev pub AreLives : {A : Type 0} → List (Change A) → ℕ → ℕ → List Life → Type 0
 AreLives changes a b lives = AreStretches life_kind (lived changes) a b lives
 
+-- There is one list of lives.
+abbrev pub LivesAreOne : Type 0 → Type 0
+LivesAreOne A = (changes : List (Change A)) (a b : ℕ) (one other : List Life) → AreLives changes a b one → AreLives changes a b other → one ≡ other
+
 -- the event of a document at a time, and of a change
 abbrev pub start_of : Time → DocId → Event
 start_of at doc = record { doc = doc; at = at }

@@ -1,5 +1,5 @@
 //! When documents are alive.
-ghost use Rattle.std.specs.Prelude.{◌≡◌, ◌⊎◌, ◌↔◌, ◌+◌, ◌<◌, ◌≤◌, ℕ, true, false, None, Option, length, drop, map, slice_index_or, nat_le, nat_lt, Contains, IfOk, OnOk, MatchOption, IsTrue, IsSome};
+ghost use Rattle.std.specs.Prelude.{◌≡◌, ◌⊎◌, ◌↔◌, ◌+◌, ◌<◌, ◌≤◌, ℕ, true, false, None, Some, Option, length, drop, map, slice_index_or, nat_le, nat_lt, Contains, IfOk, OnOk, MatchOption, IsTrue, IsSome};
 ghost use Rattle.std.specs.List.Sorted.{IsNonDecreasingBy, IsPartitionPoint};
 ghost use Rattle.time_base.specs.declared.ids.DocId.{DocId as Document};
 ghost use Rattle.stretches.specs.Events.{AreInOrder, end_of};
@@ -43,7 +43,7 @@ impl Directory {
         ensures { (e : EventValue) → e ≡ slice_index_or events.now i e → MatchOption result
             ((end_of e (drop (i + 1) events.now) span.to ≤ e.at.seconds) ⊎ (lived self.now.changes e.doc.0 e.at.seconds ≡ None))
             (λ life. (life.doc.0 ≡ e.doc.0) × (life.span.from ≡ e.at.seconds) × (life.span.to ≡ end_of e (drop (i + 1) events.now) span.to)
-            × IsSome (lived self.now.changes e.doc.0 e.at.seconds)) }
+            × (lived self.now.changes e.doc.0 e.at.seconds ≡ Some tt)) }
     {
         let event = events[i];
         let span = Span::new(event.at.seconds, end_of(events, i, span.to))?;
