@@ -29,7 +29,7 @@ use Rattle.archive_core.specs.Whole.{AreWholeLists}
 use Rattle.archive_core.proofs.PlaceLemmas.{bare_changes}
 
 -- the parts tell how often a document has each of the words
-told_is : (h : History) (words : List (List ℕ)) (parts : List Part) (doc : DocId) (t k : ℕ) (d : List ℕ) → t < 2 ^ 40 → AreWholeLists h words parts → k < length words
+pub told_is : (h : History) (words : List (List ℕ)) (parts : List Part) (doc : DocId) (t k : ℕ) (d : List ℕ) → t < 2 ^ 40 → AreWholeLists h words parts → k < length words
     → told words parts t doc.0 (get_or words k d) ≡ frequency_at h (get_or words k d) doc t
 told_is h [] parts doc t k d before whole within = absurd (omega (arith, within))
 told_is h (word ∷ words) [] doc t k d before whole within = absurd whole
@@ -54,9 +54,9 @@ pub by_alive : (a : ArchiveState) (h : History) (at : Time) (query : Query) (par
     → docs ≡ alive at.seconds a.changes → IsAnswer (λ doc. Contains docs doc) (λ doc. told (words_of query) parts at.seconds doc.0) query rows → IsAnswerAt h at.seconds query rows
 by_alive a h at query parts docs rows stands whole is answer =
     let same : docs ≡ alive at.seconds (changes h) =
-        is ∙ sym (alive-mapped (nothing {A = TextPlace}) at.seconds a.changes) ∙ ap (alive at.seconds) (bare_changes 16 h a.changes stands.changes_are) ∙ alive-mapped (nothing {A = List ℕ}) at.seconds (changes h) in
+    is ∙ sym (alive-mapped (nothing {A = TextPlace}) at.seconds a.changes) ∙ ap (alive at.seconds) (bare_changes 16 h a.changes stands.changes_are) ∙ alive-mapped (nothing {A = List ℕ}) at.seconds (changes h) in
     let each : (doc : DocId) → Contains docs doc ↔ IsSome (text_at h doc at.seconds) =
-        λ doc. let has = alive-has at.seconds (changes h) doc in (λ c. has.0 (subst (λ l. Contains l doc) same c), λ s. subst (λ l. Contains l doc) (sym same) (has.1 s)) in
+    λ doc. let has = alive-has at.seconds (changes h) doc in (λ c. has.0 (subst (λ l. Contains l doc) same c), λ s. subst (λ l. Contains l doc) (sym same) (has.1 s)) in
     by_told h query parts at.seconds rows at.before_now whole
     (same_alive (λ doc. IsSome (text_at h doc at.seconds)) (λ doc. Contains docs doc) (λ doc. told (words_of query) parts at.seconds doc.0) query rows each answer)
 

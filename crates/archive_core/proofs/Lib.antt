@@ -10,3 +10,4 @@ pub mod LoadLemmas
 pub mod PrepareLemmas
 pub mod TakeLemmas
 pub mod AnswerLemmas
+pub mod SpanLemmas

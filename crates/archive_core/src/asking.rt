@@ -103,7 +103,7 @@ impl Archive {
     }
 
     /// The whole lists of words, in order.
-    fn parts_of<D: Disk>(
+    pub(crate) fn parts_of<D: Disk>(
         &self,
         alloc: Global,
         disk: &mut D,
@@ -197,14 +197,16 @@ impl Archive {
 }
 
 /// The query of a phrase, or where it shows that there is none.
-fn query_of(alloc: Global, expr: &Phrase) -> Result<Query, AskError>
+pub(crate) fn query_of(alloc: Global, expr: &Phrase) -> Result<Query, AskError>
     ensures query { IfOk result (λ query. IsRead key_of expr.now (Ok query)) }
     ensures refused { (why : Refusal) → IsErrOf result (AskError.Refused why) → (place : ℕ) × IsRead key_of expr.now (Err place) × (why ≡ Refusal.BadQuery place) }
     ensures failed { IsErrOf result AskError.Failed → ⊥ }
 {
     match Query::read(alloc, expr.as_str()) {
         Ok(query) => Ok(query),
-        Err(QueryError::BadQuery { at }) => Err(AskError::Refused(Refusal::BadQuery { offset: at })),
+        Err(QueryError::BadQuery { at }) => Err(AskError::Refused(Refusal::BadQuery {
+            offset: at,
+        })),
         Err(QueryError::Memory) => Err(AskError::Memory),
     }
 }

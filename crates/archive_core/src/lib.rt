@@ -18,6 +18,7 @@ mod replaying;
 mod text;
 mod texts;
 mod window;
+mod windows;
 
 pub use archive::Archive;
 pub use error::{AskError, ChangeError, LoadError};
