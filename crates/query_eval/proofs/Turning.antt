@@ -70,7 +70,7 @@ score-still query facts d e t f h s =
     let g : List Fact = filter (of_doc d) facts in
     let alive : alive_now e g ≡ alive_now t g = ap (λ l. list_any (λ x. is_none x.hit) l) s in
     let same : All (λ w. one w ≡ other w) (words_of query) =
-        (λ k z l. ap one (get-any (words_of query) k z [] l) ∙ sym (tell k l) ∙ ap (λ l. found (filter_map (λ x. x.hit) l) k) s ∙ tells k l ∙ ap other (get-any (words_of query) k [] z l)) in
+    (λ k z l. ap one (get-any (words_of query) k z [] l) ∙ sym (tell k l) ∙ ap (λ l. found (filter_map (λ x. x.hit) l) k) s ∙ tells k l ∙ ap other (get-any (words_of query) k [] z l)) in
     is
     ∙ ap (λ q. score_if q query one) alive
     ∙ ap (λ m. if (alive_now t g && m) then Some (score query one) else None) (matches-same one other query (agreeing one other query same))

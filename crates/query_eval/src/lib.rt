@@ -30,4 +30,6 @@ pub use spans::{SpanAnswer, SpanRow, answer_between, answer_over, parts_between}
 #[cfg(test)]
 mod found_tests;
 #[cfg(test)]
+mod span_tests;
+#[cfg(test)]
 mod tests;
