@@ -139,7 +139,11 @@ fn lives_go_on_over_new_versions_and_end_where_a_document_is_deleted(
         (30, 35, [(3, 30, 35)].as_slice()),
         (25, 26, [(3, 25, 26), (7, 25, 26)].as_slice()),
         (29, 36, [(3, 29, 36), (7, 29, 30), (7, 35, 36)].as_slice()),
-        (NOW - 1, NOW, [(3, NOW - 1, NOW), (7, NOW - 1, NOW)].as_slice()),
+        (
+            NOW - 1,
+            NOW,
+            [(3, NOW - 1, NOW), (7, NOW - 1, NOW)].as_slice(),
+        ),
         (0, 10, [].as_slice()),
     ] {
         let span = Span::new(from, to).ok_or("a span")?;

@@ -1,4 +1,4 @@
-use Rattle.std.proofs.Common.{◌∙◌, arith, ap, length}
+use Rattle.std.proofs.Common.{◌∙◌, arith, ap}
 use Rattle.stretches.proofs.Laid.{laid-longest}
 use Rattle.stretches.proofs.Pieces.{begin, finish, put, pass}
 use Rattle.query_eval.specs.Spans.{row_kind}
