@@ -1,5 +1,5 @@
 -- Rows over time, and what they are read as.
-use Rattle.std.specs.Prelude.{◌≡◌, ◌≢◌, ◌⊎◌, ℕ, ◌&&◌, Bool, false, if◌then◌else◌, Some, None}
+use Rattle.std.specs.Prelude.{◌&&◌, if◌then◌else◌, Some, None}
 use Rattle.std.proofs.Common.{ap, refl}
 use Rattle.std.proofs.lemmas.Bool.{cases_eq}
 use Rattle.time_base.proofs.Equal.{same_span}
@@ -8,7 +8,6 @@ use Rattle.stretches.proofs.Existence.{each-has}
 use Rattle.query_lang.specs.Meaning.{matches, score}
 use Rattle.query_eval.specs.SpanLaws.{EachWindowHasAnAnswer}
 use Rattle.query_eval.specs.Spans.{row_kind, scored_at}
-use Rattle.query_eval.specs.declared.spans.SpanRow.{SpanRow}
 
 pub plain-rows : IsPlain row_kind
 plain-rows p q d f t s = λ i. record { doc = record { 0 = d i }; span = same_span p.span q.span f t i; score = s i }

@@ -1,5 +1,5 @@
 -- When what facts say of a document changes.
-use Rattle.std.specs.Prelude.{◌≡◌, ◌⊎◌, ℕ, ◌+◌, ◌<◌, ◌≤◌, ◌==◌, ◌&&◌, Bool, true, false, cond, if◌then◌else◌, nat_le, nat_lt, max, List, [], ◌∷◌, ◌++◌, length, get_or, filter, All, Contains, Option, Some, None, is_none, IsPermutation, refl}
+use Rattle.std.specs.Prelude.{◌≡◌, ◌⊎◌, ℕ, ◌<◌, ◌≤◌, ◌&&◌, true, cond, if◌then◌else◌, nat_le, nat_lt, max, List, [], ◌∷◌, ◌++◌, get_or, filter, All, Contains, Option, Some, None, is_none, IsPermutation, refl}
 use Rattle.std.specs.List.{filter_map, list_any}
 use Rattle.std.proofs.Common.{arith, ap, sym, ◌∙◌, subst, inl, inr}
 use Rattle.std.proofs.lemmas.Bool.{cases_lt}
@@ -12,7 +12,7 @@ use Rattle.stretches.proofs.Elements.{filter-from}
 use Rattle.query_lang.specs.Grammar.{Query}
 use Rattle.query_lang.specs.Meaning.{matches, score, words_of}
 use Rattle.query_lang.proofs.Deciding.{agreeing, matches-same, score-same}
-use Rattle.query_eval.specs.Facts.{of_doc, covers, hits_now, alive_now, score_if, TellWords, IsScored, AreTurns}
+use Rattle.query_eval.specs.Facts.{of_doc, covers, alive_now, score_if, IsScored, AreTurns}
 use Rattle.query_eval.specs.Hits.{found}
 use Rattle.query_eval.specs.declared.facts.Fact.{Fact}
 use Rattle.query_eval.proofs.FoundLemmas.{get-any}
@@ -70,7 +70,7 @@ score-still query facts d e t f h s =
     let g : List Fact = filter (of_doc d) facts in
     let alive : alive_now e g ≡ alive_now t g = ap (λ l. list_any (λ x. is_none x.hit) l) s in
     let same : All (λ w. one w ≡ other w) (words_of query) =
-        (λ k z l. ap one (get-any (words_of query) k z [] l) ∙ sym (tell k l) ∙ ap (λ l. found (filter_map (λ x. x.hit) l) k) s ∙ tells k l ∙ ap other (get-any (words_of query) k [] z l)) in
+    (λ k z l. ap one (get-any (words_of query) k z [] l) ∙ sym (tell k l) ∙ ap (λ l. found (filter_map (λ x. x.hit) l) k) s ∙ tells k l ∙ ap other (get-any (words_of query) k [] z l)) in
     is
     ∙ ap (λ q. score_if q query one) alive
     ∙ ap (λ m. if (alive_now t g && m) then Some (score query one) else None) (matches-same one other query (agreeing one other query same))

@@ -24,4 +24,6 @@ pub use span_laws::{a_span_answer_is_one, each_window_has_an_answer, span_rows_a
 pub use spans::{SpanAnswer, SpanRow, answer_between, answer_over, parts_between};
 
 #[cfg(test)]
+mod span_tests;
+#[cfg(test)]
 mod tests;

@@ -122,7 +122,7 @@ fn row_from(
         → (e : EventValue) → e ≡ slice_index_or events.now i e → MatchOption row
         ((end_of e (drop (i + 1) events.now) span.to ≤ e.at.seconds) ⊎ (f e.doc.0 e.at.seconds ≡ None))
         (λ r. (r.doc.0 ≡ e.doc.0) × (r.span.from ≡ e.at.seconds) × (r.span.to ≡ end_of e (drop (i + 1) events.now) span.to)
-            × (f e.doc.0 e.at.seconds ≡ Some r.score))) }
+        × (f e.doc.0 e.at.seconds ≡ Some r.score))) }
     ensures kept { length room.new.counts.items ≡ length room.old.counts.items }
 {
     let event = events[i];

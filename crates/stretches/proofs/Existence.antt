@@ -3,7 +3,7 @@ use Rattle.std.specs.Prelude.{◌≡◌, ◌≢◌, ◌⊎◌, ℕ, zero, suc, �
 use Rattle.std.proofs.Common.{arith, ap, sym, ◌∙◌, subst, inl, inr}
 use Rattle.std.proofs.lemmas.Bool.{cases_eq, cases_lt}
 use Rattle.std.proofs.lemmas.Bool.Decides.{nat_tests}
-use Rattle.stretches.specs.Stretches.{Kind, AreStretches}
+use Rattle.stretches.specs.Stretches.{Kind}
 use Rattle.stretches.specs.Laid.{holds, Continues, AreLaid, with_row, IsBehind}
 use Rattle.stretches.specs.Events.{inside}
 use Rattle.stretches.specs.Laws.{AreMade, EachHasStretches}
@@ -81,8 +81,8 @@ module _ {R V : Type 0} (k : Kind R V) (made : AreMade k) (tell : (v w : V) → 
         taken : (v : V) (r : R) → f d s ≡ Some v → k.doc r ≡ d → k.from r ≡ s → k.to r ≡ s + 1 → k.value r ≡ v → (e t : ℕ) → with_row k (upto d s) r e t ≡ upto d (s + 1) e t
         taken v r z i j m n e t = elim (at-this d s e t) [
           | inl q ↦ (let (p, o, u, w) = q in
-          ap (λ c. if c then Some (k.value r) else upto d s e t) (yes p o) ∙ ap (λ c. Some c) n ∙ sym z
-          ∙ sym (ap (λ c. if c then inside f a b e t else None) w ∙ ap (λ w. inside f a b w t) p ∙ ap (inside f a b d) o ∙ in-it d s x y))
+              ap (λ c. if c then Some (k.value r) else upto d s e t) (yes p o) ∙ ap (λ c. Some c) n ∙ sym z
+              ∙ sym (ap (λ c. if c then inside f a b e t else None) w ∙ ap (λ w. inside f a b w t) p ∙ ap (inside f a b d) o ∙ in-it d s x y))
           | inr q ↦ ap (λ c. if c then Some (k.value r) else upto d s e t) (no q.0) ∙ ap (λ c. if c then inside f a b e t else None) (sym q.1)
         ]
           where

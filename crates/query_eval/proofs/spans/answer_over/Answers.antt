@@ -1,4 +1,4 @@
-use Rattle.std.proofs.Common.{length, ap, ◌∙◌, arith, filter}
+use Rattle.std.proofs.Common.{ap, ◌∙◌, arith, filter}
 use Rattle.fold_tokens.proofs.CountLemmas.{IsDistinct-distinct}
 use Rattle.query_lang.specs.Meaning.{words_of, occurring}
 use Rattle.stretches.specs.Kinds.{is_alive}
