@@ -28,7 +28,7 @@ use Rattle.archive_core.specs.Whole.{AreWholeLists}
 use Rattle.archive_core.proofs.PlaceLemmas.{bare_changes}
 
 -- the parts tell how often a document has each of the words
-told_is : (h : History) (words : List (List ℕ)) (parts : List Part) (doc : DocId) (t k : ℕ) (d : List ℕ) → t < 2 ^ 40 → AreWholeLists h words parts → k < length words
+pub told_is : (h : History) (words : List (List ℕ)) (parts : List Part) (doc : DocId) (t k : ℕ) (d : List ℕ) → t < 2 ^ 40 → AreWholeLists h words parts → k < length words
     → told words parts t doc.0 (get_or words k d) ≡ frequency_at h (get_or words k d) doc t
 told_is h [] parts doc t k d before whole within = absurd (omega (arith, within))
 told_is h (word ∷ words) [] doc t k d before whole within = absurd whole

@@ -9,3 +9,4 @@ pub mod PrepareLemmas
 pub mod TakeLemmas
 pub mod AnswerLemmas
 pub mod IndexLemmas
+pub mod SpanLemmas

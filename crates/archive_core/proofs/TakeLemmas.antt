@@ -88,13 +88,13 @@ pub reads_keep : (h : History) (old new : DiskState) (a : ArchiveState) → IsKe
 reads_keep h old new a kept same = record { stands = kept.stands; in_step = step_reads old new a.end (bodies_of h) kept.in_step same }
 
 -- the reply of a turn is the one that was given, if one was
-abbrev Gives : Reply → Ending → Type 0
+abbrev pub Gives : Reply → Ending → Type 0
 Gives reply (Replied given) = reply ≡ given
 Gives reply Starved = Unit {0}
 Gives reply Faulted = Unit {0}
 
 -- a question, which leaves the history as it is
-takes_question : (h : History) (item : Item) (reply : Reply) (ending : Ending) (old new : DiskState) (a : ArchiveState)
+pub takes_question : (h : History) (item : Item) (reply : Reply) (ending : Ending) (old new : DiskState) (a : ArchiveState)
     → Step h item reply h → OnlyReads old new → IsKept old a h → Gives reply ending → Takes h item ending old new a
 takes_question h item reply (Replied given) old new a step same kept gives =
     record { turn = record { reply = reply; next = h }; step = step; leads = reads_lead h old new a kept same; ends = (gives, reads_keep h old new a kept same) }

@@ -4,8 +4,9 @@ use Rattle.std.specs.Option.{option_map}
 use Rattle.machine_model.specs.States.{DiskState}
 use Rattle.commands.specs.declared.command.Item.{Item}
 use Rattle.query_eval.specs.declared.answer.Answer.{Answer}
+use Rattle.query_eval.specs.declared.spans.SpanAnswer.{SpanAnswer}
 use Rattle.archive_state.specs.Histories.{History}
-use Rattle.archive_state.specs.Steps.{Reply, Accepted, Refused, Found, Shown, Step}
+use Rattle.archive_state.specs.Steps.{Reply, Accepted, Refused, Found, Spanned, Shown, Step}
 use Rattle.archive_state.specs.Runs.{Turn}
 use Rattle.archive_state.specs.Stands.{EachStands}
 use Rattle.archive_core.specs.States.{ArchiveState, IsKept}
@@ -36,6 +37,10 @@ declined asks.Memory = Starved
 abbrev pub found : Result Answer AskError → Ending
 found (Ok answer) = Replied (Found answer.rows.items answer.read)
 found (Err error) = declined error
+
+abbrev pub spanned : Result SpanAnswer AskError → Ending
+spanned (Ok answer) = Replied (Spanned answer.rows.items answer.read)
+spanned (Err error) = declined error
 
 abbrev pub shown : {T : Type 0} → (T → List ℕ) → Result (Option T) AskError → Ending
 shown bytes (Ok text) = Replied (Shown (option_map bytes text))

@@ -17,6 +17,7 @@ mod replaying;
 mod text;
 mod texts;
 mod window;
+mod windows;
 
 pub use archive::Archive;
 pub use error::{AskError, ChangeError, LoadError};

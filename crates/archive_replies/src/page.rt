@@ -1,12 +1,12 @@
 //! A page on which replies are written.
 ghost use Rattle.std.specs.Prelude.{◌≡◌, ◌+◌, ◌≤◌, [], ◌++◌, length, codes, decimal, Some, None, IfOk, OnOk, OnErr};
 ghost use Rattle.archive_replies.specs.Pages.{reply_room};
-ghost use Rattle.archive_state.specs.Replies.{detail_text, reply_text, row_text, which_text};
-ghost use Rattle.archive_state.specs.Steps.{Accepted, Refused, Found, Shown};
+ghost use Rattle.archive_state.specs.Replies.{detail_text, end_text, reply_text, row_text, span_text, which_text};
+ghost use Rattle.archive_state.specs.Steps.{Accepted, Refused, Found, Spanned, Shown};
 
 use archive_state::Refusal;
 use itoa::Buffer;
-use query_eval::Row;
+use query_eval::{Row, SpanRow};
 use std::alloc::{AllocError, Global};
 use std::marker::Model;
 use time_base::Which;
@@ -83,11 +83,20 @@ impl ReplyPage {
         for row in rows {
             self.put_row(row)?;
         }
-        self.make_room(REPLY_ROOM)?;
-        self.put_named(b"end ", rows.len() as u64);
-        self.put_named(b" read ", read);
-        self.put(b"\n");
-        Ok(())
+        self.put_end(rows.len(), read)
+    }
+
+    /// Writes the rows that a query found over a window of time, and that so many postings were read
+    /// for them, in place of what the page held. It takes memory; an error means that there was none,
+    /// and leaves a part of the reply. The cost is linear in the rows.
+    pub fn spanned(&mut self, rows: &[SpanRow], read: u64) -> Result<(), AllocError>
+        ensures { OnOk result (self.new.bytes ≡ reply_text (Spanned rows.now read)) }
+    {
+        self.clear();
+        for row in rows {
+            self.put_span(row)?;
+        }
+        self.put_end(rows.len(), read)
     }
 
     /// Writes a text that was asked for, in place of what the page held. It takes memory; an error
@@ -130,6 +139,33 @@ impl ReplyPage {
         self.make_room(REPLY_ROOM)?;
         self.put_named(b"hit ", u64::from(row.doc.0));
         self.put_named(b" ", row.score);
+        self.put(b"\n");
+        Ok(())
+    }
+
+    /// Adds the line of a row over time. It takes memory where there is no room. Constant cost but for
+    /// that.
+    fn put_span(&mut self, row: &SpanRow) -> Result<(), AllocError>
+        ensures { OnOk result (self.new.bytes ≡ self.old.bytes ++ span_text row.now) }
+    {
+        let SpanRow { doc, span, score } = *row;
+        self.make_room(REPLY_ROOM)?;
+        self.put_named(b"span ", u64::from(doc.0));
+        self.put_named(b" ", span.from);
+        self.put_named(b" ", span.to);
+        self.put_named(b" ", score);
+        self.put(b"\n");
+        Ok(())
+    }
+
+    /// Adds how many rows there are, and how many postings were read for them. It takes memory where
+    /// there is no room. Constant cost but for that.
+    fn put_end(&mut self, rows: usize, read: u64) -> Result<(), AllocError>
+        ensures { OnOk result (self.new.bytes ≡ self.old.bytes ++ end_text rows read) }
+    {
+        self.make_room(REPLY_ROOM)?;
+        self.put_named(b"end ", rows as u64);
+        self.put_named(b" read ", read);
         self.put(b"\n");
         Ok(())
     }

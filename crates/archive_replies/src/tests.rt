@@ -1,8 +1,8 @@
 use crate::ReplyPage;
 use archive_state::Refusal;
-use query_eval::Row;
+use query_eval::{Row, SpanRow};
 use std::test::Fail;
-use time_base::{DocId, Time, Which};
+use time_base::{DocId, Span, Time, Which};
 
 #[test]
 fn accepted_commands_are_answered_by_the_number_of_entries(rt: HostRuntime) -> Result<(), Fail> {
@@ -63,6 +63,37 @@ fn answers_are_a_line_a_row_and_an_end(rt: HostRuntime) -> Result<(), Fail> {
 fn row(doc: u32, score: u64) -> Row {
     let doc = DocId(doc);
     Row { doc, score }
+}
+
+#[test]
+fn answers_over_a_window_are_a_line_a_span_and_an_end(rt: HostRuntime) -> Result<(), Fail> {
+    let mut page = ReplyPage::new(rt.alloc())?;
+    page.spanned(&[span_row(7, 10, 20, 1)?], 1)?;
+    assert_eq!(rt;
+        page.as_bytes(),
+        "span 7 10 20 1\nend 1 read 1\n".as_bytes()
+    );
+    page.spanned(&[], 3)?;
+    assert_eq!(rt; page.as_bytes(), "end 0 read 3\n".as_bytes());
+    page.spanned(
+        &[
+            span_row(2, 0, 1, 0)?,
+            span_row(2, 15, 1099511627776, 3)?,
+            span_row(4294967295, 86400, 172800, 1)?,
+        ],
+        6,
+    )?;
+    assert_eq!(rt;
+        page.as_bytes(),
+        "span 2 0 1 0\nspan 2 15 1099511627776 3\nspan 4294967295 86400 172800 1\nend 3 read 6\n".as_bytes()
+    );
+    Ok(())
+}
+
+fn span_row(doc: u32, from: u64, to: u64, score: u64) -> Result<SpanRow, Fail> {
+    let doc = DocId(doc);
+    let span = Span::new(from, to).ok_or("a span")?;
+    Ok(SpanRow { doc, span, score })
 }
 
 #[test]

@@ -1,15 +1,16 @@
 -- Worked rows of what is asked, which hold by computation: what the definitions say of a small history.
-use Rattle.std.specs.Prelude.{◌≡◌, ℕ, ◌<◌, ◌≤◌, ◌==◌, ◌&&◌, ◌^◌, nat_le, nat_lt, unwrap_or, option_map, Result, Ok, Err, Bool, true, false, cond, List, [], ◌∷◌, ◌++◌, Some, None, IsSome, Contains, codes, refl}
+use Rattle.std.specs.Prelude.{◌≡◌, ℕ, ◌<◌, ◌≤◌, ◌==◌, ◌&&◌, ◌^◌, nat_le, nat_lt, unwrap_or, option_map, Option, Result, Ok, Err, Bool, true, false, cond, List, [], ◌∷◌, ◌++◌, Some, None, IsSome, is_some, if◌then◌else◌, Contains, codes, refl}
 use Rattle.std.specs.Str.{chars, is_utf8}
 use Rattle.std.specs.Fmt.{digits}
 use lib.Utf8.{encode}
-use Rattle.std.proofs.Common.{arith, lit<, lit≤, sym, subst, inl, inr}
-use Rattle.std.proofs.lemmas.Bool.{eqb-true, lt-ltb}
+use Rattle.std.proofs.Common.{arith, lit<, lit≤, ap, sym, subst, inl, inr, ◌∙◌}
+use Rattle.std.proofs.lemmas.Bool.{eqb-true, le-leb, leb-true, lt-ltb}
 use Rattle.std.proofs.lemmas.List.Elements.{All-nil, All-cons}
 use Rattle.ucd_category.proofs.Computing.{ucd_category}
 use Rattle.unicode_normalization.proofs.Computing.{unicode_normalization}
 use Rattle.caseless.proofs.Computing.{caseless}
 use Rattle.time_base.specs.declared.ids.DocId.{DocId}
+use Rattle.time_base.specs.declared.time.Span.{Span}
 use Rattle.time_base.specs.declared.time.Time.{Time}
 use Rattle.record_codec.specs.declared.entry.Entry.TheVariants as entries
 use Rattle.query_lang.specs.Grammar.{Query, Has, Both, Lacks, IsRead}
@@ -22,14 +23,18 @@ use Rattle.fold_tokens.specs.Terms.{occurrences}
 use Rattle.version_store.specs.Changes.{valid_at}
 use Rattle.postings.specs.Lists.{frequency}
 use Rattle.query_eval.specs.Answers.{IsRow}
+use Rattle.query_eval.specs.Spans.{row_kind, scored_at}
 use Rattle.query_eval.specs.declared.answer.Row.{Row}
+use Rattle.query_eval.specs.declared.spans.SpanRow.{SpanRow}
 use Rattle.query_eval.proofs.Ranks.{same-row, here, here-or-later, none}
+use Rattle.query_lang.specs.Meaning.{matches, score}
+use Rattle.stretches.specs.Stretches.{IsLongest}
 use Rattle.archive_state.specs.Histories.{History, text_at}
-use Rattle.archive_state.specs.Answers.{frequency_at, IsAnswerAt, IsWordList}
-use Rattle.commands.specs.declared.command.Command.TheVariants.{Arrive, Find, Show}
+use Rattle.archive_state.specs.Answers.{frequency_at, IsAnswerAt, IsSpanAnswerAt, IsWordList}
+use Rattle.commands.specs.declared.command.Command.TheVariants.{Arrive, Between, Find, Show}
 use Rattle.commands.specs.declared.command.Item.TheVariants.{Command}
 use Rattle.commands.specs.declared.text.Text.TheVariants.{Bytes}
-use Rattle.archive_state.specs.Steps.{Accepted, Refused, Found, Shown, Step}
+use Rattle.archive_state.specs.Steps.{Accepted, Refused, Found, Spanned, Shown, Step}
 use Rattle.archive_state.specs.Replies.{reply_text}
 
 abbrev doc : ℕ → DocId
@@ -156,3 +161,70 @@ found : Step one_arrival (Command (Find ten (codes "red"))) (Found (hit ∷ []) 
 found =
     let R : Result Query ℕ → Type 0 = λ r. IsRead key_of (codes "red") r in
     (refl, (Ok (Has red), subst R is_red (is_read key_of (codes "red")), (hit ∷ [], 1, one_row, (posting ∷ [], 0, one_posting, refl, refl), refl)))
+
+-- the same over a window that ends while the version is alive: it has the word from its time on
+abbrev window : Span
+window = record { from = 5; to = 20; ordered = lit< tt; in_time = lit≤ tt }
+
+abbrev span_row : SpanRow
+span_row = record { doc = doc 7; span = record { from = 10; to = 20; ordered = lit< tt; in_time = lit≤ tt }; score = 1 }
+
+span_texts : reply_text (Spanned (span_row ∷ []) 1) ≡ codes "span 7 10 20 1" ++ 10 ∷ codes "end 1 read 1" ++ 10 ∷ []
+unfolding digits
+span_texts = refl
+
+abbrev scored : ℕ → ℕ → Option ℕ
+scored d t = scored_at (λ x s. is_some (text_at one_arrival x s)) (λ x s word. frequency_at one_arrival word x s) (Has red) d t
+
+-- the score of a text alive, or nothing
+abbrev score_of : Option (List ℕ) → Option ℕ
+score_of held =
+    let often = λ (word : List ℕ). unwrap_or (option_map (occurrences word) held) 0 in
+    if (is_some held && matches (Has red) often) then Some (score (Has red) often) else None
+
+score_is : (d t : ℕ) → scored d t ≡ cond (7 == d && nat_le 10 t) (Some 1) None
+unfolding ucd_category caseless unicode_normalization chars encode
+score_is d t = on_doc (7 == d)
+  where
+    on_time : (b : Bool) → score_of (cond b (Some (codes "red a")) None) ≡ cond b (Some 1) None
+    on_time true = refl
+    on_time false = refl
+
+    on_doc : (b : Bool) → score_of (valid_at t (cond b (record { doc = doc 7; at = ten; held = Some (codes "red a") } ∷ []) [])) ≡ cond (b && nat_le 10 t) (Some 1) None
+    on_doc true = on_time (nat_le 10 t)
+    on_doc false = refl
+
+-- where there is a score it is document 7's, from 10 on
+where_scored : (d t v : ℕ) → scored d t ≡ Some v → (d ≡ 7) × (10 ≤ t)
+where_scored d t v is = go (7 == d) refl (nat_le 10 t) refl (sym (score_is d t) ∙ is)
+  where
+    go : (a : Bool) → 7 == d ≡ a → (b : Bool) → nat_le 10 t ≡ b → cond (a && b) (Some 1) None ≡ Some v → (d ≡ 7) × (10 ≤ t)
+    go true e true f s = (sym (eqb-true 7 d e), leb-true 10 t f)
+    go true e false f s = absurd cc
+    go false e b f s = absurd cc
+
+one_span : IsSpanAnswerAt one_arrival 5 20 (Has red) (span_row ∷ [])
+one_span = record { ordered = tt; longest = λ r there. longest r there; covered = λ d t v from to is. covered d t v to is }
+  where
+    L : SpanRow → Type 0
+    L r = IsLongest row_kind scored 5 20 r
+
+    row_longest : L span_row
+    row_longest = record {
+      begins = omega arith;
+      ends = omega arith;
+      same = λ t from to. score_is 7 t ∙ ap (λ b. cond b (Some 1) None) (le-leb 10 t from);
+      new = inr (λ is. absurd (omega (arith, (where_scored 7 9 1 is).1)));
+      over = inl refl;
+    }
+
+    longest : (r : SpanRow) → Contains (span_row ∷ []) r → L r
+    longest r there = elim (here-or-later span_row r [] there) [ inl same ↦ subst L same row_longest | inr later ↦ absurd (none r later) ]
+
+    covered : (d t v : ℕ) → t < 20 → scored d t ≡ Some v → (r : SpanRow) × Contains (span_row ∷ []) r × (r.doc.0 ≡ d) × (r.span.from ≤ t) × (t < r.span.to)
+    covered d t v to is = let at = where_scored d t v is in (span_row, here span_row [], sym at.0, at.1, to)
+
+spanned : Step one_arrival (Command (Between window (codes "red"))) (Spanned (span_row ∷ []) 1) one_arrival
+spanned =
+    let R : Result Query ℕ → Type 0 = λ r. IsRead key_of (codes "red") r in
+    (refl, (Ok (Has red), subst R is_red (is_read key_of (codes "red")), (span_row ∷ [], 1, one_span, (posting ∷ [], 0, one_posting, refl, refl), refl)))

@@ -1,7 +1,6 @@
 -- An item carried out and its reply shown, over the states of a machine.
-use Rattle.std.proofs.Common.{◌≡◌, ℕ, ◌+◌, ◌<◌, ◌≤◌, List, [], ◌∷◌, ◌++◌, length, Some, None, Result, Ok, Err, refl, inl, inr, ap, subst, sym, ◌∙◌, arith, codes, append_assoc}
+use Rattle.std.proofs.Common.{◌≡◌, ◌⊎◌, ℕ, ◌+◌, ◌<◌, ◌≤◌, List, [], ◌∷◌, ◌++◌, length, Some, None, Result, Ok, Err, refl, inl, inr, ap, subst, sym, ◌∙◌, arith, codes, append_assoc}
 use Rattle.std.specs.List.{flat_map}
-use Rattle.std.specs.Fmt.{decimal}
 use Rattle.std.proofs.lemmas.List.{append-nil, append_cancel_left, length-append}
 use Rattle.machine_model.specs.Areas.{Bytes, Both, part}
 use Rattle.machine_model.specs.States.{DiskState}
@@ -10,8 +9,8 @@ use Rattle.machine_model.specs.Pushes.{IsPrefix, IsSameBeside, OnlyShows}
 use Rattle.machine_model.specs.declared.range.Range.{Range}
 use Rattle.commands.specs.declared.command.Item.{Item}
 use Rattle.archive_state.specs.Histories.{History}
-use Rattle.archive_state.specs.Steps.{Reply, Accepted, Refused, Found, Shown}
-use Rattle.archive_state.specs.Replies.{reply_text, row_text}
+use Rattle.archive_state.specs.Steps.{Reply, Accepted, Refused, Found, Spanned, Shown}
+use Rattle.archive_state.specs.Replies.{end_text, reply_text, row_text, span_text}
 use Rattle.archive_state.specs.Stands.{Stands}
 use Rattle.archive_state.proofs.RunLemmas.{one_turn}
 use Rattle.archive_core.specs.States.{ArchiveState, IsKept}
@@ -23,11 +22,18 @@ use Rattle.archive_shell.specs.declared.stop.Halt.TheVariants as halts
 use Rattle.archive_shell.specs.declared.stop.Stop.{Stop}
 use Rattle.archive_shell.specs.declared.stop.Stop.TheVariants as stops
 
+behind : (xs ys : List ℕ) → 1 ≤ length ys → 1 ≤ length (xs ++ ys)
+behind xs ys some = omega (arith, some, length-append xs ys)
+
+some_end : (rows read : ℕ) → 1 ≤ length (end_text rows read)
+some_end rows read = omega arith
+
 -- no reply is empty
 pub some_bytes : (r : Reply) → 1 ≤ length (reply_text r)
 some_bytes (Accepted n) = omega arith
 some_bytes (Refused why) = omega arith
-some_bytes (Found rows read) = omega (arith, length-append (flat_map row_text rows ++ codes "end " ++ decimal (length rows) ++ codes " read " ++ decimal read) (10 ∷ []))
+some_bytes (Found rows read) = behind (flat_map row_text rows) (end_text (length rows) read) (some_end (length rows) read)
+some_bytes (Spanned rows read) = behind (flat_map span_text rows) (end_text (length rows) read) (some_end (length rows) read)
 some_bytes (Shown None) = omega arith
 some_bytes (Shown (Some text)) = omega arith
 

@@ -5,7 +5,7 @@ ghost use Rattle.archive_state.specs.Histories.{History};
 ghost use Rattle.archive_state.specs.Replies.{reply_text};
 ghost use Rattle.archive_state.specs.Steps.{Refused};
 ghost use Rattle.archive_core.specs.States.{IsKept};
-ghost use Rattle.archive_core.specs.Takes.{changed, declined, found, shown};
+ghost use Rattle.archive_core.specs.Takes.{changed, declined, found, shown, spanned};
 ghost use Rattle.commands.specs.declared.command.Item.TheVariants as items;
 ghost use Rattle.commands.specs.declared.command.Command.TheVariants as plain;
 ghost use Rattle.archive_shell.specs.Turns.{Answers, CanGoOn, Writes};
@@ -16,7 +16,7 @@ use archive_replies::ReplyPage;
 use archive_state::Refusal;
 use commands::{Command, Item, MOST_TEXT_BYTES, Text};
 use machine_model::Disk;
-use query_eval::Answer;
+use query_eval::{Answer, SpanAnswer};
 use std::alloc::Global;
 use time_base::{DocId, Time};
 
@@ -66,13 +66,16 @@ fn carry_out<D: Disk>(
             let result = archive.find(alloc, at, &expr);
             write_found(page, result)
         }
+        Command::Between { span, expr } => {
+            let result = archive.between(alloc, span, &expr);
+            write_spanned(page, result)
+        }
         Command::Show { doc, at } => {
             let result = archive.show(alloc, disk, doc, at);
             write_shown(page, result)
         }
         Command::Plan { .. } => refuse(page, Refusal::Line),
         Command::Propose { .. } => refuse(page, Refusal::Line),
-        Command::Between { .. } => refuse(page, Refusal::Line),
         Command::Certificate { .. } => refuse(page, Refusal::Line),
         Command::Verify => refuse(page, Refusal::Line),
     }
@@ -153,6 +156,20 @@ fn write_found(page: &mut ReplyPage, answer: Result<Answer, AskError>) -> Result
 {
     match answer {
         Ok(answer) => match page.found(&answer.rows, answer.read) {
+            Ok(()) => Ok(()),
+            Err(_) => Err(Halt::Memory),
+        },
+        Err(error) => write_declined(page, error),
+    }
+}
+
+/// Writes what a query found over a window of time on the page, or halts the run.
+fn write_spanned(page: &mut ReplyPage, answer: Result<SpanAnswer, AskError>) -> Result<(), Halt>
+    ensures writes { Writes (spanned answer) result page.new.bytes }
+    ensures fault { IsErrOf result Halt.Disk → IsErrOf answer AskError.Failed }
+{
+    match answer {
+        Ok(answer) => match page.spanned(&answer.rows, answer.read) {
             Ok(()) => Ok(()),
             Err(_) => Err(Halt::Memory),
         },

@@ -1,11 +1,12 @@
 -- Each item has one turn: from a legal history to a legal one.
-use Rattle.std.proofs.Common.{subst, sym, ◌≡◌, ℕ, ◌+◌, ◌<◌, ◌≤◌, ◌^◌, Bool, true, false, not, nat_lt, List, [], ◌∷◌, ◌++◌, length, All, Contains, Option, Some, None, IsSome, Result, Ok, Err, refl, ap, arith, unwrap_or, ◌∙◌}
+use Rattle.std.proofs.Common.{subst, sym, ◌≡◌, ℕ, ◌+◌, ◌<◌, ◌≤◌, ◌^◌, Bool, true, false, not, nat_lt, List, [], ◌∷◌, ◌++◌, length, All, Contains, Option, Some, None, IsSome, is_some, Result, Ok, Err, refl, ap, arith, unwrap_or, ◌∙◌}
 use Rattle.std.specs.Str.{is_utf8}
 use Rattle.std.specs.Option.{option_map}
 use Rattle.std.proofs.lemmas.Bool.{ltb-false}
 use Rattle.std.proofs.lemmas.Str.{IsUtf8-from_is_utf8}
 use Rattle.std.proofs.lemmas.List.Elements.{All-nil, All-cons, All-weaker}
 use Rattle.time_base.specs.declared.ids.DocId.{DocId}
+use Rattle.time_base.specs.declared.time.Span.{Span}
 use Rattle.time_base.specs.declared.time.Time.{Time}
 use Rattle.time_base.specs.declared.posting.Posting.{Posting}
 use Rattle.postings.proofs.Existence.{each_has_a_list}
@@ -27,20 +28,24 @@ use Rattle.query_lang.specs.Machine.{read}
 use Rattle.query_lang.specs.Meaning.{words_of}
 use Rattle.query_lang.specs.Tokens.{key_of}
 use Rattle.query_lang.proofs.ReadingLaws.{is_read, one_reading}
+use Rattle.query_eval.specs.Spans.{row_kind, scored_at}
 use Rattle.query_eval.specs.declared.answer.Row.{Row}
+use Rattle.query_eval.specs.declared.spans.SpanRow.{SpanRow}
 use Rattle.query_eval.proofs.FoundLemmas.{each-answer}
 use Rattle.query_eval.proofs.GivenLemmas.{same_alive, one_answer}
+use Rattle.query_eval.proofs.SpanRows.{each-window, plain-rows}
+use Rattle.stretches.proofs.Longest as longest
 use Rattle.archive_state.specs.declared.refusal.Refusal.{Refusal}
 use Rattle.archive_state.specs.declared.refusal.Refusal.TheVariants as refusals
 use Rattle.archive_state.specs.Histories.{History, changes, text_at, AreLegalAfter, IsLegal, IsLegalEntry, entry_refusal}
-use Rattle.archive_state.specs.Answers.{frequency_at, IsWordList, IsReadFor}
+use Rattle.archive_state.specs.Answers.{frequency_at, IsAnswerAt, IsSpanAnswerAt, IsWordList, IsReadFor}
 use Rattle.commands.specs.Documents.{HasDocument}
 use Rattle.commands.specs.declared.command.Command.{Command}
 use Rattle.commands.specs.declared.command.Command.TheVariants as commands
 use Rattle.commands.specs.declared.command.Item.{Item}
 use Rattle.commands.specs.declared.command.Item.TheVariants as items
 use Rattle.commands.specs.declared.text.Text.TheVariants as texts
-use Rattle.archive_state.specs.Steps.{Reply, Accepted, Refused, Found, Shown, Adds, Declines, Finds, FindsBy, CarriesOut, Step, too_long, bad_text, full_journal, arrival_refusal, deletion_refusal}
+use Rattle.archive_state.specs.Steps.{Reply, Accepted, Refused, Found, Spanned, Shown, Adds, Declines, IsRepliedBy, IsReplied, Finds, FindsBy, Spans, SpansBy, CarriesOut, Step, too_long, bad_text, full_journal, arrival_refusal, deletion_refusal}
 use Rattle.archive_state.specs.Runs.{Turn}
 use Rattle.archive_state.proofs.HistoryLemmas.{legal-push}
 
@@ -101,11 +106,14 @@ frequency_few h word doc t legal =
     let P : Option (List ℕ) → Type 0 = λ held. unwrap_or (option_map (occurrences word) held) 0 < 2 ^ 32 in
     held_has P doc t (changes h) (omega arith) (All-weaker (IsModest word) (λ c. P c.held) (λ c is. is.few) (changes h) (modest word [] h legal))
 
+-- no document beyond the numbers is ever alive
+text_none : (h : History) (doc : DocId) (t : ℕ) → IsLegal h → 2 ^ 32 ≤ doc.0 → text_at h doc t ≡ None
+text_none h doc t legal far =
+    let none = changes_of-none doc (changes h) (All-weaker (IsModest []) (λ c. c.doc.0 ≡ doc.0 → ⊥) (λ c is e. omega (arith, is.numbered, far, e)) (changes h) (modest [] [] h legal)) in
+    ap (λ (cs : List (Change (List ℕ))). valid_at t cs) none
+
 frequency_none : (h : History) (word : List ℕ) (d t : ℕ) → IsLegal h → 2 ^ 32 ≤ d → frequency_at h word (record { 0 = d }) t ≡ 0
-frequency_none h word d t legal far =
-    let doc : DocId = record { 0 = d } in
-    let none = changes_of-none doc (changes h) (All-weaker (IsModest word) (λ c. c.doc.0 ≡ d → ⊥) (λ c is e. omega (arith, is.numbered, far, e)) (changes h) (modest word [] h legal)) in
-    ap (λ (cs : List (Change (List ℕ))). unwrap_or (option_map (occurrences word) (valid_at t cs)) 0) none
+frequency_none h word d t legal far = ap (λ (held : Option (List ℕ)). unwrap_or (option_map (occurrences word) held) 0) (text_none h (record { 0 = d }) t legal far)
 
 -- each word has a list
 pub each_word_list : (h : History) (word : List ℕ) → IsLegal h → (list : List Posting) × IsWordList h word list
@@ -125,9 +133,18 @@ each_read h (word ∷ words) legal =
     let more = each_read h words legal in
     (length list.0 + more.0, (list.0, more.0, list.1, more.1, refl))
 
-each_found : (h : History) (at : Time) (query : Result Query ℕ) → IsLegal h → (reply : Reply) × FindsBy h at query reply
-each_found h at (Err place) legal = (Refused (refusals.BadQuery place), refl)
-each_found h at (Ok query) legal =
+-- whatever each query is answered, each text is
+each_replied : (Finds : Query → Reply → Type 0) → ((query : Query) → (reply : Reply) × Finds query reply) → (query : Result Query ℕ) → (reply : Reply) × IsRepliedBy Finds query reply
+each_replied Finds each (Err place) = (Refused (refusals.BadQuery place), refl)
+each_replied Finds each (Ok query) = each query
+
+each_text : (Finds : Query → Reply → Type 0) → ((query : Query) → (reply : Reply) × Finds query reply) → (text : List ℕ) → (reply : Reply) × IsReplied Finds text reply
+each_text Finds each text =
+    let found = each_replied Finds each (read key_of text) in
+    (found.0, (read key_of text, is_read key_of text, found.1))
+
+each_found : (h : History) (at : Time) → IsLegal h → (query : Query) → (reply : Reply) × FindsBy h at query reply
+each_found h at legal query =
     let often = λ (doc : DocId) (word : List ℕ). frequency_at h word doc at.seconds in
     let given = each-answer (changed.alive at.seconds (changes h)) often query in
     let read = each_read h (words_of query) legal in
@@ -135,9 +152,17 @@ each_found h at (Ok query) legal =
     (Found given.0 read.0, (given.0, read.0, answer, read.1, refl))
 
 pub each_finds : (h : History) (at : Time) (text : List ℕ) → IsLegal h → (reply : Reply) × Finds h at text reply
-each_finds h at text legal =
-    let found = each_found h at (read key_of text) legal in
-    (found.0, (read key_of text, is_read key_of text, found.1))
+each_finds h at text legal = each_text (FindsBy h at) (each_found h at legal) text
+
+each_spanned : (h : History) (span : Span) → IsLegal h → (query : Query) → (reply : Reply) × SpansBy h span query reply
+each_spanned h span legal query =
+    let given = each-window (λ doc t. is_some (text_at h doc t)) (λ doc t word. frequency_at h word doc t) query (2 ^ 32) span.from span.to span.in_time
+    (λ doc t far. ap is_some (text_none h doc t legal far)) in
+    let read = each_read h (words_of query) legal in
+    (Spanned given.0 read.0, (given.0, read.0, given.1, read.1, refl))
+
+pub each_spans : (h : History) (span : Span) (text : List ℕ) → IsLegal h → (reply : Reply) × Spans h span text reply
+each_spans h span text legal = each_text (SpansBy h span) (each_spanned h span legal) text
 
 declines_turn : (h : History) (why : Refusal) → (turn : Turn Reply History) × Declines h why turn.reply turn.next
 declines_turn h why = (record { reply = Refused why; next = h }, (refl, refl))
@@ -152,7 +177,9 @@ each_command h (commands.Find at expr) legal =
 each_command h (commands.Show doc at) legal = (record { reply = Shown (text_at h doc at.seconds); next = h }, (refl, refl))
 each_command h (commands.Plan word kind fraction) legal = declines_turn h refusals.Line
 each_command h (commands.Propose word fraction) legal = declines_turn h refusals.Line
-each_command h (commands.Between span expr) legal = declines_turn h refusals.Line
+each_command h (commands.Between span expr) legal =
+    let found = each_spans h span expr legal in
+    (record { reply = found.0; next = h }, (refl, found.1))
 each_command h (commands.Certificate word) legal = declines_turn h refusals.Line
 each_command h commands.Verify legal = declines_turn h refusals.Line
 
@@ -198,17 +225,36 @@ one_read h (word ∷ words) one other a b =
     let list = one_list_of (λ d t. frequency_at h word (record { 0 = d }) t) 0 (2 ^ 40) a.0 b.0 a.2 b.2 in
     omega (arith, a.4, b.4, one_read h words a.1 b.1 a.3 b.3, ap length list)
 
-one_found : (h : History) (at : Time) (query : Result Query ℕ) (reply other : Reply) → FindsBy h at query reply → FindsBy h at query other → reply ≡ other
-one_found h at (Err place) reply other a b = a ∙ sym b
-one_found h at (Ok query) reply other a b =
+-- where a query is answered one way, so is a text
+abbrev IsOnly : (Query → Reply → Type 0) → Type 0
+IsOnly Finds = (query : Query) (reply other : Reply) → Finds query reply → Finds query other → reply ≡ other
+
+one_replied : (Finds : Query → Reply → Type 0) → IsOnly Finds → (query : Result Query ℕ) (reply other : Reply) → IsRepliedBy Finds query reply → IsRepliedBy Finds query other → reply ≡ other
+one_replied Finds one (Err place) reply other a b = a ∙ sym b
+one_replied Finds one (Ok query) reply other a b = one query reply other a b
+
+one_text : (Finds : Query → Reply → Type 0) → IsOnly Finds → (text : List ℕ) (reply other : Reply) → IsReplied Finds text reply → IsReplied Finds text other → reply ≡ other
+one_text Finds one text reply other a b =
+    let F : Result Query ℕ → Type 0 = λ q. IsRepliedBy Finds q reply in
+    one_replied Finds one b.0 reply other (subst F (one_reading key_of text a.0 b.0 a.1 b.1) a.2) b.2
+
+one_found : (h : History) (at : Time) → IsOnly (FindsBy h at)
+one_found h at query reply other a b =
     let rows = one_answer (λ doc. IsSome (text_at h doc at.seconds)) (λ doc word. frequency_at h word doc at.seconds) query a.0 b.0 a.2 b.2 in
     let read = one_read h (words_of query) a.1 b.1 a.3 b.3 in
     a.4 ∙ ap (λ (r : List Row). Found r a.1) rows ∙ ap (λ (n : ℕ). Found b.0 n) read ∙ sym b.4
 
 one_finds : (h : History) (at : Time) (text : List ℕ) (reply other : Reply) → Finds h at text reply → Finds h at text other → reply ≡ other
-one_finds h at text reply other a b =
-    let F : Result Query ℕ → Type 0 = λ q. FindsBy h at q reply in
-    one_found h at b.0 reply other (subst F (one_reading key_of text a.0 b.0 a.1 b.1) a.2) b.2
+one_finds h at text = one_text (FindsBy h at) (one_found h at) text
+
+one_spanned : (h : History) (span : Span) → IsOnly (SpansBy h span)
+one_spanned h span query reply other a b =
+    let rows = longest.one row_kind plain-rows (scored_at (λ doc t. is_some (text_at h doc t)) (λ doc t word. frequency_at h word doc t) query) span.from span.to a.0 b.0 a.2 b.2 in
+    let read = one_read h (words_of query) a.1 b.1 a.3 b.3 in
+    a.4 ∙ ap (λ (r : List SpanRow). Spanned r a.1) rows ∙ ap (λ (n : ℕ). Spanned b.0 n) read ∙ sym b.4
+
+one_spans : (h : History) (span : Span) (text : List ℕ) (reply other : Reply) → Spans h span text reply → Spans h span text other → reply ≡ other
+one_spans h span text = one_text (SpansBy h span) (one_spanned h span) text
 
 one_stays : (h : History) (reply other : Reply) (next then : History) → next ≡ h → then ≡ h → reply ≡ other → IsOne reply other next then
 one_stays h reply other next then a b same = (same, a ∙ sym b)
@@ -224,7 +270,7 @@ one_command h (commands.Find at expr) reply other next then a b = one_stays h re
 one_command h (commands.Show doc at) reply other next then a b = one_stays h reply other next then a.0 b.0 (a.1 ∙ sym b.1)
 one_command h (commands.Plan word kind fraction) reply other next then a b = one_declines h refusals.Line reply other next then a b
 one_command h (commands.Propose word fraction) reply other next then a b = one_declines h refusals.Line reply other next then a b
-one_command h (commands.Between span expr) reply other next then a b = one_declines h refusals.Line reply other next then a b
+one_command h (commands.Between span expr) reply other next then a b = one_stays h reply other next then a.0 b.0 (one_spans h span expr reply other a.1 b.1)
 one_command h (commands.Certificate word) reply other next then a b = one_declines h refusals.Line reply other next then a b
 one_command h commands.Verify reply other next then a b = one_declines h refusals.Line reply other next then a b
 

@@ -5,10 +5,11 @@ use Rattle.std.specs.Fmt.{decimal}
 use Rattle.time_base.specs.declared.which.Which.{Which}
 use Rattle.time_base.specs.declared.which.Which.TheVariants.{Documents, Versions, Words, Journal, Pages}
 use Rattle.query_eval.specs.declared.answer.Row.{Row}
+use Rattle.query_eval.specs.declared.spans.SpanRow.{SpanRow}
 use Rattle.archive_state.specs.declared.refusal.Refusal.{Refusal}
 use Rattle.archive_state.specs.declared.refusal.Refusal.TheVariants as refusals
 use Rattle.archive_state.specs.Refusals.{number_of}
-use Rattle.archive_state.specs.Steps.{Reply, Accepted, Refused, Found, Shown}
+use Rattle.archive_state.specs.Steps.{Reply, Accepted, Refused, Found, Spanned, Shown}
 
 -- the name of a limit in a reply
 abbrev pub which_text : Which → List ℕ
@@ -36,9 +37,21 @@ refusal_text why = codes "no " ++ decimal (number_of why) ++ codes " " ++ detail
 abbrev pub row_text : Row → List ℕ
 row_text row = codes "hit " ++ decimal row.doc.0 ++ codes " " ++ decimal row.score ++ 10 ∷ []
 
--- a line for each row, and how many there are, with how many postings were read
+-- the line of a row over time: the document, its first second and the one behind its last, and the score
+abbrev pub span_text : SpanRow → List ℕ
+span_text row =
+    codes "span " ++ decimal row.doc.0 ++ codes " " ++ decimal row.span.from ++ codes " " ++ decimal row.span.to ++ codes " " ++ decimal row.score ++ 10 ∷ []
+
+-- how many rows there are, and how many postings were read
+abbrev pub end_text : ℕ → ℕ → List ℕ
+end_text rows read = codes "end " ++ decimal rows ++ codes " read " ++ decimal read ++ 10 ∷ []
+
+-- a line for each row, and the end
 abbrev pub answer_text : List Row → ℕ → List ℕ
-answer_text rows read = flat_map row_text rows ++ codes "end " ++ decimal (length rows) ++ codes " read " ++ decimal read ++ 10 ∷ []
+answer_text rows read = flat_map row_text rows ++ end_text (length rows) read
+
+abbrev pub spans_text : List SpanRow → ℕ → List ℕ
+spans_text rows read = flat_map span_text rows ++ end_text (length rows) read
 
 -- a text with its length in front, or that there is none
 abbrev pub shown_text : Option (List ℕ) → List ℕ
@@ -50,4 +63,5 @@ abbrev pub reply_text : Reply → List ℕ
 reply_text (Accepted count) = codes "ok " ++ decimal count ++ 10 ∷ []
 reply_text (Refused why) = refusal_text why
 reply_text (Found rows read) = answer_text rows read
+reply_text (Spanned rows read) = spans_text rows read
 reply_text (Shown text) = shown_text text

@@ -4,6 +4,7 @@ use Rattle.std.specs.Str.{is_utf8}
 use Rattle.std.specs.Str.Lossy.{utf8_valid_len}
 use Rattle.time_base.specs.Limits.{limit_of}
 use Rattle.time_base.specs.declared.ids.DocId.{DocId}
+use Rattle.time_base.specs.declared.time.Span.{Span}
 use Rattle.time_base.specs.declared.time.Time.{Time}
 use Rattle.time_base.specs.declared.which.Which.TheVariants.{Journal}
 use Rattle.commands.specs.declared.command.Command.{Command}
@@ -20,10 +21,11 @@ use Rattle.query_lang.specs.Grammar.{Query, IsRead}
 use Rattle.query_lang.specs.Meaning.{words_of}
 use Rattle.query_lang.specs.Tokens.{key_of}
 use Rattle.query_eval.specs.declared.answer.Row.{Row}
+use Rattle.query_eval.specs.declared.spans.SpanRow.{SpanRow}
 use Rattle.archive_state.specs.declared.refusal.Refusal.{Refusal}
 use Rattle.archive_state.specs.declared.refusal.Refusal.TheVariants as refusals
 use Rattle.archive_state.specs.Histories.{History, entry_refusal, end_of, text_at}
-use Rattle.archive_state.specs.Answers.{IsAnswerAt, IsReadFor}
+use Rattle.archive_state.specs.Answers.{IsAnswerAt, IsSpanAnswerAt, IsReadFor}
 
 -- what an item is answered
 pub data Reply : Type 0 where
@@ -32,6 +34,8 @@ pub data Reply : Type 0 where
   Refused : Refusal → Reply
   -- the rows that match, and how many postings were read for them
   Found : List Row → ℕ → Reply
+  -- the same of a window of time
+  Spanned : List SpanRow → ℕ → Reply
   -- the text, if the document is alive then
   Shown : Option (List ℕ) → Reply
 
@@ -62,15 +66,30 @@ abbrev pub Adds : History → Entry → Option Refusal → Reply → History →
 Adds old entry None reply new = (new ≡ old ++ entry ∷ []) × (reply ≡ Accepted (length new))
 Adds old entry (Some why) reply new = (new ≡ old) × (reply ≡ Refused why)
 
--- What is found at a time by a query; or the place where a text shows that it is none.
-abbrev pub FindsBy : History → Time → Result Query ℕ → Reply → Type 0
-FindsBy history at (Ok query) reply =
-    (rows : List Row) × (read : ℕ) × IsAnswerAt history at.seconds query rows × IsReadFor history (words_of query) read × (reply ≡ Found rows read)
-FindsBy history at (Err place) reply = reply ≡ Refused (refusals.BadQuery place)
+-- what a query is answered; or the place where a text shows that it is none
+abbrev pub IsRepliedBy : (Query → Reply → Type 0) → Result Query ℕ → Reply → Type 0
+IsRepliedBy Finds (Ok query) reply = Finds query reply
+IsRepliedBy Finds (Err place) reply = reply ≡ Refused (refusals.BadQuery place)
 
--- what is found at a time by a text, as it is read
+-- what a text is answered, as it is read
+abbrev pub IsReplied : (Query → Reply → Type 0) → List ℕ → Reply → Type 0
+IsReplied Finds text reply = (query : Result Query ℕ) × IsRead key_of text query × IsRepliedBy Finds query reply
+
+-- what is found at a time by a query, and by a text
+abbrev pub FindsBy : History → Time → Query → Reply → Type 0
+FindsBy history at query reply =
+    (rows : List Row) × (read : ℕ) × IsAnswerAt history at.seconds query rows × IsReadFor history (words_of query) read × (reply ≡ Found rows read)
+
 abbrev pub Finds : History → Time → List ℕ → Reply → Type 0
-Finds history at text reply = (query : Result Query ℕ) × IsRead key_of text query × FindsBy history at query reply
+Finds history at text reply = IsReplied (FindsBy history at) text reply
+
+-- what is found over a window of time by a query, and by a text
+abbrev pub SpansBy : History → Span → Query → Reply → Type 0
+SpansBy history span query reply =
+    (rows : List SpanRow) × (read : ℕ) × IsSpanAnswerAt history span.from span.to query rows × IsReadFor history (words_of query) read × (reply ≡ Spanned rows read)
+
+abbrev pub Spans : History → Span → List ℕ → Reply → Type 0
+Spans history span text reply = IsReplied (SpansBy history span) text reply
 
 -- a command that is refused changes nothing
 abbrev pub Declines : History → Refusal → Reply → History → Type 0
@@ -90,7 +109,7 @@ CarriesOut old (commands.Find at expr) reply new = (new ≡ old) × Finds old at
 CarriesOut old (commands.Show doc at) reply new = (new ≡ old) × (reply ≡ Shown (text_at old doc at.seconds))
 CarriesOut old (commands.Plan word kind fraction) reply new = Declines old refusals.Line reply new
 CarriesOut old (commands.Propose word fraction) reply new = Declines old refusals.Line reply new
-CarriesOut old (commands.Between span expr) reply new = Declines old refusals.Line reply new
+CarriesOut old (commands.Between span expr) reply new = (new ≡ old) × Spans old span expr reply
 CarriesOut old (commands.Certificate word) reply new = Declines old refusals.Line reply new
 CarriesOut old commands.Verify reply new = Declines old refusals.Line reply new
 

@@ -22,7 +22,7 @@ use time_base::{DocId, Time};
 
 /// The row of a document by its hits, where it matches. Costs the query's length, or nothing where
 /// there is no hit.
-fn row_by(
+pub(crate) fn row_by(
     query: &Query,
     doc: DocId,
     group: &[Hit],
@@ -133,7 +133,7 @@ fn rows_of(
 }
 
 /// The sum of what was read for parts, of which there are few.
-fn read_of(parts: &[Part]) -> u64
+pub(crate) fn read_of(parts: &[Part]) -> u64
     requires { length parts.now ≤ 4096 }
     ensures { result ≡ read_of parts.now }
 {

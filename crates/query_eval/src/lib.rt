@@ -8,15 +8,22 @@
 
 mod answer;
 mod asking;
+mod facts;
 mod found;
 mod hit;
 mod laws;
 mod part;
+mod span_laws;
+mod spans;
 
 pub use answer::{Answer, Row};
 pub use found::{answer_at, answer_by_hits, answer_from, parts_at};
 pub use laws::{an_answer_is_one, each_query_has_an_answer, only_hits_matter, only_words_matter};
 pub use part::{EvalError, Lists, Part};
+pub use span_laws::{a_span_answer_is_one, each_window_has_an_answer, span_rows_are_the_longest};
+pub use spans::{SpanAnswer, SpanRow, answer_between, answer_over, parts_between};
 
+#[cfg(test)]
+mod span_tests;
 #[cfg(test)]
 mod tests;

@@ -9,3 +9,4 @@ pub mod Steps
 pub mod Ascending
 pub mod Holding
 pub mod Alive
+pub mod Turning

@@ -11,6 +11,7 @@ mod change;
 mod directory;
 mod laws;
 mod link;
+mod lives;
 mod refusal;
 #[cfg(test)]
 mod tests;
@@ -18,5 +19,5 @@ mod walk;
 
 pub use change::Change;
 pub use directory::Directory;
-pub use laws::{held_as_changes_come, the_alive_hold_something};
+pub use laws::{held_as_changes_come, lives_are_one, the_alive_hold_something};
 pub use refusal::VersionRefusal;

@@ -2,7 +2,7 @@ use super::*;
 use std::alloc::AllocError;
 use std::process::Abort;
 use std::test::Fail;
-use time_base::{DocId, TextPlace, Time};
+use time_base::{DocId, NOW, Span, TextPlace, Time};
 
 fn time(rt: &impl Abort, seconds: u64) -> Time {
     Time::new(seconds).expect(rt, "a time")
@@ -115,5 +115,43 @@ fn refuses_in_order(rt: HostRuntime) -> Result<(), Fail> {
         change(&mut directory, DocId(1), later, Some(2))?,
         Err(VersionRefusal::SameTime)
     );
+    Ok(())
+}
+
+#[test]
+fn lives_go_on_over_new_versions_and_end_where_a_document_is_deleted(
+    rt: HostRuntime,
+) -> Result<(), Fail> {
+    let mut directory = Directory::new(rt.alloc())?;
+    for (doc, at, bytes) in [
+        (7, 10, Some(1)),
+        (7, 20, Some(2)),
+        (3, 20, Some(3)),
+        (7, 30, None),
+        (7, 35, Some(4)),
+    ] {
+        let allowed = change(&mut directory, DocId(doc), time(&rt, at), bytes)?;
+        assert_eq!(rt; allowed, Ok(()), "at {at}");
+    }
+    for (from, to, wanted) in [
+        (0, NOW, [(3, 20, NOW), (7, 10, 30), (7, 35, NOW)].as_slice()),
+        (20, 30, [(3, 20, 30), (7, 20, 30)].as_slice()),
+        (30, 35, [(3, 30, 35)].as_slice()),
+        (25, 26, [(3, 25, 26), (7, 25, 26)].as_slice()),
+        (29, 36, [(3, 29, 36), (7, 29, 30), (7, 35, 36)].as_slice()),
+        (
+            NOW - 1,
+            NOW,
+            [(3, NOW - 1, NOW), (7, NOW - 1, NOW)].as_slice(),
+        ),
+        (0, 10, [].as_slice()),
+    ] {
+        let span = Span::new(from, to).ok_or("a span")?;
+        let mut lives = Vec::new(rt.alloc());
+        for life in directory.lives(rt.alloc(), span)? {
+            lives.push((life.doc.0, life.span.from, life.span.to))?;
+        }
+        assert_eq!(rt; lives.as_slice(), wanted, "in [{from}, {to})");
+    }
     Ok(())
 }

@@ -3,7 +3,7 @@ use Rattle.commands.specs.declared.command.Command.{Command}
 use Rattle.commands.specs.declared.command.Command.TheVariants as plain
 use Rattle.commands.specs.declared.command.Item.TheVariants as items
 use Rattle.archive_state.specs.declared.refusal.Refusal.TheVariants as refusals
-use Rattle.archive_core.specs.Takes.{changed, found, shown}
+use Rattle.archive_core.specs.Takes.{changed, found, shown, spanned}
 use Rattle.archive_shell.specs.Turns.{Answers}
 use Rattle.archive_shell.proofs.TurnLemmas.{answers_by, refused_by}
 use Rattle.archive_shell.proofs.answer.carry_out.Goals as goal
@@ -20,6 +20,12 @@ returns-in-Find-clause-turn g c = λ tells h kept.
     subst C (sym c.in-Find.is) (answers_by h (items.Command (plain.Find c.in-Find.at c.in-Find.expr)) (found c.find-result.result) c.write_found.result _ _ c.args.archive.now c.write_found.new.page.bytes
     (c.find-result.ensures.takes (g.D.Disk.disk c.args.disk.now) h kept) c.write_found.ensures.writes)
 
+pub returns-in-Between-clause-turn : goal.returns-in-Between-clause-turn
+returns-in-Between-clause-turn g c = λ tells h kept.
+    let C : Command → Type 0 = λ d. Answers h (items.Command d) c.write_spanned.result (g.D.Disk.disk c.args.disk.now) (g.D.Disk.disk c.args.disk.now) c.args.archive.now c.write_spanned.new.page.bytes in
+    subst C (sym c.in-Between.is) (answers_by h (items.Command (plain.Between c.in-Between.span c.in-Between.expr)) (spanned c.between-result.result) c.write_spanned.result _ _ c.args.archive.now c.write_spanned.new.page.bytes
+    (c.between-result.ensures.takes (g.D.Disk.disk c.args.disk.now) h kept) c.write_spanned.ensures.writes)
+
 pub returns-in-Show-clause-turn : goal.returns-in-Show-clause-turn
 returns-in-Show-clause-turn g c = λ tells h kept.
     let C : Command → Type 0 = λ d. Answers h (items.Command d) c.write_shown.result (g.D.Disk.disk c.args.disk.now) (g.D.Disk.disk c.show-result.new.disk) c.args.archive.now c.write_shown.new.page.bytes in
@@ -35,11 +41,6 @@ pub returns-in-Propose-clause-turn : goal.returns-in-Propose-clause-turn
 returns-in-Propose-clause-turn g c = λ tells h kept.
     let C : Command → Type 0 = λ d. Answers h (items.Command d) c.refuse-in-Propose.result (g.D.Disk.disk c.args.disk.now) (g.D.Disk.disk c.args.disk.now) c.args.archive.now c.refuse-in-Propose.new.page.bytes in
     subst C (sym c.in-Propose.is) (refused_by h (items.Command (plain.Propose c.in-Propose.word c.in-Propose.fraction)) refusals.Line c.refuse-in-Propose.result _ c.args.archive.now c.refuse-in-Propose.new.page.bytes (refl, refl) kept c.refuse-in-Propose.ensures.goes_on c.refuse-in-Propose.ensures.reply)
-
-pub returns-in-Between-clause-turn : goal.returns-in-Between-clause-turn
-returns-in-Between-clause-turn g c = λ tells h kept.
-    let C : Command → Type 0 = λ d. Answers h (items.Command d) c.refuse-in-Between.result (g.D.Disk.disk c.args.disk.now) (g.D.Disk.disk c.args.disk.now) c.args.archive.now c.refuse-in-Between.new.page.bytes in
-    subst C (sym c.in-Between.is) (refused_by h (items.Command (plain.Between c.in-Between.span c.in-Between.expr)) refusals.Line c.refuse-in-Between.result _ c.args.archive.now c.refuse-in-Between.new.page.bytes (refl, refl) kept c.refuse-in-Between.ensures.goes_on c.refuse-in-Between.ensures.reply)
 
 pub returns-in-Certificate-clause-turn : goal.returns-in-Certificate-clause-turn
 returns-in-Certificate-clause-turn g c = λ tells h kept.

@@ -1,0 +1,17 @@
+use Rattle.std.proofs.Common.{sym, subst, ◌↔◌, List, IsTrue, IsSome}
+use Rattle.time_base.specs.declared.text_place.TextPlace.{TextPlace}
+use Rattle.stretches.specs.Kinds.{is_alive}
+use Rattle.stretches.specs.declared.life.Life.{Life}
+use Rattle.version_store.specs.declared.change.Change.{Change}
+use Rattle.version_store.specs.Changes.{held_at}
+use Rattle.archive_core.proofs.SpanLemmas.{by_lives}
+use Rattle.archive_core.proofs.archive.Archive.span_answer_by.Goals as goal
+
+pub returns-clause-rows : goal.returns-clause-rows
+returns-clause-rows c = λ h stands whole.
+    by_lives c.args.self.now h c.args.span c.args.query.now c.args.parts.now c.deref.result.now _ stands whole
+    (λ doc t from to.
+    let L : List Life → Type 0 = λ lives. IsTrue (is_alive lives doc.0 t) ↔ IsSome (held_at doc t c.args.self.now.changes) in
+    let C : List (Change TextPlace) → Type 0 = λ changes. IsTrue (is_alive c.in_ok-lives.lives.items doc.0 t) ↔ IsSome (held_at doc t changes) in
+    subst L (sym c.deref.ensures.value) (subst C c.directory.ensures.changes (c.in_ok-lives.ensures.times doc t from to)))
+    c.in_ok-answer.ensures.rows

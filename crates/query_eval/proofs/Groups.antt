@@ -1,0 +1,81 @@
+-- Elements that stand by a number, and those of one number among them.
+use Rattle.std.proofs.Common.{◌≡◌, ◌≢◌, ℕ, ◌+◌, ◌<◌, ◌≤◌, ◌==◌, ◌&&◌, nat_le, nat_lt, true, false, not, cond, List, [], ◌∷◌, ◌++◌, append-nil, append_assoc, length, get_or, take, drop, filter, All, refl, ap, sym, ◌∙◌, subst, arith}
+use Rattle.std.specs.List.Sorted.{IsPartitionPoint, IsNonDecreasingBy, ties}
+use Rattle.std.specs.Ordering.{nat_cmp, is_lt}
+use Rattle.std.proofs.lemmas.Bool.{eq-eqb}
+use Rattle.std.proofs.lemmas.Bool.Decides.{nat_tests}
+use Rattle.std.proofs.lemmas.List.{take-append-drop, length-take-le, length-drop, get_or-take, get_or-drop}
+use Rattle.std.proofs.lemmas.List.Elements.{filter-append, All-head, All-tail, filter_agree, filter_passes}
+
+-- numbers that a sort can't tell apart
+tied : (a b : ℕ) → not (is_lt (nat_cmp a b)) && not (is_lt (nat_cmp b a)) ≡ (b == a)
+tied a b = grind (arith, nat_tests)
+
+module _ {X : Type 0} (key : X → ℕ) where
+  none : (d : ℕ) (xs : List X) → All (λ x. key x ≢ d) xs → filter (λ x. key x == d) xs ≡ []
+  none d [] a = refl
+  none d (x ∷ xs) a = ap (λ b. cond b (x ∷ filter (λ x. key x == d) xs) (filter (λ x. key x == d) xs)) (apart (key x) (All-head (λ x. key x ≢ d) x xs a)) ∙ none d xs (All-tail (λ x. key x ≢ d) x xs a)
+    where
+      apart : (n : ℕ) → n ≢ d → n == d ≡ false
+      apart n k = grind (arith, nat_tests)
+
+  all : (d : ℕ) (xs : List X) → All (λ x. key x ≡ d) xs → filter (λ x. key x == d) xs ≡ xs
+  all d [] a = refl
+  all d (x ∷ xs) a = ap (λ b. cond b (x ∷ filter (λ x. key x == d) xs) (filter (λ x. key x == d) xs)) (eq-eqb (key x) d (All-head (λ x. key x ≡ d) x xs a)) ∙ ap (λ l. x ∷ l) (all d xs (All-tail (λ x. key x ≡ d) x xs a))
+
+  middle : (d : ℕ) (early mine late : List X) → All (λ x. key x ≢ d) early → All (λ x. key x ≡ d) mine → All (λ x. key x ≢ d) late → filter (λ x. key x == d) (early ++ mine ++ late) ≡ mine
+  middle d early mine late a b c =
+      filter-append (λ x. key x == d) (early ++ mine) late
+      ∙ ap (λ l. l ++ filter (λ x. key x == d) late) (filter-append (λ x. key x == d) early mine)
+      ∙ ap (λ l. (l ++ filter (λ x. key x == d) mine) ++ filter (λ x. key x == d) late) (none d early a)
+      ∙ ap (λ l. filter (λ x. key x == d) mine ++ l) (none d late c)
+      ∙ append-nil (filter (λ x. key x == d) mine) ∙ all d mine b
+
+  -- what lies between two places is what has the number
+  pub between : (d : ℕ) (xs : List X) (s k : ℕ) → s ≤ length xs → IsPartitionPoint (λ x. nat_lt (key x) d ≡ true) (λ x. nat_lt (key x) d ≡ false) xs s
+      → k ≤ length (drop s xs) → IsPartitionPoint (λ x. nat_le (key x) d ≡ true) (λ x. nat_le (key x) d ≡ false) (drop s xs) k → take k (drop s xs) ≡ filter (λ x. key x == d) xs
+  between d xs s k sl p kl q =
+      sym (middle d (take s xs) (take k (drop s xs)) (drop k (drop s xs)) early mine late)
+      ∙ ap (filter (λ x. key x == d)) (append_assoc (take s xs) (take k (drop s xs)) (drop k (drop s xs)) ∙ ap (λ l. take s xs ++ l) (take-append-drop k (drop s xs)) ∙ take-append-drop s xs)
+    where
+      lt : (n : ℕ) → nat_lt n d ≡ true → n ≢ d
+      lt n e i = grind (arith, nat_tests)
+
+      eq : (n : ℕ) → nat_lt n d ≡ false → nat_le n d ≡ true → n ≡ d
+      eq n e f = grind (arith, nat_tests)
+
+      gt : (n : ℕ) → nat_le n d ≡ false → n ≢ d
+      gt n e i = grind (arith, nat_tests)
+
+      early : All (λ x. key x ≢ d) (take s xs)
+      early i x m = let n : i < s = omega (arith, m, length-take-le s xs sl) in rw (get_or-take s xs i x n) (lt (key (get_or xs i x)) (p.0 i x (omega arith) n))
+
+      mine : All (λ x. key x ≡ d) (take k (drop s xs))
+      mine i x m =
+          let n : i < k = omega (arith, m, length-take-le k (drop s xs) kl) in
+          rw (get_or-take k (drop s xs) i x n)
+          (eq (key (get_or (drop s xs) i x)) (rw (get_or-drop s xs i x) (p.1 (s + i) x (omega arith) (omega (arith, n, kl, length-drop s xs)))) (q.0 i x (omega arith) n))
+
+      late : All (λ x. key x ≢ d) (drop k (drop s xs))
+      late i x m = rw (get_or-drop k (drop s xs) i x) (gt (key (get_or (drop s xs) (k + i) x)) (q.1 (k + i) x (omega arith) (omega (arith, m, length-drop k (drop s xs)))))
+
+  pub drop_rises : (xs : List X) (s : ℕ) → IsNonDecreasingBy key xs → IsNonDecreasingBy key (drop s xs)
+  drop_rises xs s up i j d h m = rw (get_or-drop s xs i d, get_or-drop s xs j d) (up (s + i) (s + j) d (omega (arith, h)) (omega (arith, m, length-drop s xs)))
+
+  -- a stable sort keeps the order of those of one number
+  pub stable-of : (xs ys : List X) → ((x : X) → filter (ties (λ p q. is_lt (nat_cmp (key p) (key q))) x) ys ≡ filter (ties (λ p q. is_lt (nat_cmp (key p) (key q))) x) xs) → (d : ℕ) → filter (λ x. key x == d) ys ≡ filter (λ x. key x == d) xs
+  stable-of xs ys s d = go (filter (λ x. key x == d) xs) (filter (λ x. key x == d) ys) refl refl
+    where
+      at : (x : X) → filter (λ y. key y == key x) ys ≡ filter (λ y. key y == key x) xs
+      at x = sym (filter_agree (ties (λ p q. is_lt (nat_cmp (key p) (key q))) x) (λ y. key y == key x) (λ y. tied (key x) (key y)) ys) ∙ s x ∙ filter_agree (ties (λ p q. is_lt (nat_cmp (key p) (key q))) x) (λ y. key y == key x) (λ y. tied (key x) (key y)) xs
+
+      same : (n : ℕ) → n == d ≡ true → n ≡ d
+      same n h = grind (arith, nat_tests)
+
+      of : (x : X) (zs kept : List X) → filter (λ x. key x == d) zs ≡ x ∷ kept → key x ≡ d
+      of x zs kept e = same (key x) (All-head (λ z. key z == d ≡ true) x kept (subst (All (λ z. key z == d ≡ true)) e (filter_passes (λ x. key x == d) zs)))
+
+      go : (fx fy : List X) → filter (λ x. key x == d) xs ≡ fx → filter (λ x. key x == d) ys ≡ fy → filter (λ x. key x == d) ys ≡ filter (λ x. key x == d) xs
+      go [] [] e f = f ∙ sym e
+      go (x ∷ fx) fy e f = subst (λ n. filter (λ x. key x == n) ys ≡ filter (λ x. key x == n) xs) (of x xs fx e) (at x)
+      go [] (y ∷ fy) e f = subst (λ n. filter (λ x. key x == n) ys ≡ filter (λ x. key x == n) xs) (of y ys fy f) (at y)

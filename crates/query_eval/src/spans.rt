@@ -1,0 +1,272 @@
+//! Answers to queries over a window of time.
+ghost use Rattle.std.specs.Prelude.{◌≡◌, ◌⊎◌, ◌↔◌, ◌+◌, ◌++◌, ◌<◌, ◌≤◌, ℕ, List, [], Ok, Some, None, Option, length, drop, filter, slice_index_or, Contains, IfOk, OnOk, IsErrOf, IsTrue, MatchOption};
+ghost use Rattle.std.specs.List.Sorted.{IsNonDecreasingBy};
+ghost use Rattle.stretches.specs.Events.{AreInOrder, end_of};
+ghost use Rattle.stretches.specs.Kinds.{is_alive};
+ghost use Rattle.stretches.specs.Laid.{AreLaid, with_row, IsBehind, Continues, IsJoined};
+ghost use Rattle.stretches.specs.Stretches.{AreStretches};
+ghost use Rattle.stretches.specs.declared.event.Event.{Event as EventValue};
+ghost use Rattle.query_lang.specs.Meaning.{words_of};
+ghost use Rattle.query_eval.specs.Asked.{Asks, AsksFront, AsksToFault, read_of};
+ghost use Rattle.query_eval.specs.Facts.{alive_now, hits_now, of_doc, score_if, IsScored, TellWords};
+ghost use Rattle.query_eval.specs.Found.{told};
+ghost use Rattle.query_eval.specs.Spans.{row_kind, IsSpanAnswer};
+ghost use Rattle.query_eval.specs.declared.part.Part.{Part as PartValue};
+
+use crate::asking::{When, parts_when};
+use crate::facts::{Fact, facts_by_doc, group_of, turns_of};
+use crate::found::{read_of, row_by};
+use crate::hit::Hit;
+use crate::part::{EvalError, Lists, Part};
+use query_lang::{Pile, Query};
+use std::alloc::{AllocError, Global};
+use stretches::{Event, Life, end_of};
+use time_base::{DocId, Span, Time};
+
+/// A document that matches a query with one score for some time.
+#[derive(Clone, Copy, Debug, PartialEq, Eq)]
+pub struct SpanRow {
+    /// The document.
+    pub doc: DocId,
+    /// When.
+    pub span: Span,
+    /// How often the query's words occur in its text, all in all; 0 where it matches without them.
+    pub score: u64,
+}
+
+/// What a query finds in a window of time.
+#[derive(Debug, Drop)]
+pub struct SpanAnswer {
+    /// The documents that match, by document and then by start.
+    pub rows: Vec<SpanRow>,
+    /// How many postings were read for them.
+    pub read: u64,
+}
+
+/// Room that is used again from piece to piece.
+#[derive(Drop)]
+struct Room {
+    counts: Vec<u32>,
+    truths: Pile<bool>,
+    hits: Vec<Hit>,
+}
+
+/// Room for the words of a query. Costs their number.
+fn room_for(alloc: Global, query: &Query) -> Result<Room, AllocError>
+    ensures room { IfOk result (λ room. length room.counts.items ≡ length (words_of query.now)) }
+    ensures few { IfOk result (λ room. length (words_of query.now) ≤ 4096) }
+{
+    let counts = vec![in alloc; 0; query.words().len()]?;
+    Ok(Room {
+        counts,
+        truths: Pile::new(alloc),
+        hits: Vec::new(alloc),
+    })
+}
+
+/// What facts say at a time: whether one is a life, and the hits, which are put into `hits`.
+fn gather_now(hits: &mut Vec<Hit>, group: &[Fact], t: Time) -> Result<bool, AllocError>
+    ensures alive { IfOk result (λ alive. alive ≡ alive_now t.seconds group.now) }
+    ensures hits { OnOk result (hits.new.items ≡ hits_now t.seconds group.now) }
+{
+    hits.clear();
+    let mut alive = false;
+    for fact in group {
+        if fact.span.from <= t.seconds && t.seconds < fact.span.to {
+            match fact.hit {
+                Some(hit) => hits.push(hit)?,
+                None => alive = true,
+            }
+        }
+    }
+    Ok(alive)
+}
+
+/// A document's score at a time by its facts, where it is alive and matches. Costs the facts, and
+/// the query's length where it has a hit.
+fn score_at(
+    query: &Query,
+    doc: DocId,
+    t: Time,
+    group: &[Fact],
+    room: &mut Room,
+) -> Result<Option<u64>, AllocError>
+    requires { length room.old.counts.items ≡ length (words_of query.now) }
+    ensures value { IfOk result (λ v. (often : List ℕ → ℕ) → TellWords query.now (hits_now t.seconds group.now) often
+        → v ≡ score_if (alive_now t.seconds group.now) query.now often) }
+    ensures kept { length room.new.counts.items ≡ length room.old.counts.items }
+{
+    let alive = gather_now(&mut room.hits, group, t)?;
+    if !alive {
+        return Ok(None);
+    }
+    match row_by(query, doc, &room.hits, &mut room.counts, &mut room.truths)? {
+        Some(row) => Ok(Some(row.score)),
+        None => Ok(None),
+    }
+}
+
+/// The row of an event's document from there to the next event, where it is alive and matches.
+fn row_from(
+    query: &Query,
+    facts: &[Fact],
+    events: &[Event],
+    i: usize,
+    span: Span,
+    room: &mut Room,
+) -> Result<Option<SpanRow>, AllocError>
+    requires sorted { IsNonDecreasingBy (λ f. f.doc.0) facts.now }
+    requires room { length room.old.counts.items ≡ length (words_of query.now) }
+    requires there { i < length events.now }
+    ensures row { IfOk result (λ row. (f : ℕ → ℕ → Option ℕ) → IsScored query.now facts.now f
+        → (e : EventValue) → e ≡ slice_index_or events.now i e → MatchOption row
+        ((end_of e (drop (i + 1) events.now) span.to ≤ e.at.seconds) ⊎ (f e.doc.0 e.at.seconds ≡ None))
+        (λ r. (r.doc.0 ≡ e.doc.0) × (r.span.from ≡ e.at.seconds) × (r.span.to ≡ end_of e (drop (i + 1) events.now) span.to)
+        × (f e.doc.0 e.at.seconds ≡ Some r.score))) }
+    ensures kept { length room.new.counts.items ≡ length room.old.counts.items }
+{
+    let event = events[i];
+    let Some(span) = Span::new(event.at.seconds, end_of(events, i, span.to)) else {
+        return Ok(None);
+    };
+    let group = group_of(facts, event.doc);
+    match score_at(query, event.doc, event.at, group, room)? {
+        Some(score) => Ok(Some(SpanRow {
+            doc: event.doc,
+            span,
+            score,
+        })),
+        None => Ok(None),
+    }
+}
+
+/// Whether a row goes on where the last one ends.
+fn goes_on(last: &SpanRow, row: &SpanRow) -> bool
+    ensures { IsTrue result ↔ Continues row_kind last.now row.now }
+{
+    last.doc == row.doc && last.span.to == row.span.from && last.score == row.score
+}
+
+/// The last row and the one that goes on where it ends, in one.
+fn joined(last: &SpanRow, row: &SpanRow) -> SpanRow
+    requires { Continues row_kind last.now row.now }
+    ensures { IsJoined row_kind last.now row.now result }
+{
+    SpanRow {
+        doc: last.doc,
+        span: Span {
+            from: last.span.from,
+            to: row.span.to,
+        },
+        score: last.score,
+    }
+}
+
+/// Puts a row behind others, or joins it to the last one where it goes on there.
+fn note(rows: &mut Vec<SpanRow>, row: SpanRow) -> Result<(), AllocError>
+    ensures { OnOk result ((f : ℕ → ℕ → Option ℕ) → AreLaid row_kind f rows.old.items
+        → IsBehind row_kind f row → AreLaid row_kind (with_row row_kind f row) rows.new.items) }
+{
+    let Some(last) = rows.pop() else {
+        rows.push(row)?;
+        return Ok(());
+    };
+    if goes_on(&last, &row) {
+        rows.push(joined(&last, &row))?;
+        return Ok(());
+    }
+    rows.push(last)?;
+    rows.push(row)?;
+    Ok(())
+}
+
+/// The rows by facts that stand by document.
+fn rows_over(
+    alloc: Global,
+    query: &Query,
+    span: Span,
+    facts: &[Fact],
+    room: &mut Room,
+) -> Result<Vec<SpanRow>, AllocError>
+    requires sorted { IsNonDecreasingBy (λ f. f.doc.0) facts.now }
+    requires room { length room.old.counts.items ≡ length (words_of query.now) }
+    ensures { IfOk result (λ rows. (f : ℕ → ℕ → Option ℕ) → IsScored query.now facts.now f
+        → AreStretches row_kind f span.from span.to rows.items) }
+{
+    let events = turns_of(alloc, facts, span)?;
+    let mut rows = Vec::new(alloc);
+    for i in 0..events.len() {
+        if let Some(row) = row_from(query, facts, &events, i, span, room)? {
+            note(&mut rows, row)?;
+        }
+    }
+    Ok(rows)
+}
+
+/// What the query finds in a window of time, by the parts of the lists of its words, one for each
+/// distinct word in order, and by the lives of documents, in any order. A document has a word as
+/// often as the first posting of its part says that holds the time. Costs the postings and lives, a
+/// sort of both, and for each time at which one of a document's begins or ends two searches, a look
+/// at the document's own, and, where it has a hit, the query's length.
+pub fn answer_over(
+    alloc: Global,
+    query: &Query,
+    span: Span,
+    parts: &[Part],
+    lives: &[Life],
+) -> Result<SpanAnswer, AllocError>
+    requires { length parts.now ≡ length (words_of query.now) }
+    ensures rows { IfOk result (λ a. IsSpanAnswer (λ doc t. is_alive lives.now doc.0 t)
+        (λ doc t. told (words_of query.now) parts.now t doc.0) query.now span.from span.to a.rows.items) }
+    ensures read { IfOk result (λ a. a.read ≡ read_of parts.now) }
+{
+    let facts = facts_by_doc(alloc, parts, lives)?;
+    let mut room = room_for(alloc, query)?;
+    let rows = rows_over(alloc, query, span, &facts, &mut room)?;
+    Ok(SpanAnswer {
+        rows,
+        read: read_of(parts),
+    })
+}
+
+/// The parts of the lists of a query's distinct words in a window, one call of `between` for each in
+/// order.
+pub fn parts_between<L: Lists>(
+    alloc: Global,
+    query: &Query,
+    span: Span,
+    lists: &mut L,
+) -> Result<Vec<Part>, EvalError<L::Fault>>
+    ensures asked { IfOk result (λ parts. Asks (λ x w r y. L.asked_between x w span.from span.to r y) lists.old (words_of query.now) parts.items lists.new) }
+    ensures many { IfOk result (λ parts. length parts.items ≡ length (words_of query.now)) }
+    ensures fault { (e : _) → IsErrOf result (EvalError.Lists e) → AsksToFault (λ x w r y. L.asked_between x w span.from span.to r y) lists.old (words_of query.now) e lists.new }
+    ensures memory { IsErrOf result EvalError.Memory → AsksFront (λ x w r y. L.asked_between x w span.from span.to r y) lists.old (words_of query.now) lists.new }
+{
+    parts_when(alloc, lists, query.words(), When::Within(span))
+}
+
+/// What the query finds in a window of time in the lists, which are asked for one part for each
+/// distinct word, in order; `lives` are the lives of documents, in any order. Costs what
+/// `answer_over` does.
+pub fn answer_between<L: Lists>(
+    alloc: Global,
+    query: &Query,
+    span: Span,
+    lists: &mut L,
+    lives: &[Life],
+) -> Result<SpanAnswer, EvalError<L::Fault>>
+    ensures rows { IfOk result (λ a. (parts : List PartValue) × Asks (λ x w r y. L.asked_between x w span.from span.to r y) lists.old (words_of query.now) parts lists.new
+        × IsSpanAnswer (λ doc t. is_alive lives.now doc.0 t) (λ doc t. told (words_of query.now) parts t doc.0) query.now span.from span.to a.rows.items
+        × (a.read ≡ read_of parts)) }
+    ensures fault { (e : _) → IsErrOf result (EvalError.Lists e) → AsksToFault (λ x w r y. L.asked_between x w span.from span.to r y) lists.old (words_of query.now) e lists.new }
+    ensures memory { IsErrOf result EvalError.Memory → AsksFront (λ x w r y. L.asked_between x w span.from span.to r y) lists.old (words_of query.now) lists.new }
+{
+    let parts = match parts_between(alloc, query, span, lists) {
+        Ok(parts) => parts,
+        Err(e) => return Err(e),
+    };
+    match answer_over(alloc, query, span, &parts, lives) {
+        Ok(answer) => Ok(answer),
+        Err(_) => Err(EvalError::Memory),
+    }
+}

@@ -1,0 +1,36 @@
+-- When documents are alive.
+use Rattle.std.specs.Prelude.{◌≡◌, ℕ, ◌<◌, ◌≤◌, List, Option, Contains}
+use Rattle.std.specs.Option.{option_map}
+use Rattle.time_base.specs.declared.ids.DocId.{DocId}
+use Rattle.time_base.specs.declared.time.Time.{Time}
+use Rattle.stretches.specs.Kinds.{life_kind}
+use Rattle.stretches.specs.Stretches.{AreStretches}
+use Rattle.stretches.specs.declared.event.Event.{Event}
+use Rattle.stretches.specs.declared.life.Life.{Life}
+use Rattle.version_store.specs.declared.change.Change.{Change}
+use Rattle.version_store.specs.Changes.{held_at}
+
+-- that a document is alive at a time, or nothing
+abbrev pub lived : {A : Type 0} → List (Change A) → ℕ → ℕ → Option (Unit {0})
+lived changes d t = option_map (λ _. tt) (held_at (record { 0 = d }) t changes)
+
+-- The lives in [a, b): the longest stretches inside it at whose every time a document is alive, so that versions that touch are one life.
+abbrev pub AreLives : {A : Type 0} → List (Change A) → ℕ → ℕ → List Life → Type 0
+AreLives changes a b lives = AreStretches life_kind (lived changes) a b lives
+
+-- There is one list of lives.
+abbrev pub LivesAreOne : Type 0 → Type 0
+LivesAreOne A = (changes : List (Change A)) (a b : ℕ) (one other : List Life) → AreLives changes a b one → AreLives changes a b other → one ≡ other
+
+-- the event of a document at a time, and of a change
+abbrev pub start_of : Time → DocId → Event
+start_of at doc = record { doc = doc; at = at }
+
+abbrev pub turn_of : {A : Type 0} → Change A → Event
+turn_of c = record { doc = c.doc; at = c.at }
+
+-- events inside [a, b): one at its start for each of these documents, and one for each change behind its start
+pub record AreTurns {A : Type 0} (changes : List (Change A)) (docs : List DocId) (a b : ℕ) (events : List Event) : Type 0 where
+  pub inside : (x : Event) → Contains events x → (a ≤ x.at.seconds) × (x.at.seconds < b)
+  pub started : (doc : DocId) → Contains docs doc → (x : Event) × Contains events x × (x.doc ≡ doc) × (x.at.seconds ≡ a)
+  pub changed : (c : Change A) → Contains changes c → a < c.at.seconds → c.at.seconds < b → (x : Event) × Contains events x × (x.doc ≡ c.doc) × (x.at.seconds ≡ c.at.seconds)

@@ -1,0 +1,170 @@
+//! When documents are alive.
+ghost use Rattle.std.specs.Prelude.{◌≡◌, ◌⊎◌, ◌↔◌, ◌+◌, ◌<◌, ◌≤◌, ℕ, true, false, None, Some, Option, length, drop, map, slice_index_or, nat_le, nat_lt, Contains, IfOk, OnOk, MatchOption, IsTrue, IsSome};
+ghost use Rattle.std.specs.List.Sorted.{IsNonDecreasingBy, IsPartitionPoint};
+ghost use Rattle.time_base.specs.declared.ids.DocId.{DocId as Document};
+ghost use Rattle.stretches.specs.Events.{AreInOrder, end_of};
+ghost use Rattle.stretches.specs.Kinds.{life_kind, is_alive};
+ghost use Rattle.stretches.specs.Laid.{AreLaid, with_row, IsBehind, Continues, IsJoined};
+ghost use Rattle.stretches.specs.declared.event.Event.{Event as EventValue};
+ghost use Rattle.version_store.specs.Changes.{held_at};
+ghost use Rattle.version_store.specs.Lives.{AreLives, AreTurns, lived, start_of, turn_of};
+
+use crate::change::Change;
+use crate::directory::Directory;
+use std::alloc::{AllocError, Global};
+use stretches::{Event, Life, end_of, sort_events};
+use time_base::{DocId, Span, TextPlace, Time};
+
+impl Directory {
+    /// When documents are alive in the span: the longest stretches, in the order of document and
+    /// start. Versions of one document that touch are one life. It costs what `place` does for each
+    /// document that ever changed and for each change in the span, and a sort of both.
+    pub fn lives(&self, alloc: Global, span: Span) -> Result<Vec<Life>, AllocError>
+        ensures lives { IfOk result (λ lives. AreLives self.now.changes span.from span.to lives.items) }
+        ensures times { IfOk result (λ lives. (doc : Document) (t : ℕ) → span.from ≤ t → t < span.to
+            → IsTrue (is_alive lives.items doc.0 t) ↔ IsSome (held_at doc t self.now.changes)) }
+    {
+        let start = Time { seconds: span.from };
+        let docs = self.alive(alloc, start)?;
+        let events = turns(alloc, self.changes(), &docs, start, span)?;
+        let mut lives = Vec::new(alloc);
+        for i in 0..events.len() {
+            if let Some(life) = self.life_from(&events, i, span) {
+                note(&mut lives, life)?;
+            }
+        }
+        Ok(lives)
+    }
+
+    /// The life of an event's document from there to the next event, if it is alive then. It costs
+    /// what `place` does.
+    fn life_from(&self, events: &[Event], i: usize, span: Span) -> Option<Life>
+        requires { i < length events.now }
+        ensures { (e : EventValue) → e ≡ slice_index_or events.now i e → MatchOption result
+            ((end_of e (drop (i + 1) events.now) span.to ≤ e.at.seconds) ⊎ (lived self.now.changes e.doc.0 e.at.seconds ≡ None))
+            (λ life. (life.doc.0 ≡ e.doc.0) × (life.span.from ≡ e.at.seconds) × (life.span.to ≡ end_of e (drop (i + 1) events.now) span.to)
+            × (lived self.now.changes e.doc.0 e.at.seconds ≡ Some tt)) }
+    {
+        let event = events[i];
+        let span = Span::new(event.at.seconds, end_of(events, i, span.to))?;
+        if self.alive_at(event.doc, event.at) {
+            Some(Life {
+                doc: event.doc,
+                span,
+            })
+        } else {
+            None
+        }
+    }
+}
+
+/// How many changes come at most at a time.
+fn up_to(changes: &[Change<TextPlace>], t: u64) -> usize
+    requires { IsNonDecreasingBy (λ c. c.at.seconds) changes.now }
+    ensures inside { result ≤ length changes.now }
+    ensures place { IsPartitionPoint (λ c. nat_le c.at.seconds t ≡ true) (λ c. nat_le c.at.seconds t ≡ false) changes.now result }
+{
+    changes.partition_point(|c| c.at.seconds <= t)
+}
+
+/// How many changes come before a time.
+fn before(changes: &[Change<TextPlace>], t: u64) -> usize
+    requires { IsNonDecreasingBy (λ c. c.at.seconds) changes.now }
+    ensures inside { result ≤ length changes.now }
+    ensures place { IsPartitionPoint (λ c. nat_lt c.at.seconds t ≡ true) (λ c. nat_lt c.at.seconds t ≡ false) changes.now result }
+{
+    changes.partition_point(|c| c.at.seconds < t)
+}
+
+/// The changes inside the span, behind its start. It costs two searches.
+fn within(changes: &[Change<TextPlace>], span: Span) -> &[Change<TextPlace>]
+    requires { IsNonDecreasingBy (λ c. c.at.seconds) changes.now }
+    ensures { (c : _) → Contains result.now c ↔ (Contains changes.now c × (span.from < c.at.seconds) × (c.at.seconds < span.to)) }
+{
+    let first = up_to(changes, span.from);
+    let late = &changes[first..];
+    let count = before(late, span.to);
+    &late[..count]
+}
+
+/// The events in a span, in order: one at its start for each of these documents, and one for each
+/// change behind that.
+fn turns(
+    alloc: Global,
+    changes: &[Change<TextPlace>],
+    docs: &[DocId],
+    start: Time,
+    span: Span,
+) -> Result<Vec<Event>, AllocError>
+    requires ascending { IsNonDecreasingBy (λ c. c.at.seconds) changes.now }
+    requires starts { start.seconds ≡ span.from }
+    ensures sorted { IfOk result (λ events. AreInOrder events.items) }
+    ensures turns { IfOk result (λ events. AreTurns changes.now docs.now span.from span.to events.items) }
+{
+    let mut events = starts(alloc, docs, start)?;
+    let later = moves(alloc, within(changes, span))?;
+    events.extend_from_slice(&later)?;
+    sort_events(&mut events);
+    Ok(events)
+}
+
+/// An event for each document, at one time.
+fn starts(alloc: Global, docs: &[DocId], at: Time) -> Result<Vec<Event>, AllocError>
+    ensures { IfOk result (λ events. events.items ≡ map (start_of at) docs.now) }
+{
+    docs.iter()
+        .map(|doc| Event { doc: *doc, at })
+        .collect(alloc)
+}
+
+/// An event for each change.
+fn moves(alloc: Global, changes: &[Change<TextPlace>]) -> Result<Vec<Event>, AllocError>
+    ensures { IfOk result (λ events. events.items ≡ map turn_of changes.now) }
+{
+    changes
+        .iter()
+        .map(|c| Event {
+            doc: c.doc,
+            at: c.at,
+        })
+        .collect(alloc)
+}
+
+/// Puts a life behind others, or joins it to the last one where it goes on there.
+fn note(lives: &mut Vec<Life>, life: Life) -> Result<(), AllocError>
+    ensures { OnOk result ((f : ℕ → ℕ → Option (Unit {0})) → AreLaid life_kind f lives.old.items
+        → IsBehind life_kind f life → AreLaid life_kind (with_row life_kind f life) lives.new.items) }
+{
+    let Some(last) = lives.pop() else {
+        lives.push(life)?;
+        return Ok(());
+    };
+    if goes_on(&last, &life) {
+        lives.push(joined(&last, &life))?;
+        return Ok(());
+    }
+    lives.push(last)?;
+    lives.push(life)?;
+    Ok(())
+}
+
+/// Whether a life goes on where the last one ends.
+fn goes_on(last: &Life, life: &Life) -> bool
+    ensures { IsTrue result ↔ Continues life_kind last.now life.now }
+{
+    last.doc == life.doc && last.span.to == life.span.from
+}
+
+/// The last life and the one that goes on where it ends, in one.
+fn joined(last: &Life, life: &Life) -> Life
+    requires { Continues life_kind last.now life.now }
+    ensures { IsJoined life_kind last.now life.now result }
+{
+    Life {
+        doc: last.doc,
+        span: Span {
+            from: last.span.from,
+            to: life.span.to,
+        },
+    }
+}
