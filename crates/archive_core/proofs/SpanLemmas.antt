@@ -1,7 +1,6 @@
--- The answer over a window by the whole lists of a query's words is the history's.
-use Rattle.std.proofs.Common.{◌≡◌, ◌⊎◌, ◌↔◌, ℕ, ◌-◌, ◌<◌, ◌≤◌, ◌^◌, Bool, true, false, ◌&&◌, if◌then◌else◌, List, length, Option, Some, None, Result, Ok, Err, IfOk, IsTrue, IsSome, is_some, refl, ap, sym, ◌∙◌, inl, inr, arith}
+-- The answer over a window by what the lists of a query's words have in it is the history's.
+use Rattle.std.proofs.Common.{◌≡◌, ◌↔◌, ℕ, ◌-◌, ◌<◌, ◌≤◌, ◌^◌, Bool, true, false, ◌&&◌, if◌then◌else◌, List, length, Option, Some, None, Result, Ok, Err, IfOk, IsTrue, IsSome, is_some, refl, ap, sym, ◌∙◌, inl, inr, arith}
 use Rattle.std.proofs.lemmas.Bool.{cases_lt}
-use Rattle.std.specs.Option.{option_map}
 use Rattle.machine_model.specs.States.{DiskState}
 use Rattle.time_base.specs.declared.ids.DocId.{DocId}
 use Rattle.time_base.specs.declared.time.Span.{Span}
@@ -31,8 +30,8 @@ use Rattle.archive_state.specs.Steps.{Refused, Spanned, Spans}
 use Rattle.archive_state.proofs.TurnLemmas.{each_spans}
 use Rattle.archive_core.specs.States.{ArchiveState, StandsFor, IsKept}
 use Rattle.archive_core.specs.Takes.{Starved, Faulted, Takes, spanned}
-use Rattle.archive_core.specs.Texts.{nothing, bare}
-use Rattle.archive_core.specs.Whole.{AreWholeLists}
+use Rattle.archive_core.specs.Texts.{nothing}
+use Rattle.archive_core.specs.Parts.{ArePartsIn}
 use Rattle.archive_core.specs.declared.error.AskError.{AskError}
 use Rattle.archive_core.specs.declared.error.AskError.TheVariants as asks
 use Rattle.archive_core.proofs.AnswerLemmas.{told_is}
@@ -84,20 +83,20 @@ alive_is a h doc t stands =
     ∙ ap is_some (held_at-mapped (nothing {A = List ℕ}) doc t (changes h)) ∙ is_some-mapped (nothing {A = List ℕ}) (text_at h doc t)
 
 -- the score by the lives and the lists
-scored_is : (h : History) (query : Query) (parts : List Part) (lives : List Life) (doc : DocId) (t : ℕ) → t < 2 ^ 40 → AreWholeLists h (words_of query) parts
+scored_is : (a b : ℕ) (h : History) (query : Query) (parts : List Part) (lives : List Life) (doc : DocId) (t : ℕ) → a ≤ t → t < b → t < 2 ^ 40 → ArePartsIn a b h (words_of query) parts
     → is_alive lives doc.0 t ≡ is_some (text_at h doc t)
     → scored_at (λ doc t. is_alive lives doc.0 t) (λ doc t. told (words_of query) parts t doc.0) query doc.0 t
     ≡ scored_at (λ doc t. is_some (text_at h doc t)) (λ doc t word. frequency_at h word doc t) query doc.0 t
-scored_is h query parts lives doc t before whole alive =
+scored_is a b h query parts lives doc t from to before whole alive =
     let f = told (words_of query) parts t doc.0 in
     let g = λ (word : List ℕ). frequency_at h word doc t in
-    let each = λ (k : ℕ) (d : List ℕ) (within : k < length (words_of query)). told_is h (words_of query) parts doc t k d before whole within in
+    let each = λ (k : ℕ) (d : List ℕ) (within : k < length (words_of query)). told_is a b h (words_of query) parts doc t k d from to before whole within in
     ap (λ (b : Bool). if (b && matches query f) then Some (score query f) else None) alive
     ∙ ap (λ (b : Bool). if (is_some (text_at h doc t) && b) then Some (score query f) else None) (matches-same f g query (agreeing f g query each))
     ∙ ap (λ (n : ℕ). if (is_some (text_at h doc t) && matches query g) then Some n else None) (score-same f g query each)
 
 -- over all lives in the window
-pub by_lives : (a : ArchiveState) (h : History) (span : Span) (query : Query) (parts : List Part) (lives : List Life) (rows : List SpanRow) → StandsFor a h → AreWholeLists h (words_of query) parts
+pub by_lives : (a : ArchiveState) (h : History) (span : Span) (query : Query) (parts : List Part) (lives : List Life) (rows : List SpanRow) → StandsFor a h → ArePartsIn span.from span.to h (words_of query) parts
     → ((doc : DocId) (t : ℕ) → span.from ≤ t → t < span.to → IsTrue (is_alive lives doc.0 t) ↔ IsSome (held_at doc t a.changes))
     → IsSpanAnswer (λ doc t. is_alive lives doc.0 t) (λ doc t. told (words_of query) parts t doc.0) query span.from span.to rows
     → IsSpanAnswerAt h span.from span.to query rows
@@ -108,7 +107,7 @@ by_lives a h span query parts lives rows stands whole lived answer =
     span.from span.to
     (λ d t from to.
     let doc : DocId = record { 0 = d } in
-    scored_is h query parts lives doc t (omega (arith, to, span.in_time)) whole
+    scored_is span.from span.to h query parts lives doc t from to (omega (arith, to, span.in_time)) whole
     (same_truth (is_alive lives d t) (is_some (held_at doc t a.changes)) (lived doc t from to) ∙ alive_is a h doc t stands))
     rows answer
 

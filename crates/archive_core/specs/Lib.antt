@@ -5,4 +5,4 @@ pub mod Adding
 pub mod Replaying
 pub mod Causes
 pub mod Takes
-pub mod Whole
+pub mod Parts

@@ -1,8 +1,9 @@
 //! What an archive is asked: the text of a document at a time, and what a query finds.
-ghost use Rattle.std.specs.Prelude.{◌≡◌, ◌⊎◌, ◌≤◌, ◌^◌, ◌++◌, ◌∷◌, [], ℕ, Ok, Err, length, IsOk, IfOk, OnOk, IsErrOf, option_map};
+ghost use Rattle.std.specs.Prelude.{◌≡◌, ◌⊎◌, ◌≤◌, ◌+◌, ◌^◌, ◌++◌, ◌∷◌, [], ℕ, Ok, Err, length, IsOk, IfOk, OnOk, IsErrOf, option_map};
 ghost use Rattle.machine_model.specs.Causes.{Rose};
 ghost use Rattle.machine_model.specs.Calls.{OnlyReads};
 ghost use Rattle.machine_model.specs.States.{DiskState};
+ghost use Rattle.postings.specs.Lists.{sublist};
 ghost use Rattle.query_lang.specs.Grammar.{Query as Meaning, IsRead};
 ghost use Rattle.query_lang.specs.Meaning.{words_of};
 ghost use Rattle.query_lang.specs.Tokens.{key_of};
@@ -13,7 +14,7 @@ ghost use Rattle.archive_state.specs.Answers.{IsAnswerAt};
 ghost use Rattle.archive_state.specs.Steps.{Found, Finds};
 ghost use Rattle.archive_core.specs.States.{StandsFor, IsKept, Reaches};
 ghost use Rattle.archive_core.specs.Takes.{Takes, found, shown};
-ghost use Rattle.archive_core.specs.Whole.{AreWholeLists};
+ghost use Rattle.archive_core.specs.Parts.{ArePartsIn};
 ghost use Rattle.commands.specs.declared.command.Command.TheVariants as commands;
 ghost use Rattle.commands.specs.declared.command.Item.TheVariants as items;
 
@@ -23,10 +24,11 @@ use crate::texts::read_text;
 use archive_state::Refusal;
 use commands::Phrase;
 use machine_model::Disk;
+use postings::overlap;
 use query_eval::{Answer, Part, answer_by_hits, answer_from};
 use query_lang::{Query, QueryError};
 use std::alloc::{AllocError, Global};
-use time_base::{DocId, Key, Posting, Time};
+use time_base::{DocId, Key, Posting, Span, Time};
 
 impl Archive {
     /// What a query finds as of a time: the rows of the documents alive then that match, and how many
@@ -54,12 +56,12 @@ impl Archive {
         ensures found { (h : History) → StandsFor self.now h → IfOk result (λ answer. Finds h at expr.now (Found answer.rows.items answer.read)) }
     {
         let query = query_of(alloc, expr)?;
-        let parts = self.parts_of(alloc, query.words())?;
+        let parts = self.parts_of(alloc, query.words(), moment(at))?;
         let answer = self.answer_by(alloc, &query, at, &parts)?;
         Ok(answer)
     }
 
-    /// The answer to a query by the whole lists of its words.
+    /// The answer to a query by what the lists of its words have at the time.
     fn answer_by(
         &self,
         alloc: Global,
@@ -69,7 +71,7 @@ impl Archive {
     ) -> Result<Answer, AllocError>
         requires { length parts.now ≡ length (words_of query.now) }
         ensures read { IfOk result (λ answer. answer.read ≡ read_of parts.now) }
-        ensures rows { (h : History) → StandsFor self.now h → AreWholeLists h (words_of query.now) parts.now →
+        ensures rows { (h : History) → StandsFor self.now h → ArePartsIn at.seconds (at.seconds + 1) h (words_of query.now) parts.now →
             IfOk result (λ answer. IsAnswerAt h at.seconds query.now answer.rows.items) }
     {
         if query.matches_without_words() {
@@ -81,14 +83,19 @@ impl Archive {
         Ok(answer)
     }
 
-    /// The whole lists of words, in order. Costs their postings.
-    pub(crate) fn parts_of(&self, alloc: Global, words: &[Key]) -> Result<Vec<Part>, AllocError>
+    /// What the lists of words have in a window, in order. Costs the lists' postings.
+    pub(crate) fn parts_of(
+        &self,
+        alloc: Global,
+        words: &[Key],
+        span: Span,
+    ) -> Result<Vec<Part>, AllocError>
         ensures many { IfOk result (λ parts. length parts.items ≡ length words.now) }
-        ensures whole { (h : History) → StandsFor self.now h → IfOk result (λ parts. AreWholeLists h words.now parts.items) }
+        ensures parts { (h : History) → StandsFor self.now h → IfOk result (λ parts. ArePartsIn span.from span.to h words.now parts.items) }
     {
         let mut parts = Vec::new(alloc);
         for word in words {
-            put_whole(alloc, &mut parts, self.index().list(word))?;
+            put_part(alloc, &mut parts, self.index().list(word), span)?;
         }
         Ok(parts)
     }
@@ -153,14 +160,30 @@ pub(crate) fn query_of(alloc: Global, expr: &Phrase) -> Result<Query, AskError>
     }
 }
 
-/// Puts a list behind others, as a part that is read whole.
-fn put_whole(alloc: Global, parts: &mut Vec<Part>, list: &[Posting]) -> Result<(), AllocError>
+/// Puts what a list has in a window behind other parts; the whole list is read for it.
+fn put_part(
+    alloc: Global,
+    parts: &mut Vec<Part>,
+    list: &[Posting],
+    span: Span,
+) -> Result<(), AllocError>
     requires { length list.now ≤ 2 ^ 40 }
     ensures { OnOk result ((part : PartValue) × (parts.new.items ≡ parts.old.items ++ part ∷ [])
-        × (part.list.items ≡ list.now) × (part.read ≡ length list.now)) }
+        × (part.list.items ≡ sublist span.from span.to list.now) × (part.read ≡ length list.now)) }
 {
     let read = list.len() as u64;
-    let list = Vec::from_slice(alloc, list)?;
+    let list = overlap(alloc, list, span)?;
     parts.push(Part { list, read })?;
     Ok(())
+}
+
+/// The window of one second.
+fn moment(t: Time) -> Span
+    ensures from { result.from ≡ t.seconds }
+    ensures to { result.to ≡ t.seconds + 1 }
+{
+    Span {
+        from: t.seconds,
+        to: t.seconds + 1,
+    }
 }

@@ -10,7 +10,7 @@ ghost use Rattle.archive_state.specs.Answers.{IsSpanAnswerAt};
 ghost use Rattle.archive_state.specs.Steps.{Spanned, Spans};
 ghost use Rattle.archive_core.specs.States.{StandsFor, IsKept};
 ghost use Rattle.archive_core.specs.Takes.{Takes, spanned};
-ghost use Rattle.archive_core.specs.Whole.{AreWholeLists};
+ghost use Rattle.archive_core.specs.Parts.{ArePartsIn};
 ghost use Rattle.commands.specs.declared.command.Command.TheVariants as commands;
 ghost use Rattle.commands.specs.declared.command.Item.TheVariants as items;
 
@@ -56,12 +56,12 @@ impl Archive {
         ensures spans { (h : History) → StandsFor self.now h → IfOk result (λ answer. Spans h span expr.now (Spanned answer.rows.items answer.read)) }
     {
         let query = query_of(alloc, expr)?;
-        let parts = self.parts_of(alloc, query.words())?;
+        let parts = self.parts_of(alloc, query.words(), span)?;
         let answer = self.span_answer_by(alloc, &query, span, &parts)?;
         Ok(answer)
     }
 
-    /// The answer to a query over a window by the whole lists of its words.
+    /// The answer to a query over a window by what the lists of its words have in it.
     fn span_answer_by(
         &self,
         alloc: Global,
@@ -71,7 +71,7 @@ impl Archive {
     ) -> Result<SpanAnswer, AllocError>
         requires { length parts.now ≡ length (words_of query.now) }
         ensures read { IfOk result (λ answer. answer.read ≡ read_of parts.now) }
-        ensures rows { (h : History) → StandsFor self.now h → AreWholeLists h (words_of query.now) parts.now →
+        ensures rows { (h : History) → StandsFor self.now h → ArePartsIn span.from span.to h (words_of query.now) parts.now →
             IfOk result (λ answer. IsSpanAnswerAt h span.from span.to query.now answer.rows.items) }
     {
         let lives = self.directory().lives(alloc, span)?;
