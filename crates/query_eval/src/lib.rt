@@ -27,3 +27,5 @@ pub use spans::{SpanAnswer, SpanRow, answer_between, answer_over, parts_between}
 mod span_tests;
 #[cfg(test)]
 mod tests;
+#[cfg(test)]
+mod tree_tests;
