@@ -1,17 +1,20 @@
 -- Each item has one turn: from a legal history to a legal one.
-use Rattle.std.proofs.Common.{subst, sym, ◌≡◌, ℕ, ◌+◌, ◌<◌, ◌≤◌, ◌^◌, Bool, true, false, not, nat_lt, List, [], ◌∷◌, ◌++◌, length, All, Contains, Option, Some, None, IsSome, is_some, Result, Ok, Err, refl, ap, arith, unwrap_or, ◌∙◌}
+use Rattle.std.proofs.Common.{subst, sym, ◌≡◌, ℕ, ◌+◌, ◌<◌, ◌≤◌, ◌^◌, Bool, true, false, not, nat_lt, List, [], ◌∷◌, ◌++◌, length, All, Contains, Option, Some, None, IsSome, is_some, Result, Ok, Err, refl, ap, arith, unwrap_or, ◌∙◌, inl, inr}
 use Rattle.std.specs.Str.{is_utf8}
 use Rattle.std.specs.Option.{option_map}
 use Rattle.std.proofs.lemmas.Bool.{ltb-false}
 use Rattle.std.proofs.lemmas.Str.{IsUtf8-from_is_utf8}
 use Rattle.std.proofs.lemmas.List.Elements.{All-nil, All-cons, All-weaker}
+use Rattle.time_base.specs.declared.fraction.Fraction.{Fraction}
 use Rattle.time_base.specs.declared.ids.DocId.{DocId}
 use Rattle.time_base.specs.declared.time.Span.{Span}
 use Rattle.time_base.specs.declared.time.Time.{Time}
 use Rattle.time_base.specs.declared.posting.Posting.{Posting}
 use Rattle.postings.proofs.Existence.{each_has_a_list}
 use Rattle.postings.proofs.Clipping.{one_list_of}
-use Rattle.fold_tokens.specs.Terms.{occurrences}
+use Rattle.proposals.specs.declared.proposal.Node.{Node}
+use Rattle.proposals.proofs.Pieces.{each_has_a_proposal, differ_in_segments}
+use Rattle.fold_tokens.specs.Terms.{occurrences, one_term}
 use Rattle.fold_tokens.proofs.FrequencyLemmas.{occurrences-le}
 use Rattle.version_store.specs.declared.change.Change.{Change}
 use Rattle.version_store.specs.Changes.{valid_at}
@@ -45,9 +48,12 @@ use Rattle.commands.specs.declared.command.Command.TheVariants as commands
 use Rattle.commands.specs.declared.command.Item.{Item}
 use Rattle.commands.specs.declared.command.Item.TheVariants as items
 use Rattle.commands.specs.declared.text.Text.TheVariants as texts
-use Rattle.archive_state.specs.Steps.{Reply, Accepted, Refused, Found, Spanned, Shown, Adds, Declines, IsRepliedBy, IsReplied, Finds, FindsBy, Spans, SpansBy, CarriesOut, Step, too_long, bad_text, full_journal, arrival_refusal, deletion_refusal}
+use Rattle.archive_state.specs.Steps.{Reply, Accepted, Refused, Found, Spanned, Shown, Proposed, Adds, Declines, IsRepliedBy, IsReplied, Finds, FindsBy, Spans, SpansBy, Proposes, ProposesPlan, CarriesOut, Step, too_long, bad_text, full_journal, arrival_refusal, deletion_refusal}
 use Rattle.archive_state.specs.Runs.{Turn}
 use Rattle.archive_state.proofs.HistoryLemmas.{legal-push}
+use Rattle.archive_state.proofs.PlanningLemmas.{each_phrase, one_phrase, last_in_time}
+use Rattle.archive_state.specs.Choices.{IsChoice, SameButSegments}
+use Rattle.archive_state.specs.Planning.{last_second, IsListUpTo}
 
 -- where no test finds a cause, the first finds none, nor do the others
 none_found : {W : Type 0} (o : Option W) (tests : List (Option W)) → first_of (o ∷ tests) ≡ None → (o ≡ None) × (first_of tests ≡ None)
@@ -164,6 +170,20 @@ each_spanned h span legal query =
 pub each_spans : (h : History) (span : Span) (text : List ℕ) → IsLegal h → (reply : Reply) × Spans h span text reply
 each_spans h span text legal = each_text (SpansBy h span) (each_spanned h span legal) text
 
+-- each proposal is answered
+each_list_up_to : (h : History) (word : List ℕ) (last : ℕ) → last ≤ 2 ^ 40 → IsLegal h → (list : List Posting) × IsListUpTo h word last list
+each_list_up_to h word last in_time legal =
+    each_has_a_list (λ d t. frequency_at h word (record { 0 = d }) t) 0 last in_time (λ d t. frequency_few h word (record { 0 = d }) t legal) (λ d t far. frequency_none h word d t legal far)
+
+pub each_proposes : (h : History) (phrase : List ℕ) (factor : Fraction) → IsLegal h → (reply : Reply) × Proposes h phrase factor reply
+each_proposes h phrase factor legal =
+    each_phrase h (λ (r : Reply) why. r ≡ Refused why) (λ (r : Reply) word list. ProposesPlan factor (last_second h) list r) (λ why. (Refused why, refl))
+    (λ word. each_list_up_to h word (last_second h) (last_in_time h) legal)
+    (λ word list is.
+    let (segments, (nodes, (total, proposal))) = each_has_a_proposal list factor (last_second h) (last_in_time h) (All-weaker (λ p. (0 ≤ p.span.from) × (p.span.to ≤ last_second h)) (λ p. p.span.to ≤ last_second h) (λ p in_it. in_it.1) list is.inside) in
+    (Proposed segments nodes total, (segments, nodes, total, proposal, refl)))
+    (one_term phrase)
+
 declines_turn : (h : History) (why : Refusal) → (turn : Turn Reply History) × Declines h why turn.reply turn.next
 declines_turn h why = (record { reply = Refused why; next = h }, (refl, refl))
 
@@ -176,7 +196,9 @@ each_command h (commands.Find at expr) legal =
     (record { reply = found.0; next = h }, (refl, found.1))
 each_command h (commands.Show doc at) legal = (record { reply = Shown (text_at h doc at.seconds); next = h }, (refl, refl))
 each_command h (commands.Plan word kind fraction) legal = declines_turn h refusals.Line
-each_command h (commands.Propose word fraction) legal = declines_turn h refusals.Line
+each_command h (commands.Propose word fraction) legal =
+    let proposed = each_proposes h word fraction legal in
+    (record { reply = proposed.0; next = h }, (refl, proposed.1))
 each_command h (commands.Between span expr) legal =
     let found = each_spans h span expr legal in
     (record { reply = found.0; next = h }, (refl, found.1))
@@ -256,24 +278,49 @@ one_spanned h span query reply other a b =
 one_spans : (h : History) (span : Span) (text : List ℕ) (reply other : Reply) → Spans h span text reply → Spans h span text other → reply ≡ other
 one_spans h span text = one_text (SpansBy h span) (one_spanned h span) text
 
+one_proposes : (h : History) (phrase : List ℕ) (factor : Fraction) (reply other : Reply) → Proposes h phrase factor reply → Proposes h phrase factor other → SameButSegments reply other
+one_proposes h phrase factor reply other =
+    one_phrase h (SameButSegments reply other) (λ why. reply ≡ Refused why) (λ why. other ≡ Refused why) (λ word list. ProposesPlan factor (last_second h) list reply) (λ word list. ProposesPlan factor (last_second h) list other)
+    (λ why a b. inl (a ∙ sym b))
+    (λ word list a b.
+    let same = differ_in_segments list factor (last_second h) a.0 b.0 a.1 b.1 a.2 b.2 a.3 b.3 in
+    inr (a.0, b.0, a.1, a.2, a.4, b.4 ∙ ap (λ (ns : List Node). Proposed b.0 ns b.2) (sym same.0) ∙ ap (λ (n : ℕ). Proposed b.0 a.1 n) (sym same.1)))
+    (one_term phrase)
+
 one_stays : (h : History) (reply other : Reply) (next then : History) → next ≡ h → then ≡ h → reply ≡ other → IsOne reply other next then
 one_stays h reply other next then a b same = (same, a ∙ sym b)
 
 one_declines : (h : History) (why : Refusal) (reply other : Reply) (next then : History) → Declines h why reply next → Declines h why other then → IsOne reply other next then
 one_declines h why reply other next then a b = one_stays h reply other next then a.0 b.0 (a.1 ∙ sym b.1)
 
-one_command : (h : History) (c : Command) (reply other : Reply) (next then : History) → CarriesOut h c reply next → CarriesOut h c other then → IsOne reply other next then
-one_command h (commands.Arrive doc at (texts.Bytes text)) reply other next then a b = one_adds h (entries.Arrive doc at text) (arrival_refusal h doc at text) reply other next then a b
-one_command h (commands.Arrive doc at (texts.TooLong bytes)) reply other next then a b = one_declines h (refusals.TooLong most_text) reply other next then a b
-one_command h (commands.Delete doc at) reply other next then a b = one_adds h (entries.Delete doc at) (deletion_refusal h doc at) reply other next then a b
-one_command h (commands.Find at expr) reply other next then a b = one_stays h reply other next then a.0 b.0 (one_finds h at expr reply other a.1 b.1)
-one_command h (commands.Show doc at) reply other next then a b = one_stays h reply other next then a.0 b.0 (a.1 ∙ sym b.1)
-one_command h (commands.Plan word kind fraction) reply other next then a b = one_declines h refusals.Line reply other next then a b
-one_command h (commands.Propose word fraction) reply other next then a b = one_declines h refusals.Line reply other next then a b
-one_command h (commands.Between span expr) reply other next then a b = one_stays h reply other next then a.0 b.0 (one_spans h span expr reply other a.1 b.1)
-one_command h (commands.Certificate word) reply other next then a b = one_declines h refusals.Line reply other next then a b
-one_command h commands.Verify reply other next then a b = one_declines h refusals.Line reply other next then a b
+same_turn : {reply other : Reply} {next then : History} → IsOne reply other next then → SameButSegments reply other × (next ≡ then)
+same_turn one = (inl one.0, one.1)
 
-pub one_turn_only : (h : History) (item : Item) (reply other : Reply) (next then : History) → Step h item reply next → Step h item other then → IsOne reply other next then
-one_turn_only h (items.Command c) reply other next then a b = one_command h c reply other next then a b
-one_turn_only h items.Line reply other next then a b = one_declines h refusals.Line reply other next then a b
+one_command : (h : History) (c : Command) (reply other : Reply) (next then : History) → (IsChoice (items.Command c) → ⊥) → CarriesOut h c reply next → CarriesOut h c other then → IsOne reply other next then
+one_command h (commands.Arrive doc at (texts.Bytes text)) reply other next then free a b = one_adds h (entries.Arrive doc at text) (arrival_refusal h doc at text) reply other next then a b
+one_command h (commands.Arrive doc at (texts.TooLong bytes)) reply other next then free a b = one_declines h (refusals.TooLong most_text) reply other next then a b
+one_command h (commands.Delete doc at) reply other next then free a b = one_adds h (entries.Delete doc at) (deletion_refusal h doc at) reply other next then a b
+one_command h (commands.Find at expr) reply other next then free a b = one_stays h reply other next then a.0 b.0 (one_finds h at expr reply other a.1 b.1)
+one_command h (commands.Show doc at) reply other next then free a b = one_stays h reply other next then a.0 b.0 (a.1 ∙ sym b.1)
+one_command h (commands.Plan word kind fraction) reply other next then free a b = one_declines h refusals.Line reply other next then a b
+one_command h (commands.Propose word fraction) reply other next then free a b = absurd (free tt)
+one_command h (commands.Between span expr) reply other next then free a b = one_stays h reply other next then a.0 b.0 (one_spans h span expr reply other a.1 b.1)
+one_command h (commands.Certificate word) reply other next then free a b = one_declines h refusals.Line reply other next then a b
+one_command h commands.Verify reply other next then free a b = one_declines h refusals.Line reply other next then a b
+
+pub one_turn_only : (h : History) (item : Item) (reply other : Reply) (next then : History) → (IsChoice item → ⊥) → Step h item reply next → Step h item other then → IsOne reply other next then
+one_turn_only h (items.Command c) reply other next then free a b = one_command h c reply other next then free a b
+one_turn_only h items.Line reply other next then free a b = one_declines h refusals.Line reply other next then a b
+
+-- also where it may choose, but for the segments of a proposal
+pub one_but_segments : (h : History) (item : Item) (reply other : Reply) (next then : History) → Step h item reply next → Step h item other then → SameButSegments reply other × (next ≡ then)
+one_but_segments h (items.Command (commands.Propose word fraction)) reply other next then a b = (one_proposes h word fraction reply other a.1 b.1, a.0 ∙ sym b.0)
+one_but_segments h (items.Command (commands.Arrive doc at text)) reply other next then a b = same_turn (one_command h (commands.Arrive doc at text) reply other next then (λ x. x) a b)
+one_but_segments h (items.Command (commands.Delete doc at)) reply other next then a b = same_turn (one_command h (commands.Delete doc at) reply other next then (λ x. x) a b)
+one_but_segments h (items.Command (commands.Find at expr)) reply other next then a b = same_turn (one_command h (commands.Find at expr) reply other next then (λ x. x) a b)
+one_but_segments h (items.Command (commands.Show doc at)) reply other next then a b = same_turn (one_command h (commands.Show doc at) reply other next then (λ x. x) a b)
+one_but_segments h (items.Command (commands.Plan word kind fraction)) reply other next then a b = same_turn (one_command h (commands.Plan word kind fraction) reply other next then (λ x. x) a b)
+one_but_segments h (items.Command (commands.Between span expr)) reply other next then a b = same_turn (one_command h (commands.Between span expr) reply other next then (λ x. x) a b)
+one_but_segments h (items.Command (commands.Certificate word)) reply other next then a b = same_turn (one_command h (commands.Certificate word) reply other next then (λ x. x) a b)
+one_but_segments h (items.Command commands.Verify) reply other next then a b = same_turn (one_command h commands.Verify reply other next then (λ x. x) a b)
+one_but_segments h items.Line reply other next then a b = same_turn (one_declines h refusals.Line reply other next then a b)

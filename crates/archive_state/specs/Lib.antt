@@ -1,5 +1,7 @@
 pub mod Answers
+pub mod Choices
 pub mod Histories
+pub mod Planning
 pub mod Refusals
 pub mod Replies
 pub mod Rows

@@ -13,8 +13,12 @@ number_of refusals.SameTime = 3
 number_of refusals.NoDocument = 4
 number_of (refusals.TooLong limit) = 5
 number_of (refusals.BadText offset) = 6
+number_of refusals.NotOneTerm = 7
+number_of refusals.NothingSealed = 8
+number_of (refusals.TooWide boundaries) = 9
 number_of (refusals.Full which limit) = 10
 number_of (refusals.BadQuery offset) = 11
+number_of refusals.UnknownWord = 13
 
 -- a refusal of the directory of versions, as one of the archive
 abbrev pub refusal_of : VersionRefusal → Refusal

@@ -4,12 +4,14 @@ use Rattle.std.specs.List.{flat_map}
 use Rattle.std.specs.Fmt.{decimal}
 use Rattle.time_base.specs.declared.which.Which.{Which}
 use Rattle.time_base.specs.declared.which.Which.TheVariants.{Documents, Versions, Words, Journal, Pages}
+use Rattle.proposals.specs.declared.proposal.Node.{Node}
+use Rattle.proposals.specs.declared.proposal.Segment.{Segment}
 use Rattle.query_eval.specs.declared.answer.Row.{Row}
 use Rattle.query_eval.specs.declared.spans.SpanRow.{SpanRow}
 use Rattle.archive_state.specs.declared.refusal.Refusal.{Refusal}
 use Rattle.archive_state.specs.declared.refusal.Refusal.TheVariants as refusals
 use Rattle.archive_state.specs.Refusals.{number_of}
-use Rattle.archive_state.specs.Steps.{Reply, Accepted, Refused, Found, Spanned, Shown}
+use Rattle.archive_state.specs.Steps.{Reply, Accepted, Refused, Found, Spanned, Shown, Proposed}
 
 -- the name of a limit in a reply
 abbrev pub which_text : Which → List ℕ
@@ -27,8 +29,12 @@ detail_text refusals.SameTime = codes "SameTime"
 detail_text refusals.NoDocument = codes "NoDocument"
 detail_text (refusals.TooLong limit) = codes "TooLong " ++ decimal limit
 detail_text (refusals.BadText offset) = codes "BadText " ++ decimal offset
+detail_text refusals.NotOneTerm = codes "NotOneTerm"
+detail_text refusals.NothingSealed = codes "NothingSealed"
+detail_text (refusals.TooWide boundaries) = codes "TooWide " ++ decimal boundaries
 detail_text (refusals.Full which limit) = codes "Full " ++ which_text which ++ codes " " ++ decimal limit
 detail_text (refusals.BadQuery offset) = codes "BadQuery " ++ decimal offset
+detail_text refusals.UnknownWord = codes "UnknownWord"
 
 abbrev pub refusal_text : Refusal → List ℕ
 refusal_text why = codes "no " ++ decimal (number_of why) ++ codes " " ++ detail_text why ++ 10 ∷ []
@@ -58,6 +64,22 @@ abbrev pub shown_text : Option (List ℕ) → List ℕ
 shown_text None = codes "none" ++ 10 ∷ []
 shown_text (Some text) = codes "text " ++ decimal (length text) ++ 10 ∷ text ++ 10 ∷ []
 
+-- the line of a segment: its first second and the one behind its last, and the size of its sublist
+abbrev pub segment_text : Segment → List ℕ
+segment_text s = codes "segment " ++ decimal s.span.from ++ codes " " ++ decimal s.span.to ++ codes " " ++ decimal s.size ++ 10 ∷ []
+
+-- the line of a boundary: its time, and the least space up to there
+abbrev pub node_text : Node → List ℕ
+node_text n = codes "node " ++ decimal n.at ++ codes " " ++ decimal n.pi ++ 10 ∷ []
+
+-- how many segments there are, and the space that they take
+abbrev pub space_text : ℕ → ℕ → List ℕ
+space_text segments total = codes "end " ++ decimal segments ++ codes " space " ++ decimal total ++ 10 ∷ []
+
+-- a line for each segment and for each boundary, and the end
+abbrev pub proposal_text : List Segment → List Node → ℕ → List ℕ
+proposal_text segments nodes total = (flat_map segment_text segments ++ flat_map node_text nodes) ++ space_text (length segments) total
+
 -- the text of a reply
 abbrev pub reply_text : Reply → List ℕ
 reply_text (Accepted count) = codes "ok " ++ decimal count ++ 10 ∷ []
@@ -65,3 +87,4 @@ reply_text (Refused why) = refusal_text why
 reply_text (Found rows read) = answer_text rows read
 reply_text (Spanned rows read) = spans_text rows read
 reply_text (Shown text) = shown_text text
+reply_text (Proposed segments nodes total) = proposal_text segments nodes total

@@ -3,7 +3,9 @@ use Rattle.std.specs.Prelude.{◌≡◌, ℕ, nat_lt, not, List, [], ◌∷◌, 
 use Rattle.std.specs.Str.{is_utf8}
 use Rattle.std.specs.Str.Lossy.{utf8_valid_len}
 use Rattle.time_base.specs.Limits.{limit_of}
+use Rattle.time_base.specs.declared.fraction.Fraction.{Fraction}
 use Rattle.time_base.specs.declared.ids.DocId.{DocId}
+use Rattle.time_base.specs.declared.posting.Posting.{Posting}
 use Rattle.time_base.specs.declared.time.Span.{Span}
 use Rattle.time_base.specs.declared.time.Time.{Time}
 use Rattle.time_base.specs.declared.which.Which.TheVariants.{Journal}
@@ -17,6 +19,10 @@ use Rattle.version_store.specs.Tests.{first_of, when}
 use Rattle.record_codec.specs.Spelling.{most_text}
 use Rattle.record_codec.specs.declared.entry.Entry.{Entry}
 use Rattle.record_codec.specs.declared.entry.Entry.TheVariants as entries
+use Rattle.fold_tokens.specs.Terms.{one_term}
+use Rattle.proposals.specs.Proposals.{IsProposal}
+use Rattle.proposals.specs.declared.proposal.Node.{Node}
+use Rattle.proposals.specs.declared.proposal.Segment.{Segment}
 use Rattle.query_lang.specs.Grammar.{Query, IsRead}
 use Rattle.query_lang.specs.Meaning.{words_of}
 use Rattle.query_lang.specs.Tokens.{key_of}
@@ -26,6 +32,7 @@ use Rattle.archive_state.specs.declared.refusal.Refusal.{Refusal}
 use Rattle.archive_state.specs.declared.refusal.Refusal.TheVariants as refusals
 use Rattle.archive_state.specs.Histories.{History, entry_refusal, end_of, text_at}
 use Rattle.archive_state.specs.Answers.{IsAnswerAt, IsSpanAnswerAt, IsReadFor}
+use Rattle.archive_state.specs.Planning.{OfPhrase, last_second}
 
 -- what an item is answered
 pub data Reply : Type 0 where
@@ -38,6 +45,8 @@ pub data Reply : Type 0 where
   Spanned : List SpanRow → ℕ → Reply
   -- the text, if the document is alive then
   Shown : Option (List ℕ) → Reply
+  -- the segments of a plan with their sizes, the boundaries with the least space up to each, and the plan's space
+  Proposed : List Segment → List Node → ℕ → Reply
 
 -- the text has more bytes than a text may have
 abbrev pub too_long : List ℕ → Option Refusal
@@ -91,6 +100,15 @@ SpansBy history span query reply =
 abbrev pub Spans : History → Span → List ℕ → Reply → Type 0
 Spans history span text reply = IsReplied (SpansBy history span) text reply
 
+-- What is proposed for a phrase: a least plan of its word's list up to the last time, whatever the tests don't refuse.
+abbrev pub ProposesPlan : Fraction → ℕ → List Posting → Reply → Type 0
+ProposesPlan factor horizon list reply =
+    (segments : List Segment) × (nodes : List Node) × (total : ℕ) × IsProposal list factor horizon segments nodes total × (reply ≡ Proposed segments nodes total)
+
+abbrev pub Proposes : History → List ℕ → Fraction → Reply → Type 0
+Proposes history phrase factor reply =
+    OfPhrase history (one_term phrase) (λ why. reply ≡ Refused why) (λ word list. ProposesPlan factor (last_second history) list reply)
+
 -- a command that is refused changes nothing
 abbrev pub Declines : History → Refusal → Reply → History → Type 0
 Declines old why reply new = (new ≡ old) × (reply ≡ Refused why)
@@ -108,7 +126,7 @@ CarriesOut old (commands.Delete doc at) reply new = Adds old (entries.Delete doc
 CarriesOut old (commands.Find at expr) reply new = (new ≡ old) × Finds old at expr reply
 CarriesOut old (commands.Show doc at) reply new = (new ≡ old) × (reply ≡ Shown (text_at old doc at.seconds))
 CarriesOut old (commands.Plan word kind fraction) reply new = Declines old refusals.Line reply new
-CarriesOut old (commands.Propose word fraction) reply new = Declines old refusals.Line reply new
+CarriesOut old (commands.Propose word fraction) reply new = (new ≡ old) × Proposes old word fraction reply
 CarriesOut old (commands.Between span expr) reply new = (new ≡ old) × Spans old span expr reply
 CarriesOut old (commands.Certificate word) reply new = Declines old refusals.Line reply new
 CarriesOut old commands.Verify reply new = Declines old refusals.Line reply new

@@ -6,6 +6,7 @@ ghost use Rattle.record_codec.specs.declared.entry.Entry.{Entry};
 ghost use Rattle.archive_state.specs.Histories.{History, IsLegal, IsLegalEntry, end_of};
 ghost use Rattle.commands.specs.Documents.{HasDocument};
 ghost use Rattle.commands.specs.declared.command.Item.{Item};
+ghost use Rattle.archive_state.specs.Choices.{IsChoice, SameButSegments};
 ghost use Rattle.archive_state.specs.Steps.{Reply, Step};
 ghost use Rattle.archive_state.specs.Runs.{Turn};
 ghost use Rattle.archive_state.specs.Stands.{Stands, IsNotArchive, bodies_of};
@@ -18,11 +19,13 @@ pub fn a_history_is_legal_entry_by_entry()
     ensures end { (h : History) → end_of h ≡ length (front (bodies_of h)) + 1 }
 {}
 
-/// The abstract machine never gets stuck, and chooses nothing: from a legal history each item has one
-/// turn; and where its document is in range, it leads to a legal history. Does nothing.
+/// The abstract machine never gets stuck, and chooses nothing but which least plan it proposes: from a
+/// legal history each item has a turn, which is the only one but for the segments of a proposal; and
+/// where its document is in range, it leads to a legal history. Does nothing.
 pub fn each_item_has_one_turn()
     ensures turn { (h : History) (item : Item) → IsLegal h → (turn : Turn Reply History) × Step h item turn.reply turn.next }
-    ensures one { (h : History) (item : Item) (reply other : Reply) (next then : History) → Step h item reply next → Step h item other then → (reply ≡ other) × (next ≡ then) }
+    ensures one { (h : History) (item : Item) (reply other : Reply) (next then : History) → (IsChoice item → ⊥) → Step h item reply next → Step h item other then → (reply ≡ other) × (next ≡ then) }
+    ensures but_segments { (h : History) (item : Item) (reply other : Reply) (next then : History) → Step h item reply next → Step h item other then → SameButSegments reply other × (next ≡ then) }
     ensures legal { (h : History) (item : Item) (reply : Reply) (next : History) → IsLegal h → HasDocument item → Step h item reply next → IsLegal next }
 {}
 

@@ -29,6 +29,15 @@ pub enum Refusal {
         /// The length of its longest prefix that is UTF-8, in bytes.
         offset: u64,
     },
+    /// What is to be planned isn't one term.
+    NotOneTerm,
+    /// The word has no posting before the last time of the archive.
+    NothingSealed,
+    /// The word's list up to the last time has too many boundaries.
+    TooWide {
+        /// How many it has.
+        boundaries: u64,
+    },
     /// A limit of the archive would be passed.
     Full {
         /// What is full.
@@ -41,6 +50,8 @@ pub enum Refusal {
         /// Where that shows, in bytes from its start.
         offset: u64,
     },
+    /// No text has the word.
+    UnknownWord,
 }
 
 impl Refusal {
@@ -55,8 +66,12 @@ impl Refusal {
             Refusal::NoDocument => 4,
             Refusal::TooLong { .. } => 5,
             Refusal::BadText { .. } => 6,
+            Refusal::NotOneTerm => 7,
+            Refusal::NothingSealed => 8,
+            Refusal::TooWide { .. } => 9,
             Refusal::Full { .. } => 10,
             Refusal::BadQuery { .. } => 11,
+            Refusal::UnknownWord => 13,
         }
     }
 }

@@ -1,14 +1,15 @@
 -- Cuts by their places.
-use Rattle.std.specs.Prelude.{◌≡◌, ◌⊎◌, ◌↔◌, ℕ, zero, suc, ◌+◌, ◌-◌, ◌<◌, ◌≤◌, nat_lt, nat_le, Bool, IsTrue, true, false, List, [], ◌∷◌, drop, length, slice_index, All, Contains, refl}
+use Rattle.std.specs.Prelude.{◌≡◌, ◌⊎◌, ◌↔◌, ℕ, zero, suc, ◌+◌, ◌-◌, ◌<◌, ◌≤◌, nat_lt, nat_le, Bool, IsTrue, true, false, List, [], ◌∷◌, ◌++◌, drop, length, slice_index, All, Contains, Result, IfOk, refl}
 use Rattle.std.specs.List.Sorted.{IsStrictlyIncreasing}
 use Rattle.std.proofs.Common.{arith, ap, sym, ◌∙◌, subst, inl, inr, add-one, drop-cons, nat_eq}
+use Rattle.std.proofs.lemmas.List.{append_assoc, append-nil}
 use Rattle.std.proofs.lemmas.Bool.{cases_lt}
 use Rattle.std.proofs.lemmas.Bool.Decides.{nat_tests}
 use Rattle.std.proofs.lemmas.List.Elements.{All-get_or}
 use Rattle.time_base.specs.declared.posting.Posting.{Posting}
 use Rattle.time_base.specs.declared.fraction.Fraction.{Fraction}
 use Rattle.postings.specs.Sizes.{size}
-use Rattle.elementary.specs.Partitions.{IsInSegment, IsAdmissible, Covers, space}
+use Rattle.elementary.specs.Partitions.{IsInSegment, IsAdmissible, Covers, space, sizes}
 use Rattle.elementary.specs.Counts.{Counts, Tabulates, AdmissibleBetween}
 use Rattle.elementary.proofs.Places.{place_of, rises}
 use Rattle.elementary.proofs.Tables.{admissible_from_counts, counts_from_admissible}
@@ -122,6 +123,25 @@ space_more list cuts k m total s whole f l e h = subst (λ n. total + s + space 
 
 pub space_end : (list : List Posting) (cuts : List ℕ) (k total f whole : ℕ) → length cuts ≤ k → total + space list f (drop k cuts) ≡ whole → total ≡ whole
 space_end list cuts k total f whole l h = let e : space list f (drop k cuts) ≡ 0 = ap (λ cs. space list f cs) (drop_all cuts k l) in omega arith
+
+-- the same of the sizes themselves
+pub sizes_more : (list : List Posting) (cuts : List ℕ) (k m : ℕ) (front : List ℕ) (s : ℕ) (whole : List ℕ) → k ≡ m → k < length cuts → s ≡ size (slice_index cuts (k - 1)) (slice_index cuts k) list
+    → front ++ sizes list (slice_index cuts (k - 1)) (drop k cuts) ≡ whole → (front ++ s ∷ []) ++ sizes list (slice_index cuts m) (drop (k + 1) cuts) ≡ whole
+sizes_more list cuts k m front s whole f l e h =
+    subst (λ n. (front ++ s ∷ []) ++ sizes list (slice_index cuts n) (drop (k + 1) cuts) ≡ whole) f
+    (append_assoc front (s ∷ []) (sizes list (slice_index cuts k) (drop (k + 1) cuts))
+    ∙ ap (λ (n : ℕ). front ++ n ∷ sizes list (slice_index cuts k) (drop (k + 1) cuts)) e
+    ∙ ap (λ (cs : List ℕ). front ++ sizes list (slice_index cuts (k - 1)) cs) (sym (drop_at cuts k l)) ∙ h)
+
+pub sizes_end : (list : List Posting) (cuts : List ℕ) (k : ℕ) (front : List ℕ) (f : ℕ) (whole : List ℕ) → length cuts ≤ k → front ++ sizes list f (drop k cuts) ≡ whole → front ≡ whole
+sizes_end list cuts k front f whole l h = sym (append-nil front) ∙ sym (ap (λ (cs : List ℕ). front ++ sizes list f cs) (drop_all cuts k l)) ∙ h
+
+-- the cuts by another name
+pub sizes_of_cuts : {T E : Type 0} (items : T → List ℕ) (table : Counts) (cuts here : List ℕ) (r : Result T E) → here ≡ cuts
+    → IfOk r (λ v. (list : List Posting) (horizon : ℕ) → Tabulates list horizon table → items v ≡ sizes list (slice_index here 0) (drop 1 here))
+    → IfOk r (λ v. (list : List Posting) (horizon : ℕ) → Tabulates list horizon table → items v ≡ sizes list (slice_index cuts 0) (drop 1 cuts))
+sizes_of_cuts items table cuts here r same h =
+    subst (λ (cs : List ℕ). IfOk r (λ v. (list : List Posting) (horizon : ℕ) → Tabulates list horizon table → items v ≡ sizes list (slice_index cs 0) (drop 1 cs))) same h
 
 pub covers_more : (list : List Posting) (factor : Fraction) (cuts : List ℕ) (k m end : ℕ) (P : Type 0) → k ≡ m → k < length cuts → slice_index cuts (k - 1) < slice_index cuts k
     → IsAdmissible list factor (slice_index cuts (k - 1)) (slice_index cuts k)

@@ -25,6 +25,11 @@ abbrev pub space : List Posting → ℕ → List ℕ → ℕ
 space list f [] = 0
 space list f (g ∷ cuts) = size f g list + space list g cuts
 
+-- The sizes of the segments of a partition, in order.
+abbrev pub sizes : List Posting → ℕ → List ℕ → List ℕ
+sizes list f [] = []
+sizes list f (g ∷ cuts) = size f g list ∷ sizes list g cuts
+
 -- A least partition: its cuts are boundaries, it is admissible, and no admissible partition from the first
 -- boundary to the horizon, whatever its cut times, takes less space.
 pub record IsLeast (list : List Posting) (factor : Fraction) (f : ℕ) (cuts : List ℕ) (horizon : ℕ) : Type 0 where

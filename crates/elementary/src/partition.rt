@@ -1,13 +1,14 @@
 //! Partitions of a time line into segments.
-ghost use Rattle.std.specs.Prelude.{◌≡◌, ◌⊎◌, ℕ, ◌+◌, ◌-◌, ◌*◌, ◌<◌, ◌≤◌, ◌^◌, ◌↔◌, List, drop, length, slice_index, All, Contains, IsTrue, IsSome, IfSome, IsNone};
+ghost use Rattle.std.specs.Prelude.{◌≡◌, ◌⊎◌, ℕ, ◌+◌, ◌-◌, ◌*◌, ◌<◌, ◌≤◌, ◌^◌, ◌↔◌, List, drop, length, slice_index, All, Contains, IsTrue, IsSome, IfSome, IsNone, IfOk};
 ghost use Rattle.std.specs.List.Sorted.{IsStrictlyIncreasing};
 ghost use Rattle.time_base.specs.declared.posting.Posting.{Posting};
 ghost use Rattle.elementary.specs.Counts.{Tabulates, AdmissibleBetween};
 ghost use Rattle.postings.specs.Sizes.{size};
-ghost use Rattle.elementary.specs.Partitions.{IsPartition, IsInSegment, IsFitting, IsAdmissible, Covers, space};
+ghost use Rattle.elementary.specs.Partitions.{IsPartition, IsInSegment, IsFitting, IsAdmissible, Covers, space, sizes};
 
 use crate::sorting::{first_after, first_from, is_at, place_after};
 use crate::table::Table;
+use std::alloc::{AllocError, Global};
 use std::marker::Model;
 use time_base::{Fraction, Time};
 
@@ -106,6 +107,16 @@ impl Partition {
         ensures bound { result ≤ 2 ^ 62 }
     {
         self.whole_space(table) as u64
+    }
+
+    /// The sizes of the segments of the partition, which fits the table, in order, in postings. Costs
+    /// time in the boundaries.
+    pub fn sizes(&self, alloc: Global, table: &Table) -> Result<Vec<u64>, AllocError>
+        requires fits { IsFitting table.now.boundaries self.now }
+        ensures many { IfOk result (λ v. length self.now ≡ length v.items + 1) }
+        ensures value { IfOk result (λ v. (list : List Posting) (horizon : ℕ) → Tabulates list horizon table.now → v.items ≡ sizes list (slice_index self.now 0) (drop 1 self.now)) }
+    {
+        sizes_between(alloc, table, self.cuts())
     }
 }
 
@@ -236,4 +247,24 @@ fn space_between(table: &Table, cuts: &[u64]) -> u128
         at = next;
     }
     total
+}
+
+/// The sizes of the segments between the cuts. Costs time in the boundaries.
+fn sizes_between(alloc: Global, table: &Table, cuts: &[u64]) -> Result<Vec<u64>, AllocError>
+    requires ascending { IsStrictlyIncreasing cuts.now }
+    requires some { 0 < length cuts.now }
+    requires first { slice_index cuts.now 0 ≡ slice_index table.now.boundaries 0 }
+    requires inside { All (Contains table.now.boundaries) cuts.now }
+    ensures many { IfOk result (λ v. length cuts.now ≡ length v.items + 1) }
+    ensures value { IfOk result (λ v. (list : List Posting) (horizon : ℕ) → Tabulates list horizon table.now → v.items ≡ sizes list (slice_index cuts.now 0) (drop 1 cuts.now)) }
+{
+    let times = table.boundaries();
+    let mut at = 0;
+    let mut sizes = Vec::with_capacity(alloc, cuts.len() - 1)?;
+    for k in 1..cuts.len() {
+        let next = place_after(times, at, cuts[k]);
+        sizes.push(table.size(at, next))?;
+        at = next;
+    }
+    Ok(sizes)
 }

@@ -1,5 +1,6 @@
 //! The index.
 ghost use Rattle.std.specs.Prelude.{◌≡◌, ℕ, ◌<◌, ◌≤◌, ◌^◌, ◌↔◌, List, [], ◌∷◌, ◌++◌, length, Option, option_map, Contains, Err, IfOk, OnOk, IfSome, IsSome, IsTrue};
+ghost use Rattle.fold_tokens.specs.Words.{with_all};
 ghost use Rattle.version_store.specs.declared.change.Change.{Change};
 ghost use Rattle.version_index.specs.Words.{words_in, IsWordList};
 ghost use Rattle.version_index.specs.Indexing.{ComesLater};
@@ -90,6 +91,7 @@ impl Index {
     /// constant cost on average for each word of the text and of the document's newest version.
     pub fn make_room(&mut self, change: &Prepared) -> Result<(), NumberError>
         ensures room { OnOk result (HasRoom (state_of self.new) change.now) }
+        ensures full { result ≡ Err NumberError.Full → 2 ^ 20 < length (with_all (state_of self.old).words change.now.fresh.items) }
         ensures same { seen (state_of self.new) ≡ seen (state_of self.old) }
     {
         if self.tails.is_full() {

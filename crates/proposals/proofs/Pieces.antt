@@ -1,0 +1,128 @@
+-- The segments of a partition, by its cuts and their sizes.
+use Rattle.std.proofs.Common.{◌≡◌, ℕ, zero, suc, ◌+◌, ◌<◌, ◌≤◌, ◌^◌, List, [], ◌∷◌, ◌++◌, drop, length, map, get_or, All, Contains, refl, ap, sym, subst, ◌∙◌, arith}
+use Rattle.std.specs.Prelude.{slice_index}
+use Rattle.std.specs.List.{zip}
+use Rattle.std.proofs.lemmas.List.Elements.{All-contains, All-weaker}
+use Rattle.std.proofs.lemmas.List.{append_assoc, append-nil, map-append, drop_more, drop_all}
+use Rattle.time_base.specs.declared.posting.Posting.{Posting}
+use Rattle.time_base.specs.declared.fraction.Fraction.{Fraction}
+use Rattle.postings.specs.Sizes.{size}
+use Rattle.elementary.specs.Boundaries.{AreBoundaries}
+use Rattle.elementary.specs.Partitions.{sizes, space, Covers, IsFitting, AreBest}
+use Rattle.elementary.specs.Laws.{OneListOfBest}
+use Rattle.elementary.proofs.Ordering.{each_has_boundaries, one_list_of_boundaries}
+use Rattle.elementary.proofs.Bests.{each_has_best, one_list_of_best, each_has_a_least, covers_to}
+use Rattle.proposals.specs.declared.proposal.Segment.{Segment}
+use Rattle.proposals.specs.declared.proposal.Node.{Node}
+use Rattle.proposals.specs.Proposals.{pieces, paired, bare_segment, bare_node, AreSegments, AreNodes, IsProposal}
+use Rattle.proposals.specs.Laws.{EachListHasAProposal, ProposalsDifferInSegments}
+
+pub paired_pieces : (list : List Posting) (f : ℕ) (cuts : List ℕ) → paired f cuts (sizes list f cuts) ≡ pieces list f cuts
+paired_pieces list f [] = refl
+paired_pieces list f (g ∷ cuts) = ap (λ (l : List (ℕ × ℕ × ℕ)). (f, g, size f g list) ∷ l) (paired_pieces list g cuts)
+
+pub sizes_long : (list : List Posting) (f : ℕ) (cuts : List ℕ) → length (sizes list f cuts) ≡ length cuts
+sizes_long list f [] = refl
+sizes_long list f (g ∷ cuts) = ap suc (sizes_long list g cuts)
+
+-- a partition's segments as they are shown
+segmented : (list : List Posting) (factor : Fraction) (cuts : List ℕ) (f end : ℕ) → Covers list factor f cuts end → end ≤ 2 ^ 40 → (segments : List Segment) × AreSegments list f cuts segments
+segmented list factor [] f end c now = ([], refl)
+segmented list factor (g ∷ cuts) f end c now =
+    let (segments, are) = segmented list factor cuts g end c.2 now in
+    let first : Segment = record { span = record { from = f; to = g; ordered = c.0; in_time = omega (arith, now, covers_to list factor cuts g end c.2) }; size = size f g list } in
+    (first ∷ segments, ap (λ (l : List (ℕ × ℕ × ℕ)). (f, g, size f g list) ∷ l) are)
+
+numbered : (times numbers : List ℕ) → (nodes : List Node) × AreNodes times numbers nodes
+numbered [] numbers = ([], refl)
+numbered (t ∷ times) [] = ([], refl)
+numbered (t ∷ times) (n ∷ numbers) =
+    let (nodes, are) = numbered times numbers in
+    (record { at = t; pi = n } ∷ nodes, ap (λ (l : List (ℕ × ℕ)). (t, n) ∷ l) are)
+
+pub each_has_a_proposal : EachListHasAProposal
+each_has_a_proposal list factor horizon now early =
+    let (times, b) = each_has_boundaries list horizon in
+    let (numbers, best) = each_has_best list factor horizon times early b in
+    let (first, (cuts, least)) = each_has_a_least list factor horizon early in
+    let (segments, segments_are) = segmented list factor cuts first horizon least.covers now in
+    let (nodes, nodes_are) = numbered times numbers in
+    (segments, (nodes, (space list first cuts, record {
+      first = first;
+      cuts = cuts;
+      least = least;
+      segments_are = segments_are;
+      total_is = refl;
+      times = times;
+      numbers = numbers;
+      best = best;
+      nodes_are = nodes_are;
+    })))
+
+-- what is shown of nodes is all of them
+maps_same : {X Y : Type 0} (f : X → Y) → ((x y : X) → f x ≡ f y → x ≡ y) → (a b : List X) → map f a ≡ map f b → a ≡ b
+maps_same f one [] [] e = refl
+maps_same f one [] (y ∷ b) e = absurd (omega (arith, ap length e))
+maps_same f one (x ∷ a) [] e = absurd (omega (arith, ap length e))
+maps_same {X = X} {Y = Y} f one (x ∷ a) (y ∷ b) e =
+    ap (λ (z : X). z ∷ a) (one x y (ap (λ (l : List Y). get_or l 0 (f x)) e)) ∙ ap (λ (l : List X). y ∷ l) (maps_same f one a b (ap (λ (l : List Y). drop 1 l) e))
+
+same_node : (m n : Node) → bare_node m ≡ bare_node n → m ≡ n
+same_node m n e = λ i. record { at = (e i).0; pi = (e i).1 }
+
+pub differ_in_segments : ProposalsDifferInSegments
+differ_in_segments list factor horizon segments others nodes those total sum p q =
+    let times : p.times ≡ q.times = one_list_of_boundaries list horizon p.times q.times p.best.times_are q.best.times_are in
+    let best = subst (λ (ts : List ℕ). AreBest list factor horizon ts p.numbers) times p.best in
+    let numbers : p.numbers ≡ q.numbers = one_list_of_best list factor horizon q.times p.numbers q.numbers best q.best in
+    let first : p.first ≡ q.first = omega (arith, p.least.first.none_before q.first q.least.first.is, q.least.first.none_before p.first p.least.first.is) in
+    let over = p.least.least q.cuts (subst (λ f. Covers list factor f q.cuts horizon) (sym first) q.least.covers) in
+    let under = q.least.least p.cuts (subst (λ f. Covers list factor f p.cuts horizon) first p.least.covers) in
+    (
+      maps_same bare_node same_node nodes those (p.nodes_are ∙ ap (λ (ts : List ℕ). zip ts p.numbers) times ∙ ap (λ (ns : List ℕ). zip q.times ns) numbers ∙ sym q.nodes_are),
+      omega (arith, over, under, p.total_is, q.total_is, ap (λ f. space list f p.cuts) first, ap (λ f. space list f q.cuts) first),
+    )
+
+-- one segment more
+pub paired_more : (cuts sizes : List ℕ) (k : ℕ) → k + 1 < length cuts → k < length sizes
+    → paired (slice_index cuts k) (drop (k + 1) cuts) (drop k sizes) ≡ (slice_index cuts k, slice_index cuts (k + 1), slice_index sizes k) ∷ paired (slice_index cuts (k + 1)) (drop (k + 2) cuts) (drop (k + 1) sizes)
+paired_more cuts sizes k c s =
+    ap (λ (cs : List ℕ). paired (slice_index cuts k) cs (drop k sizes)) (drop_more cuts (k + 1) 0 c ∙ ap (λ (n : ℕ). slice_index cuts (k + 1) ∷ drop n cuts) (let e : k + 1 + 1 ≡ k + 2 = omega arith in e))
+    ∙ ap (λ (ss : List ℕ). paired (slice_index cuts k) (slice_index cuts (k + 1) ∷ drop (k + 2) cuts) ss) (drop_more sizes k 0 s)
+
+pub segments_more : (cuts sizes : List ℕ) (k : ℕ) (front : List Segment) (s : Segment) (whole : List (ℕ × ℕ × ℕ)) → k + 1 < length cuts → k < length sizes
+    → bare_segment s ≡ (slice_index cuts k, slice_index cuts (k + 1), slice_index sizes k)
+    → map bare_segment front ++ paired (slice_index cuts k) (drop (k + 1) cuts) (drop k sizes) ≡ whole
+    → map bare_segment (front ++ s ∷ []) ++ paired (slice_index cuts (k + 1)) (drop (k + 2) cuts) (drop (k + 1) sizes) ≡ whole
+segments_more cuts sizes k front s whole c l is e =
+    let rest = paired (slice_index cuts (k + 1)) (drop (k + 2) cuts) (drop (k + 1) sizes) in
+    ap (λ (x : List (ℕ × ℕ × ℕ)). x ++ rest) (map-append bare_segment front (s ∷ []))
+    ∙ append_assoc (map bare_segment front) (bare_segment s ∷ []) rest
+    ∙ ap (λ (x : ℕ × ℕ × ℕ). map bare_segment front ++ x ∷ rest) is
+    ∙ sym (ap (λ (x : List (ℕ × ℕ × ℕ)). map bare_segment front ++ x) (paired_more cuts sizes k c l)) ∙ e
+
+pub segments_end : (cuts sizes : List ℕ) (k f : ℕ) (front : List Segment) (whole : List (ℕ × ℕ × ℕ)) → length cuts ≤ k + 1
+    → map bare_segment front ++ paired f (drop (k + 1) cuts) (drop k sizes) ≡ whole → map bare_segment front ≡ whole
+segments_end cuts sizes k f front whole l e =
+    sym (append-nil (map bare_segment front)) ∙ sym (ap (λ (cs : List ℕ). map bare_segment front ++ paired f cs (drop k sizes)) (drop_all (k + 1) cuts l)) ∙ e
+
+-- one node more
+pub nodes_more : (times numbers : List ℕ) (k : ℕ) (front : List Node) (n : Node) (whole : List (ℕ × ℕ)) → k < length times → k < length numbers
+    → bare_node n ≡ (slice_index times k, slice_index numbers k)
+    → map bare_node front ++ zip (drop k times) (drop k numbers) ≡ whole → map bare_node (front ++ n ∷ []) ++ zip (drop (k + 1) times) (drop (k + 1) numbers) ≡ whole
+nodes_more times numbers k front n whole t l is e =
+    let rest = zip (drop (k + 1) times) (drop (k + 1) numbers) in
+    ap (λ (x : List (ℕ × ℕ)). x ++ rest) (map-append bare_node front (n ∷ []))
+    ∙ append_assoc (map bare_node front) (bare_node n ∷ []) rest
+    ∙ ap (λ (x : ℕ × ℕ). map bare_node front ++ x ∷ rest) is
+    ∙ sym (ap (λ (ts : List ℕ). map bare_node front ++ zip ts (drop k numbers)) (drop_more times k 0 t) ∙ ap (λ (ns : List ℕ). map bare_node front ++ zip (slice_index times k ∷ drop (k + 1) times) ns) (drop_more numbers k 0 l))
+    ∙ e
+
+pub nodes_end : (times numbers : List ℕ) (k : ℕ) (front : List Node) (whole : List (ℕ × ℕ)) → length times ≤ k
+    → map bare_node front ++ zip (drop k times) (drop k numbers) ≡ whole → map bare_node front ≡ whole
+nodes_end times numbers k front whole l e =
+    sym (append-nil (map bare_node front)) ∙ sym (ap (λ (ts : List ℕ). map bare_node front ++ zip ts (drop k numbers)) (drop_all k times l)) ∙ e
+
+-- cuts that fit boundaries are times
+pub fitting_times : (times cuts : List ℕ) → IsFitting times cuts → All (λ x. x < 2 ^ 40) times → All (λ x. x < 2 ^ 40) cuts
+fitting_times times cuts fits early = All-weaker (Contains times) (λ x. x < 2 ^ 40) (λ x c. All-contains (λ x. x < 2 ^ 40) times x early c) cuts fits.inside

@@ -1,0 +1,19 @@
+-- There is a proposal for each list, and all of them are the same but for the segments.
+use Rattle.std.specs.Prelude.{◌≡◌, ℕ, ◌^◌, ◌≤◌, List, All}
+use Rattle.time_base.specs.declared.posting.Posting.{Posting}
+use Rattle.time_base.specs.declared.fraction.Fraction.{Fraction}
+use Rattle.proposals.specs.declared.proposal.Segment.{Segment}
+use Rattle.proposals.specs.declared.proposal.Node.{Node}
+use Rattle.proposals.specs.Proposals.{IsProposal}
+
+-- A list whose spans end at or before the horizon has a proposal, for each factor.
+abbrev pub EachListHasAProposal : Type 0
+EachListHasAProposal =
+    (list : List Posting) (factor : Fraction) (horizon : ℕ) → horizon ≤ 2 ^ 40 → All (λ p. p.span.to ≤ horizon) list
+    → (segments : List Segment) × ((nodes : List Node) × ((total : ℕ) × IsProposal list factor horizon segments nodes total))
+
+-- Two proposals for a list have the same nodes and the same space.
+abbrev pub ProposalsDifferInSegments : Type 0
+ProposalsDifferInSegments =
+    (list : List Posting) (factor : Fraction) (horizon : ℕ) (segments others : List Segment) (nodes those : List Node) (total sum : ℕ)
+    → IsProposal list factor horizon segments nodes total → IsProposal list factor horizon others those sum → (nodes ≡ those) × (total ≡ sum)
