@@ -10,3 +10,4 @@ pub mod TakeLemmas
 pub mod AnswerLemmas
 pub mod IndexLemmas
 pub mod SpanLemmas
+pub mod PlanLemmas

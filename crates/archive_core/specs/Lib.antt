@@ -1,3 +1,4 @@
+pub mod Sealing
 pub mod States
 pub mod Texts
 pub mod Changing

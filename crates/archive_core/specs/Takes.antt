@@ -3,10 +3,11 @@ use Rattle.std.specs.Prelude.{◌≡◌, ℕ, List, Option, Result, Ok, Err}
 use Rattle.std.specs.Option.{option_map}
 use Rattle.machine_model.specs.States.{DiskState}
 use Rattle.commands.specs.declared.command.Item.{Item}
+use Rattle.proposals.specs.declared.proposal.Proposal.{Proposal}
 use Rattle.query_eval.specs.declared.answer.Answer.{Answer}
 use Rattle.query_eval.specs.declared.spans.SpanAnswer.{SpanAnswer}
 use Rattle.archive_state.specs.Histories.{History}
-use Rattle.archive_state.specs.Steps.{Reply, Accepted, Refused, Found, Spanned, Shown, Step}
+use Rattle.archive_state.specs.Steps.{Reply, Accepted, Refused, Found, Spanned, Shown, Proposed, Step}
 use Rattle.archive_state.specs.Runs.{Turn}
 use Rattle.archive_state.specs.Stands.{EachStands}
 use Rattle.archive_core.specs.States.{ArchiveState, IsKept}
@@ -41,6 +42,10 @@ found (Err error) = declined error
 abbrev pub spanned : Result SpanAnswer AskError → Ending
 spanned (Ok answer) = Replied (Spanned answer.rows.items answer.read)
 spanned (Err error) = declined error
+
+abbrev pub proposed : Result Proposal AskError → Ending
+proposed (Ok proposal) = Replied (Proposed proposal.segments.items proposal.nodes.items proposal.space)
+proposed (Err error) = declined error
 
 abbrev pub shown : {T : Type 0} → (T → List ℕ) → Result (Option T) AskError → Ending
 shown bytes (Ok text) = Replied (Shown (option_map bytes text))

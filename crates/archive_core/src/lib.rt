@@ -12,6 +12,7 @@ mod change;
 mod error;
 mod laws;
 mod loading;
+mod planning;
 mod preparing;
 mod replaying;
 mod text;

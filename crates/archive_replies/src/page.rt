@@ -1,15 +1,16 @@
 //! A page on which replies are written.
 ghost use Rattle.std.specs.Prelude.{◌≡◌, ◌+◌, ◌≤◌, [], ◌++◌, length, codes, decimal, Some, None, IfOk, OnOk, OnErr};
 ghost use Rattle.archive_replies.specs.Pages.{reply_room};
-ghost use Rattle.archive_state.specs.Replies.{detail_text, end_text, reply_text, row_text, span_text, which_text};
-ghost use Rattle.archive_state.specs.Steps.{Accepted, Refused, Found, Spanned, Shown};
+ghost use Rattle.archive_state.specs.Replies.{detail_text, end_text, node_text, reply_text, row_text, segment_text, space_text, span_text, which_text};
+ghost use Rattle.archive_state.specs.Steps.{Accepted, Refused, Found, Spanned, Shown, Proposed};
 
 use archive_state::Refusal;
 use itoa::Buffer;
+use proposals::{Node, Segment};
 use query_eval::{Row, SpanRow};
 use std::alloc::{AllocError, Global};
 use std::marker::Model;
-use time_base::Which;
+use time_base::{Span, Which};
 
 /// The bytes that a page has room for at least: more than the longest reply that takes no memory,
 /// and than any line of an answer.
@@ -99,6 +100,27 @@ impl ReplyPage {
         self.put_end(rows.len(), read)
     }
 
+    /// Writes the segments and the boundaries of a plan, and the space that it takes, in place of what
+    /// the page held. It takes memory; an error means that there was none, and leaves a part of the
+    /// reply. The cost is linear in both.
+    pub fn proposed(
+        &mut self,
+        segments: &[Segment],
+        nodes: &[Node],
+        space: u64,
+    ) -> Result<(), AllocError>
+        ensures { OnOk result (self.new.bytes ≡ reply_text (Proposed segments.now nodes.now space)) }
+    {
+        self.clear();
+        for segment in segments {
+            self.put_segment(segment)?;
+        }
+        for node in nodes {
+            self.put_node(node)?;
+        }
+        self.put_space(segments.len(), space)
+    }
+
     /// Writes a text that was asked for, in place of what the page held. It takes memory; an error
     /// means that there was none, and leaves the page empty. The cost is linear in the text.
     pub fn shown(&mut self, text: &[u8]) -> Result<(), AllocError>
@@ -154,6 +176,44 @@ impl ReplyPage {
         self.put_named(b" ", span.from);
         self.put_named(b" ", span.to);
         self.put_named(b" ", score);
+        self.put(b"\n");
+        Ok(())
+    }
+
+    /// Adds the line of a segment. It takes memory where there is no room. Constant cost but for that.
+    fn put_segment(&mut self, segment: &Segment) -> Result<(), AllocError>
+        ensures { OnOk result (self.new.bytes ≡ self.old.bytes ++ segment_text segment.now) }
+    {
+        let Segment { span, size } = *segment;
+        let Span { from, to } = span;
+        self.make_room(REPLY_ROOM)?;
+        self.put_named(b"segment ", from);
+        self.put_named(b" ", to);
+        self.put_named(b" ", size);
+        self.put(b"\n");
+        Ok(())
+    }
+
+    /// Adds the line of a boundary. It takes memory where there is no room. Constant cost but for that.
+    fn put_node(&mut self, node: &Node) -> Result<(), AllocError>
+        ensures { OnOk result (self.new.bytes ≡ self.old.bytes ++ node_text node.now) }
+    {
+        let Node { at, pi } = *node;
+        self.make_room(REPLY_ROOM)?;
+        self.put_named(b"node ", at);
+        self.put_named(b" ", pi);
+        self.put(b"\n");
+        Ok(())
+    }
+
+    /// Adds how many segments there are, and the space that they take. It takes memory where there is
+    /// no room. Constant cost but for that.
+    fn put_space(&mut self, segments: usize, space: u64) -> Result<(), AllocError>
+        ensures { OnOk result (self.new.bytes ≡ self.old.bytes ++ space_text segments space) }
+    {
+        self.make_room(REPLY_ROOM)?;
+        self.put_named(b"end ", segments as u64);
+        self.put_named(b" space ", space);
         self.put(b"\n");
         Ok(())
     }
@@ -220,8 +280,12 @@ impl ReplyPage {
             Refusal::NoDocument => self.put(b"NoDocument"),
             Refusal::TooLong { limit } => self.put_named(b"TooLong ", limit),
             Refusal::BadText { offset } => self.put_named(b"BadText ", offset),
+            Refusal::NotOneTerm => self.put(b"NotOneTerm"),
+            Refusal::NothingSealed => self.put(b"NothingSealed"),
+            Refusal::TooWide { boundaries } => self.put_named(b"TooWide ", boundaries),
             Refusal::Full { which, limit } => self.put_full(which, limit),
             Refusal::BadQuery { offset } => self.put_named(b"BadQuery ", offset),
+            Refusal::UnknownWord => self.put(b"UnknownWord"),
         }
     }
 

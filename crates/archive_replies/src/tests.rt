@@ -1,5 +1,6 @@
 use crate::ReplyPage;
 use archive_state::Refusal;
+use proposals::{Node, Segment};
 use query_eval::{Row, SpanRow};
 use std::test::Fail;
 use time_base::{DocId, Span, Time, Which};
@@ -29,10 +30,19 @@ fn refusals_are_answered_by_number_name_and_detail(rt: HostRuntime) -> Result<()
             "no 5 TooLong 4194304\n",
         ),
         (Refusal::BadText { offset: 0 }, "no 6 BadText 0\n"),
+        (Refusal::NotOneTerm, "no 7 NotOneTerm\n"),
+        (Refusal::NothingSealed, "no 8 NothingSealed\n"),
+        (
+            Refusal::TooWide {
+                boundaries: 1048577,
+            },
+            "no 9 TooWide 1048577\n",
+        ),
         (full(Which::Documents), "no 10 Full documents 1048576\n"),
         (full(Which::Versions), "no 10 Full versions 4194304\n"),
         (full(Which::Journal), "no 10 Full journal 1099511627776\n"),
         (Refusal::BadQuery { offset: 0 }, "no 11 BadQuery 0\n"),
+        (Refusal::UnknownWord, "no 13 UnknownWord\n"),
     ] {
         page.refused(refusal);
         assert_eq!(rt; page.as_bytes(), text.as_bytes());
@@ -94,6 +104,30 @@ fn span_row(doc: u32, from: u64, to: u64, score: u64) -> Result<SpanRow, Fail> {
     let doc = DocId(doc);
     let span = Span::new(from, to).ok_or("a span")?;
     Ok(SpanRow { doc, span, score })
+}
+
+#[test]
+fn plans_are_a_line_a_segment_a_line_a_boundary_and_an_end(rt: HostRuntime) -> Result<(), Fail> {
+    let mut page = ReplyPage::new(rt.alloc())?;
+    page.proposed(
+        &[segment(10, 20, 2)?, segment(20, 50, 3)?],
+        &[node(10, 0), node(20, 2), node(30, 4), node(50, 5)],
+        5,
+    )?;
+    assert_eq!(rt;
+        page.as_bytes(),
+        "segment 10 20 2\nsegment 20 50 3\nnode 10 0\nnode 20 2\nnode 30 4\nnode 50 5\nend 2 space 5\n".as_bytes()
+    );
+    Ok(())
+}
+
+fn segment(from: u64, to: u64, size: u64) -> Result<Segment, Fail> {
+    let span = Span::new(from, to).ok_or("a span")?;
+    Ok(Segment { span, size })
+}
+
+fn node(at: u64, pi: u64) -> Node {
+    Node { at, pi }
 }
 
 #[test]

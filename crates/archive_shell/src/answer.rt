@@ -5,7 +5,7 @@ ghost use Rattle.archive_state.specs.Histories.{History};
 ghost use Rattle.archive_state.specs.Replies.{reply_text};
 ghost use Rattle.archive_state.specs.Steps.{Refused};
 ghost use Rattle.archive_core.specs.States.{IsKept};
-ghost use Rattle.archive_core.specs.Takes.{changed, declined, found, shown, spanned};
+ghost use Rattle.archive_core.specs.Takes.{changed, declined, found, proposed, shown, spanned};
 ghost use Rattle.commands.specs.declared.command.Item.TheVariants as items;
 ghost use Rattle.commands.specs.declared.command.Command.TheVariants as plain;
 ghost use Rattle.archive_shell.specs.Turns.{Answers, CanGoOn, Writes};
@@ -16,6 +16,7 @@ use archive_replies::ReplyPage;
 use archive_state::Refusal;
 use commands::{Command, Item, MOST_TEXT_BYTES, Text};
 use machine_model::Disk;
+use proposals::Proposal;
 use query_eval::{Answer, SpanAnswer};
 use std::alloc::Global;
 use time_base::{DocId, Time};
@@ -74,8 +75,11 @@ fn carry_out<D: Disk>(
             let result = archive.show(alloc, disk, doc, at);
             write_shown(page, result)
         }
+        Command::Propose { word, fraction } => {
+            let result = archive.propose(alloc, &word, fraction);
+            write_proposed(page, result)
+        }
         Command::Plan { .. } => refuse(page, Refusal::Line),
-        Command::Propose { .. } => refuse(page, Refusal::Line),
         Command::Certificate { .. } => refuse(page, Refusal::Line),
         Command::Verify => refuse(page, Refusal::Line),
     }
@@ -170,6 +174,20 @@ fn write_spanned(page: &mut ReplyPage, answer: Result<SpanAnswer, AskError>) -> 
 {
     match answer {
         Ok(answer) => match page.spanned(&answer.rows, answer.read) {
+            Ok(()) => Ok(()),
+            Err(_) => Err(Halt::Memory),
+        },
+        Err(error) => write_declined(page, error),
+    }
+}
+
+/// Writes a plan that was asked for on the page, or halts the run.
+fn write_proposed(page: &mut ReplyPage, plan: Result<Proposal, AskError>) -> Result<(), Halt>
+    ensures writes { Writes (proposed plan) result page.new.bytes }
+    ensures fault { IsErrOf result Halt.Disk → IsErrOf plan AskError.Failed }
+{
+    match plan {
+        Ok(plan) => match page.proposed(&plan.segments, &plan.nodes, plan.space) {
             Ok(()) => Ok(()),
             Err(_) => Err(Halt::Memory),
         },

@@ -3,7 +3,7 @@ use Rattle.commands.specs.declared.command.Command.{Command}
 use Rattle.commands.specs.declared.command.Command.TheVariants as plain
 use Rattle.commands.specs.declared.command.Item.TheVariants as items
 use Rattle.archive_state.specs.declared.refusal.Refusal.TheVariants as refusals
-use Rattle.archive_core.specs.Takes.{changed, found, shown, spanned}
+use Rattle.archive_core.specs.Takes.{changed, found, proposed, shown, spanned}
 use Rattle.archive_shell.specs.Turns.{Answers}
 use Rattle.archive_shell.proofs.TurnLemmas.{answers_by, refused_by}
 use Rattle.archive_shell.proofs.answer.carry_out.Goals as goal
@@ -32,15 +32,16 @@ returns-in-Show-clause-turn g c = λ tells h kept.
     subst C (sym c.in-Show.is) (answers_by h (items.Command (plain.Show c.in-Show.doc c.in-Show.at)) (shown (λ v. v.items) c.show-result.result) c.write_shown.result _ _ c.args.archive.now c.write_shown.new.page.bytes
     (c.show-result.ensures.takes tells h kept) c.write_shown.ensures.writes)
 
+pub returns-in-Propose-clause-turn : goal.returns-in-Propose-clause-turn
+returns-in-Propose-clause-turn g c = λ tells h kept.
+    let C : Command → Type 0 = λ d. Answers h (items.Command d) c.write_proposed.result (g.D.Disk.disk c.args.disk.now) (g.D.Disk.disk c.args.disk.now) c.args.archive.now c.write_proposed.new.page.bytes in
+    subst C (sym c.in-Propose.is) (answers_by h (items.Command (plain.Propose c.in-Propose.word c.in-Propose.fraction)) (proposed c.propose-result.result) c.write_proposed.result _ _ c.args.archive.now c.write_proposed.new.page.bytes
+    (c.propose-result.ensures.takes (g.D.Disk.disk c.args.disk.now) h kept) c.write_proposed.ensures.writes)
+
 pub returns-in-Plan-clause-turn : goal.returns-in-Plan-clause-turn
 returns-in-Plan-clause-turn g c = λ tells h kept.
     let C : Command → Type 0 = λ d. Answers h (items.Command d) c.refuse.result (g.D.Disk.disk c.args.disk.now) (g.D.Disk.disk c.args.disk.now) c.args.archive.now c.refuse.new.page.bytes in
     subst C (sym c.in-Plan.is) (refused_by h (items.Command (plain.Plan c.in-Plan.word c.in-Plan.kind c.in-Plan.fraction)) refusals.Line c.refuse.result _ c.args.archive.now c.refuse.new.page.bytes (refl, refl) kept c.refuse.ensures.goes_on c.refuse.ensures.reply)
-
-pub returns-in-Propose-clause-turn : goal.returns-in-Propose-clause-turn
-returns-in-Propose-clause-turn g c = λ tells h kept.
-    let C : Command → Type 0 = λ d. Answers h (items.Command d) c.refuse-in-Propose.result (g.D.Disk.disk c.args.disk.now) (g.D.Disk.disk c.args.disk.now) c.args.archive.now c.refuse-in-Propose.new.page.bytes in
-    subst C (sym c.in-Propose.is) (refused_by h (items.Command (plain.Propose c.in-Propose.word c.in-Propose.fraction)) refusals.Line c.refuse-in-Propose.result _ c.args.archive.now c.refuse-in-Propose.new.page.bytes (refl, refl) kept c.refuse-in-Propose.ensures.goes_on c.refuse-in-Propose.ensures.reply)
 
 pub returns-in-Certificate-clause-turn : goal.returns-in-Certificate-clause-turn
 returns-in-Certificate-clause-turn g c = λ tells h kept.

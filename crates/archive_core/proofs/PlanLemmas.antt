@@ -1,0 +1,167 @@
+-- What is proposed is of the history that an archive stands for.
+use Rattle.std.proofs.Common.{◌≡◌, ◌⊎◌, ℕ, ◌+◌, ◌<◌, ◌≤◌, ◌^◌, ◌↔◌, List, [], ◌∷◌, length, drop, All, Contains, Option, Some, None, option_map, unwrap_or, Result, Ok, Err, IfOk, refl, ap, sym, subst, ◌∙◌, inl, inr, arith}
+use Rattle.std.specs.Prelude.{slice_index, min}
+use Rattle.std.specs.List.{AllZip}
+use Rattle.std.proofs.Math.Nat.{min-le_right}
+use Rattle.std.proofs.lemmas.List.{length-drop}
+use Rattle.std.proofs.lemmas.List.Elements.{All-nil, All-cons}
+use Rattle.machine_model.specs.States.{DiskState}
+use Rattle.time_base.specs.declared.fraction.Fraction.{Fraction}
+use Rattle.time_base.specs.declared.time.Time.{Time}
+use Rattle.time_base.specs.declared.text_place.TextPlace.{TextPlace}
+use Rattle.time_base.specs.declared.posting.Posting.{Posting}
+use Rattle.postings.specs.Lists.{sublist}
+use Rattle.postings.specs.Clips.{IsCut, IsClip}
+use Rattle.postings.specs.ListsOf.{IsListOf}
+use Rattle.elementary.specs.Boundaries.{AreBoundaries}
+use Rattle.elementary.specs.Counts.{Counts, Tabulates}
+use Rattle.elementary.specs.Partitions.{widest, IsLeast, AreBest, space}
+use Rattle.elementary.proofs.Narrow.{narrow}
+use Rattle.proposals.specs.Proposals.{AreSegments, AreNodes, IsProposal}
+use Rattle.proposals.specs.declared.proposal.Segment.{Segment}
+use Rattle.proposals.specs.declared.proposal.Node.{Node}
+use Rattle.proposals.specs.declared.proposal.Proposal.{Proposal}
+use Rattle.fold_tokens.specs.Terms.{one_term}
+use Rattle.version_store.specs.Changes.{last_time}
+use Rattle.version_store.specs.declared.change.Change.{Change}
+use Rattle.version_store.proofs.Mapped.{last_time-mapped}
+use Rattle.version_index.specs.Words.{words_in}
+use Rattle.commands.specs.declared.command.Command.TheVariants as commands
+use Rattle.commands.specs.declared.command.Item.TheVariants as items
+use Rattle.archive_state.specs.declared.refusal.Refusal.{Refusal}
+use Rattle.archive_state.specs.declared.refusal.Refusal.TheVariants as refusals
+use Rattle.archive_state.specs.Histories.{History, changes}
+use Rattle.archive_state.specs.Planning.{IsKnown, IsListUpTo, OfBoundaries, OfList, OfWord, OfPhrase, last_second}
+use Rattle.archive_state.specs.Steps.{Refused, Proposed, Proposes, ProposesPlan}
+use Rattle.archive_state.proofs.TurnLemmas.{each_proposes}
+use Rattle.archive_core.specs.States.{ArchiveState, StandsFor, IsKept}
+use Rattle.archive_core.specs.Sealing.{IsSealed}
+use Rattle.archive_core.specs.Texts.{nothing}
+use Rattle.archive_core.specs.Takes.{Starved, Faulted, Takes, proposed}
+use Rattle.archive_core.specs.declared.error.AskError.{AskError}
+use Rattle.archive_core.specs.declared.error.AskError.TheVariants as asks
+use Rattle.archive_core.proofs.IndexLemmas.{words_are}
+use Rattle.archive_core.proofs.PlaceLemmas.{bare_changes}
+use Rattle.archive_core.proofs.TakeLemmas.{takes_question}
+
+-- an archive has the last time of its history
+pub last_is : (a : ArchiveState) (h : History) → StandsFor a h → last_time a.changes ≡ last_time (changes h)
+last_is a h stands =
+    sym (last_time-mapped (nothing {A = TextPlace}) a.changes) ∙ ap last_time (bare_changes 16 h a.changes stands.changes_are) ∙ last_time-mapped (nothing {A = List ℕ}) (changes h)
+
+pub last_second_is : (a : ArchiveState) (h : History) (t : Time) → StandsFor a h → last_time a.changes ≡ Some t → t.seconds ≡ last_second h
+last_second_is a h t stands e = sym (ap (λ (o : Option Time). unwrap_or (option_map (λ t. t.seconds) o) 0) (sym (last_is a h stands) ∙ e))
+
+-- the words that an index knows are the history's
+pub known_is : (h : History) (word : List ℕ) → Contains (words_in (changes h)) word → IsKnown h word
+known_is h word c = subst (λ (ws : List (List ℕ)). Contains ws word) (sym (words_are h)) c
+
+pub known_there : (h : History) (word : List ℕ) → IsKnown h word → Contains (words_in (changes h)) word
+known_there h word c = subst (λ (ws : List (List ℕ)). Contains ws word) (words_are h) c
+
+-- a clip ends in time
+pub clip_early : (f g : ℕ) (list clip : List Posting) → AllZip (IsCut f g) list clip → All (λ p. p.span.to ≤ g) clip
+clip_early f g [] [] c = All-nil (λ p. p.span.to ≤ g)
+clip_early f g [] (q ∷ clip) c = absurd c
+clip_early f g (p ∷ list) [] c = absurd c
+clip_early f g (p ∷ list) (q ∷ clip) c = All-cons (λ r. r.span.to ≤ g) q clip (omega (arith, c.0.to, min-le_right p.span.to g)) (clip_early f g list clip c.1)
+
+-- nothing happens before the first second
+pub none_before : (f : ℕ → ℕ → ℕ) (h : ℕ) → h ≡ 0 → IsListOf f 0 h []
+none_before f h zero = record {
+  ordered = tt;
+  coalesced = tt;
+  inside = All-nil (λ p. (0 ≤ p.span.from) × (p.span.to ≤ h));
+  same = λ d t from to. absurd (omega (arith, to, zero));
+}
+
+-- a partition that fits a table has few cuts, and there is a number for each boundary
+pub few_cuts : (list : List Posting) (factor : Fraction) (horizon : ℕ) (table : Counts) (cuts : List ℕ) → Tabulates list horizon table → 2 ≤ length cuts → length table.boundaries ≤ widest
+    → IsLeast list factor (slice_index cuts 0) (drop 1 cuts) horizon → length cuts ≤ 2 ^ 24 + 1
+few_cuts list factor horizon table cuts t many within least =
+    let few = narrow list factor horizon table.boundaries (slice_index cuts 0) (drop 1 cuts) horizon t.boundaries least.first.is least.at_boundaries least.covers in
+    omega (arith, few.1, within, length-drop 1 cuts)
+
+-- a plan of a table, as it is shown, is a proposal for its list
+pub is_least : (list : List Posting) (factor : Fraction) (horizon : ℕ) (table : Counts) (cuts numbers : List ℕ) (p : Proposal) → Tabulates list horizon table → length table.boundaries ≤ widest
+    → IsLeast list factor (slice_index cuts 0) (drop 1 cuts) horizon → AreBest list factor horizon table.boundaries numbers
+    → AreSegments list (slice_index cuts 0) (drop 1 cuts) p.segments.items → AreNodes table.boundaries numbers p.nodes.items → p.space ≡ space list (slice_index cuts 0) (drop 1 cuts)
+    → OfBoundaries horizon list (λ because. ⊥) (IsProposal list factor horizon p.segments.items p.nodes.items p.space)
+is_least list factor horizon table cuts numbers p t within least best segments nodes total = (table.boundaries, t.boundaries, inr (within, record {
+  first = slice_index cuts 0;
+  cuts = drop 1 cuts;
+  least = least;
+  segments_are = segments;
+  total_is = total;
+  times = table.boundaries;
+  numbers = numbers;
+  best = best;
+  nodes_are = nodes;
+}))
+
+-- the tests by other names of what they come to
+module _ (h : ℕ) (One Other : Refusal → Type 0) (refused : (why : Refusal) → One why → Other why) where
+  map_bounded : (list : List Posting) (A B : Type 0) → (A → B) → OfBoundaries h list One A → OfBoundaries h list Other B
+  map_bounded list A B goes (times, are, inl wide) = (times, are, inl (wide.0, refused (refusals.TooWide (length times)) wide.1))
+  map_bounded list A B goes (times, are, inr narrow) = (times, are, inr (narrow.0, goes narrow.1))
+
+  map_list : (list : List Posting) (A B : Type 0) → (A → B) → OfList h list One A → OfList h list Other B
+  map_list [] A B goes of = refused refusals.NothingSealed of
+  map_list (p ∷ list) A B goes of = map_bounded (p ∷ list) A B goes of
+
+  some_list : (list : List Posting) (A B : Type 0) → 0 < length list → (A → B) → OfBoundaries h list One A → OfList h list Other B
+  some_list [] A B some goes of = absurd (omega (arith, some))
+  some_list (p ∷ list) A B some goes of = map_bounded (p ∷ list) A B goes of
+
+map_phrase : (h : History) (key : Option (List ℕ)) (One Other : Refusal → Type 0) (A B : List ℕ → List Posting → Type 0) → ((why : Refusal) → One why → Other why)
+    → ((word : List ℕ) (list : List Posting) → A word list → B word list) → OfPhrase h key One A → OfPhrase h key Other B
+map_phrase h None One Other A B refused goes of = refused refusals.NotOneTerm of
+map_phrase h (Some word) One Other A B refused goes (inl unknown) = inl (unknown.0, refused refusals.UnknownWord unknown.1)
+map_phrase h (Some word) One Other A B refused goes (inr (known, (list, is, of))) =
+    inr (known, (list, is, map_list (last_second h) One Other refused list (A word list) (B word list) (goes word list) of))
+
+sealed_phrase : (h : History) (phrase : List ℕ) (list : List Posting) (horizon : ℕ) (One Other : Refusal → Type 0) (A : Type 0) (B : List ℕ → List Posting → Type 0) → IsSealed h phrase list horizon → 0 < length list
+    → ((why : Refusal) → One why → Other why) → ((word : List ℕ) → A → B word list) → OfBoundaries horizon list One A → OfPhrase h (one_term phrase) Other B
+sealed_phrase h phrase list horizon One Other A B sealed some refused goes of =
+    let here = subst (λ (n : ℕ). OfBoundaries n list One A) sealed.horizon_is of in
+    let P : Option (List ℕ) → Type 0 = λ key. OfPhrase h key Other B in
+    subst P (sym sealed.word_is) (inr (sealed.known, (list, sealed.list_is, some_list (last_second h) One Other refused list A (B sealed.word list) some (goes sealed.word) here)))
+
+-- a plan of a sealed list that is refused, and one that is proposed
+pub wide_refused : (h : History) (phrase : List ℕ) (factor : Fraction) (list : List Posting) (horizon : ℕ) (why : Refusal) → IsSealed h phrase list horizon → 0 < length list
+    → OfBoundaries horizon list (λ because. why ≡ because) ⊥ → Proposes h phrase factor (Refused why)
+wide_refused h phrase factor list horizon why sealed some of =
+    sealed_phrase h phrase list horizon (λ because. why ≡ because) (λ because. Refused why ≡ Refused because) ⊥ (λ word list. ProposesPlan factor (last_second h) list (Refused why)) sealed some
+    (λ because e. ap Refused e) (λ word no_plan. absurd no_plan) of
+
+pub least_proposed : (h : History) (phrase : List ℕ) (factor : Fraction) (list : List Posting) (horizon : ℕ) (p : Proposal) → IsSealed h phrase list horizon → 0 < length list
+    → OfBoundaries horizon list (λ because. ⊥) (IsProposal list factor horizon p.segments.items p.nodes.items p.space) → Proposes h phrase factor (Proposed p.segments.items p.nodes.items p.space)
+least_proposed h phrase factor list horizon p sealed some of =
+    sealed_phrase h phrase list horizon (λ because. ⊥) (λ because. Proposed p.segments.items p.nodes.items p.space ≡ Refused because) (IsProposal list factor horizon p.segments.items p.nodes.items p.space)
+    (λ word list. ProposesPlan factor (last_second h) list (Proposed p.segments.items p.nodes.items p.space)) sealed some
+    (λ because none. absurd none)
+    (λ word proposal.
+    let here = subst (λ (n : ℕ). IsProposal list factor n p.segments.items p.nodes.items p.space) sealed.horizon_is proposal in
+    (p.segments.items, p.nodes.items, p.space, here, refl)) of
+
+-- a phrase that is refused before its list is planned
+pub phrase_refused : (h : History) (phrase : List ℕ) (factor : Fraction) (why : Refusal) → OfPhrase h (one_term phrase) (λ because. why ≡ because) (λ word list. ⊥) → Proposes h phrase factor (Refused why)
+phrase_refused h phrase factor why of =
+    map_phrase h (one_term phrase) (λ because. why ≡ because) (λ because. Refused why ≡ Refused because) (λ word list. ⊥) (λ word list. ProposesPlan factor (last_second h) list (Refused why))
+    (λ because e. ap Refused e) (λ word list no_plan. absurd no_plan) of
+
+-- a proposal that was asked for
+pub takes_propose : (h : History) (phrase : List ℕ) (factor : Fraction) (r : Result Proposal AskError) (d : DiskState) (a : ArchiveState)
+    → ((why : Refusal) → r ≡ Err (asks.Refused why) → Proposes h phrase factor (Refused why))
+    → IfOk r (λ p. Proposes h phrase factor (Proposed p.segments.items p.nodes.items p.space))
+    → IsKept d a h → Takes h (items.Command (commands.Propose phrase factor)) (proposed r) d d a
+takes_propose h phrase factor (Ok p) d a refused proposes kept =
+    takes_question h (items.Command (commands.Propose phrase factor)) (Proposed p.segments.items p.nodes.items p.space) (proposed (Ok p)) d d a (refl, proposes) refl kept refl
+takes_propose h phrase factor (Err (asks.Refused why)) d a refused proposes kept =
+    takes_question h (items.Command (commands.Propose phrase factor)) (Refused why) (proposed (Err (asks.Refused why))) d d a (refl, refused why refl) refl kept refl
+takes_propose h phrase factor (Err asks.Failed) d a refused proposes kept =
+    let any = each_proposes h phrase factor kept.stands.loadable in
+    takes_question h (items.Command (commands.Propose phrase factor)) any.0 Faulted d d a (refl, any.1) refl kept tt
+takes_propose h phrase factor (Err asks.Memory) d a refused proposes kept =
+    let any = each_proposes h phrase factor kept.stands.loadable in
+    takes_question h (items.Command (commands.Propose phrase factor)) any.0 Starved d d a (refl, any.1) refl kept tt

@@ -1,0 +1,144 @@
+//! What is planned for a word.
+ghost use Rattle.std.specs.Prelude.{◌≡◌, ◌<◌, ◌≤◌, ◌^◌, ℕ, List, [], ◌∷◌, length, All, IfOk, IsErrOf};
+ghost use Rattle.machine_model.specs.States.{DiskState};
+ghost use Rattle.fold_tokens.specs.Terms.{one_term as term_of};
+ghost use Rattle.postings.specs.ListsOf.{IsListOf};
+ghost use Rattle.proposals.specs.Proposals.{IsProposal};
+ghost use Rattle.archive_state.specs.Histories.{History};
+ghost use Rattle.archive_state.specs.Planning.{IsKnown, IsListUpTo, OfBoundaries, OfPhrase, OfWord, last_second};
+ghost use Rattle.archive_state.specs.Steps.{Proposed, Proposes, Refused};
+ghost use Rattle.archive_core.specs.States.{StandsFor, IsKept};
+ghost use Rattle.archive_core.specs.Sealing.{IsSealed};
+ghost use Rattle.archive_core.specs.Takes.{Takes, proposed};
+ghost use Rattle.commands.specs.declared.command.Command.TheVariants as commands;
+ghost use Rattle.commands.specs.declared.command.Item.TheVariants as items;
+
+use crate::archive::Archive;
+use crate::error::AskError;
+use archive_state::Refusal;
+use commands::Phrase;
+use elementary::Table;
+use fold_tokens::one_term;
+use guarantee_planner::{PlanError, plan};
+use postings::clip;
+use proposals::Proposal;
+use std::alloc::{AllocError, Global};
+use time_base::{Fraction, Key, Posting, Span, Time};
+
+/// So many postings and more are not planned; the memory for them is never there.
+const MANY_POSTINGS: usize = 1 << 38;
+
+/// A word's list up to the last time.
+#[derive(Drop)]
+pub(crate) struct Sealed {
+    pub(crate) list: Vec<Posting>,
+    pub(crate) horizon: Time,
+}
+
+impl Archive {
+    /// A least plan of a word's list up to the last time, in which each read costs at most the factor
+    /// times what is alive, with the least space up to each boundary. Nothing is stored or changed, and
+    /// no disk is asked.
+    ///
+    /// `Refused`: for the first cause in order, the phrase isn't one term, no text has the word, it has no
+    /// posting before the last time, or its list has too many boundaries. It is never `Failed`.
+    /// Costs `n log n` in the word's postings, and memory in them.
+    pub fn propose(
+        &self,
+        alloc: Global,
+        word: &Phrase,
+        factor: Fraction,
+    ) -> Result<Proposal, AskError>
+        ensures failed { IsErrOf result AskError.Failed → ⊥ }
+        // Whatever history it stands for: a refusal comes exactly where that has the cause (but for want of memory), and what is proposed is
+        // of it.
+        ensures refused { (h : History) → StandsFor self.now h → (why : Refusal) → IsErrOf result (AskError.Refused why) → Proposes h word.now factor (Refused why) }
+        ensures proposes { (h : History) → StandsFor self.now h → IfOk result (λ p. Proposes h word.now factor (Proposed p.segments.items p.nodes.items p.space)) }
+        // In step with a disk, it is a step of the abstract machine.
+        ensures takes { (d : DiskState) (h : History) → IsKept d self.now h → Takes h (items.Command (commands.Propose word.now factor)) (proposed result) d d self.now }
+    {
+        let Sealed { list, horizon } = self.sealed(alloc, word)?;
+        least_plan(alloc, &list, horizon, factor)
+    }
+
+    /// The list of a phrase's word up to the last time, or why it can't be planned.
+    fn sealed(&self, alloc: Global, word: &Phrase) -> Result<Sealed, AskError>
+        ensures failed { IsErrOf result AskError.Failed → ⊥ }
+        ensures refused { (h : History) → StandsFor self.now h → (why : Refusal) → IsErrOf result (AskError.Refused why) →
+            OfPhrase h (term_of word.now) (λ because. why ≡ because) (λ word list. ⊥) }
+        ensures sealed { (h : History) → StandsFor self.now h → IfOk result (λ s. IsSealed h word.now s.list.items s.horizon.seconds) }
+        ensures some { IfOk result (λ s. 0 < length s.list.items) }
+        ensures few { IfOk result (λ s. length s.list.items < 2 ^ 38) }
+        ensures early { IfOk result (λ s. All (λ p. p.span.to ≤ s.horizon.seconds) s.list.items) }
+    {
+        let Some(key) = one_term(alloc, word.as_str())? else {
+            return Err(AskError::Refused(Refusal::NotOneTerm));
+        };
+        self.sealed_list(alloc, &key)
+    }
+
+    /// The list of a word up to the last time, or why it can't be planned.
+    fn sealed_list(&self, alloc: Global, key: &Key) -> Result<Sealed, AskError>
+        ensures failed { IsErrOf result AskError.Failed → ⊥ }
+        ensures refused { (h : History) → StandsFor self.now h → (why : Refusal) → IsErrOf result (AskError.Refused why) →
+            OfWord h key.now (λ because. why ≡ because) (λ list. ⊥) }
+        ensures known { (h : History) → StandsFor self.now h → IfOk result (λ s. IsKnown h key.now) }
+        ensures list { (h : History) → StandsFor self.now h → IfOk result (λ s. IsListUpTo h key.now (last_second h) s.list.items) }
+        ensures horizon { (h : History) → StandsFor self.now h → IfOk result (λ s. s.horizon.seconds ≡ last_second h) }
+        ensures some { IfOk result (λ s. 0 < length s.list.items) }
+        ensures few { IfOk result (λ s. length s.list.items < 2 ^ 38) }
+        ensures early { IfOk result (λ s. All (λ p. p.span.to ≤ s.horizon.seconds) s.list.items) }
+    {
+        if !self.index().knows(key) {
+            return Err(AskError::Refused(Refusal::UnknownWord));
+        }
+        let Some(horizon) = self.directory().last() else {
+            return Err(AskError::Refused(Refusal::NothingSealed));
+        };
+        let list = list_up_to(alloc, self.index().list(key), horizon)?;
+        if list.is_empty() {
+            return Err(AskError::Refused(Refusal::NothingSealed));
+        }
+        if list.len() >= MANY_POSTINGS {
+            return Err(AskError::Memory);
+        }
+        Ok(Sealed { list, horizon })
+    }
+}
+
+/// A whole list, clipped to the times before a horizon. Costs its postings.
+fn list_up_to(alloc: Global, list: &[Posting], horizon: Time) -> Result<Vec<Posting>, AllocError>
+    ensures list { IfOk result (λ v. (f : ℕ → ℕ → ℕ) → IsListOf f 0 (2 ^ 40) list.now → IsListOf f 0 horizon.seconds v.items) }
+    ensures early { IfOk result (λ v. All (λ p. p.span.to ≤ horizon.seconds) v.items) }
+{
+    match Span::new(0, horizon.seconds()) {
+        Some(span) => clip(alloc, list, span),
+        None => Ok(Vec::new(alloc)),
+    }
+}
+
+/// A least plan of a list, as it is shown, or why there is none.
+fn least_plan(
+    alloc: Global,
+    list: &[Posting],
+    horizon: Time,
+    factor: Fraction,
+) -> Result<Proposal, AskError>
+    requires some { 0 < length list.now }
+    requires few { length list.now < 2 ^ 38 }
+    requires early { All (λ p. p.span.to ≤ horizon.seconds) list.now }
+    ensures failed { IsErrOf result AskError.Failed → ⊥ }
+    ensures refused { (why : Refusal) → IsErrOf result (AskError.Refused why) → OfBoundaries horizon.seconds list.now (λ because. why ≡ because) ⊥ }
+    ensures least { IfOk result (λ p. OfBoundaries horizon.seconds list.now (λ because. ⊥) (IsProposal list.now factor horizon.seconds p.segments.items p.nodes.items p.space)) }
+{
+    let table = Table::new(alloc, list, horizon)?;
+    let (partition, certificate) = match plan(alloc, &table, factor) {
+        Ok(planned) => planned,
+        Err(PlanError::TooWide { boundaries }) => {
+            return Err(AskError::Refused(Refusal::TooWide { boundaries }));
+        }
+        Err(PlanError::Memory) => return Err(AskError::Memory),
+    };
+    let proposal = Proposal::of(alloc, &table, &partition, certificate.pi())?;
+    Ok(proposal)
+}
