@@ -34,6 +34,7 @@ _PROBES = {
     "utf8": (b"arrive 1 1 2\n\xc3\xa9\n", b"ok 1\n"),
     "queries": (b"arrive 1 1 3\na b\nfind 1 a not c\n", b"ok 1\nhit 1 1\nend 1 read 1\n"),
     "between": (b"between 1 2 a\n", b"end 0 read 0\n"),
+    "propose": (b"propose a guarantee 1/1\n", b"no 13 UnknownWord\n"),
     "plans": (b"certificate a\n", b"no 13 UnknownWord\n"),
 }
 

@@ -44,7 +44,8 @@ def missing(story: str) -> list[str]:
         "utf8": "warc",
         "queries": r'find "[^"]+ [^"]+"',
         "between": r"tt -C archive (between|timeline)",
-        "plans": r"tt -C archive (plan|tradeoff)",
+        "propose": r"tt -C archive tradeoff",
+        "plans": r"tt -C archive plan",
     }
     return [what for what, words in wanted.items() if re.search(words, story) and not answers(what)]
 

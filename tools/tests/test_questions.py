@@ -153,7 +153,7 @@ class Pictures(ArchiveCase):
         self.assertIn("<td>odd &lt;name&gt;\\x1b\\xe9</td>", page.read_text())
         self.assertIn("no document ever had the word 'heron'", self.tt("timeline", "heron", status=1).stderr)
 
-    @needs("plans")
+    @needs("propose")
     def test_tradeoff(self) -> None:
         with self.open() as collection:
             found = tradeoff.gather(collection, "w2")

@@ -1,5 +1,5 @@
 -- What is proposed is of the history that an archive stands for.
-use Rattle.std.proofs.Common.{◌≡◌, ◌⊎◌, ℕ, ◌+◌, ◌<◌, ◌≤◌, ◌^◌, ◌↔◌, List, [], ◌∷◌, length, drop, All, Contains, Option, Some, None, option_map, unwrap_or, Result, Ok, Err, IfOk, refl, ap, sym, subst, ◌∙◌, inl, inr, arith}
+use Rattle.std.proofs.Common.{Bool, true, false, ◌≡◌, ◌⊎◌, ℕ, ◌+◌, ◌<◌, ◌≤◌, ◌^◌, ◌↔◌, List, [], ◌∷◌, length, drop, All, Contains, Option, Some, None, option_map, unwrap_or, Result, Ok, Err, IfOk, refl, ap, sym, subst, ◌∙◌, inl, inr, arith}
 use Rattle.std.specs.Prelude.{slice_index, min}
 use Rattle.std.specs.List.{AllZip}
 use Rattle.std.proofs.Math.Nat.{min-le_right}
@@ -7,12 +7,14 @@ use Rattle.std.proofs.lemmas.List.{length-drop}
 use Rattle.std.proofs.lemmas.List.Elements.{All-nil, All-cons}
 use Rattle.machine_model.specs.States.{DiskState}
 use Rattle.time_base.specs.declared.fraction.Fraction.{Fraction}
+use Rattle.time_base.specs.declared.time.Span.{Span}
 use Rattle.time_base.specs.declared.time.Time.{Time}
 use Rattle.time_base.specs.declared.text_place.TextPlace.{TextPlace}
 use Rattle.time_base.specs.declared.posting.Posting.{Posting}
 use Rattle.postings.specs.Lists.{sublist}
 use Rattle.postings.specs.Clips.{IsCut, IsClip}
 use Rattle.postings.specs.ListsOf.{IsListOf}
+use Rattle.postings.proofs.Clipping.{clip_of_list_of}
 use Rattle.elementary.specs.Boundaries.{AreBoundaries}
 use Rattle.elementary.specs.Counts.{Counts, Tabulates}
 use Rattle.elementary.specs.Partitions.{widest, IsLeast, AreBest, space}
@@ -66,6 +68,19 @@ clip_early f g [] (q ∷ clip) c = absurd c
 clip_early f g (p ∷ list) [] c = absurd c
 clip_early f g (p ∷ list) (q ∷ clip) c = All-cons (λ r. r.span.to ≤ g) q clip (omega (arith, c.0.to, min-le_right p.span.to g)) (clip_early f g list clip c.1)
 
+-- a list clipped at a time is the list up to there
+pub clipped : {T E : Type 0} (items : T → List Posting) (list : List Posting) (span : Span) (h : ℕ) (r : Result T E) → span.from ≡ 0 → span.to ≡ h
+    → IfOk r (λ v. IsClip span.from span.to list (items v)) → IfOk r (λ v. (f : ℕ → ℕ → ℕ) → IsListOf f 0 (2 ^ 40) list → IsListOf f 0 h (items v))
+clipped items list span h (Ok v) from to clip = λ f is.
+    let there = clip_of_list_of f 0 (2 ^ 40) span.from span.to list (items v) (omega arith) (omega (arith, span.in_time)) is clip in
+    subst (λ (n : ℕ). IsListOf f 0 n (items v)) to (subst (λ (n : ℕ). IsListOf f n span.to (items v)) from there)
+clipped items list span h (Err e) from to clip = tt
+
+pub clipped_early : {T E : Type 0} (items : T → List Posting) (list : List Posting) (span : Span) (h : ℕ) (r : Result T E) → span.to ≡ h
+    → IfOk r (λ v. IsClip span.from span.to list (items v)) → IfOk r (λ v. All (λ p. p.span.to ≤ h) (items v))
+clipped_early items list span h (Ok v) to clip = subst (λ (n : ℕ). All (λ p. p.span.to ≤ n) (items v)) to (clip_early span.from span.to (sublist span.from span.to list) (items v) clip)
+clipped_early items list span h (Err e) to clip = tt
+
 -- nothing happens before the first second
 pub none_before : (f : ℕ → ℕ → ℕ) (h : ℕ) → h ≡ 0 → IsListOf f 0 h []
 none_before f h zero = record {
@@ -87,17 +102,24 @@ pub is_least : (list : List Posting) (factor : Fraction) (horizon : ℕ) (table 
     → IsLeast list factor (slice_index cuts 0) (drop 1 cuts) horizon → AreBest list factor horizon table.boundaries numbers
     → AreSegments list (slice_index cuts 0) (drop 1 cuts) p.segments.items → AreNodes table.boundaries numbers p.nodes.items → p.space ≡ space list (slice_index cuts 0) (drop 1 cuts)
     → OfBoundaries horizon list (λ because. ⊥) (IsProposal list factor horizon p.segments.items p.nodes.items p.space)
-is_least list factor horizon table cuts numbers p t within least best segments nodes total = (table.boundaries, t.boundaries, inr (within, record {
-  first = slice_index cuts 0;
-  cuts = drop 1 cuts;
-  least = least;
-  segments_are = segments;
-  total_is = total;
-  times = table.boundaries;
-  numbers = numbers;
-  best = best;
-  nodes_are = nodes;
-}))
+is_least list factor horizon table cuts numbers p t within least best segments nodes total = (
+  table.boundaries,
+  t.boundaries,
+  inr (
+    within,
+    record {
+      first = slice_index cuts 0;
+      cuts = drop 1 cuts;
+      least = least;
+      segments_are = segments;
+      total_is = total;
+      times = table.boundaries;
+      numbers = numbers;
+      best = best;
+      nodes_are = nodes;
+    },
+  ),
+)
 
 -- the tests by other names of what they come to
 module _ (h : ℕ) (One Other : Refusal → Type 0) (refused : (why : Refusal) → One why → Other why) where
@@ -165,3 +187,27 @@ takes_propose h phrase factor (Err asks.Failed) d a refused proposes kept =
 takes_propose h phrase factor (Err asks.Memory) d a refused proposes kept =
     let any = each_proposes h phrase factor kept.stands.loadable in
     takes_question h (items.Command (commands.Propose phrase factor)) any.0 Starved d d a (refl, any.1) refl kept tt
+
+-- the refusal of a call that is refused
+why_of : {T : Type 0} → Refusal → Result T AskError → Refusal
+why_of other (Ok x) = other
+why_of other (Err (asks.Refused why)) = why
+why_of other (Err asks.Failed) = other
+why_of other (Err asks.Memory) = other
+
+pub one_why : {T : Type 0} (a b : Refusal) → ◌≡◌ {A = Result T AskError} (Err (asks.Refused a)) (Err (asks.Refused b)) → b ≡ a
+one_why a b e = sym (ap (why_of a) e)
+
+pub not_both : (b : Bool) → b ≡ false → b ≡ true → ⊥
+not_both true f t = absurd cc
+not_both false f t = absurd cc
+
+-- a word of which a history has no postings before its last time
+pub nothing_sealed : (h : History) (word : List ℕ) (list : List Posting) (why : Refusal) → IsKnown h word → IsListUpTo h word (last_second h) list → length list ≡ 0 → why ≡ refusals.NothingSealed
+    → OfWord h word (λ because. why ≡ because) (λ list. ⊥)
+nothing_sealed h word [] why known is none e = inr (known, ([], is, e))
+nothing_sealed h word (p ∷ list) why known is none e = absurd (omega (arith, none))
+
+-- nor is there a last time where there is no change
+pub no_second : (a : ArchiveState) (h : History) → StandsFor a h → last_time a.changes ≡ None → last_second h ≡ 0
+no_second a h stands e = ap (λ (o : Option Time). unwrap_or (option_map (λ t. t.seconds) o) 0) (sym (last_is a h stands) ∙ e)

@@ -57,8 +57,24 @@ impl Archive {
         // In step with a disk, it is a step of the abstract machine.
         ensures takes { (d : DiskState) (h : History) → IsKept d self.now h → Takes h (items.Command (commands.Propose word.now factor)) (proposed result) d d self.now }
     {
-        let Sealed { list, horizon } = self.sealed(alloc, word)?;
-        least_plan(alloc, &list, horizon, factor)
+        self.proposal_of(alloc, word, factor)
+    }
+
+    /// A least plan of the list of a phrase's word, or why it can't be planned.
+    fn proposal_of(
+        &self,
+        alloc: Global,
+        word: &Phrase,
+        factor: Fraction,
+    ) -> Result<Proposal, AskError>
+        ensures failed { IsErrOf result AskError.Failed → ⊥ }
+        ensures refused { (h : History) → StandsFor self.now h → (why : Refusal) → IsErrOf result (AskError.Refused why) → Proposes h word.now factor (Refused why) }
+        ensures proposes { (h : History) → StandsFor self.now h → IfOk result (λ p. Proposes h word.now factor (Proposed p.segments.items p.nodes.items p.space)) }
+    {
+        match self.sealed(alloc, word) {
+            Ok(sealed) => least_plan(alloc, &sealed.list, sealed.horizon, factor),
+            Err(error) => Err(error),
+        }
     }
 
     /// The list of a phrase's word up to the last time, or why it can't be planned.

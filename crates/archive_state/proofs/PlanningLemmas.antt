@@ -58,9 +58,9 @@ each_phrase history Refuses GoesOn refused lists goes None = refused refusals.No
 each_phrase history Refuses GoesOn refused lists goes (Some word) = elim (known_or_not (vocabulary history) word) [
   | inr unknown ↦ let (r, why) = refused refusals.UnknownWord in (r, inl (unknown, why))
   | inl known ↦
-    let (list, is) = lists word in
-    let (r, of) = each_list (last_second history) Refuses refused list (λ r. GoesOn r word list) (goes word list is) in
-    (r, inr (known, (list, is, of)))
+      let (list, is) = lists word in
+      let (r, of) = each_list (last_second history) Refuses refused list (λ r. GoesOn r word list) (goes word list is) in
+      (r, inr (known, (list, is, of)))
 ]
 
 -- Two results agree where each refusal has one, and so has what goes on.

@@ -46,18 +46,26 @@ each_has_a_proposal list factor horizon now early =
     let (numbers, best) = each_has_best list factor horizon times early b in
     let (first, (cuts, least)) = each_has_a_least list factor horizon early in
     let (segments, segments_are) = segmented list factor cuts first horizon least.covers now in
-    let (nodes, nodes_are) = numbered times numbers in
-    (segments, (nodes, (space list first cuts, record {
-      first = first;
-      cuts = cuts;
-      least = least;
-      segments_are = segments_are;
-      total_is = refl;
-      times = times;
-      numbers = numbers;
-      best = best;
-      nodes_are = nodes_are;
-    })))
+    let (nodes, nodes_are) = numbered times numbers in (
+      segments,
+      (
+        nodes,
+        (
+          space list first cuts,
+          record {
+            first = first;
+            cuts = cuts;
+            least = least;
+            segments_are = segments_are;
+            total_is = refl;
+            times = times;
+            numbers = numbers;
+            best = best;
+            nodes_are = nodes_are;
+          },
+        ),
+      ),
+    )
 
 -- what is shown of nodes is all of them
 maps_same : {X Y : Type 0} (f : X → Y) → ((x y : X) → f x ≡ f y → x ≡ y) → (a b : List X) → map f a ≡ map f b → a ≡ b
@@ -77,8 +85,7 @@ differ_in_segments list factor horizon segments others nodes those total sum p q
     let numbers : p.numbers ≡ q.numbers = one_list_of_best list factor horizon q.times p.numbers q.numbers best q.best in
     let first : p.first ≡ q.first = omega (arith, p.least.first.none_before q.first q.least.first.is, q.least.first.none_before p.first p.least.first.is) in
     let over = p.least.least q.cuts (subst (λ f. Covers list factor f q.cuts horizon) (sym first) q.least.covers) in
-    let under = q.least.least p.cuts (subst (λ f. Covers list factor f p.cuts horizon) first p.least.covers) in
-    (
+    let under = q.least.least p.cuts (subst (λ f. Covers list factor f p.cuts horizon) first p.least.covers) in (
       maps_same bare_node same_node nodes those (p.nodes_are ∙ ap (λ (ts : List ℕ). zip ts p.numbers) times ∙ ap (λ (ns : List ℕ). zip q.times ns) numbers ∙ sym q.nodes_are),
       omega (arith, over, under, p.total_is, q.total_is, ap (λ f. space list f p.cuts) first, ap (λ f. space list f q.cuts) first),
     )

@@ -11,4 +11,3 @@ mod proposal;
 
 pub use laws::{each_list_has_a_proposal, proposals_differ_in_segments};
 pub use proposal::{Node, Proposal, Segment};
-

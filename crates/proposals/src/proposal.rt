@@ -70,11 +70,7 @@ impl Proposal {
 }
 
 /// The segments between cuts, of these sizes.
-fn segments_of(
-    alloc: Global,
-    cuts: &[u64],
-    sizes: &[u64],
-) -> Result<Vec<Segment>, AllocError>
+fn segments_of(alloc: Global, cuts: &[u64], sizes: &[u64]) -> Result<Vec<Segment>, AllocError>
     requires ascending { IsStrictlyIncreasing cuts.now }
     requires in_time { All (λ x. x < 2 ^ 40) cuts.now }
     requires many { length cuts.now ≡ length sizes.now + 1 }

@@ -4,8 +4,10 @@ ghost use Rattle.version_index.specs.Indexing.{ComesLater};
 ghost use Rattle.version_index.specs.Loads.{Loads};
 
 use super::*;
+use fold_tokens::NumberError;
 use std::alloc::{AllocError, Global};
 use std::process::Abort;
+use std::str;
 use std::test::Fail;
 use time_base::{DocId, Key, NOW, Posting, Span, Time};
 
@@ -199,5 +201,49 @@ fn a_change_that_is_dropped_changes_no_answer(rt: HostRuntime) -> Result<(), Fai
     assert_eq!(rt; index.list(&red), [posting(1, 10, 20, 1)].as_slice());
     let green = key(&rt, alloc, "green")?;
     assert_eq!(rt; index.list(&green), [posting(1, 20, NOW, 1)].as_slice());
+    Ok(())
+}
+
+const DIGITS: &[u8; 36] = b"0123456789abcdefghijklmnopqrstuvwxyz";
+
+/// So many distinct words, each of four letters or digits.
+fn distinct_words(alloc: Global, count: u32) -> Result<Vec<u8>, AllocError> {
+    let mut text = Vec::new(alloc);
+    for n in 0..count {
+        for place in [46656, 1296, 36, 1] {
+            text.push(DIGITS[(n / place % 36) as usize])?;
+        }
+        text.push(b' ')?;
+    }
+    Ok(text)
+}
+
+/// Why a text of document 7 can't be prepared.
+fn refusal(rt: &impl Abort, alloc: Global, index: &mut Index, text: &str) -> Option<NumberError> {
+    assert!(rt; is_short(Some(text)));
+    index.prepare(alloc, DocId(7), Some(text)).err()
+}
+
+#[test]
+fn there_may_be_2_to_the_20_words_and_no_more(rt: HostRuntime) -> Result<(), Fail> {
+    let alloc = rt.alloc();
+    let most = distinct_words(alloc, 1 << 20)?;
+    let more = distinct_words(alloc, (1 << 20) + 1)?;
+    let most = str::from_utf8(&most).map_err(|_| "a text")?;
+    let more = str::from_utf8(&more).map_err(|_| "a text")?;
+    let mut index = Index::new(alloc)?;
+    assert_eq!(rt;
+        refusal(&rt, alloc, &mut index, more),
+        Some(NumberError::Full)
+    );
+    let time = Time::new(10).ok_or("a time")?;
+    commit(&rt, alloc, &mut index, DocId(7), time, Some(most));
+    let last = key(&rt, alloc, "mh33")?;
+    assert_eq!(rt; index.list(&last), [posting(7, 10, NOW, 1)].as_slice());
+    assert_eq!(rt; refusal(&rt, alloc, &mut index, "MH33 0000"), None);
+    assert_eq!(rt;
+        refusal(&rt, alloc, &mut index, "mh33 mh34"),
+        Some(NumberError::Full)
+    );
     Ok(())
 }

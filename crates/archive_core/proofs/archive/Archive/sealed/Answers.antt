@@ -1,0 +1,9 @@
+use Rattle.std.proofs.Common.{◌≡◌, List, ℕ, Option, Some, ap, sym, subst, ◌∙◌}
+use Rattle.fold_tokens.specs.Terms.{one_term}
+use Rattle.archive_state.specs.Planning.{OfPhrase}
+use Rattle.archive_core.proofs.archive.Archive.sealed.Goals as goal
+
+pub returns-clause-refused : goal.returns-clause-refused
+returns-clause-refused c = λ h stands why e.
+    let P : Option (List ℕ) → Type 0 = λ key. OfPhrase h key (λ because. why ≡ because) (λ word list. ⊥) in
+    subst P (sym (ap one_term (sym c.as_str.ensures.value) ∙ sym c.in_ok-key.ensures ∙ c.in-Some.is)) (c.sealed_list.ensures.refused h stands why e)
