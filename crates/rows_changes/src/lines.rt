@@ -1,5 +1,5 @@
 //! Lines of the input: what is skipped, what is no command, dates, and texts of any bytes.
-use crate::rig::{FIRST_SCRIPT, Row, expect_rows, join};
+use archive_rig::{FIRST_SCRIPT, Row, expect_rows, join};
 use std::test::Fail;
 
 #[test]
@@ -16,7 +16,8 @@ fn a_line_that_is_no_command_is_refused_and_the_run_goes_on(rt: HostRuntime) -> 
         script: &script,
         replies: b"ok 1\nno 1 Line\nno 1 Line\nno 1 Line\nno 1 Line\nno 1 Line\nno 1 Line\nno 1 Line\nno 1 Line\nno 1 Line\nhit 7 1\nend 1 read 1\n",
     }];
-    expect_rows(&rt, alloc, b"", &rows)
+    expect_rows(alloc, b"", &rows)?;
+    Ok(())
 }
 
 #[test]
@@ -25,7 +26,8 @@ fn what_is_not_built_yet_is_refused_as_no_command(rt: HostRuntime) -> Result<(),
         script: b"arrive 7 10 5\nred a\nplan red guarantee 1/1\nplan red space 3/2 uniform\nplan red space 3/2 since 10\npropose red guarantee 1/1\ncertificate red\nverify\nplan red guarantee 1/2\n",
         replies: b"ok 1\nno 1 Line\nno 1 Line\nno 1 Line\nno 1 Line\nno 1 Line\nno 1 Line\nno 1 Line\n",
     }];
-    expect_rows(&rt, rt.alloc(), b"", &rows)
+    expect_rows(rt.alloc(), b"", &rows)?;
+    Ok(())
 }
 
 #[test]
@@ -45,7 +47,8 @@ fn comments_blank_lines_spaces_and_line_ends(rt: HostRuntime) -> Result<(), Fail
             replies: b"ok 1\nhit 7 1\nend 1 read 1\n",
         },
     ];
-    expect_rows(&rt, rt.alloc(), b"", &rows)
+    expect_rows(rt.alloc(), b"", &rows)?;
+    Ok(())
 }
 
 #[test]
@@ -61,7 +64,8 @@ fn a_date_is_a_day_of_the_calendar_from_1970_on(rt: HostRuntime) -> Result<(), F
             replies: b"ok 1\nno 3 SameTime\n",
         },
     ];
-    expect_rows(&rt, rt.alloc(), b"", &rows)
+    expect_rows(rt.alloc(), b"", &rows)?;
+    Ok(())
 }
 
 #[test]
@@ -70,7 +74,8 @@ fn texts_of_any_bytes_are_refused_by_the_first_cause(rt: HostRuntime) -> Result<
         script: b"arrive 7 10 3\nred\narrive 8 5 3\nred\narrive 7 10 3\nred\narrive 9 5 2\n\xc3\x28\ndelete 8 10\ndelete 7 10\ndelete 7 9\n",
         replies: b"ok 1\nno 2 TimeBack 10\nno 3 SameTime\nno 6 BadText 0\nno 4 NoDocument\nno 3 SameTime\nno 2 TimeBack 10\n",
     }];
-    expect_rows(&rt, rt.alloc(), b"", &rows)
+    expect_rows(rt.alloc(), b"", &rows)?;
+    Ok(())
 }
 
 #[test]
@@ -82,7 +87,8 @@ fn a_text_above_the_limit_is_passed_over(rt: HostRuntime) -> Result<(), Fail> {
         script: &script,
         replies: b"no 5 TooLong 4194304\nno 1 Line\n",
     }];
-    expect_rows(&rt, alloc, b"", &rows)
+    expect_rows(alloc, b"", &rows)?;
+    Ok(())
 }
 
 #[test]
@@ -91,5 +97,6 @@ fn a_word_is_found_in_a_text_of_any_script_by_the_script(rt: HostRuntime) -> Res
         script: "arrive 1 10 7\nStraße\narrive 2 10 2\né\nfind 10 STRASSE\nshow 2 10\n".as_bytes(),
         replies: "ok 1\nok 2\nhit 1 1\nend 1 read 1\ntext 2\né\n".as_bytes(),
     }];
-    expect_rows(&rt, rt.alloc(), b"", &rows)
+    expect_rows(rt.alloc(), b"", &rows)?;
+    Ok(())
 }

@@ -1,5 +1,5 @@
 //! Each device call of a run failing once, in turn.
-use crate::rig::{FIRST_JOURNAL, expect_shown, make_machine, run_on};
+use archive_rig::{FIRST_JOURNAL, expect_shown, make_machine, run_on};
 use archive_shell::Status;
 use machine_mem::{CallKind, Fault};
 use std::alloc::Global;
@@ -34,10 +34,10 @@ fn ends_despite(
     start: &Start<'_>,
     fault: Fault,
 ) -> Result<bool, Fail> {
-    let mut machine = make_machine(rt, alloc, SCRIPT, start.journal, &[fault])?;
-    let status = run_on(rt, alloc, &mut machine);
+    let mut machine = make_machine(alloc, SCRIPT, start.journal, &[fault])?;
+    let status = run_on(alloc, &mut machine)?;
     assert!(rt; start.replies.starts_with(machine.shown()), "{fault:?}");
-    expect_shown(rt, alloc, &machine, start.entries)?;
+    expect_shown(alloc, &machine, start.entries)?;
     if status == Status::Done {
         assert_eq!(rt; machine.shown(), start.replies, "{fault:?}");
         return Ok(true);

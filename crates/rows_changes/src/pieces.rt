@@ -1,5 +1,5 @@
 //! The input in pieces of any size: the same replies, the same status and the same journal.
-use crate::rig::{
+use archive_rig::{
     FIRST_SCRIPT, MIXED_JOURNAL, MIXED_REPLIES, MIXED_SCRIPT, join, make_machine, read_journal,
     run_on,
 };
@@ -29,8 +29,8 @@ fn expect_alike(
 ) -> Result<(), Fail> {
     for piece in PIECES {
         assert!(rt; piece >= 1);
-        let mut machine = make_machine(rt, alloc, script, b"", &[])?.with_pulls_of(piece);
-        assert_eq!(rt; run_on(rt, alloc, &mut machine), want.status, "{piece}");
+        let mut machine = make_machine(alloc, script, b"", &[])?.with_pulls_of(piece);
+        assert_eq!(rt; run_on(alloc, &mut machine)?, want.status, "{piece}");
         assert_eq!(rt; machine.shown(), want.replies, "{piece}");
         let journal = read_journal(alloc, &mut machine)?;
         assert_eq!(rt; journal.as_slice(), want.journal, "{piece}");
@@ -129,8 +129,8 @@ fn a_pull_that_fails_ends_the_run_behind_the_items_that_are_whole(
             nth,
             kept: 0,
         };
-        let mut machine = make_machine(&rt, alloc, MIXED_SCRIPT, b"", &[fault])?.with_pulls_of(7);
-        assert_eq!(rt; run_on(&rt, alloc, &mut machine), Status::Source, "{nth}");
+        let mut machine = make_machine(alloc, MIXED_SCRIPT, b"", &[fault])?.with_pulls_of(7);
+        assert_eq!(rt; run_on(alloc, &mut machine)?, Status::Source, "{nth}");
         let mut shown = 0;
         // where each item ends, and its reply
         for (item, reply) in [(18, 5), (30, 10), (45, 15), (63, 20), (75, 25)] {

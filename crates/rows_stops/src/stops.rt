@@ -1,7 +1,7 @@
 //! What a stop may leave: after each device call of a run, and where a call of it fails.
-use crate::rig::{
-    FILLS, FIRST_SCRIPT, MIXED_ENDS, MIXED_JOURNAL, MIXED_REPLIES, MIXED_SCRIPT, expect_entries,
-    expect_shown, load_image, make_machine, pick_entries, pick_image, run_on,
+use archive_rig::{
+    EXTRAS, FILLS, FIRST_SCRIPT, MIXED_ENDS, MIXED_JOURNAL, MIXED_REPLIES, MIXED_SCRIPT,
+    expect_entries, expect_shown, load_image, make_machine, pick_entries, pick_image, run_on,
 };
 use archive_shell::Status;
 use machine_mem::{CallKind, Fault, Fill, Picked, Tail};
@@ -14,16 +14,18 @@ use std::test::Fail;
 #[test]
 fn a_stop_in_the_first_script_leaves_none_or_its_one_entry(rt: HostRuntime) -> Result<(), Fail> {
     let alloc = rt.alloc();
-    let mut machine = make_machine(&rt, alloc, FIRST_SCRIPT, b"", &[])?;
-    assert_eq!(rt; run_on(&rt, alloc, &mut machine), Status::Done);
+    let mut machine = make_machine(alloc, FIRST_SCRIPT, b"", &[])?;
+    assert_eq!(rt; run_on(alloc, &mut machine)?, Status::Done);
     assert_eq!(rt; machine.moments(), 9);
-    for moment in 0..6 {
-        expect_entries(&rt, alloc, &machine, moment, 0, 0)?;
-    }
-    // the gate is written, and not yet synced
-    expect_entries(&rt, alloc, &machine, 6, 0, 1)?;
-    for moment in 7..9 {
-        expect_entries(&rt, alloc, &machine, moment, 1, 1)?;
+    for (moments, least, most) in [
+        (0..6, 0, 0),
+        // the gate is written, and not yet synced
+        (6..7, 0, 1),
+        (7..9, 1, 1),
+    ] {
+        for moment in moments {
+            expect_entries(alloc, &machine, moment, least, most)?;
+        }
     }
     Ok(())
 }
@@ -33,25 +35,64 @@ fn a_stop_among_arrivals_and_deletions_leaves_what_was_acknowledged_or_one_more(
     rt: HostRuntime,
 ) -> Result<(), Fail> {
     let alloc = rt.alloc();
-    let mut machine = make_machine(&rt, alloc, MIXED_SCRIPT, b"", &[])?;
-    assert_eq!(rt; run_on(&rt, alloc, &mut machine), Status::Done);
+    let mut machine = make_machine(alloc, MIXED_SCRIPT, b"", &[])?;
+    assert_eq!(rt; run_on(alloc, &mut machine)?, Status::Done);
     assert_eq!(rt; machine.shown(), MIXED_REPLIES);
     // three calls at the load, and four and a push for each command
     assert_eq!(rt; machine.moments(), 29);
-    expect_shown(&rt, alloc, &machine, 0)
+    expect_shown(alloc, &machine, 0)?;
+    Ok(())
+}
+
+/// A script of so many arrivals of one document, a second apart.
+fn many_arrivals(alloc: Global, count: u64) -> Result<Vec<u8>, Fail> {
+    let mut script = Vec::new(alloc);
+    for at in 0..count {
+        let item = format!(in alloc; "arrive 7 {at} 1\nx\n")?;
+        script.extend_from_slice(item.as_bytes())?;
+    }
+    Ok(script)
+}
+
+// Behind the load's three calls each arrival has five. Of the third, which writes the open gate, all
+// bytes may be left, or none.
+#[test]
+fn a_stop_among_4096_arrivals_leaves_what_was_acknowledged_or_one_more(
+    rt: HostRuntime,
+) -> Result<(), Fail> {
+    let alloc = rt.alloc();
+    let script = many_arrivals(alloc, 4096)?;
+    let mut machine = make_machine(alloc, &script, b"", &[])?;
+    assert_eq!(rt; run_on(alloc, &mut machine)?, Status::Done);
+    assert_eq!(rt; machine.moments(), 20_484);
+    for (moment, fill, want) in [
+        (3, Fill::Written, 0),
+        (10_243, Fill::Written, 2048),
+        (10_246, Fill::Written, 2049),
+        (10_246, Fill::Byte(0), 2048),
+        (20_483, Fill::Byte(0), 4096),
+    ] {
+        let tail = Tail {
+            extra: u64::MAX,
+            fill,
+        };
+        let entries = pick_entries(alloc, &machine, moment, tail)?;
+        assert_eq!(rt; entries, want, "{fill:?} at {moment}");
+    }
+    Ok(())
 }
 
 /// The archive of an image that the mixed script may leave: its journal spells as many of the
 /// script's entries as it has. A stop at any moment inside its load leaves the same history.
 fn expect_same_after_stops(rt: &impl Abort, alloc: Global, picked: Picked) -> Result<(), Fail> {
     let journal = Vec::from_slice(alloc, &picked.image.journal)?;
-    let (archive, machine) = load_image(rt, alloc, picked.image)?;
+    let (archive, machine) = load_image(alloc, picked.image)?;
     let entries = archive.length();
     assert!(rt; entries <= 5);
     let end = MIXED_ENDS[entries as usize];
     assert!(rt; entries == 0 || journal.starts_with(&MIXED_JOURNAL[..end]));
     for moment in 0..machine.moments() {
-        expect_entries(rt, alloc, &machine, moment, entries, entries)?;
+        expect_entries(alloc, &machine, moment, entries, entries)?;
     }
     Ok(())
 }
@@ -61,12 +102,12 @@ fn a_stop_inside_the_load_that_follows_leaves_the_same_history(
     rt: HostRuntime,
 ) -> Result<(), Fail> {
     let alloc = rt.alloc();
-    let mut machine = make_machine(&rt, alloc, MIXED_SCRIPT, b"", &[])?;
-    assert_eq!(rt; run_on(&rt, alloc, &mut machine), Status::Done);
+    let mut machine = make_machine(alloc, MIXED_SCRIPT, b"", &[])?;
+    assert_eq!(rt; run_on(alloc, &mut machine)?, Status::Done);
     for moment in 0..machine.moments() {
         for fill in FILLS {
-            for extra in [0, 7, u64::MAX] {
-                let picked = pick_image(&rt, alloc, &machine, moment, Tail { extra, fill })?;
+            for extra in EXTRAS {
+                let picked = pick_image(alloc, &machine, moment, Tail { extra, fill })?;
                 expect_same_after_stops(&rt, alloc, picked)?;
             }
         }
@@ -82,14 +123,14 @@ fn where_the_gate_is_not_synced_its_byte_decides(rt: HostRuntime) -> Result<(), 
         nth: 4,
         kept: 0,
     };
-    let mut machine = make_machine(&rt, alloc, FIRST_SCRIPT, b"", &[fault])?;
-    assert_eq!(rt; run_on(&rt, alloc, &mut machine), Status::Disk);
+    let mut machine = make_machine(alloc, FIRST_SCRIPT, b"", &[fault])?;
+    assert_eq!(rt; run_on(alloc, &mut machine)?, Status::Disk);
     assert_eq!(rt; machine.shown(), b"".as_slice());
     for moment in 0..6 {
-        expect_entries(&rt, alloc, &machine, moment, 0, 0)?;
+        expect_entries(alloc, &machine, moment, 0, 0)?;
     }
     for moment in 6..machine.moments() {
-        expect_entries(&rt, alloc, &machine, moment, 0, 1)?;
+        expect_entries(alloc, &machine, moment, 0, 1)?;
         for (fill, want) in [
             (Fill::Written, 1),
             (Fill::Byte(0xa5), 1),
@@ -100,7 +141,7 @@ fn where_the_gate_is_not_synced_its_byte_decides(rt: HostRuntime) -> Result<(), 
                 extra: u64::MAX,
                 fill,
             };
-            let entries = pick_entries(&rt, alloc, &machine, moment, tail)?;
+            let entries = pick_entries(alloc, &machine, moment, tail)?;
             assert_eq!(rt; entries, want, "{fill:?} at {moment}");
         }
     }
@@ -115,11 +156,11 @@ fn a_fault_before_the_gate_leaves_no_entry(rt: HostRuntime) -> Result<(), Fail> 
         (CallKind::Pull, 1, Status::Source),
     ] {
         let fault = Fault { call, nth, kept: 0 };
-        let mut machine = make_machine(&rt, alloc, FIRST_SCRIPT, b"", &[fault])?;
-        assert_eq!(rt; run_on(&rt, alloc, &mut machine), want);
+        let mut machine = make_machine(alloc, FIRST_SCRIPT, b"", &[fault])?;
+        assert_eq!(rt; run_on(alloc, &mut machine)?, want);
         assert_eq!(rt; machine.shown(), b"".as_slice());
         for moment in 0..machine.moments() {
-            expect_entries(&rt, alloc, &machine, moment, 0, 0)?;
+            expect_entries(alloc, &machine, moment, 0, 0)?;
         }
     }
     Ok(())
@@ -133,10 +174,11 @@ fn an_arrival_whose_reply_fails_is_in_the_journal(rt: HostRuntime) -> Result<(),
         nth: 1,
         kept: 0,
     };
-    let mut machine = make_machine(&rt, alloc, FIRST_SCRIPT, b"", &[fault])?;
-    assert_eq!(rt; run_on(&rt, alloc, &mut machine), Status::Sink);
+    let mut machine = make_machine(alloc, FIRST_SCRIPT, b"", &[fault])?;
+    assert_eq!(rt; run_on(alloc, &mut machine)?, Status::Sink);
     assert_eq!(rt; machine.shown(), b"".as_slice());
     let last = machine.moments() - 1;
-    expect_entries(&rt, alloc, &machine, last, 1, 1)?;
-    expect_shown(&rt, alloc, &machine, 0)
+    expect_entries(alloc, &machine, last, 1, 1)?;
+    expect_shown(alloc, &machine, 0)?;
+    Ok(())
 }

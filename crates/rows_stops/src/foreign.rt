@@ -1,5 +1,5 @@
 //! Journals that are no archive's, and journals that are new whatever their bytes are.
-use crate::rig::{FIRST_JOURNAL, NEW_JOURNAL, count_on, join, make_machine, read_journal, run_on};
+use archive_rig::{FIRST_JOURNAL, NEW_JOURNAL, count_on, join, make_machine, read_journal, run_on};
 use archive_shell::Status;
 use std::alloc::Global;
 use std::process::Abort;
@@ -13,8 +13,8 @@ fn expect_run(
     status: Status,
     left: &[u8],
 ) -> Result<(), Fail> {
-    let mut machine = make_machine(rt, alloc, b"", journal, &[])?;
-    assert_eq!(rt; run_on(rt, alloc, &mut machine), status, "{journal:?}");
+    let mut machine = make_machine(alloc, b"", journal, &[])?;
+    assert_eq!(rt; run_on(alloc, &mut machine)?, status, "{journal:?}");
     assert_eq!(rt; machine.shown(), b"".as_slice());
     let bytes = read_journal(alloc, &mut machine)?;
     assert_eq!(rt; bytes.as_slice(), left, "{journal:?}");
@@ -71,7 +71,7 @@ fn a_closed_gate_ends_the_journal(rt: HostRuntime) -> Result<(), Fail> {
     for byte in [0x00, 0xa4, 0xff] {
         let journal = altered(alloc, 16, byte)?;
         expect_run(&rt, alloc, &journal, Status::Done, &journal)?;
-        assert_eq!(rt; count_on(&rt, alloc, &journal)?, 0);
+        assert_eq!(rt; count_on(alloc, &journal)?, 0);
     }
     Ok(())
 }

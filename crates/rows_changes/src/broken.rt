@@ -1,5 +1,5 @@
 //! Scripts that are broken: the place, and what was carried out before it.
-use crate::rig::{
+use archive_rig::{
     FIRST_JOURNAL, FIRST_SCRIPT, NEW_JOURNAL, join, make_machine, read_journal, run_on,
 };
 use archive_shell::Status;
@@ -18,8 +18,8 @@ fn expect_broken(rt: &impl Abort, alloc: Global, bytes: &[u8], place: u64) -> Re
         (FIRST_SCRIPT, b"ok 1\n".as_slice(), FIRST_JOURNAL),
     ] {
         let script = join(alloc, &[before, bytes])?;
-        let mut machine = make_machine(rt, alloc, &script, b"", &[])?;
-        let status = run_on(rt, alloc, &mut machine);
+        let mut machine = make_machine(alloc, &script, b"", &[])?;
+        let status = run_on(alloc, &mut machine)?;
         let at = place.saturating_add(before.len() as u64);
         assert_eq!(rt; status, Status::Script { at }, "{bytes:?}");
         assert_eq!(rt; status.code(), 7);
@@ -100,8 +100,8 @@ fn a_line_has_at_most_4096_bytes(rt: HostRuntime) -> Result<(), Fail> {
         (4097, b"\r\n".as_slice(), Status::Script { at: 0 }),
     ] {
         let script = long_line(alloc, bytes, end)?;
-        let mut machine = make_machine(&rt, alloc, &script, b"", &[])?;
-        assert_eq!(rt; run_on(&rt, alloc, &mut machine), want, "{bytes}");
+        let mut machine = make_machine(alloc, &script, b"", &[])?;
+        assert_eq!(rt; run_on(alloc, &mut machine)?, want, "{bytes}");
     }
     Ok(())
 }

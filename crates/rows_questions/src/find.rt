@@ -1,7 +1,5 @@
-//! What is found as of a time and over a window of time, and the texts that are shown.
-use crate::deletions::{expect_changes, made};
-use crate::rig::{FIRST_JOURNAL, Row, expect_rows, join, make_machine, read_journal, run_on};
-use archive_shell::Status;
+//! What is found as of a time.
+use archive_rig::{FIRST_JOURNAL, Row, expect_changes, expect_rows, join, made, read_journal};
 use std::alloc::{AllocError, Global};
 use std::test::Fail;
 
@@ -22,7 +20,8 @@ fn a_word_is_found_while_a_version_has_it(rt: HostRuntime) -> Result<(), Fail> {
             replies: b"end 0 read 1\nhit 7 1\nend 1 read 1\nnone\ntext 5\nred a\n",
         },
     ];
-    expect_rows(&rt, rt.alloc(), FIRST_JOURNAL, &rows)
+    expect_rows(rt.alloc(), FIRST_JOURNAL, &rows)?;
+    Ok(())
 }
 
 #[test]
@@ -44,7 +43,8 @@ fn versions_of_one_frequency_are_one_posting_and_a_gap_parts_two(
             replies: b"ok 1\nok 2\nok 3\nhit 7 1\nend 1 read 3\nhit 7 2\nend 1 read 3\nhit 7 1\nend 1 read 3\n",
         },
     ];
-    expect_rows(&rt, rt.alloc(), b"", &rows)
+    expect_rows(rt.alloc(), b"", &rows)?;
+    Ok(())
 }
 
 #[test]
@@ -53,7 +53,8 @@ fn rows_come_by_score_and_then_by_document(rt: HostRuntime) -> Result<(), Fail> 
         script: b"arrive 9 10 3\nred\narrive 5 10 7\nred red\narrive 3 10 3\nred\narrive 4 10 4\nblue\nfind 10 red\n",
         replies: b"ok 1\nok 2\nok 3\nok 4\nhit 5 2\nhit 3 1\nhit 9 1\nend 3 read 3\n",
     }];
-    expect_rows(&rt, rt.alloc(), b"", &rows)
+    expect_rows(rt.alloc(), b"", &rows)?;
+    Ok(())
 }
 
 #[test]
@@ -80,7 +81,8 @@ fn a_word_is_found_in_any_case_and_script(rt: HostRuntime) -> Result<(), Fail> {
             replies: b"ok 1\nok 2\nhit 8 1\nend 1 read 1\ntext 0\n\ntext 1\na\n",
         },
     ];
-    expect_rows(&rt, rt.alloc(), b"", &rows)
+    expect_rows(rt.alloc(), b"", &rows)?;
+    Ok(())
 }
 
 #[test]
@@ -105,7 +107,8 @@ fn words_are_joined_by_and_or_and_not(rt: HostRuntime) -> Result<(), Fail> {
             replies: b"ok 1\nhit 7 2\nend 1 read 1\nhit 7 2\nend 1 read 1\nend 0 read 1\nhit 7 2\nend 1 read 1\nhit 7 2\nend 1 read 1\n",
         },
     ];
-    expect_rows(&rt, rt.alloc(), b"", &rows)
+    expect_rows(rt.alloc(), b"", &rows)?;
+    Ok(())
 }
 
 #[test]
@@ -114,55 +117,8 @@ fn what_lacks_a_word_is_found_while_it_is_alive(rt: HostRuntime) -> Result<(), F
         script: b"arrive 1 10 4\nblue\narrive 2 20 3\nred\ndelete 1 30\narrive 2 40 5\ngreen\nfind 9 not red\nfind 10 not red\nfind 20 not red\nfind 30 not red\nfind 40 not red\nfind 40 not red blue\n",
         replies: b"ok 1\nok 2\nok 3\nok 4\nend 0 read 1\nhit 1 0\nend 1 read 1\nhit 1 0\nend 1 read 1\nend 0 read 1\nhit 2 0\nend 1 read 1\nend 0 read 2\n",
     }];
-    expect_rows(&rt, rt.alloc(), b"", &rows)
-}
-
-#[test]
-fn what_is_found_over_a_window_is_its_longest_spans_there(rt: HostRuntime) -> Result<(), Fail> {
-    let rows = [
-        Row {
-            script: b"arrive 1 10 1\nv\narrive 2 20 1\nv\ndelete 2 30\ndelete 1 40\nbetween 15 35 v\nbetween 30 41 v\nbetween 41 30 v\nbetween 30 30 v\nbetween 10 20 red or\n",
-            replies: b"ok 1\nok 2\nok 3\nok 4\nspan 1 15 35 1\nspan 2 20 30 1\nend 2 read 2\nspan 1 30 40 1\nend 1 read 2\nno 1 Line\nno 1 Line\nno 11 BadQuery 6\n",
-        },
-        // a version of the same score goes on, one of another score begins a span
-        Row {
-            script: b"arrive 7 10 5\nred a\narrive 7 20 7\nred bee\narrive 7 30 7\nred red\nbetween 0 40 red\nbetween 15 25 RED\nbetween 0 10 red\nbetween 0 40 moon\n",
-            replies: b"ok 1\nok 2\nok 3\nspan 7 10 30 1\nspan 7 30 40 2\nend 2 read 2\nspan 7 15 25 1\nend 1 read 2\nend 0 read 2\nend 0 read 0\n",
-        },
-        // also where it has the score by another word
-        Row {
-            script: b"arrive 7 10 3\nred\narrive 7 20 4\nblue\nbetween 0 30 red or blue\n",
-            replies: b"ok 1\nok 2\nspan 7 10 30 1\nend 1 read 2\n",
-        },
-        // a gap parts two; a window may be one second
-        Row {
-            script: b"arrive 7 10 3\nred\ndelete 7 20\narrive 7 30 3\nred\nbetween 0 40 red\nbetween 19 31 red\nbetween 19 20 red\nbetween 20 21 red\nbetween 29 30 red\nbetween 30 31 red\n",
-            replies: b"ok 1\nok 2\nok 3\nspan 7 10 20 1\nspan 7 30 40 1\nend 2 read 2\nspan 7 19 20 1\nspan 7 30 31 1\nend 2 read 2\nspan 7 19 20 1\nend 1 read 2\nend 0 read 2\nend 0 read 2\nspan 7 30 31 1\nend 1 read 2\n",
-        },
-        // the last time ends the last window
-        Row {
-            script: b"arrive 7 10 3\nred\nbetween 0 1099511627775 red\nbetween 1099511627774 1099511627775 red\nbetween 0 1099511627776 red\nbetween 1970-01-01 1970-01-02 red\n",
-            replies: b"ok 1\nspan 7 10 1099511627775 1\nend 1 read 1\nspan 7 1099511627774 1099511627775 1\nend 1 read 1\nno 1 Line\nspan 7 10 86400 1\nend 1 read 1\n",
-        },
-    ];
-    expect_rows(&rt, rt.alloc(), b"", &rows)
-}
-
-#[test]
-fn a_whole_query_may_be_asked_over_a_window(rt: HostRuntime) -> Result<(), Fail> {
-    let rows = [
-        // by document, and then by start
-        Row {
-            script: b"arrive 2 10 8\nred blue\narrive 1 20 3\nred\narrive 2 30 3\nred\nbetween 0 40 red or blue\nbetween 0 40 red blue\nbetween 0 40 red red\n",
-            replies: b"ok 1\nok 2\nok 3\nspan 1 20 40 1\nspan 2 10 30 2\nspan 2 30 40 1\nend 3 read 3\nspan 2 10 30 2\nend 1 read 3\nspan 1 20 40 1\nspan 2 10 40 1\nend 2 read 2\n",
-        },
-        // what lacks a word is found while it is alive
-        Row {
-            script: b"arrive 1 10 4\nblue\narrive 2 20 3\nred\ndelete 1 30\narrive 2 40 5\ngreen\nbetween 0 50 not red\nbetween 0 50 not red blue\nbetween 0 50 red or blue\nbetween 20 40 not blue\n",
-            replies: b"ok 1\nok 2\nok 3\nok 4\nspan 1 10 30 0\nspan 2 40 50 0\nend 2 read 1\nspan 1 10 30 1\nend 1 read 2\nspan 1 10 30 1\nspan 2 20 40 1\nend 2 read 2\nspan 2 20 40 0\nend 1 read 1\n",
-        },
-    ];
-    expect_rows(&rt, rt.alloc(), b"", &rows)
+    expect_rows(rt.alloc(), b"", &rows)?;
+    Ok(())
 }
 
 /// A script's question with a text so many times in front of a word, and another behind it.
@@ -193,7 +149,7 @@ fn sixty_four_may_be_open_at_once(rt: HostRuntime) -> Result<(), Fail> {
             script: &script,
             replies: replies.as_bytes(),
         }];
-        expect_rows(&rt, alloc, b"", &rows)?;
+        expect_rows(alloc, b"", &rows)?;
     }
     Ok(())
 }
@@ -218,34 +174,11 @@ fn a_run_of_300_letters_is_no_word(rt: HostRuntime) -> Result<(), Fail> {
         script: &script,
         replies: b"ok 1\nend 0 read 0\nhit 7 1\nend 1 read 1\nno 11 BadQuery 0\nend 0 read 0\n",
     }];
-    expect_rows(&rt, alloc, b"", &rows)
-}
-
-#[test]
-fn a_deleted_document_has_no_text_and_no_words(rt: HostRuntime) -> Result<(), Fail> {
-    let rows = [Row {
-        script: b"arrive 7 10 5\nred a\ndelete 7 20\nshow 7 19\nshow 7 20\nshow 8 19\nfind 19 a\nfind 20 a\n",
-        replies: b"ok 1\nok 2\ntext 5\nred a\nnone\nnone\nhit 7 1\nend 1 read 1\nend 0 read 1\n",
-    }];
-    expect_rows(&rt, rt.alloc(), b"", &rows)
-}
-
-#[test]
-fn a_question_leaves_the_journal_as_it_is(rt: HostRuntime) -> Result<(), Fail> {
-    let alloc = rt.alloc();
-    let script = b"find 10 red\nfind 10 and\nbetween 5 15 red\nshow 7 10\nshow 7 9\n";
-    let mut machine = make_machine(&rt, alloc, script, FIRST_JOURNAL, &[])?;
-    assert_eq!(rt; run_on(&rt, alloc, &mut machine), Status::Done);
-    assert_eq!(rt;
-        machine.shown(),
-        b"hit 7 1\nend 1 read 1\nno 11 BadQuery 0\nspan 7 10 15 1\nend 1 read 1\ntext 5\nred a\nnone\n".as_slice()
-    );
-    let left = read_journal(alloc, &mut machine)?;
-    assert_eq!(rt; left.as_slice(), FIRST_JOURNAL);
+    expect_rows(alloc, b"", &rows)?;
     Ok(())
 }
 
-// Texts in any script come by the archive's own calls, as the script's texts are ASCII.
+// The texts come by the archive's own calls.
 #[test]
 fn a_word_is_found_in_texts_of_any_script(rt: HostRuntime) -> Result<(), Fail> {
     let alloc = rt.alloc();
@@ -254,11 +187,12 @@ fn a_word_is_found_in_texts_of_any_script(rt: HostRuntime) -> Result<(), Fail> {
         // with the Kelvin sign at the end
         made(2, 10, Some("STRASSE und \u{212a}".as_bytes()), 2),
     ];
-    let mut machine = expect_changes(&rt, alloc, &changes)?;
+    let mut machine = expect_changes(alloc, &changes)?;
     let journal = read_journal(alloc, &mut machine)?;
     let rows = [Row {
         script: b"find 10 Strasse\nfind 10 k\nfind 9 k\nshow 1 10\n",
         replies: "hit 1 1\nhit 2 1\nend 2 read 2\nhit 2 1\nend 1 read 1\nend 0 read 1\ntext 7\nStraße\n".as_bytes(),
     }];
-    expect_rows(&rt, alloc, &journal, &rows)
+    expect_rows(alloc, &journal, &rows)?;
+    Ok(())
 }
