@@ -1,76 +1,102 @@
 -- What a machine remembers of the states between its calls.
-use Rattle.std.proofs.Common.{◌≡◌, ◌⊎◌, ℕ, ◌+◌, ◌<◌, ◌≤◌, Bool, true, false, cond, Option, Some, List, [], ◌∷◌, ◌++◌, refl, ap, subst, sym, ◌∙◌, arith, find, nat_le, inl, inr, All}
-use Rattle.std.specs.Option.{option_map_or}
-use Rattle.std.specs.List.{flat_map}
+use Rattle.std.proofs.Common.{◌≡◌, ◌⊎◌, ℕ, ◌+◌, ◌<◌, ◌≤◌, Bool, true, false, cond, List, [], ◌∷◌, ◌++◌, refl, ap, subst, sym, ◌∙◌, arith, append_assoc, nat_le, inl, inr, All}
 use Rattle.std.proofs.lemmas.List.{append-nil}
-use Rattle.std.proofs.lemmas.List.Elements.{All-head, All-tail}
+use Rattle.std.proofs.lemmas.List.Elements.{All-head, All-tail, All-push}
 use Rattle.std.proofs.lemmas.Bool.{le-leb, leb-true}
 use Rattle.machine_model.specs.Areas.{Bytes}
+use Rattle.machine_model.specs.States.{Moment}
 use Rattle.machine_model.specs.Images.{MayLeave, Leaves}
 use Rattle.machine_model.specs.Moments.{SomeLeaves, LeftSince}
-use Rattle.machine_mem.specs.declared.history.Shot.{Shot}
+use Rattle.machine_mem.specs.declared.difference.Recorded.{Recorded}
 use Rattle.machine_mem.specs.declared.machine.MemMachine.{MemMachine}
-use Rattle.machine_mem.specs.Snapshots.{Snapshot, shot_snapshot, snapshot_after}
+use Rattle.machine_mem.specs.Moments.{along}
+use Rattle.machine_mem.specs.Snapshots.{Snapshot}
+use Rattle.machine_mem.specs.Differences.{Holding, first_of, played, played_all, snapshot_at, piece_of, moments_of}
 use Rattle.machine_mem.specs.declared.picks.Pick.{Pick}
 use Rattle.machine_mem.specs.declared.picks.Picked.{Picked}
 use Rattle.machine_mem.specs.Picks.{IsPicked, bytes_of}
-use Rattle.machine_mem.specs.Meaning.{shot_moments, snapshot_of, after_calls, disk_state}
-use Rattle.machine_mem.specs.Outcomes.{calls_of, Recalls}
+use Rattle.machine_mem.specs.Meaning.{snapshot_of, after_calls, disk_state}
+use Rattle.machine_mem.specs.Outcomes.{calls_of}
 use Rattle.machine_mem.proofs.GrowthLemmas.{leaves_along, left_early, left_late}
 
--- what the tests of the shots give, with a first shot of this answer
-abbrev picked : Bool → Shot → Option Shot → Snapshot → Snapshot
-picked test s found now = option_map_or shot_snapshot (cond test (Some s) found) now
+-- one call more
 
-after_first : (s : Shot) (now : Snapshot) (n : ℕ) → n ≤ s.until → snapshot_after (s ∷ []) now n ≡ shot_snapshot s
-after_first s now n low = ap (λ b. picked b s (find (λ (shot : Shot). nat_le n shot.until) []) now) (le-leb n s.until low)
+pub played_all-push : (x : Holding) (log : List Recorded) (r : Recorded) → played_all x (log ++ r ∷ []) ≡ played r.difference (played_all x log)
+played_all-push x [] r = refl
+played_all-push x (s ∷ log) r = played_all-push (played s.difference x) log r
 
--- a shot more serves as what was now before it
-after_push : (shots : List Shot) (shot : Shot) (was now : Snapshot) (n : ℕ) → shot_snapshot shot ≡ was → n ≤ shot.until
-    → snapshot_after (shots ++ shot ∷ []) now n ≡ snapshot_after shots was n
-after_push [] shot was now n is low = after_first shot now n low ∙ is
-after_push (s ∷ shots) shot was now n is low =
-    let more = find (λ (x : Shot). nat_le n x.until) (shots ++ shot ∷ []) in
-    let less = find (λ (x : Shot). nat_le n x.until) shots in
-    let rest : option_map_or shot_snapshot more now ≡ option_map_or shot_snapshot less was = after_push shots shot was now n is low in
-    elim (nat_le n s.until) as (λ b. picked b s more now ≡ picked b s less was) [ true ↦ refl | false ↦ rest ]
+pub moments_of-push : (x : Holding) (log : List Recorded) (r : Recorded)
+    → moments_of x (log ++ r ∷ []) ≡ moments_of x log ++ along (played_all x log).snapshot.moment (piece_of r.difference)
+moments_of-push x [] r = append-nil (along x.snapshot.moment (piece_of r.difference))
+moments_of-push x (s ∷ log) r =
+    let first : List Moment = along x.snapshot.moment (piece_of s.difference) in
+    let next = played s.difference x in
+    let more : List Moment = along (played_all next log).snapshot.moment (piece_of r.difference) in
+    ap (λ (l : List Moment). first ++ l) (moments_of-push next log r) ∙ sym (append_assoc first (moments_of next log) more)
 
--- behind all shots is what is now
-after_all : (shots : List Shot) (now : Snapshot) (n : ℕ) → All (λ (shot : Shot). shot.until < n) shots → snapshot_after shots now n ≡ now
-after_all [] now n early = refl
-after_all (s ∷ shots) now n early =
-    let found = find (λ (x : Shot). nat_le n x.until) shots in
-    let rest : option_map_or shot_snapshot found now ≡ now = after_all shots now n (All-tail (λ (shot : Shot). shot.until < n) s shots early) in
-    let first = All-head (λ (shot : Shot). shot.until < n) s shots early in
-    let by : (b : Bool) → nat_le n s.until ≡ b → picked b s found now ≡ now =
-    λ b. elim b as (λ b. nat_le n s.until ≡ b → picked b s found now ≡ now) [ true ↦ λ test. absurd (omega (arith, leb-true n s.until test)) | false ↦ λ test. rest ] in
+pub snapshot_at-push : (n : ℕ) (x : Holding) (log : List Recorded) (r : Recorded) → n ≤ r.until → snapshot_at n x (log ++ r ∷ []) ≡ snapshot_at n x log
+snapshot_at-push n x [] r low = ap (λ b. cond b x.snapshot (played r.difference x).snapshot) (le-leb n r.until low)
+snapshot_at-push n x (s ∷ log) r low =
+    ap (λ (y : Snapshot). cond (nat_le n s.until) x.snapshot y) (snapshot_at-push n (played s.difference x) log r low)
+
+-- behind all calls is what is now
+snapshot_at-all : (n : ℕ) (x : Holding) (log : List Recorded) → All (λ (r : Recorded). r.until < n) log → snapshot_at n x log ≡ (played_all x log).snapshot
+snapshot_at-all n x [] early = refl
+snapshot_at-all n x (s ∷ log) early =
+    let next = played s.difference x in
+    let rest = snapshot_at-all n next log (All-tail (λ (r : Recorded). r.until < n) s log early) in
+    let first = All-head (λ (r : Recorded). r.until < n) s log early in
+    let by : (b : Bool) → nat_le n s.until ≡ b → cond b x.snapshot (snapshot_at n next log) ≡ (played_all next log).snapshot =
+    λ b. elim b as (λ b. nat_le n s.until ≡ b → cond b x.snapshot (snapshot_at n next log) ≡ (played_all next log).snapshot) [
+      | true ↦ λ test. absurd (omega (arith, leb-true n s.until test))
+      | false ↦ λ test. rest
+    ] in
     by (nat_le n s.until) refl
 
 pub after_calls-now : (x : MemMachine) → after_calls x (calls_of x) ≡ snapshot_of x
-after_calls-now x = after_all x.history.shots.items (snapshot_of x) x.history.calls x.history.numbered
+after_calls-now x =
+    snapshot_at-all x.history.calls (first_of x.history.first) x.history.differences.items x.history.numbered ∙ ap (λ (h : Holding). h.snapshot) x.history.plays
 
-pub Recalls-push : (x : MemMachine) (shots : List Shot) (calls : ℕ) (shot : Shot) → shots ≡ x.history.shots.items ++ shot ∷ [] → calls ≡ x.history.calls + 1
-    → shot_snapshot shot ≡ snapshot_of x → shot.until ≡ x.history.calls → Recalls x shots calls
-Recalls-push x shots calls shot shots_are calls_are is until = record {
-  one_more = calls_are;
-  before = λ now n low. ap (λ l. snapshot_after l now n) shots_are ∙ after_push x.history.shots.items shot (snapshot_of x) now n is (omega arith);
-}
+-- what a history keeps up when it records a call more
+
+pub plays_more : (x : Holding) (log more : List Recorded) (r : Recorded) (was now : Holding) → played_all x log ≡ was → more ≡ log ++ r ∷ []
+    → now ≡ played r.difference was → played_all x more ≡ now
+plays_more x log more r was now plays more_are now_is =
+    ap (λ l. played_all x l) more_are ∙ played_all-push x log r ∙ ap (λ (h : Holding). played r.difference h) plays ∙ sym now_is
+
+pub past_more : (x : Holding) (log more : List Recorded) (r : Recorded) (was : Holding) → played_all x log ≡ was → more ≡ log ++ r ∷ []
+    → moments_of x more ≡ moments_of x log ++ along was.snapshot.moment (piece_of r.difference)
+past_more x log more r was plays more_are =
+    ap (λ l. moments_of x l) more_are ∙ moments_of-push x log r
+    ∙ ap (λ (h : Holding). moments_of x log ++ along h.snapshot.moment (piece_of r.difference)) plays
+
+pub before_more : (x : Holding) (log more : List Recorded) (r : Recorded) (n : ℕ) → more ≡ log ++ r ∷ [] → n ≤ r.until → snapshot_at n x more ≡ snapshot_at n x log
+before_more x log more r n more_are low = ap (λ l. snapshot_at n x l) more_are ∙ snapshot_at-push n x log r low
+
+pub numbered_more : (log more : List Recorded) (r : Recorded) (calls : ℕ) → more ≡ log ++ r ∷ [] → r.until ≡ calls → All (λ (r : Recorded). r.until < calls) log
+    → All (λ (r : Recorded). r.until < calls + 1) more
+numbered_more log more r calls more_are last early =
+    let P : Recorded → Type 0 = λ r. r.until < calls + 1 in
+    subst (λ l. All P l) (sym more_are) (All-push P log r (λ k d within. omega (arith, early k d within)) (omega arith))
 
 -- what was allowed after so many calls was left at some moment, beside the bytes shown then
-left_after : (shots : List Shot) (now : Snapshot) (n : ℕ) (image : Bytes) → MayLeave (snapshot_after shots now n).moment image
-    → Leaves now.moment image (snapshot_after shots now n).moment.beside ⊎ SomeLeaves (flat_map shot_moments shots) image (snapshot_after shots now n).moment.beside
-left_after [] now n image may = inl (may, refl)
-left_after (s ∷ shots) now n image may =
-    let found = find (λ (x : Shot). nat_le n x.until) shots in
-    let later = flat_map shot_moments shots in
-    let Left : Snapshot → Type 0 = λ at. Leaves now.moment image at.moment.beside ⊎ SomeLeaves (shot_moments s ++ later) image at.moment.beside in
-    let by : (b : Bool) → MayLeave (picked b s found now).moment image → Left (picked b s found now) =
-    λ b. elim b as (λ b. MayLeave (picked b s found now).moment image → Left (picked b s found now)) [
-      | true ↦ λ here. inr (left_early (shot_moments s) later image s.shown.items
-          (leaves_along (shot_snapshot s).moment s.piece.items image s.shown.items 0 here (omega arith) (sym (append-nil s.shown.items))))
-      | false ↦ λ there. elim (left_after shots now n image there) [
+left_after : (n : ℕ) (x : Holding) (log : List Recorded) (image : Bytes) → MayLeave (snapshot_at n x log).moment image
+    → Leaves (played_all x log).snapshot.moment image (snapshot_at n x log).moment.beside ⊎ SomeLeaves (moments_of x log) image (snapshot_at n x log).moment.beside
+left_after n x [] image may = inl (may, refl)
+left_after n x (s ∷ log) image may =
+    let next = played s.difference x in
+    let here : List Moment = along x.snapshot.moment (piece_of s.difference) in
+    let later = moments_of next log in
+    let now = (played_all next log).snapshot.moment in
+    let Left : Snapshot → Type 0 = λ at. Leaves now image at.moment.beside ⊎ SomeLeaves (here ++ later) image at.moment.beside in
+    let at : Bool → Snapshot = λ b. cond b x.snapshot (snapshot_at n next log) in
+    let by : (b : Bool) → MayLeave (at b).moment image → Left (at b) =
+    λ b. elim b as (λ b. MayLeave (at b).moment image → Left (at b)) [
+      | true ↦ λ allowed. inr (left_early here later image x.snapshot.moment.beside
+          (leaves_along x.snapshot.moment (piece_of s.difference) image x.snapshot.moment.beside 0 allowed (omega arith) (sym (append-nil x.snapshot.moment.beside))))
+      | false ↦ λ allowed. elim (left_after n next log image allowed) [
         | inl is ↦ inl is
-        | inr was ↦ inr (left_late (shot_moments s) later image (option_map_or shot_snapshot found now).moment.beside was)
+        | inr was ↦ inr (left_late here later image (snapshot_at n next log).moment.beside was)
       ]
     ] in
     by (nat_le n s.until) may
@@ -80,4 +106,8 @@ pub left_at : (x : MemMachine) (n : ℕ) (at : Snapshot) (pick : Pick) (picked :
     → LeftSince (disk_state x) 0 (bytes_of picked.image) (after_calls x n).moment.beside
 left_at x n at pick picked is by =
     let P : Snapshot → Type 0 = λ s. MayLeave s.moment (bytes_of picked.image) in
-    left_after x.history.shots.items (snapshot_of x) n (bytes_of picked.image) (subst P is by.allowed)
+    let L : Moment → Type 0 = λ m. Leaves m (bytes_of picked.image) (after_calls x n).moment.beside in
+    elim (left_after n (first_of x.history.first) x.history.differences.items (bytes_of picked.image) (subst P is by.allowed)) [
+      | inl now ↦ inl (subst L (ap (λ (h : Holding). h.snapshot.moment) x.history.plays) now)
+      | inr was ↦ inr was
+    ]

@@ -4,6 +4,7 @@ pub mod Faults
 pub mod Moments
 pub mod Machines
 pub mod Snapshots
+pub mod Differences
 pub mod Meaning
 pub mod Outcomes
 pub mod MachineLaws

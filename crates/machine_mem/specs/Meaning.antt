@@ -1,41 +1,41 @@
 -- What a machine in memory means: a source, a sink and a disk.
 use Rattle.std.specs.Prelude.{ℕ, List, length, sum}
-use Rattle.std.specs.List.{flat_map}
+use Rattle.machine_model.specs.Areas.{Both}
 use Rattle.machine_model.specs.States.{SourceState, SinkState, Moment, DiskState}
 use Rattle.machine_mem.specs.Inputs.{bytes_left}
-use Rattle.machine_mem.specs.Moments.{along}
 use Rattle.machine_mem.specs.Machines.{MachineState}
-use Rattle.machine_mem.specs.Snapshots.{Snapshot, snapshot_from, shot_snapshot, snapshot_after}
-use Rattle.machine_mem.specs.declared.history.Shot.{Shot}
+use Rattle.machine_mem.specs.Snapshots.{Snapshot}
+use Rattle.machine_mem.specs.Differences.{Holding, holding_of, first_of, snapshot_at, moments_of}
 use Rattle.machine_mem.specs.declared.machine.MemMachine.{MemMachine}
-
--- the moment that a shot keeps, and those inside the push after it
-abbrev pub shot_moments : Shot → List Moment
-shot_moments shot = along (shot_snapshot shot).moment shot.piece.items
 
 -- what a stop may leave now
 abbrev pub snapshot_of : MemMachine → Snapshot
-snapshot_of x = snapshot_from x.journal.remains x.pages.remains x.shown.items
+snapshot_of x = (holding_of x.history.current).snapshot
 
 -- what a stop may leave after so many calls
 abbrev pub after_calls : MemMachine → ℕ → Snapshot
-after_calls x n = snapshot_after x.history.shots.items (snapshot_of x) n
+after_calls x n = snapshot_at n (first_of x.history.first) x.history.differences.items
+
+-- the disk that holds this, with these moments before, so many faults and so many bytes read
+abbrev pub disk_from : List Moment → Holding → ℕ → Both ℕ → DiskState
+disk_from past x faults read = record {
+  reach = record { journal = length x.holds.journal; pages = length x.holds.pages };
+  holds = x.holds;
+  faults = faults;
+  bytes_read = read;
+  past = past;
+  now = x.snapshot.moment;
+}
 
 abbrev pub source_state : MemMachine → SourceState
 source_state x = record { left = bytes_left x.input; faults = x.source_faults.value }
 
 abbrev pub sink_state : MemMachine → SinkState
-sink_state x = record { shown = x.shown.items; faults = x.sink_faults.value }
+sink_state x = record { shown = (snapshot_of x).moment.beside; faults = x.sink_faults.value }
 
 abbrev pub disk_state : MemMachine → DiskState
-disk_state x = record {
-  reach = record { journal = length x.journal.held.items; pages = length x.pages.held.items };
-  holds = record { journal = x.journal.held.items; pages = x.pages.held.items };
-  faults = x.disk_faults.value;
-  bytes_read = record { journal = sum x.read_journal.parts.items; pages = sum x.read_pages.parts.items };
-  past = flat_map shot_moments x.history.shots.items;
-  now = (snapshot_of x).moment;
-}
+disk_state x = disk_from (moments_of (first_of x.history.first) x.history.differences.items) (holding_of x.history.current) x.disk_faults.value
+    (record { journal = sum x.read_journal.parts.items; pages = sum x.read_pages.parts.items })
 
 -- all of these, with the bytes as last written and the limit of a pull
 abbrev pub meaning : MemMachine → MachineState

@@ -1,13 +1,11 @@
 -- What the calls of a machine in memory do, exactly.
-use Rattle.std.specs.Prelude.{◌≡◌, ℕ, ◌+◌, ◌-◌, ◌^◌, ◌≤◌, min, List}
+use Rattle.std.specs.Prelude.{◌≡◌, ℕ, ◌+◌, ◌-◌, ◌^◌, ◌≤◌, min}
 use Rattle.machine_model.specs.Causes.{Rose}
 use Rattle.machine_mem.specs.declared.faults.CallKind.{CallKind}
 use Rattle.machine_mem.specs.declared.faults.Script.{Script}
-use Rattle.machine_mem.specs.declared.history.Shot.{Shot}
 use Rattle.machine_mem.specs.declared.machine.MemMachine.{MemMachine}
 use Rattle.machine_mem.specs.Faults.{next_of, counts_with, IsNamed}
 use Rattle.machine_mem.specs.Machines.{MachineState}
-use Rattle.machine_mem.specs.Snapshots.{Snapshot, snapshot_after}
 use Rattle.machine_mem.specs.Meaning.{meaning, after_calls}
 
 -- the faults of a machine, and how many calls of each kind there were
@@ -40,10 +38,10 @@ pub record Starves (after : MachineState → MachineState) (x y : MemMachine) : 
 abbrev pub calls_of : MemMachine → ℕ
 calls_of x = x.history.calls
 
--- after one such call more, these shots and this count keep what a stop might have left before
-pub record Recalls (x : MemMachine) (shots : List Shot) (calls : ℕ) : Type 0 where
-  pub one_more : calls ≡ calls_of x + 1
-  pub before : (now : Snapshot) (n : ℕ) → n ≤ calls_of x → snapshot_after shots now n ≡ after_calls x n
+-- one such call more was recorded, and what a stop might have left before is as it was
+pub record Recalls (x y : MemMachine) : Type 0 where
+  pub one_more : calls_of y ≡ calls_of x + 1
+  pub before : (n : ℕ) → n ≤ calls_of x → after_calls y n ≡ after_calls x n
 
 -- one such call more was counted, and what a stop might have left before is as it was
 pub record Remembers (x y : MemMachine) : Type 0 where

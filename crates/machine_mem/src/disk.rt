@@ -35,13 +35,13 @@ impl Disk for MemMachine {
 
     ghost faults_limit = { λ x. x.disk_faults.small };
 
-    ghost reach_limit = { λ x. elim [ Journal ↦ x.journal.limit | Pages ↦ x.pages.limit ] };
+    ghost reach_limit = { λ x. elim [ Journal ↦ x.history.current.journal.limit | Pages ↦ x.history.current.pages.limit ] };
 
     ghost reach_holds = { λ x. elim [ Journal ↦ λ tells. refl | Pages ↦ λ tells. refl ] };
 
-    ghost holds_allowed = { λ x tells. elim [ Journal ↦ x.journal.kept | Pages ↦ x.pages.kept ] };
+    ghost holds_allowed = { λ x tells. elim [ Journal ↦ x.history.current.journal.kept | Pages ↦ x.history.current.pages.kept ] };
 
-    ghost stable_bytes = { λ x. elim [ Journal ↦ λ tells. x.journal.remains.sound.bytes | Pages ↦ λ tells. x.pages.remains.sound.bytes ] };
+    ghost stable_bytes = { λ x. elim [ Journal ↦ λ tells. x.history.current.journal.remains.sound.bytes | Pages ↦ λ tells. x.history.current.pages.remains.sound.bytes ] };
 
     fn length(&mut self, area: Area) -> Result<u64, Failed>
         ensures only { OnlyDisk (meaning self.old) (meaning self.new) }

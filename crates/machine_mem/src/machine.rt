@@ -2,21 +2,20 @@ ghost use Rattle.std.specs.Prelude.{◌≡◌, ◌+◌, ◌-◌, ◌^◌, ◌<�
 ghost use Rattle.machine_model.specs.Areas.{part};
 ghost use Rattle.machine_model.specs.States.{DiskState};
 ghost use Rattle.machine_model.specs.Causes.{Rose};
-ghost use Rattle.machine_mem.specs.Moments.{along};
 ghost use Rattle.machine_mem.specs.Machines.{wrote, synced, passed, showed, did_read};
 ghost use Rattle.machine_model.specs.Moments.{LeftSince};
-ghost use Rattle.machine_mem.specs.Snapshots.{shot_snapshot, snapshot_from};
 ghost use Rattle.machine_mem.specs.Picks.{IsPicked, bytes_of};
 ghost use Rattle.machine_mem.specs.Faults.{count_of};
 ghost use Rattle.machine_mem.specs.Outcomes.{script_of, starved_of, calls_of, Recalls, Remembers, Stays};
 ghost use Rattle.machine_mem.specs.Meaning.{after_calls, snapshot_of, meaning, source_state, sink_state, disk_state};
 
 use crate::counter::Counter;
+use crate::difference::{Difference, Write};
 use crate::faults::{Counts, Fault, Script};
-use crate::history::{History, Shot};
+use crate::history::History;
 use crate::input::Input;
 use crate::picks::{Pick, Picked, pick_image};
-use crate::store::{Remains, Store};
+use crate::store::Store;
 use crate::tally::Tally;
 use machine_model::{Area, Image, Machine};
 use std::alloc::{AllocError, Global};
@@ -27,15 +26,12 @@ use std::alloc::{AllocError, Global};
 pub struct MemMachine {
     pub(crate) alloc: Global,
     pub(crate) input: Input,
-    pub(crate) shown: Vec<u8>,
-    pub(crate) journal: Store,
-    pub(crate) pages: Store,
+    pub(crate) history: History,
     pub(crate) read_journal: Tally,
     pub(crate) read_pages: Tally,
     pub(crate) source_faults: Counter,
     pub(crate) sink_faults: Counter,
     pub(crate) disk_faults: Counter,
-    pub(crate) history: History,
     pub(crate) script: Script,
     pub(crate) starved: Counter,
 }
@@ -72,8 +68,7 @@ impl MemMachine {
         ensures starved { IfOk result (λ x. starved_of x ≡ 0) }
         ensures pulls { IfOk result (λ x. (meaning x).pull_limit ≡ 2 ^ 64 - 1) }
     {
-        let journal = Store::new(alloc, &image.journal)?;
-        let pages = Store::new(alloc, &image.pages)?;
+        let history = History::new(alloc, image)?;
         Ok(MemMachine {
             alloc,
             input: Input {
@@ -81,15 +76,12 @@ impl MemMachine {
                 at: 0,
                 limit: usize::MAX,
             },
-            shown: Vec::new(alloc),
-            journal,
-            pages,
+            history,
             read_journal: Tally::new(alloc),
             read_pages: Tally::new(alloc),
             source_faults: Counter::new(),
             sink_faults: Counter::new(),
             disk_faults: Counter::new(),
-            history: History::new(alloc),
             script: Script {
                 faults,
                 counts: Counts::new(),
@@ -114,7 +106,7 @@ impl MemMachine {
     pub fn shown(&self) -> &[u8]
         ensures { result.now ≡ (sink_state self.now).shown }
     {
-        &self.shown
+        &self.history.current.shown
     }
 
     /// How many bytes of an area were read, or 2^64 - 1 where there were more.
@@ -144,34 +136,24 @@ impl MemMachine {
     }
 
     /// An image that was allowed after so many writes, syncs and pushes, and how many bytes were shown
-    /// then. Cost: the number of those calls, and the image.
+    /// then. Cost: the number of those calls, with a copy of what the disk held for each.
     pub fn image_at(&self, alloc: Global, moment: usize, pick: Pick) -> Result<Picked, AllocError>
         requires { moment < calls_of self.now + 1 }
         ensures picked { IfOk result (λ p. IsPicked (after_calls self.now moment) pick p) }
         ensures left { IfOk result (λ p. LeftSince (disk_state self.now) 0 (bytes_of p.image) (after_calls self.now moment).moment.beside) }
     {
-        let (journal, pages, shown) = self.remains_after(moment as u64);
-        let picked = pick_image(alloc, journal, pages, shown, pick)?;
+        let then = self.history.at(alloc, moment as u64)?;
+        let picked = pick_image(alloc, &then, pick)?;
         Ok(picked)
-    }
-
-    /// What a stop might have left after so many calls, and the bytes shown then.
-    fn remains_after(&self, calls: u64) -> (&Remains, &Remains, &[u8])
-        ensures { snapshot_from result.0.now result.1.now result.2.now ≡ after_calls self.now calls }
-    {
-        match self.history.at(calls) {
-            Some(shot) => (&shot.journal, &shot.pages, &shot.shown),
-            None => (&self.journal.remains, &self.pages.remains, &self.shown),
-        }
     }
 
     /// One area.
     pub(crate) fn store(&self, area: Area) -> &Store
-        ensures { result.now ≡ part (record { journal = self.now.journal; pages = self.now.pages }) area }
+        ensures { result.now ≡ part (record { journal = self.now.history.current.journal; pages = self.now.history.current.pages }) area }
     {
         match area {
-            Area::Journal => &self.journal,
-            Area::Pages => &self.pages,
+            Area::Journal => &self.history.current.journal,
+            Area::Pages => &self.history.current.pages,
         }
     }
 
@@ -188,43 +170,15 @@ impl MemMachine {
         }
     }
 
-    /// Records a call that shows a piece, with the state before it. Without memory nothing changes.
-    /// Cost: a copy of the disk and of the bytes shown.
-    pub(crate) fn record(&mut self, piece: &[u8]) -> Result<(), AllocError>
-        ensures others { self.new ≡ record self.old { history = self.new.history } }
-        ensures past { OnOk result ((disk_state self.new).past ≡ (disk_state self.old).past ++ along (disk_state self.old).now piece.now) }
-        ensures recalls { OnOk result (Recalls self.old self.new.history.shots.items self.new.history.calls) }
-        ensures err { OnErr result ((self.new.history.shots.items ≡ self.old.history.shots.items) × (self.new.history.calls ≡ self.old.history.calls)) }
-    {
-        let shot = self.shot(piece)?;
-        self.history.record(shot)?;
-        Ok(())
-    }
-
-    /// The state now, and the piece that the next call shows.
-    fn shot(&self, piece: &[u8]) -> Result<Shot, AllocError>
-        ensures snapshot { IfOk result (λ shot. shot_snapshot shot ≡ snapshot_of self.now) }
-        ensures piece { IfOk result (λ shot. shot.piece.items ≡ piece.now) }
-        ensures until { IfOk result (λ shot. shot.until ≡ calls_of self.now) }
-    {
-        Ok(Shot {
-            journal: self.journal.remains.copy(self.alloc)?,
-            pages: self.pages.remains.copy(self.alloc)?,
-            shown: Vec::from_slice(self.alloc, &self.shown)?,
-            piece: Vec::from_slice(self.alloc, piece)?,
-            until: self.history.calls,
-        })
-    }
-
     /// Records a call that changes nothing. Without memory nothing changes.
     pub(crate) fn try_pass(&mut self) -> Result<(), AllocError>
         ensures ok { OnOk result (meaning self.new ≡ passed (meaning self.old)) }
         ensures err { OnErr result (meaning self.new ≡ meaning self.old) }
-        ensures recalls { OnOk result (Recalls self.old self.new.history.shots.items self.new.history.calls) }
+        ensures recalls { OnOk result (Recalls self.old self.new) }
         ensures stays { OnErr result (Stays self.old self.new) }
         ensures rest { (self.new.script ≡ self.old.script) × (self.new.starved ≡ self.old.starved) }
     {
-        self.record(b"")
+        self.history.record(self.alloc, Difference::Nothing)
     }
 
     /// A write of which the first `kept` bytes come through. Without memory nothing changes.
@@ -239,47 +193,40 @@ impl MemMachine {
         requires within { kept ≤ length bytes.now }
         ensures ok { OnOk result (meaning self.new ≡ wrote area at bytes.now kept (meaning self.old)) }
         ensures err { OnErr result (meaning self.new ≡ meaning self.old) }
-        ensures recalls { OnOk result (Recalls self.old self.new.history.shots.items self.new.history.calls) }
+        ensures recalls { OnOk result (Recalls self.old self.new) }
         ensures stays { OnErr result (Stays self.old self.new) }
         ensures rest { (self.new.script ≡ self.old.script) × (self.new.starved ≡ self.old.starved) }
     {
-        let next = self.store(area).after_write(self.alloc, at, bytes, kept)?;
-        self.record(&[])?;
-        match area {
-            Area::Journal => self.journal = next,
-            Area::Pages => self.pages = next,
-        }
-        Ok(())
+        let write = Write {
+            area,
+            at,
+            bytes: Vec::from_slice(self.alloc, bytes)?,
+            kept,
+        };
+        self.history.record(self.alloc, Difference::Write(write))
     }
 
     /// A sync that comes through. Without memory nothing changes.
     pub(crate) fn try_sync(&mut self) -> Result<(), AllocError>
         ensures ok { OnOk result (meaning self.new ≡ synced (meaning self.old)) }
         ensures err { OnErr result (meaning self.new ≡ meaning self.old) }
-        ensures recalls { OnOk result (Recalls self.old self.new.history.shots.items self.new.history.calls) }
+        ensures recalls { OnOk result (Recalls self.old self.new) }
         ensures stays { OnErr result (Stays self.old self.new) }
         ensures rest { (self.new.script ≡ self.old.script) × (self.new.starved ≡ self.old.starved) }
     {
-        let journal = self.journal.after_sync(self.alloc)?;
-        let pages = self.pages.after_sync(self.alloc)?;
-        self.record(&[])?;
-        self.journal = journal;
-        self.pages = pages;
-        Ok(())
+        self.history.record(self.alloc, Difference::Sync)
     }
 
     /// A push that comes through. Without memory nothing changes.
     pub(crate) fn try_push(&mut self, piece: &[u8]) -> Result<(), AllocError>
         ensures ok { OnOk result (meaning self.new ≡ showed piece.now (meaning self.old)) }
         ensures err { OnErr result (meaning self.new ≡ meaning self.old) }
-        ensures recalls { OnOk result (Recalls self.old self.new.history.shots.items self.new.history.calls) }
+        ensures recalls { OnOk result (Recalls self.old self.new) }
         ensures stays { OnErr result (Stays self.old self.new) }
         ensures rest { (self.new.script ≡ self.old.script) × (self.new.starved ≡ self.old.starved) }
     {
-        self.shown.reserve(piece.len())?;
-        self.record(piece)?;
-        self.shown.extend_from_slice(piece)?;
-        Ok(())
+        let piece = Vec::from_slice(self.alloc, piece)?;
+        self.history.record(self.alloc, Difference::Show(piece))
     }
 
     /// Counts a write, a sync or a push that found no memory.

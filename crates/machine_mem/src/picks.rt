@@ -3,8 +3,9 @@ ghost use Rattle.machine_model.specs.Images.{AreBytes};
 ghost use Rattle.machine_mem.specs.Stamps.{IsFilled, IsStamped, IsStampedOver};
 ghost use Rattle.machine_mem.specs.Tails.{IsTail};
 ghost use Rattle.machine_mem.specs.Picks.{IsPicked};
-ghost use Rattle.machine_mem.specs.Snapshots.{snapshot_from};
+ghost use Rattle.machine_mem.specs.Differences.{holding_of};
 
+use crate::holdings::Holdings;
 use crate::store::Remains;
 use machine_model::{Image, Range};
 use std::alloc::{AllocError, Global};
@@ -66,20 +67,14 @@ impl Remains {
 }
 
 /// An image of both areas, and how many bytes are shown.
-pub fn pick_image(
-    alloc: Global,
-    journal: &Remains,
-    pages: &Remains,
-    shown: &[u8],
-    pick: Pick,
-) -> Result<Picked, AllocError>
-    ensures { IfOk result (λ p. IsPicked (snapshot_from journal.now pages.now shown.now) pick p) }
+pub fn pick_image(alloc: Global, holdings: &Holdings, pick: Pick) -> Result<Picked, AllocError>
+    ensures { IfOk result (λ p. IsPicked (holding_of holdings.now).snapshot pick p) }
 {
-    let journal = journal.pick(alloc, pick.journal)?;
-    let pages = pages.pick(alloc, pick.pages)?;
+    let journal = holdings.journal.remains.pick(alloc, pick.journal)?;
+    let pages = holdings.pages.remains.pick(alloc, pick.pages)?;
     Ok(Picked {
         image: Image { journal, pages },
-        shown: shown.len(),
+        shown: holdings.shown.len(),
     })
 }
 

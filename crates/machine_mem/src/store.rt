@@ -99,6 +99,18 @@ impl Store {
         Ok(Store { remains, held })
     }
 
+    /// The same once more. Cost: a copy of all.
+    pub fn copy(&self, alloc: Global) -> Result<Store, AllocError>
+        ensures stable { IfOk result (λ s. s.remains.stable.items ≡ self.now.remains.stable.items) }
+        ensures pending { IfOk result (λ s. s.remains.pending.items ≡ self.now.remains.pending.items) }
+        ensures written { IfOk result (λ s. s.remains.written.items ≡ self.now.remains.written.items) }
+        ensures held { IfOk result (λ s. s.held.items ≡ self.now.held.items) }
+    {
+        let remains = self.remains.copy(alloc)?;
+        let held = Vec::from_slice(alloc, &self.held)?;
+        Ok(Store { remains, held })
+    }
+
     /// The area after a write of which the first `kept` bytes came through. Cost: a copy of all.
     pub fn after_write(
         &self,

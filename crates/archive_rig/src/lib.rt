@@ -1,0 +1,26 @@
+//! What the rows of the whole program share: machines in memory for a row, runs over them, and
+//! what a stop may leave of one.
+//!
+//! A row is a test of one of the crates above, and says what it wants. The rig tries it: `expect_rows`
+//! runs scripts, `expect_changes` makes changes of an archive in hand, and `expect_entries` and
+//! `expect_shown` load images that a stop may leave. What comes otherwise is a `RowError` that says
+//! where. Each run is held to have had its memory, so a program that always gave up for want of it
+//! would pass no row.
+#![tactic(auto)]
+
+mod changes;
+mod error;
+mod machines;
+mod rows;
+mod scripts;
+mod stops;
+
+pub use changes::{Change, expect_change, expect_changes, made, refused, three_changes};
+pub use error::RowError;
+pub use machines::{count_on, join, load_image, make_machine, read_journal, run_on};
+pub use rows::{Row, expect_rows};
+pub use scripts::{
+    FIRST_JOURNAL, FIRST_SCRIPT, MIXED_ENDS, MIXED_JOURNAL, MIXED_REPLIES, MIXED_SCRIPT,
+    NEW_JOURNAL,
+};
+pub use stops::{EXTRAS, FILLS, expect_entries, expect_shown, pick_entries, pick_image};

@@ -1,0 +1,29 @@
+//! Scripts with their replies.
+use crate::{RowError, make_machine, run_on};
+use archive_shell::Status;
+use std::alloc::Global;
+
+/// A script, and the replies to it.
+#[derive(Clone, Copy, Debug)]
+pub struct Row<'a> {
+    /// The whole input.
+    pub script: &'a [u8],
+    /// All that is shown.
+    pub replies: &'a [u8],
+}
+
+/// Runs each script on a disk with this journal, to its end and with these replies.
+pub fn expect_rows(alloc: Global, journal: &[u8], rows: &[Row<'_>]) -> Result<(), RowError> {
+    for (row, wanted) in rows.iter().enumerate() {
+        let mut machine = make_machine(alloc, wanted.script, journal, &[])?;
+        let status = run_on(alloc, &mut machine)?;
+        if status != Status::Done {
+            return Err(RowError::Status { row, status });
+        }
+        if machine.shown() != wanted.replies {
+            let shown = Vec::from_slice(alloc, machine.shown())?;
+            return Err(RowError::Replies { row, shown });
+        }
+    }
+    Ok(())
+}

@@ -1,0 +1,98 @@
+//! What a stop may leave of a run, as archives.
+ghost use Rattle.std.specs.Prelude.{IfOk};
+ghost use Rattle.machine_mem.specs.Meaning.{after_calls};
+ghost use Rattle.machine_mem.specs.Picks.{IsPicked};
+
+use crate::{RowError, load_image};
+use machine_mem::{Fill, MemMachine, Pick, Picked, Tail};
+use std::alloc::Global;
+
+/// The lengths above the least that images are picked with, in bytes.
+pub const EXTRAS: [u64; 3] = [0, 7, u64::MAX];
+
+/// What stands in the bytes that a stop leaves open.
+pub const FILLS: [Fill; 3] = [Fill::Written, Fill::Byte(0), Fill::Byte(0xa5)];
+
+/// An image that a stop may leave at a moment.
+pub fn pick_image(
+    alloc: Global,
+    machine: &MemMachine,
+    moment: usize,
+    tail: Tail,
+) -> Result<Picked, RowError>
+    ensures { IfOk result (λ p. IsPicked (after_calls machine.now moment) (record { journal = tail; pages = tail }) p) }
+{
+    if moment >= machine.moments() {
+        return Err(RowError::NoMoment);
+    }
+    let pick = Pick {
+        journal: tail,
+        pages: tail,
+    };
+    let picked = machine.image_at(alloc, moment, pick)?;
+    Ok(picked)
+}
+
+/// The number of entries in an image that a stop may leave at a moment, which has to load.
+pub fn pick_entries(
+    alloc: Global,
+    machine: &MemMachine,
+    moment: usize,
+    tail: Tail,
+) -> Result<u64, RowError> {
+    let picked = pick_image(alloc, machine, moment, tail)?;
+    let (archive, _) = load_image(alloc, picked.image)?;
+    Ok(archive.length())
+}
+
+/// Each image that a stop may leave at a moment has at least and at most so many entries: of each
+/// length in `EXTRAS`, with each filling in `FILLS`.
+pub fn expect_entries(
+    alloc: Global,
+    machine: &MemMachine,
+    moment: usize,
+    least: u64,
+    most: u64,
+) -> Result<(), RowError> {
+    for fill in FILLS {
+        for extra in EXTRAS {
+            let tail = Tail { extra, fill };
+            let entries = pick_entries(alloc, machine, moment, tail)?;
+            if entries < least || most < entries {
+                return Err(RowError::Entries {
+                    moment,
+                    tail,
+                    entries,
+                });
+            }
+        }
+    }
+    Ok(())
+}
+
+/// How many replies of one line stand whole in the bytes shown at a moment.
+fn replies_at(alloc: Global, machine: &MemMachine, moment: usize) -> Result<u64, RowError> {
+    let tail = Tail {
+        extra: 0,
+        fill: Fill::Written,
+    };
+    let picked = pick_image(alloc, machine, moment, tail)?;
+    let mut replies = 0u64;
+    for byte in machine.shown().iter().take(picked.shown) {
+        if *byte == b'\n' {
+            replies = replies.saturating_add(1);
+        }
+    }
+    Ok(replies)
+}
+
+/// Each image that a stop may leave at any moment has, beside the entries of the beginning, one for
+/// each reply shown then, or one more.
+pub fn expect_shown(alloc: Global, machine: &MemMachine, entries: u64) -> Result<(), RowError> {
+    for moment in 0..machine.moments() {
+        let least = entries.saturating_add(replies_at(alloc, machine, moment)?);
+        let most = least.saturating_add(1);
+        expect_entries(alloc, machine, moment, least, most)?;
+    }
+    Ok(())
+}

@@ -1,0 +1,12 @@
+//! The rows of the questions `find`, `between` and `show`, over the machine in memory.
+//!
+//! There are tests alone here, and worked rows that hold by computation (`specs/Rows.antt`). What a
+//! row wants comes from the worked rows and the formats, never from what the program answers.
+#![tactic(auto)]
+
+#[cfg(test)]
+mod between;
+#[cfg(test)]
+mod find;
+#[cfg(test)]
+mod show;

@@ -1,0 +1,184 @@
+//! What a stop may leave: after each device call of a run, and where a call of it fails.
+use archive_rig::{
+    EXTRAS, FILLS, FIRST_SCRIPT, MIXED_ENDS, MIXED_JOURNAL, MIXED_REPLIES, MIXED_SCRIPT,
+    expect_entries, expect_shown, load_image, make_machine, pick_entries, pick_image, run_on,
+};
+use archive_shell::Status;
+use machine_mem::{CallKind, Fault, Fill, Picked, Tail};
+use std::alloc::Global;
+use std::process::Abort;
+use std::test::Fail;
+
+// The run syncs the disk, writes a new journal and syncs it, and then appends the record: it writes
+// the record behind the closed gate, syncs, opens the gate and syncs. At last it shows the reply.
+#[test]
+fn a_stop_in_the_first_script_leaves_none_or_its_one_entry(rt: HostRuntime) -> Result<(), Fail> {
+    let alloc = rt.alloc();
+    let mut machine = make_machine(alloc, FIRST_SCRIPT, b"", &[])?;
+    assert_eq!(rt; run_on(alloc, &mut machine)?, Status::Done);
+    assert_eq!(rt; machine.moments(), 9);
+    for (moments, least, most) in [
+        (0..6, 0, 0),
+        // the gate is written, and not yet synced
+        (6..7, 0, 1),
+        (7..9, 1, 1),
+    ] {
+        for moment in moments {
+            expect_entries(alloc, &machine, moment, least, most)?;
+        }
+    }
+    Ok(())
+}
+
+#[test]
+fn a_stop_among_arrivals_and_deletions_leaves_what_was_acknowledged_or_one_more(
+    rt: HostRuntime,
+) -> Result<(), Fail> {
+    let alloc = rt.alloc();
+    let mut machine = make_machine(alloc, MIXED_SCRIPT, b"", &[])?;
+    assert_eq!(rt; run_on(alloc, &mut machine)?, Status::Done);
+    assert_eq!(rt; machine.shown(), MIXED_REPLIES);
+    // three calls at the load, and four and a push for each command
+    assert_eq!(rt; machine.moments(), 29);
+    expect_shown(alloc, &machine, 0)?;
+    Ok(())
+}
+
+/// A script of so many arrivals of one document, a second apart.
+fn many_arrivals(alloc: Global, count: u64) -> Result<Vec<u8>, Fail> {
+    let mut script = Vec::new(alloc);
+    for at in 0..count {
+        let item = format!(in alloc; "arrive 7 {at} 1\nx\n")?;
+        script.extend_from_slice(item.as_bytes())?;
+    }
+    Ok(script)
+}
+
+// Behind the load's three calls each arrival has five. Of the third, which writes the open gate, all
+// bytes may be left, or none.
+#[test]
+fn a_stop_among_4096_arrivals_leaves_what_was_acknowledged_or_one_more(
+    rt: HostRuntime,
+) -> Result<(), Fail> {
+    let alloc = rt.alloc();
+    let script = many_arrivals(alloc, 4096)?;
+    let mut machine = make_machine(alloc, &script, b"", &[])?;
+    assert_eq!(rt; run_on(alloc, &mut machine)?, Status::Done);
+    assert_eq!(rt; machine.moments(), 20_484);
+    for (moment, fill, want) in [
+        (3, Fill::Written, 0),
+        (10_243, Fill::Written, 2048),
+        (10_246, Fill::Written, 2049),
+        (10_246, Fill::Byte(0), 2048),
+        (20_483, Fill::Byte(0), 4096),
+    ] {
+        let tail = Tail {
+            extra: u64::MAX,
+            fill,
+        };
+        let entries = pick_entries(alloc, &machine, moment, tail)?;
+        assert_eq!(rt; entries, want, "{fill:?} at {moment}");
+    }
+    Ok(())
+}
+
+/// The archive of an image that the mixed script may leave: its journal spells as many of the
+/// script's entries as it has. A stop at any moment inside its load leaves the same history.
+fn expect_same_after_stops(rt: &impl Abort, alloc: Global, picked: Picked) -> Result<(), Fail> {
+    let journal = Vec::from_slice(alloc, &picked.image.journal)?;
+    let (archive, machine) = load_image(alloc, picked.image)?;
+    let entries = archive.length();
+    assert!(rt; entries <= 5);
+    let end = MIXED_ENDS[entries as usize];
+    assert!(rt; entries == 0 || journal.starts_with(&MIXED_JOURNAL[..end]));
+    for moment in 0..machine.moments() {
+        expect_entries(alloc, &machine, moment, entries, entries)?;
+    }
+    Ok(())
+}
+
+#[test]
+fn a_stop_inside_the_load_that_follows_leaves_the_same_history(
+    rt: HostRuntime,
+) -> Result<(), Fail> {
+    let alloc = rt.alloc();
+    let mut machine = make_machine(alloc, MIXED_SCRIPT, b"", &[])?;
+    assert_eq!(rt; run_on(alloc, &mut machine)?, Status::Done);
+    for moment in 0..machine.moments() {
+        for fill in FILLS {
+            for extra in EXTRAS {
+                let picked = pick_image(alloc, &machine, moment, Tail { extra, fill })?;
+                expect_same_after_stops(&rt, alloc, picked)?;
+            }
+        }
+    }
+    Ok(())
+}
+
+#[test]
+fn where_the_gate_is_not_synced_its_byte_decides(rt: HostRuntime) -> Result<(), Fail> {
+    let alloc = rt.alloc();
+    let fault = Fault {
+        call: CallKind::Sync,
+        nth: 4,
+        kept: 0,
+    };
+    let mut machine = make_machine(alloc, FIRST_SCRIPT, b"", &[fault])?;
+    assert_eq!(rt; run_on(alloc, &mut machine)?, Status::Disk);
+    assert_eq!(rt; machine.shown(), b"".as_slice());
+    for moment in 0..6 {
+        expect_entries(alloc, &machine, moment, 0, 0)?;
+    }
+    for moment in 6..machine.moments() {
+        expect_entries(alloc, &machine, moment, 0, 1)?;
+        for (fill, want) in [
+            (Fill::Written, 1),
+            (Fill::Byte(0xa5), 1),
+            (Fill::Byte(0), 0),
+            (Fill::Byte(b'x'), 0),
+        ] {
+            let tail = Tail {
+                extra: u64::MAX,
+                fill,
+            };
+            let entries = pick_entries(alloc, &machine, moment, tail)?;
+            assert_eq!(rt; entries, want, "{fill:?} at {moment}");
+        }
+    }
+    Ok(())
+}
+
+#[test]
+fn a_fault_before_the_gate_leaves_no_entry(rt: HostRuntime) -> Result<(), Fail> {
+    let alloc = rt.alloc();
+    for (call, nth, want) in [
+        (CallKind::Sync, 3, Status::Disk),
+        (CallKind::Pull, 1, Status::Source),
+    ] {
+        let fault = Fault { call, nth, kept: 0 };
+        let mut machine = make_machine(alloc, FIRST_SCRIPT, b"", &[fault])?;
+        assert_eq!(rt; run_on(alloc, &mut machine)?, want);
+        assert_eq!(rt; machine.shown(), b"".as_slice());
+        for moment in 0..machine.moments() {
+            expect_entries(alloc, &machine, moment, 0, 0)?;
+        }
+    }
+    Ok(())
+}
+
+#[test]
+fn an_arrival_whose_reply_fails_is_in_the_journal(rt: HostRuntime) -> Result<(), Fail> {
+    let alloc = rt.alloc();
+    let fault = Fault {
+        call: CallKind::Push,
+        nth: 1,
+        kept: 0,
+    };
+    let mut machine = make_machine(alloc, FIRST_SCRIPT, b"", &[fault])?;
+    assert_eq!(rt; run_on(alloc, &mut machine)?, Status::Sink);
+    assert_eq!(rt; machine.shown(), b"".as_slice());
+    let last = machine.moments() - 1;
+    expect_entries(alloc, &machine, last, 1, 1)?;
+    expect_shown(alloc, &machine, 0)?;
+    Ok(())
+}
