@@ -3,12 +3,10 @@ ghost use Rattle.std.specs.Prelude.{◌≡◌, ◌⊎◌, ◌≤◌, ◌+◌, �
 ghost use Rattle.machine_model.specs.Causes.{Rose};
 ghost use Rattle.machine_model.specs.Calls.{OnlyReads};
 ghost use Rattle.machine_model.specs.States.{DiskState};
-ghost use Rattle.postings.specs.Lists.{sublist};
 ghost use Rattle.query_lang.specs.Grammar.{Query as Meaning, IsRead};
 ghost use Rattle.query_lang.specs.Meaning.{words_of};
 ghost use Rattle.query_lang.specs.Tokens.{key_of};
 ghost use Rattle.query_eval.specs.Asked.{read_of};
-ghost use Rattle.query_eval.specs.declared.part.Part.{Part as PartValue};
 ghost use Rattle.archive_state.specs.Histories.{History, text_at};
 ghost use Rattle.archive_state.specs.Answers.{IsAnswerAt};
 ghost use Rattle.archive_state.specs.Steps.{Found, Finds};
@@ -24,11 +22,11 @@ use crate::texts::read_text;
 use archive_state::Refusal;
 use commands::Phrase;
 use machine_model::Disk;
-use postings::overlap;
 use query_eval::{Answer, Part, answer_by_hits, answer_from};
 use query_lang::{Query, QueryError};
 use std::alloc::{AllocError, Global};
-use time_base::{DocId, Key, Posting, Span, Time};
+use time_base::{DocId, Key, Span, Time};
+use version_index::ListPart;
 
 impl Archive {
     /// What a query finds as of a time: the rows of the documents alive then that match, and how many
@@ -83,7 +81,7 @@ impl Archive {
         Ok(answer)
     }
 
-    /// What the lists of words have in a window, in order. Costs the lists' postings.
+    /// What the lists of words have in a window, in order. Costs one pass over each list.
     pub(crate) fn parts_of(
         &self,
         alloc: Global,
@@ -95,7 +93,8 @@ impl Archive {
     {
         let mut parts = Vec::new(alloc);
         for word in words {
-            put_part(alloc, &mut parts, self.index().list(word), span)?;
+            let part = self.index().part_in(alloc, word, span)?;
+            parts.push(part_of(part))?;
         }
         Ok(parts)
     }
@@ -160,21 +159,16 @@ pub(crate) fn query_of(alloc: Global, expr: &Phrase) -> Result<Query, AskError>
     }
 }
 
-/// Puts what a list has in a window behind other parts; the whole list is read for it.
-fn put_part(
-    alloc: Global,
-    parts: &mut Vec<Part>,
-    list: &[Posting],
-    span: Span,
-) -> Result<(), AllocError>
-    requires { length list.now ≤ 2 ^ 40 }
-    ensures { OnOk result ((part : PartValue) × (parts.new.items ≡ parts.old.items ++ part ∷ [])
-        × (part.list.items ≡ sublist span.from span.to list.now) × (part.read ≡ length list.now)) }
+/// What a word's list has in a window; the whole list was read for it.
+fn part_of(part: ListPart) -> Part
+    ensures list { result.list.items ≡ part.rows.items }
+    ensures read { result.read ≡ part.whole }
 {
-    let read = list.len() as u64;
-    let list = overlap(alloc, list, span)?;
-    parts.push(Part { list, read })?;
-    Ok(())
+    let ListPart { rows, whole } = part;
+    Part {
+        read: whole,
+        list: rows,
+    }
 }
 
 /// The window of one second.

@@ -1,14 +1,18 @@
 -- What is held for a word, where it is written.
-use Rattle.std.specs.Prelude.{◌≡◌, ℕ, ◌+◌, ◌<◌, ◌≤◌, List, [], ◌∷◌, ◌++◌, length, get_or, set, take}
+use Rattle.std.specs.Prelude.{◌≡◌, ◌≢◌, ℕ, ◌^◌, refl, ◌+◌, ◌<◌, ◌≤◌, List, [], ◌∷◌, ◌++◌, length, get_or, set, take, Box, Option, Some, None}
+use Rattle.std.specs.Box.{box_value, with_value}
+use Rattle.std.specs.declared.alloc.Global.{Global}
 use Rattle.std.proofs.Common.{arith, ap, sym, ◌∙◌, subst, inl, inr}
-use Rattle.std.proofs.lemmas.Bool.{cases_lt}
+use Rattle.std.proofs.lemmas.Bool.{cases_lt, cases_eq}
 use Rattle.std.proofs.lemmas.List.{get_or_read, get_or_past, get_or-set_same, take_more}
 use Rattle.std.proofs.lemmas.List.Elements.{All-append, All-cons, All-nil}
 use Rattle.time_base.specs.declared.posting.Posting.{Posting}
 use Rattle.tail_lists.specs.declared.weight.Weight.{Weight}
 use Rattle.tail_lists.specs.Held.{Held}
-use Rattle.tail_lists.specs.Tails.{tail_of, room_of, HaveRoom}
+use Rattle.tail_lists.specs.Blocks.{held_in}
+use Rattle.tail_lists.specs.Tails.{held_of, tail_of, room_of, HaveRoom}
 use Rattle.tail_lists.specs.Turns.{IsTurned, IsTrimmed}
+use Rattle.tail_lists.proofs.Passed.{turned-same, turned-never}
 
 -- what has room is there
 pub there : (tails : List Held) (w : ℕ) → 1 ≤ room_of tails w → w < length tails
@@ -21,8 +25,8 @@ written R was tails w x y v l e r =
     subst (λ z. R (tail_of was w) z) (sym (ap {B = List Posting} (λ (h : Held). h.list) (get_or-set_same tails w y none l)))
     (subst (λ z. R z y.list) (ap {B = List Posting} (λ (h : Held). h.list) (get_or_read tails w x l e none) ∙ ap (λ z. tail_of z w) v) r)
 
-pub turned-at : (doc at old new : ℕ) (was tails : List Held) (w : ℕ) (x y : Held) → tails ≡ was → 1 ≤ room_of was w → x ≡ get_or tails w x → IsTurned doc at old new x.list y.list → IsTurned doc at old new (tail_of was w) (tail_of (set tails w y) w)
-turned-at doc at old new was tails w x y v r e h = written (IsTurned doc at old new) was tails w x y v (there tails w (subst (λ z. 1 ≤ room_of z w) (sym v) r)) e h
+pub turned-at : (doc at old new : ℕ) (was tails : List Held) (w : ℕ) (x y : Held) → tails ≡ was → w < length tails → x ≡ get_or tails w x → IsTurned doc at old new x.list y.list → IsTurned doc at old new (tail_of was w) (tail_of (set tails w y) w)
+turned-at doc at old new was tails w x y v l e h = written (IsTurned doc at old new) was tails w x y v l e h
 
 pub trimmed-at : (h : ℕ) (was tails : List Held) (w : ℕ) (x y : Held) → tails ≡ was → w < length tails → x ≡ get_or tails w x → IsTrimmed h x.list y.list → IsTrimmed h (tail_of was w) (tail_of (set tails w y) w)
 trimmed-at h was tails w x y v l e t = written (IsTrimmed h) was tails w x y v l e t
@@ -40,3 +44,37 @@ pub room-more : (weights : List Weight) (i : ℕ) (x : Weight) (was now : List H
 room-more weights i x was now l e more one h =
     subst (λ z. HaveRoom z now) (sym (take_more weights i x l ∙ ap (λ z. take i weights ++ z ∷ []) (sym e)))
     (All-append (λ z. 1 ≤ room_of now z.word.number) (take i weights) (x ∷ []) (room-kept (take i weights) was now more h) (All-cons (λ z. 1 ≤ room_of now z.word.number) x [] one (All-nil (λ z. 1 ≤ room_of now z.word.number))))
+
+-- nothing loses no document, and gains none without room
+pub turned-nothing : (doc at old new : ℕ) → at < 2 ^ 40 → (old ≢ new → new ≢ 0 → 1 ≤ 0) → IsTurned doc at old new [] []
+turned-nothing doc at old new lb r = elim (cases_eq old new) [
+  | inl e ↦ subst (λ z. IsTurned doc at old z [] []) e (turned-same doc at old [])
+  | inr n ↦ elim (cases_eq new 0) [
+    | inl z ↦ turned-never doc at old new [] 0 refl (λ i. record { inside = omega arith; before = All-nil (λ p. p.doc.0 ≤ doc); after = All-nil (λ p. doc < p.doc.0) }) lb (omega (arith, n, z))
+    | inr m ↦ absurd (omega (arith, r n m))
+  ]
+]
+
+-- so does a word without a tail
+pub turned-absent : (doc at old new : ℕ) (was tails : List Held) (w : ℕ) → tails ≡ was → length tails ≤ w → at < 2 ^ 40 → (old ≢ new → new ≢ 0 → 1 ≤ room_of was w) → IsTurned doc at old new (tail_of was w) (tail_of was w)
+turned-absent doc at old new was tails w v l lb r =
+    let past : held_of was w ≡ record { list = []; room = 0 } = subst (λ z. held_of z w ≡ record { list = []; room = 0 }) v (get_or_past tails w (record { list = []; room = 0 }) l) in
+    subst (λ (h : Held). IsTurned doc at old new h.list h.list) (sym past) (turned-nothing doc at old new lb (λ n m. omega (arith, r n m, ap {B = ℕ} (λ (h : Held). h.room) past)))
+
+-- a relation of what is held in blocks before and after they change
+pub held-some : (R : List Posting → List Posting → Type 0) (was now : Option (Box Held Global)) (b : Box Held Global) (held x y : Held) → held_in was ≡ held → was ≡ Some b → x ≡ box_value b → now ≡ Some (with_value b y) → R x.list y.list → R held.list (held_in now).list
+held-some R was now b held x y v e f g r =
+    let l : x.list ≡ held.list = ap {B = List Posting} (λ (h : Held). h.list) (f ∙ ap held_in (sym e) ∙ v) in
+    let m : y.list ≡ (held_in now).list = ap (λ n. (held_in n).list) (sym g) in
+    subst (λ z. R held.list z) m (subst (λ z. R z y.list) l r)
+
+-- and where there are none
+pub held-none : (R : List Posting → List Posting → Type 0) (was now : Option (Box Held Global)) (held : Held) → held_in was ≡ held → was ≡ None → now ≡ was → R [] [] → R held.list (held_in now).list
+held-none R was now held v e g r =
+    let l : [] ≡ held.list = ap {B = List Posting} (λ (h : Held). h.list) (ap held_in (sym e) ∙ v) in
+    let m : [] ≡ (held_in now).list = ap (λ n. (held_in n).list) (sym (g ∙ e)) in
+    subst (λ z. R held.list z) m (subst (λ z. R z []) l r)
+
+-- blocks that aren't there have no room
+pub no-room : (was : Option (Box Held Global)) (held : Held) → held_in was ≡ held → was ≡ None → held.room ≡ 0
+no-room was held v e = ap {B = ℕ} (λ (h : Held). h.room) (sym v ∙ ap held_in e)

@@ -112,9 +112,3 @@ room-first (x ∷ weights) w tails n h = elim (cases_eq x.word.number w) [
   | inl e ↦ subst (λ z. 1 ≤ room_of tails z) e (All-head (λ z. 1 ≤ room_of tails z.word.number) x weights h)
   | inr m ↦ absurd (n (first-away x weights w m))
 ]
-
-pub room-either : (one other : List Weight) (w : ℕ) (tails : List Held) → first_of w one ≢ first_of w other → HaveRoom one tails → HaveRoom other tails → 1 ≤ room_of tails w
-room-either one other w tails n h k = elim (cases_eq (first_of w one) 0) [
-  | inl e ↦ room-first other w tails (λ u. n (e ∙ sym u)) k
-  | inr m ↦ room-first one w tails m h
-]

@@ -1,4 +1,5 @@
 pub mod Acts
+pub mod Blocks
 pub mod Gathered
 pub mod Held
 pub mod Laws

@@ -27,6 +27,8 @@ pub record IsDone (doc at : ℕ) (old new lost gained : List Weight) (was now : 
   pub turned : IsTurned doc at (weight_of w old) (weight_of w new) (tail_of was w) (tail_of now w)
   pub longer : length (tail_of now w) ≤ length (tail_of was w) + 1
   pub same : weight_of w old ≡ weight_of w new → held_of now w ≡ held_of was w
+  pub shorter : weight_of w new ≡ 0 → length (tail_of now w) ≤ length (tail_of was w)
+  pub none : weight_of w new ≡ 0 → room_of was w ≤ room_of now w
   pub room : room_of was w ≤ room_of now w + 1
 
 -- Word w stands as it was.
@@ -39,6 +41,5 @@ pub record IsLeft (old new lost gained : List Weight) (was now : List Held) (w :
 pub record IsPassing (doc at : ℕ) (old new lost gained : List Weight) (was now : List Held) : Type 0 where
   pub lost_words : AreWeights lost
   pub gained_words : AreWeights gained
-  pub lost_room : HaveRoom lost now
   pub gained_room : HaveRoom gained now
   pub each : (w : ℕ) → IsDone doc at old new lost gained was now w ⊎ IsLeft old new lost gained was now w

@@ -30,7 +30,7 @@ impl Tails {
         for i in 0..turns.len() {
             let turn = &turns[i];
             let old = open_before(turns, i);
-            tails.reserve_turn(old, &turn.weights)?;
+            tails.reserve_turn(&turn.weights)?;
             tails.turn(turn.doc, turn.at, old, &turn.weights);
         }
         Ok(tails)

@@ -3,12 +3,16 @@
 //!
 //! A tail is the coalesced list of a frequency from a time on. Contracts quantify over that
 //! frequency: whatever it was before a turn, the tail is the list of the frequency turned after it.
-//! A turn changes one document in one word's tail by a search and one move, and takes no memory.
+//! A turn changes one document in one word's tail by a search and one move within a block of the
+//! tail, and takes no memory.
 #![tactic(auto)]
 
+mod block_list;
+mod blocks;
 mod document;
 mod gather;
 mod laws;
+mod parts;
 mod passing;
 mod tail;
 mod tails;

@@ -1,7 +1,7 @@
 ghost use Rattle.std.specs.Prelude.{IfOk};
 ghost use Rattle.tail_lists.specs.Weights.{AreWeights};
 
-use crate::{Tails, Turn, Weight};
+use crate::{Tail, Tails, Turn, Weight};
 use std::alloc::{AllocError, Global};
 use std::test::Fail;
 use time_base::{DocId, NOW, Posting, Span, Time, WordId};
@@ -36,7 +36,7 @@ fn passed(alloc: Global, word: WordId, turns: &[(u64, u32)], horizon: u64) -> Re
     for (at, tf) in turns {
         let at = Time::new(*at).ok_or("a time")?;
         let new = weights(alloc, word, *tf)?;
-        tails.reserve_turn(&old, &new)?;
+        tails.reserve_turn(&new)?;
         tails.turn(DocId(7), at, &old, &new);
         old = new;
     }
@@ -81,7 +81,7 @@ fn one_document_turns_and_its_tail_is_trimmed(rt: HostRuntime) -> Result<(), Fai
     ] {
         let tails = passed(alloc, word, turns, horizon)?;
         let list = listed(alloc, wanted)?;
-        assert_eq!(rt; tails.tail(word), list.as_slice());
+        assert_eq!(rt; tails.to_list(alloc, word)?.as_slice(), list.as_slice());
     }
     Ok(())
 }
@@ -94,9 +94,9 @@ fn a_posting_that_would_be_empty_is_dropped(rt: HostRuntime) -> Result<(), Fail>
     let mut tails = passed(alloc, word, &[(10, 1)], 40)?;
     let once = weights(alloc, word, 1)?;
     let none = Vec::new(alloc);
-    tails.reserve_turn(&once, &none)?;
+    tails.reserve_turn(&none)?;
     tails.turn(DocId(7), horizon, &once, &none);
-    assert_eq!(rt; tails.tail(word).len(), 0);
+    assert_eq!(rt; tails.len(word), 0);
     Ok(())
 }
 
@@ -110,18 +110,21 @@ fn documents_turn_at_one_time(rt: HostRuntime) -> Result<(), Fail> {
     let both = [Weight { word: red, tf: 1 }, Weight { word: blue, tf: 2 }];
     let at = Time::new(10).ok_or("10")?;
     let mut tails = Tails::new(alloc);
-    tails.reserve_turn(&none, &both)?;
+    tails.reserve_turn(&both)?;
     tails.turn(DocId(3), at, &none, &both);
-    tails.reserve_turn(&none, &both)?;
+    tails.reserve_turn(&both)?;
     tails.turn(DocId(1), at, &none, &both);
     // document 1 loses one of its words
     let at = Time::new(20).ok_or("20")?;
-    tails.reserve_turn(&both, &red_alone)?;
+    tails.reserve_turn(&red_alone)?;
     tails.turn(DocId(1), at, &both, &red_alone);
     let ended = posting(1, 10, 20, 2).ok_or("document 1 until 20")?;
     let open = posting(3, 10, NOW, 2).ok_or("document 3")?;
-    assert_eq!(rt; tails.tail(blue), [ended, open].as_slice());
-    assert_eq!(rt; tails.tail(red).len(), 2);
+    assert_eq!(rt;
+        tails.to_list(alloc, blue)?.as_slice(),
+        [ended, open].as_slice()
+    );
+    assert_eq!(rt; tails.len(red), 2);
     Ok(())
 }
 
@@ -154,6 +157,74 @@ fn turns_are_gathered(rt: HostRuntime) -> Result<(), Fail> {
     let tails = Tails::gather(alloc, &mut turns)?;
     let open = posting(1, 20, NOW, 4).ok_or("document 1")?;
     let ended = posting(2, 10, 30, 1).ok_or("document 2")?;
-    assert_eq!(rt; tails.tail(word), [open, ended].as_slice());
+    assert_eq!(rt;
+        tails.to_list(alloc, word)?.as_slice(),
+        [open, ended].as_slice()
+    );
+    Ok(())
+}
+
+/// The tails after each of that many documents, one after another and in reverse, has the word.
+fn many(alloc: Global, word: WordId, count: u32) -> Result<Tails, Fail> {
+    let mut tails = Tails::new(alloc);
+    let none = Vec::new(alloc);
+    let once = weights(alloc, word, 1)?;
+    let at = Time::new(10).ok_or("10")?;
+    for i in 0..count {
+        // even documents ascend, odd ones descend
+        let even = i % 2 == 0;
+        let doc = if even { i } else { count - i };
+        tails.reserve_turn(&once)?;
+        tails.turn(DocId(doc), at, &none, &once);
+    }
+    Ok(tails)
+}
+
+#[test]
+fn a_long_tail_stands_in_blocks(rt: HostRuntime) -> Result<(), Fail> {
+    let alloc = rt.alloc();
+    let word = WordId::new(2).ok_or("a word")?;
+    let tails = many(alloc, word, 3000)?;
+    assert_eq!(rt; tails.len(word), 3000);
+    let before = Time::new(9).ok_or("9")?;
+    let after = Time::new(10).ok_or("10")?;
+    assert_eq!(rt; tails.rows_at(alloc, word, before)?.len(), 0);
+    let ahead = Span::new(5, 10).ok_or("before the first")?;
+    assert_eq!(rt; tails.rows_in(alloc, word, ahead)?.len(), 0);
+    let around = Span::new(5, 11).ok_or("over the first")?;
+    assert_eq!(rt; tails.rows_in(alloc, word, around)?.len(), 3000);
+    let rows = tails.rows_at(alloc, word, after)?;
+    assert_eq!(rt; rows.len(), 3000);
+    for (i, row) in rows.iter().enumerate() {
+        assert_eq!(rt; row.doc.0 as usize, i);
+    }
+    Ok(())
+}
+
+#[test]
+fn a_tail_with_room_for_many_comes_to_stand_in_blocks(rt: HostRuntime) -> Result<(), Fail> {
+    let alloc = rt.alloc();
+    let word = WordId::new(2).ok_or("a word")?;
+    let none = Vec::new(alloc);
+    let once = weights(alloc, word, 1)?;
+    let at = Time::new(10).ok_or("10")?;
+    let mut tails = Tails::new(alloc);
+    tails.reserve_postings(word, 1500)?;
+    for doc in 0..1500 {
+        tails.reserve_turn(&once)?;
+        tails.turn(DocId(doc), at, &none, &once);
+    }
+    let later = Time::new(20).ok_or("20")?;
+    tails.turn(DocId(700), later, &once, &none);
+    assert_eq!(rt; tails.len(word), 1500);
+    assert_eq!(rt; tails.rows_at(alloc, word, later)?.len(), 1499);
+    tails.trim(word, later);
+    assert_eq!(rt; tails.len(word), 1499);
+    Ok(())
+}
+
+#[test]
+fn a_tail_in_hand_is_smaller_than_a_vector(rt: HostRuntime) -> Result<(), Fail> {
+    assert!(rt; size_of::<Tail>() < size_of::<Vec<Posting>>());
     Ok(())
 }

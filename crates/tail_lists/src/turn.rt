@@ -1,10 +1,14 @@
-//! Turns of a document in one word's tail.
-ghost use Rattle.std.specs.Prelude.{◌≡◌, ◌≢◌, ◌↔◌, ◌+◌, ◌-◌, ◌<◌, ◌≤◌, length, slice_set, vec_len, vec_capacity, IsNone, IfSome};
+//! Turns of a document in one block of a word's tail.
+ghost use Rattle.std.specs.Prelude.{◌≡◌, ◌≢◌, ◌↔◌, ◌+◌, ◌-◌, ◌<◌, ◌≤◌, ◌++◌, List, Vec, length, get_or, slice_set, vec_len, vec_capacity, IsNone, IfSome};
 ghost use Rattle.std.specs.List.{insert};
 ghost use Rattle.postings.specs.Lists.{IsList};
+ghost use Rattle.std.specs.declared.alloc.Global.{Global as Heap};
+ghost use Rattle.time_base.specs.declared.posting.Posting.{Posting as Row};
 ghost use Rattle.tail_lists.specs.Turns.{IsTurned};
+ghost use Rattle.tail_lists.specs.Blocks.{joined, AreFilled, IsBlockOf, IsTurnedWithin, room_in, spare_room};
 ghost use Rattle.tail_lists.specs.Steps.{IsOpened, IsClosed, IsPlace};
 
+use crate::blocks::{count_started, drop_empty, roomy_first, roomy_later};
 use time_base::{DocId, NOW, Posting, Span, Time};
 
 /// How many postings are of documents up to this one. By the logarithm of the list's length.
@@ -70,11 +74,12 @@ pub(crate) fn write(list: &mut Vec<Posting>, place: usize, q: Posting)
 }
 
 /// A turn of a document that hasn't the word before it.
-pub(crate) fn begin(list: &mut Vec<Posting>, doc: DocId, at: Time, new: u32)
-    requires room { vec_len list.old < vec_capacity list.old }
-    ensures turned { IsTurned doc.0 at.seconds 0 new list.old.items list.new.items }
+fn begin(list: &mut Vec<Posting>, doc: DocId, at: Time, new: u32)
+    requires room { new ≢ 0 → vec_len list.old < vec_capacity list.old }
+    ensures turned { IsTurnedWithin doc.0 at.seconds 0 new list.old.items list.new.items }
     ensures longer { vec_len list.new ≤ vec_len list.old + 1 }
-    ensures room { vec_capacity list.old + vec_len list.new ≤ vec_capacity list.new + vec_len list.old + 1 }
+    ensures none { new ≡ 0 → vec_len list.new ≤ vec_len list.old }
+    ensures capacity { vec_capacity list.new ≡ vec_capacity list.old }
 {
     let place = place_of(list.as_slice(), doc);
     let Some(q) = opened(doc, at, new) else {
@@ -84,13 +89,14 @@ pub(crate) fn begin(list: &mut Vec<Posting>, doc: DocId, at: Time, new: u32)
 }
 
 /// A turn of a document that has the word before it, with another frequency than after it.
-pub(crate) fn pass(list: &mut Vec<Posting>, doc: DocId, at: Time, old: u32, new: u32)
+fn pass(list: &mut Vec<Posting>, doc: DocId, at: Time, old: u32, new: u32)
     requires some { 0 < old }
     requires differ { old ≢ new }
-    requires room { vec_len list.old < vec_capacity list.old }
-    ensures turned { IsTurned doc.0 at.seconds old new list.old.items list.new.items }
+    requires room { new ≢ 0 → vec_len list.old < vec_capacity list.old }
+    ensures turned { IsTurnedWithin doc.0 at.seconds old new list.old.items list.new.items }
     ensures longer { vec_len list.new ≤ vec_len list.old + 1 }
-    ensures room { vec_capacity list.old + vec_len list.new ≤ vec_capacity list.new + vec_len list.old + 1 }
+    ensures none { new ≡ 0 → vec_len list.new ≤ vec_len list.old }
+    ensures capacity { vec_capacity list.new ≡ vec_capacity list.old }
 {
     let place = place_of(list.as_slice(), doc);
     if place == 0 {
@@ -112,4 +118,128 @@ pub(crate) fn pass(list: &mut Vec<Posting>, doc: DocId, at: Time, old: u32, new:
         return;
     }
     write(list, last, q);
+}
+
+/// A turn of a document in a block that has room, where it has the word after the turn.
+pub(crate) fn turn_within(list: &mut Vec<Posting>, doc: DocId, at: Time, old: u32, new: u32)
+    requires differ { old ≢ new }
+    requires room { new ≢ 0 → vec_len list.old < vec_capacity list.old }
+    ensures turned { IsTurnedWithin doc.0 at.seconds old new list.old.items list.new.items }
+    ensures longer { vec_len list.new ≤ vec_len list.old + 1 }
+    ensures none { new ≡ 0 → vec_len list.new ≤ vec_len list.old }
+    ensures capacity { vec_capacity list.new ≡ vec_capacity list.old }
+{
+    if old == 0 {
+        begin(list, doc, at, new);
+    } else {
+        pass(list, doc, at, old, new);
+    }
+}
+
+/// A turn of a document in the blocks of a word's tail.
+pub(crate) fn turn_blocks(
+    first: &mut Vec<Posting>,
+    later: &mut Vec<Vec<Posting>>,
+    spare: &mut Vec<Posting>,
+    doc: DocId,
+    at: Time,
+    old: u32,
+    new: u32,
+)
+    requires differ { old ≢ new }
+    requires room { new ≢ 0 → 1 ≤ room_in first.old later.old spare.old }
+    requires filled { AreFilled later.old.items }
+    ensures turned { IsTurned doc.0 at.seconds old new (first.old.items ++ joined later.old.items) (first.new.items ++ joined later.new.items) }
+    ensures filled { AreFilled later.new.items }
+    ensures longer { length (first.new.items ++ joined later.new.items) ≤ length (first.old.items ++ joined later.old.items) + 1 }
+    ensures room { room_in first.old later.old spare.old ≤ room_in first.new later.new spare.new + 1 }
+    ensures none { new ≡ 0 → room_in first.old later.old spare.old ≤ room_in first.new later.new spare.new }
+    ensures shorter { new ≡ 0 → length (first.new.items ++ joined later.new.items) ≤ length (first.old.items ++ joined later.old.items) }
+{
+    let started = count_started(later.as_slice(), doc);
+    if started == 0 {
+        turn_first(first, later, spare, doc, at, old, new);
+    } else {
+        turn_started(later, spare, started - 1, doc, at, old, new);
+    }
+}
+
+/// A turn of a document that begins with the first block's postings.
+fn turn_first(
+    first: &mut Vec<Posting>,
+    later: &mut Vec<Vec<Posting>>,
+    spare: &mut Vec<Posting>,
+    doc: DocId,
+    at: Time,
+    old: u32,
+    new: u32,
+)
+    requires differ { old ≢ new }
+    requires room { new ≢ 0 → 1 ≤ room_in first.old later.old spare.old }
+    requires filled { AreFilled later.old.items }
+    ensures turned { (IsList (first.old.items ++ joined later.old.items) → IsBlockOf doc.0 later.old.items 0) → IsTurned doc.0 at.seconds old new (first.old.items ++ joined later.old.items) (first.new.items ++ joined later.new.items) }
+    ensures filled { AreFilled later.new.items }
+    ensures longer { length (first.new.items ++ joined later.new.items) ≤ length (first.old.items ++ joined later.old.items) + 1 }
+    ensures room { room_in first.old later.old spare.old ≤ room_in first.new later.new spare.new + 1 }
+    ensures none { new ≡ 0 → room_in first.old later.old spare.old ≤ room_in first.new later.new spare.new }
+    ensures shorter { new ≡ 0 → length (first.new.items ++ joined later.new.items) ≤ length (first.old.items ++ joined later.old.items) }
+{
+    if new == 0 {
+        turn_within(first, doc, at, old, 0);
+        return;
+    }
+    let block = roomy_first(first, later, spare, doc);
+    if block == 0 {
+        turn_within(first, doc, at, old, new);
+    } else {
+        turn_later(later, 0, doc, at, old, new);
+    }
+}
+
+/// A turn of a document that begins with the postings of the later block at `place`.
+fn turn_started(
+    later: &mut Vec<Vec<Posting>>,
+    spare: &mut Vec<Posting>,
+    place: usize,
+    doc: DocId,
+    at: Time,
+    old: u32,
+    new: u32,
+)
+    requires differ { old ≢ new }
+    requires inside { place < vec_len later.old }
+    requires room { new ≢ 0 → 1 ≤ spare_room later.old spare.old }
+    requires filled { AreFilled later.old.items }
+    ensures turned { (front : List Row) → (IsList (front ++ joined later.old.items) → IsBlockOf doc.0 later.old.items (place + 1)) → IsTurned doc.0 at.seconds old new (front ++ joined later.old.items) (front ++ joined later.new.items) }
+    ensures filled { AreFilled later.new.items }
+    ensures longer { length (joined later.new.items) ≤ length (joined later.old.items) + 1 }
+    ensures shorter { new ≡ 0 → length (joined later.new.items) ≤ length (joined later.old.items) }
+    ensures len { new ≡ 0 → vec_len later.new ≤ vec_len later.old }
+    ensures capacity { new ≡ 0 → vec_capacity later.new ≡ vec_capacity later.old }
+    ensures spare { new ≡ 0 → spare.new ≡ spare.old }
+{
+    if new == 0 {
+        turn_later(later, place, doc, at, old, 0);
+        return;
+    }
+    let block = roomy_later(later, spare, place, doc);
+    turn_later(later, block, doc, at, old, new);
+}
+
+/// A turn of a document in the later block at `place`, which has room. A block that is empty then
+/// is removed.
+fn turn_later(later: &mut Vec<Vec<Posting>>, place: usize, doc: DocId, at: Time, old: u32, new: u32)
+    requires differ { old ≢ new }
+    requires inside { place < vec_len later.old }
+    requires roomy { new ≢ 0 → (d : Vec Row Heap) → vec_len (get_or later.old.items place d) < vec_capacity (get_or later.old.items place d) }
+    requires filled { AreFilled later.old.items }
+    ensures turned { (front : List Row) → (IsList (front ++ joined later.old.items) → IsBlockOf doc.0 later.old.items (place + 1)) → IsTurned doc.0 at.seconds old new (front ++ joined later.old.items) (front ++ joined later.new.items) }
+    ensures filled { AreFilled later.new.items }
+    ensures longer { length (joined later.new.items) ≤ length (joined later.old.items) + 1 }
+    ensures shorter { new ≡ 0 → length (joined later.new.items) ≤ length (joined later.old.items) }
+    ensures len { vec_len later.new ≤ vec_len later.old }
+    ensures capacity { vec_capacity later.new ≡ vec_capacity later.old }
+{
+    turn_within(&mut later[place], doc, at, old, new);
+    drop_empty(later, place);
 }

@@ -44,7 +44,6 @@ Indexes index changes = AreIndexed (seen index) changes
 -- there is room for the change: it may be committed, without memory
 pub record HasRoom (index : IndexState) (change : Prepared) : Type 0 where
   pub numbered : length (with_all index.words change.fresh.items) ≤ length index.words + index.more_words
-  pub room_for_old : HaveRoom (newest_of index.newest change.doc.0) index.tails
   pub room_for_new : HaveRoom change.weights index.tails
   pub newest_room : 1 ≤ index.more_documents
   pub few : index.turns < 2 ^ 40

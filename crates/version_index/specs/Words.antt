@@ -1,9 +1,10 @@
 -- The words of texts by their numbers, and how often documents have them.
-use Rattle.std.specs.Prelude.{ℕ, ◌^◌, List, [], Option, Some, None, unwrap_or, option_map, slice_get}
+use Rattle.std.specs.Prelude.{◌≡◌, ℕ, ◌^◌, List, [], length, Option, Some, None, unwrap_or, option_map, slice_get}
 use Rattle.std.specs.List.{flat_map}
 use Rattle.time_base.specs.declared.posting.Posting.{Posting}
 use Rattle.version_store.specs.declared.change.Change.{Change}
 use Rattle.version_store.specs.Changes.{held_at}
+use Rattle.postings.specs.Lists.{sublist}
 use Rattle.postings.specs.ListsOf.{IsListOf}
 use Rattle.fold_tokens.specs.Terms.{keys, occurrences}
 use Rattle.fold_tokens.specs.Words.{distinct}
@@ -33,7 +34,11 @@ frequency_in changes word d t = count_held word (held_at (record { 0 = d }) t ch
 abbrev pub IsWordList : List (Change (List ℕ)) → List ℕ → List Posting → Type 0
 IsWordList changes word list = IsListOf (frequency_in changes word) 0 (2 ^ 40) list
 
--- the same of the word of a number, if there is one
+-- what the list of a word has in [a, b), and the length of the list
+abbrev pub IsPartIn : List (Change (List ℕ)) → List ℕ → ℕ → ℕ → List Posting → ℕ → Type 0
+IsPartIn changes word a b rows whole = (list : List Posting) × IsWordList changes word list × (rows ≡ sublist a b list) × (whole ≡ length list)
+
+-- how often a text has the word of a number, if there is one
 abbrev pub count_of : Option (List ℕ) → Option (List ℕ) → ℕ
 count_of None held = 0
 count_of (Some word) held = count_held word held

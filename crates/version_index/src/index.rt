@@ -2,18 +2,19 @@
 ghost use Rattle.std.specs.Prelude.{◌≡◌, ℕ, ◌<◌, ◌≤◌, ◌^◌, ◌↔◌, List, [], ◌∷◌, ◌++◌, length, Option, option_map, Contains, Err, IfOk, OnOk, IfSome, IsSome, IsTrue};
 ghost use Rattle.fold_tokens.specs.Words.{with_all};
 ghost use Rattle.version_store.specs.declared.change.Change.{Change};
-ghost use Rattle.version_index.specs.Words.{words_in, IsWordList};
+ghost use Rattle.version_index.specs.Words.{words_in, IsWordList, IsPartIn};
 ghost use Rattle.version_index.specs.Indexing.{ComesLater};
 ghost use Rattle.version_index.specs.Indexes.{state_of, seen, Indexes, HasRoom, IsPreparedFor};
 
 use crate::measure::{Measured, measure};
 use crate::newest::Newest;
 use crate::numbering::number_all;
+use crate::part::ListPart;
 use crate::prepared::Prepared;
 use crate::word_tails::WordTails;
 use fold_tokens::{NumberError, Places, Vocabulary};
 use std::alloc::{AllocError, Global};
-use time_base::{DocId, Key, Posting, Time};
+use time_base::{DocId, Key, Posting, Span, Time};
 use version_store::held_as_changes_come;
 
 /// For each word of all versions so far, the list of how often each document has it at each time.
@@ -40,14 +41,29 @@ impl Index {
         })
     }
 
-    /// The word's list; empty for a word that no text has. It costs one look-up.
-    pub fn list(&self, word: &Key) -> &[Posting]
-        ensures list { (changes : List (Change (List ℕ))) → Indexes (state_of self.now) changes → IsWordList changes word.now result.now }
-        ensures short { length result.now ≤ 2 ^ 40 }
+    /// The word's list; empty for a word that no text has. It costs one look-up and a copy of the
+    /// list; an `Err` means that memory ran out.
+    pub fn list(&self, alloc: Global, word: &Key) -> Result<Vec<Posting>, AllocError>
+        ensures list { (changes : List (Change (List ℕ))) → Indexes (state_of self.now) changes → IfOk result (λ list. IsWordList changes word.now list.items) }
+        ensures short { IfOk result (λ list. length list.items ≤ 2 ^ 40) }
     {
         match self.vocabulary.find(word) {
-            Some(id) => self.tails.list(id),
-            None => &[],
+            Some(id) => self.tails.list(alloc, id),
+            None => Ok(Vec::new(alloc)),
+        }
+    }
+
+    /// What the word's list has in the span, and how long the list is. It costs one look-up and one
+    /// pass over the list, and copies what it gives; an `Err` means that memory ran out.
+    pub fn part_in(&self, alloc: Global, word: &Key, span: Span) -> Result<ListPart, AllocError>
+        ensures { (changes : List (Change (List ℕ))) → Indexes (state_of self.now) changes → IfOk result (λ part. IsPartIn changes word.now span.from span.to part.rows.items part.whole) }
+    {
+        match self.vocabulary.find(word) {
+            Some(id) => self.tails.part_in(alloc, id, span),
+            None => Ok(ListPart {
+                rows: Vec::new(alloc),
+                whole: 0,
+            }),
         }
     }
 
@@ -88,7 +104,7 @@ impl Index {
     /// Makes room for a change, so that its commit takes no memory. No answer changes, also after an
     /// `Err`. `Full` comes where there would be more than 2^20 words, and `Memory` where there is
     /// none, or where 2^40 changes were committed. It costs a look-up for each fresh word, and
-    /// constant cost on average for each word of the text and of the document's newest version.
+    /// constant cost on average for each word of the text.
     pub fn make_room(&mut self, change: &Prepared) -> Result<(), NumberError>
         ensures room { OnOk result (HasRoom (state_of self.new) change.now) }
         ensures full { result ≡ Err NumberError.Full → 2 ^ 20 < length (with_all (state_of self.old).words change.now.fresh.items) }
@@ -98,15 +114,14 @@ impl Index {
             return Err(NumberError::Memory);
         }
         self.vocabulary.reserve(&change.fresh)?;
-        self.tails
-            .reserve_turn(self.newest.weights(change.doc), change.weights.as_slice())?;
+        self.tails.reserve_turn(change.weights.as_slice())?;
         self.newest.reserve()?;
         Ok(())
     }
 
     /// Makes the prepared change, at a time behind the document's earlier ones. It takes no memory
     /// and can't fail. It costs two look-ups, and for each word whose frequency changes the
-    /// logarithm of its list's length, and a move of the postings of later documents.
+    /// logarithm of its list's length, and a move of postings within one block of it.
     pub fn commit(&mut self, change: Prepared, at: Time)
         requires { HasRoom (state_of self.old) change }
         ensures { (changes : List (Change (List ℕ))) (doc : DocId) (held : Option (List ℕ)) → Indexes (state_of self.old) changes

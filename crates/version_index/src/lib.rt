@@ -13,12 +13,14 @@ mod loader;
 mod measure;
 mod newest;
 mod numbering;
+mod part;
 mod prepared;
 mod weights;
 mod word_tails;
 
 pub use index::Index;
 pub use loader::Loader;
+pub use part::ListPart;
 pub use prepared::Prepared;
 
 #[cfg(test)]

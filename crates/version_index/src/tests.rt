@@ -125,8 +125,11 @@ fn a_word_comes_in_any_spelling_and_goes(rt: HostRuntime) -> Result<(), Fail> {
     let strasse = key(&rt, alloc, "strasse")?;
     let die = key(&rt, alloc, "die")?;
     for index in [committed(&rt, alloc, &rows)?, loaded(&rt, alloc, &rows)?] {
-        assert_eq!(rt; index.list(&strasse), street.as_slice());
-        assert_eq!(rt; index.list(&die), [posting(7, 10, 20, 1)].as_slice());
+        assert_eq!(rt; index.list(alloc, &strasse)?.as_slice(), street.as_slice());
+        assert_eq!(rt;
+            index.list(alloc, &die)?.as_slice(),
+            [posting(7, 10, 20, 1)].as_slice()
+        );
     }
     Ok(())
 }
@@ -150,11 +153,11 @@ fn a_word_stands_in_two_documents(rt: HostRuntime) -> Result<(), Fail> {
     for index in [committed(&rt, alloc, &rows)?, loaded(&rt, alloc, &rows)?] {
         for (word, wanted) in [("red", red.as_slice()), ("blue", blue.as_slice())] {
             let word = key(&rt, alloc, word)?;
-            assert_eq!(rt; index.list(&word), wanted);
+            assert_eq!(rt; index.list(alloc, &word)?.as_slice(), wanted);
             assert!(rt; index.knows(&word));
         }
         let green = key(&rt, alloc, "green")?;
-        assert!(rt; index.list(&green).is_empty());
+        assert!(rt; index.list(alloc, &green)?.is_empty());
         assert!(rt; !index.knows(&green));
     }
     Ok(())
@@ -180,7 +183,7 @@ fn versions_with_a_word_as_often_make_one_posting(rt: HostRuntime) -> Result<(),
             ("not", not.as_slice()),
         ] {
             let word = key(&rt, alloc, word)?;
-            assert_eq!(rt; index.list(&word), wanted);
+            assert_eq!(rt; index.list(alloc, &word)?.as_slice(), wanted);
         }
     }
     Ok(())
@@ -195,12 +198,56 @@ fn a_change_that_is_dropped_changes_no_answer(rt: HostRuntime) -> Result<(), Fai
     let red = key(&rt, alloc, "red")?;
     let blue = key(&rt, alloc, "blue")?;
     assert!(rt; !index.knows(&blue));
-    assert_eq!(rt; index.list(&red), [posting(1, 10, NOW, 1)].as_slice());
+    assert_eq!(rt;
+        index.list(alloc, &red)?.as_slice(),
+        [posting(1, 10, NOW, 1)].as_slice()
+    );
     commit(&rt, alloc, &mut index, DocId(1), time_at(1), Some("green"));
     assert!(rt; !index.knows(&blue));
-    assert_eq!(rt; index.list(&red), [posting(1, 10, 20, 1)].as_slice());
+    assert_eq!(rt;
+        index.list(alloc, &red)?.as_slice(),
+        [posting(1, 10, 20, 1)].as_slice()
+    );
     let green = key(&rt, alloc, "green")?;
-    assert_eq!(rt; index.list(&green), [posting(1, 20, NOW, 1)].as_slice());
+    assert_eq!(rt;
+        index.list(alloc, &green)?.as_slice(),
+        [posting(1, 20, NOW, 1)].as_slice()
+    );
+    Ok(())
+}
+
+#[test]
+fn a_span_has_a_part_of_a_list(rt: HostRuntime) -> Result<(), Fail> {
+    let alloc = rt.alloc();
+    let rows = [
+        (9, Some("red")),
+        (3, Some("red red")),
+        (9, None),
+        (9, Some("red")),
+    ];
+    let red = key(&rt, alloc, "red")?;
+    let green = key(&rt, alloc, "green")?;
+    let early = posting(9, 10, 30, 1);
+    let twice = posting(3, 20, NOW, 2);
+    let late = posting(9, 40, NOW, 1);
+    for index in [committed(&rt, alloc, &rows)?, loaded(&rt, alloc, &rows)?] {
+        for (from, to, wanted) in [
+            (5, 10, [].as_slice()),
+            (5, 11, [early].as_slice()),
+            (29, 40, [twice, early].as_slice()),
+            (30, 31, [twice].as_slice()),
+            (29, 41, [twice, early, late].as_slice()),
+        ] {
+            let span = Span::new(from, to).ok_or("a span")?;
+            let part = index.part_in(alloc, &red, span)?;
+            assert_eq!(rt; part.rows.as_slice(), wanted);
+            assert_eq!(rt; part.whole, 3);
+        }
+        let span = Span::new(5, 100).ok_or("a span")?;
+        let part = index.part_in(alloc, &green, span)?;
+        assert!(rt; part.rows.is_empty());
+        assert_eq!(rt; part.whole, 0);
+    }
     Ok(())
 }
 

@@ -1,16 +1,18 @@
 //! The lists of all words, and how many turns they took.
 ghost use Rattle.std.specs.Prelude.{◌≡◌, ℕ, ◌+◌, ◌<◌, ◌≤◌, ◌^◌, ◌↔◌, [], length, All, IfOk, OnOk, IsTrue};
 ghost use Rattle.std.specs.List.Sorted.{IsPermutation};
+ghost use Rattle.postings.specs.Lists.{sublist};
 ghost use Rattle.tail_lists.specs.Acts.{frequency_after, open_after, AreInOrder};
 ghost use Rattle.tail_lists.specs.Gathered.{acts_of};
 ghost use Rattle.tail_lists.specs.Tails.{tail_of, HaveRoom};
 ghost use Rattle.tail_lists.specs.Turns.{AreTails, IsTurned};
 ghost use Rattle.tail_lists.specs.Weights.{AreWeights, weight_of};
 
+use crate::part::ListPart;
 use std::alloc::{AllocError, Global};
 use std::marker::Model;
 use tail_lists::{Tails, Turn, Weight};
-use time_base::{DocId, Posting, Time, WordId};
+use time_base::{DocId, Posting, Span, Time, WordId};
 
 /// The most turns. Lists of so many postings have no memory.
 pub(crate) const MOST_TURNS: u64 = 1 << 40;
@@ -63,11 +65,28 @@ impl WordTails {
     }
 
     /// The word's list.
-    pub(crate) fn list(&self, word: WordId) -> &[Posting]
-        ensures value { result.now ≡ tail_of self.now.tails word.number }
-        ensures short { length result.now ≤ 2 ^ 40 }
+    pub(crate) fn list(&self, alloc: Global, word: WordId) -> Result<Vec<Posting>, AllocError>
+        ensures value { IfOk result (λ list. list.items ≡ tail_of self.now.tails word.number) }
+        ensures short { IfOk result (λ list. length list.items ≤ 2 ^ 40) }
     {
-        self.tails.tail(word)
+        self.tails.to_list(alloc, word)
+    }
+
+    /// What the word's list has in the span.
+    pub(crate) fn part_in(
+        &self,
+        alloc: Global,
+        word: WordId,
+        span: Span,
+    ) -> Result<ListPart, AllocError>
+        ensures { IfOk result (λ part. (part.rows.items ≡ sublist span.from span.to (tail_of self.now.tails word.number))
+            × (part.whole ≡ length (tail_of self.now.tails word.number))) }
+    {
+        let rows = self.tails.rows_in(alloc, word, span)?;
+        Ok(ListPart {
+            whole: self.tails.len(word),
+            rows,
+        })
     }
 
     /// Whether there may be no turn more.
@@ -77,21 +96,19 @@ impl WordTails {
         MOST_TURNS <= self.turns
     }
 
-    /// Makes room for one turn of a document from the weights `old` to `new`.
-    pub(crate) fn reserve_turn(&mut self, old: &[Weight], new: &[Weight]) -> Result<(), AllocError>
-        ensures room_for_old { OnOk result (HaveRoom old.now self.new.tails) }
+    /// Makes room for one turn of a document to the weights `new`.
+    pub(crate) fn reserve_turn(&mut self, new: &[Weight]) -> Result<(), AllocError>
         ensures room_for_new { OnOk result (HaveRoom new.now self.new.tails) }
         ensures turns { self.new.turns ≡ self.old.turns }
         ensures same { (w : ℕ) → tail_of self.new.tails w ≡ tail_of self.old.tails w }
     {
-        self.tails.reserve_turn(old, new)
+        self.tails.reserve_turn(new)
     }
 
     /// At `at` the document passes from the weights `old` to `new`. It takes no memory.
     pub(crate) fn turn(&mut self, doc: DocId, at: Time, old: &[Weight], new: &[Weight])
         requires old { AreWeights old.now }
         requires new { AreWeights new.now }
-        requires room_for_old { HaveRoom old.now self.old.tails }
         requires room_for_new { HaveRoom new.now self.old.tails }
         requires few { self.old.turns < 2 ^ 40 }
         ensures turned { (w : ℕ) → IsTurned doc.0 at.seconds (weight_of w old.now) (weight_of w new.now) (tail_of self.old.tails w) (tail_of self.new.tails w) }

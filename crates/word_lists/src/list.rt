@@ -29,7 +29,7 @@ pub fn list_of(alloc: Global, changes: &[Change<u32>]) -> Result<Vec<Posting>, A
         pass(&mut tail, before, *change)?;
         before = Some(*change);
     }
-    Ok(tail.into_postings())
+    tail.to_list(alloc)
 }
 
 /// The changes by document, those of one document in the order in which they came.

@@ -10,15 +10,16 @@ use Rattle.archive_core.proofs.archive.Archive.parts_of.Goals as goal
 
 pub loop-word-preserved : goal.loop-word-preserved
 loop-word-preserved c =
-    let (part, put, list, read) = c.in_ok-put_part.ensures in
+    let part = c.part_of.result in
+    let put = c.in_ok-push.ensures.items in
     let span = c.args.span in
     record {
       many = omega (arith, ap length put, length_push c.loop-word.parts.items part, c.loop-word.invariant.many);
       parts = λ h stands.
           let word = c.word-item.result in
           let I : IndexState → Type 0 = λ i. Indexes i (changes h) in
-          let listed = word_list h word c.list.result.now (c.list.ensures.list (changes h) (subst I (sym c.index.ensures) stands.index_is)) in
-          let more = parts_more span.from span.to h (take c.loop-word.word-index c.args.words.now) c.loop-word.parts.items word c.list.result.now part (c.loop-word.invariant.parts h stands) listed list read in
+          let (list, listed, rows, whole) = c.in_ok-part.ensures (changes h) (subst I (sym c.index.ensures) stands.index_is) in
+          let more = parts_more span.from span.to h (take c.loop-word.word-index c.args.words.now) c.loop-word.parts.items word list part (c.loop-word.invariant.parts h stands) (word_list h word list listed) (c.part_of.ensures.list ∙ rows) (c.part_of.ensures.read ∙ whole) in
           let P : List Part → Type 0 = λ l. ArePartsIn span.from span.to h (take (c.loop-word.word-index + 1) c.args.words.now) l in
           let W : List (List ℕ) → Type 0 = λ l. ArePartsIn span.from span.to h l (c.loop-word.parts.items ++ part ∷ []) in
           subst P (sym put)

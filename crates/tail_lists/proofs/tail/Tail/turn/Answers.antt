@@ -1,16 +1,14 @@
-use Rattle.std.proofs.Common.{◌≡◌, List, sym, ap, subst}
+use Rattle.std.proofs.Common.{arith, ap}
+use Rattle.tail_lists.specs.declared.tail.Tail.TheInside.{Inside}
 use Rattle.tail_lists.specs.Turns.{IsTurned}
-use Rattle.tail_lists.specs.Held.{Held}
-use Rattle.time_base.specs.declared.posting.Posting.{Posting}
+use Rattle.tail_lists.proofs.Holding.{turned-nothing, held-some, held-none, no-room}
 use Rattle.tail_lists.proofs.tail.Tail.turn.Goals as goal
+use Rattle.tail_lists.proofs.tail.Tail.turn.Goals.{in-Some, in_default}
 
-pub returns-then-old-eq0-clause-turned : goal.returns-then-old-eq0-clause-turned
-returns-then-old-eq0-clause-turned c =
-    let v : c.self.inside.postings.items ≡ c.args.self.now.list = ap {B = List Posting} (λ (h : Held). h.list) c.self.view_is in
-    subst (λ z. IsTurned c.args.doc.0 c.args.at.seconds z c.args.new c.args.self.now.list c.begin.new.list.items) (sym c.if-old-eq0.true)
-    (subst (λ z. IsTurned c.args.doc.0 c.args.at.seconds 0 c.args.new z c.begin.new.list.items) v c.begin.ensures.turned)
-
-pub returns-else-old-eq0-clause-turned : goal.returns-else-old-eq0-clause-turned
-returns-else-old-eq0-clause-turned c =
-    let v : c.self.inside.postings.items ≡ c.args.self.now.list = ap {B = List Posting} (λ (h : Held). h.list) c.self.view_is in
-    subst (λ z. IsTurned c.args.doc.0 c.args.at.seconds c.args.old c.args.new z c.pass.new.list.items) v c.pass.ensures.turned
+pub returns-clause-turned : goal.returns-clause-turned
+returns-clause-turned c = elim c.match-self.branch [
+  | in-Some w ↦ held-some (IsTurned c.args.doc.0 c.args.at.seconds c.args.old c.args.new) c.self.inside.blocks c.match-self.self-inside.blocks w.in-Some.blocks c.args.self.now w.deref_mut.result.now w.turn.new.self
+      c.self.view_is w.in-Some.is w.deref_mut.ensures.value (ap (λ (i : Inside). i.blocks) w.self-inside-is) w.turn.ensures.turned
+  | in_default w ↦ held-none (IsTurned c.args.doc.0 c.args.at.seconds c.args.old c.args.new) c.self.inside.blocks c.match-self.self-inside.blocks c.args.self.now c.self.view_is w.in_default.is (ap (λ (i : Inside). i.blocks) w.self-inside-is)
+      (turned-nothing c.args.doc.0 c.args.at.seconds c.args.old c.args.new c.args.at.before_now (λ n m. omega (arith, c.requires.room m, no-room c.self.inside.blocks c.args.self.now c.self.view_is w.in_default.is)))
+]

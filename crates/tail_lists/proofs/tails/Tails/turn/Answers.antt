@@ -1,11 +1,11 @@
 use Rattle.std.proofs.Common.{refl}
-use Rattle.tail_lists.proofs.Words.{room-either}
-use Rattle.tail_lists.proofs.ByWord.{pass-word, passed-all, longer-all}
+use Rattle.tail_lists.proofs.Words.{room-first}
+use Rattle.tail_lists.proofs.ByWord.{pass-word, passed-all, longer-all, shorter-all, none-all}
 use Rattle.tail_lists.proofs.tails.Tails.turn.Goals as goal
 
 pub turn_word-requires : goal.turn_word-requires
 turn_word-requires c = record {
-  room = λ n. room-either c.words.lost.now c.words.gained.now c.in-Some.word.number c.words.self (rw (c.split_word-before.ensures.weight, c.split_word-after.ensures.weight) at n) c.words.invariant.lost_room c.words.invariant.gained_room;
+  room = λ n z. room-first c.words.gained.now c.in-Some.word.number c.words.self (rw c.split_word-after.ensures.weight at z) c.words.invariant.gained_room;
 }
 
 pub words-preserved : goal.words-preserved
@@ -13,7 +13,7 @@ words-preserved c =
     pass-word c.args.doc.0 c.args.at.seconds c.args.old.now c.args.new.now c.words.lost.now c.words.gained.now c.split_word-before.result.1.now c.split_word-after.result.1.now c.args.self.now c.words.self c.turn_word.new.self
     c.in-Some.word.number c.split_word-before.result.0 c.split_word-after.result.0
     c.split_word-before.ensures.weight c.split_word-after.ensures.weight c.split_word-before.ensures.rest c.split_word-after.ensures.rest c.in-Some.ensures.one c.in-Some.ensures.other
-    c.turn_word.ensures.turned c.turn_word.ensures.same c.turn_word.ensures.others c.turn_word.ensures.longer c.turn_word.ensures.room c.words.invariant
+    c.turn_word.ensures.turned c.turn_word.ensures.same c.turn_word.ensures.others c.turn_word.ensures.longer c.turn_word.ensures.shorter c.turn_word.ensures.none c.turn_word.ensures.room c.words.invariant
 
 pub returns-clause-turned : goal.returns-clause-turned
 returns-clause-turned c =
@@ -21,3 +21,9 @@ returns-clause-turned c =
 
 pub returns-clause-longer : goal.returns-clause-longer
 returns-clause-longer c = longer-all c.args.doc.0 c.args.at.seconds c.args.old.now c.args.new.now c.words.lost.now c.words.gained.now c.args.self.now c.words.self c.words.invariant
+
+pub returns-clause-shorter : goal.returns-clause-shorter
+returns-clause-shorter c = shorter-all c.args.doc.0 c.args.at.seconds c.args.old.now c.args.new.now c.words.lost.now c.words.gained.now c.args.self.now c.words.self c.words.invariant
+
+pub returns-clause-none : goal.returns-clause-none
+returns-clause-none c = none-all c.args.doc.0 c.args.at.seconds c.args.old.now c.args.new.now c.words.lost.now c.words.gained.now c.args.self.now c.words.self c.words.invariant

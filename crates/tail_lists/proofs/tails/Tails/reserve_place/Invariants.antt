@@ -1,6 +1,6 @@
 use Rattle.std.proofs.Common.{◌+◌, ◌-◌, ◌≡◌, ◌≤◌, ℕ, vec_len}
 use Rattle.tail_lists.specs.Tails.{tail_of, room_of}
-use Rattle.tail_lists.proofs.tails.Tails.reserve_word.Given as goal
+use Rattle.tail_lists.proofs.tails.Tails.reserve_place.Given as goal
 
 abbrev pub invariant-loop-alloc : goal.invariant-loop-alloc
 invariant-loop-alloc l = record {

@@ -1,0 +1,14 @@
+//! What a word's list has in a span.
+ghost use Rattle.std.specs.Prelude.{◌≤◌, ◌^◌};
+
+use time_base::Posting;
+
+/// What a word's list has in a span of time, and how long the whole list is.
+#[derive(Debug, Drop)]
+pub struct ListPart {
+    /// The list's postings that have a time in the span, uncut, in the list's order.
+    pub rows: Vec<Posting>,
+    /// How many postings the whole list has.
+    pub whole: u64,
+    pub ghost few: { whole ≤ 2 ^ 40 },
+}
