@@ -35,4 +35,6 @@ pub use text::{MOST_TEXT_BYTES, VersionText};
 pub use writing::{encode, encode_arrival, encode_deletion};
 
 #[cfg(test)]
+mod plan_tests;
+#[cfg(test)]
 mod tests;
