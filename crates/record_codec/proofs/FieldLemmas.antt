@@ -26,10 +26,10 @@ IsBytes-from_all bytes all i =
       | inr le ↦ rw (get_or_past bytes i 0 le) (omega arith)
     ]
 
-IsBytes-drop : (n : ℕ) (bytes : List ℕ) → IsBytes bytes → IsBytes (drop n bytes)
+pub IsBytes-drop : (n : ℕ) (bytes : List ℕ) → IsBytes bytes → IsBytes (drop n bytes)
 IsBytes-drop n bytes h i = rw get_or-drop (h (n + i))
 
-IsBytes-take : (n : ℕ) (bytes : List ℕ) → IsBytes bytes → IsBytes (take n bytes)
+pub IsBytes-take : (n : ℕ) (bytes : List ℕ) → IsBytes bytes → IsBytes (take n bytes)
 IsBytes-take n bytes h i =
     elim (cases_lt i n) [
       | inl lt ↦ rw (get_or-take n bytes i 0 lt) (h i)
@@ -80,7 +80,7 @@ number_again w limit wide n rest lt =
     let long : nat_lt (length (to_be_bytes w n ++ rest)) (byte_len w) ≡ false = le-ltb _ _ (omega (arith, length-append (to_be_bytes w n) rest)) in
     rw (long, take_at (to_be_bytes w n) rest (byte_len w) len, drop_at (to_be_bytes w n) rest (byte_len w) len, wide.again n lt) refl
 
-number_within : (w : Width) (bytes : List ℕ) → Within (λ x. length x.1) (length bytes) (number_at w bytes)
+pub number_within : (w : Width) (bytes : List ℕ) → Within (λ x. length x.1) (length bytes) (number_at w bytes)
 number_within w bytes = go (nat_lt (length bytes) (byte_len w))
   where
     go : (b : Bool) → Within (λ (x : ℕ × List ℕ). length x.1) (length bytes) (cond b (Err (length bytes)) (Ok (from_be_bytes w (take (byte_len w) bytes), drop (byte_len w) bytes)))
@@ -90,7 +90,7 @@ number_within w bytes = go (nat_lt (length bytes) (byte_len w))
 -- ---- times
 
 -- a time made from a number has that many seconds
-seconds-time_of : (n : ℕ) (t : Time) → time_of n ≡ Some t → t.seconds ≡ n
+pub seconds-time_of : (n : ℕ) (t : Time) → time_of n ≡ Some t → t.seconds ≡ n
 seconds-time_of n t = go (nat_lt n (2 ^ 40)) refl
   where
     go : (b : Bool) (h : nat_lt n (2 ^ 40) ≡ b) → time_by n b h ≡ Some t → t.seconds ≡ n
@@ -101,7 +101,7 @@ seconds-time_of n t = go (nat_lt n (2 ^ 40)) refl
 pub time_at-some : (bytes rest : List ℕ) (n : ℕ) (t : Time) → number_at w64 bytes ≡ Ok (n, rest) → t.seconds ≡ n → time_at bytes ≡ Ok (t, rest)
 time_at-some bytes rest n t e s = rw (e, ← s, time_of-seconds t.seconds t.before_now) refl
 
-value_or-ok : {A : Type 0} (left : ℕ) (o : Option A) (x : A) → value_or left o ≡ Ok x → o ≡ Some x
+pub value_or-ok : {A : Type 0} (left : ℕ) (o : Option A) (x : A) → value_or left o ≡ Ok x → o ≡ Some x
 value_or-ok left (Some y) x e = cc
 value_or-ok left None x e = absurd cc
 

@@ -6,7 +6,7 @@ ghost use Rattle.record_codec.specs.Fields.{Gives};
 ghost use Rattle.record_codec.specs.Reading.{number_at, doc_at, time_at, change_at, text_at, end_at};
 
 use crate::text::{MOST_TEXT_BYTES, VersionText};
-use std::alloc::{AllocError, Global};
+use std::alloc::{AllocError, AllocFailed, Global};
 use std::str;
 use time_base::{DocId, Time};
 
@@ -30,6 +30,14 @@ impl From<AllocError> for FieldError {
     }
 }
 
+impl<T: Drop> From<AllocFailed<T>> for FieldError {
+    ghost from_gives = { λ _ e. e ≡ Memory };
+
+    fn from(_e: AllocFailed<T>) -> FieldError {
+        FieldError::Memory
+    }
+}
+
 /// The fault of a field that begins with these bytes.
 pub fn fault(bytes: &[u8]) -> FieldError
     ensures { result ≡ FieldError.Form (length bytes.now) }
@@ -39,7 +47,8 @@ pub fn fault(bytes: &[u8]) -> FieldError
     }
 }
 
-fn u32_at(bytes: &[u8]) -> Result<(u32, &[u8]), FieldError>
+/// A number of 4 bytes, and the bytes behind it.
+pub fn u32_at(bytes: &[u8]) -> Result<(u32, &[u8]), FieldError>
     ensures { Gives (λ x. (x.0, x.1.now)) result (number_at w32 bytes.now) }
 {
     if bytes.len() < 4 {
@@ -50,7 +59,8 @@ fn u32_at(bytes: &[u8]) -> Result<(u32, &[u8]), FieldError>
     Ok((number, rest))
 }
 
-fn u64_at(bytes: &[u8]) -> Result<(u64, &[u8]), FieldError>
+/// A number of 8 bytes, and the bytes behind it.
+pub fn u64_at(bytes: &[u8]) -> Result<(u64, &[u8]), FieldError>
     ensures { Gives (λ x. (x.0, x.1.now)) result (number_at w64 bytes.now) }
 {
     if bytes.len() < 8 {
@@ -72,7 +82,7 @@ fn doc_at(bytes: &[u8]) -> Result<(DocId, &[u8]), FieldError>
 }
 
 /// A time, and the bytes behind it.
-fn time_at(bytes: &[u8]) -> Result<(Time, &[u8]), FieldError>
+pub fn time_at(bytes: &[u8]) -> Result<(Time, &[u8]), FieldError>
     ensures { Gives (λ x. (x.0, x.1.now)) result (time_at bytes.now) }
 {
     let (seconds, rest) = u64_at(bytes)?;

@@ -4,12 +4,19 @@
 //! big-endian, and last a text to the end of the body. Contracts see an entry as a plain value and
 //! a text as its bytes. What is decoded is spelled by exactly the bytes that were given, and bytes
 //! that spell no entry are refused at the first field that is wrong (`specs/Reading.antt`).
+//! A plan that is stored has a tag of its own, and the same promises (`specs/PlanSpelling.antt`,
+//! `specs/PlanReading.antt`).
 #![tactic(auto)]
 
 mod entry;
 mod error;
 mod fields;
 mod laws;
+mod place;
+mod plan;
+mod plan_fields;
+mod plan_reading;
+mod plan_writing;
 mod reading;
 mod tags;
 mod text;
@@ -17,10 +24,17 @@ mod writing;
 
 pub use entry::Entry;
 pub use error::CodecError;
-pub use laws::spelling_laws;
+pub use laws::{plan_laws, spelling_laws};
+pub use place::{Layout, Place};
+pub use plan::{Cuts, Places, PlanEntry};
+pub use plan_reading::decode_plan;
+pub use plan_writing::encode_plan;
 pub use reading::decode;
+pub use tags::MOST_SEGMENTS;
 pub use text::{MOST_TEXT_BYTES, VersionText};
 pub use writing::{encode, encode_arrival, encode_deletion};
 
+#[cfg(test)]
+mod plan_tests;
 #[cfg(test)]
 mod tests;

@@ -9,3 +9,37 @@ pub const DELETE: u8 = 2;
 
 /// The bytes of a tag, a document and a time.
 pub const CHANGE_BYTES: usize = 13;
+
+/// The tag of a plan. Behind it stand the layout in one byte, the kind in one byte (and a time in 8
+/// where that is `SINCE`), the fraction in 4 and 4 bytes, the horizon in 8, the word's length in
+/// one byte, the word, how many segments there are in 4 bytes, and the segments.
+pub const PLANNED: u8 = 3;
+
+/// The byte of sublists that are flat.
+pub const FLAT: u8 = 1;
+
+/// The byte of sublists in blocks.
+pub const BLOCKS: u8 = 2;
+
+/// The byte of a plan that keeps to a guarantee.
+pub const GUARANTEE: u8 = 1;
+
+/// The byte of a plan within a space bound, for each second alike.
+pub const UNIFORM: u8 = 2;
+
+/// The byte of a plan within a space bound, for the seconds from a time on, which stands behind it
+/// in 8 bytes.
+pub const SINCE: u8 = 3;
+
+/// The most bytes of a plan in front of its segments.
+pub const MOST_FRONT_BYTES: usize = 287;
+
+/// The bytes of a segment: its left cut in 8 bytes, the first page of its sublist in 4, how many
+/// bytes that has in 8, and their digest in 32.
+pub const SEGMENT_BYTES: usize = 52;
+
+/// The bytes of a SHA-256.
+pub const DIGEST_BYTES: usize = 32;
+
+/// The most segments of a plan.
+pub const MOST_SEGMENTS: u32 = 1_048_575;

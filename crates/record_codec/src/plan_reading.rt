@@ -1,0 +1,93 @@
+//! Reading a plan.
+ghost use Rattle.std.specs.Prelude.{◌≡◌, ◌≢◌, ℕ, IfOk};
+ghost use Rattle.record_codec.specs.declared.plan.PlanEntry.{PlanEntry};
+ghost use Rattle.record_codec.specs.PlanSpelling.{plan_spelling, IsPlanEntry};
+ghost use Rattle.record_codec.specs.PlanReading.{segments_at, plan_at, planned_at};
+ghost use Rattle.record_codec.specs.Fields.{Gives};
+ghost use Rattle.record_codec.specs.PlanDecoding.{DecodesPlan, IsPlanReadAs};
+
+use crate::error::CodecError;
+use crate::fields::{FieldError, end_at, fault, time_at};
+use crate::plan::{Cuts, Places, PlanEntry};
+use crate::plan_fields::{fraction_at, key_at, kind_at, layout_at, number_in, segment_at};
+use crate::tags::{MOST_SEGMENTS, PLANNED, SEGMENT_BYTES};
+use std::alloc::Global;
+use time_base::Time;
+
+/// So many segments that ascend to the horizon, and the bytes behind them.
+fn segments_at(
+    alloc: Global,
+    count: u32,
+    horizon: Time,
+    bytes: &[u8],
+) -> Result<(Cuts, Places, &[u8]), FieldError>
+    ensures { Gives (λ x. ((x.0, x.1), x.2.now)) result (segments_at count 0 horizon bytes.now) }
+{
+    let room = bytes.len() / SEGMENT_BYTES;
+    let mut cuts = Vec::with_capacity(alloc, room)?;
+    let mut places = Vec::with_capacity(alloc, room)?;
+    let mut least = 0;
+    let mut rest = bytes;
+    for _ in 0..count {
+        let (cut, place, behind) = segment_at(least, horizon, rest)?;
+        cuts.push(cut)?;
+        places.push(place)?;
+        least = cut.seconds() + 1;
+        rest = behind;
+    }
+    Ok((Cuts::new(cuts), Places::new(places), rest))
+}
+
+/// A plan, from behind its tag.
+#[tactic(auto, unfolding(crate::specs::PlanReading::plan_at))]
+pub fn plan_at(alloc: Global, bytes: &[u8]) -> Result<PlanEntry, FieldError>
+    ensures { Gives (λ p. p) result (plan_at bytes.now) }
+{
+    let (layout, rest) = layout_at(bytes)?;
+    let (kind, rest) = kind_at(rest)?;
+    let (fraction, rest) = fraction_at(rest)?;
+    let (horizon, rest) = time_at(rest)?;
+    let (word, rest) = key_at(alloc, rest)?;
+    let (count, rest) = number_in(1, MOST_SEGMENTS, rest)?;
+    let (cuts, places, rest) = segments_at(alloc, count, horizon, rest)?;
+    end_at(rest)?;
+    Ok(PlanEntry {
+        word,
+        layout,
+        kind,
+        fraction,
+        horizon,
+        cuts,
+        places,
+    })
+}
+
+#[tactic(auto, unfolding(crate::specs::PlanReading::planned_at))]
+fn planned_at(alloc: Global, bytes: &[u8]) -> Result<PlanEntry, FieldError>
+    ensures { Gives (λ p. p) result (planned_at bytes.now) }
+{
+    match bytes {
+        [PLANNED, rest @ ..] => plan_at(alloc, rest),
+        _ => Err(fault(bytes)),
+    }
+}
+
+/// The plan that a body spells. Costs the body's length.
+pub fn decode_plan(alloc: Global, body: &[u8]) -> Result<PlanEntry, CodecError>
+    // What is read is spelled so.
+    ensures found { IfOk result (λ p. IsPlanEntry p × (body.now ≡ plan_spelling p)) }
+    // What is spelled so is read, unless memory ran out.
+    ensures only { (p : PlanEntry) → IsPlanEntry p → body.now ≡ plan_spelling p → IsPlanReadAs p result }
+    // Where a place is named, no plan is spelled.
+    ensures nothing { (at : ℕ) → result ≡ Err (CodecError.Form at) → (p : PlanEntry) → IsPlanEntry p → body.now ≢ plan_spelling p }
+    // Which place is named.
+    ensures exact { DecodesPlan body.now result }
+{
+    match planned_at(alloc, body) {
+        Ok(plan) => Ok(plan),
+        Err(FieldError::Memory) => Err(CodecError::Memory),
+        Err(FieldError::Form { left }) => Err(CodecError::Form {
+            at: body.len() as u64 - left,
+        }),
+    }
+}
