@@ -1,8 +1,9 @@
 -- What is proposed is of the history that an archive stands for.
-use Rattle.std.proofs.Common.{Bool, true, false, ◌≡◌, ◌⊎◌, ℕ, ◌+◌, ◌<◌, ◌≤◌, ◌^◌, ◌↔◌, List, [], ◌∷◌, length, drop, All, Contains, Option, Some, None, option_map, unwrap_or, Result, Ok, Err, IfOk, refl, ap, sym, subst, ◌∙◌, inl, inr, arith}
+use Rattle.std.proofs.Common.{Bool, true, false, ◌==◌, ◌≡◌, ◌⊎◌, ℕ, ◌+◌, ◌<◌, ◌≤◌, ◌^◌, ◌↔◌, List, [], ◌∷◌, length, drop, All, Contains, Option, Some, None, option_map, unwrap_or, Result, Ok, Err, IfOk, refl, ap, sym, subst, ◌∙◌, inl, inr, arith}
 use Rattle.std.specs.Prelude.{slice_index, min}
 use Rattle.std.specs.List.{AllZip}
 use Rattle.std.proofs.Math.Nat.{min-le_right}
+use Rattle.std.proofs.lemmas.Bool.Decides.{nat_tests}
 use Rattle.std.proofs.lemmas.List.{length-drop}
 use Rattle.std.proofs.lemmas.List.Elements.{All-nil, All-cons}
 use Rattle.machine_model.specs.States.{DiskState}
@@ -166,6 +167,13 @@ least_proposed h phrase factor list horizon p sealed some of =
     let here = subst (λ (n : ℕ). IsProposal list factor n p.segments.items p.nodes.items p.space) sealed.horizon_is proposal in
     (p.segments.items, p.nodes.items, p.space, here, refl)) of
 
+pub ok_proposed : {E : Type 0} (h : History) (phrase : List ℕ) (factor : Fraction) (list here : List Posting) (horizon : ℕ) (r : Result Proposal E) → IsSealed h phrase list horizon → 0 < length list → here ≡ list
+    → IfOk r (λ p. OfBoundaries horizon here (λ because. ⊥) (IsProposal here factor horizon p.segments.items p.nodes.items p.space))
+    → IfOk r (λ p. Proposes h phrase factor (Proposed p.segments.items p.nodes.items p.space))
+ok_proposed h phrase factor list here horizon (Ok p) sealed some same of =
+    least_proposed h phrase factor list horizon p sealed some (subst (λ (l : List Posting). OfBoundaries horizon l (λ because. ⊥) (IsProposal l factor horizon p.segments.items p.nodes.items p.space)) same of)
+ok_proposed h phrase factor list here horizon (Err e) sealed some same of = tt
+
 -- a phrase that is refused before its list is planned
 pub phrase_refused : (h : History) (phrase : List ℕ) (factor : Fraction) (why : Refusal) → OfPhrase h (one_term phrase) (λ because. why ≡ because) (λ word list. ⊥) → Proposes h phrase factor (Refused why)
 phrase_refused h phrase factor why of =
@@ -188,15 +196,24 @@ takes_propose h phrase factor (Err asks.Memory) d a refused proposes kept =
     let any = each_proposes h phrase factor kept.stands.loadable in
     takes_question h (items.Command (commands.Propose phrase factor)) any.0 Starved d d a (refl, any.1) refl kept tt
 
--- the refusal of a call that is refused
-why_of : {T : Type 0} → Refusal → Result T AskError → Refusal
-why_of other (Ok x) = other
-why_of other (Err (asks.Refused why)) = why
-why_of other (Err asks.Failed) = other
-why_of other (Err asks.Memory) = other
+-- errors that are the same in two results
+abbrev error_of : {T : Type 0} → AskError → Result T AskError → AskError
+error_of other (Ok x) = other
+error_of other (Err error) = error
+
+pub one_error : {T : Type 0} (a b : AskError) → ◌≡◌ {A = Result T AskError} (Err a) (Err b) → a ≡ b
+one_error a b e = ap (error_of a) e
+
+abbrev why_of : Refusal → AskError → Refusal
+why_of other (asks.Refused why) = why
+why_of other asks.Failed = other
+why_of other asks.Memory = other
 
 pub one_why : {T : Type 0} (a b : Refusal) → ◌≡◌ {A = Result T AskError} (Err (asks.Refused a)) (Err (asks.Refused b)) → b ≡ a
-one_why a b e = sym (ap (why_of a) e)
+one_why a b e = sym (ap (why_of a) (one_error (asks.Refused a) (asks.Refused b) e))
+
+pub none_left : (n : ℕ) → n == 0 ≡ true → n ≡ 0
+none_left n e = grind (arith, nat_tests)
 
 pub not_both : (b : Bool) → b ≡ false → b ≡ true → ⊥
 not_both true f t = absurd cc

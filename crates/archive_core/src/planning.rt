@@ -111,7 +111,8 @@ impl Archive {
         let Some(horizon) = self.directory().last() else {
             return Err(AskError::Refused(Refusal::NothingSealed));
         };
-        let list = list_up_to(alloc, self.index().list(key), horizon)?;
+        let whole = self.index().list(alloc, key)?;
+        let list = list_up_to(alloc, &whole, horizon)?;
         if list.is_empty() {
             return Err(AskError::Refused(Refusal::NothingSealed));
         }

@@ -1,4 +1,4 @@
-//! The rows of the questions `find`, `between` and `show`, over the machine in memory.
+//! The rows of the questions `find`, `between`, `show` and `propose`, over the machine in memory.
 //!
 //! There are tests alone here, and worked rows that hold by computation (`specs/Rows.antt`). What a
 //! row wants comes from the worked rows and the formats, never from what the program answers.
@@ -8,5 +8,7 @@
 mod between;
 #[cfg(test)]
 mod find;
+#[cfg(test)]
+mod propose;
 #[cfg(test)]
 mod show;

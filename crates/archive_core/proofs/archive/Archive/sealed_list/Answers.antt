@@ -1,6 +1,7 @@
 use Rattle.std.proofs.Common.{arith, ◌≡◌, ℕ, ◌^◌, List, [], length, ap, refl, sym, subst, ◌∙◌, inl}
-use Rattle.std.proofs.lemmas.Bool.{eqb-true}
+use Rattle.std.specs.Prelude.{vec_len}
 use Rattle.time_base.specs.declared.posting.Posting.{Posting}
+use Rattle.postings.specs.ListsOf.{IsListOf}
 use Rattle.version_store.specs.Changes.{last_time}
 use Rattle.version_index.specs.Indexes.{IndexState, Indexes}
 use Rattle.archive_state.specs.Histories.{changes}
@@ -8,7 +9,7 @@ use Rattle.archive_state.specs.Answers.{frequency_at}
 use Rattle.archive_state.specs.Planning.{IsListUpTo, last_second}
 use Rattle.archive_state.specs.declared.refusal.Refusal.TheVariants as refusals
 use Rattle.archive_core.proofs.IndexLemmas.{word_list}
-use Rattle.archive_core.proofs.PlanLemmas.{known_is, known_there, last_second_is, one_why, not_both, nothing_sealed, none_before, no_second}
+use Rattle.archive_core.proofs.PlanLemmas.{known_is, known_there, last_second_is, one_why, not_both, nothing_sealed, none_before, no_second, none_left}
 use Rattle.archive_core.proofs.archive.Archive.sealed_list.Goals as goal
 
 pub returns-then-not-knows-clause-refused : goal.returns-then-not-knows-clause-refused
@@ -28,11 +29,12 @@ pub returns-then-is_empty-clause-refused : goal.returns-then-is_empty-clause-ref
 returns-then-is_empty-clause-refused c = λ h stands why e.
     let I : IndexState → Type 0 = λ i. Indexes i (changes h) in
     let known = known_is h c.args.key.now ((c.knows.ensures (changes h) (subst I (sym c.index.ensures) stands.index_is)).0 c.if-not-knows.false) in
-    let whole = word_list h c.args.key.now c.list.result.now (c.list.ensures.list (changes h) (subst I (sym c.index-2.ensures) stands.index_is)) in
-    let listed = c.in_ok-list.ensures.list (λ d t. frequency_at h c.args.key.now (record { 0 = d }) t) whole in
+    let whole = word_list h c.args.key.now c.in_ok-whole.whole.items (c.in_ok-whole.ensures.list (changes h) (subst I (sym c.index-2.ensures) stands.index_is)) in
+    let here = subst (λ (l : List Posting). IsListOf (λ d t. frequency_at h c.args.key.now (record { 0 = d }) t) 0 (2 ^ 40) l) (sym c.deref.ensures.value) whole in
+    let listed = c.in_ok-list.ensures.list (λ d t. frequency_at h c.args.key.now (record { 0 = d }) t) here in
     let last = last_second_is c.args.self.now h c.in-Some.horizon stands (ap last_time (sym c.directory.ensures.changes) ∙ sym c.last.ensures ∙ c.in-Some.is) in
     nothing_sealed h c.args.key.now c.in_ok-list.list.items why known (subst (λ (n : ℕ). IsListUpTo h c.args.key.now n c.in_ok-list.list.items) last listed)
-    (eqb-true _ _ (sym c.is_empty.ensures ∙ c.if-is_empty.true)) (one_why refusals.NothingSealed why e)
+    (omega (arith, none_left (vec_len c.in_ok-list.list) (sym c.is_empty.ensures ∙ c.if-is_empty.true))) (one_why refusals.NothingSealed why e)
 
 pub returns-clause-known : goal.returns-clause-known
 returns-clause-known c = λ h stands.
@@ -42,8 +44,9 @@ returns-clause-known c = λ h stands.
 pub returns-clause-list : goal.returns-clause-list
 returns-clause-list c = λ h stands.
     let I : IndexState → Type 0 = λ i. Indexes i (changes h) in
-    let whole = word_list h c.args.key.now c.list.result.now (c.list.ensures.list (changes h) (subst I (sym c.index-2.ensures) stands.index_is)) in
-    let listed = c.in_ok-list.ensures.list (λ d t. frequency_at h c.args.key.now (record { 0 = d }) t) whole in
+    let whole = word_list h c.args.key.now c.in_ok-whole.whole.items (c.in_ok-whole.ensures.list (changes h) (subst I (sym c.index-2.ensures) stands.index_is)) in
+    let here = subst (λ (l : List Posting). IsListOf (λ d t. frequency_at h c.args.key.now (record { 0 = d }) t) 0 (2 ^ 40) l) (sym c.deref.ensures.value) whole in
+    let listed = c.in_ok-list.ensures.list (λ d t. frequency_at h c.args.key.now (record { 0 = d }) t) here in
     let last = last_second_is c.args.self.now h c.in-Some.horizon stands (ap last_time (sym c.directory.ensures.changes) ∙ sym c.last.ensures ∙ c.in-Some.is) in
     subst (λ (n : ℕ). IsListUpTo h c.args.key.now n c.in_ok-list.list.items) last listed
 
