@@ -9,8 +9,8 @@ use Rattle.machine_model.specs.Pushes.{IsPrefix, IsSameBeside, OnlyShows}
 use Rattle.machine_model.specs.declared.range.Range.{Range}
 use Rattle.commands.specs.declared.command.Item.{Item}
 use Rattle.archive_state.specs.Histories.{History}
-use Rattle.archive_state.specs.Steps.{Reply, Accepted, Refused, Found, Spanned, Shown}
-use Rattle.archive_state.specs.Replies.{end_text, reply_text, row_text, span_text}
+use Rattle.archive_state.specs.Steps.{Reply, Accepted, Refused, Found, Spanned, Shown, Proposed}
+use Rattle.archive_state.specs.Replies.{end_text, reply_text, row_text, span_text, node_text, segment_text, space_text}
 use Rattle.archive_state.specs.Stands.{Stands}
 use Rattle.archive_state.proofs.RunLemmas.{one_turn}
 use Rattle.archive_core.specs.States.{ArchiveState, IsKept}
@@ -28,12 +28,17 @@ behind xs ys some = omega (arith, some, length-append xs ys)
 some_end : (rows read : ℕ) → 1 ≤ length (end_text rows read)
 some_end rows read = omega arith
 
+some_space : (segments total : ℕ) → 1 ≤ length (space_text segments total)
+some_space segments total = omega arith
+
 -- no reply is empty
 pub some_bytes : (r : Reply) → 1 ≤ length (reply_text r)
 some_bytes (Accepted n) = omega arith
 some_bytes (Refused why) = omega arith
 some_bytes (Found rows read) = behind (flat_map row_text rows) (end_text (length rows) read) (some_end (length rows) read)
 some_bytes (Spanned rows read) = behind (flat_map span_text rows) (end_text (length rows) read) (some_end (length rows) read)
+some_bytes (Proposed segments nodes total) =
+    behind (flat_map segment_text segments ++ flat_map node_text nodes) (space_text (length segments) total) (some_space (length segments) total)
 some_bytes (Shown None) = omega arith
 some_bytes (Shown (Some text)) = omega arith
 

@@ -216,6 +216,23 @@ fn a_change_that_is_dropped_changes_no_answer(rt: HostRuntime) -> Result<(), Fai
     Ok(())
 }
 
+/// The part that the word's list has in a span is this, of a list so long.
+fn expect_part(
+    rt: &impl Abort,
+    alloc: Global,
+    index: &Index,
+    word: &Key,
+    ends: (u64, u64),
+    wanted: &[Posting],
+    whole: u64,
+) -> Result<(), Fail> {
+    let span = Span::new(ends.0, ends.1).ok_or("a span")?;
+    let part = index.part_in(alloc, word, span)?;
+    assert_eq!(rt; part.rows.as_slice(), wanted);
+    assert_eq!(rt; part.whole, whole);
+    Ok(())
+}
+
 #[test]
 fn a_span_has_a_part_of_a_list(rt: HostRuntime) -> Result<(), Fail> {
     let alloc = rt.alloc();
@@ -231,22 +248,12 @@ fn a_span_has_a_part_of_a_list(rt: HostRuntime) -> Result<(), Fail> {
     let twice = posting(3, 20, NOW, 2);
     let late = posting(9, 40, NOW, 1);
     for index in [committed(&rt, alloc, &rows)?, loaded(&rt, alloc, &rows)?] {
-        for (from, to, wanted) in [
-            (5, 10, [].as_slice()),
-            (5, 11, [early].as_slice()),
-            (29, 40, [twice, early].as_slice()),
-            (30, 31, [twice].as_slice()),
-            (29, 41, [twice, early, late].as_slice()),
-        ] {
-            let span = Span::new(from, to).ok_or("a span")?;
-            let part = index.part_in(alloc, &red, span)?;
-            assert_eq!(rt; part.rows.as_slice(), wanted);
-            assert_eq!(rt; part.whole, 3);
-        }
-        let span = Span::new(5, 100).ok_or("a span")?;
-        let part = index.part_in(alloc, &green, span)?;
-        assert!(rt; part.rows.is_empty());
-        assert_eq!(rt; part.whole, 0);
+        expect_part(&rt, alloc, &index, &red, (5, 10), &[], 3)?;
+        expect_part(&rt, alloc, &index, &red, (5, 11), &[early], 3)?;
+        expect_part(&rt, alloc, &index, &red, (29, 40), &[twice, early], 3)?;
+        expect_part(&rt, alloc, &index, &red, (30, 31), &[twice], 3)?;
+        expect_part(&rt, alloc, &index, &red, (29, 41), &[twice, early, late], 3)?;
+        expect_part(&rt, alloc, &index, &green, (5, 100), &[], 0)?;
     }
     Ok(())
 }
@@ -286,7 +293,10 @@ fn there_may_be_2_to_the_20_words_and_no_more(rt: HostRuntime) -> Result<(), Fai
     let time = Time::new(10).ok_or("a time")?;
     commit(&rt, alloc, &mut index, DocId(7), time, Some(most));
     let last = key(&rt, alloc, "mh33")?;
-    assert_eq!(rt; index.list(&last), [posting(7, 10, NOW, 1)].as_slice());
+    assert_eq!(rt;
+        index.list(alloc, &last)?.as_slice(),
+        [posting(7, 10, NOW, 1)].as_slice()
+    );
     assert_eq!(rt; refusal(&rt, alloc, &mut index, "MH33 0000"), None);
     assert_eq!(rt;
         refusal(&rt, alloc, &mut index, "mh33 mh34"),
