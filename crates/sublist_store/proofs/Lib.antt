@@ -1,0 +1,5 @@
+pub mod Longer
+pub mod GatherLemmas
+pub mod PlaceLemmas
+pub mod WriteLemmas
+pub mod HoldLemmas

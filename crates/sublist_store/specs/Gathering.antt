@@ -1,5 +1,5 @@
 -- What is gathered from the places of a plan for a window: by the bytes that were read, and nothing else.
-use Rattle.std.specs.Prelude.{◌≡◌, ◌⊎◌, ℕ, ◌+◌, Bool, true, false, ◌&&◌, if◌then◌else◌, nat_lt, List, [], ◌∷◌, ◌++◌, length, Result, Ok, Err}
+use Rattle.std.specs.Prelude.{◌≡◌, ◌⊎◌, ℕ, ◌+◌, Bool, true, false, ◌&&◌, if◌then◌else◌, nat_lt, List, [], ◌∷◌, ◌++◌, length, sum_by, Result, Ok, Err}
 use Rattle.time_base.specs.declared.posting.Posting.{Posting}
 use Rattle.record_codec.specs.declared.place.Layout.{Layout}
 use Rattle.record_codec.specs.declared.place.Place.{Place}
@@ -33,29 +33,33 @@ chosen a b h first (f ∷ cuts) [] = []
 abbrev pub bytes_of : Chosen → List ℕ → List ℕ
 bytes_of c pages = bytes_in c.place.extent pages
 
--- it is the first segment, and its sublist is empty
-abbrev pub IsBare : Chosen → List Posting → Type 0
-IsBare c list = (c.first ≡ true) × (list ≡ [])
+-- it is the first segment of all, and its sublist is empty
+abbrev pub IsBare : Bool → List Posting → Type 0
+IsBare first list = (first ≡ true) × (list ≡ [])
 
 -- the segment's sublist joins the union so far, and has so many postings
 pub record Joins (layout : Layout) (h : ℕ) (pages : List ℕ) (c : Chosen) (union both : List Posting) (read : ℕ) : Type 0 where
   pub list : List Posting
   pub fetched : IsFetched layout c.place.digest c.from c.to h (bytes_of c pages) list
-  pub some : ¬ (IsBare c list)
+  pub some : ¬ (IsBare c.first list)
   pub joined : IsUnion union list both
   pub read_is : read ≡ length list
 
 -- what is fetched doesn't join the union so far
-abbrev pub Parts : Chosen → List Posting → List Posting → Why → Type 0
-Parts c union list why =
-    (IsBare c list × (why ≡ Bare))
-    ⊎ (¬ (IsBare c list) × ((one : Posting) × ((other : Posting) × (IsClash union list one other × (why ≡ Clash one other)))))
+abbrev pub Parts : Bool → List Posting → List Posting → Why → Type 0
+Parts first union list why =
+    (IsBare first list × (why ≡ Bare))
+    ⊎ (¬ (IsBare first list) × ((one : Posting) × ((other : Posting) × (IsClash union list one other × (why ≡ Clash one other)))))
 
 -- why the segment is refused: its fetch is, or else what is fetched doesn't join the union so far
 abbrev pub Refuses : Layout → ℕ → List ℕ → Chosen → List Posting → Why → Type 0
 Refuses layout h pages c union why =
     Explains layout c.place.digest c.from c.to h (bytes_of c pages) why
-    ⊎ ((list : List Posting) × (IsFetched layout c.place.digest c.from c.to h (bytes_of c pages) list × Parts c union list why))
+    ⊎ ((list : List Posting) × (IsFetched layout c.place.digest c.from c.to h (bytes_of c pages) list × Parts c.first union list why))
+
+-- the bytes of the segments' places, added up
+abbrev pub bytes_of_all : List Chosen → ℕ
+bytes_of_all segments = sum_by (λ (c : Chosen). c.place.extent.bytes) segments
 
 -- the list and how many postings were read for it, or what is damaged
 abbrev pub Outcome : Type 0

@@ -3,3 +3,4 @@ pub mod Segments
 pub mod Fetching
 pub mod Checking
 pub mod Gathering
+pub mod Preparing

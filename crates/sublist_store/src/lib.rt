@@ -9,9 +9,17 @@
 
 mod checker;
 mod fetching;
+mod gathering;
+mod laws;
+mod placing;
+mod prepared;
+mod spelled;
 mod spelling;
 mod store;
 mod why;
 
+pub use gathering::Gathered;
+pub use laws::pieces_hold_sublists;
+pub use prepared::Prepared;
 pub use store::Sublists;
 pub use why::{Damage, FetchError, Why};
