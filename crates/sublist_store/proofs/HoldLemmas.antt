@@ -7,7 +7,7 @@ use Rattle.postings.specs.Lists.{sublist}
 use Rattle.page_store.specs.Wrote.{Piece, HoldsPiece}
 use Rattle.sublist_store.specs.Layouts.{spelling_in}
 use Rattle.sublist_store.specs.Segments.{next_cut}
-use Rattle.sublist_store.specs.Preparing.{spellings, pieces_of, PiecesHoldSublists}
+use Rattle.sublist_store.specs.Preparing.{spellings, pieces_of, PiecesHoldSublists, PlacesAreForSublists}
 
 pub hold_sublists : PiecesHoldSublists
 hold_sublists layout list [] h [] pages each held = tt
@@ -25,3 +25,9 @@ hold_sublists layout list (f ∷ cuts) h (p ∷ places) pages each held =
       },
       hold_sublists layout list cuts h places pages each.1 (All-tail (HoldsPiece pages) one rest held),
     )
+
+pub for_sublists : PlacesAreForSublists
+for_sublists layout list [] h [] each = tt
+for_sublists layout list [] h (p ∷ places) each = absurd each
+for_sublists layout list (f ∷ cuts) h [] each = absurd each
+for_sublists layout list (f ∷ cuts) h (p ∷ places) each = (each.0, for_sublists layout list cuts h places each.1)

@@ -3,3 +3,5 @@ pub mod GatherLemmas
 pub mod PlaceLemmas
 pub mod WriteLemmas
 pub mod HoldLemmas
+pub mod UnionLemmas
+pub mod OutcomeLemmas

@@ -4,3 +4,4 @@ pub mod Fetching
 pub mod Checking
 pub mod Gathering
 pub mod Preparing
+pub mod Laws

@@ -55,6 +55,15 @@ pub record Adds (bytes : List ℕ) (old new : PagesState) (before after : List P
   pub lowest : (taken : List Extent) → HasTaken old taken → IsLowestRun taken (pages_for (length bytes)) place.extent.first
   pub taken : (taken : List Extent) → HasTaken old taken → HasTaken new (place.extent ∷ taken)
 
+-- the place is for the segment's sublist
+abbrev pub IsForSublist : Layout → List Posting → ℕ → ℕ → Place → Type 0
+IsForSublist layout list f g place = IsFor place (spelling_in layout (sublist f g list))
+
+-- Places that are for the spellings, one by one, are for the segments' sublists.
+abbrev pub PlacesAreForSublists : Type 0
+PlacesAreForSublists =
+    (layout : Layout) (list : List Posting) (cuts : List ℕ) (h : ℕ) (places : List Place) → AllZip IsFor places (spellings layout list cuts h) → EachSegment (IsForSublist layout list) cuts h places
+
 -- Pages that hold the pieces of a list's segments hold their sublists.
 abbrev pub PiecesHoldSublists : Type 0
 PiecesHoldSublists =

@@ -1,15 +1,26 @@
 //! Bytes that are checked once.
-ghost use Rattle.std.specs.Prelude.{◌≡◌, IsTrue, IfOk, IfErr, IfSome};
+ghost use Rattle.std.specs.Prelude.{◌≡◌, nat_eq, IsTrue, IfOk, IfErr, IfSome};
+ghost use Rattle.std.specs.Map.{lookup};
 ghost use Rattle.sublist_store.specs.Fetching.{IsChecked};
 ghost use Rattle.sublist_store.specs.Checking.{IsUnchecked};
 
 use crate::spelling::decoded;
+use lru::LruCache;
 use record_codec::Layout;
 use sha2::{Digest, Sha256};
 use std::alloc::{AllocError, Global};
 use std::marker::Model;
 use sublist_codec::ListError;
 use time_base::Posting;
+
+/// The most bytes that checked bytes and their lists take together: 64 MiB. A place that takes more
+/// by itself is remembered until another one is checked.
+const MOST_BYTES: usize = 1 << 26;
+
+/// The bytes of a posting in memory, and what a place takes beside its bytes and postings.
+const POSTING_SIZE: usize = 32;
+
+const PLACE_SIZE: usize = 256;
 
 /// Why bytes aren't checked.
 #[derive(Clone, Copy, Debug)]
@@ -43,6 +54,7 @@ impl From<AllocError> for CheckError {
 /// disk holds.
 #[derive(Drop)]
 pub(crate) struct Checked {
+    page: u32,
     layout: Layout,
     digest: [u8; 32],
     bytes: Vec<u8>,
@@ -61,9 +73,10 @@ impl Model for Checked {
 }
 
 impl Checked {
-    /// Checks bytes.
+    /// Checks the bytes of the place that begins at a page.
     fn of(
         alloc: Global,
+        page: u32,
         layout: Layout,
         digest: &[u8; 32],
         bytes: &[u8],
@@ -87,6 +100,7 @@ impl Checked {
             Err(_) => return Err(CheckError::Memory),
         };
         Ok(Checked {
+            page,
             layout,
             digest: *digest,
             bytes,
@@ -107,25 +121,42 @@ impl Checked {
     {
         &self.list
     }
+
+    /// How many bytes it takes, about.
+    fn size(&self) -> usize {
+        let postings = self.list.len().saturating_mul(POSTING_SIZE);
+        self.bytes
+            .len()
+            .saturating_add(postings)
+            .saturating_add(PLACE_SIZE)
+    }
 }
 
-/// Remembers the bytes that were checked last. What it answers doesn't depend on what it remembers.
+/// Remembers bytes that were checked, by the first page of their place: what was used longest ago goes
+/// first. What it answers doesn't depend on what it remembers.
 #[derive(Drop)]
 pub(crate) struct Checker {
-    known: Option<Checked>,
+    newest: Option<Checked>,
+    known: LruCache<u32, Checked>,
+    size: usize,
 }
 
 impl Checker {
     /// One that remembers nothing.
-    pub(crate) fn new() -> Checker {
-        Checker { known: None }
+    pub(crate) fn new(alloc: Global) -> Result<Checker, AllocError> {
+        Ok(Checker {
+            newest: None,
+            known: LruCache::unbounded(alloc)?,
+            size: 0,
+        })
     }
 
-    /// The list that bytes spell, if they have the digest. Bytes that it remembers are compared, and
-    /// no digest is computed.
+    /// The list that the bytes of the place at a page spell, if they have the digest. Bytes that it
+    /// remembers are compared, and no digest is computed.
     pub(crate) fn check(
         &mut self,
         alloc: Global,
+        page: u32,
         layout: Layout,
         digest: &[u8; 32],
         bytes: &[u8],
@@ -133,25 +164,71 @@ impl Checker {
         ensures found { IfOk result (λ list. IsChecked layout digest.now bytes.now list.now) }
         ensures refused { IfErr result (IsUnchecked layout digest.now bytes.now) }
     {
-        if !self.knows(layout, digest, bytes) {
-            match Checked::of(alloc, layout, digest, bytes) {
-                Ok(checked) => self.known = Some(checked),
+        if !self.is_newest(layout, digest, bytes) {
+            self.put_away();
+            if self.knows(page, layout, digest, bytes) {
+                return match self.known.peek(&page) {
+                    Some(known) => Ok(known.list()),
+                    None => Err(CheckError::Memory),
+                };
+            }
+            match Checked::of(alloc, page, layout, digest, bytes) {
+                Ok(checked) => self.newest = Some(checked),
                 Err(error) => return Err(error),
             }
         }
-        match &self.known {
-            Some(known) => Ok(known.list()),
+        match &self.newest {
+            Some(newest) => Ok(newest.list()),
             None => Err(CheckError::Memory),
         }
     }
 
-    /// Whether it remembers them.
-    fn knows(&self, layout: Layout, digest: &[u8; 32], bytes: &[u8]) -> bool
-        ensures { IsTrue result → IfSome self.now.known (λ k. (k.layout ≡ layout) × (k.digest ≡ digest.now) × (k.bytes ≡ bytes.now)) }
+    /// Whether they were checked last.
+    fn is_newest(&self, layout: Layout, digest: &[u8; 32], bytes: &[u8]) -> bool
+        ensures { IsTrue result → IfSome self.now.newest (λ k. (k.layout ≡ layout) × (k.digest ≡ digest.now) × (k.bytes ≡ bytes.now)) }
     {
-        match &self.known {
+        match &self.newest {
+            Some(newest) => newest.is(layout, digest, bytes),
+            None => false,
+        }
+    }
+
+    /// Whether it remembers them for a page, which so is used last.
+    fn knows(&mut self, page: u32, layout: Layout, digest: &[u8; 32], bytes: &[u8]) -> bool
+        ensures { IsTrue result → IfSome (lookup (nat_eq page) self.new.known.entries) (λ k. (k.layout ≡ layout) × (k.digest ≡ digest.now) × (k.bytes ≡ bytes.now)) }
+    {
+        self.known.promote(&page);
+        match self.known.peek(&page) {
             Some(known) => known.is(layout, digest, bytes),
             None => false,
+        }
+    }
+
+    /// Puts what was checked last beside the others; where there is no memory it is forgotten.
+    fn put_away(&mut self) {
+        let Some(newest) = self.newest.take() else {
+            return;
+        };
+        let size = newest.size();
+        if size > MOST_BYTES {
+            return;
+        }
+        match self.known.push(newest.page, newest) {
+            Ok(Some((_, old))) => self.size = self.size.saturating_sub(old.size()),
+            Ok(None) => {}
+            Err(_) => return,
+        }
+        self.size = self.size.saturating_add(size);
+        self.make_room();
+    }
+
+    /// Forgets what was used longest ago, until the others take few enough bytes.
+    fn make_room(&mut self) {
+        'places: while self.size > MOST_BYTES {
+            match self.known.pop_lru() {
+                Some((_, oldest)) => self.size = self.size.saturating_sub(oldest.size()),
+                None => return,
+            }
         }
     }
 }

@@ -66,7 +66,7 @@ fn sifted<'c>(
     ensures damaged { IfErr result (IfDamaged (λ d. (d.page ≡ place.now.extent.first) × Explains layout place.now.digest bounds.from bounds.to bounds.horizon bytes.now d.why)) }
 {
     let page = place.extent.first;
-    match checker.check(alloc, layout, &place.digest, bytes) {
+    match checker.check(alloc, page, layout, &place.digest, bytes) {
         Ok(list) => {
             if let Some(posting) = first_astray(list, bounds) {
                 let why = Why::Astray { posting };

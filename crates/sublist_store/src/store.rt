@@ -40,13 +40,12 @@ impl Sublists {
         // An extent is refused exactly where it is the first that doesn't pass.
         ensures refused { IfErr result (IsRefused live.now reach) }
     {
-        match Pages::from_live(alloc, live, reach) {
-            Ok(pages) => Ok(Sublists {
-                pages,
-                checker: Checker::new(),
-            }),
-            Err(error) => Err(error),
-        }
+        let pages = match Pages::from_live(alloc, live, reach) {
+            Ok(pages) => pages,
+            Err(error) => return Err(error),
+        };
+        let checker = Checker::new(alloc)?;
+        Ok(Sublists { pages, checker })
     }
 
     /// Reads the bytes of a place. With no bytes no device is called. Takes no memory.
