@@ -247,13 +247,14 @@ fn a_span_has_a_part_of_a_list(rt: HostRuntime) -> Result<(), Fail> {
     let early = posting(9, 10, 30, 1);
     let twice = posting(3, 20, NOW, 2);
     let late = posting(9, 40, NOW, 1);
+    let all = [twice, early, late];
     for index in [committed(&rt, alloc, &rows)?, loaded(&rt, alloc, &rows)?] {
-        expect_part(&rt, alloc, &index, &red, (5, 10), &[], 3)?;
-        expect_part(&rt, alloc, &index, &red, (5, 11), &[early], 3)?;
-        expect_part(&rt, alloc, &index, &red, (29, 40), &[twice, early], 3)?;
-        expect_part(&rt, alloc, &index, &red, (30, 31), &[twice], 3)?;
-        expect_part(&rt, alloc, &index, &red, (29, 41), &[twice, early, late], 3)?;
-        expect_part(&rt, alloc, &index, &green, (5, 100), &[], 0)?;
+        expect_part(&rt, alloc, &index, &red, (5, 10), &all[..0], 3)?;
+        expect_part(&rt, alloc, &index, &red, (5, 11), &all[1..2], 3)?;
+        expect_part(&rt, alloc, &index, &red, (29, 40), &all[..2], 3)?;
+        expect_part(&rt, alloc, &index, &red, (30, 31), &all[..1], 3)?;
+        expect_part(&rt, alloc, &index, &red, (29, 41), &all, 3)?;
+        expect_part(&rt, alloc, &index, &green, (5, 100), &all[..0], 0)?;
     }
     Ok(())
 }

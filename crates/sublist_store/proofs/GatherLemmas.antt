@@ -1,0 +1,165 @@
+-- One segment more of those that overlap a window.
+use Rattle.std.proofs.Common.{◌≡◌, ℕ, ◌+◌, ◌<◌, ◌≤◌, ◌==◌, zero, suc, add-one, add-zero, zero-add, add_assoc, All, Bool, true, false, ◌&&◌, if◌then◌else◌, nat_lt, List, [], ◌∷◌, ◌++◌, length, drop, get_or, Ok, Err, inl, inr, refl, ap, sym, subst, ◌∙◌, arith, sum_by}
+use Rattle.std.proofs.Math.Seq.{drop-cons}
+use Rattle.std.proofs.lemmas.List.{drop_all}
+use Rattle.std.proofs.lemmas.List.Sums.{sum_by-cons}
+use Rattle.time_base.specs.declared.posting.Posting.{Posting}
+use Rattle.time_base.specs.declared.time.Time.{Time}
+use Rattle.record_codec.specs.declared.place.Layout.{Layout}
+use Rattle.record_codec.specs.declared.place.Place.{Place}
+use Rattle.std.proofs.lemmas.List.Elements.{All-tail}
+use Rattle.machine_model.specs.Areas.{Both, replaced}
+use Rattle.machine_model.specs.States.{DiskState}
+use Rattle.machine_model.specs.declared.area.Area.TheVariants.{Pages}
+use Rattle.page_store.specs.Live.{IsInside}
+use Rattle.sublist_store.specs.Fetching.{IfDamaged}
+use Rattle.sublist_store.specs.declared.why.FetchError.{FetchError}
+use Rattle.sublist_store.specs.declared.why.FetchError.TheVariants.{Failed, Damaged, Memory}
+use Rattle.sublist_store.specs.Segments.{seconds, next_cut}
+use Rattle.sublist_store.specs.Gathering.{Chosen, chosen, overlapping, bytes_of_all, Joins, Refuses, Gathers, Outcome}
+use Rattle.sublist_store.specs.declared.why.Why.{Why}
+use Rattle.sublist_store.specs.declared.why.Damage.{Damage}
+
+-- the segments that overlap the window, from segment k on
+abbrev pub chosen_from : (a b h : ℕ) → List Time → List Place → ℕ → List Chosen
+chosen_from a b h cuts places k = chosen a b h (k == 0) (seconds (drop k cuts)) (drop k places)
+
+-- segment k
+pub record IsAt (h : ℕ) (cuts : List Time) (places : List Place) (k : ℕ) (c : Chosen) : Type 0 where
+  pub from : seconds (drop k cuts) ≡ c.from ∷ seconds (drop (k + 1) cuts)
+  pub to : c.to ≡ next_cut (seconds (drop (k + 1) cuts)) h
+  pub place : drop k places ≡ c.place ∷ drop (k + 1) places
+  pub first : c.first ≡ (k == 0)
+
+pub place_at : (places : List Place) (k : ℕ) (p : Place) → k < length places → p ≡ get_or places k p → drop k places ≡ p ∷ drop (k + 1) places
+place_at places k p within is =
+    drop-cons places k p (omega (arith, within)) ∙ ap (λ (x : Place). x ∷ drop (suc k) places) (sym is) ∙ ap (λ (i : ℕ). p ∷ drop i places) (sym (add-one k))
+
+later_none : (k : ℕ) → false ≡ ((k + 1) == 0)
+later_none k = grind arith
+
+-- segment k, where it overlaps the window, and those behind it
+chosen_one : (a b h : ℕ) (cuts : List Time) (places : List Place) (k : ℕ) (c : Chosen) → IsAt h cuts places k c
+    → chosen_from a b h cuts places k ≡ overlapping a b c ++ chosen_from a b h cuts places (k + 1)
+chosen_one a b h cuts places k c at =
+    let C : List ℕ → Type 0 = λ cs. chosen a b h (k == 0) cs (drop k places) ≡ overlapping a b c ++ chosen_from a b h cuts places (k + 1) in
+    let P : List Place → Type 0 = λ ps. chosen a b h (k == 0) (c.from ∷ seconds (drop (k + 1) cuts)) ps ≡ overlapping a b c ++ chosen_from a b h cuts places (k + 1) in
+    let one : Chosen = record { from = c.from; to = next_cut (seconds (drop (k + 1) cuts)) h; place = c.place; first = k == 0 } in
+    let same : one ≡ c = rw (sym at.to, sym at.first) refl in
+    let rest : Bool → List Chosen = λ first. chosen a b h first (seconds (drop (k + 1) cuts)) (drop (k + 1) places) in
+    subst C (sym at.from) (subst P (sym at.place) (ap (λ (x : Chosen). overlapping a b x ++ rest false) same ∙ ap (λ (first : Bool). overlapping a b c ++ rest first) (later_none k)))
+
+pub chosen_skips : (a b h : ℕ) (cuts : List Time) (places : List Place) (k : ℕ) (c : Chosen) → IsAt h cuts places k c → (nat_lt c.from b && nat_lt a c.to) ≡ false
+    → chosen_from a b h cuts places (k + 1) ≡ chosen_from a b h cuts places k
+chosen_skips a b h cuts places k c at apart =
+    sym (chosen_one a b h cuts places k c at ∙ ap (λ (t : Bool). (if t then c ∷ [] else []) ++ chosen_from a b h cuts places (k + 1)) apart)
+
+pub chosen_takes : (a b h : ℕ) (cuts : List Time) (places : List Place) (k : ℕ) (c : Chosen) → IsAt h cuts places k c → (nat_lt c.from b && nat_lt a c.to) ≡ true
+    → chosen_from a b h cuts places k ≡ c ∷ chosen_from a b h cuts places (k + 1)
+chosen_takes a b h cuts places k c at meets =
+    chosen_one a b h cuts places k c at ∙ ap (λ (t : Bool). (if t then c ∷ [] else []) ++ chosen_from a b h cuts places (k + 1)) meets
+
+-- behind the last there is none
+pub chosen_ends : (a b h : ℕ) (cuts : List Time) (places : List Place) (k : ℕ) → length cuts ≤ k → [] ≡ chosen_from a b h cuts places k
+chosen_ends a b h cuts places k all = ends (k == 0) (drop k cuts) (drop k places) (drop_all k cuts all)
+  where
+    ends : (first : Bool) (cs : List Time) (ps : List Place) → cs ≡ [] → [] ≡ chosen a b h first (seconds cs) ps
+    ends first [] ps none = refl
+    ends first (c ∷ cs) ps none = absurd (omega (arith, ap (λ (l : List Time). length l) none))
+
+-- What comes of the segments from one on, with the union and the number so far, comes of all.
+pub LeadTo : Layout → (h : ℕ) → List ℕ → List Chosen → List Chosen → List Posting → ℕ → Type 0
+LeadTo layout h pages all rest union read = (outcome : Outcome) → Gathers layout h pages rest union read outcome → Gathers layout h pages all [] 0 outcome
+
+pub leads_itself : (layout : Layout) (h : ℕ) (pages : List ℕ) (all : List Chosen) → LeadTo layout h pages all all [] 0
+unfolding LeadTo
+leads_itself layout h pages all = λ outcome gathers. gathers
+
+pub leads_same : (layout : Layout) (h : ℕ) (pages : List ℕ) (all rest new : List Chosen) (union : List Posting) (read : ℕ) → new ≡ rest
+    → LeadTo layout h pages all rest union read → LeadTo layout h pages all new union read
+leads_same layout h pages all rest new union read same leads = subst (λ (r : List Chosen). LeadTo layout h pages all r union read) (sym same) leads
+
+pub leads_joined : (layout : Layout) (h : ℕ) (pages : List ℕ) (all rest new : List Chosen) (c : Chosen) (union both : List Posting) (read n : ℕ) → rest ≡ c ∷ new
+    → Joins layout h pages c union both n → LeadTo layout h pages all rest union read → LeadTo layout h pages all new both (read + n)
+unfolding LeadTo
+leads_joined layout h pages all rest new c union both read n is joins leads = λ outcome gathers.
+    leads outcome (subst (λ (r : List Chosen). Gathers layout h pages r union read outcome) (sym is) (inr (both, (n, (joins, gathers)))))
+
+pub leads_refused : (layout : Layout) (h : ℕ) (pages : List ℕ) (all rest new : List Chosen) (c : Chosen) (union : List Posting) (read : ℕ) (d : Damage) → rest ≡ c ∷ new
+    → (d.page ≡ c.place.extent.first) × Refuses layout h pages c union d.why → LeadTo layout h pages all rest union read → Gathers layout h pages all [] 0 (Err d)
+unfolding LeadTo
+leads_refused layout h pages all rest new c union read d is refused leads =
+    leads (Err d) (subst (λ (r : List Chosen). Gathers layout h pages r union read (Err d)) (sym is) (inl (d.why, (refused.1, ap (λ (page : ℕ). Err (record { page = page; why = d.why })) refused.0))))
+
+pub leads_end : (layout : Layout) (h : ℕ) (pages : List ℕ) (all rest : List Chosen) (union : List Posting) (read : ℕ) → [] ≡ rest
+    → LeadTo layout h pages all rest union read → Gathers layout h pages all [] 0 (Ok (union, read))
+unfolding LeadTo
+leads_end layout h pages all rest union read none leads = leads (Ok (union, read)) (subst (λ (r : List Chosen). Gathers layout h pages r union read (Ok (union, read))) none refl)
+
+-- ---- bytes read
+
+-- So many bytes of Pages were read, and those of the rest make those of all.
+pub record HasRead (old now : Both ℕ) (rest all : List Chosen) : Type 0 where
+  pub count : ℕ
+  pub is : now ≡ replaced old Pages (old.pages + count)
+  pub left : count + bytes_of_all rest ≡ bytes_of_all all
+
+pub read_none : (old : Both ℕ) (all : List Chosen) → HasRead old old all all
+read_none old all = record { count = 0; is = ap (λ (n : ℕ). replaced old Pages n) (sym (add-zero old.pages)); left = zero-add (bytes_of_all all) }
+
+pub read_same : (old now : Both ℕ) (rest new all : List Chosen) → new ≡ rest → HasRead old now rest all → HasRead old now new all
+read_same old now rest new all same read = subst (λ (r : List Chosen). HasRead old now r all) (sym same) read
+
+pub read_more : (old mid now : Both ℕ) (rest new all : List Chosen) (c : Chosen) → rest ≡ c ∷ new → now ≡ replaced mid Pages (mid.pages + c.place.extent.bytes) → HasRead old mid rest all → HasRead old now new all
+read_more old mid now rest new all c is more read = record {
+  count = read.count + c.place.extent.bytes;
+  is = more ∙ ap (λ (m : Both ℕ). replaced m Pages (m.pages + c.place.extent.bytes)) read.is ∙ ap (λ (n : ℕ). replaced old Pages n) (add_assoc old.pages read.count c.place.extent.bytes);
+  left = omega (arith, read.left, ap bytes_of_all is, sum_by-cons (λ (x : Chosen). x.place.extent.bytes) c new);
+}
+
+pub read_all : (old now : Both ℕ) (rest all : List Chosen) → [] ≡ rest → HasRead old now rest all → now ≡ replaced old Pages (old.pages + bytes_of_all all)
+read_all old now rest all none read = read.is ∙ ap (λ (n : ℕ). replaced old Pages (old.pages + n)) (sym (add-zero read.count) ∙ ap (λ (r : List Chosen). read.count + bytes_of_all r) none ∙ read.left)
+
+-- ---- one place more
+
+pub some_place : (places : List Place) (k : ℕ) → k < length places → (p : Place) × (drop k places ≡ p ∷ drop (k + 1) places)
+some_place [] k within = absurd (omega (arith, within))
+some_place (p ∷ places) zero within = (p, refl)
+some_place (p ∷ places) (suc k) within =
+    let more = some_place places k (omega (arith, within)) in
+    let next : suc (k + 1) ≡ suc k + 1 = omega arith in
+    (more.0, more.1 ∙ ap (λ (i : ℕ). more.0 ∷ drop i (p ∷ places)) next)
+
+pub sizes_at : (rest more : List Place) (p : Place) → rest ≡ p ∷ more → sum_by (λ (q : Place). q.extent.bytes) rest ≡ p.extent.bytes + sum_by (λ (q : Place). q.extent.bytes) more
+sizes_at rest more p is = ap (λ (ps : List Place). sum_by (λ (q : Place). q.extent.bytes) ps) is ∙ sum_by-cons (λ (q : Place). q.extent.bytes) p more
+
+pub inside_behind : (n : ℕ) (rest more : List Place) (p : Place) → rest ≡ p ∷ more → All (λ (q : Place). IsInside n q.extent) rest → All (λ (q : Place). IsInside n q.extent) more
+inside_behind n rest more p is each =
+    let I : Place → Type 0 = λ q. IsInside n q.extent in
+    All-tail I p more (subst (λ (ps : List Place). All I ps) is each)
+
+-- ---- what a call says, by what the loop knows
+
+pub disk_joins : (a b d : DiskState) → b ≡ record a { faults = b.faults; bytes_read = b.bytes_read } → d ≡ record b { faults = d.faults; bytes_read = d.bytes_read } → d ≡ record a { faults = d.faults; bytes_read = d.bytes_read }
+disk_joins a b d one two = two ∙ ap (λ (x : DiskState). record x { faults = d.faults; bytes_read = d.bytes_read }) one
+
+pub if_damaged : (P Q : Damage → Type 0) → ((d : Damage) → P d → Q d) → (e : FetchError) → IfDamaged P e → IfDamaged Q e
+if_damaged P Q more Failed is = tt
+if_damaged P Q more (Damaged d) is = more d is
+if_damaged P Q more Memory is = tt
+
+pub refused_same : (layout : Layout) (h g : ℕ) (pages were : List ℕ) (c : Chosen) (union given : List Posting) (why : Why) → g ≡ h → were ≡ pages → given ≡ union
+    → Refuses layout g were c given why → Refuses layout h pages c union why
+refused_same layout h g pages were c union given why one two three refused =
+    let P : ℕ → Type 0 = λ x. Refuses layout x were c given why in
+    let Q : List ℕ → Type 0 = λ x. Refuses layout h x c given why in
+    let R : List Posting → Type 0 = λ x. Refuses layout h pages c x why in
+    subst R three (subst Q two (subst P one refused))
+
+pub joins_same : (layout : Layout) (h g : ℕ) (pages were : List ℕ) (c : Chosen) (union given both : List Posting) (n : ℕ) → g ≡ h → were ≡ pages → given ≡ union
+    → Joins layout g were c given both n → Joins layout h pages c union both n
+joins_same layout h g pages were c union given both n one two three joins =
+    let P : ℕ → Type 0 = λ x. Joins layout x were c given both n in
+    let Q : List ℕ → Type 0 = λ x. Joins layout h x c given both n in
+    let R : List Posting → Type 0 = λ x. Joins layout h pages c x both n in
+    subst R three (subst Q two (subst P one joins))

@@ -1,0 +1,36 @@
+-- What follows from the definitions: bytes lead to one answer.
+use Rattle.std.specs.Prelude.{◌≡◌, ◌⊎◌, ℕ, List, Err}
+use Rattle.time_base.specs.declared.posting.Posting.{Posting}
+use Rattle.record_codec.specs.declared.place.Layout.{Layout}
+use Rattle.sublist_store.specs.Fetching.{IsFetched, Explains}
+use Rattle.sublist_store.specs.Gathering.{Chosen, Outcome, Gathers}
+use Rattle.sublist_store.specs.declared.why.Why.{Why}
+use Rattle.sublist_store.specs.declared.why.Why.TheVariants.{Clash}
+
+-- Of the causes against a fetch one holds at most.
+abbrev pub OneCause : Type 0
+OneCause = (layout : Layout) (digest : List ℕ) (f g h : ℕ) (bytes : List ℕ) (a b : Why) → Explains layout digest f g h bytes a → Explains layout digest f g h bytes b → a ≡ b
+
+-- There is none against what is fetched.
+abbrev pub NoCauseAgainstFetched : Type 0
+NoCauseAgainstFetched =
+    (layout : Layout) (digest : List ℕ) (f g h : ℕ) (bytes : List ℕ) (list : List Posting) (why : Why) → IsFetched layout digest f g h bytes list → ¬ (Explains layout digest f g h bytes why)
+
+-- One list is fetched at most.
+abbrev pub OneFetched : Type 0
+OneFetched = (layout : Layout) (digest : List ℕ) (f g h : ℕ) (bytes : List ℕ) (a b : List Posting) → IsFetched layout digest f g h bytes a → IsFetched layout digest f g h bytes b → a ≡ b
+
+-- both outcomes are clashes at this page
+pub record AreClashes (page : ℕ) (a b : Outcome) : Type 0 where
+  pub one : Posting
+  pub other : Posting
+  pub this : Posting
+  pub that : Posting
+  pub first : a ≡ Err (record { page = page; why = Clash one other })
+  pub second : b ≡ Err (record { page = page; why = Clash this that })
+
+-- What is gathered has one outcome; where it is a clash, which two postings are named is free.
+abbrev pub OneOutcome : Type 0
+OneOutcome =
+    (layout : Layout) (h : ℕ) (pages : List ℕ) (segments : List Chosen) (union : List Posting) (read : ℕ) (a b : Outcome)
+    → Gathers layout h pages segments union read a → Gathers layout h pages segments union read b → (a ≡ b) ⊎ ((page : ℕ) × AreClashes page a b)

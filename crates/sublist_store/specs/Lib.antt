@@ -1,0 +1,7 @@
+pub mod Layouts
+pub mod Segments
+pub mod Fetching
+pub mod Checking
+pub mod Gathering
+pub mod Preparing
+pub mod Laws

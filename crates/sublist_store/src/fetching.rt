@@ -1,0 +1,109 @@
+//! Fetching a sublist from its place.
+ghost use Rattle.std.specs.Prelude.{◌≡◌, ◌+◌, ◌*◌, ◌≤◌, ℕ, true, List, All, length, IfOk, OnOk, IfErr, MatchOption};
+ghost use Rattle.machine_model.specs.Areas.{replaced};
+ghost use Rattle.machine_model.specs.Causes.{Rose};
+ghost use Rattle.page_store.specs.Ranges.{bytes_in};
+ghost use Rattle.sublist_store.specs.Layouts.{Spells};
+ghost use Rattle.sublist_store.specs.Fetching.{IsFetched, IsFirstAstray, Explains, IfDamaged, IfFailed, belongs};
+
+use crate::checker::{CheckError, Checker};
+use crate::why::{Damage, FetchError, Why};
+use machine_model::{Area, Disk};
+use page_store::Pages;
+use record_codec::{Layout, Place};
+use std::alloc::Global;
+use time_base::{Posting, Time};
+
+/// The ends of a segment in seconds, and the horizon of all.
+#[derive(Clone, Copy)]
+pub(crate) struct Bounds {
+    pub(crate) from: u64,
+    pub(crate) to: u64,
+    pub(crate) horizon: u64,
+}
+
+/// Reads a place's bytes, and lends the list that they spell.
+pub(crate) fn lend<'c, D: Disk>(
+    pages: &Pages,
+    checker: &'c mut Checker,
+    alloc: Global,
+    disk: &mut D,
+    layout: Layout,
+    place: &Place,
+    bounds: Bounds,
+) -> Result<&'c [Posting], FetchError>
+    requires inside { place.now.extent.first * 4096 + place.now.extent.bytes ≤ (D.disk disk.old).reach.pages }
+    ensures only { D.Disk.only disk.old disk.new }
+    ensures failed { IfErr result (IfFailed (Rose (D.disk disk.old).faults (D.disk disk.new).faults)) }
+    ensures same { D.disk disk.new ≡ record (D.disk disk.old) { faults = (D.disk disk.new).faults; bytes_read = (D.disk disk.new).bytes_read } }
+    ensures count { D.disk_tells → OnOk result ((D.disk disk.new).bytes_read ≡ replaced (D.disk disk.old).bytes_read Area.Pages ((D.disk disk.old).bytes_read.pages + place.now.extent.bytes)) }
+    ensures spelled { IfOk result (λ list. (bytes : List ℕ) × ((length bytes ≡ place.now.extent.bytes) × Spells layout bytes list.now)) }
+    ensures found { D.disk_tells → IfOk result (λ list. IsFetched layout place.now.digest bounds.from bounds.to bounds.horizon (bytes_in place.now.extent (D.disk disk.old).holds.pages) list.now) }
+    ensures damaged { D.disk_tells → IfErr result (IfDamaged (λ d. (d.page ≡ place.now.extent.first) × Explains layout place.now.digest bounds.from bounds.to bounds.horizon (bytes_in place.now.extent (D.disk disk.old).holds.pages) d.why)) }
+{
+    let mut bytes = match vec![in alloc; 0; place.extent.bytes as usize] {
+        Ok(bytes) => bytes,
+        Err(_) => return Err(FetchError::Memory),
+    };
+    match pages.read_extent(disk, place.extent, &mut bytes) {
+        Ok(()) => {}
+        Err(_) => return Err(FetchError::Failed),
+    }
+    sifted(checker, alloc, layout, place, &bytes, bounds)
+}
+
+/// The list that a place's bytes spell, if they have its digest and each posting belongs there.
+fn sifted<'c>(
+    checker: &'c mut Checker,
+    alloc: Global,
+    layout: Layout,
+    place: &Place,
+    bytes: &[u8],
+    bounds: Bounds,
+) -> Result<&'c [Posting], FetchError>
+    ensures found { IfOk result (λ list. IsFetched layout place.now.digest bounds.from bounds.to bounds.horizon bytes.now list.now) }
+    ensures failed { IfErr result (IfFailed ⊥) }
+    ensures damaged { IfErr result (IfDamaged (λ d. (d.page ≡ place.now.extent.first) × Explains layout place.now.digest bounds.from bounds.to bounds.horizon bytes.now d.why)) }
+{
+    let page = place.extent.first;
+    match checker.check(alloc, page, layout, &place.digest, bytes) {
+        Ok(list) => {
+            if let Some(posting) = first_astray(list, bounds) {
+                let why = Why::Astray { posting };
+                return Err(FetchError::Damaged(Damage { page, why }));
+            }
+            Ok(list)
+        }
+        Err(CheckError::Digest { got }) => {
+            let kept = place.digest;
+            let why = Why::Digest { kept, got };
+            Err(FetchError::Damaged(Damage { page, why }))
+        }
+        Err(CheckError::Form { at }) => {
+            let why = Why::Form { at };
+            Err(FetchError::Damaged(Damage { page, why }))
+        }
+        Err(CheckError::Memory) => Err(FetchError::Memory),
+    }
+}
+
+/// The first posting that doesn't belong to a segment.
+fn first_astray(list: &[Posting], bounds: Bounds) -> Option<Posting>
+    ensures { MatchOption result (All (λ q. belongs bounds.from bounds.to bounds.horizon q ≡ true) list.now) (λ p. IsFirstAstray bounds.from bounds.to bounds.horizon list.now p) }
+{
+    for posting in list {
+        if !belongs_to(posting, bounds) {
+            return Some(*posting);
+        }
+    }
+    None
+}
+
+/// Whether a posting has a time in a segment and ends by the horizon.
+fn belongs_to(posting: &Posting, bounds: Bounds) -> bool
+    ensures { result ≡ belongs bounds.from bounds.to bounds.horizon posting.now }
+{
+    posting.span.from < bounds.to
+        && bounds.from < posting.span.to
+        && posting.span.to <= bounds.horizon
+}

@@ -1,0 +1,27 @@
+//! What holds of sublists in places, whatever is written or read. The functions do nothing when they
+//! run.
+ghost use Rattle.sublist_store.specs.Preparing.{PiecesHoldSublists, PlacesAreForSublists};
+ghost use Rattle.sublist_store.specs.Laws.{OneCause, NoCauseAgainstFetched, OneFetched, OneOutcome};
+
+/// Pages that hold the pieces of a list's segments hold their sublists.
+pub fn pieces_hold_sublists()
+    ensures { PiecesHoldSublists }
+{}
+
+/// Places that are for a list's spellings are for its segments' sublists.
+pub fn places_are_for_sublists()
+    ensures { PlacesAreForSublists }
+{}
+
+/// Of the causes against a fetch one holds at most, and none against what is fetched, which is one
+/// list.
+pub fn one_answer_of_bytes()
+    ensures cause { OneCause }
+    ensures none { NoCauseAgainstFetched }
+    ensures list { OneFetched }
+{}
+
+/// What is gathered has one outcome, but that which two postings of a clash are named is free.
+pub fn one_outcome()
+    ensures { OneOutcome }
+{}

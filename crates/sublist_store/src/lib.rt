@@ -1,0 +1,25 @@
+//! Sublists of plans in pages: each segment's list lies in a place, a run of pages with the SHA-256
+//! of its bytes.
+//!
+//! The store knows which pages are free, as `page_store` does, and its contracts range over the
+//! extents that are taken. What is fetched is a function of the bytes that the disk gives
+//! (`specs/Fetching.antt`, `specs/Gathering.antt`): a list, or the first cause against them. Bytes that
+//! were checked before are compared in place of being hashed and decoded anew, which no clause shows.
+#![tactic(auto)]
+
+mod checker;
+mod fetching;
+mod gathering;
+mod laws;
+mod placing;
+mod prepared;
+mod spelled;
+mod spelling;
+mod store;
+mod why;
+
+pub use gathering::Gathered;
+pub use laws::{one_answer_of_bytes, one_outcome, pieces_hold_sublists, places_are_for_sublists};
+pub use prepared::Prepared;
+pub use store::Sublists;
+pub use why::{Damage, FetchError, Why};

@@ -1,0 +1,72 @@
+//! Taking the pages of places, and giving them back.
+ghost use Rattle.std.specs.Prelude.{◌≡◌, [], ◌∷◌, ◌++◌, ℕ, List, length, map, IfOk, OnOk, OnErr, IsErrOf};
+ghost use Rattle.std.specs.List.{AllZip};
+ghost use Rattle.time_base.specs.declared.extent.Extent.{Extent};
+ghost use Rattle.page_store.specs.Runs.{IsFreeRun, pages_for};
+ghost use Rattle.page_store.specs.Taken.{HasTaken};
+ghost use Rattle.page_store.specs.Placing.{ArePlaced, HaveNoRoom};
+ghost use Rattle.sublist_store.specs.Preparing.{Adds, IsFor, extents, sizes};
+
+use crate::spelled::Spelling;
+use page_store::{Pages, TakeError};
+use record_codec::Place;
+use sha2::{Digest, Sha256};
+use std::alloc::Global;
+
+/// Takes the pages of places for these bytes, each the lowest run; none, where one finds none.
+pub(crate) fn place_all(
+    pages: &mut Pages,
+    alloc: Global,
+    spellings: &[Spelling],
+) -> Result<Vec<Place>, TakeError>
+    requires taken { (taken : List Extent) × HasTaken pages.old taken }
+    ensures each { IfOk result (λ v. AllZip IsFor v.items spellings.now) }
+    ensures placed { (taken : List Extent) → HasTaken pages.old taken → IfOk result (λ v. ArePlaced taken (sizes spellings.now) (extents v.items)) }
+    ensures taken { (taken : List Extent) → HasTaken pages.old taken → IfOk result (λ v. HasTaken pages.new (extents v.items ++ taken)) }
+    ensures full { (taken : List Extent) → HasTaken pages.old taken → IsErrOf result TakeError.Full → HaveNoRoom taken (sizes spellings.now) }
+    ensures none { (taken : List Extent) → HasTaken pages.old taken → OnErr result (HasTaken pages.new taken) }
+{
+    let mut places = Vec::new(alloc);
+    for spelling in spellings {
+        match add_place(pages, &mut places, spelling) {
+            Ok(()) => {}
+            Err(error) => {
+                release(pages, &places);
+                return Err(error);
+            }
+        }
+    }
+    Ok(places)
+}
+
+/// Takes the pages of a place for these bytes.
+fn add_place(
+    pages: &mut Pages,
+    places: &mut Vec<Place>,
+    spelling: &Spelling,
+) -> Result<(), TakeError>
+    ensures added { OnOk result (Adds spelling.now pages.old pages.new places.old.items places.new.items) }
+    ensures full { (taken : List Extent) → HasTaken pages.old taken → IsErrOf result TakeError.Full → (first : ℕ) → IsFreeRun taken (pages_for (length spelling.now)) first → ⊥ }
+    ensures pages { OnErr result (pages.new ≡ pages.old) }
+    ensures places { OnErr result (places.new.items ≡ places.old.items) }
+{
+    places.reserve(1)?;
+    let bytes = spelling.bytes();
+    let extent = match pages.take(bytes.len() as u64) {
+        Ok(extent) => extent,
+        Err(error) => return Err(error),
+    };
+    let digest = Sha256::digest(bytes);
+    places.push(Place { extent, digest }).unwrap();
+    Ok(())
+}
+
+/// Gives the pages of places back.
+pub(crate) fn release(pages: &mut Pages, places: &[Place])
+    requires taken { (before : List Extent) × ((after : List Extent) × HasTaken pages.old (before ++ (extents places.now ++ after))) }
+    ensures freed { (before : List Extent) (after : List Extent) → HasTaken pages.old (before ++ (extents places.now ++ after)) → HasTaken pages.new (before ++ after) }
+{
+    for place in places {
+        pages.give_back(place.extent);
+    }
+}

@@ -1,0 +1,147 @@
+//! Sublists that are prepared, and then written and adopted, or forgotten.
+ghost use Rattle.std.specs.Prelude.{◌≡◌, ◌++◌, List, All, IfOk, OnOk, OnErr, IsErrOf};
+ghost use Rattle.std.specs.List.{AllZip};
+ghost use Rattle.time_base.specs.declared.extent.Extent.{Extent};
+ghost use Rattle.record_codec.specs.declared.place.Place.{Place as PlainPlace};
+ghost use Rattle.machine_model.specs.Causes.{HasCause};
+ghost use Rattle.postings.specs.Lists.{IsList};
+ghost use Rattle.page_store.specs.Live.{IsInside};
+ghost use Rattle.page_store.specs.Taken.{HasTaken, AreApart};
+ghost use Rattle.page_store.specs.Placing.{ArePlaced, HaveNoRoom};
+ghost use Rattle.page_store.specs.Wrote.{Stored, extents_of, ranges_of};
+ghost use Rattle.page_store.specs.Crash.{ChangesOnly};
+ghost use Rattle.sublist_store.specs.Segments.{seconds};
+ghost use Rattle.sublist_store.specs.Preparing.{IsFor, extents, pieces, pieces_of, sizes, spellings};
+
+use crate::placing::{place_all, release};
+use crate::spelled::{Spelling, spell_all};
+use crate::store::Sublists;
+use machine_model::{Disk, Failed};
+use page_store::{Pages, TakeError};
+use record_codec::{Layout, Place};
+use std::alloc::Global;
+use std::marker::Model;
+use time_base::{Posting, Time};
+
+/// Sublists with their bytes, whose pages are taken.
+#[derive(Drop)]
+pub struct Prepared {
+    places: Vec<Place>,
+    spellings: Vec<Spelling>,
+}
+
+impl Model for Prepared {
+    ghost use Rattle.std.specs.List.{AllZip};
+    ghost use Rattle.sublist_store.specs.Preparing.{PreparedState, IsFor};
+
+    ghost Value = { PreparedState };
+
+    ghost view = { λ p. record { places = p.places.items; spellings = p.spellings.items } };
+
+    ghost invariant = { λ p. AllZip IsFor p.places.items p.spellings.items };
+}
+
+impl Prepared {
+    /// The places in the order of the segments. Constant cost.
+    pub fn places(&self) -> &[Place]
+        ensures value { result.now ≡ self.now.places }
+        ensures each { AllZip IsFor result.now self.now.spellings }
+    {
+        &self.places
+    }
+}
+
+impl Sublists {
+    /// Spells the sublist of each segment and takes its pages, in the order of the segments. The cuts
+    /// are the left ends of the segments, and the horizon is the end of the last. It costs a pass over
+    /// the list for each segment, and the digests of all bytes.
+    pub fn prepare(
+        &mut self,
+        alloc: Global,
+        layout: Layout,
+        list: &[Posting],
+        cuts: &[Time],
+        horizon: Time,
+    ) -> Result<Prepared, TakeError>
+        requires list { IsList list.now }
+        requires taken { (taken : List Extent) × HasTaken self.old taken }
+        ensures spelled { IfOk result (λ p. p.spellings ≡ spellings layout list.now (seconds cuts.now) horizon.seconds) }
+        ensures each { IfOk result (λ p. AllZip IsFor p.places p.spellings) }
+        // Each place takes the lowest run, the earlier ones having been placed.
+        ensures placed { (taken : List Extent) → HasTaken self.old taken → IfOk result (λ p. ArePlaced taken (sizes p.spellings) (extents p.places)) }
+        ensures taken { (taken : List Extent) → HasTaken self.old taken → IfOk result (λ p. HasTaken self.new (extents p.places ++ taken)) }
+        ensures full { (taken : List Extent) → HasTaken self.old taken → IsErrOf result TakeError.Full → HaveNoRoom taken (sizes (spellings layout list.now (seconds cuts.now) horizon.seconds)) }
+        // After an error no page is taken.
+        ensures none { (taken : List Extent) → HasTaken self.old taken → OnErr result (HasTaken self.new taken) }
+    {
+        let spellings = match spell_all(alloc, layout, list, cuts, horizon) {
+            Ok(spellings) => spellings,
+            Err(_) => return Err(TakeError::Memory),
+        };
+        match place_all(&mut self.pages, alloc, &spellings) {
+            Ok(places) => Ok(Prepared { places, spellings }),
+            Err(error) => Err(error),
+        }
+    }
+
+    /// The new places are live, and the pages of the old ones free. Takes no memory. It costs what
+    /// giving each old place back does.
+    pub fn adopt(&mut self, prepared: Prepared, old: &[Place])
+        requires taken { (live : List Extent) × HasTaken self.old (extents prepared.places ++ (extents old.now ++ live)) }
+        ensures freed { (live : List Extent) → HasTaken self.old (extents prepared.places ++ (extents old.now ++ live)) → HasTaken self.new (extents prepared.places ++ live) }
+    {
+        release(&mut self.pages, old);
+    }
+
+    /// The pages of the places are free again. Takes no memory. It costs what giving each place back
+    /// does.
+    pub fn forget(&mut self, prepared: Prepared)
+        requires taken { (live : List Extent) × HasTaken self.old (extents prepared.places ++ live) }
+        ensures freed { (live : List Extent) → HasTaken self.old (extents prepared.places ++ live) → HasTaken self.new live }
+    {
+        release(&mut self.pages, prepared.places());
+    }
+
+    /// Writes each place's bytes, and makes them durable. Takes no memory. It makes a call of the disk
+    /// for each place that has bytes, and one more.
+    pub fn write<D: Disk>(&self, disk: &mut D, prepared: &Prepared) -> Result<(), Failed>
+        requires taken { (live : List Extent) × HasTaken self.now (extents prepared.now.places ++ live) }
+        ensures only { D.Disk.only disk.old disk.new }
+        ensures cause { HasCause (D.disk disk.old).faults (D.disk disk.new).faults result }
+        ensures journal { (D.disk disk.new).reach.journal ≡ (D.disk disk.old).reach.journal }
+        // After Ok each place lies inside the reach of Pages, on any disk.
+        ensures inside { OnOk result (All (λ (p : PlainPlace). IsInside (D.disk disk.new).reach.pages p.extent) prepared.now.places) }
+        ensures read { D.disk_tells → (D.disk disk.new).bytes_read ≡ (D.disk disk.old).bytes_read }
+        // Whatever is answered, a stop leaves an image from before but for the places.
+        ensures images { D.disk_tells → ChangesOnly (ranges_of (pieces prepared.now)) (D.disk disk.old) (D.disk disk.new) }
+        // After Ok the bytes stand in the places, and all else reads as it did; no image is allowed but what reads give.
+        ensures stored { D.disk_tells → OnOk result (Stored (pieces prepared.now) (D.disk disk.old) (D.disk disk.new)) }
+    {
+        write_all(&self.pages, disk, &prepared.places, &prepared.spellings)
+    }
+}
+
+/// Writes the bytes of places, and makes them durable.
+fn write_all<D: Disk>(
+    pages: &Pages,
+    disk: &mut D,
+    places: &[Place],
+    spellings: &[Spelling],
+) -> Result<(), Failed>
+    requires each { AllZip IsFor places.now spellings.now }
+    requires apart { AreApart (extents_of (pieces_of places.now spellings.now)) }
+    ensures only { D.Disk.only disk.old disk.new }
+    ensures cause { HasCause (D.disk disk.old).faults (D.disk disk.new).faults result }
+    ensures journal { (D.disk disk.new).reach.journal ≡ (D.disk disk.old).reach.journal }
+    ensures inside { OnOk result (All (λ (p : PlainPlace). IsInside (D.disk disk.new).reach.pages p.extent) places.now) }
+    ensures read { D.disk_tells → (D.disk disk.new).bytes_read ≡ (D.disk disk.old).bytes_read }
+    ensures images { D.disk_tells → ChangesOnly (ranges_of (pieces_of places.now spellings.now)) (D.disk disk.old) (D.disk disk.new) }
+    ensures stored { D.disk_tells → OnOk result (Stored (pieces_of places.now spellings.now) (D.disk disk.old) (D.disk disk.new)) }
+{
+    for k in 0..places.len() {
+        let bytes = spellings[k].bytes();
+        pages.write_extent(disk, places[k].extent, bytes)?;
+    }
+    disk.sync()?;
+    Ok(())
+}

@@ -1,0 +1,40 @@
+//! Lists as bytes, by layout.
+ghost use Rattle.std.specs.Prelude.{◌≡◌, IfOk, IfErr};
+ghost use Rattle.postings.specs.Lists.{IsList};
+ghost use Rattle.sublist_codec.specs.Decoding.{OrMemory};
+ghost use Rattle.sublist_store.specs.Layouts.{spelling_in, Spells, IsFault};
+
+use record_codec::Layout;
+use std::alloc::{AllocError, Global};
+use sublist_codec::{ListError, decode_blocks, decode_list, encode_blocks, encode_list};
+use time_base::Posting;
+
+/// The list that bytes spell in a layout.
+pub(crate) fn decoded(
+    alloc: Global,
+    layout: Layout,
+    bytes: &[u8],
+) -> Result<Vec<Posting>, ListError>
+    ensures found { IfOk result (λ v. Spells layout bytes.now v.items) }
+    ensures fault { IfErr result (OrMemory (IsFault layout bytes.now)) }
+{
+    match layout {
+        Layout::Flat => decode_list(alloc, bytes),
+        Layout::Blocks => decode_blocks(alloc, bytes),
+    }
+}
+
+/// The bytes of a list in a layout.
+pub(crate) fn encoded(
+    alloc: Global,
+    layout: Layout,
+    list: &[Posting],
+) -> Result<Vec<u8>, AllocError>
+    requires { IsList list.now }
+    ensures { IfOk result (λ v. v.items ≡ spelling_in layout list.now) }
+{
+    match layout {
+        Layout::Flat => encode_list(alloc, list),
+        Layout::Blocks => encode_blocks(alloc, list),
+    }
+}

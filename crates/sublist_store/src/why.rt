@@ -1,0 +1,78 @@
+//! Why no list is given.
+use machine_model::Failed;
+use std::alloc::AllocError;
+use time_base::Posting;
+
+/// Why the bytes of a place are refused.
+#[derive(Clone, Copy, Debug, PartialEq, Eq)]
+pub enum Why {
+    /// They spell no list.
+    Form {
+        /// The offset of the first fault.
+        at: u64,
+    },
+    /// Their SHA-256 isn't the one that the place keeps.
+    Digest {
+        /// What the place keeps.
+        kept: [u8; 32],
+        /// What the bytes have.
+        got: [u8; 32],
+    },
+    /// A posting has no time in the segment, or ends behind the horizon.
+    Astray {
+        /// The first such one.
+        posting: Posting,
+    },
+    /// A posting of an earlier segment and one of this one are different, of one document, and
+    /// overlap in time.
+    Clash {
+        /// The one of an earlier segment.
+        one: Posting,
+        /// The one of this segment.
+        other: Posting,
+    },
+    /// The first segment of all has no posting.
+    Bare,
+}
+
+/// What is damaged.
+#[derive(Clone, Copy, Debug, PartialEq, Eq)]
+pub struct Damage {
+    /// The first page of the place that was read.
+    pub page: u32,
+    /// Why its bytes are refused.
+    pub why: Why,
+}
+
+/// Why nothing was fetched.
+#[derive(Clone, Copy, Debug, PartialEq, Eq)]
+pub enum FetchError {
+    /// The disk failed.
+    Failed,
+    /// The bytes that were read are refused.
+    Damaged(Damage),
+    /// There was no memory.
+    Memory,
+}
+
+impl From<AllocError> for FetchError {
+    ghost use Rattle.std.specs.Prelude.{◌≡◌};
+    ghost use Rattle.sublist_store.specs.declared.why.FetchError.TheVariants.{Memory};
+
+    ghost from_gives = { λ _ e. e ≡ Memory };
+
+    fn from(_: AllocError) -> FetchError {
+        FetchError::Memory
+    }
+}
+
+impl From<Failed> for FetchError {
+    ghost use Rattle.std.specs.Prelude.{◌≡◌};
+    ghost use Rattle.sublist_store.specs.declared.why.FetchError.TheVariants.{Failed};
+
+    ghost from_gives = { λ _ e. e ≡ Failed };
+
+    fn from(_: Failed) -> FetchError {
+        FetchError::Failed
+    }
+}
