@@ -1,40 +1,18 @@
 //! What is proposed for a word.
 ghost use Rattle.std.specs.Prelude.{◌≤◌, ◌^◌};
 
-use archive_rig::{Row, expect_rows, join};
+use archive_rig::{Row, expect_rows};
 use itoa::Buffer;
 use std::alloc::{AllocError, Global};
 use std::test::Fail;
 
-/// Documents 1 and 2 have the word in [10, 20), 3 and 4 in [20, 50), and 5 in [30, 50).
-const FIVE_DOCUMENTS: &[u8] =
-    b"arrive 1 10 1\nv\narrive 2 10 1\nv\ndelete 1 20\ndelete 2 20\narrive 3 20 1\nv\narrive 4 20 1\nv\narrive 5 30 1\nv\ndelete 3 50\ndelete 4 50\ndelete 5 50\n";
-
-/// The replies to its ten changes.
-const TEN_CHANGES: &[u8] = b"ok 1\nok 2\nok 3\nok 4\nok 5\nok 6\nok 7\nok 8\nok 9\nok 10\n";
-
 #[test]
 fn a_least_plan_is_shown_and_nothing_is_stored(rt: HostRuntime) -> Result<(), Fail> {
-    let alloc = rt.alloc();
-    let script = join(
-        alloc,
-        &[
-            FIVE_DOCUMENTS,
-            b"propose v guarantee 2/1\nshow 5 49\narrive 6 60 1\nx\n",
-        ],
-    )?;
-    let replies = join(
-        alloc,
-        &[
-            TEN_CHANGES,
-            b"segment 10 20 2\nsegment 20 50 3\nnode 10 0\nnode 20 2\nnode 30 4\nnode 50 5\nend 2 space 5\n",
-            b"text 1\nv\nok 11\n",
-        ],
-    )?;
     let rows = [
+        // documents 1 and 2 have the word in [10, 20), 3 and 4 in [20, 50), and 5 in [30, 50)
         Row {
-            script: &script,
-            replies: &replies,
+            script: b"arrive 1 10 1\nv\narrive 2 10 1\nv\ndelete 1 20\ndelete 2 20\narrive 3 20 1\nv\narrive 4 20 1\nv\narrive 5 30 1\nv\ndelete 3 50\ndelete 4 50\ndelete 5 50\npropose v guarantee 2/1\nshow 5 49\narrive 6 60 1\nx\n",
+            replies: b"ok 1\nok 2\nok 3\nok 4\nok 5\nok 6\nok 7\nok 8\nok 9\nok 10\nsegment 10 20 2\nsegment 20 50 3\nnode 10 0\nnode 20 2\nnode 30 4\nnode 50 5\nend 2 space 5\ntext 1\nv\nok 11\n",
         },
         Row {
             script: b"arrive 1 10 1\nv\narrive 2 20 1\nv\ndelete 2 30\ndelete 1 40\npropose v guarantee 2/1\n",
@@ -51,7 +29,7 @@ fn a_least_plan_is_shown_and_nothing_is_stored(rt: HostRuntime) -> Result<(), Fa
             replies: b"ok 1\nok 2\nsegment 10 20 1\nnode 10 0\nnode 20 1\nend 1 space 1\n",
         },
     ];
-    expect_rows(alloc, b"", &rows)?;
+    expect_rows(rt.alloc(), b"", &rows)?;
     Ok(())
 }
 
