@@ -373,7 +373,7 @@ fn bytes_that_were_checked_are_compared_with_what_is_read(rt: HostRuntime) -> Re
     }
     // The frequency of document 1 in the second segment.
     machine.write(Area::Pages, 4096 + 15, &[2])?;
-    let kept = places[1].digest;
+    let kept = places.get(1).ok_or("a second place")?.digest;
     let mut changed = bytes_of(alloc, BOTH)?;
     if let Some(byte) = changed.get_mut(15) {
         *byte = 2;
