@@ -23,3 +23,6 @@ pub use laws::{one_answer_of_bytes, one_outcome, pieces_hold_sublists, places_ar
 pub use prepared::Prepared;
 pub use store::Sublists;
 pub use why::{Damage, FetchError, Why};
+
+#[cfg(test)]
+mod tests;
