@@ -54,6 +54,12 @@ one_settled a b c syncs synced same =
     let O : DiskState → Type 0 = λ d. Only d.holds d in
     subst O (sym same) (subst H (sym syncs.holds) (only_synced a b synced))
 
+-- and reads leave it the only one
+pub one_read : (a b : DiskState) → OnlyReads a b → Only a.holds a → Only b.holds b
+one_read a b same one =
+    let O : DiskState → Type 0 = λ d. Only d.holds d in
+    subst O (sym same) one
+
 KeptBodies : List (List ℕ) → DiskState → Bytes → List ℕ → Type 0
 KeptBodies bodies old image beside = Spells image.journal bodies × (beside ≡ old.now.beside)
 

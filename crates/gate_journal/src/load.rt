@@ -52,6 +52,9 @@ impl Journal {
             IfOk result (λ p. IsLaidOut bodies p.0.end p.1.items × IsInStep (D.disk disk.new) p.0.end bodies) }
         // A journal that isn't new is synced and read, and nothing else.
         ensures longer { D.disk_tells → 17 < length (D.disk disk.old).holds.journal → Syncs (D.disk disk.old) (D.disk disk.new) }
+        // A journal that isn't new is durable then: no image is allowed but what reads give.
+        ensures one { D.disk_tells → 17 < length (D.disk disk.old).holds.journal →
+            OnOk result (Only (D.disk disk.new).holds (D.disk disk.new)) }
         ensures pages { D.disk_tells → KeepsPages (D.disk disk.old) (D.disk disk.new) }
         ensures pages_hold { D.disk_tells → OnOk result ((D.disk disk.new).holds.pages ≡ (D.disk disk.old).holds.pages) }
         ensures pages_reach { (D.disk disk.new).reach.pages ≡ (D.disk disk.old).reach.pages }

@@ -7,3 +7,4 @@ pub mod TakenLemmas
 pub mod GiveLemmas
 pub mod ChangeLemmas
 pub mod WroteLemmas
+pub mod OrderLemmas

@@ -1,5 +1,5 @@
 -- What a store of pages in hand stands for: the extents that are taken.
-use Rattle.std.specs.Prelude.{◌≡◌, ℕ, ◌<◌, ◌^◌, ◌↔◌, Bool, nat_lt, List, [], ◌∷◌, count_by}
+use Rattle.std.specs.Prelude.{◌≡◌, ℕ, ◌<◌, ◌^◌, ◌↔◌, Bool, nat_lt, List, [], ◌∷◌, ◌++◌, count_by}
 use Rattle.time_base.specs.declared.extent.Extent.{Extent}
 use Rattle.page_store.specs.declared.run.Run.{Run}
 use Rattle.page_store.specs.Runs.{IsPageOf, IsTaken, IsIn}
@@ -27,3 +27,8 @@ pub record HasTaken (store : PagesState) (extents : List Extent) : Type 0 where
   pub apart : AreApart extents
   pub counted : count_by has_pages extents ≡ store.taken
   pub free_are : (p : ℕ) → IsIn store.free p ↔ ((p < 2 ^ 28) × (IsTaken extents p → ⊥))
+
+-- the order of some extents in the middle is free
+abbrev pub TakenInAnyOrder : Type 0
+TakenInAnyOrder = (store : PagesState) (before these those after : List Extent) → HasTaken store (before ++ (these ++ (those ++ after)))
+    → HasTaken store (before ++ (those ++ (these ++ after)))

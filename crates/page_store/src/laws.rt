@@ -4,6 +4,7 @@ ghost use Rattle.std.specs.Prelude.{◌++◌, List};
 ghost use Rattle.machine_model.specs.States.{DiskState};
 ghost use Rattle.machine_model.specs.declared.range.Range.{Range};
 ghost use Rattle.page_store.specs.Crash.{ChangesOnly};
+ghost use Rattle.page_store.specs.Taken.{TakenInAnyOrder};
 ghost use Rattle.page_store.specs.Wrote.{ExtentsApartStay, GoodWritesJoin};
 ghost use Rattle.page_store.specs.Placing.{EachIsPlacedOrNot, NoneIsPlacedAndNot, OneListOfPlaces};
 
@@ -35,4 +36,9 @@ pub fn none_is_placed_and_not()
 /// Parts of so many bytes each are placed in one way.
 pub fn one_list_of_places()
     ensures { OneListOfPlaces }
+{}
+
+/// Extents that are taken may be named in any order: two stretches of them change places.
+pub fn taken_in_any_order()
+    ensures { TakenInAnyOrder }
 {}

@@ -14,7 +14,7 @@ mod run;
 
 pub use laws::{
     each_is_placed_or_not, extents_apart_stay, good_writes_join, none_is_placed_and_not,
-    one_list_of_places, page_writes_join,
+    one_list_of_places, page_writes_join, taken_in_any_order,
 };
 pub use live::LiveError;
 pub use pages::{Pages, TakeError};

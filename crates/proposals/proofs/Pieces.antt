@@ -1,5 +1,5 @@
 -- The segments of a partition, by its cuts and their sizes.
-use Rattle.std.proofs.Common.{◌≡◌, ℕ, zero, suc, ◌+◌, ◌<◌, ◌≤◌, ◌^◌, List, [], ◌∷◌, ◌++◌, drop, length, map, get_or, All, Contains, refl, ap, sym, subst, ◌∙◌, arith}
+use Rattle.std.proofs.Common.{◌≡◌, ℕ, suc, ◌+◌, ◌<◌, ◌≤◌, ◌^◌, List, [], ◌∷◌, ◌++◌, drop, length, map, get_or, All, Contains, refl, ap, sym, subst, ◌∙◌, arith}
 use Rattle.std.specs.Prelude.{slice_index}
 use Rattle.std.specs.List.{zip}
 use Rattle.std.proofs.lemmas.List.Elements.{All-contains, All-weaker}
@@ -7,9 +7,7 @@ use Rattle.std.proofs.lemmas.List.{append_assoc, append-nil, map-append, drop_mo
 use Rattle.time_base.specs.declared.posting.Posting.{Posting}
 use Rattle.time_base.specs.declared.fraction.Fraction.{Fraction}
 use Rattle.postings.specs.Sizes.{size}
-use Rattle.elementary.specs.Boundaries.{AreBoundaries}
-use Rattle.elementary.specs.Partitions.{sizes, space, Covers, IsFitting, AreBest}
-use Rattle.elementary.specs.Laws.{OneListOfBest}
+use Rattle.elementary.specs.Partitions.{sizes, space, Covers, IsLeast, IsFitting, AreBest}
 use Rattle.elementary.proofs.Ordering.{each_has_boundaries, one_list_of_boundaries}
 use Rattle.elementary.proofs.Bests.{each_has_best, one_list_of_best, each_has_a_least, covers_to}
 use Rattle.proposals.specs.declared.proposal.Segment.{Segment}
@@ -40,18 +38,18 @@ numbered (t ∷ times) (n ∷ numbers) =
     let (nodes, are) = numbered times numbers in
     (record { at = t; pi = n } ∷ nodes, ap (λ (l : List (ℕ × ℕ)). (t, n) ∷ l) are)
 
-pub each_has_a_proposal : EachListHasAProposal
-each_has_a_proposal list factor horizon now early =
+-- what is proposed by a least partition
+pub proposed : (list : List Posting) (factor : Fraction) (horizon first : ℕ) (cuts : List ℕ) → horizon ≤ 2 ^ 40 → All (λ p. p.span.to ≤ horizon) list → IsLeast list factor first cuts horizon
+    → (segments : List Segment) × ((nodes : List Node) × (IsProposal list factor horizon segments nodes (space list first cuts) × AreSegments list first cuts segments))
+proposed list factor horizon first cuts now early least =
     let (times, b) = each_has_boundaries list horizon in
     let (numbers, best) = each_has_best list factor horizon times early b in
-    let (first, (cuts, least)) = each_has_a_least list factor horizon early in
     let (segments, segments_are) = segmented list factor cuts first horizon least.covers now in
     let (nodes, nodes_are) = numbered times numbers in (
       segments,
       (
         nodes,
         (
-          space list first cuts,
           record {
             first = first;
             cuts = cuts;
@@ -63,12 +61,19 @@ each_has_a_proposal list factor horizon now early =
             best = best;
             nodes_are = nodes_are;
           },
+          segments_are,
         ),
       ),
     )
 
+pub each_has_a_proposal : EachListHasAProposal
+each_has_a_proposal list factor horizon now early =
+    let (first, (cuts, least)) = each_has_a_least list factor horizon early in
+    let (segments, (nodes, is)) = proposed list factor horizon first cuts now early least in
+    (segments, (nodes, (space list first cuts, is.0)))
+
 -- what is shown of nodes is all of them
-maps_same : {X Y : Type 0} (f : X → Y) → ((x y : X) → f x ≡ f y → x ≡ y) → (a b : List X) → map f a ≡ map f b → a ≡ b
+pub maps_same : {X Y : Type 0} (f : X → Y) → ((x y : X) → f x ≡ f y → x ≡ y) → (a b : List X) → map f a ≡ map f b → a ≡ b
 maps_same f one [] [] e = refl
 maps_same f one [] (y ∷ b) e = absurd (omega (arith, ap length e))
 maps_same f one (x ∷ a) [] e = absurd (omega (arith, ap length e))

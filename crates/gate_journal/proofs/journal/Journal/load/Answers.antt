@@ -6,7 +6,7 @@ use Rattle.gate_journal.specs.Spelled.{Spells}
 use Rattle.gate_journal.specs.Refused.{IsNotJournal}
 use Rattle.gate_journal.proofs.ScanLemmas.{row_before}
 use Rattle.gate_journal.proofs.PagesLemmas.{pages_join}
-use Rattle.gate_journal.proofs.LoadLemmas.{sync_reads, kept_sync, kept_reads, kept_begun, pages_sync, none_spelled, none_found, none_in_step}
+use Rattle.gate_journal.proofs.LoadLemmas.{sync_reads, one_read, kept_sync, kept_reads, kept_begun, pages_sync, none_spelled, none_found, none_in_step}
 use Rattle.gate_journal.proofs.journal.Journal.load.Goals as goal
 
 pub returns-in_err-total-clause-pages : goal.returns-in_err-total-clause-pages
@@ -24,6 +24,16 @@ returns-then-total-gt-NEW_BYTES-clause-longer g c = λ tells longer. sync_reads 
 
 pub returns-else-total-gt-NEW_BYTES-clause-longer : goal.returns-else-total-gt-NEW_BYTES-clause-longer
 returns-else-total-gt-NEW_BYTES-clause-longer g c = λ tells longer. absurd
+    (omega (arith, g.met.D.Disk.reach_holds c.args.disk.now Journal tells, c.in_ok-total.ensures.total, ap (λ (r : Both ℕ). r.journal) c.settle.ensures.reach))
+
+pub returns-then-total-gt-NEW_BYTES-clause-one : goal.returns-then-total-gt-NEW_BYTES-clause-one
+returns-then-total-gt-NEW_BYTES-clause-one g c = λ tells longer.
+    let a = g.D.Disk.disk c.settle.new.disk in
+    let b = g.D.Disk.disk c.open.new.disk in
+    IfOk-weaker c.open.result _ _ (λ p _. one_read a b c.open.ensures.same (c.in_ok-total.ensures.one tells)) c.open.ensures.live
+
+pub returns-else-total-gt-NEW_BYTES-clause-one : goal.returns-else-total-gt-NEW_BYTES-clause-one
+returns-else-total-gt-NEW_BYTES-clause-one g c = λ tells longer. absurd
     (omega (arith, g.met.D.Disk.reach_holds c.args.disk.now Journal tells, c.in_ok-total.ensures.total, ap (λ (r : Both ℕ). r.journal) c.settle.ensures.reach))
 
 pub returns-then-total-gt-NEW_BYTES-clause-crash : goal.returns-then-total-gt-NEW_BYTES-clause-crash

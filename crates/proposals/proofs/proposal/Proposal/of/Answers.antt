@@ -1,7 +1,7 @@
-use Rattle.std.proofs.Common.{◌≡◌, ℕ, ◌+◌, ◌<◌, ◌^◌, List, length, drop, map, All, ap, sym, subst, ◌∙◌, arith}
+use Rattle.std.proofs.Common.{ℕ, ◌<◌, ◌^◌, List, length, drop, All, ap, sym, subst, ◌∙◌, arith}
 use Rattle.std.specs.Prelude.{slice_index}
 use Rattle.elementary.specs.Partitions.{IsFitting}
-use Rattle.proposals.specs.Proposals.{AreSegments, bare_segment, paired, pieces}
+use Rattle.proposals.specs.Proposals.{paired}
 use Rattle.proposals.proofs.Pieces.{fitting_times, paired_pieces}
 use Rattle.proposals.proofs.proposal.Proposal.of.Goals as goal
 
