@@ -1,10 +1,13 @@
 -- One entry more: what the archive stands for then, and what each image left stands for.
-use Rattle.std.proofs.Common.{◌≡◌, ◌⊎◌, ℕ, ◌+◌, ◌-◌, ◌<◌, ◌≤◌, List, [], ◌∷◌, ◌++◌, length, Option, Some, None, Result, Ok, Err, IfOk, OnOk, IsOk, inl, inr, refl, ap, subst, sym, ◌∙◌, arith}
+use Rattle.std.proofs.Common.{◌≡◌, ◌⊎◌, ℕ, ◌+◌, ◌-◌, ◌<◌, ◌≤◌, List, [], ◌∷◌, ◌++◌, length, All, Option, Some, None, Result, Ok, Err, IfOk, OnOk, IsOk, inl, inr, refl, ap, subst, sym, ◌∙◌, arith}
 use Rattle.std.proofs.lemmas.List.{length_push}
-use Rattle.machine_model.specs.Areas.{Bytes}
+use Rattle.machine_model.specs.Areas.{Both, Bytes}
+use Rattle.std.proofs.lemmas.List.Elements.{All-weaker}
+use Rattle.time_base.specs.declared.extent.Extent.{Extent}
+use Rattle.page_store.specs.Live.{IsInside}
 use Rattle.machine_model.specs.States.{DiskState}
 use Rattle.machine_model.specs.Images.{MayLeave}
-use Rattle.machine_model.proofs.MomentLemmas.{goes_on_same, left_now}
+use Rattle.machine_model.proofs.MomentLemmas.{goes_on_same, left_now, allowed_left}
 use Rattle.time_base.specs.Limits.{limit_of}
 use Rattle.time_base.specs.declared.which.Which.TheVariants.{Journal}
 use Rattle.time_base.specs.declared.ids.DocId.{DocId}
@@ -15,23 +18,32 @@ use Rattle.gate_journal.specs.InStep.{IsInStep}
 use Rattle.gate_journal.specs.Crash.{Appends, KeepsPages}
 use Rattle.record_codec.specs.Spelling.{spelling}
 use Rattle.record_codec.specs.declared.entry.Entry.{Entry}
-use Rattle.record_codec.specs.declared.entry.Entry.TheVariants.{Arrive, Delete}
-use Rattle.archive_state.specs.Histories.{History, IsLegal, IsLegalEntry, changes, end_of}
+use Rattle.record_codec.specs.declared.entry.Entry.TheVariants.{Arrive, Delete, Planned}
+use Rattle.machine_model.specs.States.{moment}
+use Rattle.page_store.specs.Taken.{HasTaken}
+use Rattle.stored_plans.specs.Plans.{IsLeastPlan, IsFitPlan}
+use Rattle.archive_state.specs.declared.stored.StoredPlan.{StoredPlan}
+use Rattle.archive_state.specs.Histories.{History, changes, end_of}
+use Rattle.archive_state.specs.Legal.{IsLegal, IsLegalEntry}
+use Rattle.archive_state.specs.Plans.{IsChange, live_plans, live_extents}
+use Rattle.archive_state.specs.Holding.{HoldsPlans}
+use Rattle.archive_state.proofs.LiveLemmas.{come_allowed}
+use Rattle.archive_state.proofs.HoldLemmas.{held_push, same_live}
 use Rattle.archive_state.specs.Stands.{bodies_of, Stands, EachStands}
-use Rattle.archive_state.proofs.HistoryLemmas.{bodies_of-push, end_of-push, end_of-least, legal-push}
+use Rattle.archive_state.proofs.HistoryLemmas.{bodies_of-push, end_of-push, end_of-least, legal-push, loadable-push, entry_loads}
 use Rattle.archive_state.specs.declared.refusal.Refusal.{Refusal}
 use Rattle.archive_state.specs.declared.refusal.Refusal.TheVariants.{Full}
 use Rattle.version_store.specs.Tests.{first_of}
 use Rattle.archive_state.specs.Steps.{full_journal}
 use Rattle.archive_state.proofs.RefusalLemmas.{cause, cause-allowed, cause-full, cause-none}
-use Rattle.archive_core.specs.States.{ArchiveState, IsPlaced, ArePlaced, StandsFor, IsKept}
+use Rattle.archive_core.specs.States.{ArchiveState, ShelfState, IsPlaced, ArePlaced, StandsFor, IsKept, Reaches, extents_all}
 use Rattle.time_base.specs.declared.time.Time.{Time}
 use Rattle.version_index.specs.Indexing.{IndexValue, AreIndexed, ComesLater}
 use Rattle.version_index.specs.Measuring.{IsMeasured}
 use Rattle.version_index.specs.Indexes.{IndexState, Indexes, IsPreparedFor, seen}
 use Rattle.version_index.specs.declared.prepared.Prepared.{Prepared as Words}
 use Rattle.archive_core.specs.Adding.{Adds, GivesUp, IsNext, IsHeld, IsMore, IsPrepared, Makes, document_of, text_of}
-use Rattle.archive_core.proofs.IndexLemmas.{takes_change}
+use Rattle.archive_core.proofs.IndexLemmas.{takes_change, makes_is_change}
 use Rattle.archive_core.specs.declared.error.ChangeError.{ChangeError}
 use Rattle.archive_core.specs.declared.error.ChangeError.TheVariants as errors
 use Rattle.archive_core.specs.declared.preparing.Unprepared.{Unprepared}
@@ -46,10 +58,12 @@ makes_placed (Arrive doc at text) gate x held makes is =
     (sym makes.0, sym makes.1, let P : Option ℕ → Type 0 = λ n. IsHeld (gate + 18) n held in subst P makes.2 is)
 makes_placed (Delete doc at) gate x held makes is =
     (sym makes.0, sym makes.1, let P : Option ℕ → Type 0 = λ n. IsHeld (gate + 18) n held in subst P makes.2 is)
+makes_placed (Planned plan) gate x held makes is = absurd makes
 
 makes_document : (e : Entry) (x : Change ℕ) → Makes e x → document_of e ≡ x.doc
 makes_document (Arrive doc at text) x makes = makes.0
 makes_document (Delete doc at) x makes = makes.0
+makes_document (Planned plan) x makes = absurd makes
 
 pub stands_more : (a b : ArchiveState) (h : History) (e : Entry) (x : Change ℕ) (body : List ℕ) (words : Words)
     → StandsFor a h → IsNext h e x body → IsPreparedFor a.index (document_of e) (text_of e) words → IsMore a b x body words → StandsFor b (h ++ e ∷ [])
@@ -61,22 +75,27 @@ stands_more a b h e x body words stands next prepared more =
     let held : IsHeld (gate + 18) x.held more.held = subst P (omega (arith, least, stands.end_is)) more.held_is in
     let placed = placed_push h a.changes e c gate stands.changes_are (omega (arith, least, stands.end_is)) (makes_placed e gate x more.held next.makes held) in
     let Q : List (Change TextPlace) → Type 0 = λ cs. ArePlaced 16 (h ++ e ∷ []) cs in
+    let live : live_plans (h ++ e ∷ []) ≡ live_plans h = same_live h e (makes_is_change e x next.makes) in
     record {
-      loadable = legal-push h e stands.loadable next.legal;
+      loadable = loadable-push h e stands.loadable (entry_loads h e next.legal);
       end_is = omega (arith, more.end_is, stands.end_is, end_of-push h e, ap length next.spelled);
       length_is = omega (arith, more.length_is, stands.length_is, length_push h e);
       changes_are = subst Q (sym more.changes_are) placed;
-      index_is = takes_change (Indexes b.index) h e x (text_of e) next.makes refl stands.loadable next.legal (more.indexed (changes h) x.doc (text_of e) stands.index_is (let D : DocId → Type 0 = λ d. IsPreparedFor a.index d (text_of e) words in subst D (makes_document e x next.makes) prepared));
+      index_is = takes_change (Indexes b.index) h e x (text_of e) next.makes refl (come_allowed IsFitPlan [] h stands.loadable) next.legal.allowed (more.indexed (changes h) x.doc (text_of e) stands.index_is (let D : DocId → Type 0 = λ d. IsPreparedFor a.index d (text_of e) words in subst D (makes_document e x next.makes) prepared));
+      plans_are = ap (λ (s : ShelfState). s.plans) more.shelf_is ∙ stands.plans_are ∙ sym live;
+      pages_are = (let S : ShelfState → Type 0 = λ s. HasTaken s.pages (live_extents (h ++ e ∷ [])) in
+          let T : List StoredPlan → Type 0 = λ l. HasTaken a.shelf.pages (extents_all l) in
+          subst S (sym more.shelf_is) (subst T (sym live) stands.pages_are));
     }
 
 -- what the calls of a commit made of an archive
 pub is_more : (inside a b : ArchiveState) (mid : IndexState) (x : Change ℕ) (p : Change TextPlace) (body frame : List ℕ) (words : Words) (early : List (Change TextPlace)) (place : ℕ) → inside ≡ a
     → frame ≡ body → b.end ≡ inside.end + 5 + length frame → b.length ≡ inside.length + 1 → place ≡ inside.end + 4 → IsHeld (place + 13) x.held p.held → p.doc ≡ x.doc → p.at ≡ x.at
-    → early ≡ inside.changes → b.changes ≡ early ++ p ∷ [] → seen mid ≡ seen inside.index
+    → early ≡ inside.changes → b.changes ≡ early ++ p ∷ [] → b.shelf ≡ inside.shelf → seen mid ≡ seen inside.index
     → ((texts : List (Change (List ℕ))) (doc : DocId) (text : Option (List ℕ)) → Indexes mid texts → IsPreparedFor mid doc text words
     → ComesLater texts (record { doc = doc; at = x.at; held = text }) → Indexes b.index (texts ++ record { doc = doc; at = x.at; held = text } ∷ []))
     → IsMore a b x body words
-is_more inside a b mid x p body frame words early place is same end length_is at held doc time kept pushed index indexed =
+is_more inside a b mid x p body frame words early place is same end length_is at held doc time kept pushed shelf index indexed =
     let P : ArchiveState → Type 0 = λ s. IsMore s b x body words in
     let H : ℕ → Type 0 = λ n. IsHeld n x.held p.held in
     subst P is (record {
@@ -87,6 +106,7 @@ is_more inside a b mid x p body frame words early place is same end length_is at
       changes_are = pushed ∙ ap (λ (l : List (Change TextPlace)). l ++ p ∷ []) kept
           ∙ ap (λ (d : DocId). inside.changes ++ record { doc = d; at = p.at; held = p.held } ∷ []) doc
           ∙ ap (λ (t : Time). inside.changes ++ record { doc = x.doc; at = t; held = p.held } ∷ []) time;
+      shelf_is = shelf;
       indexed = λ texts doc text stands prepared later.
           let V : IndexValue → Type 0 = λ v. AreIndexed v texts in
           let M : List (List ℕ) → Type 0 = λ ws. IsMeasured ws text words.fresh.items words.weights in
@@ -100,31 +120,55 @@ stands_on a b x body words next stands more =
     let e = next stands.0 stands.1 in
     (stands.0 ++ e.0 ∷ [], stands_more a b stands.0 e.0 x body words stands.1 e.1 e.2 more)
 
--- where the journal spells an image's bodies, the image stands for the history
-pub leads_to : (h : History) (e : Entry) (body : List ℕ) (old new : DiskState) → IsLegal h → IsLegalEntry h e → body ≡ spelling e
-    → Appends (bodies_of h) body old new → LeadsTo h (h ++ e ∷ []) old new
-leads_to h e body old new legal next same appends = record {
+-- what each image holds in its pages
+abbrev pub EachHolds : DiskState → History → Type 0
+EachHolds d h = (image : Bytes) → MayLeave d.now image → HoldsPlans h image.pages
+
+-- where pages are kept, they hold what they held
+pub holds_kept : (h : History) (old new : DiskState) → EachHolds old h → KeepsPages old new → EachHolds new h
+holds_kept h old new held pages = λ image allowed.
+    let was = pages.images image new.now.beside (allowed_left new (moment old) image allowed) in
+    let P : List ℕ → Type 0 = λ l. HoldsPlans h l in
+    subst P (sym was.2) (held was.0 was.1)
+
+-- and for a history with a change more they hold what they held for it
+pub held_change : (h : History) (e : Entry) (d : DiskState) → IsChange e → IsLegal h → IsLegalEntry h e → EachHolds d h → EachHolds d (h ++ e ∷ [])
+held_change h e d change legal next held = λ image allowed. held_push IsLeastPlan h e image.pages change legal next.allowed (held image allowed)
+
+-- where the journal has an entry more, for which the pages hold already what they must, each image stands for the history or for that with the entry
+pub leads_more : (h : History) (e : Entry) (body : List ℕ) (old new : DiskState) → IsLegal h → IsLegalEntry h e → body ≡ spelling e → EachHolds old h → EachHolds old (h ++ e ∷ [])
+    → Appends (bodies_of h) body old new → KeepsPages old new → LeadsTo h (h ++ e ∷ []) old new
+leads_more h e body old new legal next same held more appends pages = record {
   goes_on = appends.goes_on;
   images = λ image beside left.
       let was = appends.images image beside left in
+      let kept = pages.images image beside left in
       let P : List (List ℕ) → Type 0 = λ l. Spells image.journal l in
+      let H : List ℕ → Type 0 = λ l. HoldsPlans h l in
+      let N : List ℕ → Type 0 = λ l. HoldsPlans (h ++ e ∷ []) l in
       let bodies : bodies_of h ++ body ∷ [] ≡ bodies_of (h ++ e ∷ []) = ap (λ (l : List ℕ). bodies_of h ++ l ∷ []) same ∙ sym (bodies_of-push h e) in (
         elim was.0 [
-          | inl spelled ↦ inl (record { spelled = spelled; legal = legal })
-          | inr spelled ↦ inr (record { spelled = subst P bodies spelled; legal = legal-push h e legal next })
+          | inl spelled ↦ inl (record { spelled = spelled; legal = legal; held = subst H (sym kept.2) (held kept.0 kept.1) })
+          | inr spelled ↦ inr (record { spelled = subst P bodies spelled; legal = legal-push h e legal next; held = subst N (sym kept.2) (more kept.0 kept.1) })
         ],
         was.1,
       );
 }
 
--- an archive in step: each image stands for its history
+-- so it is with a change, for which the pages need no more
+pub leads_to : (h : History) (e : Entry) (body : List ℕ) (old new : DiskState) → IsChange e → IsLegal h → IsLegalEntry h e → body ≡ spelling e → EachHolds old h
+    → Appends (bodies_of h) body old new → KeepsPages old new → LeadsTo h (h ++ e ∷ []) old new
+leads_to h e body old new change legal next same held appends pages =
+    leads_more h e body old new legal next same held (held_change h e old change legal next held) appends pages
+
+-- where the journal is in step and the pages hold what they must, each image stands for the history
+pub step_stands : (d : DiskState) (end : ℕ) (h : History) → IsInStep d end (bodies_of h) → IsLegal h → EachHolds d h → EachStands d h
+step_stands d end h step legal held = λ image allowed.
+    let is = step.images image allowed in
+    record { spelled = inr (record { gate = step.gate; rest = is.0; shut = step.shut; fit = step.fit; whole = is.1 }); legal = legal; held = held image allowed }
+
 pub kept_stands : (d : DiskState) (a : ArchiveState) (h : History) → IsKept d a h → EachStands d h
-kept_stands d a h kept = λ image allowed.
-    let is = kept.in_step.images image allowed in
-    record {
-      spelled = inr (record { gate = kept.in_step.gate; rest = is.0; shut = kept.in_step.shut; fit = kept.in_step.fit; whole = is.1 });
-      legal = kept.stands.loadable;
-    }
+kept_stands d a h kept = step_stands d a.end h kept.in_step kept.legal kept.held
 
 -- where no call is made, each image still stands for the history before
 pub leads_nowhere : (d : DiskState) (a : ArchiveState) (h after : History) → IsKept d a h → LeadsTo h after d d
@@ -141,11 +185,11 @@ pages_nowhere d = record {
 
 -- after Ok the archive is in step with the history and the entry
 pub kept_more : (d : DiskState) (b : ArchiveState) (h : History) (e : Entry) (body : List ℕ) → StandsFor b (h ++ e ∷ []) → body ≡ spelling e
-    → IsInStep d b.end (bodies_of h ++ body ∷ []) → IsKept d b (h ++ e ∷ [])
-kept_more d b h e body stands same in_step =
+    → IsLegal (h ++ e ∷ []) → EachHolds d (h ++ e ∷ []) → IsInStep d b.end (bodies_of h ++ body ∷ []) → IsKept d b (h ++ e ∷ [])
+kept_more d b h e body stands same legal held in_step =
     let bodies : bodies_of h ++ body ∷ [] ≡ bodies_of (h ++ e ∷ []) = ap (λ (l : List ℕ). bodies_of h ++ l ∷ []) same ∙ sym (bodies_of-push h e) in
     let P : List (List ℕ) → Type 0 = λ l. IsInStep d b.end l in
-    record { stands = stands; in_step = subst P bodies in_step }
+    record { stands = stands; in_step = subst P bodies in_step; legal = legal; held = held }
 
 pub appends_nowhere : (d : DiskState) (end : ℕ) (bodies : List (List ℕ)) (body : List ℕ) → IsInStep d end bodies → Appends bodies body d d
 appends_nowhere d end bodies body step = record {
@@ -187,11 +231,15 @@ adds_entry r a b h e refusal x body words stands next prepared cause_is full roo
 -- and of its images
 pub leads_entry : (r : Result ℕ ChangeError) (a b : ArchiveState) (old new : DiskState) (h : History) (e : Entry) (x : Change ℕ) (body : List ℕ) (words : Words)
     → IsKept old a h → IsNext h e x body → IsPreparedFor a.index (document_of e) (text_of e) words → IfOk r (λ n. IsMore a b x body words × (n ≡ b.length)) → Appends (bodies_of h) body old new
-    → OnOk r (IsInStep new b.end (bodies_of h ++ body ∷ [])) → LeadsTo h (h ++ e ∷ []) old new × OnOk r (IsKept new b (h ++ e ∷ []))
-leads_entry r a b old new h e x body words kept next prepared more appends step = (leads_to h e body old new kept.stands.loadable next.legal next.spelled appends, go r more step)
+    → KeepsPages old new → OnOk r (IsInStep new b.end (bodies_of h ++ body ∷ [])) → LeadsTo h (h ++ e ∷ []) old new × OnOk r (IsKept new b (h ++ e ∷ []))
+leads_entry r a b old new h e x body words kept next prepared more appends pages step = (leads_to h e body old new change kept.legal next.legal next.spelled kept.held appends pages, go r more step)
   where
+    change : IsChange e
+    change = makes_is_change e x next.makes
+
     go : (r : Result ℕ ChangeError) → IfOk r (λ n. IsMore a b x body words × (n ≡ b.length)) → OnOk r (IsInStep new b.end (bodies_of h ++ body ∷ [])) → OnOk r (IsKept new b (h ++ e ∷ []))
-    go (Ok n) more step = kept_more new b h e body (stands_more a b h e x body words kept.stands next prepared more.0) next.spelled step
+    go (Ok n) more step = kept_more new b h e body (stands_more a b h e x body words kept.stands next prepared more.0) next.spelled (legal-push h e kept.legal next.legal)
+        (holds_kept (h ++ e ∷ []) old new (held_change h e old change kept.legal next.legal kept.held) pages) step
     go (Err error) more step = tt
 
 -- what is known of an entry that was not prepared
@@ -222,3 +270,12 @@ gives_no_ok Q unprepared.Memory r a b gives = let P : Result ℕ ChangeError →
 
 pub step_at : {d : DiskState} {end : ℕ} {bodies : List (List ℕ)} (other : ℕ) → end ≡ other → IsInStep d end bodies → IsInStep d other bodies
 step_at {d} {end} {bodies} other same step = let P : ℕ → Type 0 = λ n. IsInStep d n bodies in subst P same step
+
+-- a disk that reached as far as an archive reaches on as far, where it reaches further and the archive has the same plans
+pub inside_on : (n m : ℕ) (es : List Extent) → n ≤ m → All (IsInside n) es → All (IsInside m) es
+inside_on n m es more inside = All-weaker (IsInside n) (IsInside m) (λ e is. omega (arith, is, more)) es inside
+
+pub reaches_on : (a b : ArchiveState) (old new : Both ℕ) → Reaches old a → b.shelf.plans ≡ a.shelf.plans → old.pages ≤ new.pages → b.end ≤ new.journal → Reaches new b
+reaches_on a b old new reaches same more end =
+    let P : List StoredPlan → Type 0 = λ l. All (IsInside new.pages) (extents_all l) in
+    (end, subst P (sym same) (inside_on old.pages new.pages (extents_all a.shelf.plans) more reaches.1))

@@ -11,3 +11,9 @@ pub mod AnswerLemmas
 pub mod IndexLemmas
 pub mod SpanLemmas
 pub mod PlanLemmas
+pub mod SettleLemmas
+pub mod ShelfLemmas
+pub mod StoreLemmas
+pub mod StandLemmas
+pub mod CertifyLemmas
+pub mod DraftLemmas

@@ -1,24 +1,37 @@
 -- What a load leaves and finds.
-use Rattle.std.proofs.Common.{◌≡◌, ℕ, ◌+◌, ◌≤◌, List, length, Result, Err, inr, ap, subst, sym, ◌∙◌, arith}
-use Rattle.std.proofs.lemmas.List.{length-map}
+use Rattle.std.proofs.Common.{◌≡◌, ℕ, ◌+◌, ◌<◌, ◌≤◌, List, [], ◌∷◌, ◌++◌, length, Result, Err, inl, inr, refl, ap, subst, sym, ◌∙◌, arith, length-append}
+use Rattle.std.proofs.lemmas.Bool.{cases_lt}
+use Rattle.std.proofs.lemmas.List.Elements.{All-nil}
+use Rattle.std.proofs.lemmas.List.{length-map, nil_from_length}
 use Rattle.machine_model.specs.Areas.{Bytes}
-use Rattle.machine_model.specs.States.{DiskState}
-use Rattle.machine_model.specs.Calls.{OnlyReads}
+use Rattle.machine_model.specs.States.{DiskState, Moment}
+use Rattle.machine_model.specs.Images.{MayLeave, Only}
+use Rattle.machine_model.proofs.MomentLemmas.{reads_join}
+use Rattle.page_store.specs.Taken.{HasTaken}
+use Rattle.page_store.specs.Live.{AreLive}
+use Rattle.gate_journal.specs.Records.{front}
+use Rattle.machine_model.specs.Calls.{OnlyReads, OnlyFails}
 use Rattle.gate_journal.specs.declared.head.Head.{Head}
 use Rattle.gate_journal.specs.Heads.{AreInRow}
 use Rattle.gate_journal.specs.Spelled.{Spells, EachSpells}
 use Rattle.gate_journal.specs.InStep.{IsInStep}
+use Rattle.gate_journal.proofs.LoadLemmas.{fails_read}
 use Rattle.gate_journal.specs.Crash.{KeepsBodies, KeepsPages}
 use Rattle.time_base.specs.declared.text_place.TextPlace.{TextPlace}
 use Rattle.version_store.specs.declared.change.Change.{Change}
 use Rattle.record_codec.specs.Spelling.{spelling}
 use Rattle.version_index.specs.Indexes.{IndexState, Indexes}
 use Rattle.archive_state.specs.Histories as histories
-use Rattle.archive_state.specs.Histories.{History, IsLegal, end_of}
+use Rattle.archive_state.specs.declared.stored.StoredPlan.{StoredPlan}
+use Rattle.archive_state.specs.Histories.{History, end_of}
+use Rattle.archive_state.specs.Legal.{IsLegal, IsLoadable}
+use Rattle.archive_state.specs.Plans.{live_plans, live_extents}
+use Rattle.archive_state.specs.Holding.{HoldsPlan, HoldsPlans}
 use Rattle.archive_state.specs.Stands.{bodies_of, Stands, EachStands, IsNotArchive}
-use Rattle.archive_state.proofs.HistoryLemmas.{end_of_is, end_of-least}
+use Rattle.archive_state.proofs.HistoryLemmas.{end_of_is, end_of-least, legal_loads}
 use Rattle.archive_state.proofs.StandsLemmas.{spells_one_history}
-use Rattle.archive_core.specs.States.{ArchiveState, ArePlaced, StandsFor, IsKept}
+use Rattle.archive_core.specs.States.{ArchiveState, ArePlaced, StandsFor, IsKept, extents_all}
+use Rattle.archive_core.specs.Shelves.{IsBadShelf}
 use Rattle.archive_core.specs.Changing.{KeepsHistory}
 use Rattle.gate_journal.specs.declared.error.JournalError.{JournalError}
 use Rattle.gate_journal.specs.declared.error.JournalError.TheVariants.{Failed, NotJournal, Memory}
@@ -29,24 +42,34 @@ use Rattle.archive_core.specs.Replaying.{IsReplayed, IsBadAmong}
 use Rattle.archive_core.proofs.HeadLemmas.{row_end, length_front, length_heads}
 
 -- each image that stands for a history spells its bodies
-pub stands_spells : (d : DiskState) (h : History) → EachStands d h → EachSpells d (bodies_of h)
+stands_spells : (d : DiskState) (h : History) → EachStands d h → EachSpells d (bodies_of h)
 stands_spells d h each = λ image allowed. (each image allowed).spelled
 
--- where each image left spells a legal history's bodies, it stands for the history
-pub keeps_history : (h : History) (old new : DiskState) → IsLegal h → KeepsBodies (bodies_of h) old new → KeepsHistory h old new
-keeps_history h old new legal kept = record {
+-- where each image left spells the bodies of a history for which each image stood, and has the pages of one of these, it stands for the history
+keeps_history : (h : History) (old new : DiskState) → EachStands old h → IsLegal h → KeepsBodies (bodies_of h) old new → KeepsPages old new → KeepsHistory h old new
+keeps_history h old new each legal kept pages = record {
   goes_on = kept.goes_on;
-  images = λ image beside left. let is = kept.images image beside left in (record { spelled = is.0; legal = legal }, is.1);
+  images = λ image beside left.
+      let is = kept.images image beside left in
+      let was = pages.images image beside left in
+      let H : List ℕ → Type 0 = λ l. HoldsPlans h l in
+      (record { spelled = is.0; legal = legal; held = subst H (sym was.2) (each was.0 was.1).held }, is.1);
 }
 
 -- reads leave what they find
-pub history_reads : (h : History) (a b c : DiskState) → KeepsHistory h a b → OnlyReads b c → KeepsHistory h a c
+history_reads : (h : History) (a b c : DiskState) → KeepsHistory h a b → OnlyReads b c → KeepsHistory h a c
 history_reads h a b c kept same =
     let P : DiskState → Type 0 = λ d. KeepsHistory h a d in
     subst P (sym same) (record {
       goes_on = let g = kept.goes_on in record { later = g.later; nothing_else = g.nothing_else; keeps = g.keeps };
       images = kept.images;
     })
+
+-- and so does a load
+pub history_loaded : (h : History) (old mid new : DiskState) → MayLeave old.now old.holds → EachStands old h → (EachSpells old (bodies_of h) → KeepsBodies (bodies_of h) old mid) → KeepsPages old mid → OnlyReads mid new
+    → KeepsHistory h old new
+history_loaded h old mid new allowed each kept pages same =
+    history_reads h old mid new (keeps_history h old mid each (each old.holds allowed).legal (kept (stands_spells old h each)) pages) same
 
 pub pages_reads : (a b c : DiskState) → KeepsPages a b → OnlyReads b c → KeepsPages a c
 pages_reads a b c kept same =
@@ -62,62 +85,121 @@ step_reads b c end bodies step same =
     subst P (sym same) (record { gate = step.gate; shut = step.shut; fit = step.fit; end_is = step.end_is; images = step.images })
 
 -- all entries are gone over
-pub replayed_end : (h : History) (heads : List Head) (changes : List (Change TextPlace)) (end : ℕ) → AreInRow 16 heads end → IsReplayed h heads changes → end ≡ end_of h
-replayed_end h heads changes end row replayed =
+pub replayed_end : (h : History) (heads : List Head) (changes : List (Change TextPlace)) (plans : List StoredPlan) (end : ℕ) → AreInRow 16 heads end → IsReplayed h heads changes plans → end ≡ end_of h
+replayed_end h heads changes plans end row replayed =
     omega (arith, row_end 16 end heads (bodies_of h) row replayed.heads_are, end_of_is h, length_front (bodies_of h))
 
-pub replayed_length : (h : History) (heads : List Head) (changes : List (Change TextPlace)) → IsReplayed h heads changes → length heads ≡ length h
-replayed_length h heads changes replayed = ap length replayed.heads_are ∙ length_heads 16 (bodies_of h) ∙ length-map h spelling
+pub replayed_length : (h : History) (heads : List Head) (changes : List (Change TextPlace)) (plans : List StoredPlan) → IsReplayed h heads changes plans → length heads ≡ length h
+replayed_length h heads changes plans replayed = ap length replayed.heads_are ∙ length_heads 16 (bodies_of h) ∙ length-map h spelling
 
 -- an archive of what was gone over
-pub record IsMadeOf (a : ArchiveState) (end : ℕ) (heads : List Head) (changes : List (Change TextPlace)) (index : IndexState) : Type 0 where
+pub record IsMadeOf (a : ArchiveState) (end : ℕ) (heads : List Head) (changes : List (Change TextPlace)) (index : IndexState) (plans : List StoredPlan) : Type 0 where
   pub end_is : a.end ≡ end
   pub length_is : a.length ≡ length heads
   pub changes_are : a.changes ≡ changes
   pub index_is : a.index ≡ index
+  pub plans_are : a.shelf.plans ≡ plans
+  pub pages_are : HasTaken a.shelf.pages (extents_all plans)
 
-pub stands_replayed : (a : ArchiveState) (h : History) (heads : List Head) (changes : List (Change TextPlace)) (index : IndexState) (end : ℕ) → IsMadeOf a end heads changes index
-    → AreInRow 16 heads end → IsReplayed h heads changes → Indexes index (histories.changes h) → StandsFor a h
-stands_replayed a h heads changes index end made row replayed indexed = record {
+pub stands_replayed : (a : ArchiveState) (h : History) (heads : List Head) (changes : List (Change TextPlace)) (index : IndexState) (plans : List StoredPlan) (end : ℕ) → IsMadeOf a end heads changes index plans
+    → AreInRow 16 heads end → IsReplayed h heads changes plans → Indexes index (histories.changes h) → StandsFor a h
+stands_replayed a h heads changes index plans end made row replayed indexed = record {
   loadable = replayed.loadable;
-  end_is = made.end_is ∙ replayed_end h heads changes end row replayed;
-  length_is = made.length_is ∙ replayed_length h heads changes replayed;
+  end_is = made.end_is ∙ replayed_end h heads changes plans end row replayed;
+  length_is = made.length_is ∙ replayed_length h heads changes plans replayed;
   changes_are = let P : List (Change TextPlace) → Type 0 = λ l. ArePlaced 16 h l in subst P (sym made.changes_are) replayed.placed;
   index_is = let I : IndexState → Type 0 = λ i. Indexes i (histories.changes h) in subst I (sym made.index_is) indexed;
+  plans_are = made.plans_are ∙ replayed.plans_are;
+  pages_are = let T : List StoredPlan → Type 0 = λ l. HasTaken a.shelf.pages (extents_all l) in subst T replayed.plans_are made.pages_are;
 }
 
 -- entries are fewer than bytes
-pub few_heads : (h : History) (heads : List Head) (changes : List (Change TextPlace)) (end : ℕ) → AreInRow 16 heads end → IsReplayed h heads changes → length heads + 17 ≤ end
-few_heads h heads changes end row replayed =
-    omega (arith, end_of-least h, replayed_end h heads changes end row replayed, replayed_length h heads changes replayed)
+pub few_heads : (h : History) (heads : List Head) (changes : List (Change TextPlace)) (plans : List StoredPlan) (end : ℕ) → AreInRow 16 heads end → IsReplayed h heads changes plans → length heads + 17 ≤ end
+few_heads h heads changes plans end row replayed =
+    omega (arith, end_of-least h, replayed_end h heads changes plans end row replayed, replayed_length h heads changes plans replayed)
 
 -- bodies of which one is bad are no archive's
 pub bad_archive : (image : Bytes) (bodies : List (List ℕ)) (at : ℕ) → Spells image.journal bodies → IsBadAmong bodies at → IsNotArchive image at
 bad_archive image bodies at spelled bad =
     let P : List (List ℕ) → Type 0 = λ l. Spells image.journal l in
-    inr (record { before = bad.before; body = bad.body; rest = bad.rest; spelled = subst P bad.split spelled; loadable = bad.loadable; fault = bad.fault })
+    inr (inl (record { before = bad.before; body = bad.next.body; rest = bad.next.rest; spelled = subst P bad.next.split spelled; loadable = bad.loadable; fault = bad.next.fault }))
 
--- what is found is the history that each image stands for
-pub finds_it : (a : ArchiveState) (d : DiskState) (image : Bytes) (g h : History) → IsKept d a g → Spells image.journal (bodies_of g) → Stands h image → IsKept d a h
-finds_it a d image g h kept spelled stands =
-    let P : History → Type 0 = λ x. IsKept d a x in
-    subst P (spells_one_history image.journal g h spelled kept.stands.loadable stands.spelled stands.legal) kept
+-- nor are places that lie badly
+pub bad_shelf : (image : Bytes) (h : History) (plans : List StoredPlan) (reach at : ℕ) → Spells image.journal (bodies_of h) → IsLoadable h → plans ≡ live_plans h → reach ≡ length image.pages → IsBadShelf plans reach at → IsNotArchive image at
+bad_shelf image h plans reach at spelled loads live long bad =
+    let B : List StoredPlan → Type 0 = λ l. IsBadShelf l (length image.pages) at in
+    let R : ℕ → Type 0 = λ n. IsBadShelf plans n at in
+    let is = subst B live (subst R long bad) in
+    inr (inr (record { history = h; spelled = spelled; loadable = loads; index = is.index; inside = is.inside; good = is.good; bad = is.bad; at_is = is.at_is }))
 
--- the archive is in step with the disk for the history that was found
-pub found_all : (a : ArchiveState) (mid new : DiskState) (bytes : List ℕ) (end : ℕ) (heads : List Head) (changes : List (Change TextPlace)) (index : IndexState) (bodies : List (List ℕ)) (h : History)
-    → IsMadeOf a end heads changes index → AreInRow 16 heads end → IsReplayed h heads changes → Indexes index (histories.changes h) → bodies_of h ≡ bodies → IsInStep mid end bodies → OnlyReads mid new → Spells bytes bodies
-    → (g : History) × IsKept new a g × Spells bytes (bodies_of g)
-found_all a mid new bytes end heads changes index bodies h made row replayed indexed same step reads spelled =
+-- what was gone over is the history of the bodies found
+pub gone_over : (bytes : List ℕ) (heads there : List Head) (changes : List (Change TextPlace)) (index : IndexState) (plans : List StoredPlan) (bodies : List (List ℕ)) → there ≡ heads → Spells bytes bodies
+    → (h : History) × IsReplayed h there changes plans × Indexes index (histories.changes h) × (bodies_of h ≡ bodies)
+    → (h : History) × IsReplayed h heads changes plans × Indexes index (histories.changes h) × (bodies_of h ≡ bodies) × Spells bytes (bodies_of h)
+gone_over bytes heads there changes index plans bodies same spelled all =
+    let P : List Head → Type 0 = λ l. IsReplayed all.0 l changes plans in
+    let S : List (List ℕ) → Type 0 = λ l. Spells bytes l in
+    (all.0, subst P same all.1, all.2, all.3, subst S (sym all.3) spelled)
+
+-- the length of the pages that reads give is that at the start
+pub pages_long : (old : Bytes) (mid after : DiskState) (reach : ℕ) → reach ≡ after.reach.pages → length after.holds.pages ≡ after.reach.pages → OnlyReads mid after → mid.holds.pages ≡ old.pages → reach ≡ length old.pages
+pages_long old mid after reach is told same pages = is ∙ sym told ∙ ap (λ (d : DiskState). length d.holds.pages) same ∙ ap length pages
+
+-- reads, and then a call that only fails
+pub reads_on : (mid after new : DiskState) → OnlyReads mid after → OnlyFails after new → OnlyReads mid new
+reads_on mid after new same fails = reads_join mid after new same (fails_read after new fails)
+
+-- where the places in hand are live, those of the history are
+pub all_live : (h : History) (plans : List StoredPlan) (reach : ℕ) (pages : List ℕ) → plans ≡ live_plans h → reach ≡ length pages → AreLive (extents_all plans) reach → AreLive (live_extents h) (length pages)
+all_live h plans reach pages same long live =
+    let L : List StoredPlan → Type 0 = λ l. AreLive (extents_all l) (length pages) in
+    let R : ℕ → Type 0 = λ n. AreLive (extents_all plans) n in
+    subst L same (subst R long live)
+
+-- bodies that are none are those of the empty history
+no_bodies : (h : History) → bodies_of h ≡ [] → h ≡ []
+no_bodies [] none = refl
+no_bodies (e ∷ h) none = absurd (omega (arith, ap length none))
+
+-- after a load each image has in its pages what the history needs, for which the bytes stood that reads gave
+pub held_loaded : (h : History) (image : Bytes) (old : Bytes) (mid new : DiskState) → Stands h old → (17 < length old.journal → Only mid.holds mid) → mid.holds.pages ≡ old.pages → new.now ≡ mid.now
+    → MayLeave new.now image → HoldsPlans h image.pages
+held_loaded h image old mid new stands one same now allowed =
+    let M : Moment → Type 0 = λ m. MayLeave m image in
+    let H : List ℕ → Type 0 = λ l. HoldsPlans h l in
+    elim (cases_lt 17 (length old.journal)) as (λ _. HoldsPlans h image.pages) [
+      | inl long ↦ subst H (sym (ap (λ (b : Bytes). b.pages) (one long image (subst M now allowed)) ∙ same)) stands.held
+      | inr short ↦ new_archive stands.spelled short
+    ]
+  where
+    of_none : h ≡ [] → HoldsPlans h image.pages
+    of_none none =
+        let E : History → Type 0 = λ g. HoldsPlans g image.pages in
+        subst E (sym none) (record { apart = tt; each = All-nil (λ (stored : StoredPlan). HoldsPlan [] image.pages stored.plan) })
+
+    new_archive : Spells old.journal (bodies_of h) → length old.journal ≤ 17 → HoldsPlans h image.pages
+    new_archive (inl new) short = of_none (no_bodies h new.1)
+    new_archive (inr long) short =
+        of_none (nil_from_length h (omega (arith, short, ap length long.whole, length-append (front (bodies_of h)) (long.gate ∷ long.rest), end_of_is h, end_of-least h)))
+
+-- the archive is in step with the disk for the history for which the bytes stood
+pub kept_loaded : (a : ArchiveState) (mid new : DiskState) (old : Bytes) (end : ℕ) (bodies : List (List ℕ)) (g h : History)
+    → StandsFor a g → a.end ≡ end → bodies_of g ≡ bodies → Spells old.journal bodies → IsInStep mid end bodies → new.now ≡ mid.now
+    → (17 < length old.journal → Only mid.holds mid) → mid.holds.pages ≡ old.pages → Stands h old → IsKept new a h
+kept_loaded a mid new old end bodies g h stands end_is same spelled step now one pages stood =
+    let R : List (List ℕ) → Type 0 = λ l. Spells old.journal l in
+    let one_history : g ≡ h = spells_one_history old.journal g h (subst R (sym same) spelled) stands.loadable stood.spelled (legal_loads h stood.legal) in
+    let S : History → Type 0 = λ x. StandsFor a x in
     let P : List (List ℕ) → Type 0 = λ l. IsInStep new a.end l in
     let Q : ℕ → Type 0 = λ n. IsInStep new n bodies in
-    let R : List (List ℕ) → Type 0 = λ l. Spells bytes l in (
-      h,
-      record {
-        stands = stands_replayed a h heads changes index end made row replayed indexed;
-        in_step = subst P (sym same) (subst Q (sym made.end_is) (step_reads mid new end bodies step reads));
-      },
-      subst R (sym same) spelled,
-    )
+    let M : Moment → Type 0 = λ m. (image : Bytes) → MayLeave m image → (rest : List ℕ) × (image.journal ≡ front bodies ++ step.gate ∷ rest) in
+    let there : IsInStep new end bodies = record { gate = step.gate; shut = step.shut; fit = step.fit; end_is = step.end_is; images = subst M (sym now) step.images } in
+    record {
+      stands = subst S one_history stands;
+      in_step = subst P (sym same ∙ ap bodies_of one_history) (subst Q (sym end_is) there);
+      legal = stood.legal;
+      held = λ image allowed. held_loaded h image old mid new stood one pages now allowed;
+    }
 
 -- what the journal's error is where a load hands it on
 pub journal_exit : {T U : Type 0} (r : Result T JournalError) (s : Result U LoadError) (e : JournalError) (y : LoadError) (at : ℕ) → r ≡ Err e → s ≡ Err y → y ≡ load_error_of e

@@ -1,5 +1,5 @@
 -- Changes with the places of the texts: the same refusals, and one change more.
-use Rattle.std.proofs.Common.{◌≡◌, ℕ, ◌+◌, List, [], ◌∷◌, ◌++◌, length, map, sum_by, Option, Some, None, refl, ap, subst, sym, ◌∙◌, arith}
+use Rattle.std.proofs.Common.{append-nil, ◌≡◌, ℕ, ◌+◌, List, [], ◌∷◌, ◌++◌, length, map, sum_by, Option, Some, None, refl, ap, subst, sym, ◌∙◌, arith}
 use Rattle.std.specs.Option.{option_map}
 use Rattle.std.proofs.lemmas.List.Sums.{sum_by-cons}
 use Rattle.time_base.specs.declared.ids.DocId.{DocId}
@@ -10,10 +10,11 @@ use Rattle.version_store.specs.Refusals.{arrive_refusal, delete_refusal}
 use Rattle.version_store.proofs.Mapped.{arrive_refusal-mapped, delete_refusal-mapped}
 use Rattle.record_codec.specs.Spelling.{spelling}
 use Rattle.record_codec.specs.declared.entry.Entry.{Entry}
-use Rattle.record_codec.specs.declared.entry.Entry.TheVariants.{Arrive, Delete}
+use Rattle.record_codec.specs.declared.entry.Entry.TheVariants.{Arrive, Delete, Planned}
+use Rattle.record_codec.specs.declared.plan.PlanEntry.{PlanEntry}
 use Rattle.archive_state.specs.Histories.{History, changes, end_of}
 use Rattle.archive_core.specs.Texts.{nothing, bare}
-use Rattle.archive_core.specs.States.{IsPlace, IsPlaced, ArePlaced}
+use Rattle.archive_core.specs.States.{IsPlace, IsPlaced, BeginWith, ArePlaced}
 
 abbrev a_text : Option (Unit {0})
 a_text = Some tt
@@ -25,7 +26,9 @@ held_bare at bytes (Some place) placed = refl
 pub bare_changes : (gate : ℕ) (h : History) (cs : List (Change TextPlace)) → ArePlaced gate h cs → map bare cs ≡ map bare (changes h)
 bare_changes gate [] [] placed = refl
 bare_changes gate [] (c ∷ cs) placed = absurd placed
-bare_changes gate (e ∷ h) [] placed = absurd placed
+bare_changes gate (Arrive doc at text ∷ h) [] placed = absurd placed
+bare_changes gate (Delete doc at ∷ h) [] placed = absurd placed
+bare_changes gate (Planned plan ∷ h) cs placed = bare_changes (gate + 5 + length (spelling (Planned plan))) h cs placed
 bare_changes gate (Arrive doc at text ∷ h) (c ∷ cs) placed =
     let one = placed.0.0 in
     let two = placed.0.1 in
@@ -48,18 +51,35 @@ pub placed_delete_refusal : (doc : DocId) (at : Time) (gate : ℕ) (h : History)
 placed_delete_refusal doc at gate h cs placed =
     sym (delete_refusal-mapped (nothing {A = TextPlace}) doc at cs) ∙ ap (delete_refusal doc at) (bare_changes gate h cs placed) ∙ delete_refusal-mapped (nothing {A = List ℕ}) doc at (changes h)
 
--- an entry more is a change more; its gate is behind the entries before it
-placed_after : (gate last : ℕ) (h : History) (cs : List (Change TextPlace)) (e : Entry) (c : Change TextPlace) → ArePlaced gate h cs
-    → last ≡ gate + sum_by (λ (x : Entry). length (spelling x) + 5) h → IsPlaced last e c → ArePlaced gate (h ++ e ∷ []) (cs ++ c ∷ [])
-placed_after gate last [] [] e c placed at next = (let P : ℕ → Type 0 = λ n. IsPlaced n e c in let here : last ≡ gate = omega (arith, at) in subst P here next, tt)
-placed_after gate last [] (d ∷ cs) e c placed at next = absurd placed
-placed_after gate last (x ∷ h) [] e c placed at next = absurd placed
-placed_after gate last (x ∷ h) (d ∷ cs) e c placed at next = (
-  placed.0,
-  placed_after (gate + 5 + length (spelling x)) last h cs e c placed.1
-      (omega (arith, at, sum_by-cons (λ (y : Entry). length (spelling y) + 5) x h)) next,
-)
+-- an entry more is a change more, or none; its gate is behind the entries before it
+begin_with : (gate : ℕ) (e : Entry) (cs more : List (Change TextPlace)) (P Q : List (Change TextPlace) → Type 0) → ((ds : List (Change TextPlace)) → P ds → Q (ds ++ more)) → BeginWith gate e cs P → BeginWith gate e (cs ++ more) Q
+begin_with gate (Arrive doc at text) [] more P Q on begins = absurd begins
+begin_with gate (Arrive doc at text) (c ∷ cs) more P Q on begins = (begins.0, on cs begins.1)
+begin_with gate (Delete doc at) [] more P Q on begins = absurd begins
+begin_with gate (Delete doc at) (c ∷ cs) more P Q on begins = (begins.0, on cs begins.1)
+begin_with gate (Planned plan) cs more P Q on begins = on cs begins
+
+-- the changes behind those of entries, which are those of the entries behind them
+pub placed_behind : (gate last : ℕ) (h more : History) (cs ds : List (Change TextPlace)) → ArePlaced gate h cs → last ≡ gate + sum_by (λ (x : Entry). length (spelling x) + 5) h → ArePlaced last more ds
+    → ArePlaced gate (h ++ more) (cs ++ ds)
+placed_behind gate last [] more [] ds placed at next = let P : ℕ → Type 0 = λ n. ArePlaced n more ds in let here : last ≡ gate = omega (arith, at) in subst P here next
+placed_behind gate last [] more (c ∷ cs) ds placed at next = absurd placed
+placed_behind gate last (x ∷ h) more cs ds placed at next =
+    let then = gate + 5 + length (spelling x) in
+    begin_with gate x cs ds (ArePlaced then h) (ArePlaced then (h ++ more))
+    (λ es rest. placed_behind then last h more es ds rest (omega (arith, at, sum_by-cons (λ (y : Entry). length (spelling y) + 5) x h)) next) placed
+
+placed_one : (gate : ℕ) (e : Entry) (c : Change TextPlace) → IsPlaced gate e c → ArePlaced gate (e ∷ []) (c ∷ [])
+placed_one gate (Arrive doc at text) c is = (is, tt)
+placed_one gate (Delete doc at) c is = (is, tt)
+placed_one gate (Planned plan) c is = absurd is
 
 pub placed_push : (h : History) (cs : List (Change TextPlace)) (e : Entry) (c : Change TextPlace) (gate : ℕ) → ArePlaced 16 h cs
     → end_of h ≡ gate + 1 → IsPlaced gate e c → ArePlaced 16 (h ++ e ∷ []) (cs ++ c ∷ [])
-placed_push h cs e c gate placed at next = placed_after 16 gate h cs e c placed (omega (arith, at)) next
+placed_push h cs e c gate placed at next = placed_behind 16 gate h (e ∷ []) cs (c ∷ []) placed (omega (arith, at)) (placed_one gate e c next)
+
+-- a plan more is no change more
+pub placed_plan : (h : History) (cs : List (Change TextPlace)) (plan : PlanEntry) → ArePlaced 16 h cs → ArePlaced 16 (h ++ Planned plan ∷ []) cs
+placed_plan h cs plan placed =
+    let P : List (Change TextPlace) → Type 0 = λ l. ArePlaced 16 (h ++ Planned plan ∷ []) l in
+    subst P (append-nil cs) (placed_behind 16 (16 + sum_by (λ (x : Entry). length (spelling x) + 5) h) h (Planned plan ∷ []) cs [] placed refl tt)

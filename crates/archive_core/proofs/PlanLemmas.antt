@@ -1,6 +1,6 @@
 -- What is proposed is of the history that an archive stands for.
-use Rattle.std.proofs.Common.{Bool, true, false, ◌==◌, ◌≡◌, ◌⊎◌, ℕ, ◌+◌, ◌<◌, ◌≤◌, ◌^◌, ◌↔◌, List, [], ◌∷◌, length, drop, All, Contains, Option, Some, None, option_map, unwrap_or, Result, Ok, Err, IfOk, refl, ap, sym, subst, ◌∙◌, inl, inr, arith}
-use Rattle.std.specs.Prelude.{slice_index, min}
+use Rattle.std.proofs.Common.{Bool, true, false, ◌==◌, ◌≡◌, ℕ, ◌+◌, ◌<◌, ◌≤◌, ◌^◌, List, [], ◌∷◌, length, drop, All, Contains, Option, Some, None, option_map, unwrap_or, Result, Ok, Err, IfOk, refl, ap, sym, subst, ◌∙◌, inl, inr, arith}
+use Rattle.std.specs.Prelude.{slice_index}
 use Rattle.std.specs.List.{AllZip}
 use Rattle.std.proofs.Math.Nat.{min-le_right}
 use Rattle.std.proofs.lemmas.Bool.Decides.{nat_tests}
@@ -16,17 +16,13 @@ use Rattle.postings.specs.Lists.{sublist}
 use Rattle.postings.specs.Clips.{IsCut, IsClip}
 use Rattle.postings.specs.ListsOf.{IsListOf}
 use Rattle.postings.proofs.Clipping.{clip_of_list_of}
-use Rattle.elementary.specs.Boundaries.{AreBoundaries}
 use Rattle.elementary.specs.Counts.{Counts, Tabulates}
 use Rattle.elementary.specs.Partitions.{widest, IsLeast, AreBest, space}
 use Rattle.elementary.proofs.Narrow.{narrow}
 use Rattle.proposals.specs.Proposals.{AreSegments, AreNodes, IsProposal}
-use Rattle.proposals.specs.declared.proposal.Segment.{Segment}
-use Rattle.proposals.specs.declared.proposal.Node.{Node}
 use Rattle.proposals.specs.declared.proposal.Proposal.{Proposal}
 use Rattle.fold_tokens.specs.Terms.{one_term}
 use Rattle.version_store.specs.Changes.{last_time}
-use Rattle.version_store.specs.declared.change.Change.{Change}
 use Rattle.version_store.proofs.Mapped.{last_time-mapped}
 use Rattle.version_index.specs.Words.{words_in}
 use Rattle.commands.specs.declared.command.Command.TheVariants as commands
@@ -136,43 +132,43 @@ module _ (h : ℕ) (One Other : Refusal → Type 0) (refused : (why : Refusal) �
   some_list [] A B some goes of = absurd (omega (arith, some))
   some_list (p ∷ list) A B some goes of = map_bounded (p ∷ list) A B goes of
 
-map_phrase : (h : History) (key : Option (List ℕ)) (One Other : Refusal → Type 0) (A B : List ℕ → List Posting → Type 0) → ((why : Refusal) → One why → Other why)
+pub map_phrase : (h : History) (key : Option (List ℕ)) (One Other : Refusal → Type 0) (A B : List ℕ → List Posting → Type 0) → ((why : Refusal) → One why → Other why)
     → ((word : List ℕ) (list : List Posting) → A word list → B word list) → OfPhrase h key One A → OfPhrase h key Other B
 map_phrase h None One Other A B refused goes of = refused refusals.NotOneTerm of
 map_phrase h (Some word) One Other A B refused goes (inl unknown) = inl (unknown.0, refused refusals.UnknownWord unknown.1)
 map_phrase h (Some word) One Other A B refused goes (inr (known, (list, is, of))) =
     inr (known, (list, is, map_list (last_second h) One Other refused list (A word list) (B word list) (goes word list) of))
 
-sealed_phrase : (h : History) (phrase : List ℕ) (list : List Posting) (horizon : ℕ) (One Other : Refusal → Type 0) (A : Type 0) (B : List ℕ → List Posting → Type 0) → IsSealed h phrase list horizon → 0 < length list
-    → ((why : Refusal) → One why → Other why) → ((word : List ℕ) → A → B word list) → OfBoundaries horizon list One A → OfPhrase h (one_term phrase) Other B
-sealed_phrase h phrase list horizon One Other A B sealed some refused goes of =
+sealed_phrase : (h : History) (phrase word : List ℕ) (list : List Posting) (horizon : ℕ) (One Other : Refusal → Type 0) (A : Type 0) (B : List ℕ → List Posting → Type 0) → IsSealed h phrase word list horizon → 0 < length list
+    → ((why : Refusal) → One why → Other why) → (A → B word list) → OfBoundaries horizon list One A → OfPhrase h (one_term phrase) Other B
+sealed_phrase h phrase word list horizon One Other A B sealed some refused goes of =
     let here = subst (λ (n : ℕ). OfBoundaries n list One A) sealed.horizon_is of in
     let P : Option (List ℕ) → Type 0 = λ key. OfPhrase h key Other B in
-    subst P (sym sealed.word_is) (inr (sealed.known, (list, sealed.list_is, some_list (last_second h) One Other refused list A (B sealed.word list) some (goes sealed.word) here)))
+    subst P (sym sealed.word_is) (inr (sealed.known, (list, sealed.list_is, some_list (last_second h) One Other refused list A (B word list) some goes here)))
 
 -- a plan of a sealed list that is refused, and one that is proposed
-pub wide_refused : (h : History) (phrase : List ℕ) (factor : Fraction) (list : List Posting) (horizon : ℕ) (why : Refusal) → IsSealed h phrase list horizon → 0 < length list
+pub wide_refused : (h : History) (phrase word : List ℕ) (factor : Fraction) (list : List Posting) (horizon : ℕ) (why : Refusal) → IsSealed h phrase word list horizon → 0 < length list
     → OfBoundaries horizon list (λ because. why ≡ because) ⊥ → Proposes h phrase factor (Refused why)
-wide_refused h phrase factor list horizon why sealed some of =
-    sealed_phrase h phrase list horizon (λ because. why ≡ because) (λ because. Refused why ≡ Refused because) ⊥ (λ word list. ProposesPlan factor (last_second h) list (Refused why)) sealed some
-    (λ because e. ap Refused e) (λ word no_plan. absurd no_plan) of
+wide_refused h phrase word factor list horizon why sealed some of =
+    sealed_phrase h phrase word list horizon (λ because. why ≡ because) (λ because. Refused why ≡ Refused because) ⊥ (λ word list. ProposesPlan factor (last_second h) list (Refused why)) sealed some
+    (λ because e. ap Refused e) (λ no_plan. absurd no_plan) of
 
-pub least_proposed : (h : History) (phrase : List ℕ) (factor : Fraction) (list : List Posting) (horizon : ℕ) (p : Proposal) → IsSealed h phrase list horizon → 0 < length list
+pub least_proposed : (h : History) (phrase word : List ℕ) (factor : Fraction) (list : List Posting) (horizon : ℕ) (p : Proposal) → IsSealed h phrase word list horizon → 0 < length list
     → OfBoundaries horizon list (λ because. ⊥) (IsProposal list factor horizon p.segments.items p.nodes.items p.space) → Proposes h phrase factor (Proposed p.segments.items p.nodes.items p.space)
-least_proposed h phrase factor list horizon p sealed some of =
-    sealed_phrase h phrase list horizon (λ because. ⊥) (λ because. Proposed p.segments.items p.nodes.items p.space ≡ Refused because) (IsProposal list factor horizon p.segments.items p.nodes.items p.space)
+least_proposed h phrase word factor list horizon p sealed some of =
+    sealed_phrase h phrase word list horizon (λ because. ⊥) (λ because. Proposed p.segments.items p.nodes.items p.space ≡ Refused because) (IsProposal list factor horizon p.segments.items p.nodes.items p.space)
     (λ word list. ProposesPlan factor (last_second h) list (Proposed p.segments.items p.nodes.items p.space)) sealed some
     (λ because none. absurd none)
-    (λ word proposal.
+    (λ proposal.
     let here = subst (λ (n : ℕ). IsProposal list factor n p.segments.items p.nodes.items p.space) sealed.horizon_is proposal in
     (p.segments.items, p.nodes.items, p.space, here, refl)) of
 
-pub ok_proposed : {E : Type 0} (h : History) (phrase : List ℕ) (factor : Fraction) (list here : List Posting) (horizon : ℕ) (r : Result Proposal E) → IsSealed h phrase list horizon → 0 < length list → here ≡ list
+pub ok_proposed : {E : Type 0} (h : History) (phrase word : List ℕ) (factor : Fraction) (list here : List Posting) (horizon : ℕ) (r : Result Proposal E) → IsSealed h phrase word list horizon → 0 < length list → here ≡ list
     → IfOk r (λ p. OfBoundaries horizon here (λ because. ⊥) (IsProposal here factor horizon p.segments.items p.nodes.items p.space))
     → IfOk r (λ p. Proposes h phrase factor (Proposed p.segments.items p.nodes.items p.space))
-ok_proposed h phrase factor list here horizon (Ok p) sealed some same of =
-    least_proposed h phrase factor list horizon p sealed some (subst (λ (l : List Posting). OfBoundaries horizon l (λ because. ⊥) (IsProposal l factor horizon p.segments.items p.nodes.items p.space)) same of)
-ok_proposed h phrase factor list here horizon (Err e) sealed some same of = tt
+ok_proposed h phrase word factor list here horizon (Ok p) sealed some same of =
+    least_proposed h phrase word factor list horizon p sealed some (subst (λ (l : List Posting). OfBoundaries horizon l (λ because. ⊥) (IsProposal l factor horizon p.segments.items p.nodes.items p.space)) same of)
+ok_proposed h phrase word factor list here horizon (Err e) sealed some same of = tt
 
 -- a phrase that is refused before its list is planned
 pub phrase_refused : (h : History) (phrase : List ℕ) (factor : Fraction) (why : Refusal) → OfPhrase h (one_term phrase) (λ because. why ≡ because) (λ word list. ⊥) → Proposes h phrase factor (Refused why)
@@ -190,10 +186,10 @@ takes_propose h phrase factor (Ok p) d a refused proposes kept =
 takes_propose h phrase factor (Err (asks.Refused why)) d a refused proposes kept =
     takes_question h (items.Command (commands.Propose phrase factor)) (Refused why) (proposed (Err (asks.Refused why))) d d a (refl, refused why refl) refl kept refl
 takes_propose h phrase factor (Err asks.Failed) d a refused proposes kept =
-    let any = each_proposes h phrase factor kept.stands.loadable in
+    let any = each_proposes h phrase factor kept.legal in
     takes_question h (items.Command (commands.Propose phrase factor)) any.0 Faulted d d a (refl, any.1) refl kept tt
 takes_propose h phrase factor (Err asks.Memory) d a refused proposes kept =
-    let any = each_proposes h phrase factor kept.stands.loadable in
+    let any = each_proposes h phrase factor kept.legal in
     takes_question h (items.Command (commands.Propose phrase factor)) any.0 Starved d d a (refl, any.1) refl kept tt
 
 -- errors that are the same in two results

@@ -41,7 +41,7 @@ arrive_refused cs h doc at text v why placed short good refused same =
 pub words_refused : (cs : List (Change TextPlace)) (h : History) (doc : DocId) (at : Time) (text : List ℕ) → ArePlaced 16 h cs → length text ≤ most_text → IsUtf8 text → arrive_refusal doc at cs ≡ None
     → 2 ^ 20 < length (words_in (changes h ++ record { doc = doc; at = at; held = Some text } ∷ [])) → arrival_refusal h doc at text ≡ Some (Full Words (limit_of Words))
 words_refused cs h doc at text placed short good allowed over =
-    let full = words_full h (Arrive doc at text) over in
+    let full = words_full h (Arrive doc at text) tt over in
     arrival_refused-good h doc at text short good
     ∙ cause-not_allowed h (Arrive doc at text) (Full Words (limit_of Words))
     (arrival-words h doc at text (sym (arrival_as cs h doc at placed) ∙ allowed) ∙ ap (λ (o : Option Refusal). first_of (o ∷ [])) full)
@@ -58,9 +58,9 @@ pub arrival_prepared : (cs : List (Change TextPlace)) (h : History) (doc : DocId
     → IsNext h (Arrive doc at text) (record { doc = doc; at = at; held = Some (length str) }) body × (arrival_refusal h doc at text ≡ first_of (full_journal h (Arrive doc at text) ∷ []))
 arrival_prepared cs h doc at text str body placed fits short good same allowed within spelled =
     let may : entry_refusal h (Arrive doc at text) ≡ None =
-    arrival-words h doc at text (sym (arrival_as cs h doc at placed) ∙ allowed) ∙ ap (λ (o : Option Refusal). first_of (o ∷ [])) (words_within h (Arrive doc at text) within) in (
+    arrival-words h doc at text (sym (arrival_as cs h doc at placed) ∙ allowed) ∙ ap (λ (o : Option Refusal). first_of (o ∷ [])) (words_within h (Arrive doc at text) tt within) in (
       record {
-        legal = record { ranges = (fits, at.before_now, short, good); allowed = may };
+        legal = record { ranges = (fits, at.before_now, short, good); allowed = may; planned = tt };
         makes = (refl, refl, ap (λ (l : List ℕ). Some (length l)) same);
         spelled = spelled ∙ ap (λ (l : List ℕ). spelling (Arrive doc at l)) same;
       },
@@ -74,7 +74,7 @@ pub deletion_prepared : (cs : List (Change TextPlace)) (h : History) (doc : DocI
 deletion_prepared cs h doc at body placed fits allowed spelled =
     let may : entry_refusal h (Delete doc at) ≡ None = sym (deletion_as cs h doc at placed) ∙ ap (option_map refusal_of) allowed in (
       record {
-        legal = record { ranges = (fits, at.before_now); allowed = may };
+        legal = record { ranges = (fits, at.before_now); allowed = may; planned = tt };
         makes = (refl, refl, refl);
         spelled = spelled;
       },

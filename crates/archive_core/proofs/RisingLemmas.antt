@@ -16,8 +16,11 @@ use Rattle.version_store.proofs.Latest.{changes_of-same, changes_of-other, last_
 use Rattle.version_store.proofs.Indexed.{same-is}
 use Rattle.version_store.proofs.Law.{last_of-cons}
 use Rattle.record_codec.specs.declared.entry.Entry.{Entry}
-use Rattle.record_codec.specs.declared.entry.Entry.TheVariants.{Arrive, Delete}
-use Rattle.archive_state.specs.Histories.{History, changes, acts, IsLegal, IsLegalEntry, AreLegalAfter}
+use Rattle.record_codec.specs.declared.entry.Entry.TheVariants.{Arrive, Delete, Planned}
+use Rattle.stored_plans.specs.Plans.{IsFitPlan}
+use Rattle.archive_state.specs.Histories.{History, changes, acts, entry_refusal}
+use Rattle.archive_state.specs.Legal.{IsLoadable}
+use Rattle.archive_state.proofs.LiveLemmas.{EachAllowed, come_allowed}
 use Rattle.archive_state.proofs.HistoryLemmas.{changes-push}
 use Rattle.archive_state.proofs.RefusalLemmas.{not_refused, arrival-allowed}
 
@@ -95,25 +98,29 @@ none_found : {W : Type 0} (o : Option W) (tests : List (Option W)) → first_of 
 none_found None tests none = (refl, none)
 none_found (Some why) tests none = absurd cc
 
-rising_more : (before h : History) → AreLegalAfter before h → IsRising (changes before) → IsRising (changes (before ++ h))
-rising_more before [] legal was = let P : History → Type 0 = λ g. IsRising (changes g) in subst P (sym (append-nil before)) was
-rising_more before (e ∷ h) legal was =
+rising_more : (before h : History) → EachAllowed before h → IsRising (changes before) → IsRising (changes (before ++ h))
+rising_more before [] allowed was = let P : History → Type 0 = λ g. IsRising (changes g) in subst P (sym (append-nil before)) was
+rising_more before (e ∷ h) allowed was =
     let P : History → Type 0 = λ g. IsRising (changes g) in
     let C : List (Change (List ℕ)) → Type 0 = λ cs. IsRising cs in
-    subst P (append_assoc before (e ∷ []) h) (rising_more (before ++ e ∷ []) h legal.1 (subst C (sym (changes-push before e)) (go e legal.0)))
+    subst P (append_assoc before (e ∷ []) h) (rising_more (before ++ e ∷ []) h allowed.1 (subst C (sym (changes-push before e)) (go e allowed.0)))
   where
-    go : (e : Entry) → IsLegalEntry before e → IsRising (changes before ++ acts e)
+    go : (e : Entry) → entry_refusal before e ≡ None → IsRising (changes before ++ acts e)
     go (Arrive doc at text) next =
         let cs = changes before in
-        let one = none_found (time_back at cs) (same_time doc at cs ∷ full_documents doc cs ∷ full_versions cs ∷ []) (arrival-allowed before doc at text next.allowed) in
+        let one = none_found (time_back at cs) (same_time doc at cs ∷ full_documents doc cs ∷ full_versions cs ∷ []) (arrival-allowed before doc at text next) in
         let two = none_found (same_time doc at cs) (full_documents doc cs ∷ full_versions cs ∷ []) one.1 in
         rising_push cs (record { doc = doc; at = at; held = Some text }) was one.0 two.0
     go (Delete doc at) next =
         let cs = changes before in
-        let one = none_found (time_back at cs) (no_document doc cs ∷ same_time doc at cs ∷ full_versions cs ∷ []) (not_refused _ next.allowed) in
+        let one = none_found (time_back at cs) (no_document doc cs ∷ same_time doc at cs ∷ full_versions cs ∷ []) (not_refused _ next) in
         let two = none_found (no_document doc cs) (same_time doc at cs ∷ full_versions cs ∷ []) one.1 in
         let three = none_found (same_time doc at cs) (full_versions cs ∷ []) two.1 in
         rising_push cs (record { doc = doc; at = at; held = None }) was one.0 three.0
+    go (Planned plan) next = let C : List (Change (List ℕ)) → Type 0 = λ cs. IsRising cs in subst C (sym (append-nil (changes before))) was
 
-pub legal_rises : (h : History) → IsLegal h → RiseByDocument (changes h)
-legal_rises h legal = (rising_more [] h legal (record { last = 0; all = All-nil (λ c. c.at.seconds ≤ 0); back = λ at none. omega arith; rise = λ doc. tt })).rise
+pub allowed_rises : (h : History) → EachAllowed [] h → RiseByDocument (changes h)
+allowed_rises h allowed = (rising_more [] h allowed (record { last = 0; all = All-nil (λ c. c.at.seconds ≤ 0); back = λ at none. omega arith; rise = λ doc. tt })).rise
+
+pub loadable_rises : (h : History) → IsLoadable h → RiseByDocument (changes h)
+loadable_rises h loads = allowed_rises h (come_allowed IsFitPlan [] h loads)

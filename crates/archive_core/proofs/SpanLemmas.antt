@@ -122,8 +122,8 @@ takes_between h span text (Err (asks.Refused why)) d a refused spans kept =
     let (place, read, is) = refused why refl in
     takes_question h (items.Command (commands.Between span text)) (Refused (refusals.BadQuery place)) (spanned (Err (asks.Refused why))) d d a (refl, (Err place, read, refl)) refl kept (sym (ap Refused is))
 takes_between h span text (Err asks.Failed) d a refused spans kept =
-    let any = each_spans h span text kept.stands.loadable in
+    let any = each_spans h span text kept.legal in
     takes_question h (items.Command (commands.Between span text)) any.0 Faulted d d a (refl, any.1) refl kept tt
 takes_between h span text (Err asks.Memory) d a refused spans kept =
-    let any = each_spans h span text kept.stands.loadable in
+    let any = each_spans h span text kept.legal in
     takes_question h (items.Command (commands.Between span text)) any.0 Starved d d a (refl, any.1) refl kept tt

@@ -1,7 +1,10 @@
 -- A call that carries out an item is a step of the abstract machine.
 use Rattle.std.proofs.Common.{◌≡◌, ℕ, List, [], ◌∷◌, ◌++◌, length, Option, Result, Ok, Err, OnOk, IfOk, refl, inl, inr, ap, subst, sym, arith, length-append}
 use Rattle.std.specs.Option.{option_map}
+use Rattle.machine_model.specs.Areas.{Bytes}
+use Rattle.machine_model.specs.Images.{MayLeave}
 use Rattle.machine_model.specs.States.{DiskState}
+use Rattle.archive_state.specs.Holding.{HoldsPlans}
 use Rattle.machine_model.specs.Calls.{OnlyReads}
 use Rattle.time_base.specs.declared.ids.DocId.{DocId}
 use Rattle.time_base.specs.declared.time.Time.{Time}
@@ -85,7 +88,12 @@ reads_lead h old new a kept same =
     })
 
 pub reads_keep : (h : History) (old new : DiskState) (a : ArchiveState) → IsKept old a h → OnlyReads old new → IsKept new a h
-reads_keep h old new a kept same = record { stands = kept.stands; in_step = step_reads old new a.end (bodies_of h) kept.in_step same }
+reads_keep h old new a kept same = record {
+  stands = kept.stands;
+  in_step = step_reads old new a.end (bodies_of h) kept.in_step same;
+  legal = kept.legal;
+  held = (let P : DiskState → Type 0 = λ d. (image : Bytes) → MayLeave d.now image → HoldsPlans h image.pages in subst P (sym same) kept.held);
+}
 
 -- the reply of a turn is the one that was given, if one was
 abbrev pub Gives : Reply → Ending → Type 0
@@ -114,10 +122,10 @@ takes_find h at text (Err (asks.Refused why)) d a refused finds kept =
     let (place, read, is) = refused why refl in
     takes_question h (items.Command (commands.Find at text)) (Refused (refusals.BadQuery place)) (found (Err (asks.Refused why))) d d a (refl, (Err place, read, refl)) refl kept (sym (ap Refused is))
 takes_find h at text (Err asks.Failed) d a refused finds kept =
-    let any = each_finds h at text kept.stands.loadable in
+    let any = each_finds h at text kept.legal in
     takes_question h (items.Command (commands.Find at text)) any.0 Faulted d d a (refl, any.1) refl kept tt
 takes_find h at text (Err asks.Memory) d a refused finds kept =
-    let any = each_finds h at text kept.stands.loadable in
+    let any = each_finds h at text kept.legal in
     takes_question h (items.Command (commands.Find at text)) any.0 Starved d d a (refl, any.1) refl kept tt
 
 -- a version that was asked for

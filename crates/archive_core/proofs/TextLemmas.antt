@@ -20,11 +20,11 @@ use Rattle.version_store.proofs.Mapped.{held_at-mapped}
 use Rattle.version_store.proofs.Holding.{held_has}
 use Rattle.record_codec.specs.Spelling.{spelling}
 use Rattle.record_codec.specs.declared.entry.Entry.{Entry}
-use Rattle.record_codec.specs.declared.entry.Entry.TheVariants.{Arrive, Delete}
+use Rattle.record_codec.specs.declared.entry.Entry.TheVariants.{Arrive, Delete, Planned}
 use Rattle.archive_state.specs.Histories.{History, changes, text_at}
 use Rattle.archive_state.specs.Stands.{bodies_of}
 use Rattle.archive_state.proofs.HistoryLemmas.{length_record}
-use Rattle.archive_core.specs.States.{ArchiveState, IsPlace, IsPlaced, ArePlaced, StandsFor, IsKept}
+use Rattle.archive_core.specs.States.{ArchiveState, IsPlace, BeginWith, ArePlaced, StandsFor, IsKept}
 use Rattle.archive_core.specs.Texts.{text_in, LiesIn}
 
 -- what stands in the record of an arrival before its text
@@ -68,31 +68,43 @@ arrival_text pre gate doc t text bodies rest at =
     ap (λ (l : List ℕ). take (length text) (drop (gate + 18) l)) is
     ∙ in_middle (pre ++ b) text (records bodies ++ rest) (gate + 18) (length text) (omega (arith, at, length-append pre b, length-before_text doc t text)) refl
 
--- the changes of entries are those with the places, each place with its text, wherever the records of the entries stand in the journal
+-- the changes of an entry are those with the places, where those of the entries behind it are
+begin_texts : (journal : List ℕ) (gate : ℕ) (e : Entry) (h : History) (cs : List (Change TextPlace)) (Rest : List (Change TextPlace) → Type 0)
+    → ((ds : List (Change TextPlace)) → Rest ds → map (mapped (text_in journal)) ds ≡ changes h)
+    → ((doc : DocId) (t : Time) (text : List ℕ) → e ≡ Arrive doc t text → take (length text) (drop (gate + 18) journal) ≡ text)
+    → BeginWith gate e cs Rest → map (mapped (text_in journal)) cs ≡ changes (e ∷ h)
+begin_texts journal gate (Arrive doc t text) h [] Rest more there begins = absurd begins
+begin_texts journal gate (Arrive doc t text) h (c ∷ cs) Rest more there begins =
+    let one = begins.0.0 in
+    let two = begins.0.1 in
+    let held = held_text journal text (gate + 18) (length text) c.held begins.0.2 (there doc t text refl) in
+    let rest = more cs begins.1 in
+    cc
+begin_texts journal gate (Delete doc t) h [] Rest more there begins = absurd begins
+begin_texts journal gate (Delete doc t) h (c ∷ cs) Rest more there begins =
+    let one = begins.0.0 in
+    let two = begins.0.1 in
+    let held = ap (option_map (text_in journal)) begins.0.2 in
+    let rest = more cs begins.1 in
+    cc
+begin_texts journal gate (Planned plan) h cs Rest more there begins = more cs begins
+
+-- so it is of all entries, wherever their records stand in the journal
 texts_behind : (pre : List ℕ) (gate : ℕ) (h : History) (cs : List (Change TextPlace)) (rest : List ℕ) → gate ≡ length pre → ArePlaced gate h cs
     → map (mapped (text_in (pre ++ (records (bodies_of h) ++ rest)))) cs ≡ changes h
 texts_behind pre gate [] [] rest at placed = refl
 texts_behind pre gate [] (c ∷ cs) rest at placed = absurd placed
-texts_behind pre gate (e ∷ h) [] rest at placed = absurd placed
-texts_behind pre gate (e ∷ h) (c ∷ cs) rest at placed =
-    let T : List ℕ → Type 0 = λ journal. map (mapped (text_in journal)) cs ≡ changes h in
-    go e placed.0 (subst T (behind_record pre (spelling e) (bodies_of h) rest)
-    (texts_behind (pre ++ record_bytes (spelling e)) (gate + 5 + length (spelling e)) h cs rest
-    (omega (arith, at, length-append pre (record_bytes (spelling e)), length_record (spelling e))) placed.1))
-  where
-    go : (e : Entry) → IsPlaced gate e c → map (mapped (text_in (pre ++ (records (bodies_of (e ∷ h)) ++ rest)))) cs ≡ changes h
-        → map (mapped (text_in (pre ++ (records (bodies_of (e ∷ h)) ++ rest)))) (c ∷ cs) ≡ changes (e ∷ h)
-    go (Arrive doc t text) is more =
-        let one = is.0 in
-        let two = is.1 in
-        let journal = pre ++ (records (spelling (Arrive doc t text) ∷ bodies_of h) ++ rest) in
-        let held = held_text journal text (gate + 18) (length text) c.held is.2 (arrival_text pre gate doc t text (bodies_of h) rest at) in
-        cc
-    go (Delete doc t) is more =
-        let one = is.0 in
-        let two = is.1 in
-        let held = ap (option_map (text_in (pre ++ (records (spelling (Delete doc t) ∷ bodies_of h) ++ rest)))) is.2 in
-        cc
+texts_behind pre gate (e ∷ h) cs rest at placed =
+    let then = gate + 5 + length (spelling e) in
+    begin_texts (pre ++ (records (bodies_of (e ∷ h)) ++ rest)) gate e h cs (ArePlaced then h)
+    (λ ds behind.
+    let T : List ℕ → Type 0 = λ journal. map (mapped (text_in journal)) ds ≡ changes h in
+    subst T (behind_record pre (spelling e) (bodies_of h) rest)
+    (texts_behind (pre ++ record_bytes (spelling e)) then h ds rest (omega (arith, at, length-append pre (record_bytes (spelling e)), length_record (spelling e))) behind))
+    (λ doc t text is.
+    let A : Entry → Type 0 = λ x. take (length text) (drop (gate + 18) (pre ++ (records (bodies_of (x ∷ h)) ++ rest))) ≡ text in
+    subst A (sym is) (arrival_text pre gate doc t text (bodies_of h) rest at))
+    placed
 
 -- so it is in a journal that spells the history's bodies
 pub texts_are : (journal : List ℕ) (h : History) (cs : List (Change TextPlace)) → Spells journal (bodies_of h) → ArePlaced 16 h cs → map (mapped (text_in journal)) cs ≡ changes h
@@ -122,19 +134,22 @@ lies_held : (end at n : ℕ) (held : Option TextPlace) → IsPlace at n held →
 lies_held end at n None placed within = absurd placed
 lies_held end at n (Some place) placed within = omega (arith, placed.0, placed.1, within)
 
+begin_lies : (end gate : ℕ) (e : Entry) (cs : List (Change TextPlace)) (Rest : List (Change TextPlace) → Type 0) → ((ds : List (Change TextPlace)) → Rest ds → All (λ c. LiesIn end c.held) ds)
+    → gate + 5 + length (spelling e) ≤ end → BeginWith gate e cs Rest → All (λ c. LiesIn end c.held) cs
+begin_lies end gate (Arrive doc t text) [] Rest more within begins = absurd begins
+begin_lies end gate (Arrive doc t text) (c ∷ cs) Rest more within begins =
+    All-cons (λ c. LiesIn end c.held) c cs (lies_held end (gate + 18) (length text) c.held begins.0.2 (omega (arith, within))) (more cs begins.1)
+begin_lies end gate (Delete doc t) [] Rest more within begins = absurd begins
+begin_lies end gate (Delete doc t) (c ∷ cs) Rest more within begins = All-cons (λ c. LiesIn end c.held) c cs (subst (LiesIn end) (sym begins.0.2) tt) (more cs begins.1)
+begin_lies end gate (Planned plan) cs Rest more within begins = more cs begins
+
 lies_behind : (end gate : ℕ) (h : History) (cs : List (Change TextPlace)) → gate + sum_by (λ (x : Entry). length (spelling x) + 5) h ≤ end → ArePlaced gate h cs
     → All (λ c. LiesIn end c.held) cs
 lies_behind end gate [] [] within placed = All-nil (λ c. LiesIn end c.held)
 lies_behind end gate [] (c ∷ cs) within placed = absurd placed
-lies_behind end gate (e ∷ h) [] within placed = absurd placed
-lies_behind end gate (e ∷ h) (c ∷ cs) within placed =
+lies_behind end gate (e ∷ h) cs within placed =
     let more = sum_by-cons (λ (x : Entry). length (spelling x) + 5) e h in
-    All-cons (λ c. LiesIn end c.held) c cs (go e placed.0 (omega (arith, within, more)))
-    (lies_behind end (gate + 5 + length (spelling e)) h cs (omega (arith, within, more)) placed.1)
-  where
-    go : (e : Entry) → IsPlaced gate e c → gate + 5 + length (spelling e) ≤ end → LiesIn end c.held
-    go (Arrive doc t text) is within = lies_held end (gate + 18) (length text) c.held is.2 (omega (arith, within))
-    go (Delete doc t) is within = subst (LiesIn end) (sym is.2) tt
+    begin_lies end gate e cs (ArePlaced (gate + 5 + length (spelling e)) h) (λ ds behind. lies_behind end (gate + 5 + length (spelling e)) h ds (omega (arith, within, more)) behind) (omega (arith, within, more)) placed
 
 pub all_lie : (a : ArchiveState) (h : History) → StandsFor a h → All (λ c. LiesIn a.end c.held) a.changes
 all_lie a h stands = lies_behind a.end 16 h a.changes (omega (arith, stands.end_is)) stands.changes_are

@@ -14,32 +14,39 @@ use Rattle.archive_core.specs.declared.preparing.Unprepared.{Unprepared}
 use Rattle.archive_core.specs.declared.preparing.Unprepared.TheVariants as unprepared
 use Rattle.record_codec.specs.Spelling.{spelling}
 use Rattle.record_codec.specs.declared.entry.Entry.{Entry}
-use Rattle.record_codec.specs.declared.entry.Entry.TheVariants.{Arrive, Delete}
-use Rattle.archive_core.specs.States.{ArchiveState, StandsFor, IsPlace}
+use Rattle.record_codec.specs.declared.entry.Entry.TheVariants.{Arrive, Delete, Planned}
+use Rattle.time_base.specs.declared.extent.Extent.{Extent}
+use Rattle.page_store.specs.Taken.{HasTaken}
+use Rattle.archive_core.specs.States.{ArchiveState, ShelfState, StandsFor, IsPlace}
 use Rattle.archive_core.specs.declared.error.ChangeError.{ChangeError}
 use Rattle.archive_core.specs.declared.error.ChangeError.TheVariants as changes
-use Rattle.archive_state.specs.Histories.{History, IsLegalEntry}
+use Rattle.archive_state.specs.Histories.{History}
+use Rattle.archive_state.specs.Legal.{IsLegalEntry}
 use Rattle.version_index.specs.Indexing.{ComesLater}
 use Rattle.version_index.specs.Indexes.{IndexState, Indexes, IsPreparedFor, seen}
 use Rattle.version_index.specs.declared.prepared.Prepared.{Prepared as Words}
 
--- the change that an entry makes, with the length of its text
+-- the change that an entry makes, with the length of its text; a plan makes none
 abbrev pub Makes : Entry → Change ℕ → Type 0
 Makes (Arrive doc at text) change = (doc ≡ change.doc) × (at ≡ change.at) × (change.held ≡ Some (length text))
 Makes (Delete doc at) change = (doc ≡ change.doc) × (at ≡ change.at) × (change.held ≡ None)
+Makes (Planned plan) change = ⊥
 
--- the document of an entry, its time, and the text that it has then
+-- the document of a change, its time, and the text that it has then (a plan, which changes no document, has its horizon and no text)
 abbrev pub document_of : Entry → DocId
 document_of (Arrive doc at text) = doc
 document_of (Delete doc at) = doc
+document_of (Planned plan) = record { 0 = 0 }
 
 abbrev pub time_of : Entry → Time
 time_of (Arrive doc at text) = at
 time_of (Delete doc at) = at
+time_of (Planned plan) = plan.horizon
 
 abbrev pub text_of : Entry → Option (List ℕ)
 text_of (Arrive doc at text) = Some text
 text_of (Delete doc at) = None
+text_of (Planned plan) = None
 
 -- an entry may come next after a history, makes this change, and has this spelling
 pub record IsNext (history : History) (entry : Entry) (change : Change ℕ) (body : List ℕ) : Type 0 where
@@ -67,8 +74,14 @@ pub record IsMore (old new : ArchiveState) (change : Change ℕ) (body : List �
   pub held : Option TextPlace
   pub held_is : IsHeld (old.end + 17) change.held held
   pub changes_are : new.changes ≡ old.changes ++ record { doc = change.doc; at = change.at; held = held } ∷ []
+  pub shelf_is : new.shelf ≡ old.shelf
   pub indexed : (texts : List (Change (List ℕ))) (doc : DocId) (text : Option (List ℕ)) → Indexes old.index texts → IsPreparedFor old.index doc text words
       → ComesLater texts (record { doc = doc; at = change.at; held = text }) → Indexes new.index (texts ++ record { doc = doc; at = change.at; held = text } ∷ [])
+
+-- the same plans, and the same extents are taken
+pub record HasSameShelf (old new : ShelfState) : Type 0 where
+  pub plans_are : new.plans ≡ old.plans
+  pub taken : (extents : List Extent) → HasTaken old.pages extents → HasTaken new.pages extents
 
 -- an archive that is spent has what it had, and may be changed no more
 pub record IsSpent (old new : ArchiveState) : Type 0 where
@@ -76,6 +89,7 @@ pub record IsSpent (old new : ArchiveState) : Type 0 where
   pub length_is : new.length ≡ old.length
   pub changes_are : new.changes ≡ old.changes
   pub index_is : seen new.index ≡ seen old.index
+  pub shelf_is : HasSameShelf old.shelf new.shelf
   pub live_is : new.live ≡ false
 
 -- An entry is prepared that may come next after a history, but for the journal's room; or this is why it may not.

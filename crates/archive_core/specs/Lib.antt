@@ -7,3 +7,5 @@ pub mod Replaying
 pub mod Causes
 pub mod Takes
 pub mod Parts
+pub mod Shelves
+pub mod Storing

@@ -1,13 +1,12 @@
 -- A word's list up to the last time, as it is planned.
-use Rattle.std.specs.Prelude.{◌≡◌, ℕ, List, Option, Some}
+use Rattle.std.specs.Prelude.{◌≡◌, ℕ, List, Some}
 use Rattle.time_base.specs.declared.posting.Posting.{Posting}
 use Rattle.fold_tokens.specs.Terms.{one_term}
 use Rattle.archive_state.specs.Histories.{History}
 use Rattle.archive_state.specs.Planning.{IsKnown, IsListUpTo, last_second}
 
 -- the phrase is one term that the history knows, and this is its list up to the last time
-pub record IsSealed (history : History) (phrase : List ℕ) (list : List Posting) (horizon : ℕ) : Type 0 where
-  pub word : List ℕ
+pub record IsSealed (history : History) (phrase word : List ℕ) (list : List Posting) (horizon : ℕ) : Type 0 where
   pub word_is : one_term phrase ≡ Some word
   pub known : IsKnown history word
   pub list_is : IsListUpTo history word (last_second history) list

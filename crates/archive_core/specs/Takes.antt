@@ -7,11 +7,12 @@ use Rattle.proposals.specs.declared.proposal.Proposal.{Proposal}
 use Rattle.query_eval.specs.declared.answer.Answer.{Answer}
 use Rattle.query_eval.specs.declared.spans.SpanAnswer.{SpanAnswer}
 use Rattle.archive_state.specs.Histories.{History}
-use Rattle.archive_state.specs.Steps.{Reply, Accepted, Refused, Found, Spanned, Shown, Proposed, Step}
+use Rattle.archive_state.specs.Steps.{Reply, Accepted, Refused, Found, Spanned, Shown, Proposed, Planned, Summary, Step}
 use Rattle.archive_state.specs.Runs.{Turn}
 use Rattle.archive_state.specs.Stands.{EachStands}
 use Rattle.archive_core.specs.States.{ArchiveState, IsKept}
 use Rattle.archive_core.specs.Changing.{LeadsTo}
+use Rattle.archive_core.specs.declared.storing.PlanReport.{PlanReport}
 use Rattle.archive_core.specs.declared.error.ChangeError.{ChangeError}
 use Rattle.archive_core.specs.declared.error.ChangeError.TheVariants as changes
 use Rattle.archive_core.specs.declared.error.AskError.{AskError}
@@ -23,12 +24,22 @@ pub data Ending : Type 0 where
   Starved : Ending
   Faulted : Ending
 
--- how a change ends, and how questions do
+-- how changes end, and how questions do
+abbrev pub unchanged : ChangeError → Ending
+unchanged (changes.Refused why) = Replied (Refused why)
+unchanged changes.Failed = Faulted
+unchanged changes.Memory = Starved
+
 abbrev pub changed : Result ℕ ChangeError → Ending
 changed (Ok length) = Replied (Accepted length)
-changed (Err (changes.Refused why)) = Replied (Refused why)
-changed (Err changes.Failed) = Faulted
-changed (Err changes.Memory) = Starved
+changed (Err error) = unchanged error
+
+abbrev pub summary_of : PlanReport → Summary
+summary_of r = record { length = r.length; segments = r.segments; space = r.space; full = r.full; horizon = r.horizon.seconds }
+
+abbrev pub planned : Result PlanReport ChangeError → Ending
+planned (Ok report) = Replied (Planned (summary_of report))
+planned (Err error) = unchanged error
 
 abbrev pub declined : AskError → Ending
 declined (asks.Refused why) = Replied (Refused why)

@@ -5,10 +5,14 @@ ghost use Rattle.time_base.specs.Limits.{limit_of};
 ghost use Rattle.gate_journal.specs.InStep.{IsInStep};
 ghost use Rattle.gate_journal.specs.Crash.{Appends, KeepsPages};
 ghost use Rattle.archive_state.specs.Histories.{History};
-ghost use Rattle.archive_state.specs.Steps.{arrival_refusal, deletion_refusal};
+ghost use Rattle.archive_state.specs.Steps.{Planned, Plans, Refused, arrival_refusal, deletion_refusal};
+ghost use Rattle.archive_state.specs.Plans.{live_extents};
+ghost use Rattle.record_codec.specs.declared.plan.PlanEntry.{PlanEntry};
+ghost use Rattle.archive_core.specs.Storing.{IsDraft, IsFull, IsStoredAs, NotDrafted, NotReady, tells_of};
+ghost use Rattle.commands.specs.declared.command.Kind.TheVariants as kinds;
 ghost use Rattle.archive_core.specs.States.{StandsFor, IsKept, Reaches};
 ghost use Rattle.archive_core.specs.Changing.{LeadsTo};
-ghost use Rattle.archive_core.specs.Takes.{Takes, changed};
+ghost use Rattle.archive_core.specs.Takes.{Takes, changed, planned, summary_of};
 ghost use Rattle.record_codec.specs.declared.entry.Entry.{Entry};
 ghost use Rattle.archive_core.specs.Adding.{Adds, GivesUp, IsMore, IsNext, IsPrepared, IsSpent, document_of, text_of, change_refusal};
 ghost use Rattle.version_index.specs.Indexes.{IsPreparedFor, state_of};
@@ -19,14 +23,17 @@ ghost use Rattle.commands.specs.declared.command.Item.TheVariants as items;
 ghost use Rattle.commands.specs.declared.text.Text.TheVariants as texts;
 
 use crate::change::{TEXT_AT, note, placed};
-use crate::error::ChangeError;
+use crate::error::{AskError, ChangeError};
 use crate::preparing::{Prepared, Unprepared, prepare_arrival, prepare_deletion};
+use crate::shelf::Shelf;
+use crate::storing::{Draft, PlanReport, make_ready, write_ready};
 use archive_state::Refusal;
+use commands::Phrase;
 use gate_journal::{Frame, Journal};
 use machine_model::Disk;
 use std::alloc::Global;
 use std::marker::Model;
-use time_base::{DocId, Time, Which};
+use time_base::{DocId, Fraction, Time, Which};
 use version_index::Index;
 use version_store::Directory;
 
@@ -36,6 +43,7 @@ pub struct Archive {
     journal: Journal,
     directory: Directory,
     index: Index,
+    shelf: Shelf,
     entries: u64,
     live: bool,
 }
@@ -48,29 +56,37 @@ impl Model for Archive {
 
     ghost Value = { ArchiveState };
 
-    ghost view = { λ a. record { end = a.journal.end; live = a.live; length = a.entries; changes = a.directory.changes; index = state_of a.index } };
+    ghost view = { λ a. record { end = a.journal.end; live = a.live; length = a.entries; changes = a.directory.changes; index = state_of a.index; shelf = a.shelf } };
 
     // It stands for a history, which it shows on any disk.
     ghost invariant = { λ a. (IsTrue a.live → IsTrue a.journal.live) × (a.entries + 17 ≤ a.journal.end)
-        × ((h : History) × StandsFor (record { end = a.journal.end; live = a.live; length = a.entries; changes = a.directory.changes; index = state_of a.index }) h) };
+        × ((h : History) × StandsFor (record { end = a.journal.end; live = a.live; length = a.entries; changes = a.directory.changes; index = state_of a.index; shelf = a.shelf }) h) };
 }
 
 impl Archive {
-    // The archive of a loaded journal, by the changes of its entries and the index of their texts.
-    pub(crate) fn of(journal: Journal, directory: Directory, index: Index, entries: u64) -> Archive
+    // The archive of a loaded journal, by the changes of its entries, the index of their texts and the live plans.
+    pub(crate) fn of(
+        journal: Journal,
+        directory: Directory,
+        index: Index,
+        shelf: Shelf,
+        entries: u64,
+    ) -> Archive
         requires live { IsTrue journal.live }
         requires few { entries + 17 ≤ journal.end }
-        requires stands { (h : History) × StandsFor (record { end = journal.end; live = true; length = entries; changes = directory.changes; index = state_of index }) h }
+        requires stands { (h : History) × StandsFor (record { end = journal.end; live = true; length = entries; changes = directory.changes; index = state_of index; shelf = shelf }) h }
         ensures end { result.end ≡ journal.end }
         ensures live { IsTrue result.live }
         ensures length { result.length ≡ entries }
         ensures changes { result.changes ≡ directory.changes }
         ensures index { result.index ≡ state_of index }
+        ensures shelf { result.shelf ≡ shelf }
     {
         Archive {
             journal,
             directory,
             index,
+            shelf,
             entries,
             live: true,
         }
@@ -111,6 +127,14 @@ impl Archive {
         ensures { state_of result.now ≡ self.now.index }
     {
         &self.index
+    }
+
+    /// The live plans. Constant cost.
+    pub(crate) fn shelf(&self) -> &Shelf
+        ensures shelf { result.now ≡ self.now.shelf }
+        ensures stands { (h : History) × StandsFor self.now h }
+    {
+        &self.shelf
     }
 
     /// Adds a version of a document, and answers how many entries there are. At `Ok` the entry is
@@ -191,6 +215,119 @@ impl Archive {
     {
         let prepared = prepare_deletion(alloc, &self.directory, &mut self.index, doc, at);
         self.add(alloc, disk, prepared)
+    }
+
+    /// Stores a least plan of a word's list up to the last time, in which each read costs at most the
+    /// factor times what is alive, in the place of the word's plan if it has one. At `Ok` it is
+    /// durable: each image that a stop may leave has it, with its sublists. All memory is taken
+    /// before the first write.
+    ///
+    /// `Refused`: for the first cause in order, the phrase isn't one term, no text has the word, it has no
+    /// posting before the last time, its list has too many boundaries, or Pages or the journal
+    /// are full. `Failed`, `Memory`: the archive is spent, and keeps what it had.
+    /// Costs `n log n` in the word's postings; a pass over them for each segment; the sublists' bytes,
+    /// hashed and written once; a sync; and two synced writes of the entry.
+    pub fn plan<D: Disk>(
+        &mut self,
+        alloc: Global,
+        disk: &mut D,
+        word: &Phrase,
+        factor: Fraction,
+    ) -> Result<PlanReport, ChangeError>
+        requires live { IsTrue self.old.live }
+        requires within { Reaches (D.disk disk.old).reach self.old }
+        ensures only { D.Disk.only disk.old disk.new }
+        ensures failed { IsErrOf result ChangeError.Failed → Rose (D.disk disk.old).faults (D.disk disk.new).faults }
+        ensures within { Reaches (D.disk disk.new).reach self.new }
+        // It is live unless it is spent.
+        ensures live { IsTrue self.new.live ↔ (IsOk result ⊎ ((why : Refusal) × IsErrOf result (ChangeError.Refused why))) }
+        // On any disk, whatever history it stood for: a refusal has its cause there, and comes wherever there is one (but for want of memory); at Ok
+        // the archive stands for a history with a plan that may be stored.
+        ensures refused { (h : History) → StandsFor self.old h → (why : Refusal) → IsErrOf result (ChangeError.Refused why) → Plans h word.now factor (Refused why) h × StandsFor self.new h }
+        ensures stores { (h : History) → StandsFor self.old h → IfOk result (λ r. (next : History) × (Plans h word.now factor (Planned (summary_of r)) next × StandsFor self.new next)) }
+        ensures same { (why : Refusal) → IsErrOf result (ChangeError.Refused why) → disk.new ≡ disk.old }
+        // All memory is taken before the first call of the disk.
+        ensures memory { IsErrOf result ChangeError.Memory → disk.new ≡ disk.old }
+        // Where it is spent, it has the entries, the texts and the plans that it had.
+        ensures spent { (IsErrOf result ChangeError.Memory ⊎ IsErrOf result ChangeError.Failed) → IsSpent self.old self.new }
+        // In step, it is a step of the abstract machine; each image left since stands for the history before it or after it.
+        ensures takes { D.disk_tells → (h : History) → IsKept (D.disk disk.old) self.old h → Takes h (items.Command (commands.Plan word.now kinds.Guarantee factor)) (planned result) (D.disk disk.old) (D.disk disk.new) self.new }
+    {
+        match self.draft(alloc, word, factor) {
+            Ok(draft) => self.store(alloc, disk, draft),
+            Err(why) => self.not_drafted(why),
+        }
+    }
+
+    // A plan that was not drafted: it is refused, or there was no memory for it.
+    fn not_drafted(&mut self, why: AskError) -> Result<PlanReport, ChangeError>
+        ensures { NotDrafted why result self.old self.new }
+    {
+        match why {
+            AskError::Refused(why) => Err(ChangeError::Refused(why)),
+            AskError::Failed | AskError::Memory => {
+                self.live = false;
+                Err(ChangeError::Memory)
+            }
+        }
+    }
+
+    // Stores a draft, if there is room for it.
+    fn store<D: Disk>(
+        &mut self,
+        alloc: Global,
+        disk: &mut D,
+        draft: Draft,
+    ) -> Result<PlanReport, ChangeError>
+        requires live { IsTrue self.old.live }
+        requires within { Reaches (D.disk disk.old).reach self.old }
+        requires drafted { (h : History) → StandsFor self.old h → IsDraft h draft }
+        ensures only { D.Disk.only disk.old disk.new }
+        ensures failed { IsErrOf result ChangeError.Failed → Rose (D.disk disk.old).faults (D.disk disk.new).faults }
+        ensures within { Reaches (D.disk disk.new).reach self.new }
+        ensures live { IsTrue self.new.live ↔ (IsOk result ⊎ ((why : Refusal) × IsErrOf result (ChangeError.Refused why))) }
+        ensures refused { (h : History) → StandsFor self.old h → (why : Refusal) → IsErrOf result (ChangeError.Refused why) → IsFull draft (live_extents h) self.old.end why × StandsFor self.new h }
+        ensures stores { (h : History) → StandsFor self.old h → IfOk result (λ r. (plan : PlanEntry) × (IsStoredAs h draft plan × (summary_of r ≡ tells_of draft (length h + 1)) × StandsFor self.new (h ++ entries.Planned plan ∷ []))) }
+        ensures same { (why : Refusal) → IsErrOf result (ChangeError.Refused why) → disk.new ≡ disk.old }
+        ensures memory { IsErrOf result ChangeError.Memory → disk.new ≡ disk.old }
+        ensures spent { (IsErrOf result ChangeError.Memory ⊎ IsErrOf result ChangeError.Failed) → IsSpent self.old self.new }
+        ensures leads { D.disk_tells → (h : History) → IsKept (D.disk disk.old) self.old h → IsOk result ⊎ IsErrOf result ChangeError.Failed →
+            (plan : PlanEntry) × (IsStoredAs h draft plan × LeadsTo h (h ++ entries.Planned plan ∷ []) (D.disk disk.old) (D.disk disk.new)
+            × IfOk result (λ r. (summary_of r ≡ tells_of draft (length h + 1)) × IsKept (D.disk disk.new) self.new (h ++ entries.Planned plan ∷ []))) }
+        ensures stays { (h : History) → StandsFor self.old h → ((why : Refusal) × IsErrOf result (ChangeError.Refused why)) ⊎ IsErrOf result ChangeError.Memory → StandsFor self.new h }
+    {
+        let ready = match make_ready(
+            alloc,
+            self.journal.end(),
+            self.entries,
+            &mut self.shelf,
+            draft,
+        ) {
+            Ok(ready) => ready,
+            Err(why) => return self.not_ready(why),
+        };
+        self.live = false;
+        match write_ready(disk, &mut self.journal, &mut self.shelf, ready) {
+            Ok(report) => {
+                self.entries += 1;
+                self.live = true;
+                Ok(report)
+            }
+            Err(_) => Err(ChangeError::Failed),
+        }
+    }
+
+    // A plan for which there is no room, or no memory.
+    fn not_ready(&mut self, why: Unprepared) -> Result<PlanReport, ChangeError>
+        ensures { NotReady why result self.old self.new }
+    {
+        match why {
+            Unprepared::Refused(why) => Err(ChangeError::Refused(why)),
+            Unprepared::Memory => {
+                self.live = false;
+                Err(ChangeError::Memory)
+            }
+        }
     }
 
     // Adds what was prepared, or hands on why it was not.
@@ -292,7 +429,7 @@ impl Archive {
 }
 
 // The refusal of an entry for which the journal has no room.
-fn full_journal() -> Refusal
+pub(crate) fn full_journal() -> Refusal
     ensures { result ≡ Refusal.Full Which.Journal (limit_of Which.Journal) }
 {
     Refusal::Full {

@@ -1,33 +1,12 @@
 //! A change of a document, on its way from an entry to the directory.
 ghost use Rattle.std.specs.Prelude.{◌≡◌, ◌+◌, ◌<◌, ◌≤◌, ◌^◌, ◌++◌, [], ◌∷◌, Some, None, MatchResult};
-ghost use Rattle.record_codec.specs.Spelling.{HasShortText};
-ghost use Rattle.archive_core.specs.Adding.{Makes, IsHeld, change_refusal};
+ghost use Rattle.archive_core.specs.Adding.{IsHeld, change_refusal};
 
-use record_codec::Entry;
 use time_base::TextPlace;
 use version_store::{Change, Directory, VersionRefusal};
 
 /// Where the text of an arrival begins in its spelling, behind the tag, the document and the time.
 pub(crate) const TEXT_AT: u64 = 13;
-
-/// The change that an entry makes, with the length of its text. Constant cost.
-pub(crate) fn change_of(entry: &Entry) -> Change<u32>
-    requires { HasShortText entry.now }
-    ensures { Makes entry.now result }
-{
-    match entry {
-        Entry::Arrive { doc, at, text } => Change {
-            doc: *doc,
-            at: *at,
-            held: Some(text.as_str().len() as u32),
-        },
-        Entry::Delete { doc, at } => Change {
-            doc: *doc,
-            at: *at,
-            held: None,
-        },
-    }
-}
 
 /// Whether a change may come next, or the first cause why not. It costs one look-up.
 pub(crate) fn may_come(directory: &Directory, change: Change<u32>) -> Result<(), VersionRefusal>

@@ -13,7 +13,7 @@ pub enum LoadError {
     Failed,
     /// The journal is no archive's, which shows at that place: of a byte that differs from the
     /// header, of an open gate whose record lies past the end or isn't legal, or of the first field
-    /// of an entry that isn't allowed.
+    /// of an entry that isn't allowed; or of the gate of a plan whose places lie badly.
     NotArchive {
         /// The place in the journal.
         at: u64,
@@ -159,5 +159,16 @@ impl From<JournalError> for LoadError {
             JournalError::NotJournal { at } => LoadError::NotArchive { at },
             JournalError::Memory => LoadError::Memory,
         }
+    }
+}
+
+impl From<Failed> for LoadError {
+    ghost use Rattle.archive_core.specs.declared.error.LoadError.TheVariants.{Failed};
+    ghost use Rattle.std.specs.Prelude.{◌≡◌};
+
+    ghost from_gives = { λ _ e. e ≡ Failed };
+
+    fn from(_: machine_model::Failed) -> Self {
+        LoadError::Failed
     }
 }

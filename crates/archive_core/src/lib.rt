@@ -8,6 +8,7 @@
 
 mod archive;
 mod asking;
+mod certifying;
 mod change;
 mod error;
 mod laws;
@@ -15,6 +16,8 @@ mod loading;
 mod planning;
 mod preparing;
 mod replaying;
+mod shelf;
+mod storing;
 mod text;
 mod texts;
 mod window;
@@ -23,3 +26,4 @@ mod windows;
 pub use archive::Archive;
 pub use error::{AskError, ChangeError, LoadError};
 pub use laws::an_archive_in_step_stands;
+pub use storing::PlanReport;

@@ -5,15 +5,16 @@ ghost use Rattle.machine_model.specs.Calls.{Syncs};
 ghost use Rattle.gate_journal.specs.Spelled.{Spells};
 ghost use Rattle.gate_journal.specs.Crash.{KeepsPages};
 ghost use Rattle.archive_state.specs.Histories.{History};
-ghost use Rattle.archive_state.specs.Stands.{EachStands, IsNotArchive, bodies_of};
+ghost use Rattle.archive_state.specs.Stands.{Stands, EachStands, IsNotArchive, bodies_of};
 ghost use Rattle.archive_core.specs.States.{StandsFor, IsKept, Reaches};
 ghost use Rattle.archive_core.specs.Changing.{KeepsHistory};
 
 use crate::archive::Archive;
 use crate::error::LoadError;
 use crate::replaying::{Replayed, replay};
+use crate::shelf::Shelf;
 use gate_journal::Journal;
-use machine_model::Disk;
+use machine_model::{Area, Disk};
 use std::alloc::Global;
 
 impl Archive {
@@ -22,10 +23,12 @@ impl Archive {
     ///
     /// `NotArchive`: the journal is no archive's, which shows at that place: the first byte that
     /// differs from the header, an open gate whose record lies past the end, the first field of an
-    /// entry that is cut short or not allowed, or the gate of an entry that may not come after those
-    /// before it. `Failed`: the disk failed. `Memory`: there was none.
+    /// entry that is cut short or not allowed, the gate of an entry that may not come after those
+    /// before it, or the gate of the plan of the first live place that lies outside Pages or shares a
+    /// page with an earlier one. `Failed`: the disk failed. `Memory`: there was none.
     /// Costs time in the length of the journal, which is read in pieces of 64 KiB or a whole body,
-    /// two look-ups an entry, the words of all texts, and n log n in their counts.
+    /// two look-ups an entry, the words of all texts, n log n in their counts and in the postings of
+    /// each plan's word, and a search among free runs for each live place. No page is read.
     pub fn load<D: Disk>(alloc: Global, disk: &mut D) -> Result<Archive, LoadError>
         ensures only { D.Disk.only disk.old disk.new }
         ensures failed { IsErrOf result LoadError.Failed → Rose (D.disk disk.old).faults (D.disk disk.new).faults }
@@ -33,13 +36,13 @@ impl Archive {
         ensures live { IfOk result (λ a. IsTrue a.live) }
         ensures within { IfOk result (λ a. Reaches (D.disk disk.new).reach a) }
         ensures stands { IfOk result (λ a. (h : History) × StandsFor a h) }
-        // What it answers of the bytes that reads gave at the start.
+        // What it answers of the bytes that reads gave at the start; where they stand for a history, it is the one loaded.
         ensures not_archive { D.disk_tells → (at : ℕ) → IsErrOf result (LoadError.NotArchive at) → IsNotArchive (D.disk disk.old).holds at }
-        ensures found { D.disk_tells → IfOk result (λ a. (h : History) × IsKept (D.disk disk.new) a h × Spells (D.disk disk.old).holds.journal (bodies_of h)) }
+        ensures found { D.disk_tells → IfOk result (λ a. (h : History) × (StandsFor a h × Spells (D.disk disk.old).holds.journal (bodies_of h))) }
+        ensures kept { D.disk_tells → (h : History) → Stands h (D.disk disk.old).holds → IfOk result (λ a. IsKept (D.disk disk.new) a h) }
         ensures exact { D.disk_tells → OnOk result ((at : ℕ) → IsNotArchive (D.disk disk.old).holds at → ⊥) }
-        // Where each image stands for one history, each image left since stands for it, and it is the one loaded.
+        // Where each image stands for one history, each image left since stands for it.
         ensures crash { D.disk_tells → (h : History) → EachStands (D.disk disk.old) h → KeepsHistory h (D.disk disk.old) (D.disk disk.new) }
-        ensures finds { D.disk_tells → (h : History) → EachStands (D.disk disk.old) h → IfOk result (λ a. IsKept (D.disk disk.new) a h) }
         ensures never { D.disk_tells → (h : History) → EachStands (D.disk disk.old) h → (at : ℕ) → IsErrOf result (LoadError.NotArchive at) → ⊥ }
         // A journal that isn't new is synced and read, and nothing else.
         ensures longer { D.disk_tells → 17 < length (D.disk disk.old).holds.journal → Syncs (D.disk disk.old) (D.disk disk.new) }
@@ -47,7 +50,13 @@ impl Archive {
     {
         let (journal, heads) = Journal::load(alloc, disk)?;
         let replayed = replay(alloc, disk, &journal, &heads)?;
-        let Replayed { directory, index } = replayed;
-        Ok(Archive::of(journal, directory, index, heads.len() as u64))
+        let Replayed {
+            directory,
+            index,
+            plans,
+        } = replayed;
+        let reach = disk.length(Area::Pages)?;
+        let shelf = Shelf::of(alloc, plans, reach)?;
+        Ok(Archive::of(journal, directory, index, shelf, heads.len() as u64))
     }
 }

@@ -1,12 +1,16 @@
 //! What is planned for a word.
-ghost use Rattle.std.specs.Prelude.{◌≡◌, ◌<◌, ◌≤◌, ◌^◌, ℕ, List, [], ◌∷◌, length, All, IfOk, IsErrOf};
+ghost use Rattle.std.specs.Prelude.{◌≡◌, ◌<◌, ◌≤◌, ◌^◌, ℕ, List, [], ◌∷◌, length, drop, slice_index, All, IfOk, IsErrOf, Some};
+ghost use Rattle.time_base.specs.declared.posting.Posting.{Posting as PlainPosting};
+ghost use Rattle.elementary.specs.Counts.{Tabulates};
+ghost use Rattle.elementary.specs.Partitions.{IsFitting, IsLeast, AreBest, widest};
 ghost use Rattle.machine_model.specs.States.{DiskState};
 ghost use Rattle.fold_tokens.specs.Terms.{one_term as term_of};
 ghost use Rattle.postings.specs.ListsOf.{IsListOf};
 ghost use Rattle.proposals.specs.Proposals.{IsProposal};
+ghost use Rattle.record_codec.specs.PlanSpelling.{IsWord};
 ghost use Rattle.archive_state.specs.Histories.{History};
 ghost use Rattle.archive_state.specs.Planning.{IsKnown, IsListUpTo, OfBoundaries, OfPhrase, OfWord, last_second};
-ghost use Rattle.archive_state.specs.Steps.{Proposed, Proposes, Refused};
+ghost use Rattle.archive_state.specs.Steps.{Proposed, Proposes, Refused, spelled_key};
 ghost use Rattle.archive_core.specs.States.{StandsFor, IsKept};
 ghost use Rattle.archive_core.specs.Sealing.{IsSealed};
 ghost use Rattle.archive_core.specs.Takes.{Takes, proposed};
@@ -17,20 +21,22 @@ use crate::archive::Archive;
 use crate::error::AskError;
 use archive_state::Refusal;
 use commands::Phrase;
-use elementary::Table;
+use elementary::{Partition, Table};
 use fold_tokens::one_term;
 use guarantee_planner::{PlanError, plan};
+use plan_certificate::Certificate;
 use postings::clip;
 use proposals::Proposal;
 use std::alloc::{AllocError, Global};
 use time_base::{Fraction, Key, Posting, Span, Time};
 
 /// So many postings and more are not planned; the memory for them is never there.
-const MANY_POSTINGS: usize = 1 << 38;
+pub(crate) const MANY_POSTINGS: usize = 1 << 38;
 
-/// A word's list up to the last time.
+/// A word with its list up to the last time.
 #[derive(Drop)]
 pub(crate) struct Sealed {
+    pub(crate) word: Key,
     pub(crate) list: Vec<Posting>,
     pub(crate) horizon: Time,
 }
@@ -78,40 +84,46 @@ impl Archive {
     }
 
     /// The list of a phrase's word up to the last time, or why it can't be planned.
-    fn sealed(&self, alloc: Global, word: &Phrase) -> Result<Sealed, AskError>
+    pub(crate) fn sealed(&self, alloc: Global, word: &Phrase) -> Result<Sealed, AskError>
         ensures failed { IsErrOf result AskError.Failed → ⊥ }
         ensures refused { (h : History) → StandsFor self.now h → (why : Refusal) → IsErrOf result (AskError.Refused why) →
             OfPhrase h (term_of word.now) (λ because. why ≡ because) (λ word list. ⊥) }
-        ensures sealed { (h : History) → StandsFor self.now h → IfOk result (λ s. IsSealed h word.now s.list.items s.horizon.seconds) }
+        ensures sealed { (h : History) → StandsFor self.now h → IfOk result (λ s. IsSealed h word.now s.word s.list.items s.horizon.seconds) }
         ensures some { IfOk result (λ s. 0 < length s.list.items) }
         ensures few { IfOk result (λ s. length s.list.items < 2 ^ 38) }
         ensures early { IfOk result (λ s. All (λ p. p.span.to ≤ s.horizon.seconds) s.list.items) }
+        // A term's key is text, so it is the word of an entry as it is.
+        ensures word { IfOk result (λ s. IsWord s.word) }
+        ensures term { IfOk result (λ s. spelled_key (term_of word.now) ≡ Some s.word) }
+        ensures spelled { (why : Refusal) → IsErrOf result (AskError.Refused why) → spelled_key (term_of word.now) ≡ term_of word.now }
     {
         let Some(key) = one_term(alloc, word.as_str())? else {
             return Err(AskError::Refused(Refusal::NotOneTerm));
         };
-        self.sealed_list(alloc, &key)
+        key_fits(&key);
+        self.sealed_list(alloc, key)
     }
 
     /// The list of a word up to the last time, or why it can't be planned.
-    fn sealed_list(&self, alloc: Global, key: &Key) -> Result<Sealed, AskError>
+    fn sealed_list(&self, alloc: Global, key: Key) -> Result<Sealed, AskError>
         ensures failed { IsErrOf result AskError.Failed → ⊥ }
         ensures refused { (h : History) → StandsFor self.now h → (why : Refusal) → IsErrOf result (AskError.Refused why) →
-            OfWord h key.now (λ because. why ≡ because) (λ list. ⊥) }
-        ensures known { (h : History) → StandsFor self.now h → IfOk result (λ s. IsKnown h key.now) }
-        ensures list { (h : History) → StandsFor self.now h → IfOk result (λ s. IsListUpTo h key.now (last_second h) s.list.items) }
+            OfWord h key (λ because. why ≡ because) (λ list. ⊥) }
+        ensures word { IfOk result (λ s. s.word ≡ key) }
+        ensures known { (h : History) → StandsFor self.now h → IfOk result (λ s. IsKnown h key) }
+        ensures list { (h : History) → StandsFor self.now h → IfOk result (λ s. IsListUpTo h key (last_second h) s.list.items) }
         ensures horizon { (h : History) → StandsFor self.now h → IfOk result (λ s. s.horizon.seconds ≡ last_second h) }
         ensures some { IfOk result (λ s. 0 < length s.list.items) }
         ensures few { IfOk result (λ s. length s.list.items < 2 ^ 38) }
         ensures early { IfOk result (λ s. All (λ p. p.span.to ≤ s.horizon.seconds) s.list.items) }
     {
-        if !self.index().knows(key) {
+        if !self.index().knows(&key) {
             return Err(AskError::Refused(Refusal::UnknownWord));
         }
         let Some(horizon) = self.directory().last() else {
             return Err(AskError::Refused(Refusal::NothingSealed));
         };
-        let whole = self.index().list(alloc, key)?;
+        let whole = self.index().list(alloc, &key)?;
         let list = list_up_to(alloc, &whole, horizon)?;
         if list.is_empty() {
             return Err(AskError::Refused(Refusal::NothingSealed));
@@ -119,12 +131,27 @@ impl Archive {
         if list.len() >= MANY_POSTINGS {
             return Err(AskError::Memory);
         }
-        Ok(Sealed { list, horizon })
+        Ok(Sealed {
+            word: key,
+            list,
+            horizon,
+        })
     }
 }
 
+/// A key may be the word of an entry. Does nothing.
+fn key_fits(key: &Key)
+    ensures { IsWord key.now }
+{
+    key.as_str();
+}
+
 /// A whole list, clipped to the times before a horizon. Costs its postings.
-fn list_up_to(alloc: Global, list: &[Posting], horizon: Time) -> Result<Vec<Posting>, AllocError>
+pub(crate) fn list_up_to(
+    alloc: Global,
+    list: &[Posting],
+    horizon: Time,
+) -> Result<Vec<Posting>, AllocError>
     ensures list { IfOk result (λ v. (f : ℕ → ℕ → ℕ) → IsListOf f 0 (2 ^ 40) list.now → IsListOf f 0 horizon.seconds v.items) }
     ensures early { IfOk result (λ v. All (λ p. p.span.to ≤ horizon.seconds) v.items) }
 {
@@ -149,13 +176,29 @@ fn least_plan(
     ensures least { IfOk result (λ p. OfBoundaries horizon.seconds list.now (λ because. ⊥) (IsProposal list.now factor horizon.seconds p.segments.items p.nodes.items p.space)) }
 {
     let table = Table::new(alloc, list, horizon)?;
-    let (partition, certificate) = match plan(alloc, &table, factor) {
-        Ok(planned) => planned,
-        Err(PlanError::TooWide { boundaries }) => {
-            return Err(AskError::Refused(Refusal::TooWide { boundaries }));
-        }
-        Err(PlanError::Memory) => return Err(AskError::Memory),
-    };
+    let (partition, certificate) = planned(alloc, &table, factor)?;
     let proposal = Proposal::of(alloc, &table, &partition, certificate.pi())?;
     Ok(proposal)
+}
+
+/// A least partition with the least space up to each boundary, or that there are too many boundaries.
+pub(crate) fn planned(
+    alloc: Global,
+    table: &Table,
+    factor: Fraction,
+) -> Result<(Partition, Certificate), AskError>
+    ensures failed { IsErrOf result AskError.Failed → ⊥ }
+    ensures within { IfOk result (λ _. length table.now.boundaries ≤ widest) }
+    ensures refused { (why : Refusal) → IsErrOf result (AskError.Refused why) → (widest < length table.now.boundaries) × (why ≡ Refusal.TooWide (length table.now.boundaries)) }
+    ensures fits { IfOk result (λ p. IsFitting table.now.boundaries p.0) }
+    ensures least { IfOk result (λ p. (list : List PlainPosting) (horizon : ℕ) → Tabulates list horizon table.now → IsLeast list factor (slice_index p.0 0) (drop 1 p.0) horizon) }
+    ensures best { IfOk result (λ p. (list : List PlainPosting) (horizon : ℕ) → Tabulates list horizon table.now → AreBest list factor horizon table.now.boundaries p.1) }
+{
+    match plan(alloc, table, factor) {
+        Ok(planned) => Ok(planned),
+        Err(PlanError::TooWide { boundaries }) => {
+            Err(AskError::Refused(Refusal::TooWide { boundaries }))
+        }
+        Err(PlanError::Memory) => Err(AskError::Memory),
+    }
 }

@@ -11,7 +11,7 @@ mod laws;
 mod page;
 
 pub use laws::replies_have_bytes;
-pub use page::{REPLY_ROOM, ReplyPage};
+pub use page::{REPLY_ROOM, ReplyPage, Summary};
 
 #[cfg(test)]
 mod tests;

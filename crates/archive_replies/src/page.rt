@@ -2,7 +2,7 @@
 ghost use Rattle.std.specs.Prelude.{◌≡◌, ◌+◌, ◌≤◌, [], ◌++◌, length, codes, decimal, Some, None, IfOk, OnOk, OnErr};
 ghost use Rattle.archive_replies.specs.Pages.{reply_room};
 ghost use Rattle.archive_state.specs.Replies.{detail_text, end_text, node_text, reply_text, row_text, segment_text, space_text, span_text, which_text};
-ghost use Rattle.archive_state.specs.Steps.{Accepted, Refused, Found, Spanned, Shown, Proposed};
+ghost use Rattle.archive_state.specs.Steps.{Accepted, Refused, Found, Spanned, Shown, Proposed, Planned};
 
 use archive_state::Refusal;
 use itoa::Buffer;
@@ -14,7 +14,22 @@ use time_base::{Span, Which};
 
 /// The bytes that a page has room for at least: more than the longest reply that takes no memory,
 /// and than any line of an answer.
-pub const REPLY_ROOM: usize = 128;
+pub const REPLY_ROOM: usize = 160;
+
+/// What is told of a plan that was stored.
+#[derive(Clone, Copy, Debug, PartialEq, Eq)]
+pub struct Summary {
+    /// How many entries the history has now.
+    pub length: u64,
+    /// How many segments the plan has.
+    pub segments: u64,
+    /// The sizes of their sublists added up, in postings.
+    pub space: u64,
+    /// The size of the list up to the horizon, in postings.
+    pub full: u64,
+    /// The horizon, in seconds since 1970-01-01 UTC.
+    pub horizon: u64,
+}
 
 /// A page on which one reply at a time is written. The memory for replies of one short line is taken
 /// when it is made; an answer or a text takes more where it is longer than the replies before it.
@@ -119,6 +134,26 @@ impl ReplyPage {
             self.put_node(node)?;
         }
         self.put_space(segments.len(), space)
+    }
+
+    /// Writes the reply to a command that stored a plan, in place of what the page held. It takes no
+    /// memory. Constant cost.
+    pub fn planned(&mut self, summary: Summary)
+        ensures { self.new.bytes ≡ reply_text (Planned (record {
+          length = summary.length;
+          segments = summary.segments;
+          space = summary.space;
+          full = summary.full;
+          horizon = summary.horizon;
+        })) }
+    {
+        self.clear();
+        self.put_named(b"plan ", summary.length);
+        self.put_named(b" segments ", summary.segments);
+        self.put_named(b" space ", summary.space);
+        self.put_named(b" full ", summary.full);
+        self.put_named(b" horizon ", summary.horizon);
+        self.put(b"\n");
     }
 
     /// Writes a text that was asked for, in place of what the page held. It takes memory; an error
@@ -286,6 +321,7 @@ impl ReplyPage {
             Refusal::Full { which, limit } => self.put_full(which, limit),
             Refusal::BadQuery { offset } => self.put_named(b"BadQuery ", offset),
             Refusal::UnknownWord => self.put(b"UnknownWord"),
+            Refusal::NoPlan => self.put(b"NoPlan"),
         }
     }
 

@@ -1,4 +1,4 @@
-use crate::ReplyPage;
+use crate::{ReplyPage, Summary};
 use archive_state::Refusal;
 use proposals::{Node, Segment};
 use query_eval::{Row, SpanRow};
@@ -43,6 +43,7 @@ fn refusals_are_answered_by_number_name_and_detail(rt: HostRuntime) -> Result<()
         (full(Which::Journal), "no 10 Full journal 1099511627776\n"),
         (Refusal::BadQuery { offset: 0 }, "no 11 BadQuery 0\n"),
         (Refusal::UnknownWord, "no 13 UnknownWord\n"),
+        (Refusal::NoPlan, "no 14 NoPlan\n"),
     ] {
         page.refused(refusal);
         assert_eq!(rt; page.as_bytes(), text.as_bytes());
@@ -128,6 +129,40 @@ fn segment(from: u64, to: u64, size: u64) -> Result<Segment, Fail> {
 
 fn node(at: u64, pi: u64) -> Node {
     Node { at, pi }
+}
+
+#[test]
+fn stored_plans_are_answered_by_one_line(rt: HostRuntime) -> Result<(), Fail> {
+    let mut page = ReplyPage::new(rt.alloc())?;
+    page.planned(Summary {
+        length: 5,
+        segments: 3,
+        space: 4,
+        full: 2,
+        horizon: 40,
+    });
+    assert_eq!(rt;
+        page.as_bytes(),
+        "plan 5 segments 3 space 4 full 2 horizon 40\n".as_bytes()
+    );
+    Ok(())
+}
+
+#[test]
+fn a_new_page_has_room_for_the_greatest_numbers(rt: HostRuntime) -> Result<(), Fail> {
+    let mut page = ReplyPage::new(rt.alloc())?;
+    page.planned(Summary {
+        length: u64::MAX,
+        segments: u64::MAX,
+        space: u64::MAX,
+        full: u64::MAX,
+        horizon: u64::MAX,
+    });
+    assert_eq!(rt;
+        page.as_bytes(),
+        "plan 18446744073709551615 segments 18446744073709551615 space 18446744073709551615 full 18446744073709551615 horizon 18446744073709551615\n".as_bytes()
+    );
+    Ok(())
 }
 
 #[test]

@@ -17,7 +17,10 @@ mod stops;
 
 pub use changes::{Change, expect_change, expect_changes, made, refused, three_changes};
 pub use error::RowError;
-pub use machines::{count_on, join, load_image, make_machine, read_journal, run_on};
+pub use machines::{
+    copy_image, count_on, join, load_image, machine_on, make_machine, read_image, read_journal,
+    run_on,
+};
 pub use rows::{Row, expect_rows};
 pub use scripts::{
     FIRST_JOURNAL, FIRST_SCRIPT, MIXED_ENDS, MIXED_JOURNAL, MIXED_REPLIES, MIXED_SCRIPT,

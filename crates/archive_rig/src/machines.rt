@@ -1,8 +1,10 @@
 //! Machines for a row, the run over one, and what it leaves.
-ghost use Rattle.std.specs.Prelude.{◌≡◌, [], IsTrue, IfOk};
+ghost use Rattle.std.specs.Prelude.{◌≡◌, [], IsTrue, IfOk, OnOk};
+ghost use Rattle.machine_model.specs.Areas.{part};
 ghost use Rattle.archive_core.specs.States.{Reaches};
 ghost use Rattle.machine_mem.specs.Meaning.{disk_state, sink_state, source_state};
 ghost use Rattle.machine_mem.specs.Outcomes.{starved_of};
+ghost use Rattle.machine_mem.specs.Picks.{bytes_of};
 
 use crate::RowError;
 use archive_core::Archive;
@@ -17,6 +19,16 @@ const MOST_AREA_BYTES: usize = 1 << 40;
 /// Pieces one behind another.
 pub fn join(alloc: Global, pieces: &[&[u8]]) -> Result<Vec<u8>, AllocError> {
     pieces.concat(alloc)
+}
+
+/// The same image once more.
+pub fn copy_image(alloc: Global, image: &Image) -> Result<Image, AllocError>
+    ensures { IfOk result (λ x. bytes_of x ≡ bytes_of image.now) }
+{
+    Ok(Image {
+        journal: Vec::from_slice(alloc, &image.journal)?,
+        pages: Vec::from_slice(alloc, &image.pages)?,
+    })
 }
 
 /// A machine over this input, with this journal and no pages on its disk. The calls that the faults
@@ -35,9 +47,23 @@ pub fn make_machine(
         journal: Vec::from_slice(alloc, journal)?,
         pages: Vec::new(alloc),
     };
+    machine_on(alloc, input, image, faults)
+}
+
+/// A machine over this input, with this image on its disk. The calls that the faults name will fail.
+pub fn machine_on(
+    alloc: Global,
+    input: &[u8],
+    image: Image,
+    faults: &[Fault],
+) -> Result<MemMachine, RowError>
+    ensures source { IfOk result (λ x. (source_state x).left ≡ input.now) }
+    ensures sink { IfOk result (λ x. (sink_state x).shown ≡ []) }
+    ensures disk { IfOk result (λ x. (disk_state x).holds ≡ bytes_of image) }
+{
     let input = Vec::from_slice(alloc, input)?;
     let faults = Vec::from_slice(alloc, faults)?;
-    if image.journal.len() > MOST_AREA_BYTES {
+    if image.journal.len() > MOST_AREA_BYTES || image.pages.len() > MOST_AREA_BYTES {
         return Err(RowError::TooLong);
     }
     let machine = MemMachine::new(alloc, input, image, faults)?;
@@ -67,9 +93,26 @@ pub fn run_on(alloc: Global, machine: &mut MemMachine) -> Result<Status, RowErro
 pub fn read_journal(alloc: Global, machine: &mut MemMachine) -> Result<Vec<u8>, RowError>
     ensures { IfOk result (λ bytes. bytes.items ≡ (disk_state machine.old).holds.journal) }
 {
-    let len = machine.length(Area::Journal)?;
+    read_area(alloc, machine, Area::Journal)
+}
+
+/// What reads give of the disk.
+pub fn read_image(alloc: Global, machine: &mut MemMachine) -> Result<Image, RowError>
+    ensures { IfOk result (λ image. bytes_of image ≡ (disk_state machine.old).holds) }
+{
+    let journal = read_area(alloc, machine, Area::Journal)?;
+    let pages = read_area(alloc, machine, Area::Pages)?;
+    Ok(Image { journal, pages })
+}
+
+/// What reads give of an area.
+fn read_area(alloc: Global, machine: &mut MemMachine, area: Area) -> Result<Vec<u8>, RowError>
+    ensures bytes { IfOk result (λ bytes. bytes.items ≡ part (disk_state machine.old).holds area) }
+    ensures holds { OnOk result ((disk_state machine.new).holds ≡ (disk_state machine.old).holds) }
+{
+    let len = machine.length(area)?;
     let mut bytes = vec![in alloc; 0; len as usize]?;
-    machine.read(Area::Journal, 0, &mut bytes)?;
+    machine.read(area, 0, &mut bytes)?;
     Ok(bytes)
 }
 

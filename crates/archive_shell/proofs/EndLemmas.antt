@@ -1,18 +1,17 @@
 -- A whole run: the load, and then the items.
-use Rattle.std.proofs.Common.{◌≡◌, ◌⊎◌, ℕ, ◌<◌, ◌≤◌, ◌^◌, Bool, true, false, List, [], ◌++◌, length, refl, inl, inr, ap, subst, sym, ◌∙◌, arith}
-use Rattle.std.proofs.lemmas.List.{append-nil, length-append}
+use Rattle.std.proofs.Common.{◌≡◌, ◌⊎◌, ℕ, ◌≤◌, false, List, [], length, refl, inl, inr, ap, subst, sym, ◌∙◌, arith}
+use Rattle.std.proofs.lemmas.List.{append-nil}
 use Rattle.std.proofs.lemmas.List.Elements.{All-nil}
+use Rattle.machine_model.specs.Areas.{Bytes}
 use Rattle.machine_model.specs.Calls.{Syncs}
 use Rattle.machine_model.specs.Causes.{Rose}
 use Rattle.machine_model.specs.Images.{Leaves}
 use Rattle.machine_model.specs.Pulls.{Pull}
 use Rattle.machine_model.specs.States.{SourceState, SinkState, DiskState}
 use Rattle.machine_model.proofs.MomentLemmas.{goes_on_same, left_now}
-use Rattle.script_read.specs.Items.{IsScript, IsBrokenAt}
 use Rattle.script_read.specs.Reading.{Held, fresh}
-use Rattle.script_read.proofs.RunLemmas.{reads_start}
-use Rattle.script_read.proofs.Splitting.{script_whole, script_unbroken}
 use Rattle.archive_state.specs.Histories.{History}
+use Rattle.archive_state.specs.Holding.{HoldsPlan}
 use Rattle.archive_state.specs.Steps.{Reply}
 use Rattle.archive_state.specs.Replies.{reply_text}
 use Rattle.archive_state.specs.Standing.{Carried}
@@ -27,8 +26,8 @@ use Rattle.archive_shell.specs.Headline.{EndsEarly, Headline, IsInTurn, MachineS
 use Rattle.archive_shell.specs.Serving.{Serving, Serves}
 use Rattle.archive_shell.specs.Statuses.{status_of_load}
 use Rattle.archive_shell.specs.declared.status.Status.{Status}
-use Rattle.archive_shell.specs.declared.status.Status.TheVariants.{Done, Usage, NotArchive, Disk, Source, Sink, Script, Budget, Memory}
-use Rattle.archive_shell.proofs.ServeLemmas.{not_early, stood_early}
+use Rattle.archive_shell.specs.declared.status.Status.TheVariants.{Done, NotArchive, Disk, Memory}
+use Rattle.archive_shell.proofs.PullLemmas.{not_early, pulling_first, stood_early}
 use Rattle.archive_shell.proofs.ShowLemmas.{some_bytes}
 
 -- calls that keep a history are no turn of it
@@ -37,6 +36,10 @@ no_turn history before old new beside keeps = record {
   goes_on = keeps.goes_on;
   images = λ image other left. let was = keeps.images image other left in ([], was.1 ∙ beside ∙ sym (append-nil before), (was.0, refl));
 }
+
+-- a new journal stands for the history of no entry
+pub new_stands : (image : Bytes) → length image.journal ≤ 17 → Stands [] image
+new_stands image short = record { spelled = inl (short, refl); legal = tt; held = record { apart = tt; each = All-nil (λ stored. HoldsPlan [] image.pages stored.plan) } }
 
 -- where nothing is done, each image stands for the history for which each stood
 pub keeps_still : (history : History) (d : DiskState) → EachStands d history → KeepsHistory history d d
@@ -82,13 +85,8 @@ pub serving_start : (history : History) (m : MachineState) (archive : ArchiveSta
 serving_start history m archive held is beside kept =
     let H : Held → Type 0 = λ r. Serving history m m archive r [] in
     subst H (sym is) (record {
-      legal = kept.stands.loadable;
-      pulled = [];
-      pulled_are = refl;
-      told = λ e. cc;
-      items = [];
-      since = [];
-      reads = reads_start;
+      legal = kept.legal;
+      pulling = pulling_first m.source;
       turns = [];
       run = tt;
       each = refl;
@@ -109,31 +107,6 @@ whole_run history status old mid new pulls beside keeps serves = record {
   last = λ all. (let L : History → Type 0 = λ h. EachStands new.disk h in subst L (sym (state_after_all history serves.ran.turns)) (serves.last all));
   steady = λ each. serves.steady;
 }
-
--- why a run whose machine didn't fail came to its end, or found no memory
-pub completes : (history : History) (status : Status) (old new : MachineState) (pulls : List Pull) → Serves history status old new pulls
-    → IsScript old.source.left → length old.source.left < 2 ^ 40 → (status ≡ Usage → ⊥) → ((at : ℕ) → status ≡ NotArchive at → ⊥) → (status ≡ Disk → ⊥) → (status ≡ Source → ⊥) → (status ≡ Sink → ⊥)
-    → (status ≡ Done) ⊎ (status ≡ Memory)
-completes history Done old new pulls serves script few usage load disk source sink = inl refl
-completes history Memory old new pulls serves script few usage load disk source sink = inr refl
-completes history Usage old new pulls serves script few usage load disk source sink = absurd (usage refl)
-completes history (NotArchive at) old new pulls serves script few usage load disk source sink = absurd (load at refl)
-completes history Disk old new pulls serves script few usage load disk source sink = absurd (disk refl)
-completes history Source old new pulls serves script few usage load disk source sink = absurd (source refl)
-completes history Sink old new pulls serves script few usage load disk source sink = absurd (sink refl)
-completes history (Script at) old new pulls serves script few usage load disk source sink =
-    absurd (go serves.ran.ended serves.ran.ended_is (serves.ran.stood.script at refl))
-  where
-    whole : IsScript (serves.ran.pulled ++ new.source.left)
-    whole = subst IsScript serves.ran.pulled_are script
-
-    go : (ended : Bool) → (ended ≡ true → new.source.left ≡ []) → IsBrokenAt ended serves.ran.pulled at → ⊥
-    go false is broken = script_whole serves.ran.pulled new.source.left at whole broken
-    go true is broken =
-        let none : serves.ran.pulled ++ new.source.left ≡ serves.ran.pulled = ap (λ (l : List ℕ). serves.ran.pulled ++ l) (is refl) ∙ append-nil serves.ran.pulled in
-        script_unbroken serves.ran.pulled at (subst IsScript none whole) broken
-completes history Budget old new pulls serves script few usage load disk source sink =
-    absurd (omega (arith, (serves.ran.stood.budget refl).2, few, length-append serves.ran.pulled new.source.left, ap length serves.ran.pulled_are))
 
 -- how a run ends where the archive isn't loaded
 pub load_early : (error : LoadError) → ((at : ℕ) → error ≡ loads.NotArchive at → ⊥) → EndsEarly (status_of_load error)

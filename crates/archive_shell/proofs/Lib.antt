@@ -1,4 +1,5 @@
 pub mod EndLemmas
+pub mod PullLemmas
 pub mod ServeLemmas
 pub mod ShowLemmas
 pub mod StepLemmas

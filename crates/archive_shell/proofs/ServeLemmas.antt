@@ -1,16 +1,18 @@
 -- How a run ends that is stopped: the abstract machine goes on over the items that were not reached.
-use Rattle.std.proofs.Common.{◌≡◌, ◌⊎◌, ℕ, ◌<◌, ◌≤◌, Bool, true, List, [], ◌∷◌, ◌++◌, length, All, inl, inr, ap, subst, sym, ◌∙◌, arith, append_assoc, length-append}
+use Rattle.std.proofs.Common.{◌≡◌, ◌⊎◌, ℕ, ◌<◌, ◌≤◌, List, [], ◌∷◌, ◌++◌, length, All, inr, ap, subst, sym, ◌∙◌, arith, append_assoc, length-append}
 use Rattle.std.proofs.lemmas.List.Elements.{All-head, All-tail, All-weaker}
 use Rattle.machine_model.specs.States.{SourceState, SinkState}
 use Rattle.machine_model.specs.Pulls.{Pull}
 use Rattle.machine_model.specs.Pushes.{IsPrefix}
 use Rattle.commands.specs.Documents.{HasDocument}
 use Rattle.commands.specs.declared.command.Item.{Item}
-use Rattle.script_read.specs.Items.{Items}
+use Rattle.script_read.specs.Reading.{Held}
 use Rattle.script_read.proofs.Ranges.{Items-documents}
 use Rattle.script_read.proofs.Joins.{items-join}
+use Rattle.script_read.proofs.RunLemmas.{read_so_far}
 use Rattle.script_read.proofs.Splitting.{each_splits}
-use Rattle.archive_state.specs.Histories.{History, IsLegal}
+use Rattle.archive_state.specs.Histories.{History}
+use Rattle.archive_state.specs.Legal.{IsLegal}
 use Rattle.archive_state.specs.Steps.{Reply, Step}
 use Rattle.archive_state.specs.Replies.{reply_text}
 use Rattle.archive_state.specs.Runs.{Turn, IsRun, shown_by, state_after}
@@ -18,10 +20,11 @@ use Rattle.archive_state.specs.Standing.{last_state, Carried}
 use Rattle.archive_state.specs.Stands.{Stands, EachStands}
 use Rattle.archive_state.proofs.RunLemmas.{runs_join, shown_by_joins, carried_on, state_after_front}
 use Rattle.archive_state.proofs.TurnLemmas.{each_turn, step_legal}
-use Rattle.archive_shell.specs.Headline.{CarriesOutAll, EndsEarly, IsInTurn, MachineState, StoodAt}
-use Rattle.archive_shell.specs.Serving.{Serves}
+use Rattle.archive_shell.specs.Headline.{EndsEarly, IsInTurn, MachineState}
+use Rattle.archive_shell.specs.Serving.{Pulling, Serves}
 use Rattle.archive_shell.specs.declared.status.Status.{Status}
 use Rattle.archive_shell.specs.declared.status.Status.TheVariants.{Disk, Sink}
+use Rattle.archive_shell.proofs.PullLemmas.{not_early, stood_early}
 
 -- a run from a legal history keeps it legal, where the items are in range
 run_legal : (history : History) (items : List Item) (turns : List (Turn Reply History)) → IsLegal history → All HasDocument items → IsRun Step history items turns → IsLegal (last_state history turns)
@@ -39,22 +42,6 @@ run_on history (item ∷ items) legal range =
     let next = step_legal history item turn.0.reply turn.0.next legal (All-head HasDocument item items range) turn.1 in
     let further = run_on turn.0.next items next (All-tail HasDocument item items range) in
     (turn.0 ∷ further.0, (turn.1, further.1))
-
--- statuses that end a run early aren't those before which all items are carried out
-pub not_early : (status : Status) → EndsEarly status → CarriesOutAll status → ⊥
-not_early status (inl is) all = subst CarriesOutAll is all
-not_early status (inr (inl is)) all = subst CarriesOutAll is all
-not_early status (inr (inr is)) all = subst CarriesOutAll is all
-
--- where the input stood needn't be known at a status that ends a run early
-pub stood_early : (status : Status) (ended : Bool) (pulled rest : List ℕ) → EndsEarly status → StoodAt status ended pulled rest
-stood_early status ended pulled rest early = record {
-  done = λ is. absurd (not_early status early (subst CarriesOutAll (sym is) tt));
-  source = λ is. absurd (not_early status early (subst CarriesOutAll (sym is) tt));
-  budget = λ is. absurd (not_early status early (subst CarriesOutAll (sym is) tt));
-  script = λ at is. absurd (not_early status early (subst CarriesOutAll (sym is) tt));
-  broken = λ at broken. inr early;
-}
 
 -- a pull that was in turn is so in a longer run
 in_turn_still : (input : SourceState) (output : SinkState) (items more : List Item) (turns further : List (Turn Reply History)) (pull : Pull)
@@ -80,50 +67,48 @@ all_in_turn input output items more turns further pulls all =
     All-weaker (IsInTurn input output items turns) (IsInTurn input output (items ++ more) (turns ++ further)) (λ pull was. in_turn_still input output items more turns further pull was) pulls all
 
 -- what is known where a run was stopped: the items that were reached, and their turns
-pub record Stopped (history : History) (status : Status) (old new : MachineState) (pulls : List Pull) : Type 0 where
+pub record Stopped (history : History) (status : Status) (old new : MachineState) (held : Held) (pulls : List Pull) : Type 0 where
   pub legal : IsLegal history
   pub early : EndsEarly status
-  pub pulled : List ℕ
-  pub pulled_are : old.source.left ≡ pulled ++ new.source.left
-  pub ended : Bool
-  pub ended_is : ended ≡ true → new.source.left ≡ []
-  pub items : List Item
-  pub rest : List ℕ
-  pub read : Items ended pulled items rest
+  pub pulling : Pulling old.source new.source held
   pub turns : List (Turn Reply History)
-  pub run : IsRun Step history items turns
+  pub run : IsRun Step history pulling.items turns
   pub shown : List ℕ
   pub shown_is : new.sink.shown ≡ old.sink.shown ++ shown
   pub front : IsPrefix shown (shown_by reply_text turns)
   pub unfinished : (status ≡ Disk) ⊎ (status ≡ Sink) → length shown < length (shown_by reply_text turns)
-  pub in_turn : All (IsInTurn old.source old.sink items turns) pulls
+  pub in_turn : All (IsInTurn old.source old.sink pulling.items turns) pulls
   pub carried : Carried reply_text Stands history turns old.sink.shown old.disk new.disk
   pub steady : (status ≡ Disk → ⊥) → (j : ℕ) × (j ≤ length turns) × EachStands new.disk (state_after history turns j)
 
-pub ended_early : (history : History) (status : Status) (old new : MachineState) (pulls : List Pull) → Stopped history status old new pulls → Serves history status old new pulls
-ended_early history status old new pulls s =
-    let behind = each_splits s.ended s.rest in
-    let reached = run_legal history s.items s.turns s.legal (Items-documents s.ended s.pulled s.items s.rest s.read) s.run in
-    let further = run_on (last_state history s.turns) behind.0 reached (Items-documents s.ended s.rest behind.0 behind.1 behind.2.0) in
+pub ended_early : (history : History) (status : Status) (old new : MachineState) (held : Held) (pulls : List Pull) → Stopped history status old new held pulls → Serves history status old new pulls
+ended_early history status old new held pulls s =
+    let pulled = s.pulling.pulled in
+    let items = s.pulling.items in
+    let since = s.pulling.since in
+    let read = read_so_far s.pulling.reads in
+    let behind = each_splits held.ended since in
+    let reached = run_legal history items s.turns s.legal (Items-documents held.ended pulled items since read) s.run in
+    let further = run_on (last_state history s.turns) behind.0 reached (Items-documents held.ended since behind.0 behind.1 behind.2.0) in
     let joined = shown_by_joins reply_text s.turns further.0 in
     record {
       ran = record {
-        pulled = s.pulled;
-        pulled_are = s.pulled_are;
-        ended = s.ended;
-        ended_is = s.ended_is;
-        items = s.items ++ behind.0;
+        pulled = pulled;
+        pulled_are = s.pulling.pulled_are;
+        ended = held.ended;
+        ended_is = s.pulling.told;
+        items = items ++ behind.0;
         rest = behind.1;
-        split = (items-join s.ended s.pulled s.rest behind.1 s.items behind.0 s.read behind.2.0, behind.2.1);
-        stood = stood_early status s.ended s.pulled behind.1 s.early;
+        split = (items-join held.ended pulled since behind.1 items behind.0 read behind.2.0, behind.2.1);
+        stood = stood_early status held.ended pulled behind.1 s.early;
         turns = s.turns ++ further.0;
-        run = runs_join Step history s.items behind.0 s.turns further.0 s.run further.1;
+        run = runs_join Step history items behind.0 s.turns further.0 s.run further.1;
         shown = s.shown;
         shown_is = s.shown_is;
         front = (s.front.0 ++ shown_by reply_text further.0, joined ∙ ap (λ (l : List ℕ). l ++ shown_by reply_text further.0) s.front.1 ∙ append_assoc s.shown s.front.0 (shown_by reply_text further.0));
         whole = λ all. absurd (not_early status s.early all);
         unfinished = λ fault. inr (omega (arith, s.unfinished fault, ap length joined, length-append (shown_by reply_text s.turns) (shown_by reply_text further.0)));
-        in_turn = all_in_turn old.source old.sink s.items behind.0 s.turns further.0 pulls s.in_turn;
+        in_turn = all_in_turn old.source old.sink items behind.0 s.turns further.0 pulls s.in_turn;
       };
       carried = carried_on reply_text Stands history s.turns further.0 old.sink.shown old.disk new.disk s.carried;
       last = λ all. absurd (not_early status s.early all);

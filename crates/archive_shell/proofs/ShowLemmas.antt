@@ -1,5 +1,5 @@
 -- An item carried out and its reply shown, over the states of a machine.
-use Rattle.std.proofs.Common.{◌≡◌, ◌⊎◌, ℕ, ◌+◌, ◌<◌, ◌≤◌, List, [], ◌∷◌, ◌++◌, length, Some, None, Result, Ok, Err, refl, inl, inr, ap, subst, sym, ◌∙◌, arith, codes, append_assoc}
+use Rattle.std.proofs.Common.{◌≡◌, ℕ, ◌+◌, ◌<◌, ◌≤◌, List, [], ◌++◌, length, Some, None, Result, Ok, Err, refl, inl, inr, ap, subst, sym, ◌∙◌, arith, append_assoc}
 use Rattle.std.specs.List.{flat_map}
 use Rattle.std.proofs.lemmas.List.{append-nil, append_cancel_left, length-append}
 use Rattle.machine_model.specs.Areas.{Bytes, Both, part}
@@ -9,7 +9,7 @@ use Rattle.machine_model.specs.Pushes.{IsPrefix, IsSameBeside, OnlyShows}
 use Rattle.machine_model.specs.declared.range.Range.{Range}
 use Rattle.commands.specs.declared.command.Item.{Item}
 use Rattle.archive_state.specs.Histories.{History}
-use Rattle.archive_state.specs.Steps.{Reply, Accepted, Refused, Found, Spanned, Shown, Proposed}
+use Rattle.archive_state.specs.Steps.{Reply, Accepted, Refused, Found, Spanned, Shown, Proposed, Planned}
 use Rattle.archive_state.specs.Replies.{end_text, reply_text, row_text, span_text, node_text, segment_text, space_text}
 use Rattle.archive_state.specs.Stands.{Stands}
 use Rattle.archive_state.proofs.RunLemmas.{one_turn}
@@ -41,6 +41,7 @@ some_bytes (Proposed segments nodes total) =
     behind (flat_map segment_text segments ++ flat_map node_text nodes) (space_text (length segments) total) (some_space (length segments) total)
 some_bytes (Shown None) = omega arith
 some_bytes (Shown (Some text)) = omega arith
+some_bytes (Planned summary) = omega arith
 
 -- pushes change no image
 same_images : (old new : DiskState) → IsSameBeside old new → (image : Bytes) → MayLeave new.now image → MayLeave old.now image
@@ -60,6 +61,8 @@ kept_beside old new archive history same kept = record {
     end_is = kept.in_step.end_is;
     images = λ image allowed. kept.in_step.images image (same_images old new same image allowed);
   };
+  legal = kept.legal;
+  held = λ image allowed. kept.held image (same_images old new same image allowed);
 }
 
 -- the run was stopped before the reply

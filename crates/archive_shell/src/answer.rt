@@ -1,25 +1,25 @@
 //! Answering one item of the input.
-ghost use Rattle.std.specs.Prelude.{◌≡◌, ◌⊎◌, Ok, Err, OnOk, IsOk, IsErrOf};
+ghost use Rattle.std.specs.Prelude.{◌≡◌, ◌⊎◌, Ok, OnOk, IsOk, IsErrOf};
 ghost use Rattle.machine_model.specs.Causes.{Rose};
 ghost use Rattle.archive_state.specs.Histories.{History};
 ghost use Rattle.archive_state.specs.Replies.{reply_text};
 ghost use Rattle.archive_state.specs.Steps.{Refused};
 ghost use Rattle.archive_core.specs.States.{IsKept};
-ghost use Rattle.archive_core.specs.Takes.{changed, declined, found, proposed, shown, spanned};
+ghost use Rattle.archive_core.specs.Takes.{changed, declined, found, planned, proposed, shown, spanned, unchanged};
 ghost use Rattle.commands.specs.declared.command.Item.TheVariants as items;
 ghost use Rattle.commands.specs.declared.command.Command.TheVariants as plain;
 ghost use Rattle.archive_shell.specs.Turns.{Answers, CanGoOn, Writes};
 
 use crate::stop::Halt;
-use archive_core::{Archive, AskError, ChangeError};
-use archive_replies::ReplyPage;
+use archive_core::{Archive, AskError, ChangeError, PlanReport};
+use archive_replies::{ReplyPage, Summary};
 use archive_state::Refusal;
-use commands::{Command, Item, MOST_TEXT_BYTES, Text};
+use commands::{Command, Item, Kind, MOST_TEXT_BYTES, Phrase, Text};
 use machine_model::Disk;
 use proposals::Proposal;
 use query_eval::{Answer, SpanAnswer};
 use std::alloc::Global;
-use time_base::{DocId, Time};
+use time_base::{DocId, Fraction, Time};
 
 /// Carries out an item on the archive and its disk, and writes its reply on the page.
 pub(crate) fn answer<D: Disk>(
@@ -42,7 +42,7 @@ pub(crate) fn answer<D: Disk>(
     }
 }
 
-/// Carries out a command. One that isn't built yet is refused as a line that is none.
+/// Carries out a command. `verify`, which isn't built yet, is refused as a line that is none.
 fn carry_out<D: Disk>(
     alloc: Global,
     disk: &mut D,
@@ -79,8 +79,15 @@ fn carry_out<D: Disk>(
             let result = archive.propose(alloc, &word, fraction);
             write_proposed(page, result)
         }
-        Command::Plan { .. } => refuse(page, Refusal::Line),
-        Command::Certificate { .. } => refuse(page, Refusal::Line),
+        Command::Plan {
+            word,
+            kind,
+            fraction,
+        } => plan(alloc, disk, archive, page, &word, kind, fraction),
+        Command::Certificate { word } => {
+            let result = archive.certificate(alloc, &word);
+            write_proposed(page, result)
+        }
         Command::Verify => refuse(page, Refusal::Line),
     }
 }
@@ -116,6 +123,33 @@ fn arrive<D: Disk>(
     }
 }
 
+/// Stores a plan. One of a kind that isn't built yet is refused as a line that is no command.
+fn plan<D: Disk>(
+    alloc: Global,
+    disk: &mut D,
+    archive: &mut Archive,
+    page: &mut ReplyPage,
+    word: &Phrase,
+    kind: Kind,
+    fraction: Fraction,
+) -> Result<(), Halt>
+    requires ready { CanGoOn archive.old (D.disk disk.old).reach }
+    ensures only { D.Disk.only disk.old disk.new }
+    ensures disk_fault { IsErrOf result Halt.Disk → Rose (D.disk disk.old).faults (D.disk disk.new).faults }
+    ensures ready { OnOk result (CanGoOn archive.new (D.disk disk.new).reach) }
+    ensures turn { D.disk_tells → (h : History) → IsKept (D.disk disk.old) archive.old h →
+        Answers h (items.Command (plain.Plan word.now kind fraction)) result (D.disk disk.old) (D.disk disk.new) archive.new page.new.bytes }
+{
+    match kind {
+        Kind::Guarantee => {
+            let result = archive.plan(alloc, disk, word, fraction);
+            write_planned(page, result)
+        }
+        Kind::Uniform => refuse(page, Refusal::Line),
+        Kind::Since { .. } => refuse(page, Refusal::Line),
+    }
+}
+
 /// Writes a refusal on the page.
 fn refuse(page: &mut ReplyPage, why: Refusal) -> Result<(), Halt>
     ensures goes_on { result ≡ Ok tt }
@@ -140,9 +174,30 @@ fn write_change(page: &mut ReplyPage, change: Result<u64, ChangeError>) -> Resul
     }
 }
 
+/// Writes what became of a plan on the page, or halts the run.
+fn write_planned(page: &mut ReplyPage, plan: Result<PlanReport, ChangeError>) -> Result<(), Halt>
+    ensures writes { Writes (planned plan) result page.new.bytes }
+    ensures fault { IsErrOf result Halt.Disk → IsErrOf plan ChangeError.Failed }
+    ensures live { OnOk result (IsOk plan ⊎ ((why : Refusal) × IsErrOf plan (ChangeError.Refused why))) }
+{
+    match plan {
+        Ok(report) => {
+            page.planned(Summary {
+                length: report.length,
+                segments: report.segments,
+                space: report.space,
+                full: report.full,
+                horizon: report.horizon.seconds,
+            });
+            Ok(())
+        }
+        Err(error) => write_unchanged(page, error),
+    }
+}
+
 /// Writes why a change was not made on the page, or halts the run.
 fn write_unchanged(page: &mut ReplyPage, error: ChangeError) -> Result<(), Halt>
-    ensures writes { Writes (changed (Err error)) result page.new.bytes }
+    ensures writes { Writes (unchanged error) result page.new.bytes }
     ensures fault { IsErrOf result Halt.Disk → error ≡ ChangeError.Failed }
     ensures live { OnOk result ((why : Refusal) × (error ≡ ChangeError.Refused why)) }
 {
@@ -181,7 +236,7 @@ fn write_spanned(page: &mut ReplyPage, answer: Result<SpanAnswer, AskError>) -> 
     }
 }
 
-/// Writes a plan that was asked for on the page, or halts the run.
+/// Writes a plan that was asked for on the page, proposed or stored, or halts the run.
 fn write_proposed(page: &mut ReplyPage, plan: Result<Proposal, AskError>) -> Result<(), Halt>
     ensures writes { Writes (proposed plan) result page.new.bytes }
     ensures fault { IsErrOf result Halt.Disk → IsErrOf plan AskError.Failed }

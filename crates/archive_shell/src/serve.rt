@@ -2,9 +2,10 @@
 ghost use Rattle.std.specs.Prelude.{◌≡◌, ◌<◌, ◌≤◌, ◌^◌, ◌++◌, [], List, OnOk, IsErrOf, MatchResult, ℕ};
 ghost use Rattle.machine_model.specs.Causes.{Rose};
 ghost use Rattle.machine_model.specs.Pulls.{Pull};
+ghost use Rattle.machine_model.specs.States.{SourceState};
 ghost use Rattle.archive_state.specs.Histories.{History};
 ghost use Rattle.archive_shell.specs.Headline.{MachineState};
-ghost use Rattle.archive_shell.specs.Serving.{Serving, Serves};
+ghost use Rattle.archive_shell.specs.Serving.{Pulling, Ends, Serving, Serves};
 ghost use Rattle.archive_shell.specs.Turns.{CanGoOn};
 
 use crate::carry_out::carry_out;
@@ -35,6 +36,8 @@ pub(crate) fn step<M: Machine>(
     ensures ready { OnOk result (CanGoOn archive.new (M.disk machine.new).reach) }
     ensures nearer { OnOk result (reader.old.passed < reader.new.passed) }
     ensures bound { reader.new.passed ≤ 2 ^ 40 }
+    ensures pulls { M.source_tells → (began : SourceState) → Pulling began (M.source machine.old) reader.old →
+        MatchResult result (λ _. Pulling began (M.source machine.new) reader.new) (λ status. Ends status began (M.source machine.new)) }
     ensures goes_on { M.source_tells → M.sink_tells → M.disk_tells → (h : History) (began : MachineState) (before : List Pull) →
         Serving h began (record { source = M.source machine.old; sink = M.sink machine.old; disk = M.disk machine.old }) archive.old reader.old before →
         (pulls : List Pull) × M.asked machine.old pulls machine.new × MatchResult result
@@ -69,6 +72,7 @@ pub(crate) fn serve<M: Machine>(
     ensures disk_later { (M.disk machine.old).faults ≤ (M.disk machine.new).faults }
     ensures no_usage { result ≡ Status.Usage → ⊥ }
     ensures no_load { (at : ℕ) → result ≡ Status.NotArchive at → ⊥ }
+    ensures ends { M.source_tells → Pulling (M.source machine.old) (M.source machine.old) reader.old → Ends result (M.source machine.old) (M.source machine.new) }
     ensures served { M.source_tells → M.sink_tells → M.disk_tells → (h : History) →
         Serving h (record { source = M.source machine.old; sink = M.sink machine.old; disk = M.disk machine.old })
         (record { source = M.source machine.old; sink = M.sink machine.old; disk = M.disk machine.old }) archive.old reader.old [] →

@@ -10,7 +10,15 @@ use Rattle.gate_journal.proofs.SpellingLemmas.{length-header}
 use Rattle.record_codec.specs.Spelling.{spelling}
 use Rattle.record_codec.specs.declared.entry.Entry.{Entry}
 use Rattle.record_codec.proofs.EntryLemmas.{one_entry}
-use Rattle.archive_state.specs.Histories.{History, changes, acts, IsLegalEntry, AreLegalAfter, IsLegal, end_of}
+use Rattle.record_codec.specs.declared.entry.Entry.TheVariants.{Arrive, Delete, Planned}
+use Rattle.record_codec.specs.declared.plan.PlanEntry.{PlanEntry}
+use Rattle.commands.specs.declared.command.Kind.{Kind}
+use Rattle.commands.specs.declared.command.Kind.TheVariants.{Guarantee, Uniform, Since}
+use Rattle.time_base.specs.declared.posting.Posting.{Posting}
+use Rattle.stored_plans.specs.Plans.{Asks, IsLeastPlan, IsFitPlan}
+use Rattle.stored_plans.proofs.PlanLemmas.{least_is_fit}
+use Rattle.archive_state.specs.Histories.{History, changes, acts, end_of}
+use Rattle.archive_state.specs.Legal.{Suits, MayCome, EachMayCome, IsLegalEntry, IsLegal, IsLoadableEntry, IsLoadable}
 use Rattle.archive_state.specs.Stands.{bodies_of}
 
 pub bodies_of-push : (h : History) (e : Entry) → bodies_of (h ++ e ∷ []) ≡ bodies_of h ++ spelling e ∷ []
@@ -44,29 +52,69 @@ pub end_of-least : (h : History) → 17 + length h ≤ end_of h
 end_of-least [] = omega arith
 end_of-least (e ∷ h) = omega (arith, end_of-least h, sum_by-cons (λ (x : Entry). length (spelling x) + 5) e h)
 
--- an entry more is legal behind a legal history
-legal_after_push : (before h : History) (e : Entry) → AreLegalAfter before h → IsLegalEntry (before ++ h) e → AreLegalAfter before (h ++ e ∷ [])
-legal_after_push before [] e legal next = (let P : History → Type 0 = λ g. IsLegalEntry g e in subst P (append-nil before) next, tt)
-legal_after_push before (x ∷ h) e legal next = (
-  legal.0,
-  legal_after_push (before ++ x ∷ []) h e legal.1 (let P : History → Type 0 = λ g. IsLegalEntry g e in subst P (sym (append_assoc before (x ∷ []) h)) next),
-)
+-- an entry more may come behind others, and one in the middle may come behind those before it
+module _ (Good : Asks) where
+  come_after_push : (before h : History) (e : Entry) → EachMayCome Good before h → MayCome Good (before ++ h) e → EachMayCome Good before (h ++ e ∷ [])
+  come_after_push before [] e each next = (let P : History → Type 0 = λ g. MayCome Good g e in subst P (append-nil before) next, tt)
+  come_after_push before (x ∷ h) e each next = (
+    each.0,
+    come_after_push (before ++ x ∷ []) h e each.1 (let P : History → Type 0 = λ g. MayCome Good g e in subst P (sym (append_assoc before (x ∷ []) h)) next),
+  )
+
+  pub come-push : (h : History) (e : Entry) → EachMayCome Good [] h → MayCome Good h e → EachMayCome Good [] (h ++ e ∷ [])
+  come-push h e each next = come_after_push [] h e each next
+
+  come_after_middle : (before h : History) (e : Entry) (rest : History) → EachMayCome Good before (h ++ e ∷ rest) → EachMayCome Good before h × MayCome Good (before ++ h) e
+  come_after_middle before [] e rest each = (tt, let P : History → Type 0 = λ g. MayCome Good g e in subst P (sym (append-nil before)) each.0)
+  come_after_middle before (x ∷ h) e rest each =
+      let more = come_after_middle (before ++ x ∷ []) h e rest each.1 in
+      ((each.0, more.0), let P : History → Type 0 = λ g. MayCome Good g e in subst P (append_assoc before (x ∷ []) h) more.1)
+
+  pub come-middle : (h : History) (e : Entry) (rest : History) → EachMayCome Good [] (h ++ e ∷ rest) → EachMayCome Good [] h × MayCome Good h e
+  come-middle h e rest each = come_after_middle [] h e rest each
 
 pub legal-push : (h : History) (e : Entry) → IsLegal h → IsLegalEntry h e → IsLegal (h ++ e ∷ [])
-legal-push h e legal next = legal_after_push [] h e legal next
-
--- an entry in the middle of a legal history is legal behind those before it, which are a legal history
-legal_after_middle : (before h : History) (e : Entry) (rest : History) → AreLegalAfter before (h ++ e ∷ rest) → AreLegalAfter before h × IsLegalEntry (before ++ h) e
-legal_after_middle before [] e rest legal = (tt, let P : History → Type 0 = λ g. IsLegalEntry g e in subst P (sym (append-nil before)) legal.0)
-legal_after_middle before (x ∷ h) e rest legal =
-    let more = legal_after_middle (before ++ x ∷ []) h e rest legal.1 in
-    ((legal.0, more.0), let P : History → Type 0 = λ g. IsLegalEntry g e in subst P (append_assoc before (x ∷ []) h) more.1)
+legal-push h e legal next = come-push IsLeastPlan h e legal next
 
 pub legal-middle : (h : History) (e : Entry) (rest : History) → IsLegal (h ++ e ∷ rest) → IsLegal h × IsLegalEntry h e
-legal-middle h e rest legal = legal_after_middle [] h e rest legal
+legal-middle h e rest legal = come-middle IsLeastPlan h e rest legal
 
--- two legal histories with one list of bodies are one
-same_entries : (a b one other : History) → AreLegalAfter one a → AreLegalAfter other b → bodies_of a ≡ bodies_of b → a ≡ b
+pub loadable-push : (h : History) (e : Entry) → IsLoadable h → IsLoadableEntry h e → IsLoadable (h ++ e ∷ [])
+loadable-push h e loads next = come-push IsFitPlan h e loads next
+
+pub loadable-middle : (h : History) (e : Entry) (rest : History) → IsLoadable (h ++ e ∷ rest) → IsLoadable h × IsLoadableEntry h e
+loadable-middle h e rest loads = come-middle IsFitPlan h e rest loads
+
+-- a legal history loads
+suits_load : (list : List Posting) (plan : PlanEntry) (kind : Kind) → Suits IsLeastPlan list plan kind → Suits IsFitPlan list plan kind
+suits_load list plan Guarantee suits = (suits.0, least_is_fit list plan.fraction plan.cuts plan.horizon.seconds suits.1)
+suits_load list plan Uniform suits = suits
+suits_load list plan (Since at) suits = suits
+
+pub entry_loads : (before : History) (e : Entry) → IsLegalEntry before e → IsLoadableEntry before e
+entry_loads before (Arrive doc at text) legal = record { ranges = legal.ranges; allowed = legal.allowed; planned = tt }
+entry_loads before (Delete doc at) legal = record { ranges = legal.ranges; allowed = legal.allowed; planned = tt }
+entry_loads before (Planned plan) legal = record {
+  ranges = legal.ranges;
+  allowed = legal.allowed;
+  planned = record {
+    past = legal.planned.past;
+    list = legal.planned.list;
+    list_is = legal.planned.list_is;
+    some = legal.planned.some;
+    suits = suits_load legal.planned.list plan plan.kind legal.planned.suits;
+  };
+}
+
+each_loads : (before h : History) → EachMayCome IsLeastPlan before h → EachMayCome IsFitPlan before h
+each_loads before [] legal = tt
+each_loads before (e ∷ h) legal = (entry_loads before e legal.0, each_loads (before ++ e ∷ []) h legal.1)
+
+pub legal_loads : (h : History) → IsLegal h → IsLoadable h
+legal_loads h legal = each_loads [] h legal
+
+-- two histories that load with one list of bodies are one
+same_entries : (a b one other : History) → EachMayCome IsFitPlan one a → EachMayCome IsFitPlan other b → bodies_of a ≡ bodies_of b → a ≡ b
 same_entries [] [] one other p q same = refl
 same_entries [] (y ∷ b) one other p q same = absurd (omega (arith, ap length same))
 same_entries (x ∷ a) [] one other p q same = absurd (omega (arith, ap length same))
@@ -77,7 +125,7 @@ same_entries (x ∷ a) (y ∷ b) one other p q same =
     let tail = same_entries a b (one ++ x ∷ []) (other ++ y ∷ []) p.1 q.1 rest in
     cc
 
-pub same_history : (a b : History) → IsLegal a → IsLegal b → bodies_of a ≡ bodies_of b → a ≡ b
+pub same_history : (a b : History) → IsLoadable a → IsLoadable b → bodies_of a ≡ bodies_of b → a ≡ b
 same_history a b p q same = same_entries a b [] [] p q same
 
 behind : (x : Entry) (h other : History) → h ≡ other → x ∷ h ≡ x ∷ other

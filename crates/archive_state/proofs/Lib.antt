@@ -1,6 +1,11 @@
 pub mod RunLemmas
 pub mod HistoryLemmas
+pub mod LiveLemmas
+pub mod HoldLemmas
 pub mod StandsLemmas
 pub mod RefusalLemmas
 pub mod PlanningLemmas
+pub mod StoringLemmas
+pub mod ToldLemmas
+pub mod CertifyingLemmas
 pub mod TurnLemmas

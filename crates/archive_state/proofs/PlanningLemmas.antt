@@ -1,24 +1,23 @@
 -- A phrase that is to be planned: either it is refused or it goes on, in one way.
-use Rattle.std.proofs.Common.{◌≡◌, ◌⊎◌, ℕ, zero, suc, ◌+◌, ◌<◌, ◌≤◌, ◌^◌, Bool, true, false, List, [], ◌∷◌, length, Contains, All, Option, Some, None, option_map, unwrap_or, refl, ap, sym, subst, ◌∙◌, inl, inr, arith}
+use Rattle.std.proofs.Common.{◌≡◌, ◌⊎◌, ℕ, suc, ◌<◌, ◌≤◌, ◌^◌, Bool, true, false, List, [], ◌∷◌, length, Contains, Option, Some, None, option_map, unwrap_or, refl, ap, sym, subst, ◌∙◌, inl, inr, arith}
 use Rattle.std.specs.Str.{bytes_eq}
 use Rattle.std.specs.Cmp.Lexicographic.{bytes_decides}
 use Rattle.std.proofs.lemmas.Bool.{cases_lt}
 use Rattle.std.proofs.lemmas.Map.Made.{Contains-tail}
 use Rattle.time_base.specs.declared.time.Time.{Time}
 use Rattle.time_base.specs.declared.posting.Posting.{Posting}
-use Rattle.postings.specs.ListsOf.{IsListOf}
 use Rattle.postings.proofs.Clipping.{one_list_of}
-use Rattle.elementary.specs.Boundaries.{AreBoundaries}
 use Rattle.elementary.specs.Partitions.{widest}
 use Rattle.elementary.proofs.Ordering.{each_has_boundaries, one_list_of_boundaries}
+use Rattle.stored_plans.specs.Plans.{IsNarrow}
 use Rattle.version_store.specs.Changes.{last_time}
 use Rattle.archive_state.specs.declared.refusal.Refusal.{Refusal}
 use Rattle.archive_state.specs.declared.refusal.Refusal.TheVariants as refusals
 use Rattle.archive_state.specs.Histories.{History, changes, vocabulary}
 use Rattle.archive_state.specs.Answers.{frequency_at}
-use Rattle.archive_state.specs.Planning.{last_second, IsKnown, IsListUpTo, OfBoundaries, OfList, OfWord, OfPhrase}
+use Rattle.archive_state.specs.Planning.{last_second, IsListUpTo, OfBoundaries, OfList, OfPhrase}
 
-known_or_not : (words : List (List ℕ)) (word : List ℕ) → Contains words word ⊎ (Contains words word → ⊥)
+pub known_or_not : (words : List (List ℕ)) (word : List ℕ) → Contains words word ⊎ (Contains words word → ⊥)
 known_or_not [] word = inr (λ c. omega (arith, c.1))
 known_or_not (w ∷ words) word = go (bytes_eq w word) refl (known_or_not words word)
   where
@@ -45,14 +44,14 @@ module _ (h : ℕ) {R : Type 0} (Refuses : R → Refusal → Type 0) (refused : 
         | inr narrow ↦ (goes.0, (times, are, inr (narrow, goes.1)))
       ]
 
-  each_list : (list : List Posting) (GoesOn : R → Type 0) → ((r : R) × GoesOn r) → (r : R) × OfList h list (Refuses r) (GoesOn r)
+  each_list : (list : List Posting) (GoesOn : R → Type 0) → (0 < length list → (r : R) × GoesOn r) → (r : R) × OfList h list (Refuses r) (GoesOn r)
   each_list [] GoesOn goes = refused refusals.NothingSealed
-  each_list (p ∷ list) GoesOn goes = each_bounded (p ∷ list) GoesOn goes
+  each_list (p ∷ list) GoesOn goes = each_bounded (p ∷ list) GoesOn (goes (omega arith))
 
 pub each_phrase : (history : History) {R : Type 0} (Refuses : R → Refusal → Type 0) (GoesOn : R → List ℕ → List Posting → Type 0)
     → ((why : Refusal) → (r : R) × Refuses r why)
     → ((word : List ℕ) → (list : List Posting) × IsListUpTo history word (last_second history) list)
-    → ((word : List ℕ) (list : List Posting) → IsListUpTo history word (last_second history) list → (r : R) × GoesOn r word list)
+    → ((word : List ℕ) (list : List Posting) → IsListUpTo history word (last_second history) list → 0 < length list → (r : R) × GoesOn r word list)
     → (key : Option (List ℕ)) → (r : R) × OfPhrase history key (Refuses r) (GoesOn r)
 each_phrase history Refuses GoesOn refused lists goes None = refused refusals.NotOneTerm
 each_phrase history Refuses GoesOn refused lists goes (Some word) = elim (known_or_not (vocabulary history) word) [
@@ -93,3 +92,14 @@ one_phrase history P One Other A B refused goes (Some word) (inr (known, (list, 
     let same = one_list_of (λ d t. frequency_at history word (record { 0 = d }) t) 0 (last_second history) list other is has in
     let Of : List Posting → Type 0 = λ l. OfList (last_second history) l One (A word l) in
     one_list (last_second history) P One Other refused other (A word other) (B word other) (goes word other) (subst Of same a) b
+
+-- what follows from each refusal, and from what goes on, follows from the tests
+pub of_phrase : (history : History) (Q : Type 0) (Refuses : Refusal → Type 0) (GoesOn : List ℕ → List Posting → Type 0) (key : Option (List ℕ)) → ((why : Refusal) → Refuses why → Q)
+    → ((word : List ℕ) (list : List Posting) → key ≡ Some word → IsListUpTo history word (last_second history) list → 0 < length list → IsNarrow list (last_second history) → GoesOn word list → Q)
+    → OfPhrase history key Refuses GoesOn → Q
+of_phrase history Q Refuses GoesOn None refused goes of = refused refusals.NotOneTerm of
+of_phrase history Q Refuses GoesOn (Some word) refused goes (inl unknown) = refused refusals.UnknownWord unknown.1
+of_phrase history Q Refuses GoesOn (Some word) refused goes (inr (known, ([], is, why))) = refused refusals.NothingSealed why
+of_phrase history Q Refuses GoesOn (Some word) refused goes (inr (known, (p ∷ list, is, (times, are, inl wide)))) = refused (refusals.TooWide (length times)) wide.1
+of_phrase history Q Refuses GoesOn (Some word) refused goes (inr (known, (p ∷ list, is, (times, are, inr narrow)))) =
+    goes word (p ∷ list) refl is (omega arith) (times, are, narrow.0) narrow.1

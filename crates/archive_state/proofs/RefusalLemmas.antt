@@ -64,10 +64,7 @@ too_many_words h e over = when_true _ (Full Words (limit_of Words)) (lt-ltb (lim
 pub words_fit : (h : History) (e : Entry) → length (vocabulary (h ++ e ∷ [])) ≤ limit_of Words → full_words h e ≡ None
 words_fit h e within = when_false _ (Full Words (limit_of Words)) (le-ltb (limit_of Words) (length (vocabulary (h ++ e ∷ []))) within)
 
--- a text that is too long, bad, or neither
-pub too_long-yes : (text : List ℕ) → most_text < length text → too_long text ≡ Some (TooLong most_text)
-too_long-yes text long = when_true _ (TooLong most_text) (lt-ltb most_text (length text) long)
-
+-- a text that isn't too long, one that is bad, and one that isn't
 pub too_long-no : (text : List ℕ) → length text ≤ most_text → too_long text ≡ None
 too_long-no text short = when_false _ (TooLong most_text) (le-ltb most_text (length text) short)
 

@@ -1,5 +1,9 @@
 -- Bytes stand for one history at most, and are refused at one place at most.
-use Rattle.std.proofs.Common.{◌≡◌, ◌⊎◌, ℕ, ◌+◌, List, [], ◌∷◌, ◌++◌, length, inl, inr, refl, ap, subst, sym, ◌∙◌, arith}
+use Rattle.std.proofs.Common.{◌≡◌, ◌⊎◌, ℕ, zero, suc, ◌+◌, ◌≤◌, List, [], ◌∷◌, ◌++◌, length, map, take, get_or, All, inl, inr, refl, ap, subst, sym, ◌∙◌, arith}
+use Rattle.std.specs.List.{flat_map}
+use Rattle.std.proofs.lemmas.Bool.{cases_lt}
+use Rattle.std.proofs.lemmas.List.{take-take}
+use Rattle.std.proofs.lemmas.List.Elements.{All-nil, All-cons, All-head, All-tail, All-append, All-take}
 use Rattle.machine_model.specs.Areas.{Bytes}
 use Rattle.gate_journal.specs.Records.{front}
 use Rattle.gate_journal.specs.Spelled.{Spells}
@@ -8,16 +12,26 @@ use Rattle.record_codec.specs.Spelling.{spelling, IsEntry}
 use Rattle.record_codec.specs.Reading.{IsFault}
 use Rattle.record_codec.specs.declared.entry.Entry.{Entry}
 use Rattle.record_codec.proofs.EntryLemmas.{one_entry, entry_again}
-use Rattle.archive_state.specs.Histories.{History, IsLegal, IsLegalEntry, entry_refusal}
-use Rattle.archive_state.specs.Stands.{bodies_of, Stands, IsMisspelled, IsIllegal, IsBadEntry, IsNotArchive}
-use Rattle.archive_state.proofs.HistoryLemmas.{legal-middle, same_history, split_bodies}
+use Rattle.time_base.specs.declared.extent.Extent.{Extent}
+use Rattle.page_store.specs.Runs.{IsTaken}
+use Rattle.page_store.specs.Taken.{AreApart}
+use Rattle.page_store.specs.Live.{AreLive, IsInside}
+use Rattle.record_codec.specs.declared.place.Place.{Place}
+use Rattle.sublist_store.specs.Segments.{seconds, next_cut, EachSegment, HoldsSublist}
+use Rattle.archive_state.specs.declared.stored.StoredPlan.{StoredPlan}
+use Rattle.archive_state.specs.Histories.{History}
+use Rattle.archive_state.specs.Legal.{IsLoadable, IsLoadableEntry}
+use Rattle.archive_state.specs.Plans.{live_plans, live_extents, live_gates, extents_of}
+use Rattle.archive_state.specs.Holding.{HoldsPlan}
+use Rattle.archive_state.specs.Stands.{bodies_of, Stands, IsMisspelled, IsIllegal, IsBadEntry, IsBadPlace, IsNotArchive}
+use Rattle.archive_state.proofs.HistoryLemmas.{legal_loads, loadable-middle, same_history, split_bodies}
 
--- bytes stand for one history at most
-pub spells_one_history : (bytes : List ℕ) (a b : History) → Spells bytes (bodies_of a) → IsLegal a → Spells bytes (bodies_of b) → IsLegal b → a ≡ b
+-- bytes are loaded as one history at most, and stand for one at most
+pub spells_one_history : (bytes : List ℕ) (a b : History) → Spells bytes (bodies_of a) → IsLoadable a → Spells bytes (bodies_of b) → IsLoadable b → a ≡ b
 spells_one_history bytes a b one p other q = same_history a b p q (spells_once bytes (bodies_of a) (bodies_of b) one other)
 
 pub stands_once : (a b : History) (image : Bytes) → Stands a image → Stands b image → a ≡ b
-stands_once a b image one other = spells_one_history image.journal a b one.spelled one.legal other.spelled other.legal
+stands_once a b image one other = spells_one_history image.journal a b one.spelled (legal_loads a one.legal) other.spelled (legal_loads b other.legal)
 
 -- what is wrong with an entry: the place is behind the gate by so many bytes
 abbrev pub Fault : History → List ℕ → ℕ → ℕ → Type 0
@@ -27,33 +41,80 @@ Fault before body gate at = ((offset : ℕ) × IsMisspelled body offset × (at �
 spelled_no_fault : (e : Entry) (at : ℕ) → IsEntry e → IsFault (spelling e) at → ⊥
 spelled_no_fault e at fits fault = let read = entry_again e fits in let fails = fault.2 in cc
 
--- an entry that is legal has no fault
-legal_no_fault : (before : History) (e : Entry) (body : List ℕ) (gate at : ℕ) → IsLegalEntry before e → spelling e ≡ body → Fault before body gate at → ⊥
-legal_no_fault before e body gate at legal same (inl wrong) =
-    let P : List ℕ → Type 0 = λ b. IsMisspelled b wrong.0 in spelled_no_fault e wrong.0 legal.ranges (subst P (sym same) wrong.1)
-legal_no_fault before e body gate at legal same (inr illegal) =
-    let one : e ≡ illegal.0.entry = one_entry e illegal.0.entry legal.ranges illegal.0.ranges (same ∙ illegal.0.spelled) in
-    illegal.0.refused (sym (ap (entry_refusal before) one) ∙ legal.allowed)
+-- an entry that loads has no fault
+loads_no_fault : (before : History) (e : Entry) (body : List ℕ) (gate at : ℕ) → IsLoadableEntry before e → spelling e ≡ body → Fault before body gate at → ⊥
+loads_no_fault before e body gate at loads same (inl wrong) =
+    let P : List ℕ → Type 0 = λ b. IsMisspelled b wrong.0 in spelled_no_fault e wrong.0 loads.ranges (subst P (sym same) wrong.1)
+loads_no_fault before e body gate at loads same (inr illegal) =
+    let one : e ≡ illegal.0.entry = one_entry e illegal.0.entry loads.ranges illegal.0.ranges (same ∙ illegal.0.spelled) in
+    let P : Entry → Type 0 = λ x. IsLoadableEntry before x in
+    illegal.0.refused (subst P one loads)
 
--- no entry of a legal history has a fault
-no_fault_within : (h before : History) (body : List ℕ) (rest : List (List ℕ)) (gate at : ℕ) → IsLegal h → IsLegal before
+-- no entry of a history that loads has a fault
+no_fault_within : (h before : History) (body : List ℕ) (rest : List (List ℕ)) (gate at : ℕ) → IsLoadable h → IsLoadable before
     → bodies_of h ≡ bodies_of before ++ body ∷ rest → Fault before body gate at → ⊥
-no_fault_within h before body rest gate at legal early same fault =
+no_fault_within h before body rest gate at loads early same fault =
     let parts = split_bodies h (bodies_of before) body rest same in
-    let there = legal-middle parts.0 parts.1 parts.2 (subst IsLegal parts.3 legal) in
+    let there = loadable-middle parts.0 parts.1 parts.2 (subst IsLoadable parts.3 loads) in
     let one : parts.0 ≡ before = same_history parts.0 before there.0 early parts.4 in
-    let P : History → Type 0 = λ g. IsLegalEntry g parts.1 in
-    legal_no_fault before parts.1 body gate at (subst P one there.1) parts.5 fault
+    let P : History → Type 0 = λ g. IsLoadableEntry g parts.1 in
+    loads_no_fault before parts.1 body gate at (subst P one there.1) parts.5 fault
 
--- bytes that stand for a history are no archive's nowhere
-pub spelled_is_archive : (image : Bytes) (h : History) (at : ℕ) → Spells image.journal (bodies_of h) → IsLegal h → IsNotArchive image at → ⊥
-spelled_is_archive image h at spelled legal (inl refused) = spelled_not_refused image.journal (bodies_of h) at spelled refused
-spelled_is_archive image h at spelled legal (inr bad) =
-    no_fault_within h bad.before bad.body bad.rest (length (front (bodies_of bad.before))) at legal bad.loadable
+-- the first of some extents are live where all are
+pub live_front : (live : List Extent) (reach n : ℕ) → AreLive live reach → AreLive (take n live) reach
+live_front live reach n good = (All-take (IsInside reach) n live good.0, apart_front live n good.1)
+  where
+    front_taken : (live : List Extent) (n p : ℕ) → IsTaken (take n live) p → IsTaken live p
+    front_taken [] zero p taken = absurd taken
+    front_taken [] (suc n) p taken = absurd taken
+    front_taken (e ∷ live) zero p taken = absurd taken
+    front_taken (e ∷ live) (suc n) p (inl is) = inl is
+    front_taken (e ∷ live) (suc n) p (inr more) = inr (front_taken live n p more)
+
+    apart_front : (live : List Extent) (n : ℕ) → AreApart live → AreApart (take n live)
+    apart_front [] zero apart = tt
+    apart_front [] (suc n) apart = tt
+    apart_front (e ∷ live) zero apart = tt
+    apart_front (e ∷ live) (suc n) apart = ((λ p is taken. apart.0 p is (front_taken live n p taken)), apart_front live n apart.1)
+
+-- where the live places lie well, none lies badly
+bad_place_none : (image : Bytes) (h : History) (at : ℕ) → Spells image.journal (bodies_of h) → IsLoadable h → AreLive (live_extents h) (length image.pages) → IsBadPlace image at → ⊥
+bad_place_none image h at spelled loads live bad =
+    let same = spells_one_history image.journal h bad.history spelled loads bad.spelled bad.loadable in
+    let L : History → Type 0 = λ g. AreLive (live_extents g) (length image.pages) in
+    bad.bad (live_front (live_extents bad.history) (length image.pages) (bad.index + 1) (subst L same live))
+
+-- bytes that are loaded are no archive's nowhere
+pub loaded_is_archive : (image : Bytes) (h : History) (at : ℕ) → Spells image.journal (bodies_of h) → IsLoadable h → AreLive (live_extents h) (length image.pages) → IsNotArchive image at → ⊥
+loaded_is_archive image h at spelled loads live (inl refused) = spelled_not_refused image.journal (bodies_of h) at spelled refused
+loaded_is_archive image h at spelled loads live (inr (inl bad)) =
+    no_fault_within h bad.before bad.body bad.rest (length (front (bodies_of bad.before))) at loads bad.loadable
     (spells_once image.journal (bodies_of h) (bodies_of bad.before ++ bad.body ∷ bad.rest) spelled bad.spelled) bad.fault
+loaded_is_archive image h at spelled loads live (inr (inr bad)) = bad_place_none image h at spelled loads live bad
+
+-- places that hold sublists lie inside
+places_inside : (R : ℕ → ℕ → Place → Type 0) (reach : ℕ) → ((f g : ℕ) (p : Place) → R f g p → IsInside reach p.extent)
+    → (cuts : List ℕ) (h : ℕ) (places : List Place) → EachSegment R cuts h places → All (IsInside reach) (map (λ (p : Place). p.extent) places)
+places_inside R reach inside [] h [] each = All-nil (IsInside reach)
+places_inside R reach inside [] h (p ∷ places) each = absurd each
+places_inside R reach inside (f ∷ cuts) h [] each = absurd each
+places_inside R reach inside (f ∷ cuts) h (p ∷ places) each =
+    All-cons (IsInside reach) p.extent (map (λ (p : Place). p.extent) places) (inside f (next_cut cuts h) p each.0) (places_inside R reach inside cuts h places each.1)
+
+pub held_inside : (h : History) (pages : List ℕ) (live : List StoredPlan) → All (λ stored. HoldsPlan h pages stored.plan) live → All (IsInside (length pages)) (flat_map (λ (stored : StoredPlan). extents_of stored.plan) live)
+held_inside h pages [] each = All-nil (IsInside (length pages))
+held_inside h pages (s ∷ live) each =
+    let P : StoredPlan → Type 0 = λ stored. HoldsPlan h pages stored.plan in
+    let here = All-head P s live each in
+    All-append (IsInside (length pages)) (extents_of s.plan) (flat_map (λ (stored : StoredPlan). extents_of stored.plan) live)
+    (places_inside (HoldsSublist s.plan.layout here.list pages) (length pages) (λ f g p holds. holds.inside) (seconds s.plan.cuts) s.plan.horizon.seconds s.plan.places here.each)
+    (held_inside h pages live (All-tail P s live each))
+
+pub stands_live : (h : History) (image : Bytes) → Stands h image → AreLive (live_extents h) (length image.pages)
+stands_live h image stands = (held_inside h image.pages (live_plans h) stands.held.each, stands.held.apart)
 
 pub stands_is_archive : (h : History) (image : Bytes) (at : ℕ) → Stands h image → IsNotArchive image at → ⊥
-stands_is_archive h image at stands refused = spelled_is_archive image h at stands.spelled stands.legal refused
+stands_is_archive h image at stands refused = loaded_is_archive image h at stands.spelled (legal_loads h stands.legal) (stands_live h image stands) refused
 
 -- two lists with a part in front and an item behind it: the parts are one, or one is in front of the other
 meet : (a b : List (List ℕ)) (x y : List ℕ) (s t : List (List ℕ)) → a ++ x ∷ s ≡ b ++ y ∷ t
@@ -95,9 +156,38 @@ bad_once image one other a b =
       | inr (inr more) ↦ absurd (no_fault_within a.before b.before b.body more.0 (gate b.before) other a.loadable b.loadable more.1 b.fault)
     ]
 
+-- the place that is the first to lie badly is one
+bad_place_once : (image : Bytes) (one other : ℕ) → IsBadPlace image one → IsBadPlace image other → one ≡ other
+bad_place_once image one other a b =
+    let same = spells_one_history image.journal b.history a.history b.spelled b.loadable a.spelled a.loadable in
+    let P : History → Type 0 = λ h. AreLive (take b.index (live_extents h)) (length image.pages) in
+    let Q : History → Type 0 = λ h. AreLive (take (b.index + 1) (live_extents h)) (length image.pages) → ⊥ in
+    let index : a.index ≡ b.index = elim (cases_lt a.index b.index) [
+      | inl less ↦ absurd (a.bad (front_of (live_extents a.history) (length image.pages) (a.index + 1) b.index (omega (arith, less)) (subst P same b.good)))
+      | inr more ↦ elim (cases_lt b.index a.index) [
+        | inl less ↦ absurd (subst Q same b.bad (front_of (live_extents a.history) (length image.pages) (b.index + 1) a.index (omega (arith, less)) a.good))
+        | inr not_less ↦ omega (arith, more, not_less)
+      ]
+    ] in
+    a.at_is ∙ ap (λ n. get_or (live_gates a.history) n 0) index ∙ ap (λ (h : History). get_or (live_gates h) b.index 0) (sym same) ∙ sym b.at_is
+  where
+    front_of : (live : List Extent) (reach n m : ℕ) → n ≤ m → AreLive (take m live) reach → AreLive (take n live) reach
+    front_of live reach n m less good = let L : List Extent → Type 0 = λ es. AreLive es reach in subst L (take-take n m live less) (live_front (take m live) reach n good)
+
+-- no entry has a fault where a place lies badly
+bad_entry_or_place : (image : Bytes) (one other : ℕ) → IsBadEntry image one → IsBadPlace image other → ⊥
+bad_entry_or_place image one other a b =
+    no_fault_within b.history a.before a.body a.rest (length (front (bodies_of a.before))) one b.loadable a.loadable
+    (spells_once image.journal (bodies_of b.history) (bodies_of a.before ++ a.body ∷ a.rest) b.spelled a.spelled) a.fault
+
 -- bytes that are no archive's show it at one place
 pub not_archive_once : (image : Bytes) (one other : ℕ) → IsNotArchive image one → IsNotArchive image other → one ≡ other
 not_archive_once image one other (inl a) (inl b) = refused_once image.journal one other a b
-not_archive_once image one other (inl a) (inr b) = absurd (spelled_not_refused image.journal (bodies_of b.before ++ b.body ∷ b.rest) one b.spelled a)
-not_archive_once image one other (inr a) (inl b) = absurd (spelled_not_refused image.journal (bodies_of a.before ++ a.body ∷ a.rest) other a.spelled b)
-not_archive_once image one other (inr a) (inr b) = bad_once image one other a b
+not_archive_once image one other (inl a) (inr (inl b)) = absurd (spelled_not_refused image.journal (bodies_of b.before ++ b.body ∷ b.rest) one b.spelled a)
+not_archive_once image one other (inl a) (inr (inr b)) = absurd (spelled_not_refused image.journal (bodies_of b.history) one b.spelled a)
+not_archive_once image one other (inr (inl a)) (inl b) = absurd (spelled_not_refused image.journal (bodies_of a.before ++ a.body ∷ a.rest) other a.spelled b)
+not_archive_once image one other (inr (inl a)) (inr (inl b)) = bad_once image one other a b
+not_archive_once image one other (inr (inl a)) (inr (inr b)) = absurd (bad_entry_or_place image one other a b)
+not_archive_once image one other (inr (inr a)) (inl b) = absurd (spelled_not_refused image.journal (bodies_of a.history) other a.spelled b)
+not_archive_once image one other (inr (inr a)) (inr (inl b)) = absurd (bad_entry_or_place image other one b a)
+not_archive_once image one other (inr (inr a)) (inr (inr b)) = bad_place_once image one other a b

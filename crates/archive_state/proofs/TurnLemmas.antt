@@ -40,19 +40,25 @@ use Rattle.query_eval.proofs.SpanRows.{each-window, plain-rows}
 use Rattle.stretches.proofs.Longest as longest
 use Rattle.archive_state.specs.declared.refusal.Refusal.{Refusal}
 use Rattle.archive_state.specs.declared.refusal.Refusal.TheVariants as refusals
-use Rattle.archive_state.specs.Histories.{History, changes, text_at, AreLegalAfter, IsLegal, IsLegalEntry, entry_refusal}
-use Rattle.archive_state.specs.Answers.{frequency_at, IsAnswerAt, IsSpanAnswerAt, IsWordList, IsReadFor}
+use Rattle.stored_plans.specs.Plans.{IsFitPlan}
+use Rattle.archive_state.specs.Histories.{History, changes, text_at, entry_refusal}
+use Rattle.archive_state.specs.Legal.{EachMayCome, IsLegal, IsLegalEntry, IsLoadable}
+use Rattle.archive_state.specs.Answers.{frequency_at, IsWordList, IsReadFor}
 use Rattle.commands.specs.Documents.{HasDocument}
 use Rattle.commands.specs.declared.command.Command.{Command}
 use Rattle.commands.specs.declared.command.Command.TheVariants as commands
 use Rattle.commands.specs.declared.command.Item.{Item}
 use Rattle.commands.specs.declared.command.Item.TheVariants as items
+use Rattle.commands.specs.declared.command.Kind.TheVariants.{Guarantee, Uniform, Since}
 use Rattle.commands.specs.declared.text.Text.TheVariants as texts
-use Rattle.archive_state.specs.Steps.{Reply, Accepted, Refused, Found, Spanned, Shown, Proposed, Adds, Declines, IsRepliedBy, IsReplied, Finds, FindsBy, Spans, SpansBy, Proposes, ProposesPlan, CarriesOut, Step, too_long, bad_text, full_journal, arrival_refusal, deletion_refusal}
+use Rattle.archive_state.specs.Steps.{Reply, Accepted, Refused, Found, Spanned, Shown, Proposed, Planned, Summary, Adds, Declines, IsRepliedBy, IsReplied, Finds, FindsBy, Spans, SpansBy, Proposes, ProposesPlan, Plans, StoresPlan, spelled_key, CarriesOut, Step, too_long, bad_text, full_journal, arrival_refusal, deletion_refusal}
 use Rattle.archive_state.specs.Runs.{Turn}
-use Rattle.archive_state.proofs.HistoryLemmas.{legal-push}
+use Rattle.archive_state.proofs.HistoryLemmas.{legal-push, legal_loads}
+use Rattle.archive_state.proofs.StoringLemmas.{plan_turn, plans_legal}
+use Rattle.archive_state.proofs.ToldLemmas.{plans_alike}
+use Rattle.archive_state.proofs.CertifyingLemmas.{each_certifies, one_certifies}
 use Rattle.archive_state.proofs.PlanningLemmas.{each_phrase, one_phrase, last_in_time}
-use Rattle.archive_state.specs.Choices.{IsChoice, SameButSegments}
+use Rattle.archive_state.specs.Choices.{IsChoice, IsStoring, SameButSegments, SamePlanned}
 use Rattle.archive_state.specs.Planning.{last_second, IsListUpTo}
 
 -- where no test finds a cause, the first finds none, nor do the others
@@ -82,12 +88,13 @@ arrival_legal h doc at text fits none =
         IsUtf8-from_is_utf8 text (is_true (is_utf8 text) (no_cause (not (is_utf8 text)) _ two.0)),
       );
       allowed = three.0;
+      planned = tt;
     }
 
 pub deletion_legal : (h : History) (doc : DocId) (at : Time) → doc.0 < 2 ^ 32 → deletion_refusal h doc at ≡ None → IsLegalEntry h (entries.Delete doc at)
 deletion_legal h doc at fits none =
     let one = none_found (entry_refusal h (entries.Delete doc at)) (full_journal h (entries.Delete doc at) ∷ []) none in
-    record { ranges = (fits, at.before_now); allowed = one.0 }
+    record { ranges = (fits, at.before_now); allowed = one.0; planned = tt }
 
 -- whether an entry is refused or not, there is a turn
 pub adds_turn : (h : History) (e : Entry) (refusal : Option Refusal) → (turn : Turn Reply History) × Adds h e refusal turn.reply turn.next
@@ -99,30 +106,31 @@ record IsModest (word : List ℕ) (c : Change (List ℕ)) : Type 0 where
   numbered : c.doc.0 < 2 ^ 32
   few : unwrap_or (option_map (occurrences word) c.held) 0 < 2 ^ 32
 
-modest : (word : List ℕ) (before h : History) → AreLegalAfter before h → All (IsModest word) (changes h)
+modest : (word : List ℕ) (before h : History) → EachMayCome IsFitPlan before h → All (IsModest word) (changes h)
 modest word before [] legal = All-nil (IsModest word)
 modest word before (entries.Arrive doc at text ∷ h) legal =
     let ranges = legal.0.ranges in
     All-cons (IsModest word) _ (changes h) (record { numbered = ranges.0; few = omega (arith, occurrences-le word text, ranges.2) }) (modest word (before ++ entries.Arrive doc at text ∷ []) h legal.1)
 modest word before (entries.Delete doc at ∷ h) legal =
     All-cons (IsModest word) _ (changes h) (record { numbered = legal.0.ranges.0; few = omega arith }) (modest word (before ++ entries.Delete doc at ∷ []) h legal.1)
+modest word before (entries.Planned plan ∷ h) legal = modest word (before ++ entries.Planned plan ∷ []) h legal.1
 
-frequency_few : (h : History) (word : List ℕ) (doc : DocId) (t : ℕ) → IsLegal h → frequency_at h word doc t < 2 ^ 32
+frequency_few : (h : History) (word : List ℕ) (doc : DocId) (t : ℕ) → IsLoadable h → frequency_at h word doc t < 2 ^ 32
 frequency_few h word doc t legal =
     let P : Option (List ℕ) → Type 0 = λ held. unwrap_or (option_map (occurrences word) held) 0 < 2 ^ 32 in
     held_has P doc t (changes h) (omega arith) (All-weaker (IsModest word) (λ c. P c.held) (λ c is. is.few) (changes h) (modest word [] h legal))
 
 -- no document beyond the numbers is ever alive
-text_none : (h : History) (doc : DocId) (t : ℕ) → IsLegal h → 2 ^ 32 ≤ doc.0 → text_at h doc t ≡ None
+text_none : (h : History) (doc : DocId) (t : ℕ) → IsLoadable h → 2 ^ 32 ≤ doc.0 → text_at h doc t ≡ None
 text_none h doc t legal far =
     let none = changes_of-none doc (changes h) (All-weaker (IsModest []) (λ c. c.doc.0 ≡ doc.0 → ⊥) (λ c is e. omega (arith, is.numbered, far, e)) (changes h) (modest [] [] h legal)) in
     ap (λ (cs : List (Change (List ℕ))). valid_at t cs) none
 
-frequency_none : (h : History) (word : List ℕ) (d t : ℕ) → IsLegal h → 2 ^ 32 ≤ d → frequency_at h word (record { 0 = d }) t ≡ 0
+frequency_none : (h : History) (word : List ℕ) (d t : ℕ) → IsLoadable h → 2 ^ 32 ≤ d → frequency_at h word (record { 0 = d }) t ≡ 0
 frequency_none h word d t legal far = ap (λ (held : Option (List ℕ)). unwrap_or (option_map (occurrences word) held) 0) (text_none h (record { 0 = d }) t legal far)
 
 -- each word has a list
-pub each_word_list : (h : History) (word : List ℕ) → IsLegal h → (list : List Posting) × IsWordList h word list
+pub each_word_list : (h : History) (word : List ℕ) → IsLoadable h → (list : List Posting) × IsWordList h word list
 each_word_list h word legal =
     each_has_a_list (λ d t. frequency_at h word (record { 0 = d }) t) 0 (2 ^ 40) (omega arith) (λ d t. frequency_few h word (record { 0 = d }) t legal) (λ d t far. frequency_none h word d t legal far)
 
@@ -132,7 +140,7 @@ has_word word None some = absurd (omega (arith, some))
 has_word word (Some text) some = refl
 
 -- each query is answered at each time
-each_read : (h : History) (words : List (List ℕ)) → IsLegal h → (n : ℕ) × IsReadFor h words n
+each_read : (h : History) (words : List (List ℕ)) → IsLoadable h → (n : ℕ) × IsReadFor h words n
 each_read h [] legal = (0, refl)
 each_read h (word ∷ words) legal =
     let list = each_word_list h word legal in
@@ -153,7 +161,7 @@ each_found : (h : History) (at : Time) → IsLegal h → (query : Query) → (re
 each_found h at legal query =
     let often = λ (doc : DocId) (word : List ℕ). frequency_at h word doc at.seconds in
     let given = each-answer (changed.alive at.seconds (changes h)) often query in
-    let read = each_read h (words_of query) legal in
+    let read = each_read h (words_of query) (legal_loads h legal) in
     let answer = same_alive (λ doc. IsSome (text_at h doc at.seconds)) (λ doc. Contains (changed.alive at.seconds (changes h)) doc) often query given.0 (λ doc. alive-has at.seconds (changes h) doc) given.1 in
     (Found given.0 read.0, (given.0, read.0, answer, read.1, refl))
 
@@ -163,26 +171,35 @@ each_finds h at text legal = each_text (FindsBy h at) (each_found h at legal) te
 each_spanned : (h : History) (span : Span) → IsLegal h → (query : Query) → (reply : Reply) × SpansBy h span query reply
 each_spanned h span legal query =
     let given = each-window (λ doc t. is_some (text_at h doc t)) (λ doc t word. frequency_at h word doc t) query (2 ^ 32) span.from span.to span.in_time
-    (λ doc t far. ap is_some (text_none h doc t legal far)) in
-    let read = each_read h (words_of query) legal in
+    (λ doc t far. ap is_some (text_none h doc t (legal_loads h legal) far)) in
+    let read = each_read h (words_of query) (legal_loads h legal) in
     (Spanned given.0 read.0, (given.0, read.0, given.1, read.1, refl))
 
 pub each_spans : (h : History) (span : Span) (text : List ℕ) → IsLegal h → (reply : Reply) × Spans h span text reply
 each_spans h span text legal = each_text (SpansBy h span) (each_spanned h span legal) text
 
 -- each proposal is answered
-each_list_up_to : (h : History) (word : List ℕ) (last : ℕ) → last ≤ 2 ^ 40 → IsLegal h → (list : List Posting) × IsListUpTo h word last list
+each_list_up_to : (h : History) (word : List ℕ) (last : ℕ) → last ≤ 2 ^ 40 → IsLoadable h → (list : List Posting) × IsListUpTo h word last list
 each_list_up_to h word last in_time legal =
     each_has_a_list (λ d t. frequency_at h word (record { 0 = d }) t) 0 last in_time (λ d t. frequency_few h word (record { 0 = d }) t legal) (λ d t far. frequency_none h word d t legal far)
 
 pub each_proposes : (h : History) (phrase : List ℕ) (factor : Fraction) → IsLegal h → (reply : Reply) × Proposes h phrase factor reply
 each_proposes h phrase factor legal =
     each_phrase h (λ (r : Reply) why. r ≡ Refused why) (λ (r : Reply) word list. ProposesPlan factor (last_second h) list r) (λ why. (Refused why, refl))
-    (λ word. each_list_up_to h word (last_second h) (last_in_time h) legal)
-    (λ word list is.
-    let (segments, (nodes, (total, proposal))) = each_has_a_proposal list factor (last_second h) (last_in_time h) (All-weaker (λ p. (0 ≤ p.span.from) × (p.span.to ≤ last_second h)) (λ p. p.span.to ≤ last_second h) (λ p in_it. in_it.1) list is.inside) in
+    (λ word. each_list_up_to h word (last_second h) (last_in_time h) (legal_loads h legal))
+    (λ word list is some.
+    let early = All-weaker (λ (p : Posting). (0 ≤ p.span.from) × (p.span.to ≤ last_second h)) (λ (p : Posting). p.span.to ≤ last_second h) (λ p in_it. in_it.1) list is.inside in
+    let (segments, (nodes, (total, proposal))) = each_has_a_proposal list factor (last_second h) (last_in_time h) early in
     (Proposed segments nodes total, (segments, nodes, total, proposal, refl)))
     (one_term phrase)
+
+pub each_plans : (h : History) (phrase : List ℕ) (factor : Fraction) → IsLegal h → (turn : Turn Reply History) × Plans h phrase factor turn.reply turn.next
+each_plans h phrase factor legal =
+    each_phrase h (λ (r : Turn Reply History) why. Declines h why r.reply r.next) (λ (r : Turn Reply History) word list. StoresPlan h factor word list r.reply r.next)
+    (λ why. (record { reply = Refused why; next = h }, (refl, refl)))
+    (λ word. each_list_up_to h word (last_second h) (last_in_time h) (legal_loads h legal))
+    (λ word list is some. plan_turn h factor word list is some)
+    (spelled_key (one_term phrase))
 
 declines_turn : (h : History) (why : Refusal) → (turn : Turn Reply History) × Declines h why turn.reply turn.next
 declines_turn h why = (record { reply = Refused why; next = h }, (refl, refl))
@@ -195,14 +212,18 @@ each_command h (commands.Find at expr) legal =
     let found = each_finds h at expr legal in
     (record { reply = found.0; next = h }, (refl, found.1))
 each_command h (commands.Show doc at) legal = (record { reply = Shown (text_at h doc at.seconds); next = h }, (refl, refl))
-each_command h (commands.Plan word kind fraction) legal = declines_turn h refusals.Line
+each_command h (commands.Plan word Guarantee fraction) legal = each_plans h word fraction legal
+each_command h (commands.Plan word Uniform fraction) legal = declines_turn h refusals.Line
+each_command h (commands.Plan word (Since at) fraction) legal = declines_turn h refusals.Line
 each_command h (commands.Propose word fraction) legal =
     let proposed = each_proposes h word fraction legal in
     (record { reply = proposed.0; next = h }, (refl, proposed.1))
 each_command h (commands.Between span expr) legal =
     let found = each_spans h span expr legal in
     (record { reply = found.0; next = h }, (refl, found.1))
-each_command h (commands.Certificate word) legal = declines_turn h refusals.Line
+each_command h (commands.Certificate word) legal =
+    let shown = each_certifies h word legal in
+    (record { reply = shown.0; next = h }, (refl, shown.1))
 each_command h commands.Verify legal = declines_turn h refusals.Line
 
 pub each_turn : (h : History) (item : Item) → IsLegal h → (turn : Turn Reply History) × Step h item turn.reply turn.next
@@ -223,7 +244,9 @@ command_legal h (commands.Arrive doc at (texts.TooLong bytes)) reply next legal 
 command_legal h (commands.Delete doc at) reply next legal range step = adds_legal h (entries.Delete doc at) (deletion_refusal h doc at) reply next legal (deletion_legal h doc at range) step
 command_legal h (commands.Find at expr) reply next legal range step = stays_legal h next legal step.0
 command_legal h (commands.Show doc at) reply next legal range step = stays_legal h next legal step.0
-command_legal h (commands.Plan word kind fraction) reply next legal range step = stays_legal h next legal step.0
+command_legal h (commands.Plan word Guarantee fraction) reply next legal range step = plans_legal h word fraction reply next legal step
+command_legal h (commands.Plan word Uniform fraction) reply next legal range step = stays_legal h next legal step.0
+command_legal h (commands.Plan word (Since at) fraction) reply next legal range step = stays_legal h next legal step.0
 command_legal h (commands.Propose word fraction) reply next legal range step = stays_legal h next legal step.0
 command_legal h (commands.Between span expr) reply next legal range step = stays_legal h next legal step.0
 command_legal h (commands.Certificate word) reply next legal range step = stays_legal h next legal step.0
@@ -302,25 +325,50 @@ one_command h (commands.Arrive doc at (texts.TooLong bytes)) reply other next th
 one_command h (commands.Delete doc at) reply other next then free a b = one_adds h (entries.Delete doc at) (deletion_refusal h doc at) reply other next then a b
 one_command h (commands.Find at expr) reply other next then free a b = one_stays h reply other next then a.0 b.0 (one_finds h at expr reply other a.1 b.1)
 one_command h (commands.Show doc at) reply other next then free a b = one_stays h reply other next then a.0 b.0 (a.1 ∙ sym b.1)
-one_command h (commands.Plan word kind fraction) reply other next then free a b = one_declines h refusals.Line reply other next then a b
+one_command h (commands.Plan word Guarantee fraction) reply other next then free a b = absurd (free tt)
+one_command h (commands.Plan word Uniform fraction) reply other next then free a b = one_declines h refusals.Line reply other next then a b
+one_command h (commands.Plan word (Since at) fraction) reply other next then free a b = one_declines h refusals.Line reply other next then a b
 one_command h (commands.Propose word fraction) reply other next then free a b = absurd (free tt)
 one_command h (commands.Between span expr) reply other next then free a b = one_stays h reply other next then a.0 b.0 (one_spans h span expr reply other a.1 b.1)
-one_command h (commands.Certificate word) reply other next then free a b = one_declines h refusals.Line reply other next then a b
+one_command h (commands.Certificate word) reply other next then free a b = one_stays h reply other next then a.0 b.0 (one_certifies h word reply other a.1 b.1)
 one_command h commands.Verify reply other next then free a b = one_declines h refusals.Line reply other next then a b
 
 pub one_turn_only : (h : History) (item : Item) (reply other : Reply) (next then : History) → (IsChoice item → ⊥) → Step h item reply next → Step h item other then → IsOne reply other next then
 one_turn_only h (items.Command c) reply other next then free a b = one_command h c reply other next then free a b
 one_turn_only h items.Line reply other next then free a b = one_declines h refusals.Line reply other next then a b
 
--- also where it may choose, but for the segments of a proposal
-pub one_but_segments : (h : History) (item : Item) (reply other : Reply) (next then : History) → Step h item reply next → Step h item other then → SameButSegments reply other × (next ≡ then)
-one_but_segments h (items.Command (commands.Propose word fraction)) reply other next then a b = (one_proposes h word fraction reply other a.1 b.1, a.0 ∙ sym b.0)
-one_but_segments h (items.Command (commands.Arrive doc at text)) reply other next then a b = same_turn (one_command h (commands.Arrive doc at text) reply other next then (λ x. x) a b)
-one_but_segments h (items.Command (commands.Delete doc at)) reply other next then a b = same_turn (one_command h (commands.Delete doc at) reply other next then (λ x. x) a b)
-one_but_segments h (items.Command (commands.Find at expr)) reply other next then a b = same_turn (one_command h (commands.Find at expr) reply other next then (λ x. x) a b)
-one_but_segments h (items.Command (commands.Show doc at)) reply other next then a b = same_turn (one_command h (commands.Show doc at) reply other next then (λ x. x) a b)
-one_but_segments h (items.Command (commands.Plan word kind fraction)) reply other next then a b = same_turn (one_command h (commands.Plan word kind fraction) reply other next then (λ x. x) a b)
-one_but_segments h (items.Command (commands.Between span expr)) reply other next then a b = same_turn (one_command h (commands.Between span expr) reply other next then (λ x. x) a b)
-one_but_segments h (items.Command (commands.Certificate word)) reply other next then a b = same_turn (one_command h (commands.Certificate word) reply other next then (λ x. x) a b)
-one_but_segments h (items.Command commands.Verify) reply other next then a b = same_turn (one_command h commands.Verify reply other next then (λ x. x) a b)
-one_but_segments h items.Line reply other next then a b = same_turn (one_declines h refusals.Line reply other next then a b)
+-- also where it may choose what is proposed, but for the segments
+pub one_but_segments : (h : History) (item : Item) (reply other : Reply) (next then : History) → (IsStoring item → ⊥) → Step h item reply next → Step h item other then → SameButSegments reply other × (next ≡ then)
+one_but_segments h (items.Command (commands.Propose word fraction)) reply other next then free a b = (one_proposes h word fraction reply other a.1 b.1, a.0 ∙ sym b.0)
+one_but_segments h (items.Command (commands.Arrive doc at text)) reply other next then free a b = same_turn (one_command h (commands.Arrive doc at text) reply other next then (λ x. x) a b)
+one_but_segments h (items.Command (commands.Delete doc at)) reply other next then free a b = same_turn (one_command h (commands.Delete doc at) reply other next then (λ x. x) a b)
+one_but_segments h (items.Command (commands.Find at expr)) reply other next then free a b = same_turn (one_command h (commands.Find at expr) reply other next then (λ x. x) a b)
+one_but_segments h (items.Command (commands.Show doc at)) reply other next then free a b = same_turn (one_command h (commands.Show doc at) reply other next then (λ x. x) a b)
+one_but_segments h (items.Command (commands.Plan word Guarantee fraction)) reply other next then free a b = absurd (free tt)
+one_but_segments h (items.Command (commands.Plan word Uniform fraction)) reply other next then free a b = same_turn (one_command h (commands.Plan word Uniform fraction) reply other next then (λ x. x) a b)
+one_but_segments h (items.Command (commands.Plan word (Since at) fraction)) reply other next then free a b = same_turn (one_command h (commands.Plan word (Since at) fraction) reply other next then (λ x. x) a b)
+one_but_segments h (items.Command (commands.Between span expr)) reply other next then free a b = same_turn (one_command h (commands.Between span expr) reply other next then (λ x. x) a b)
+one_but_segments h (items.Command (commands.Certificate word)) reply other next then free a b = same_turn (one_command h (commands.Certificate word) reply other next then (λ x. x) a b)
+one_but_segments h (items.Command commands.Verify) reply other next then free a b = same_turn (one_command h commands.Verify reply other next then (λ x. x) a b)
+one_but_segments h items.Line reply other next then free a b = same_turn (one_declines h refusals.Line reply other next then a b)
+
+-- what is told of two plans that an item may store
+told_same : {one other : Summary} {next then : History} → SameButSegments (Planned one) (Planned other) × (next ≡ then) → SamePlanned one other
+told_same {one = one} {other = other} (inl same, on) =
+    let here : one ≡ other = cc in
+    record { length = ap (λ (s : Summary). s.length) here; space = ap (λ (s : Summary). s.space) here; full = ap (λ (s : Summary). s.full) here; horizon = ap (λ (s : Summary). s.horizon) here }
+told_same {one = one} (inr (segments, others, nodes, total, is, are), on) = absurd cc
+
+pub planned_alike : (h : History) (item : Item) (one other : Summary) (next then : History) → Step h item (Planned one) next → Step h item (Planned other) then → SamePlanned one other
+planned_alike h (items.Command (commands.Plan word Guarantee fraction)) one other next then a b = plans_alike h word fraction one other next then a b
+planned_alike h (items.Command (commands.Arrive doc at text)) one other next then a b = told_same (one_but_segments h (items.Command (commands.Arrive doc at text)) (Planned one) (Planned other) next then (λ x. x) a b)
+planned_alike h (items.Command (commands.Delete doc at)) one other next then a b = told_same (one_but_segments h (items.Command (commands.Delete doc at)) (Planned one) (Planned other) next then (λ x. x) a b)
+planned_alike h (items.Command (commands.Find at expr)) one other next then a b = told_same (one_but_segments h (items.Command (commands.Find at expr)) (Planned one) (Planned other) next then (λ x. x) a b)
+planned_alike h (items.Command (commands.Show doc at)) one other next then a b = told_same (one_but_segments h (items.Command (commands.Show doc at)) (Planned one) (Planned other) next then (λ x. x) a b)
+planned_alike h (items.Command (commands.Propose word fraction)) one other next then a b = told_same (one_but_segments h (items.Command (commands.Propose word fraction)) (Planned one) (Planned other) next then (λ x. x) a b)
+planned_alike h (items.Command (commands.Plan word Uniform fraction)) one other next then a b = told_same (one_but_segments h (items.Command (commands.Plan word Uniform fraction)) (Planned one) (Planned other) next then (λ x. x) a b)
+planned_alike h (items.Command (commands.Plan word (Since at) fraction)) one other next then a b = told_same (one_but_segments h (items.Command (commands.Plan word (Since at) fraction)) (Planned one) (Planned other) next then (λ x. x) a b)
+planned_alike h (items.Command (commands.Between span expr)) one other next then a b = told_same (one_but_segments h (items.Command (commands.Between span expr)) (Planned one) (Planned other) next then (λ x. x) a b)
+planned_alike h (items.Command (commands.Certificate word)) one other next then a b = told_same (one_but_segments h (items.Command (commands.Certificate word)) (Planned one) (Planned other) next then (λ x. x) a b)
+planned_alike h (items.Command commands.Verify) one other next then a b = told_same (one_but_segments h (items.Command commands.Verify) (Planned one) (Planned other) next then (λ x. x) a b)
+planned_alike h items.Line one other next then a b = told_same (one_but_segments h items.Line (Planned one) (Planned other) next then (λ x. x) a b)

@@ -27,7 +27,7 @@ IsSpanAnswerAt history a b query rows = IsSpanAnswer (λ doc t. is_some (text_at
 abbrev pub IsWordList : History → List ℕ → List Posting → Type 0
 IsWordList history word list = IsListOf (λ doc t. frequency_at history word (record { 0 = doc }) t) 0 (2 ^ 40) list
 
--- what is read for some words: for each its whole list, in postings
+-- how many postings are read for some words: of each word its whole list
 abbrev pub IsReadFor : History → List (List ℕ) → ℕ → Type 0
 IsReadFor history [] read = read ≡ 0
 IsReadFor history (word ∷ words) read =

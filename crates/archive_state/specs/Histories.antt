@@ -1,5 +1,5 @@
--- The history of an archive: what it is, when it is legal, and which texts are alive at a time.
-use Rattle.std.specs.Prelude.{◌≡◌, ℕ, ◌+◌, nat_lt, List, [], ◌∷◌, ◌++◌, length, sum_by, Option, Some, None}
+-- The history of an archive: what it is, why a change of it is refused, and which texts are alive at a time.
+use Rattle.std.specs.Prelude.{ℕ, ◌+◌, nat_lt, List, [], ◌∷◌, ◌++◌, length, sum_by, Option, Some, None}
 use Rattle.std.specs.List.{flat_map, filter_map}
 use Rattle.std.specs.Option.{option_map}
 use Rattle.time_base.specs.Limits.{limit_of}
@@ -11,9 +11,9 @@ use Rattle.version_store.specs.declared.change.Change.{Change}
 use Rattle.version_store.specs.Changes.{held_at, documents}
 use Rattle.version_store.specs.Refusals.{arrive_refusal, delete_refusal}
 use Rattle.version_store.specs.Tests.{first_of, when}
-use Rattle.record_codec.specs.Spelling.{spelling, IsEntry}
+use Rattle.record_codec.specs.Spelling.{spelling}
 use Rattle.record_codec.specs.declared.entry.Entry.{Entry}
-use Rattle.record_codec.specs.declared.entry.Entry.TheVariants.{Arrive, Delete}
+use Rattle.record_codec.specs.declared.entry.Entry.TheVariants.{Arrive, Delete, Planned}
 use Rattle.archive_state.specs.declared.refusal.Refusal.{Refusal}
 use Rattle.archive_state.specs.declared.refusal.Refusal.TheVariants as refusals
 use Rattle.archive_state.specs.Refusals.{refusal_of}
@@ -26,6 +26,7 @@ History = List Entry
 abbrev pub acts : Entry → List (Change (List ℕ))
 acts (Arrive doc at text) = record { doc = doc; at = at; held = Some text } ∷ []
 acts (Delete doc at) = record { doc = doc; at = at; held = None } ∷ []
+acts (Planned plan) = []
 
 -- the changes of documents that a history makes
 abbrev pub changes : History → List (Change (List ℕ))
@@ -35,37 +36,21 @@ changes history = flat_map acts history
 abbrev pub entry_keys : Entry → List (List ℕ)
 entry_keys (Arrive doc at text) = keys text
 entry_keys (Delete doc at) = []
+entry_keys (Planned plan) = []
 
 -- the distinct words of all texts, in the order of first occurrence
 abbrev pub vocabulary : History → List (List ℕ)
 vocabulary history = distinct (flat_map entry_keys history)
 
--- with an entry there would be more words than there may be
+-- the refusal of an entry with which there would be more words than there may be
 abbrev pub full_words : History → Entry → Option Refusal
 full_words before entry = when (nat_lt (limit_of Words) (length (vocabulary (before ++ entry ∷ [])))) (refusals.Full Words (limit_of Words))
 
--- why an entry may not come after a history: the first cause in order
+-- why an entry may not come after a history: for a change the first cause in order; for a plan there is none (what is asked of it is in Legal)
 abbrev pub entry_refusal : History → Entry → Option Refusal
 entry_refusal before (Arrive doc at text) = first_of (option_map refusal_of (arrive_refusal doc at (changes before)) ∷ full_words before (Arrive doc at text) ∷ [])
 entry_refusal before (Delete doc at) = option_map refusal_of (delete_refusal doc at (changes before))
-
--- an entry is legal after a history: its fields are in their ranges, and nothing refuses it
-pub record IsLegalEntry (before : History) (entry : Entry) : Type 0 where
-  pub ranges : IsEntry entry
-  pub allowed : entry_refusal before entry ≡ None
-
--- each of these entries is legal after those before it, which begin with a history
-abbrev pub AreLegalAfter : History → List Entry → Type 0
-AreLegalAfter before [] = Unit {0}
-AreLegalAfter before (entry ∷ entries) = IsLegalEntry before entry × AreLegalAfter (before ++ entry ∷ []) entries
-
--- a history is legal: each entry is legal after the entries before it
-abbrev pub IsLegal : History → Type 0
-IsLegal history = AreLegalAfter [] history
-
--- What a load tests of a history, entry by entry. Until there are entries of which a load tests less, it is all that makes one legal.
-abbrev pub IsLoadable : History → Type 0
-IsLoadable history = IsLegal history
+entry_refusal before (Planned plan) = None
 
 -- the text of a document that is alive at a time
 abbrev pub text_at : History → DocId → ℕ → Option (List ℕ)

@@ -1,7 +1,10 @@
 pub mod Answers
 pub mod Choices
 pub mod Histories
+pub mod Holding
+pub mod Legal
 pub mod Planning
+pub mod Plans
 pub mod Refusals
 pub mod Replies
 pub mod Rows

@@ -1,6 +1,7 @@
 -- What a phrase needs that is to be planned: it is one term, which some text has; the word has postings before the last time; and its list up to
--- there has few enough boundaries. These tests are made in this order, and the first that fails is the refusal.
-use Rattle.std.specs.Prelude.{◌≡◌, ◌⊎◌, ℕ, ◌<◌, ◌≤◌, List, [], ◌∷◌, length, Contains, Option, Some, None, option_map, unwrap_or}
+-- there has few enough boundaries. These tests are made in this order, and the first that fails is the refusal. In each definition, Refuses is
+-- what holds where a test fails, and GoesOn where none does.
+use Rattle.std.specs.Prelude.{◌⊎◌, ℕ, ◌<◌, ◌≤◌, List, [], ◌∷◌, length, Contains, Option, Some, None, option_map, unwrap_or}
 use Rattle.time_base.specs.declared.posting.Posting.{Posting}
 use Rattle.postings.specs.ListsOf.{IsListOf}
 use Rattle.elementary.specs.Boundaries.{AreBoundaries}
@@ -23,23 +24,31 @@ IsKnown history word = Contains (vocabulary history) word
 abbrev pub IsListUpTo : History → List ℕ → ℕ → List Posting → Type 0
 IsListUpTo history word h list = IsListOf (λ doc t. frequency_at history word (record { 0 = doc }) t) 0 h list
 
--- a list that isn't empty: its boundaries may be too many
+-- a list that isn't empty: refused where its boundaries are too many
 abbrev pub OfBoundaries : ℕ → List Posting → (Refusal → Type 0) → Type 0 → Type 0
 OfBoundaries h list Refuses GoesOn =
     (times : List ℕ) × AreBoundaries list h times × (((widest < length times) × Refuses (refusals.TooWide (length times))) ⊎ ((length times ≤ widest) × GoesOn))
 
--- a list, which may be empty
+-- a list: refused where it is empty, or its boundaries are too many
 abbrev pub OfList : ℕ → List Posting → (Refusal → Type 0) → Type 0 → Type 0
 OfList h [] Refuses GoesOn = Refuses refusals.NothingSealed
 OfList h (p ∷ list) Refuses GoesOn = OfBoundaries h (p ∷ list) Refuses GoesOn
 
--- a word, which may be unknown
+-- a word: refused where no text has it
+abbrev pub OfKnown : History → List ℕ → (Refusal → Type 0) → Type 0 → Type 0
+OfKnown history word Refuses GoesOn = ((IsKnown history word → ⊥) × Refuses refusals.UnknownWord) ⊎ (IsKnown history word × GoesOn)
+
+-- a word, and then its list up to the last time: refused by the first of these tests that fails
 abbrev pub OfWord : History → List ℕ → (Refusal → Type 0) → (List Posting → Type 0) → Type 0
 OfWord history word Refuses GoesOn =
-    ((IsKnown history word → ⊥) × Refuses refusals.UnknownWord)
-    ⊎ (IsKnown history word × ((list : List Posting) × IsListUpTo history word (last_second history) list × OfList (last_second history) list Refuses (GoesOn list)))
+    OfKnown history word Refuses ((list : List Posting) × IsListUpTo history word (last_second history) list × OfList (last_second history) list Refuses (GoesOn list))
 
--- A phrase by its key, if it is one term: either it is refused, or it goes on with its word and the word's list.
+-- a phrase by its key, or by None where it isn't one term: either it is refused, or it goes on with its word and the word's list
 abbrev pub OfPhrase : History → Option (List ℕ) → (Refusal → Type 0) → (List ℕ → List Posting → Type 0) → Type 0
 OfPhrase history None Refuses GoesOn = Refuses refusals.NotOneTerm
 OfPhrase history (Some word) Refuses GoesOn = OfWord history word Refuses (GoesOn word)
+
+-- the same of a phrase of which is asked only that it is one term and that some text has the word
+abbrev pub OfTerm : History → Option (List ℕ) → (Refusal → Type 0) → (List ℕ → Type 0) → Type 0
+OfTerm history None Refuses GoesOn = Refuses refusals.NotOneTerm
+OfTerm history (Some word) Refuses GoesOn = OfKnown history word Refuses (GoesOn word)

@@ -11,7 +11,7 @@ use Rattle.query_eval.specs.declared.spans.SpanRow.{SpanRow}
 use Rattle.archive_state.specs.declared.refusal.Refusal.{Refusal}
 use Rattle.archive_state.specs.declared.refusal.Refusal.TheVariants as refusals
 use Rattle.archive_state.specs.Refusals.{number_of}
-use Rattle.archive_state.specs.Steps.{Reply, Accepted, Refused, Found, Spanned, Shown, Proposed}
+use Rattle.archive_state.specs.Steps.{Reply, Accepted, Refused, Found, Spanned, Shown, Proposed, Planned, Summary}
 
 -- the name of a limit in a reply
 abbrev pub which_text : Which → List ℕ
@@ -35,7 +35,9 @@ detail_text (refusals.TooWide boundaries) = codes "TooWide " ++ decimal boundari
 detail_text (refusals.Full which limit) = codes "Full " ++ which_text which ++ codes " " ++ decimal limit
 detail_text (refusals.BadQuery offset) = codes "BadQuery " ++ decimal offset
 detail_text refusals.UnknownWord = codes "UnknownWord"
+detail_text refusals.NoPlan = codes "NoPlan"
 
+-- the line of a refusal: its number, its name, and its detail
 abbrev pub refusal_text : Refusal → List ℕ
 refusal_text why = codes "no " ++ decimal (number_of why) ++ codes " " ++ detail_text why ++ 10 ∷ []
 
@@ -48,18 +50,19 @@ abbrev pub span_text : SpanRow → List ℕ
 span_text row =
     codes "span " ++ decimal row.doc.0 ++ codes " " ++ decimal row.span.from ++ codes " " ++ decimal row.span.to ++ codes " " ++ decimal row.score ++ 10 ∷ []
 
--- how many rows there are, and how many postings were read
+-- the last line of an answer: how many rows there are, and how many postings were read
 abbrev pub end_text : ℕ → ℕ → List ℕ
 end_text rows read = codes "end " ++ decimal rows ++ codes " read " ++ decimal read ++ 10 ∷ []
 
--- a line for each row, and the end
+-- a line for each row, and the last line
 abbrev pub answer_text : List Row → ℕ → List ℕ
 answer_text rows read = flat_map row_text rows ++ end_text (length rows) read
 
+-- the same of rows over time
 abbrev pub spans_text : List SpanRow → ℕ → List ℕ
 spans_text rows read = flat_map span_text rows ++ end_text (length rows) read
 
--- a text with its length in front, or that there is none
+-- a line with the text's length, and the text; or that there is none
 abbrev pub shown_text : Option (List ℕ) → List ℕ
 shown_text None = codes "none" ++ 10 ∷ []
 shown_text (Some text) = codes "text " ++ decimal (length text) ++ 10 ∷ text ++ 10 ∷ []
@@ -72,13 +75,18 @@ segment_text s = codes "segment " ++ decimal s.span.from ++ codes " " ++ decimal
 abbrev pub node_text : Node → List ℕ
 node_text n = codes "node " ++ decimal n.at ++ codes " " ++ decimal n.pi ++ 10 ∷ []
 
--- how many segments there are, and the space that they take
+-- the last line of a plan: how many segments there are, and the space that they take
 abbrev pub space_text : ℕ → ℕ → List ℕ
 space_text segments total = codes "end " ++ decimal segments ++ codes " space " ++ decimal total ++ 10 ∷ []
 
--- a line for each segment and for each boundary, and the end
+-- a line for each segment and for each boundary, and the last line
 abbrev pub proposal_text : List Segment → List Node → ℕ → List ℕ
 proposal_text segments nodes total = (flat_map segment_text segments ++ flat_map node_text nodes) ++ space_text (length segments) total
+
+-- the line of a plan that was stored
+abbrev pub summary_text : Summary → List ℕ
+summary_text s = codes "plan " ++ decimal s.length ++ codes " segments " ++ decimal s.segments ++ codes " space " ++ decimal s.space ++ codes " full " ++ decimal s.full
+    ++ codes " horizon " ++ decimal s.horizon ++ 10 ∷ []
 
 -- the text of a reply
 abbrev pub reply_text : Reply → List ℕ
@@ -88,3 +96,4 @@ reply_text (Found rows read) = answer_text rows read
 reply_text (Spanned rows read) = spans_text rows read
 reply_text (Shown text) = shown_text text
 reply_text (Proposed segments nodes total) = proposal_text segments nodes total
+reply_text (Planned summary) = summary_text summary

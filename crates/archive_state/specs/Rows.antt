@@ -1,21 +1,28 @@
 -- Worked rows, which hold by computation: what the definitions say of small histories.
-use Rattle.std.specs.Prelude.{◌≡◌, ℕ, List, [], ◌∷◌, ◌++◌, codes, refl}
+use Rattle.std.specs.Prelude.{◌≡◌, ℕ, List, [], ◌∷◌, ◌++◌, replicate, codes, refl}
 use Rattle.std.specs.Fmt.{digits}
 use Rattle.std.specs.Str.{is_utf8, chars}
 use Rattle.std.specs.Str.Lossy.{utf8_valid_len}
 use lib.Utf8.{encode}
-use Rattle.std.proofs.Common.{lit<}
+use Rattle.std.proofs.Common.{lit<, lit≤}
 use Rattle.time_base.specs.declared.ids.DocId.{DocId}
 use Rattle.time_base.specs.declared.time.Time.{Time}
 use Rattle.record_codec.specs.Spelling.{spelling}
 use Rattle.record_codec.specs.declared.entry.Entry.TheVariants as entries
+use Rattle.record_codec.specs.declared.place.Layout.TheVariants.{Blocks}
+use Rattle.record_codec.specs.declared.place.Place.{Place}
+use Rattle.record_codec.specs.declared.plan.PlanEntry.{PlanEntry}
+use Rattle.record_codec.specs.PlanSpelling.{plan_spelling}
 use Rattle.archive_state.specs.declared.refusal.Refusal.TheVariants as refusals
 use Rattle.archive_state.specs.Histories.{History, alive, end_of}
+use Rattle.archive_state.specs.Planning.{last_second}
+use Rattle.archive_state.specs.Plans.{live_plans, live_gates}
 use Rattle.commands.specs.declared.command.Command.TheVariants.{Arrive}
 use Rattle.commands.specs.declared.command.Item.{Item}
 use Rattle.commands.specs.declared.command.Item.TheVariants as items
+use Rattle.commands.specs.declared.command.Kind.TheVariants.{Guarantee}
 use Rattle.commands.specs.declared.text.Text.TheVariants.{Bytes}
-use Rattle.archive_state.specs.Steps.{Accepted, Refused, Step}
+use Rattle.archive_state.specs.Steps.{Accepted, Refused, Planned, Step}
 use Rattle.archive_state.specs.Replies.{reply_text}
 
 abbrev doc : ℕ → DocId
@@ -54,6 +61,62 @@ bad_text_refused = (refl, refl)
 alive_from_ten : (alive one_arrival 9 ≡ []) × (alive one_arrival 10 ≡ (doc 7, codes "red a") ∷ [])
 alive_from_ten = (refl, refl)
 
+-- two replies as text
 texts : (reply_text (Accepted 12) ≡ codes "ok 12" ++ 10 ∷ []) × (reply_text (Refused refusals.SameTime) ≡ codes "no 3 SameTime" ++ 10 ∷ [])
 unfolding digits
 texts = (refl, refl)
+
+-- document 1 has the word `v` in [10, 40), and document 2 in [20, 30)
+abbrev four_changes : History
+four_changes =
+    entries.Arrive (doc 1) (record { seconds = 10; before_now = lit< tt }) (codes "v")
+    ∷ entries.Arrive (doc 2) (record { seconds = 20; before_now = lit< tt }) (codes "v")
+    ∷ entries.Delete (doc 2) (record { seconds = 30; before_now = lit< tt })
+    ∷ entries.Delete (doc 1) (record { seconds = 40; before_now = lit< tt })
+    ∷ []
+
+last_is_40 : last_second four_changes ≡ 40
+last_is_40 = refl
+
+-- places of one page each: the first page, and the next one
+abbrev page_0 : Place
+page_0 = record { extent = record { first = 0; bytes = 48; in_pages = lit≤ tt; numbered = lit< tt; sized = lit< tt }; digest = replicate 32 0 }
+
+abbrev page_1 : Place
+page_1 = record { extent = record { first = 1; bytes = 48; in_pages = lit≤ tt; numbered = lit< tt; sized = lit< tt }; digest = replicate 32 0 }
+
+-- a plan of a word for these places, whose last segment ends at 40
+abbrev plan : List ℕ → List Place → PlanEntry
+plan word places = record {
+  word = word;
+  layout = Blocks;
+  kind = Guarantee;
+  fraction = record { over = 2; under = 1; proper = lit≤ tt; at_least_one = lit≤ tt; in_range = lit< tt };
+  horizon = record { seconds = 40; before_now = lit< tt };
+  cuts = record { seconds = 10; before_now = lit< tt } ∷ [];
+  places = places;
+}
+
+-- of two plans of one word the second is live; before its gate are the header and the changes (90 bytes), and the first plan (82)
+second_is_live : live_plans (four_changes ++ entries.Planned (plan (codes "v") (page_0 ∷ [])) ∷ entries.Planned (plan (codes "v") (page_1 ∷ [])) ∷ [])
+    ≡ record { gate = 172; plan = plan (codes "v") (page_1 ∷ []) } ∷ []
+unfolding plan_spelling
+second_is_live = refl
+
+-- plans of two words are live both, in order
+both_are_live : live_plans (four_changes ++ entries.Planned (plan (codes "v") (page_0 ∷ [])) ∷ entries.Planned (plan (codes "w") (page_1 ∷ [])) ∷ [])
+    ≡ record { gate = 90; plan = plan (codes "v") (page_0 ∷ []) } ∷ record { gate = 172; plan = plan (codes "w") (page_1 ∷ []) } ∷ []
+unfolding plan_spelling
+both_are_live = refl
+
+-- each place has the gate of its plan's entry, and a first entry has its gate behind the header
+gates : (live_gates (entries.Planned (plan (codes "v") (page_0 ∷ page_1 ∷ [])) ∷ []) ≡ 16 ∷ 16 ∷ [])
+    × (live_gates (four_changes ++ entries.Planned (plan (codes "v") (page_0 ∷ [])) ∷ entries.Planned (plan (codes "w") (page_1 ∷ [])) ∷ []) ≡ 90 ∷ 172 ∷ [])
+unfolding plan_spelling
+gates = (refl, refl)
+
+-- the reply to a plan that is stored, and to a word that has none
+plan_texts : (reply_text (Planned (record { length = 5; segments = 3; space = 4; full = 2; horizon = 40 })) ≡ codes "plan 5 segments 3 space 4 full 2 horizon 40" ++ 10 ∷ [])
+    × (reply_text (Refused refusals.NoPlan) ≡ codes "no 14 NoPlan" ++ 10 ∷ [])
+unfolding digits
+plan_texts = (refl, refl)

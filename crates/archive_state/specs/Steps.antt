@@ -1,5 +1,6 @@
 -- The machine that an archive is: what an item of the input does to a history, and what is replied.
-use Rattle.std.specs.Prelude.{◌≡◌, ℕ, nat_lt, not, List, [], ◌∷◌, ◌++◌, length, Option, Some, None, Result, Ok, Err}
+use Rattle.std.specs.Prelude.{◌≡◌, ◌⊎◌, ℕ, nat_lt, not, if◌then◌else◌, List, [], ◌∷◌, ◌++◌, length, map, Option, Some, None, Result, Ok, Err}
+use Rattle.std.specs.List.{AllZip}
 use Rattle.std.specs.Str.{is_utf8}
 use Rattle.std.specs.Str.Lossy.{utf8_valid_len}
 use Rattle.time_base.specs.Limits.{limit_of}
@@ -8,17 +9,26 @@ use Rattle.time_base.specs.declared.ids.DocId.{DocId}
 use Rattle.time_base.specs.declared.posting.Posting.{Posting}
 use Rattle.time_base.specs.declared.time.Span.{Span}
 use Rattle.time_base.specs.declared.time.Time.{Time}
-use Rattle.time_base.specs.declared.which.Which.TheVariants.{Journal}
+use Rattle.time_base.specs.declared.which.Which.TheVariants.{Journal, Pages}
 use Rattle.commands.specs.declared.command.Command.{Command}
 use Rattle.commands.specs.declared.command.Command.TheVariants as commands
 use Rattle.commands.specs.declared.command.Item.{Item}
 use Rattle.commands.specs.declared.command.Item.TheVariants as items
+use Rattle.commands.specs.declared.command.Kind.{Kind}
+use Rattle.commands.specs.declared.command.Kind.TheVariants.{Guarantee, Uniform, Since}
 use Rattle.commands.specs.declared.text.Text.{Text}
 use Rattle.commands.specs.declared.text.Text.TheVariants as texts
 use Rattle.version_store.specs.Tests.{first_of, when}
 use Rattle.record_codec.specs.Spelling.{most_text}
 use Rattle.record_codec.specs.declared.entry.Entry.{Entry}
 use Rattle.record_codec.specs.declared.entry.Entry.TheVariants as entries
+use Rattle.record_codec.specs.declared.place.Layout.TheVariants.{Blocks}
+use Rattle.record_codec.specs.declared.place.Place.{Place}
+use Rattle.record_codec.specs.declared.plan.PlanEntry.{PlanEntry}
+use Rattle.page_store.specs.Placing.{ArePlaced, HaveNoRoom}
+use Rattle.sublist_store.specs.Preparing.{IsFor, extents, sizes, spellings}
+use Rattle.sublist_store.specs.Segments.{seconds}
+use Rattle.stored_plans.specs.Plans.{IsLeastPlan, plan_space}
 use Rattle.fold_tokens.specs.Terms.{one_term}
 use Rattle.proposals.specs.Proposals.{IsProposal}
 use Rattle.proposals.specs.declared.proposal.Node.{Node}
@@ -32,12 +42,23 @@ use Rattle.archive_state.specs.declared.refusal.Refusal.{Refusal}
 use Rattle.archive_state.specs.declared.refusal.Refusal.TheVariants as refusals
 use Rattle.archive_state.specs.Histories.{History, entry_refusal, end_of, text_at}
 use Rattle.archive_state.specs.Answers.{IsAnswerAt, IsSpanAnswerAt, IsReadFor}
-use Rattle.archive_state.specs.Planning.{OfPhrase, last_second}
+use Rattle.archive_state.specs.Planning.{OfPhrase, OfTerm, IsListUpTo, last_second}
+use Rattle.archive_state.specs.Plans.{live_extents, plan_of}
+
+-- what is told of a plan that is stored: how many entries the history has now, how many segments the plan has, how many postings their sublists
+-- have together, how many postings the word's list has up to the horizon, and the horizon in seconds
+pub record Summary : Type 0 where
+  pub length : ℕ
+  pub segments : ℕ
+  pub space : ℕ
+  pub full : ℕ
+  pub horizon : ℕ
 
 -- what an item is answered
 pub data Reply : Type 0 where
   -- it is carried out, and the history has so many entries now
   Accepted : ℕ → Reply
+  -- it is refused, and nothing changes
   Refused : Refusal → Reply
   -- the rows that match, and how many postings were read for them
   Found : List Row → ℕ → Reply
@@ -47,6 +68,8 @@ pub data Reply : Type 0 where
   Shown : Option (List ℕ) → Reply
   -- the segments of a plan with their sizes, the boundaries with the least space up to each, and the plan's space
   Proposed : List Segment → List Node → ℕ → Reply
+  -- a plan is stored
+  Planned : Summary → Reply
 
 -- the text has more bytes than a text may have
 abbrev pub too_long : List ℕ → Option Refusal
@@ -84,51 +107,120 @@ IsRepliedBy Finds (Err place) reply = reply ≡ Refused (refusals.BadQuery place
 abbrev pub IsReplied : (Query → Reply → Type 0) → List ℕ → Reply → Type 0
 IsReplied Finds text reply = (query : Result Query ℕ) × IsRead key_of text query × IsRepliedBy Finds query reply
 
--- what is found at a time by a query, and by a text
+-- what is found at a time by a query, in rows and postings read
 abbrev pub FindsBy : History → Time → Query → Reply → Type 0
 FindsBy history at query reply =
     (rows : List Row) × (read : ℕ) × IsAnswerAt history at.seconds query rows × IsReadFor history (words_of query) read × (reply ≡ Found rows read)
 
+-- the same by a text
 abbrev pub Finds : History → Time → List ℕ → Reply → Type 0
 Finds history at text reply = IsReplied (FindsBy history at) text reply
 
--- what is found over a window of time by a query, and by a text
+-- what is found over a window of time by a query, in rows and postings read
 abbrev pub SpansBy : History → Span → Query → Reply → Type 0
 SpansBy history span query reply =
     (rows : List SpanRow) × (read : ℕ) × IsSpanAnswerAt history span.from span.to query rows × IsReadFor history (words_of query) read × (reply ≡ Spanned rows read)
 
+-- the same by a text
 abbrev pub Spans : History → Span → List ℕ → Reply → Type 0
 Spans history span text reply = IsReplied (SpansBy history span) text reply
 
--- What is proposed for a phrase: a least plan of its word's list up to the last time, whatever the tests don't refuse.
+-- any least plan of a list is proposed
 abbrev pub ProposesPlan : Fraction → ℕ → List Posting → Reply → Type 0
 ProposesPlan factor horizon list reply =
     (segments : List Segment) × (nodes : List Node) × (total : ℕ) × IsProposal list factor horizon segments nodes total × (reply ≡ Proposed segments nodes total)
 
+-- what is proposed for a phrase: it is refused, or a least plan of its word's list up to the last time is shown
 abbrev pub Proposes : History → List ℕ → Fraction → Reply → Type 0
 Proposes history phrase factor reply =
     OfPhrase history (one_term phrase) (λ why. reply ≡ Refused why) (λ word list. ProposesPlan factor (last_second history) list reply)
 
+-- the stored plan of a word's list, as it is shown: a proposal whose segments begin at the plan's cuts
+pub record IsCertificate (plan : PlanEntry) (list : List Posting) (segments : List Segment) (nodes : List Node) (total : ℕ) : Type 0 where
+  pub proposal : IsProposal list plan.fraction plan.horizon.seconds segments nodes total
+  pub stored : map (λ s. s.span.from) segments ≡ seconds plan.cuts
+
+-- what is shown of a live plan, by its kind: only one that keeps to a guarantee has a certificate
+abbrev pub ShowsPlan : History → PlanEntry → Kind → Reply → Type 0
+ShowsPlan history plan Guarantee reply = (list : List Posting) × IsListUpTo history plan.word plan.horizon.seconds list
+    × ((segments : List Segment) × (nodes : List Node) × (total : ℕ) × IsCertificate plan list segments nodes total × (reply ≡ Proposed segments nodes total))
+ShowsPlan history plan Uniform reply = reply ≡ Refused refusals.NoPlan
+ShowsPlan history plan (Since at) reply = reply ≡ Refused refusals.NoPlan
+
+-- what is shown of a word's live plan, if it has one
+abbrev pub ShowsLive : History → Option PlanEntry → Reply → Type 0
+ShowsLive history None reply = reply ≡ Refused refusals.NoPlan
+ShowsLive history (Some plan) reply = ShowsPlan history plan plan.kind reply
+
+-- what is certified for a phrase: it is refused, or its word's live plan is shown
+abbrev pub Certifies : History → List ℕ → Reply → Type 0
+Certifies history phrase reply = OfTerm history (one_term phrase) (λ why. reply ≡ Refused why) (λ word. ShowsLive history (plan_of history word) reply)
+
 -- a command that is refused changes nothing
 abbrev pub Declines : History → Refusal → Reply → History → Type 0
 Declines old why reply new = (new ≡ old) × (reply ≡ Refused why)
+
+-- the entry of a plan that is stored and keeps to a guarantee: its sublists are in blocks
+abbrev pub guarantee : List ℕ → Fraction → Time → List Time → List Place → PlanEntry
+guarantee word factor horizon cuts places =
+    record { word = word; layout = Blocks; kind = Guarantee; fraction = factor; horizon = horizon; cuts = cuts; places = places }
+
+-- a plan's entry comes behind the history; or it is refused, as with it the journal would pass its limit
+abbrev pub AddsPlan : History → PlanEntry → Option Refusal → List Posting → Reply → History → Type 0
+AddsPlan old plan None list reply new = (new ≡ old ++ entries.Planned plan ∷ []) × (reply ≡ Planned (record {
+  length = length new;
+  segments = length plan.cuts;
+  space = plan_space list plan.cuts plan.horizon.seconds;
+  full = length list;
+  horizon = plan.horizon.seconds;
+}))
+AddsPlan old plan (Some why) list reply new = Declines old why reply new
+
+-- A plan with these cuts is stored: each segment's sublist takes the lowest run of pages that no live place and no earlier segment has. Where
+-- there is no such run, it is refused.
+abbrev pub StoresCuts : History → List ℕ → Fraction → Time → List Time → List Posting → Reply → History → Type 0
+StoresCuts old word factor horizon cuts list reply new = let bytes = spellings Blocks list (seconds cuts) horizon.seconds in
+    (HaveNoRoom (live_extents old) (sizes bytes) × Declines old (refusals.Full Pages (limit_of Pages)) reply new)
+    ⊎ ((places : List Place) × ArePlaced (live_extents old) (sizes bytes) (extents places) × AllZip IsFor places bytes
+    × (let plan = guarantee word factor horizon cuts places in AddsPlan old plan (full_journal old (entries.Planned plan)) list reply new))
+
+-- any least plan of a word's list up to the last time is stored, if there is room for it
+pub record StoresPlan (old : History) (factor : Fraction) (word : List ℕ) (list : List Posting) (reply : Reply) (new : History) : Type 0 where
+  pub horizon : Time
+  pub horizon_is : horizon.seconds ≡ last_second old
+  pub cuts : List Time
+  pub least : IsLeastPlan list factor cuts horizon.seconds
+  pub stores : StoresCuts old word factor horizon cuts list reply new
+
+-- A term's key, if it is UTF-8, as an entry's word has to be. (A key encodes what Unicode's tables give, so each should be. That isn't proved of
+-- the tables, so it is asked here; a phrase whose key weren't UTF-8 would be refused as NotOneTerm.)
+abbrev pub spelled_key : Option (List ℕ) → Option (List ℕ)
+spelled_key None = None
+spelled_key (Some key) = if is_utf8 key then Some key else None
+
+-- what becomes of a phrase that is to be planned: it is refused, or a least plan of its word's list is stored
+abbrev pub Plans : History → List ℕ → Fraction → Reply → History → Type 0
+Plans old phrase factor reply new =
+    OfPhrase old (spelled_key (one_term phrase)) (λ why. Declines old why reply new) (λ word list. StoresPlan old factor word list reply new)
 
 -- a version arrives, with a text that was kept, or with one that is too long to be
 abbrev pub Arrives : History → DocId → Time → Text → Reply → History → Type 0
 Arrives old doc at (texts.Bytes text) reply new = Adds old (entries.Arrive doc at text) (arrival_refusal old doc at text) reply new
 Arrives old doc at (texts.TooLong bytes) reply new = Declines old (refusals.TooLong most_text) reply new
 
--- From the old history, the archive may give this reply to the command and go on to the new one. A command that isn't built yet is a line
--- that is no command.
+-- From the old history, the archive may give this reply to the command and go on to the new one. A command that isn't built yet is answered
+-- as a line that is no command.
 abbrev pub CarriesOut : History → Command → Reply → History → Type 0
 CarriesOut old (commands.Arrive doc at text) reply new = Arrives old doc at text reply new
 CarriesOut old (commands.Delete doc at) reply new = Adds old (entries.Delete doc at) (deletion_refusal old doc at) reply new
 CarriesOut old (commands.Find at expr) reply new = (new ≡ old) × Finds old at expr reply
 CarriesOut old (commands.Show doc at) reply new = (new ≡ old) × (reply ≡ Shown (text_at old doc at.seconds))
-CarriesOut old (commands.Plan word kind fraction) reply new = Declines old refusals.Line reply new
+CarriesOut old (commands.Plan word Guarantee fraction) reply new = Plans old word fraction reply new
+CarriesOut old (commands.Plan word Uniform fraction) reply new = Declines old refusals.Line reply new
+CarriesOut old (commands.Plan word (Since at) fraction) reply new = Declines old refusals.Line reply new
 CarriesOut old (commands.Propose word fraction) reply new = (new ≡ old) × Proposes old word fraction reply
 CarriesOut old (commands.Between span expr) reply new = (new ≡ old) × Spans old span expr reply
-CarriesOut old (commands.Certificate word) reply new = Declines old refusals.Line reply new
+CarriesOut old (commands.Certificate word) reply new = (new ≡ old) × Certifies old word reply
 CarriesOut old commands.Verify reply new = Declines old refusals.Line reply new
 
 -- the step of the machine: a command is carried out, and a line that is none is refused

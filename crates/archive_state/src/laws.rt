@@ -3,40 +3,47 @@ ghost use Rattle.std.specs.Prelude.{◌≡◌, ◌+◌, ◌++◌, [], ◌∷◌,
 ghost use Rattle.machine_model.specs.Areas.{Bytes};
 ghost use Rattle.gate_journal.specs.Records.{front};
 ghost use Rattle.record_codec.specs.declared.entry.Entry.{Entry};
-ghost use Rattle.archive_state.specs.Histories.{History, IsLegal, IsLegalEntry, end_of};
+ghost use Rattle.archive_state.specs.Histories.{History, end_of};
+ghost use Rattle.archive_state.specs.Legal.{IsLegal, IsLegalEntry, IsLoadable};
 ghost use Rattle.commands.specs.Documents.{HasDocument};
 ghost use Rattle.commands.specs.declared.command.Item.{Item};
-ghost use Rattle.archive_state.specs.Choices.{IsChoice, SameButSegments};
-ghost use Rattle.archive_state.specs.Steps.{Reply, Step};
+ghost use Rattle.archive_state.specs.Choices.{IsChoice, IsStoring, SameButSegments, SamePlanned};
+ghost use Rattle.archive_state.specs.Steps.{Reply, Planned, Summary, Step};
 ghost use Rattle.archive_state.specs.Runs.{Turn};
 ghost use Rattle.archive_state.specs.Stands.{Stands, IsNotArchive, bodies_of};
 
-/// A history is legal as far as each of its entries is, and its journal ends behind the closed gate.
-/// Does nothing.
+/// A history is legal exactly where each of its entries is legal after those before it, and a load
+/// accepts each legal history. A history's journal ends with one byte behind its records, the closed
+/// gate. Does nothing.
 pub fn a_history_is_legal_entry_by_entry()
     ensures more { (h : History) (e : Entry) → IsLegal h → IsLegalEntry h e → IsLegal (h ++ e ∷ []) }
     ensures middle { (h : History) (e : Entry) (rest : History) → IsLegal (h ++ e ∷ rest) → IsLegal h × IsLegalEntry h e }
+    ensures loads { (h : History) → IsLegal h → IsLoadable h }
     ensures end { (h : History) → end_of h ≡ length (front (bodies_of h)) + 1 }
 {}
 
-/// The abstract machine never gets stuck, and chooses nothing but which least plan it proposes: from a
-/// legal history each item has a turn, which is the only one but for the segments of a proposal; and
-/// where its document is in range, it leads to a legal history. Does nothing.
+/// The abstract machine never gets stuck, and chooses nothing but which least plan it proposes or
+/// stores. From a legal history each item has a turn. It is the only one where no plan is asked for;
+/// two turns that propose a plan differ in its segments alone; and where two turns of one item each
+/// store a plan, their replies are the same but for the number of segments. (By its choice the one
+/// may find room in Pages where the other is refused.) Where the item's document is in range, a turn
+/// leads to a legal history. Does nothing.
 pub fn each_item_has_one_turn()
     ensures turn { (h : History) (item : Item) → IsLegal h → (turn : Turn Reply History) × Step h item turn.reply turn.next }
     ensures one { (h : History) (item : Item) (reply other : Reply) (next then : History) → (IsChoice item → ⊥) → Step h item reply next → Step h item other then → (reply ≡ other) × (next ≡ then) }
-    ensures but_segments { (h : History) (item : Item) (reply other : Reply) (next then : History) → Step h item reply next → Step h item other then → SameButSegments reply other × (next ≡ then) }
+    ensures but_segments { (h : History) (item : Item) (reply other : Reply) (next then : History) → (IsStoring item → ⊥) → Step h item reply next → Step h item other then → SameButSegments reply other × (next ≡ then) }
+    ensures plans { (h : History) (item : Item) (one other : Summary) (next then : History) → Step h item (Planned one) next → Step h item (Planned other) then → SamePlanned one other }
     ensures legal { (h : History) (item : Item) (reply : Reply) (next : History) → IsLegal h → HasDocument item → Step h item reply next → IsLegal next }
 {}
 
-/// An image stands for one history at most, and one that stands for a history is refused nowhere.
-/// Does nothing.
+/// An image stands for one history at most, and one that stands for a history isn't refused at any
+/// place. Does nothing.
 pub fn an_image_stands_for_one_history()
     ensures one_history { (image : Bytes) (one other : History) → Stands one image → Stands other image → one ≡ other }
     ensures not_refused { (image : Bytes) (h : History) (at : ℕ) → Stands h image → IsNotArchive image at → ⊥ }
 {}
 
-/// Bytes that are no archive's show it at one place. Does nothing.
+/// Bytes that are refused as no archive's are refused at one place. Does nothing.
 pub fn an_archive_is_refused_at_one_place()
     ensures one_place { (image : Bytes) (one other : ℕ) → IsNotArchive image one → IsNotArchive image other → one ≡ other }
 {}

@@ -1,16 +1,22 @@
 //! The history of an archive and the machine that an archive is, as definitions.
 //!
-//! A history is a list of entries, each allowed after those before it (`specs/Histories.antt`). An
-//! abstract machine carries out commands on it, one step after another (`specs/Steps.antt`), and
-//! each reply has a text (`specs/Replies.antt`). What a stopped run has acknowledged, and what the
-//! images that it left stand for, is said of any such machine (`specs/Runs.antt`).
+//! A history is a list of entries, changes of documents and plans (`specs/Histories.antt`). It is legal
+//! where each entry may come after those before it (`specs/Legal.antt`). Of each word the plan stored
+//! last is live (`specs/Plans.antt`). An image of a disk stands for a legal history where its journal
+//! spells the entries (`specs/Stands.antt`) and its pages hold what the live plans need
+//! (`specs/Holding.antt`). An abstract machine carries out commands on a history, one step after
+//! another (`specs/Steps.antt`), and each reply has a text (`specs/Replies.antt`). What a stopped run
+//! has acknowledged, and what the images that it left stand for, is said of any such machine
+//! (`specs/Runs.antt`).
 #![tactic(auto)]
 
 mod laws;
 mod refusal;
+mod stored;
 
 pub use laws::{
     a_history_is_legal_entry_by_entry, an_archive_is_refused_at_one_place,
     an_image_stands_for_one_history, each_item_has_one_turn,
 };
 pub use refusal::Refusal;
+pub use stored::StoredPlan;

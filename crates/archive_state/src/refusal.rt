@@ -8,7 +8,7 @@ use version_store::VersionRefusal;
 /// Why a command is refused. A refused command changes nothing.
 #[derive(Clone, Copy, Debug, PartialEq, Eq)]
 pub enum Refusal {
-    /// The line is no command.
+    /// The line is no command, or one that isn't built yet.
     Line,
     /// The time lies before the last time of the archive.
     TimeBack {
@@ -50,8 +50,10 @@ pub enum Refusal {
         /// Where that shows, in bytes from its start.
         offset: u64,
     },
-    /// No text has the word.
+    /// No text of the archive has the word.
     UnknownWord,
+    /// The word has no live plan that keeps to a guarantee.
+    NoPlan,
 }
 
 impl Refusal {
@@ -72,6 +74,7 @@ impl Refusal {
             Refusal::Full { .. } => 10,
             Refusal::BadQuery { .. } => 11,
             Refusal::UnknownWord => 13,
+            Refusal::NoPlan => 14,
         }
     }
 }

@@ -2,7 +2,7 @@
 use Rattle.std.specs.Prelude.{◌≡◌, ℕ, ◌<◌, ◌≤◌, List, ◌++◌, length, Option, Some, None, Result, Ok, refl}
 use Rattle.std.proofs.Common.{sym, ap, subst, ◌∙◌, arith}
 use Rattle.std.specs.Int.{Width, to_be_bytes}
-use Rattle.record_codec.specs.Reading.{◌>>=◌, number_at, value_or}
+use Rattle.record_codec.specs.FieldReading.{◌>>=◌, number_at, value_or}
 use Rattle.record_codec.specs.PlanReading.{named_at}
 use Rattle.record_codec.proofs.Steps.{bind_ok, ok_is, Within, Within-then, Within-next}
 use Rattle.record_codec.proofs.FieldLemmas.{IsBytes, Takes, IsWide, number_takes, number_again, number_within, value_or-ok}

@@ -13,7 +13,8 @@ use Rattle.time_base.specs.declared.time.Time.{Time}
 use Rattle.time_base.specs.Times.{time_by, time_of}
 use Rattle.time_base.proofs.TimeLemmas.{time_of-seconds}
 use Rattle.record_codec.specs.Spelling.{most_text}
-use Rattle.record_codec.specs.Reading.{◌>>=◌, number_at, doc_at, value_or, time_at, change_at, text_at, end_at}
+use Rattle.record_codec.specs.FieldReading.{◌>>=◌, number_at, doc_at, value_or, time_at, end_at}
+use Rattle.record_codec.specs.Reading.{change_at, text_at}
 use Rattle.record_codec.proofs.Steps.{bind_ok, test_ok, guard_ok, ok_is, Within, Within-then, Within-next}
 
 abbrev pub IsBytes : List ℕ → Type 0

@@ -1,8 +1,8 @@
 pub mod Steps
 pub mod FieldLemmas
-pub mod EntryLemmas
 pub mod FieldCodec
 pub mod NumberLemmas
 pub mod PlanFieldLemmas
 pub mod SegmentLemmas
 pub mod PlanLemmas
+pub mod EntryLemmas

@@ -19,7 +19,7 @@ use Rattle.record_codec.specs.declared.place.Layout.TheVariants.{Flat, Blocks}
 use Rattle.record_codec.specs.declared.place.Place.{Place}
 use Rattle.record_codec.specs.Numbers.{fraction_of, extent_of}
 use Rattle.record_codec.specs.PlanSpelling.{layout_byte, kind_bytes, segment_bytes, IsDigest, IsWord}
-use Rattle.record_codec.specs.Reading.{number_at, time_at}
+use Rattle.record_codec.specs.FieldReading.{number_at, time_at}
 use Rattle.record_codec.specs.PlanReading.{named_at, if_within, number_in, layout_at, kind_at, fraction_at, word_at, key_at, extent_at, digest_at, place_at, cut_at, segment_at}
 use Rattle.record_codec.proofs.Steps.{bind_ok, test_ok, guard_ok, ok_is, Within, Within-more, Within-then}
 use Rattle.record_codec.proofs.FieldLemmas.{IsBytes, IsBytes-take, IsBytes-drop, Takes, wide32, wide64, seconds-time_of}

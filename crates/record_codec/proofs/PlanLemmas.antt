@@ -1,5 +1,5 @@
 -- A plan that is read is spelled so, and what is spelled so is read.
-use Rattle.std.specs.Prelude.{◌≡◌, ℕ, zero, suc, ◌-◌, ◌^◌, ◌<◌, ◌≤◌, List, [], ◌∷◌, ◌++◌, length, Result, Ok, Err, All, refl}
+use Rattle.std.specs.Prelude.{◌≡◌, ℕ, ◌^◌, ◌<◌, ◌≤◌, List, [], ◌∷◌, ◌++◌, length, Ok, refl}
 use Rattle.std.specs.Int.{w32, w64, to_be_bytes}
 use Rattle.std.proofs.Common.{sym, ap, subst, ◌∙◌, arith}
 use Rattle.std.proofs.lemmas.List.{append-nil, length-append}
@@ -8,10 +8,10 @@ use Rattle.commands.specs.declared.command.Kind.TheVariants.{Guarantee, Uniform,
 use Rattle.time_base.specs.declared.time.Time.{Time}
 use Rattle.record_codec.specs.declared.place.Place.{Place}
 use Rattle.record_codec.specs.declared.plan.PlanEntry.{PlanEntry}
-use Rattle.record_codec.specs.PlanSpelling.{most_segments, layout_byte, kind_bytes, segments_bytes, plan_spelling, kind_length, plan_length, IsDigest, IsWord, IsWellCut, IsPlanEntry}
-use Rattle.record_codec.specs.Reading.{time_at, end_at}
-use Rattle.record_codec.specs.PlanReading.{number_in, layout_at, kind_at, fraction_at, key_at, segments_at, plan_at, planned_at, IsPlanFault}
-use Rattle.record_codec.proofs.Steps.{bind_ok, ok_is, Within, Within-more, Within-next, Within-err}
+use Rattle.record_codec.specs.PlanSpelling.{most_segments, layout_byte, kind_bytes, segments_bytes, plan_spelling, kind_length, plan_length, IsWord, IsPlanEntry}
+use Rattle.record_codec.specs.FieldReading.{time_at, end_at}
+use Rattle.record_codec.specs.PlanReading.{number_in, layout_at, kind_at, fraction_at, key_at, segments_at, plan_at}
+use Rattle.record_codec.proofs.Steps.{bind_ok, ok_is, Within, Within-next}
 use Rattle.record_codec.proofs.FieldLemmas.{IsBytes, end_takes, end_within}
 use Rattle.record_codec.proofs.FieldCodec.{IsField}
 use Rattle.record_codec.proofs.PlanFieldLemmas.{time_field, number_field, layout_field, kind_field, fraction_field, key_field}
@@ -76,8 +76,9 @@ plan_takes bytes p fits r =
 
 -- ---- what is spelled so is read
 
-pub plan_again : (p : PlanEntry) → IsPlanEntry p → planned_at (plan_spelling p) ≡ Ok p
-unfolding planned_at plan_at plan_spelling
+-- a spelling is the tag, and bytes that are read as the plan
+pub plan_again : (p : PlanEntry) → IsPlanEntry p → (bytes : List ℕ) × (plan_spelling p ≡ 3 ∷ bytes) × (plan_at bytes ≡ Ok p)
+unfolding plan_at plan_spelling
 plan_again p fits =
     let cut = fits.well_cut in
     let segs = segments_bytes p.cuts p.places in
@@ -93,6 +94,8 @@ plan_again p fits =
     } in
     let read : segments_at (length p.cuts) 0 p.horizon segs ≡ Ok ((p.cuts, p.places), []) =
     ap (segments_at (length p.cuts) 0 p.horizon) (sym (append-nil segs)) ∙ (segments_field (length p.cuts) 0 p.horizon).again (p.cuts, p.places) [] are in
+    let bytes = layout_byte p.layout ∷ (kind_bytes p.kind ++ fraction) in
+    let again : plan_at bytes ≡ Ok p =
     rw (
       layout_field.again p.layout (kind_bytes p.kind ++ fraction) tt,
       kind_field.again p.kind fraction tt,
@@ -101,11 +104,12 @@ plan_again p fits =
       key_field.again p.word counted fits.word,
       count_field.again (length p.cuts) segs (cut.some, cut.most),
       read,
-    ) refl
+    ) refl in
+    (bytes, refl, again)
 
 -- ---- where it fails
 
-plan_within : (bytes : List ℕ) → Within (λ _. 0) (length bytes) (plan_at bytes)
+pub plan_within : (bytes : List ℕ) → Within (λ _. 0) (length bytes) (plan_at bytes)
 unfolding plan_at
 plan_within bytes =
     Within-next (λ x. length x.1) (λ _. 0) (length bytes) (layout_at bytes) _ (layout_field.within bytes) (λ a.
@@ -116,54 +120,6 @@ plan_within bytes =
     Within-next (λ x. length x.1) (λ _. 0) (length e.1) (number_in 1 most_segments e.1) _ (count_field.within e.1) (λ f.
     Within-next (λ x. length x.1) (λ _. 0) (length f.1) (segments_at f.0 0 d.0 f.1) _ ((segments_field f.0 0 d.0).within f.1) (λ g.
     Within-next (λ _. 0) (λ _. 0) (length g.1) (end_at g.1) _ (end_within g.1) (λ h. omega arith))))))))
-
--- ---- the whole body
-
-pub planned_takes : (bytes : List ℕ) (p : PlanEntry) → IsBytes bytes → planned_at bytes ≡ Ok p → IsPlanEntry p × (bytes ≡ plan_spelling p)
-unfolding planned_at
-planned_takes [] p fits r = absurd cc
-planned_takes (zero ∷ bytes) p fits r = absurd cc
-planned_takes (suc zero ∷ bytes) p fits r = absurd cc
-planned_takes (suc (suc zero) ∷ bytes) p fits r = absurd cc
-planned_takes (suc (suc (suc zero)) ∷ bytes) p fits r = plan_takes bytes p (λ i. fits (suc i)) r
-planned_takes (suc (suc (suc (suc tag))) ∷ bytes) p fits r = absurd cc
-
-planned_within : (bytes : List ℕ) → Within (λ _. 0) (length bytes) (planned_at bytes)
-unfolding planned_at
-planned_within [] = omega arith
-planned_within (zero ∷ bytes) = omega arith
-planned_within (suc zero ∷ bytes) = omega arith
-planned_within (suc (suc zero) ∷ bytes) = omega arith
-planned_within (suc (suc (suc zero)) ∷ bytes) = Within-more (λ _. 0) (length bytes) (length (3 ∷ bytes)) _ (omega arith) (plan_within bytes)
-planned_within (suc (suc (suc (suc tag))) ∷ bytes) = omega arith
-
--- what is left at a fault is no more than there was
-pub planned_left : (bytes : List ℕ) (left : ℕ) → planned_at bytes ≡ Err left → left ≤ length bytes
-planned_left bytes left e = Within-err (λ _. 0) (length bytes) (planned_at bytes) left (planned_within bytes) e
-
--- a failure's fault, by its offset
-pub plan_fault_at : (bytes : List ℕ) (left : ℕ) → planned_at bytes ≡ Err left → IsPlanFault bytes (length bytes - left)
-plan_fault_at bytes left e = let le = planned_left bytes left e in (left, omega arith, e)
-
--- what is read as a plan spells no other
-pub plan_only : (bytes : List ℕ) (a b : PlanEntry) → planned_at bytes ≡ Ok a → IsPlanEntry b → bytes ≡ plan_spelling b → a ≡ b
-plan_only bytes a b e fits same = ok_is a b (sym e ∙ ap planned_at same ∙ plan_again b fits)
-
--- what fails spells nothing
-pub plan_none : (bytes : List ℕ) (left : ℕ) (p : PlanEntry) → planned_at bytes ≡ Err left → IsPlanEntry p → bytes ≡ plan_spelling p → ⊥
-plan_none bytes left p fails fits same = let read = ap planned_at same ∙ plan_again p fits in cc
-
--- two plans with one spelling are one
-pub one_plan : (a b : PlanEntry) → IsPlanEntry a → IsPlanEntry b → plan_spelling a ≡ plan_spelling b → a ≡ b
-one_plan a b p q same = plan_only (plan_spelling a) a b (plan_again a p) q same
-
--- bytes that spell nothing have a fault
-pub a_plan_fault : (bytes : List ℕ) → IsBytes bytes → ((p : PlanEntry) → IsPlanEntry p → bytes ≡ plan_spelling p → ⊥) → (at : ℕ) × IsPlanFault bytes at
-a_plan_fault bytes fits none = go (planned_at bytes) refl
-  where
-    go : (r : Result PlanEntry ℕ) → planned_at bytes ≡ r → (at : ℕ) × IsPlanFault bytes at
-    go (Ok p) is = let found = planned_takes bytes p fits is in absurd (none p found.0 found.1)
-    go (Err left) is = (length bytes - left, plan_fault_at bytes left is)
 
 -- ---- how long it is
 
@@ -199,20 +155,18 @@ plan_long p fits = omega (arith, spelling_length p fits, kind_some p.kind, fits.
 
 -- ---- what is written
 
--- what was written is the spelling of a plan that has one, of as many bytes
+-- what was written is the spelling of a plan, of as many bytes
 pub record IsWritten (p : PlanEntry) (out : List ℕ) : Type 0 where
-  pub fits : IsPlanEntry p
   pub same : out ≡ plan_spelling p
   pub len : length out ≡ plan_length p
   pub at_least : 77 ≤ length out
   pub at_most : length out < 2 ^ 32
 
-pub written : (p : PlanEntry) (none front out : List ℕ) (cuts : List Time) (places : List Place) → IsWellCut p → IsWord p.word → All (λ place. IsDigest place.digest) places
+pub written : (p : PlanEntry) (none front out : List ℕ) (cuts : List Time) (places : List Place) → IsPlanEntry p
     → cuts ≡ p.cuts → places ≡ p.places → none ≡ [] → front ++ segments_bytes p.cuts p.places ≡ none ++ plan_spelling p → out ≡ front ++ segments_bytes cuts places → IsWritten p out
-written p none front out cuts places well_cut word digests c d n f o =
-    let fits : IsPlanEntry p = record { well_cut = well_cut; word = word; digests = subst (λ (ps : List Place). All (λ place. IsDigest place.digest) ps) d digests } in
+written p none front out cuts places fits c d n f o =
     let same : out ≡ plan_spelling p = o ∙ (λ i. front ++ segments_bytes (c i) (d i)) ∙ f ∙ ap (λ (xs : List ℕ). xs ++ plan_spelling p) n in
     let long = plan_long p fits in
     let short = plan_short p fits in
     let as_long = ap (λ (xs : List ℕ). length xs) same in
-    record { fits = fits; same = same; len = as_long ∙ spelling_length p fits; at_least = omega arith; at_most = omega arith }
+    record { same = same; len = as_long ∙ spelling_length p fits; at_least = omega arith; at_most = omega arith }

@@ -3,14 +3,14 @@ use Rattle.std.specs.Prelude.{◌≡◌, ℕ, zero, suc, ◌+◌, ◌-◌, ◌*�
 use Rattle.std.specs.List.Sorted.{IsStrictlyIncreasing}
 use Rattle.std.proofs.Common.{sym, ap, subst, ◌∙◌, arith, append_assoc}
 use Rattle.std.proofs.lemmas.List.{append-nil, take_more, length-append, length-take}
-use Rattle.std.proofs.lemmas.List.Elements.{All-nil, All-cons, All-head, All-tail, All-more}
+use Rattle.std.proofs.lemmas.List.Elements.{All-nil, All-cons, All-head, All-tail}
 use Rattle.time_base.specs.declared.time.Time.{Time}
 use Rattle.record_codec.specs.declared.place.Place.{Place}
 use Rattle.record_codec.specs.declared.fields.FieldError.{FieldError}
 use Rattle.record_codec.specs.declared.fields.FieldError.TheVariants.{Form, Memory}
 use Rattle.record_codec.specs.Fields.{Fails}
 use Rattle.record_codec.specs.PlanSpelling.{segment_bytes, segments_bytes, cut_seconds, IsDigest}
-use Rattle.record_codec.specs.Reading.{◌>>=◌}
+use Rattle.record_codec.specs.FieldReading.{◌>>=◌}
 use Rattle.record_codec.specs.PlanReading.{segment_at, segments_at}
 use Rattle.record_codec.proofs.Steps.{ok_is}
 use Rattle.record_codec.proofs.FieldLemmas.{Takes}
@@ -179,12 +179,6 @@ segments_written cuts places yielded y cut place old out new lt less c p so_far 
     let n : length (yielded ++ y ∷ []) ≡ length yielded + 1 = length-append yielded (y ∷ []) in
     let front = segments_bytes (take (length yielded) cuts) (take (length yielded) places) in
     rw n (more ∙ ap (λ (xs : List ℕ). xs ++ segment_bytes cut place) so_far ∙ append_assoc old front (segment_bytes cut place) ∙ ap (λ (xs : List ℕ). old ++ xs) (sym (segments_more cuts places (length yielded) cut place lt less c p)))
-
-pub digests_more : {Y : Type 0} (places : List Place) (yielded : List Y) (y : Y) (place : Place) → length yielded < length places → place ≡ get_or places (length yielded) place → All (λ p. IsDigest p.digest) (take (length yielded) places)
-    → IsDigest place.digest → All (λ p. IsDigest p.digest) (take (length (yielded ++ y ∷ [])) places)
-digests_more places yielded y place lt is so_far fits =
-    let n : length (yielded ++ y ∷ []) ≡ length yielded + 1 = length-append yielded (y ∷ []) in
-    rw n (All-more (λ p. IsDigest p.digest) places (length yielded) place lt so_far (subst (λ (p : Place). IsDigest p.digest) is fits))
 
 pub segments_length : (cuts : List Time) (places : List Place) → length places ≡ length cuts → All (λ p. IsDigest p.digest) places → length (segments_bytes cuts places) ≡ 52 * length cuts
 segments_length [] [] e h = refl

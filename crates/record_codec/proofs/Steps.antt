@@ -1,7 +1,7 @@
 -- Reading step by step: what a reading that did not fail did, and where one that failed stopped.
 use Rattle.std.specs.Prelude.{◌≡◌, ℕ, ◌≤◌, Bool, true, false, cond, Result, Ok, Err, refl}
 use Rattle.std.proofs.Common.{arith}
-use Rattle.record_codec.specs.Reading.{◌>>=◌}
+use Rattle.record_codec.specs.FieldReading.{◌>>=◌}
 
 abbrev done : {A : Type 0} → A → Result A ℕ
 done x = Ok x

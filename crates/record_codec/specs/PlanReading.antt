@@ -1,5 +1,5 @@
--- Reading a plan from left to right, in the steps of `Reading`.
-use Rattle.std.specs.Prelude.{◌≡◌, ℕ, zero, suc, ◌+◌, List, [], ◌∷◌, length, take, drop, Option, Some, None, Result, Ok, Err, nat_lt, nat_le, ◌&&◌, if◌then◌else◌}
+-- Reading a plan from left to right, in the steps of `FieldReading`.
+use Rattle.std.specs.Prelude.{ℕ, zero, suc, ◌+◌, List, [], ◌∷◌, length, take, drop, Option, Some, None, Result, Ok, Err, nat_lt, nat_le, ◌&&◌, if◌then◌else◌}
 use Rattle.std.specs.Int.{Width, w32, w64}
 use Rattle.std.specs.Str.{is_utf8}
 use Rattle.commands.specs.declared.command.Kind.{Kind}
@@ -13,7 +13,7 @@ use Rattle.record_codec.specs.declared.place.Place.{Place}
 use Rattle.record_codec.specs.declared.plan.PlanEntry.{PlanEntry}
 use Rattle.record_codec.specs.Numbers.{fraction_of, extent_of}
 use Rattle.record_codec.specs.PlanSpelling.{most_segments}
-use Rattle.record_codec.specs.Reading.{◌>>=◌, number_at, value_or, time_at, end_at}
+use Rattle.record_codec.specs.FieldReading.{◌>>=◌, number_at, value_or, time_at, end_at}
 
 -- a value that a number of so many bytes names, and the bytes after it; the number is the fault where it names none
 abbrev pub named_at : {A : Type 0} → Width → (ℕ → Option A) → List ℕ → Result (A × List ℕ) ℕ
@@ -124,16 +124,3 @@ plan_at bytes = do
   segments ← segments_at count.0 0 horizon.0 count.1
   end ← end_at segments.1
   Ok (record { word = word.0; layout = layout.0; kind = kind.0; fraction = fraction.0; horizon = horizon.0; cuts = segments.0.0; places = segments.0.1 })
-
--- a plan that takes all the bytes, its tag among them
-unfoldable pub planned_at : List ℕ → Result PlanEntry ℕ
-planned_at [] = Err 0
-planned_at (zero ∷ bytes) = Err (length bytes + 1)
-planned_at (suc zero ∷ bytes) = Err (length bytes + 1)
-planned_at (suc (suc zero) ∷ bytes) = Err (length bytes + 1)
-planned_at (suc (suc (suc zero)) ∷ bytes) = plan_at bytes
-planned_at (suc (suc (suc (suc tag))) ∷ bytes) = Err (length bytes + 1)
-
--- the reading of these bytes as a plan fails at this offset
-abbrev pub IsPlanFault : List ℕ → ℕ → Type 0
-IsPlanFault bytes at = (left : ℕ) × (at + left ≡ length bytes) × (planned_at bytes ≡ Err left)

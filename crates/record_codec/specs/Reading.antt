@@ -1,45 +1,14 @@
 -- Reading an entry from left to right. It fails with the number of bytes left where the field
 -- begins that is cut short or not allowed, or at the first surplus byte.
-use Rattle.std.specs.Prelude.{◌≡◌, ℕ, zero, suc, ◌+◌, List, [], ◌∷◌, length, take, drop, Option, Some, None, Result, Ok, Err, nat_lt, nat_le, ◌&&◌, if◌then◌else◌}
-use Rattle.std.specs.Int.{Width, w32, w64, byte_len, from_be_bytes}
+use Rattle.std.specs.Prelude.{◌≡◌, ℕ, zero, suc, ◌+◌, List, [], ◌∷◌, length, Result, Ok, Err, nat_le, ◌&&◌, if◌then◌else◌}
 use Rattle.std.specs.Str.{is_utf8}
 use Rattle.time_base.specs.declared.ids.DocId.{DocId}
 use Rattle.time_base.specs.declared.time.Time.{Time}
-use Rattle.time_base.specs.Times.{time_of}
 use Rattle.record_codec.specs.declared.entry.Entry.{Entry}
-use Rattle.record_codec.specs.declared.entry.Entry.TheVariants.{Arrive, Delete}
+use Rattle.record_codec.specs.declared.entry.Entry.TheVariants.{Arrive, Delete, Planned}
 use Rattle.record_codec.specs.Spelling.{most_text}
-
--- one step after another, up to the first that fails
-infixl 10 ◌>>=◌
-abbrev pub ◌>>=◌ : {A B : Type 0} → Result A ℕ → (A → Result B ℕ) → Result B ℕ
-(Ok x) >>= f = f x
-(Err left) >>= f = Err left
-
--- a number of so many bytes, and the bytes after it
-abbrev pub number_at : Width → List ℕ → Result (ℕ × List ℕ) ℕ
-number_at w bytes =
-    if nat_lt (length bytes) (byte_len w)
-    then Err (length bytes)
-    else Ok (from_be_bytes w (take (byte_len w) bytes), drop (byte_len w) bytes)
-
--- a document, and the bytes after it
-abbrev pub doc_at : List ℕ → Result (DocId × List ℕ) ℕ
-doc_at bytes = do
-  n ← number_at w32 bytes
-  Ok (record { 0 = n.0 }, n.1)
-
--- this value if there is one, where so many bytes are left
-abbrev pub value_or : {A : Type 0} → ℕ → Option A → Result A ℕ
-value_or left (Some x) = Ok x
-value_or left None = Err left
-
--- a time, and the bytes after it
-abbrev pub time_at : List ℕ → Result (Time × List ℕ) ℕ
-time_at bytes = do
-  n ← number_at w64 bytes
-  t ← value_or (length bytes) (time_of n.0)
-  Ok (t, n.1)
+use Rattle.record_codec.specs.FieldReading.{◌>>=◌, doc_at, time_at, end_at}
+use Rattle.record_codec.specs.PlanReading.{plan_at}
 
 -- a text that takes all the bytes
 abbrev pub text_at : List ℕ → Result (List ℕ) ℕ
@@ -47,11 +16,6 @@ text_at bytes =
     if nat_le (length bytes) most_text && is_utf8 bytes
     then Ok bytes
     else Err (length bytes)
-
--- the end, where no byte is left
-abbrev pub end_at : List ℕ → Result (Unit {0}) ℕ
-end_at [] = Ok tt
-end_at (b ∷ bytes) = Err (length bytes + 1)
 
 -- the document and the time of a change, and the bytes after them
 unfoldable pub change_at : List ℕ → Result (DocId × Time × List ℕ) ℕ
@@ -80,7 +44,10 @@ entry_at [] = Err 0
 entry_at (zero ∷ bytes) = Err (length bytes + 1)
 entry_at (suc zero ∷ bytes) = arrive_at bytes
 entry_at (suc (suc zero) ∷ bytes) = delete_at bytes
-entry_at (suc (suc (suc tag)) ∷ bytes) = Err (length bytes + 1)
+entry_at (suc (suc (suc zero)) ∷ bytes) = do
+  plan ← plan_at bytes
+  Ok (Planned plan)
+entry_at (suc (suc (suc (suc tag))) ∷ bytes) = Err (length bytes + 1)
 
 -- the reading of these bytes fails at this offset
 abbrev pub IsFault : List ℕ → ℕ → Type 0

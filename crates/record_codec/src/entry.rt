@@ -1,3 +1,4 @@
+use crate::plan::PlanEntry;
 use crate::text::VersionText;
 use time_base::{DocId, Time};
 
@@ -20,4 +21,6 @@ pub enum Entry {
         /// When the version ends.
         at: Time,
     },
+    /// A plan of a word's list that is stored.
+    Planned(PlanEntry),
 }

@@ -3,7 +3,8 @@ ghost use Rattle.std.specs.Prelude.{◌≡◌, length};
 ghost use Rattle.std.specs.Int.{w32, w64};
 ghost use Rattle.record_codec.specs.declared.fields.FieldError.TheVariants.{Memory};
 ghost use Rattle.record_codec.specs.Fields.{Gives};
-ghost use Rattle.record_codec.specs.Reading.{number_at, doc_at, time_at, change_at, text_at, end_at};
+ghost use Rattle.record_codec.specs.FieldReading.{number_at, doc_at, time_at, end_at};
+ghost use Rattle.record_codec.specs.Reading.{change_at, text_at};
 
 use crate::text::{MOST_TEXT_BYTES, VersionText};
 use std::alloc::{AllocError, AllocFailed, Global};

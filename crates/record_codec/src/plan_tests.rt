@@ -58,7 +58,7 @@ fn joined(alloc: Global, parts: &[&str]) -> Result<Vec<u8>, AllocError> {
 }
 
 /// The place that a reading names.
-fn named(read: Result<PlanEntry, CodecError>) -> Option<u64> {
+fn named(read: Result<Entry, CodecError>) -> Option<u64> {
     match read {
         Err(CodecError::Form { at }) => Some(at),
         _ => None,
@@ -69,7 +69,9 @@ fn named(read: Result<PlanEntry, CodecError>) -> Option<u64> {
 fn a_plan_in_blocks_has_a_hundred_and_eighty_one_bytes(rt: HostRuntime) -> Result<(), Fail> {
     let body = joined(rt.alloc(), &IN_BLOCKS)?;
     assert_eq!(rt; body.len(), 181);
-    let plan = decode_plan(rt.alloc(), &body)?;
+    let Entry::Planned(plan) = decode(rt.alloc(), &body)? else {
+        return Err(Fail::from("no plan was read"));
+    };
     assert_eq!(rt; plan.word.as_str(), "v");
     assert!(rt; plan.layout == Layout::Blocks);
     assert!(rt; matches!(plan.kind, Kind::Guarantee));
@@ -96,14 +98,16 @@ fn a_plan_in_blocks_has_a_hundred_and_eighty_one_bytes(rt: HostRuntime) -> Resul
 #[test]
 fn a_plan_of_an_archive_with_flat_lists_is_read(rt: HostRuntime) -> Result<(), Fail> {
     let body = joined(rt.alloc(), &WITH_FLAT_LISTS)?;
-    let plan = decode_plan(rt.alloc(), &body)?;
+    let Entry::Planned(plan) = decode(rt.alloc(), &body)? else {
+        return Err(Fail::from("no plan was read"));
+    };
     assert!(rt; plan.layout == Layout::Flat);
     let mut lengths = Vec::new(rt.alloc());
     for place in plan.places.as_slice() {
         lengths.push(place.extent.bytes)?;
     }
     assert_eq!(rt; lengths.as_slice(), [24, 48, 24].as_slice());
-    let spelled = encode_plan(rt.alloc(), &plan)?;
+    let spelled = encode(rt.alloc(), &Entry::Planned(plan))?;
     assert_eq!(rt; spelled.as_slice(), body.as_slice());
     Ok(())
 }
@@ -112,22 +116,26 @@ fn a_plan_of_an_archive_with_flat_lists_is_read(rt: HostRuntime) -> Result<(), F
 fn a_plan_since_a_time_has_eight_bytes_more(rt: HostRuntime) -> Result<(), Fail> {
     let body = joined(rt.alloc(), &FROM_A_TIME_ON)?;
     assert_eq!(rt; body.len(), 85);
-    let plan = decode_plan(rt.alloc(), &body)?;
+    let Entry::Planned(plan) = decode(rt.alloc(), &body)? else {
+        return Err(Fail::from("no plan was read"));
+    };
     let since = match plan.kind {
         Kind::Since { at } => Some(at.seconds()),
         _ => None,
     };
     assert_eq!(rt; since, Some(5));
     assert_eq!(rt; (plan.fraction.over(), plan.fraction.under()), (3, 2));
-    let spelled = encode_plan(rt.alloc(), &plan)?;
+    let spelled = encode(rt.alloc(), &Entry::Planned(plan))?;
     assert_eq!(rt; spelled.as_slice(), body.as_slice());
     Ok(())
 }
 
 /// Places in the plan in blocks, a byte put there, and the place that is named.
-const FAULTS: [(usize, u8, u64); 29] = [
-    // The tag, the layout and the kind.
-    (0, 1, 0),
+const FAULTS: [(usize, u8, u64); 30] = [
+    // A plan read as an arrival, and a tag that none has.
+    (0, 1, 5),
+    (0, 4, 0),
+    // The layout and the kind.
     (1, 0, 1),
     (1, 3, 1),
     (2, 0, 2),
@@ -174,7 +182,7 @@ fn the_first_wrong_field_of_a_plan_is_named(rt: HostRuntime) -> Result<(), Fail>
             *old = byte;
         }
         assert_eq!(rt;
-            named(decode_plan(rt.alloc(), &changed)),
+            named(decode(rt.alloc(), &changed)),
             Some(at),
             "byte {place} as {byte}"
         );
@@ -199,11 +207,7 @@ fn a_field_of_a_plan_that_is_cut_short_is_named(rt: HostRuntime) -> Result<(), F
         }
         let mut short = Vec::from_slice(rt.alloc(), &body)?;
         short.truncate(len);
-        assert_eq!(rt;
-            named(decode_plan(rt.alloc(), &short)),
-            Some(at),
-            "{len} bytes"
-        );
+        assert_eq!(rt; named(decode(rt.alloc(), &short)), Some(at), "{len} bytes");
     }
     Ok(())
 }
@@ -212,6 +216,6 @@ fn a_field_of_a_plan_that_is_cut_short_is_named(rt: HostRuntime) -> Result<(), F
 fn a_byte_behind_a_plan_is_named(rt: HostRuntime) -> Result<(), Fail> {
     let mut body = joined(rt.alloc(), &IN_BLOCKS)?;
     body.push(0)?;
-    assert_eq!(rt; named(decode_plan(rt.alloc(), &body)), Some(181));
+    assert_eq!(rt; named(decode(rt.alloc(), &body)), Some(181));
     Ok(())
 }

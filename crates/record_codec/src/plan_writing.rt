@@ -1,6 +1,6 @@
 //! Spelling a plan.
 ghost use Rattle.std.specs.Prelude.{◌≡◌, ◌<◌, ◌≤◌, ◌^◌, ◌++◌, length, All, OnOk, IfOk};
-ghost use Rattle.record_codec.specs.PlanSpelling.{layout_byte, kind_bytes, segment_bytes, segments_bytes, plan_spelling, plan_length, IsDigest, IsWord, IsWellCut, IsPlanEntry};
+ghost use Rattle.record_codec.specs.PlanSpelling.{layout_byte, kind_bytes, segment_bytes, segments_bytes, plan_spelling, plan_length, IsDigest, IsWellCut, IsPlanEntry};
 
 use crate::place::{Layout, Place};
 use crate::plan::PlanEntry;
@@ -10,6 +10,31 @@ use crate::tags::{
 use commands::Kind;
 use std::alloc::{AllocError, Global};
 use time_base::Time;
+
+/// The bytes of a digest are in their ranges. Does nothing.
+fn digest_fits(digest: &[u8; DIGEST_BYTES])
+    ensures { IsDigest digest.now }
+{
+    digest.as_slice();
+}
+
+/// The digests of places are in their ranges. Does nothing.
+fn digests_fit(places: &[Place])
+    ensures { All (λ place. IsDigest place.digest) places.now }
+{
+    for place in places {
+        digest_fits(&place.digest);
+    }
+}
+
+/// The fields of a plan that is well cut are in their ranges. Does nothing.
+fn fields_fit(plan: &PlanEntry)
+    requires { IsWellCut plan.now }
+    ensures { IsPlanEntry plan.now }
+{
+    plan.word.as_str();
+    digests_fit(plan.places.as_slice());
+}
 
 /// The byte of a layout.
 fn layout_byte(layout: Layout) -> u8
@@ -40,8 +65,7 @@ fn put_kind(out: &mut Vec<u8>, kind: Kind) -> Result<(), AllocError>
 #[tactic(auto, unfolding(crate::specs::PlanSpelling::plan_spelling))]
 fn put_front(out: &mut Vec<u8>, plan: &PlanEntry) -> Result<(), AllocError>
     requires { IsWellCut plan.now }
-    ensures spelled { OnOk result (out.new.items ++ segments_bytes plan.now.cuts plan.now.places ≡ out.old.items ++ plan_spelling plan.now) }
-    ensures word { OnOk result (IsWord plan.now.word) }
+    ensures { OnOk result (out.new.items ++ segments_bytes plan.now.cuts plan.now.places ≡ out.old.items ++ plan_spelling plan.now) }
 {
     let word = plan.word.as_str();
     out.push(PLANNED)?;
@@ -57,32 +81,21 @@ fn put_front(out: &mut Vec<u8>, plan: &PlanEntry) -> Result<(), AllocError>
     Ok(())
 }
 
-/// Adds a digest.
-fn put_digest(out: &mut Vec<u8>, digest: &[u8; DIGEST_BYTES]) -> Result<(), AllocError>
-    ensures spelled { OnOk result (out.new.items ≡ out.old.items ++ digest.now) }
-    ensures digest { OnOk result (IsDigest digest.now) }
-{
-    out.extend_from_slice(digest)?;
-    Ok(())
-}
-
 /// Adds a segment.
 fn put_segment(out: &mut Vec<u8>, cut: Time, place: Place) -> Result<(), AllocError>
-    ensures spelled { OnOk result (out.new.items ≡ out.old.items ++ segment_bytes cut place) }
-    ensures digest { OnOk result (IsDigest place.digest) }
+    ensures { OnOk result (out.new.items ≡ out.old.items ++ segment_bytes cut place) }
 {
     out.extend_from_slice(&cut.seconds().to_be_bytes())?;
     out.extend_from_slice(&place.extent.first.to_be_bytes())?;
     out.extend_from_slice(&place.extent.bytes.to_be_bytes())?;
-    put_digest(out, &place.digest)?;
+    out.extend_from_slice(&place.digest)?;
     Ok(())
 }
 
 /// Adds segments.
 fn put_segments(out: &mut Vec<u8>, cuts: &[Time], places: &[Place]) -> Result<(), AllocError>
     requires { length places.now ≡ length cuts.now }
-    ensures spelled { OnOk result (out.new.items ≡ out.old.items ++ segments_bytes cuts.now places.now) }
-    ensures digests { OnOk result (All (λ place. IsDigest place.digest) places.now) }
+    ensures { OnOk result (out.new.items ≡ out.old.items ++ segments_bytes cuts.now places.now) }
 {
     for (cut, place) in cuts.iter().zip(places) {
         put_segment(out, *cut, *place)?;
@@ -93,12 +106,13 @@ fn put_segments(out: &mut Vec<u8>, cuts: &[Time], places: &[Place]) -> Result<()
 /// The spelling of a plan. Costs its length.
 pub fn encode_plan(alloc: Global, plan: &PlanEntry) -> Result<Vec<u8>, AllocError>
     requires { IsWellCut plan.now }
-    ensures in_range { IfOk result (λ _. IsPlanEntry plan.now) }
+    ensures in_range { IsPlanEntry plan.now }
     ensures spelled { IfOk result (λ v. v.items ≡ plan_spelling plan.now) }
     ensures len { IfOk result (λ v. length v.items ≡ plan_length plan.now) }
     ensures at_least { IfOk result (λ v. 77 ≤ length v.items) }
     ensures at_most { IfOk result (λ v. length v.items < 2 ^ 32) }
 {
+    fields_fit(plan);
     let cuts = plan.cuts.as_slice();
     let mut out = Vec::with_capacity(alloc, MOST_FRONT_BYTES + cuts.len() * SEGMENT_BYTES)?;
     put_front(&mut out, plan)?;

@@ -9,7 +9,8 @@ ghost use Rattle.record_codec.specs.Decoding.{Decodes, IsReadAs};
 use crate::entry::Entry;
 use crate::error::CodecError;
 use crate::fields::{FieldError, change_at, end_at, fault, text_at};
-use crate::tags::{ARRIVE, DELETE};
+use crate::plan_reading::plan_at;
+use crate::tags::{ARRIVE, DELETE, PLANNED};
 use std::alloc::Global;
 
 #[tactic(auto, unfolding(crate::specs::Reading::arrive_at))]
@@ -37,6 +38,7 @@ fn entry_at(alloc: Global, bytes: &[u8]) -> Result<Entry, FieldError>
     match bytes {
         [ARRIVE, rest @ ..] => arrive_at(alloc, rest),
         [DELETE, rest @ ..] => delete_at(rest),
+        [PLANNED, rest @ ..] => Ok(Entry::Planned(plan_at(alloc, rest)?)),
         _ => Err(fault(bytes)),
     }
 }

@@ -27,6 +27,7 @@ fn an_arrival_has_eighteen_bytes(rt: HostRuntime) -> Result<(), Fail> {
             assert_eq!(rt; text.into_string().as_str(), "red a");
         }
         Entry::Delete { .. } => assert!(rt; false, "a deletion was read"),
+        Entry::Planned(_) => assert!(rt; false, "a plan was read"),
     }
     Ok(())
 }
@@ -41,6 +42,7 @@ fn a_deletion_has_thirteen_bytes(rt: HostRuntime) -> Result<(), Fail> {
             assert_eq!(rt; spelled.as_slice(), DELETION.as_slice());
         }
         Entry::Arrive { .. } => assert!(rt; false, "an arrival was read"),
+        Entry::Planned(_) => assert!(rt; false, "a plan was read"),
     }
     Ok(())
 }
@@ -49,6 +51,7 @@ fn a_deletion_has_thirteen_bytes(rt: HostRuntime) -> Result<(), Fail> {
 fn the_first_wrong_field_is_named(rt: HostRuntime) {
     for (place, byte, at) in [
         (0, 2, 13),
+        (0, 3, 1),
         (0, 9, 0),
         (0, 0, 0),
         (5, 255, 5),

@@ -1,9 +1,10 @@
 //! Spelling an entry.
 ghost use Rattle.std.specs.Prelude.{◌≡◌, ◌<◌, ◌≤◌, ◌^◌, length, vec_len, IfOk};
 ghost use Rattle.record_codec.specs.declared.entry.Entry.TheVariants.{Arrive, Delete};
-ghost use Rattle.record_codec.specs.Spelling.{spelling, IsEntry, HasShortText};
+ghost use Rattle.record_codec.specs.Spelling.{spelling, IsEntry, CanBeSpelled};
 
 use crate::entry::Entry;
+use crate::plan_writing::encode_plan;
 use crate::tags::{ARRIVE, CHANGE_BYTES, DELETE};
 use crate::text::MOST_TEXT_BYTES;
 use std::alloc::{AllocError, Global};
@@ -45,7 +46,7 @@ pub fn encode_deletion(alloc: Global, doc: DocId, at: Time) -> Result<Vec<u8>, A
 
 /// The spelling of an entry. Costs its length.
 pub fn encode(alloc: Global, entry: &Entry) -> Result<Vec<u8>, AllocError>
-    requires { HasShortText entry.now }
+    requires { CanBeSpelled entry.now }
     ensures in_range { IsEntry entry.now }
     ensures spelled { IfOk result (λ v. v.items ≡ spelling entry.now) }
     ensures at_least { IfOk result (λ v. 13 ≤ length v.items) }
@@ -54,5 +55,6 @@ pub fn encode(alloc: Global, entry: &Entry) -> Result<Vec<u8>, AllocError>
     match entry {
         Entry::Arrive { doc, at, text } => encode_arrival(alloc, *doc, *at, text.as_str()),
         Entry::Delete { doc, at } => encode_deletion(alloc, *doc, *at),
+        Entry::Planned(plan) => encode_plan(alloc, plan),
     }
 }

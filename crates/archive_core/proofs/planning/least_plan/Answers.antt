@@ -1,21 +1,21 @@
-use Rattle.std.proofs.Common.{arith, ◌≡◌, ℕ, List, length, ap, sym, subst, ◌∙◌}
+use Rattle.std.proofs.Common.{arith, ℕ, List, length, ap, subst, ◌∙◌}
 use Rattle.proposals.specs.Proposals.{AreNodes}
 use Rattle.archive_core.proofs.PlanLemmas.{few_cuts, is_least}
 use Rattle.archive_core.proofs.planning.least_plan.Goals as goal
 
 pub of-requires-clause-few : goal.of-requires-clause-few
 of-requires-clause-few c =
-    few_cuts c.args.list.now c.args.factor c.args.horizon.seconds c.in_ok-table.table c.in-Ok.planned.0 c.in_ok-table.ensures (omega (arith, c.partition.invariant.many, ap length c.partition.view_is)) c.in-Ok.ensures.within
-    (c.in-Ok.ensures.least c.args.list.now c.args.horizon.seconds c.in_ok-table.ensures)
+    few_cuts c.args.list.now c.args.factor c.args.horizon.seconds c.in_ok-table.table c.in_ok-partition.partition c.in_ok-table.ensures (omega (arith, c.partition.invariant.many, ap length c.partition.view_is)) c.in_ok-partition.ensures.within
+    (c.in_ok-partition.ensures.least c.args.list.now c.args.horizon.seconds c.in_ok-table.ensures)
 
 pub of-requires-clause-many : goal.of-requires-clause-many
-of-requires-clause-many c = ap length c.pi.ensures ∙ (c.in-Ok.ensures.best c.args.list.now c.args.horizon.seconds c.in_ok-table.ensures).long
+of-requires-clause-many c = ap length c.pi.ensures ∙ (c.in_ok-partition.ensures.best c.args.list.now c.args.horizon.seconds c.in_ok-table.ensures).long
 
 pub returns-clause-least : goal.returns-clause-least
 returns-clause-least c =
     let t = c.in_ok-table.ensures in
-    is_least c.args.list.now c.args.factor c.args.horizon.seconds c.in_ok-table.table c.in-Ok.planned.0 c.in-Ok.planned.1 c.in_ok-proposal.proposal t c.in-Ok.ensures.within
-    (c.in-Ok.ensures.least c.args.list.now c.args.horizon.seconds t) (c.in-Ok.ensures.best c.args.list.now c.args.horizon.seconds t)
+    is_least c.args.list.now c.args.factor c.args.horizon.seconds c.in_ok-table.table c.in_ok-partition.partition c.in_ok-partition.certificate c.in_ok-proposal.proposal t c.in_ok-partition.ensures.within
+    (c.in_ok-partition.ensures.least c.args.list.now c.args.horizon.seconds t) (c.in_ok-partition.ensures.best c.args.list.now c.args.horizon.seconds t)
     (c.in_ok-proposal.ensures.segments c.args.list.now c.args.horizon.seconds t)
     (subst (λ (ns : List ℕ). AreNodes c.in_ok-table.table.boundaries ns c.in_ok-proposal.proposal.nodes.items) c.pi.ensures c.in_ok-proposal.ensures.nodes)
     (c.in_ok-proposal.ensures.space c.args.list.now c.args.horizon.seconds t)

@@ -1,5 +1,5 @@
-use Rattle.std.proofs.Common.{arith, ◌≡◌, ◌∙◌}
-use Rattle.archive_core.proofs.PlanLemmas.{clipped, clipped_early, none_before}
+use Rattle.std.proofs.Common.{◌∙◌}
+use Rattle.archive_core.proofs.PlanLemmas.{clipped, clipped_early}
 use Rattle.archive_core.proofs.planning.list_up_to.Goals as goal
 
 pub returns-in-Some-clause-list : goal.returns-in-Some-clause-list

@@ -38,17 +38,13 @@ returns-in-Propose-clause-turn g c = λ tells h kept.
     subst C (sym c.in-Propose.is) (answers_by h (items.Command (plain.Propose c.in-Propose.word c.in-Propose.fraction)) (proposed c.propose-result.result) c.write_proposed.result _ _ c.args.archive.now c.write_proposed.new.page.bytes
     (c.propose-result.ensures.takes (g.D.Disk.disk c.args.disk.now) h kept) c.write_proposed.ensures.writes)
 
-pub returns-in-Plan-clause-turn : goal.returns-in-Plan-clause-turn
-returns-in-Plan-clause-turn g c = λ tells h kept.
-    let C : Command → Type 0 = λ d. Answers h (items.Command d) c.refuse.result (g.D.Disk.disk c.args.disk.now) (g.D.Disk.disk c.args.disk.now) c.args.archive.now c.refuse.new.page.bytes in
-    subst C (sym c.in-Plan.is) (refused_by h (items.Command (plain.Plan c.in-Plan.word c.in-Plan.kind c.in-Plan.fraction)) refusals.Line c.refuse.result _ c.args.archive.now c.refuse.new.page.bytes (refl, refl) kept c.refuse.ensures.goes_on c.refuse.ensures.reply)
-
 pub returns-in-Certificate-clause-turn : goal.returns-in-Certificate-clause-turn
 returns-in-Certificate-clause-turn g c = λ tells h kept.
-    let C : Command → Type 0 = λ d. Answers h (items.Command d) c.refuse-in-Certificate.result (g.D.Disk.disk c.args.disk.now) (g.D.Disk.disk c.args.disk.now) c.args.archive.now c.refuse-in-Certificate.new.page.bytes in
-    subst C (sym c.in-Certificate.is) (refused_by h (items.Command (plain.Certificate c.in-Certificate.word)) refusals.Line c.refuse-in-Certificate.result _ c.args.archive.now c.refuse-in-Certificate.new.page.bytes (refl, refl) kept c.refuse-in-Certificate.ensures.goes_on c.refuse-in-Certificate.ensures.reply)
+    let C : Command → Type 0 = λ d. Answers h (items.Command d) c.write_proposed-in-Certificate.result (g.D.Disk.disk c.args.disk.now) (g.D.Disk.disk c.args.disk.now) c.args.archive.now c.write_proposed-in-Certificate.new.page.bytes in
+    subst C (sym c.in-Certificate.is) (answers_by h (items.Command (plain.Certificate c.in-Certificate.word)) (proposed c.certificate-result.result) c.write_proposed-in-Certificate.result _ _ c.args.archive.now c.write_proposed-in-Certificate.new.page.bytes
+    (c.certificate-result.ensures.takes (g.D.Disk.disk c.args.disk.now) h kept) c.write_proposed-in-Certificate.ensures.writes)
 
-pub returns-clause-turn : goal.returns-clause-turn
-returns-clause-turn g c = λ tells h kept.
-    let C : Command → Type 0 = λ d. Answers h (items.Command d) c.refuse-in-Verify.result (g.D.Disk.disk c.args.disk.now) (g.D.Disk.disk c.args.disk.now) c.args.archive.now c.refuse-in-Verify.new.page.bytes in
-    subst C (sym c.in-Verify.is) (refused_by h (items.Command (plain.Verify)) refusals.Line c.refuse-in-Verify.result _ c.args.archive.now c.refuse-in-Verify.new.page.bytes (refl, refl) kept c.refuse-in-Verify.ensures.goes_on c.refuse-in-Verify.ensures.reply)
+pub returns-in-Verify-clause-turn : goal.returns-in-Verify-clause-turn
+returns-in-Verify-clause-turn g c = λ tells h kept.
+    let C : Command → Type 0 = λ d. Answers h (items.Command d) c.refuse.result (g.D.Disk.disk c.args.disk.now) (g.D.Disk.disk c.args.disk.now) c.args.archive.now c.refuse.new.page.bytes in
+    subst C (sym c.in-Verify.is) (refused_by h (items.Command plain.Verify) refusals.Line c.refuse.result _ c.args.archive.now c.refuse.new.page.bytes (refl, refl) kept c.refuse.ensures.goes_on c.refuse.ensures.reply)

@@ -3,13 +3,13 @@ use Rattle.std.proofs.lemmas.Bool.{cases_lt}
 use Rattle.machine_model.specs.Calls.{Syncs}
 use Rattle.machine_model.specs.Causes.{Rose}
 use Rattle.machine_model.specs.States.{SourceState, SinkState}
-use Rattle.archive_state.specs.Histories.{History}
-use Rattle.archive_state.proofs.StandsLemmas.{spells_one_history, stands_is_archive, not_archive_once}
-use Rattle.archive_core.specs.States.{IsKept}
+use Rattle.archive_state.proofs.StandsLemmas.{stands_is_archive, not_archive_once}
 use Rattle.archive_shell.specs.Headline.{Headline, EndsEarly}
+use Rattle.archive_shell.specs.Serving.{Ends}
 use Rattle.archive_shell.specs.declared.status.Status.{Status}
 use Rattle.archive_shell.specs.declared.status.Status.TheVariants.{Done, NotArchive, Disk, Memory}
-use Rattle.archive_shell.proofs.EndLemmas.{keeps_still, syncs_still, not_begun, serving_start, whole_run, completes, load_early, load_refused, load_completes, rose_earlier, serves_of}
+use Rattle.archive_shell.proofs.EndLemmas.{new_stands, keeps_still, syncs_still, not_begun, serving_start, whole_run, load_early, load_refused, load_completes, rose_earlier, serves_of}
+use Rattle.archive_shell.proofs.PullLemmas.{completes, pulling_start}
 use Rattle.archive_shell.proofs.program.run.Goals as goal
 
 pub returns-in-Err-clause-left_alone : goal.returns-in-Err-clause-left_alone
@@ -38,7 +38,7 @@ returns-in-Err-load-clause-left_alone g c = λ disk_tells none at refused.
       alone.1,
       elim (cases_lt 17 (length image.journal)) as (λ _. Syncs (g.M.Disk.disk m) (g.M.Disk.disk c.load.new.disk)) [
         | inl long ↦ c.in-Err-load.ensures.longer disk_tells long
-        | inr short ↦ absurd (stands_is_archive [] image at (record { spelled = inl (short, refl); legal = tt }) refused)
+        | inr short ↦ absurd (stands_is_archive [] image at (new_stands image short) refused)
       ],
     )
 
@@ -93,11 +93,9 @@ returns-clause-headline g c = λ source_tells sink_tells disk_tells none h stand
     let n = c.load.new.disk in
     let last = c.serve.new.machine in
     let alone = g.met.M.Machine.disk_alone m n c.load.ensures.only in
-    let found = c.in-Ok-load.ensures.found disk_tells in
-    let same = spells_one_history (g.M.Disk.disk m).holds.journal found.0 h found.2 found.1.stands.loadable stands.spelled stands.legal in
-    let K : History → Type 0 = λ k. IsKept (g.M.Disk.disk n) c.in-Ok-load.archive k in
     let served = c.serve.ensures.served source_tells sink_tells disk_tells h
-    (serving_start h (record { source = g.M.Source.source n; sink = g.M.Sink.sink n; disk = g.M.Disk.disk n }) c.in-Ok-load.archive c.in-Ok.desk.reader c.in-Ok.ensures (g.met.M.Machine.beside_shown n sink_tells disk_tells) (subst K same found.1)) in
+    (serving_start h (record { source = g.M.Source.source n; sink = g.M.Sink.sink n; disk = g.M.Disk.disk n }) c.in-Ok-load.archive c.in-Ok.desk.reader c.in-Ok.ensures (g.met.M.Machine.beside_shown n sink_tells disk_tells)
+    (c.in-Ok-load.ensures.kept disk_tells h stands)) in
     let here = serves_of h c.serve.result (g.M.Source.source n) (g.M.Source.source m) (g.M.Sink.sink n) (g.M.Sink.sink m) (g.M.Disk.disk n)
     (record { source = g.M.Source.source last; sink = g.M.Sink.sink last; disk = g.M.Disk.disk last }) served.0 alone.0 alone.1 served.2 in (
       served.0,
@@ -113,14 +111,10 @@ returns-clause-complete g c = λ source_tells sink_tells disk_tells none archive
     let n = c.load.new.disk in
     let last = c.serve.new.machine in
     let alone = g.met.M.Machine.disk_alone m n c.load.ensures.only in
-    let found = c.in-Ok-load.ensures.found disk_tells in
-    let served = c.serve.ensures.served source_tells sink_tells disk_tells found.0
-    (serving_start found.0 (record { source = g.M.Source.source n; sink = g.M.Sink.sink n; disk = g.M.Disk.disk n }) c.in-Ok-load.archive c.in-Ok.desk.reader c.in-Ok.ensures (g.met.M.Machine.beside_shown n sink_tells disk_tells) found.1) in
-    let here = serves_of found.0 c.serve.result (g.M.Source.source n) (g.M.Source.source m) (g.M.Sink.sink n) (g.M.Sink.sink m) (g.M.Disk.disk n)
-    (record { source = g.M.Source.source last; sink = g.M.Sink.sink last; disk = g.M.Disk.disk last }) served.0 alone.0 alone.1 served.2 in
+    let E : SourceState → Type 0 = λ s. Ends c.serve.result s (g.M.Source.source last) in
+    let ends = subst E alone.0 (c.serve.ensures.ends source_tells (pulling_start (g.M.Source.source n) c.in-Ok.desk.reader c.in-Ok.ensures)) in
     let S : SourceState → Type 0 = λ s. Rose s.faults (g.M.Source.source last).faults in
     let T : SinkState → Type 0 = λ s. Rose s.faults (g.M.Sink.sink last).faults in
-    completes found.0 c.serve.result (record { source = g.M.Source.source m; sink = g.M.Sink.sink m; disk = g.M.Disk.disk n }) (record { source = g.M.Source.source last; sink = g.M.Sink.sink last; disk = g.M.Disk.disk last }) served.0 here script few
-    c.serve.ensures.no_usage c.serve.ensures.no_load
+    completes c.serve.result (g.M.Source.source m) (g.M.Source.source last) ends script few c.serve.ensures.no_usage c.serve.ensures.no_load
     (λ is. disk (rose_earlier (g.M.Disk.disk m).faults (g.M.Disk.disk n).faults (g.M.Disk.disk last).faults (g.met.M.Disk.only_faults m n c.load.ensures.only) (c.serve.ensures.disk_fault is)))
     (λ is. source (subst S alone.0 (c.serve.ensures.source_fault is))) (λ is. sink (subst T alone.1 (c.serve.ensures.sink_fault is)))

@@ -10,11 +10,15 @@ items-preserved g c =
       source_later = omega (arith, was.source_later, now.source_later);
       sink_later = omega (arith, was.sink_later, now.sink_later);
       disk_later = omega (arith, was.disk_later, now.disk_later);
+      pulling = λ source_tells start. now.pulls source_tells _ (was.pulling source_tells start);
       serving = λ source_tells sink_tells disk_tells h start.
           let so_far = was.serving source_tells sink_tells disk_tells h start in
           let next = now.goes_on source_tells sink_tells disk_tells h _ so_far.0 so_far.2 in
           (so_far.0 ++ next.0, g.M.Machine.asked_joins _ _ _ so_far.0 next.0 so_far.1 next.1, next.2);
     }
+
+pub returns-in-Err-clause-ends : goal.returns-in-Err-clause-ends
+returns-in-Err-clause-ends g c = λ source_tells start. c.in-Err.ensures.pulls source_tells _ (c.items.invariant.pulling source_tells start)
 
 pub returns-in-Err-clause-served : goal.returns-in-Err-clause-served
 returns-in-Err-clause-served g c = λ source_tells sink_tells disk_tells h start.

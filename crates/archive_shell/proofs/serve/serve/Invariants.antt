@@ -1,7 +1,7 @@
 use Rattle.std.proofs.Common.{◌≤◌, ◌-◌, ◌^◌, List, []}
 use Rattle.machine_model.specs.Pulls.{Pull}
 use Rattle.archive_state.specs.Histories.{History}
-use Rattle.archive_shell.specs.Serving.{Serving}
+use Rattle.archive_shell.specs.Serving.{Pulling, Serving}
 use Rattle.archive_shell.specs.Turns.{CanGoOn}
 use Rattle.archive_shell.proofs.serve.serve.Given as goal
 
@@ -11,6 +11,7 @@ invariant-items g l = record {
   source_later : (g.M.Source.source l.fn.machine).faults ≤ (g.M.Source.source l.machine).faults;
   sink_later : (g.M.Sink.sink l.fn.machine).faults ≤ (g.M.Sink.sink l.machine).faults;
   disk_later : (g.M.Disk.disk l.fn.machine).faults ≤ (g.M.Disk.disk l.machine).faults;
+  pulling : g.M.Source.source_tells → Pulling (g.M.Source.source l.fn.machine) (g.M.Source.source l.fn.machine) l.fn.reader → Pulling (g.M.Source.source l.fn.machine) (g.M.Source.source l.machine) l.reader;
   serving : g.M.Source.source_tells → g.M.Sink.sink_tells → g.M.Disk.disk_tells → (h : History)
       → Serving h (record { source = g.M.Source.source l.fn.machine; sink = g.M.Sink.sink l.fn.machine; disk = g.M.Disk.disk l.fn.machine })
       (record { source = g.M.Source.source l.fn.machine; sink = g.M.Sink.sink l.fn.machine; disk = g.M.Disk.disk l.fn.machine }) l.fn.archive l.fn.reader []

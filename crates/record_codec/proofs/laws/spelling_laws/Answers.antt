@@ -1,5 +1,5 @@
 use Rattle.record_codec.specs.Spelling.{spelling}
-use Rattle.record_codec.proofs.EntryLemmas.{one_entry, entry_none, a_fault}
+use Rattle.record_codec.proofs.EntryLemmas.{one_entry, entry_none, a_fault, entry_long, entry_short}
 use Rattle.record_codec.proofs.FieldLemmas.{IsBytes-from_all}
 use Rattle.std.specs.Prelude.{refl}
 use Rattle.record_codec.proofs.laws.spelling_laws.Goals as goal
@@ -12,3 +12,9 @@ returns-clause-no_fault c = λ e fits at fault. entry_none (spelling e) fault.0 
 
 pub returns-clause-a_fault : goal.returns-clause-a_fault
 returns-clause-a_fault c = λ bytes fits none. a_fault bytes (IsBytes-from_all bytes fits) none
+
+pub returns-clause-at_least : goal.returns-clause-at_least
+returns-clause-at_least c = entry_long
+
+pub returns-clause-at_most : goal.returns-clause-at_most
+returns-clause-at_most c = entry_short

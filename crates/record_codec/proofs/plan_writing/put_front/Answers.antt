@@ -2,9 +2,9 @@ use Rattle.std.proofs.Common.{append_assoc, refl}
 use Rattle.record_codec.specs.PlanSpelling.{plan_spelling}
 use Rattle.record_codec.proofs.plan_writing.put_front.Goals as goal
 
-pub returns-clause-spelled : goal.returns-clause-spelled
+pub returns : goal.returns
 unfolding plan_spelling
-returns-clause-spelled c =
+returns c =
     rw (
       c.in_ok-extend_from_slice-5.ensures.items,
       c.in_ok-extend_from_slice-4.ensures.items,

@@ -20,13 +20,13 @@ add-requires-clause-next g c = λ h stands.
 
 pub returns-clause-same : goal.returns-clause-same
 returns-clause-same g c = λ why is.
-    let A : IndexState → ArchiveState = λ i. record { end = c.self.inside.journal.end; live = c.self.inside.live; length = c.self.inside.entries; changes = c.self.inside.directory.changes; index = i } in
+    let A : IndexState → ArchiveState = λ i. record { end = c.self.inside.journal.end; live = c.self.inside.live; length = c.self.inside.entries; changes = c.self.inside.directory.changes; index = i; shelf = c.self.inside.shelf } in
     let still = c.add.ensures.same why is in
     (still.0 ∙ ap A c.prepare_arrival-prepared.ensures.same ∙ c.self.view_is, still.1)
 
 pub returns-clause-adds : goal.returns-clause-adds
 returns-clause-adds g c = λ h stands.
-    let A : IndexState → ArchiveState = λ i. record { end = c.self.inside.journal.end; live = c.self.inside.live; length = c.self.inside.entries; changes = c.self.inside.directory.changes; index = i } in
+    let A : IndexState → ArchiveState = λ i. record { end = c.self.inside.journal.end; live = c.self.inside.live; length = c.self.inside.entries; changes = c.self.inside.directory.changes; index = i; shelf = c.self.inside.shelf } in
     let same = c.prepare_arrival-prepared.ensures.same in
     let S : ArchiveState → Type 0 = λ a. StandsFor a h in
     let I : IndexState → Type 0 = λ i. Indexes i (changes h) in
@@ -36,7 +36,7 @@ returns-clause-adds g c = λ h stands.
 
 pub returns-clause-takes : goal.returns-clause-takes
 returns-clause-takes g c = λ tells h kept.
-    let A : IndexState → ArchiveState = λ i. record { end = c.self.inside.journal.end; live = c.self.inside.live; length = c.self.inside.entries; changes = c.self.inside.directory.changes; index = i } in
+    let A : IndexState → ArchiveState = λ i. record { end = c.self.inside.journal.end; live = c.self.inside.live; length = c.self.inside.entries; changes = c.self.inside.directory.changes; index = i; shelf = c.self.inside.shelf } in
     let same = c.prepare_arrival-prepared.ensures.same in
     let here : A (state_of c.prepare_arrival-prepared.new.index) ≡ c.args.self.now = ap A same ∙ c.self.view_is in
     let K : ArchiveState → Type 0 = λ a. IsKept (g.D.Disk.disk c.args.disk.now) a h in

@@ -1,13 +1,14 @@
-use Rattle.std.proofs.Common.{◌≡◌, ◌+◌, ℕ, List, Err, true, false, refl, ap, sym, subst, ◌∙◌, arith, rules}
-use Rattle.machine_model.specs.declared.area.Area.TheVariants.{Journal}
+use Rattle.std.proofs.Common.{◌≡◌, ◌+◌, ℕ, List, All, Err, true, false, refl, ap, sym, subst, ◌∙◌, arith, rules}
+use Rattle.machine_model.specs.declared.area.Area.TheVariants.{Journal, Pages}
+use Rattle.page_store.specs.Live.{IsInside}
 use Rattle.gate_journal.specs.Crash.{Appends}
 use Rattle.gate_journal.specs.State.{JournalState}
 use Rattle.gate_journal.specs.declared.error.AppendError.{AppendError}
 use Rattle.gate_journal.specs.declared.error.AppendError.TheVariants as appends
 use Rattle.version_index.specs.Indexes.{state_of}
 use Rattle.archive_state.specs.Histories.{History}
-use Rattle.archive_core.specs.States.{ArchiveState, StandsFor}
-use Rattle.archive_core.proofs.AddLemmas.{appends_nowhere, pages_nowhere, step_at, is_more, stands_on}
+use Rattle.archive_core.specs.States.{ArchiveState, StandsFor, extents_all}
+use Rattle.archive_core.proofs.AddLemmas.{appends_nowhere, pages_nowhere, step_at, is_more, stands_on, inside_on}
 use Rattle.archive_core.proofs.archive.Archive.commit.Goals as goal
 
 pub returns-then-limit-end-clause-crash : goal.returns-then-limit-end-clause-crash
@@ -47,9 +48,9 @@ returns-clause-crash g c = λ tells bodies step.
 pub invariant_of-self-in-Ok : goal.invariant_of-self-in-Ok
 invariant_of-self-in-Ok g c =
     let S : ArchiveState → Type 0 = λ a. (h : History) × StandsFor a h in
-    let now : ArchiveState = record { end = c.append.new.self.end; live = true; length = c.self.inside.entries + 1; changes = c.note.new.directory.changes; index = state_of c.commit.new.self } in
+    let now : ArchiveState = record { end = c.append.new.self.end; live = true; length = c.self.inside.entries + 1; changes = c.note.new.directory.changes; index = state_of c.commit.new.self; shelf = c.self.inside.shelf } in
     let more = is_more _ c.args.self.now now (state_of c.make_room.new.self) c.args.prepared.change c.placed.result c.args.prepared.body.items c.in_ok-frame.frame c.args.prepared.words c.reserve.new.self.changes c.in-Ok.place c.self.view_is
-    (c.in_ok-frame.ensures.body ∙ c.deref.ensures.value) c.in-Ok.ensures.end refl c.in-Ok.ensures.place c.placed.ensures.held c.placed.ensures.doc c.placed.ensures.at c.reserve.ensures.same c.note.ensures c.make_room.ensures.same c.commit.ensures in (
+    (c.in_ok-frame.ensures.body ∙ c.deref.ensures.value) c.in-Ok.ensures.end refl c.in-Ok.ensures.place c.placed.ensures.held c.placed.ensures.doc c.placed.ensures.at c.reserve.ensures.same c.note.ensures refl c.make_room.ensures.same c.commit.ensures in (
       λ live. search rules,
       omega (arith, c.self.invariant.1, c.in-Ok.ensures.end),
       stands_on c.args.self.now now c.args.prepared.change c.args.prepared.body.items c.args.prepared.words c.requires.next (subst S c.self.view_is c.self.invariant.2) more,
@@ -57,9 +58,9 @@ invariant_of-self-in-Ok g c =
 
 pub returns-in-Ok-clause-more : goal.returns-in-Ok-clause-more
 returns-in-Ok-clause-more g c =
-    let now : ArchiveState = record { end = c.append.new.self.end; live = true; length = c.self.inside.entries + 1; changes = c.note.new.directory.changes; index = state_of c.commit.new.self } in (
+    let now : ArchiveState = record { end = c.append.new.self.end; live = true; length = c.self.inside.entries + 1; changes = c.note.new.directory.changes; index = state_of c.commit.new.self; shelf = c.self.inside.shelf } in (
       is_more _ c.args.self.now now (state_of c.make_room.new.self) c.args.prepared.change c.placed.result c.args.prepared.body.items c.in_ok-frame.frame c.args.prepared.words c.reserve.new.self.changes c.in-Ok.place c.self.view_is
-          (c.in_ok-frame.ensures.body ∙ c.deref.ensures.value) c.in-Ok.ensures.end refl c.in-Ok.ensures.place c.placed.ensures.held c.placed.ensures.doc c.placed.ensures.at c.reserve.ensures.same c.note.ensures c.make_room.ensures.same c.commit.ensures,
+          (c.in_ok-frame.ensures.body ∙ c.deref.ensures.value) c.in-Ok.ensures.end refl c.in-Ok.ensures.place c.placed.ensures.held c.placed.ensures.doc c.placed.ensures.at c.reserve.ensures.same c.note.ensures refl c.make_room.ensures.same c.commit.ensures,
       refl,
     )
 
@@ -68,7 +69,10 @@ pub returns-clause-within : goal.returns-clause-within
 returns-clause-within g c =
     let view = ap (λ s. s.end) c.self.view_is in
     let reach = g.met.D.Disk.only_reach c.args.disk.now c.append.new.disk Journal c.append.ensures.only in
-    omega (arith, end_same c.in-Err.field-0 c.append.new.self c.self.inside.journal (λ is. (c.in-Err.ensures.same (ap Err is)).0) (λ is. c.in-Err.ensures.spent (ap Err is)), view, reach, c.requires.within)
+    let P : ArchiveState → Type 0 = λ a. All (IsInside (g.D.Disk.disk c.append.new.disk).reach.pages) (extents_all a.shelf.plans) in (
+      omega (arith, end_same c.in-Err.field-0 c.append.new.self c.self.inside.journal (λ is. (c.in-Err.ensures.same (ap Err is)).0) (λ is. c.in-Err.ensures.spent (ap Err is)), view, reach, c.requires.within.0),
+      subst P (sym c.self.view_is) (inside_on _ _ _ (g.met.D.Disk.only_reach c.args.disk.now c.append.new.disk Pages c.append.ensures.only) c.requires.within.1),
+    )
   where
     end_same : (e : AppendError) (new old : JournalState) → (e ≡ appends.Full → new ≡ old) → (e ≡ appends.Failed → new ≡ record old { live = false }) → new.end ≡ old.end
     end_same appends.Full new old full failed = ap (λ (s : JournalState). s.end) (full refl)

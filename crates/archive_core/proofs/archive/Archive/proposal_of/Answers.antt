@@ -1,4 +1,4 @@
-use Rattle.std.proofs.Common.{◌≡◌, Result, Err, ap, ◌∙◌}
+use Rattle.std.proofs.Common.{Err, ap, ◌∙◌}
 use Rattle.archive_core.specs.declared.error.AskError.{AskError}
 use Rattle.archive_core.specs.declared.error.AskError.TheVariants.{Refused}
 use Rattle.archive_core.proofs.PlanLemmas.{phrase_refused, one_error, ok_proposed}
@@ -6,7 +6,7 @@ use Rattle.archive_core.proofs.archive.Archive.proposal_of.Goals as goal
 
 pub returns-in-Ok-clause-proposes : goal.returns-in-Ok-clause-proposes
 returns-in-Ok-clause-proposes c = λ h stands.
-    ok_proposed h c.args.word.now c.args.factor c.in-Ok.sealed.list.items c.deref.result.now c.in-Ok.sealed.horizon.seconds c.least_plan.result
+    ok_proposed h c.args.word.now c.in-Ok.sealed.word c.args.factor c.in-Ok.sealed.list.items c.deref.result.now c.in-Ok.sealed.horizon.seconds c.least_plan.result
     (c.in-Ok.ensures.sealed h stands) c.in-Ok.ensures.some c.deref.ensures.value c.least_plan.ensures.least
 
 pub returns-in-Err-clause-refused : goal.returns-in-Err-clause-refused

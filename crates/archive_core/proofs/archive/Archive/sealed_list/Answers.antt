@@ -1,4 +1,4 @@
-use Rattle.std.proofs.Common.{arith, ◌≡◌, ℕ, ◌^◌, List, [], length, ap, refl, sym, subst, ◌∙◌, inl}
+use Rattle.std.proofs.Common.{arith, ℕ, ◌^◌, List, [], ap, refl, sym, subst, ◌∙◌, inl}
 use Rattle.std.specs.Prelude.{vec_len}
 use Rattle.time_base.specs.declared.posting.Posting.{Posting}
 use Rattle.postings.specs.ListsOf.{IsListOf}
@@ -16,39 +16,39 @@ pub returns-then-not-knows-clause-refused : goal.returns-then-not-knows-clause-r
 returns-then-not-knows-clause-refused c = λ h stands why e.
     let I : IndexState → Type 0 = λ i. Indexes i (changes h) in
     let knows = c.knows.ensures (changes h) (subst I (sym c.index.ensures) stands.index_is) in
-    inl (λ known. not_both c.knows.result c.if-not-knows.true (knows.1 (known_there h c.args.key.now known)), one_why refusals.UnknownWord why e)
+    inl (λ known. not_both c.knows.result c.if-not-knows.true (knows.1 (known_there h c.args.key known)), one_why refusals.UnknownWord why e)
 
 pub returns-in_default-clause-refused : goal.returns-in_default-clause-refused
 returns-in_default-clause-refused c = λ h stands why e.
     let I : IndexState → Type 0 = λ i. Indexes i (changes h) in
-    let known = known_is h c.args.key.now ((c.knows.ensures (changes h) (subst I (sym c.index.ensures) stands.index_is)).0 c.if-not-knows.false) in
+    let known = known_is h c.args.key ((c.knows.ensures (changes h) (subst I (sym c.index.ensures) stands.index_is)).0 c.if-not-knows.false) in
     let zero = no_second c.args.self.now h stands (ap last_time (sym c.directory.ensures.changes) ∙ sym c.last.ensures ∙ c.in_default.is) in
-    nothing_sealed h c.args.key.now [] why known (none_before (λ d t. frequency_at h c.args.key.now (record { 0 = d }) t) (last_second h) zero) refl (one_why refusals.NothingSealed why e)
+    nothing_sealed h c.args.key [] why known (none_before (λ d t. frequency_at h c.args.key (record { 0 = d }) t) (last_second h) zero) refl (one_why refusals.NothingSealed why e)
 
 pub returns-then-is_empty-clause-refused : goal.returns-then-is_empty-clause-refused
 returns-then-is_empty-clause-refused c = λ h stands why e.
     let I : IndexState → Type 0 = λ i. Indexes i (changes h) in
-    let known = known_is h c.args.key.now ((c.knows.ensures (changes h) (subst I (sym c.index.ensures) stands.index_is)).0 c.if-not-knows.false) in
-    let whole = word_list h c.args.key.now c.in_ok-whole.whole.items (c.in_ok-whole.ensures.list (changes h) (subst I (sym c.index-2.ensures) stands.index_is)) in
-    let here = subst (λ (l : List Posting). IsListOf (λ d t. frequency_at h c.args.key.now (record { 0 = d }) t) 0 (2 ^ 40) l) (sym c.deref.ensures.value) whole in
-    let listed = c.in_ok-list.ensures.list (λ d t. frequency_at h c.args.key.now (record { 0 = d }) t) here in
+    let known = known_is h c.args.key ((c.knows.ensures (changes h) (subst I (sym c.index.ensures) stands.index_is)).0 c.if-not-knows.false) in
+    let whole = word_list h c.args.key c.in_ok-whole.whole.items (c.in_ok-whole.ensures.list (changes h) (subst I (sym c.index-2.ensures) stands.index_is)) in
+    let here = subst (λ (l : List Posting). IsListOf (λ d t. frequency_at h c.args.key (record { 0 = d }) t) 0 (2 ^ 40) l) (sym c.deref.ensures.value) whole in
+    let listed = c.in_ok-list.ensures.list (λ d t. frequency_at h c.args.key (record { 0 = d }) t) here in
     let last = last_second_is c.args.self.now h c.in-Some.horizon stands (ap last_time (sym c.directory.ensures.changes) ∙ sym c.last.ensures ∙ c.in-Some.is) in
-    nothing_sealed h c.args.key.now c.in_ok-list.list.items why known (subst (λ (n : ℕ). IsListUpTo h c.args.key.now n c.in_ok-list.list.items) last listed)
+    nothing_sealed h c.args.key c.in_ok-list.list.items why known (subst (λ (n : ℕ). IsListUpTo h c.args.key n c.in_ok-list.list.items) last listed)
     (omega (arith, none_left (vec_len c.in_ok-list.list) (sym c.is_empty.ensures ∙ c.if-is_empty.true))) (one_why refusals.NothingSealed why e)
 
 pub returns-clause-known : goal.returns-clause-known
 returns-clause-known c = λ h stands.
     let I : IndexState → Type 0 = λ i. Indexes i (changes h) in
-    known_is h c.args.key.now ((c.knows.ensures (changes h) (subst I (sym c.index.ensures) stands.index_is)).0 c.if-not-knows.false)
+    known_is h c.args.key ((c.knows.ensures (changes h) (subst I (sym c.index.ensures) stands.index_is)).0 c.if-not-knows.false)
 
 pub returns-clause-list : goal.returns-clause-list
 returns-clause-list c = λ h stands.
     let I : IndexState → Type 0 = λ i. Indexes i (changes h) in
-    let whole = word_list h c.args.key.now c.in_ok-whole.whole.items (c.in_ok-whole.ensures.list (changes h) (subst I (sym c.index-2.ensures) stands.index_is)) in
-    let here = subst (λ (l : List Posting). IsListOf (λ d t. frequency_at h c.args.key.now (record { 0 = d }) t) 0 (2 ^ 40) l) (sym c.deref.ensures.value) whole in
-    let listed = c.in_ok-list.ensures.list (λ d t. frequency_at h c.args.key.now (record { 0 = d }) t) here in
+    let whole = word_list h c.args.key c.in_ok-whole.whole.items (c.in_ok-whole.ensures.list (changes h) (subst I (sym c.index-2.ensures) stands.index_is)) in
+    let here = subst (λ (l : List Posting). IsListOf (λ d t. frequency_at h c.args.key (record { 0 = d }) t) 0 (2 ^ 40) l) (sym c.deref.ensures.value) whole in
+    let listed = c.in_ok-list.ensures.list (λ d t. frequency_at h c.args.key (record { 0 = d }) t) here in
     let last = last_second_is c.args.self.now h c.in-Some.horizon stands (ap last_time (sym c.directory.ensures.changes) ∙ sym c.last.ensures ∙ c.in-Some.is) in
-    subst (λ (n : ℕ). IsListUpTo h c.args.key.now n c.in_ok-list.list.items) last listed
+    subst (λ (n : ℕ). IsListUpTo h c.args.key n c.in_ok-list.list.items) last listed
 
 pub returns-clause-horizon : goal.returns-clause-horizon
 returns-clause-horizon c = λ h stands. last_second_is c.args.self.now h c.in-Some.horizon stands (ap last_time (sym c.directory.ensures.changes) ∙ sym c.last.ensures ∙ c.in-Some.is)

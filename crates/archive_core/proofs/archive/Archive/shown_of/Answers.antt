@@ -1,0 +1,34 @@
+use Rattle.std.proofs.Common.{ap, ◌∙◌}
+use Rattle.commands.specs.declared.command.Kind.TheVariants.{Guarantee, Uniform, Since}
+use Rattle.archive_state.specs.declared.refusal.Refusal.TheVariants as refusals
+use Rattle.archive_state.specs.Plans.{plan_of}
+use Rattle.archive_state.specs.Steps.{Refused}
+use Rattle.archive_core.specs.States.{ShelfState}
+use Rattle.archive_core.proofs.PlanLemmas.{one_why}
+use Rattle.archive_core.proofs.CertifyLemmas.{found_live, none_live, live_as, no_live, other_live}
+use Rattle.archive_core.proofs.archive.Archive.shown_of.Goals as goal
+
+pub returns-in_default-clause-refused : goal.returns-in_default-clause-refused
+returns-in_default-clause-refused c = λ h stands why e.
+    let none = none_live c.args.self.now h c.args.word.now c.shelf.result.now.plans (ap (λ (s : ShelfState). s.plans) c.shelf.ensures.shelf) stands c.in_default.ensures in
+    no_live h (plan_of h c.args.word.now) (Refused why) none (ap Refused (one_why refusals.NoPlan why e))
+
+pub plan_shown-requires-clause-live : goal.plan_shown-requires-clause-live
+plan_shown-requires-clause-live c = λ h stands.
+    let found = found_live c.args.self.now h c.args.word.now c.shelf.result.now.plans c.in-Some.stored.now (ap (λ (s : ShelfState). s.plans) c.shelf.ensures.shelf) stands c.in-Some.ensures in
+    ap (plan_of h) found.1 ∙ found.0
+
+pub returns-in-Guarantee-clause-shows : goal.returns-in-Guarantee-clause-shows
+returns-in-Guarantee-clause-shows c = λ h stands legal.
+    let found = found_live c.args.self.now h c.args.word.now c.shelf.result.now.plans c.in-Some.stored.now (ap (λ (s : ShelfState). s.plans) c.shelf.ensures.shelf) stands c.in-Some.ensures in
+    live_as h (plan_of h c.args.word.now) c.in-Some.stored.now.plan Guarantee c.plan_shown.result found.0 c.in-Guarantee.is (c.plan_shown.ensures.shows h stands legal)
+
+pub returns-in-Uniform-clause-refused : goal.returns-in-Uniform-clause-refused
+returns-in-Uniform-clause-refused c = λ h stands why e.
+    let found = found_live c.args.self.now h c.args.word.now c.shelf.result.now.plans c.in-Some.stored.now (ap (λ (s : ShelfState). s.plans) c.shelf.ensures.shelf) stands c.in-Some.ensures in
+    other_live h (plan_of h c.args.word.now) c.in-Some.stored.now.plan Uniform (Refused why) found.0 c.in-Uniform.is (ap Refused (one_why refusals.NoPlan why e))
+
+pub returns-in-Since-clause-refused : goal.returns-in-Since-clause-refused
+returns-in-Since-clause-refused c = λ h stands why e.
+    let found = found_live c.args.self.now h c.args.word.now c.shelf.result.now.plans c.in-Some.stored.now (ap (λ (s : ShelfState). s.plans) c.shelf.ensures.shelf) stands c.in-Some.ensures in
+    other_live h (plan_of h c.args.word.now) c.in-Some.stored.now.plan (Since c.in-Since.at) (Refused why) found.0 c.in-Since.is (ap Refused (one_why refusals.NoPlan why e))

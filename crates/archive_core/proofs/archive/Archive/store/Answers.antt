@@ -1,0 +1,136 @@
+use Rattle.std.proofs.Common.{ℕ, ◌+◌, List, ◌∷◌, [], ◌++◌, refl, ap, sym, subst, ◌∙◌, arith, rules}
+use Rattle.machine_model.specs.declared.area.Area.TheVariants.{Journal, Pages}
+use Rattle.record_codec.specs.declared.entry.Entry.TheVariants as entries
+use Rattle.version_index.specs.Indexes.{seen, state_of}
+use Rattle.page_store.specs.Taken.{HasTaken}
+use Rattle.archive_state.specs.declared.stored.StoredPlan.{StoredPlan}
+use Rattle.archive_state.specs.Plans.{with_plan, live_extents}
+use Rattle.archive_state.proofs.HistoryLemmas.{legal-push}
+use Rattle.archive_core.specs.Adding.{HasSameShelf}
+use Rattle.archive_core.specs.Shelves.{EachOnce}
+use Rattle.archive_core.specs.States.{ArchiveState, StandsFor, IsKept, Reaches, extents_all}
+use Rattle.archive_core.specs.Storing.{IsFull, tells_of}
+use Rattle.archive_core.specs.Takes.{summary_of}
+use Rattle.archive_core.proofs.AddLemmas.{reaches_on}
+use Rattle.archive_core.proofs.ShelfLemmas.{live_once}
+use Rattle.archive_core.proofs.StoreLemmas.{ready_storable, ready_stored, stands_planned, reaches_planned, same_shelf, stands_still, full_refused}
+use Rattle.archive_core.proofs.archive.Archive.store.Goals as goal
+
+pub returns-in-Err-clause-refused : goal.returns-in-Err-clause-refused
+returns-in-Err-clause-refused g c = λ h stands why is.
+    let a : ArchiveState = record { end = c.self.inside.journal.end; live = c.self.inside.live; length = c.self.inside.entries; changes = c.self.inside.directory.changes; index = state_of c.self.inside.index; shelf = c.self.inside.shelf } in
+    let before = subst (λ (s : ArchiveState). StandsFor s h) (sym c.self.view_is) stands in
+    let still = stands_still a h c.make_ready.new.shelf before c.in-Err.ensures.plans (c.in-Err.ensures.none _ before.pages_are) in
+    full_refused c.in-Err.why c.not_ready.result _ c.not_ready.new.self h c.args.draft c.args.self.now.end why c.not_ready.ensures
+    (λ because e. subst (λ (n : ℕ). IsFull c.args.draft (live_extents h) n because) (c.end.ensures.end ∙ ap (λ (s : ArchiveState). s.end) c.self.view_is) (c.in-Err.ensures.full _ before.pages_are because e)) still is
+
+pub write_ready-requires-clause-once : goal.write_ready-requires-clause-once
+write_ready-requires-clause-once g c =
+    let stands = c.self.invariant.2 in
+    subst EachOnce (sym (c.in-Ok.ensures.plans ∙ stands.1.plans_are)) (live_once stands.0)
+
+pub invariant_of-self-in-Ok-write_ready : goal.invariant_of-self-in-Ok-write_ready
+invariant_of-self-in-Ok-write_ready g c =
+    let a : ArchiveState = record { end = c.self.inside.journal.end; live = c.self.inside.live; length = c.self.inside.entries; changes = c.self.inside.directory.changes; index = state_of c.self.inside.index; shelf = c.self.inside.shelf } in
+    let (h, stands) = c.self.invariant.2 in
+    let r = c.in-Ok.ready in
+    let draft = c.requires.drafted h (subst (λ (s : ArchiveState). StandsFor s h) c.self.view_is stands) in (
+      λ live. search rules,
+      omega (arith, c.self.invariant.1, c.in-Ok-write_ready.ensures.end),
+      (
+        h ++ entries.Planned r.stored.plan ∷ [],
+        stands_planned a h c.args.draft c.end.result c.self.inside.entries c.write_ready.new.journal.end r c.write_ready.new.shelf stands draft c.end.ensures.end c.in-Ok.ensures.ready c.in-Ok-write_ready.ensures.end
+            (c.in-Ok-write_ready.ensures.plans ∙ ap (λ (l : List StoredPlan). with_plan l r.stored) c.in-Ok.ensures.plans) c.in-Ok-write_ready.ensures.pages,
+      ),
+    )
+
+pub returns-in-Ok-write_ready-clause-within : goal.returns-in-Ok-write_ready-clause-within
+returns-in-Ok-write_ready-clause-within g c =
+    let a : ArchiveState = record { end = c.self.inside.journal.end; live = c.self.inside.live; length = c.self.inside.entries; changes = c.self.inside.directory.changes; index = state_of c.self.inside.index; shelf = c.self.inside.shelf } in
+    let r = c.in-Ok.ready in
+    reaches_planned a c.write_ready.new.journal.end c.write_ready.new.shelf r.stored r.prepared.places (g.D.Disk.disk c.args.disk.now).reach (g.D.Disk.disk c.write_ready.new.disk).reach
+    (subst (λ (s : ArchiveState). Reaches (g.D.Disk.disk c.args.disk.now).reach s) (sym c.self.view_is) c.requires.within)
+    (g.met.D.Disk.only_reach c.args.disk.now c.write_ready.new.disk Pages c.write_ready.ensures.only) c.in-Ok-write_ready.ensures.reached
+    (c.in-Ok-write_ready.ensures.plans ∙ ap (λ (l : List StoredPlan). with_plan l r.stored) c.in-Ok.ensures.plans) (ap (λ p. p.places) c.in-Ok.ensures.ready.plan_is) c.in-Ok-write_ready.ensures.inside
+
+pub returns-in-Ok-write_ready-clause-stores : goal.returns-in-Ok-write_ready-clause-stores
+returns-in-Ok-write_ready-clause-stores g c = λ h now.
+    let a : ArchiveState = record { end = c.self.inside.journal.end; live = c.self.inside.live; length = c.self.inside.entries; changes = c.self.inside.directory.changes; index = state_of c.self.inside.index; shelf = c.self.inside.shelf } in
+    let stands = subst (λ (s : ArchiveState). StandsFor s h) (sym c.self.view_is) now in
+    let r = c.in-Ok.ready in
+    let ready = c.in-Ok.ensures.ready in (
+      r.stored.plan,
+      (
+        ready_stored h c.args.draft c.end.result c.self.inside.entries r (c.end.ensures.end ∙ stands.end_is) ready (c.in-Ok.ensures.placed _ stands.pages_are),
+        ap summary_of c.in-Ok-write_ready.ensures.report ∙ ready.told ∙ ap (λ (n : ℕ). tells_of c.args.draft (n + 1)) stands.length_is,
+        stands_planned a h c.args.draft c.end.result c.self.inside.entries c.write_ready.new.journal.end r c.write_ready.new.shelf stands (c.requires.drafted h now) c.end.ensures.end ready c.in-Ok-write_ready.ensures.end
+            (c.in-Ok-write_ready.ensures.plans ∙ ap (λ (l : List StoredPlan). with_plan l r.stored) c.in-Ok.ensures.plans) c.in-Ok-write_ready.ensures.pages,
+      ),
+    )
+
+pub returns-in-Ok-write_ready-clause-leads : goal.returns-in-Ok-write_ready-clause-leads
+returns-in-Ok-write_ready-clause-leads g c = λ tells h now is.
+    let a : ArchiveState = record { end = c.self.inside.journal.end; live = c.self.inside.live; length = c.self.inside.entries; changes = c.self.inside.directory.changes; index = state_of c.self.inside.index; shelf = c.self.inside.shelf } in
+    let kept = subst (λ (s : ArchiveState). IsKept (g.D.Disk.disk c.args.disk.now) s h) (sym c.self.view_is) now in
+    let stands = kept.stands in
+    let r = c.in-Ok.ready in
+    let ready = c.in-Ok.ensures.ready in
+    let draft = c.requires.drafted h now.stands in
+    let storable = ready_storable h c.args.draft c.end.result c.self.inside.entries r c.make_ready.new.shelf.pages draft ready (c.in-Ok.ensures.taken _ stands.pages_are) in
+    let then = c.in-Ok-write_ready.ensures.kept tells h kept.in_step kept.held kept.legal storable in (
+      r.stored.plan,
+      (
+        ready_stored h c.args.draft c.end.result c.self.inside.entries r (c.end.ensures.end ∙ stands.end_is) ready (c.in-Ok.ensures.placed _ stands.pages_are),
+        c.in-Ok-write_ready.ensures.crash tells h kept.in_step kept.held kept.legal storable,
+        (
+          ap summary_of c.in-Ok-write_ready.ensures.report ∙ ready.told ∙ ap (λ (n : ℕ). tells_of c.args.draft (n + 1)) stands.length_is,
+          record {
+            stands = stands_planned a h c.args.draft c.end.result c.self.inside.entries c.write_ready.new.journal.end r c.write_ready.new.shelf stands draft c.end.ensures.end ready c.in-Ok-write_ready.ensures.end
+                (c.in-Ok-write_ready.ensures.plans ∙ ap (λ (l : List StoredPlan). with_plan l r.stored) c.in-Ok.ensures.plans) c.in-Ok-write_ready.ensures.pages;
+            in_step = then.0;
+            legal = legal-push h (entries.Planned r.stored.plan) kept.legal storable.entry;
+            held = then.1;
+          },
+        ),
+      ),
+    )
+
+pub returns-in-Err-write_ready-clause-within : goal.returns-in-Err-write_ready-clause-within
+returns-in-Err-write_ready-clause-within g c =
+    let a : ArchiveState = record { end = c.self.inside.journal.end; live = c.self.inside.live; length = c.self.inside.entries; changes = c.self.inside.directory.changes; index = state_of c.self.inside.index; shelf = c.self.inside.shelf } in
+    let reaches = subst (λ (s : ArchiveState). Reaches (g.D.Disk.disk c.args.disk.now).reach s) (sym c.self.view_is) c.requires.within in
+    let spent = c.in-Err-write_ready.ensures.spent in
+    reaches_on a (record a { end = c.write_ready.new.journal.end; shelf = c.write_ready.new.shelf }) (g.D.Disk.disk c.args.disk.now).reach (g.D.Disk.disk c.write_ready.new.disk).reach reaches (spent.1 ∙ c.in-Ok.ensures.plans)
+    (g.met.D.Disk.only_reach c.args.disk.now c.write_ready.new.disk Pages c.write_ready.ensures.only)
+    (omega (arith, spent.0, reaches.0, g.met.D.Disk.only_reach c.args.disk.now c.write_ready.new.disk Journal c.write_ready.ensures.only))
+
+pub returns-in-Err-write_ready-clause-spent : goal.returns-in-Err-write_ready-clause-spent
+returns-in-Err-write_ready-clause-spent g c = λ is.
+    let (h, stands) = c.self.invariant.2 in
+    let spent = c.in-Err-write_ready.ensures.spent in
+    let pages = subst (λ (l : List StoredPlan). HasTaken c.write_ready.new.shelf.pages (extents_all l)) (c.in-Ok.ensures.plans ∙ stands.plans_are) spent.2 in
+    let view = c.self.view_is in
+    let shelf = same_shelf c.self.inside.shelf c.write_ready.new.shelf (live_extents h) (spent.1 ∙ c.in-Ok.ensures.plans) stands.pages_are pages in
+    record {
+      end_is = spent.0 ∙ ap (λ (s : ArchiveState). s.end) view;
+      length_is = ap (λ (s : ArchiveState). s.length) view;
+      changes_are = ap (λ (s : ArchiveState). s.changes) view;
+      index_is = ap (λ (s : ArchiveState). seen s.index) view;
+      shelf_is = subst (λ (s : ArchiveState). HasSameShelf s.shelf c.write_ready.new.shelf) view shelf;
+      live_is = refl;
+    }
+
+pub returns-in-Err-write_ready-clause-leads : goal.returns-in-Err-write_ready-clause-leads
+returns-in-Err-write_ready-clause-leads g c = λ tells h now is.
+    let kept = subst (λ (s : ArchiveState). IsKept (g.D.Disk.disk c.args.disk.now) s h) (sym c.self.view_is) now in
+    let stands = kept.stands in
+    let r = c.in-Ok.ready in
+    let ready = c.in-Ok.ensures.ready in
+    let storable = ready_storable h c.args.draft c.end.result c.self.inside.entries r c.make_ready.new.shelf.pages (c.requires.drafted h now.stands) ready (c.in-Ok.ensures.taken _ stands.pages_are) in (
+      r.stored.plan,
+      (
+        ready_stored h c.args.draft c.end.result c.self.inside.entries r (c.end.ensures.end ∙ stands.end_is) ready (c.in-Ok.ensures.placed _ stands.pages_are),
+        c.in-Err-write_ready.ensures.crash tells h kept.in_step kept.held kept.legal storable,
+        tt,
+      ),
+    )

@@ -1,0 +1,117 @@
+//! The certificate of a plan that is stored.
+ghost use Rattle.std.specs.Prelude.{◌≡◌, ◌<◌, ◌≤◌, ◌^◌, ◌++◌, ◌∷◌, [], ℕ, List, length, map, All, IfOk, IsErrOf, Some};
+ghost use Rattle.machine_model.specs.States.{DiskState};
+ghost use Rattle.stored_plans.specs.Plans.{IsLeastPlan};
+ghost use Rattle.archive_state.specs.Histories.{History};
+ghost use Rattle.archive_state.specs.Legal.{IsLegal};
+ghost use Rattle.archive_state.specs.Plans.{plan_of};
+ghost use Rattle.archive_state.specs.Steps.{Certifies, IsCertificate, Proposed, Refused, ShowsLive, ShowsPlan};
+ghost use Rattle.archive_core.specs.States.{StandsFor, IsKept};
+ghost use Rattle.archive_core.specs.Takes.{Takes, proposed};
+ghost use Rattle.commands.specs.declared.command.Command.TheVariants as commands;
+ghost use Rattle.commands.specs.declared.command.Item.TheVariants as items;
+
+use crate::archive::Archive;
+use crate::error::AskError;
+use crate::planning::{MANY_POSTINGS, list_up_to, planned};
+use archive_state::Refusal;
+use commands::{Kind, Phrase};
+use elementary::Table;
+use fold_tokens::one_term;
+use proposals::Proposal;
+use record_codec::PlanEntry;
+use std::alloc::Global;
+use stored_plans::partition_of;
+use time_base::{Key, Posting};
+
+impl Archive {
+    /// The stored plan of a word, if it keeps to a guarantee: its segments with their sizes, and the least
+    /// space up to each boundary of the list, so that its own space shows that it is least. Nothing is
+    /// changed, and no disk is asked.
+    ///
+    /// `Refused`: for the first cause in order, the phrase isn't one term, no text has the word, or it has
+    /// no stored plan that keeps to a guarantee. It is never `Failed`.
+    /// Costs `n log n` in the word's postings, and memory in them.
+    pub fn certificate(&self, alloc: Global, word: &Phrase) -> Result<Proposal, AskError>
+        ensures failed { IsErrOf result AskError.Failed → ⊥ }
+        // Whatever history it stands for, a refusal comes exactly where that has the cause (but for want of memory); what is shown is the stored
+        // plan, where the history is legal.
+        ensures refused { (h : History) → StandsFor self.now h → (why : Refusal) → IsErrOf result (AskError.Refused why) → Certifies h word.now (Refused why) }
+        ensures shows { (h : History) → StandsFor self.now h → IsLegal h → IfOk result (λ p. Certifies h word.now (Proposed p.segments.items p.nodes.items p.space)) }
+        // In step with a disk, it is a step of the abstract machine.
+        ensures takes { (d : DiskState) (h : History) → IsKept d self.now h → Takes h (items.Command (commands.Certificate word.now)) (proposed result) d d self.now }
+    {
+        self.certificate_of(alloc, word)
+    }
+
+    /// The certificate of a phrase's word.
+    fn certificate_of(&self, alloc: Global, word: &Phrase) -> Result<Proposal, AskError>
+        ensures failed { IsErrOf result AskError.Failed → ⊥ }
+        ensures refused { (h : History) → StandsFor self.now h → (why : Refusal) → IsErrOf result (AskError.Refused why) → Certifies h word.now (Refused why) }
+        ensures shows { (h : History) → StandsFor self.now h → IsLegal h → IfOk result (λ p. Certifies h word.now (Proposed p.segments.items p.nodes.items p.space)) }
+    {
+        let Some(key) = one_term(alloc, word.as_str())? else {
+            return Err(AskError::Refused(Refusal::NotOneTerm));
+        };
+        if !self.index().knows(&key) {
+            return Err(AskError::Refused(Refusal::UnknownWord));
+        }
+        self.shown_of(alloc, &key)
+    }
+
+    /// The certificate of a word's live plan.
+    fn shown_of(&self, alloc: Global, word: &Key) -> Result<Proposal, AskError>
+        ensures failed { IsErrOf result AskError.Failed → ⊥ }
+        ensures refused { (h : History) → StandsFor self.now h → (why : Refusal) → IsErrOf result (AskError.Refused why) → ShowsLive h (plan_of h word.now) (Refused why) }
+        ensures shows { (h : History) → StandsFor self.now h → IsLegal h → IfOk result (λ p. ShowsLive h (plan_of h word.now) (Proposed p.segments.items p.nodes.items p.space)) }
+    {
+        let Some(stored) = self.shelf().plan_of(word) else {
+            return Err(AskError::Refused(Refusal::NoPlan));
+        };
+        match stored.plan.kind {
+            Kind::Guarantee => self.plan_shown(alloc, &stored.plan),
+            Kind::Uniform => Err(AskError::Refused(Refusal::NoPlan)),
+            Kind::Since { .. } => Err(AskError::Refused(Refusal::NoPlan)),
+        }
+    }
+
+    /// A live plan that keeps to a guarantee, as it is shown.
+    fn plan_shown(&self, alloc: Global, plan: &PlanEntry) -> Result<Proposal, AskError>
+        requires live { (h : History) → StandsFor self.now h → plan_of h plan.now.word ≡ Some plan.now }
+        requires kind { plan.now.kind ≡ Kind.Guarantee }
+        ensures failed { IsErrOf result AskError.Failed → ⊥ }
+        ensures refused { (why : Refusal) → IsErrOf result (AskError.Refused why) → ⊥ }
+        ensures shows { (h : History) → StandsFor self.now h → IsLegal h → IfOk result (λ p. ShowsPlan h plan.now Kind.Guarantee (Proposed p.segments.items p.nodes.items p.space)) }
+    {
+        let whole = self.index().list(alloc, &plan.word)?;
+        let list = list_up_to(alloc, &whole, plan.horizon)?;
+        if list.is_empty() || list.len() >= MANY_POSTINGS {
+            return Err(AskError::Memory);
+        }
+        certified(alloc, &list, plan)
+    }
+}
+
+/// The certificate of a plan of a list. Whatever can't be, as that the list has too many boundaries, is
+/// answered as want of memory.
+fn certified(alloc: Global, list: &[Posting], plan: &PlanEntry) -> Result<Proposal, AskError>
+    requires some { 0 < length list.now }
+    requires few { length list.now < 2 ^ 38 }
+    requires early { All (λ p. p.span.to ≤ plan.now.horizon.seconds) list.now }
+    ensures failed { IsErrOf result AskError.Failed → ⊥ }
+    ensures refused { (why : Refusal) → IsErrOf result (AskError.Refused why) → ⊥ }
+    ensures shows { IfOk result (λ p. IsLeastPlan list.now plan.now.fraction plan.now.cuts plan.now.horizon.seconds → IsCertificate plan.now list.now p.segments.items p.nodes.items p.space) }
+{
+    let table = Table::new(alloc, list, plan.horizon)?;
+    let Ok((_, certificate)) = planned(alloc, &table, plan.fraction) else {
+        return Err(AskError::Memory);
+    };
+    let Some(partition) = partition_of(alloc, plan.cuts.as_slice(), plan.horizon)? else {
+        return Err(AskError::Memory);
+    };
+    if !partition.fits(&table) {
+        return Err(AskError::Memory);
+    }
+    let proposal = Proposal::of(alloc, &table, &partition, certificate.pi())?;
+    Ok(proposal)
+}

@@ -1,0 +1,205 @@
+-- What the pages hold for live plans: over an entry more, over writes elsewhere, and with the places of a plan that is stored.
+use Rattle.std.proofs.Common.{◌≡◌, ◌⊎◌, ℕ, ◌≤◌, ◌-◌, Bool, true, false, cond, List, [], ◌∷◌, ◌++◌, map, filter, All, None, inl, inr, refl, ap, sym, subst, ◌∙◌, arith}
+use Rattle.std.specs.List.{flat_map, AllZip}
+use Rattle.std.proofs.lemmas.List.{append-nil}
+use Rattle.std.proofs.lemmas.List.Concat.{flat_map-append}
+use Rattle.std.proofs.lemmas.List.Elements.{All-nil, All-cons, All-head, All-tail, All-append, All-filter}
+use Rattle.sha2.specs.Sha256.{sha256}
+use Rattle.machine_model.specs.Areas.{Bytes}
+use Rattle.machine_model.specs.declared.range.Range.{Range}
+use Rattle.time_base.specs.declared.extent.Extent.{Extent}
+use Rattle.time_base.specs.declared.posting.Posting.{Posting}
+use Rattle.page_store.specs.Runs.{IsTaken}
+use Rattle.page_store.specs.Taken.{IsApartFrom, AreApart}
+use Rattle.page_store.specs.Ranges.{SameOutside, range_of}
+use Rattle.page_store.specs.Wrote.{Piece, HoldsPiece, Wrote, ranges_of}
+use Rattle.page_store.specs.Wrote as wrote
+use Rattle.page_store.proofs.StayLemmas.{AreApartFrom, bytes_stay, taken_right, apart_parts, apart_left}
+use Rattle.record_codec.specs.declared.place.Layout.{Layout}
+use Rattle.record_codec.specs.declared.place.Place.{Place}
+use Rattle.record_codec.specs.declared.entry.Entry.{Entry}
+use Rattle.record_codec.specs.declared.entry.Entry.TheVariants.{Arrive, Delete, Planned}
+use Rattle.record_codec.specs.declared.plan.PlanEntry.{PlanEntry}
+use Rattle.sublist_store.specs.Preparing.{IsFor, extents, pieces_of, spellings}
+use Rattle.sublist_store.specs.Segments.{seconds, next_cut, EachSegment, HoldsSublist}
+use Rattle.sublist_store.proofs.HoldLemmas.{hold_sublists}
+use Rattle.stored_plans.specs.Plans.{Asks}
+use Rattle.archive_state.specs.declared.stored.StoredPlan.{StoredPlan}
+use Rattle.archive_state.specs.Histories.{History, entry_refusal, end_of}
+use Rattle.archive_state.specs.Planning.{IsListUpTo, last_second}
+use Rattle.archive_state.specs.Plans.{IsChange, is_another, live_plans, live_extents, extents_of}
+use Rattle.archive_state.specs.Legal.{MayBePlanned, EachMayCome}
+use Rattle.archive_state.specs.Holding.{HoldsPlan, HoldsPlans}
+use Rattle.archive_state.proofs.LiveLemmas.{IsLater, later_push, list_later, live_planned, live_plans-push}
+
+-- ---- an entry more that is no plan
+
+abbrev pub all_extents : List StoredPlan → List Extent
+all_extents live = flat_map (λ (stored : StoredPlan). extents_of stored.plan) live
+
+plans_later : (Good : Asks) (h next : History) (pages : List ℕ) (live : List StoredPlan) → IsLater h next
+    → All (λ stored. MayBePlanned Good h stored.plan) live → All (λ stored. HoldsPlan h pages stored.plan) live → All (λ stored. HoldsPlan next pages stored.plan) live
+plans_later Good h next pages [] later may held = All-nil (λ (stored : StoredPlan). HoldsPlan next pages stored.plan)
+plans_later Good h next pages (s ∷ live) later may held =
+    let M : StoredPlan → Type 0 = λ stored. MayBePlanned Good h stored.plan in
+    let H : StoredPlan → Type 0 = λ stored. HoldsPlan h pages stored.plan in
+    let one = All-head H s live held in
+    All-cons (λ (stored : StoredPlan). HoldsPlan next pages stored.plan) s live
+    (record { list = one.list; list_is = list_later h next s.plan.word s.plan.horizon.seconds one.list later (All-head M s live may).past one.list_is; each = one.each })
+    (plans_later Good h next pages live later (All-tail M s live may) (All-tail H s live held))
+
+held_later : (Good : Asks) (h next : History) (pages : List ℕ) → IsLater h next → live_plans next ≡ live_plans h → EachMayCome Good [] h → HoldsPlans h pages → HoldsPlans next pages
+held_later Good h next pages later same each held =
+    let L : List StoredPlan → Type 0 = λ live. All (λ stored. HoldsPlan next pages stored.plan) live in
+    let A : List StoredPlan → Type 0 = λ live. AreApart (all_extents live) in
+    record {
+      apart = subst A (sym same) held.apart;
+      each = subst L (sym same) (plans_later Good h next pages (live_plans h) later (live_planned Good h each) held.each);
+    }
+
+pub same_live : (h : History) (e : Entry) → IsChange e → live_plans (h ++ e ∷ []) ≡ live_plans h
+same_live h (Arrive doc at text) change = live_plans-push h (Arrive doc at text)
+same_live h (Delete doc at) change = live_plans-push h (Delete doc at)
+same_live h (Planned plan) change = absurd change
+
+pub held_push : (Good : Asks) (h : History) (e : Entry) (pages : List ℕ) → IsChange e → EachMayCome Good [] h → entry_refusal h e ≡ None → HoldsPlans h pages → HoldsPlans (h ++ e ∷ []) pages
+held_push Good h e pages change each allowed held = held_later Good h (h ++ e ∷ []) pages (later_push h e allowed) (same_live h e change) each held
+
+-- ---- writes elsewhere
+
+-- R holds of each place at both ends, and so does what follows from it for places among these
+each_follows : (R Q : ℕ → ℕ → Place → Type 0) (P : Place → Type 0) → ((f g : ℕ) (place : Place) → P place → R f g place → Q f g place)
+    → (cuts : List ℕ) (h : ℕ) (places : List Place) → All P places → EachSegment R cuts h places → EachSegment Q cuts h places
+each_follows R Q P follows [] h [] all each = tt
+each_follows R Q P follows (f ∷ cuts) h (p ∷ places) all each =
+    (follows f (next_cut cuts h) p (All-head P p places all) each.0, each_follows R Q P follows cuts h places (All-tail P p places all) each.1)
+each_follows R Q P follows [] h (p ∷ places) all each = absurd each
+each_follows R Q P follows (f ∷ cuts) h [] all each = absurd each
+
+-- the place of a segment holds what it held
+sublist_stays : (layout : Layout) (list : List Posting) (others : List Extent) (was pages : List ℕ) → SameOutside (map range_of others) was pages → (f g : ℕ) (place : Place)
+    → IsApartFrom place.extent others → HoldsSublist layout list was f g place → HoldsSublist layout list pages f g place
+sublist_stays layout list others was pages same f g place apart holds =
+    let stay = bytes_stay place.extent others was pages apart (λ some. holds.inside) same in
+    record {
+      inside = omega (arith, holds.inside, same.no_shorter);
+      bytes = stay ∙ holds.bytes;
+      digest = (let P : List ℕ → Type 0 = λ l. place.digest ≡ sha256 l in subst P (sym stay) holds.digest);
+    }
+
+-- the extents of places that are apart from others, one by one
+all_apart : (places : List Place) (rest others : List Extent) → AreApartFrom others (map (λ (q : Place). q.extent) places ++ rest) → All (λ (place : Place). IsApartFrom place.extent others) places
+all_apart [] rest others apart = All-nil (λ (place : Place). IsApartFrom place.extent others)
+all_apart (q ∷ places) rest others apart =
+    All-cons (λ (place : Place). IsApartFrom place.extent others) q places (λ p is taken. apart p taken (inl is)) (all_apart places rest others (λ p one other. apart p one (inr other)))
+
+plan_stays : (h : History) (plan : PlanEntry) (rest others : List Extent) (was pages : List ℕ) → SameOutside (map range_of others) was pages
+    → AreApartFrom others (extents_of plan ++ rest) → HoldsPlan h was plan → HoldsPlan h pages plan
+plan_stays h plan rest others was pages same apart holds = record {
+  list = holds.list;
+  list_is = holds.list_is;
+  each = each_follows (HoldsSublist plan.layout holds.list was) (HoldsSublist plan.layout holds.list pages) (λ (place : Place). IsApartFrom place.extent others)
+      (sublist_stays plan.layout holds.list others was pages same) (seconds plan.cuts) plan.horizon.seconds plan.places (all_apart plan.places rest others apart) holds.each;
+}
+
+plans_stay : (h : History) (live : List StoredPlan) (others : List Extent) (was pages : List ℕ) → SameOutside (map range_of others) was pages
+    → AreApartFrom others (all_extents live) → All (λ stored. HoldsPlan h was stored.plan) live → All (λ stored. HoldsPlan h pages stored.plan) live
+plans_stay h [] others was pages same apart each = All-nil (λ (stored : StoredPlan). HoldsPlan h pages stored.plan)
+plans_stay h (s ∷ live) others was pages same apart each =
+    let P : StoredPlan → Type 0 = λ stored. HoldsPlan h was stored.plan in
+    All-cons (λ (stored : StoredPlan). HoldsPlan h pages stored.plan) s live
+    (plan_stays h s.plan (all_extents live) others was pages same apart (All-head P s live each))
+    (plans_stay h live others was pages same (λ p one other. apart p one (taken_right (extents_of s.plan) (all_extents live) p other)) (All-tail P s live each))
+
+-- what the live places hold stays where only places apart from them were written
+pub held_stays : (h : History) (others : List Extent) (was pages : List ℕ) → AreApart (others ++ live_extents h) → SameOutside (map range_of others) was pages → HoldsPlans h was → HoldsPlans h pages
+held_stays h others was pages apart same holds = record {
+  apart = holds.apart;
+  each = plans_stay h (live_plans h) others was pages same (apart_parts others (live_extents h) apart).0 holds.each;
+}
+
+-- ---- a plan that is stored
+
+pub piece_extents : (places : List Place) (all : List (List ℕ)) → AllZip IsFor places all → wrote.extents_of (pieces_of places all) ≡ extents places
+piece_extents [] [] zip = refl
+piece_extents [] (bytes ∷ all) zip = absurd zip
+piece_extents (p ∷ places) [] zip = absurd zip
+piece_extents (p ∷ places) (bytes ∷ all) zip = ap (λ (es : List Extent). p.extent ∷ es) (piece_extents places all zip.1)
+
+-- pages among two lists, where those of the second are among a third
+taken_wider : (xs ys zs : List Extent) (p : ℕ) → (IsTaken ys p → IsTaken zs p) → IsTaken (xs ++ ys) p → IsTaken (xs ++ zs) p
+taken_wider [] ys zs p wider taken = wider taken
+taken_wider (x ∷ xs) ys zs p wider (inl is) = inl is
+taken_wider (x ∷ xs) ys zs p wider (inr more) = inr (taken_wider xs ys zs p wider more)
+
+-- pages among some of the plans are among all
+kept_taken : (keep : StoredPlan → Bool) (live : List StoredPlan) (p : ℕ) → IsTaken (all_extents (filter keep live)) p → IsTaken (all_extents live) p
+kept_taken keep [] p taken = taken
+kept_taken keep (s ∷ live) p taken = go (kept_taken keep live p) (keep s) taken
+  where
+    go : (IsTaken (all_extents (filter keep live)) p → IsTaken (all_extents live) p) → (b : Bool)
+        → IsTaken (all_extents (cond b (s ∷ filter keep live) (filter keep live))) p → IsTaken (all_extents (s ∷ live)) p
+    go more true t = taken_wider (extents_of s.plan) (all_extents (filter keep live)) (all_extents live) p more t
+    go more false t = taken_right (extents_of s.plan) (all_extents live) p (more t)
+
+-- lists that are apart, and apart from each other
+apart_join : (xs ys : List Extent) → AreApart xs → AreApart ys → AreApartFrom xs ys → AreApart (xs ++ ys)
+apart_join [] ys one two apart = two
+apart_join (x ∷ xs) ys one two apart = (
+  (λ p is taken. elim (taken_parts xs ys p taken) [ inl mine ↦ one.0 p is mine | inr other ↦ apart p (inl is) other ]),
+  apart_join xs ys one.1 two (λ p mine other. apart p (inr mine) other),
+)
+  where
+    taken_parts : (xs ys : List Extent) (p : ℕ) → IsTaken (xs ++ ys) p → IsTaken xs p ⊎ IsTaken ys p
+    taken_parts [] ys p taken = inr taken
+    taken_parts (x ∷ xs) ys p (inl is) = inl (inl is)
+    taken_parts (x ∷ xs) ys p (inr more) = elim (taken_parts xs ys p more) [ inl mine ↦ inl (inr mine) | inr other ↦ inr other ]
+
+-- some of the plans are as far apart as all
+kept_apart : (keep : StoredPlan → Bool) (live : List StoredPlan) → AreApart (all_extents live) → AreApart (all_extents (filter keep live))
+kept_apart keep [] apart = apart
+kept_apart keep (s ∷ live) apart = go (kept_apart keep live (apart_parts (extents_of s.plan) (all_extents live) apart).1) (keep s)
+  where
+    go : AreApart (all_extents (filter keep live)) → (b : Bool) → AreApart (all_extents (cond b (s ∷ filter keep live) (filter keep live)))
+    go rest true = apart_join (extents_of s.plan) (all_extents (filter keep live)) (apart_left (extents_of s.plan) (all_extents live) apart)
+        rest (λ p mine other. (apart_parts (extents_of s.plan) (all_extents live) apart).0 p mine (kept_taken keep live p other))
+    go rest false = rest
+
+-- the pages hold what the history with the plan needs
+pub held_more : (Good : Asks) (h : History) (plan : PlanEntry) (list : List Posting) (was image : Bytes) → EachMayCome Good [] h
+    → AreApart (extents plan.places ++ live_extents h) → AllZip IsFor plan.places (spellings plan.layout list (seconds plan.cuts) plan.horizon.seconds)
+    → IsListUpTo h plan.word plan.horizon.seconds list → plan.horizon.seconds ≤ last_second h → HoldsPlans h was.pages
+    → Wrote (pieces_of plan.places (spellings plan.layout list (seconds plan.cuts) plan.horizon.seconds)) was image → HoldsPlans (h ++ Planned plan ∷ []) image.pages
+held_more Good h plan list was image each apart zip is past holds wrote =
+    let all = spellings plan.layout list (seconds plan.cuts) plan.horizon.seconds in
+    let next = h ++ Planned plan ∷ [] in
+    let later : IsLater h next = later_push h (Planned plan) refl in
+    let keep : StoredPlan → Bool = is_another plan.word in
+    let new : StoredPlan = record { gate = end_of h - 1; plan = plan } in
+    let kept = filter keep (live_plans h) in
+    let live : live_plans next ≡ kept ++ new ∷ [] = live_plans-push h (Planned plan) in
+    let S : List Range → Type 0 = λ rs. SameOutside rs was.pages image.pages in
+    let same = subst S (ap (map range_of) (piece_extents plan.places all zip)) wrote.elsewhere in
+    let stay = held_stays h (extents plan.places) was.pages image.pages apart same holds in
+    let parts = apart_parts (extents plan.places) (live_extents h) apart in
+    let H : StoredPlan → Type 0 = λ stored. HoldsPlan next image.pages stored.plan in
+    let L : List StoredPlan → Type 0 = λ l. All H l in
+    let A : List StoredPlan → Type 0 = λ l. AreApart (all_extents l) in
+    let B : List Extent → Type 0 = λ es. AreApart es in
+    let F : List Extent → Type 0 = λ es. AreApartFrom (all_extents kept) es in
+    let one : all_extents (new ∷ []) ≡ extents plan.places = append-nil (extents plan.places) in
+    record {
+      apart = subst A (sym live) (subst B (sym (flat_map-append (λ (stored : StoredPlan). extents_of stored.plan) kept (new ∷ [])))
+          (apart_join (all_extents kept) (all_extents (new ∷ [])) (kept_apart keep (live_plans h) holds.apart)
+          (subst B (sym one) (apart_left (extents plan.places) (live_extents h) apart))
+          (subst F (sym one) (λ p other own. parts.0 p own (kept_taken keep (live_plans h) p other)))));
+      each = subst L (sym live) (All-append H kept (new ∷ [])
+          (All-filter keep H (live_plans h) (plans_later Good h next image.pages (live_plans h) later (live_planned Good h each) stay.each))
+          (All-cons H new []
+          (record {
+            list = list;
+            list_is = list_later h next plan.word plan.horizon.seconds list later past is;
+            each = hold_sublists plan.layout list (seconds plan.cuts) plan.horizon.seconds plan.places image.pages zip wrote.each;
+          })
+          (All-nil H)));
+    }

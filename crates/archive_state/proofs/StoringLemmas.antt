@@ -1,0 +1,224 @@
+-- A plan that is to be stored has a turn, which leads from a legal history to a legal one.
+use Rattle.std.proofs.Common.{◌≡◌, ◌⊎◌, ℕ, zero, suc, ◌/◌, ◌%◌, ◌<◌, ◌≤◌, Bool, true, false, if◌then◌else◌, nat_le, List, [], ◌∷◌, ◌++◌, length, All, Option, Some, None, inl, inr, refl, ap, sym, subst, ◌∙◌, arith, chars}
+use Rattle.std.specs.List.{AllZip}
+use Rattle.std.specs.Option.{option_map}
+use Rattle.std.specs.Prelude.{unwrap_or, slice_index}
+use Rattle.std.specs.Str.{is_utf8}
+use Rattle.std.specs.Int.{w32, to_be_bytes}
+use Rattle.std.proofs.lemmas.Bool.{and_parts, leb-true}
+use Rattle.std.proofs.lemmas.List.{length-map}
+use Rattle.std.proofs.lemmas.Str.{IsUtf8-from_is_utf8}
+use Rattle.std.proofs.lemmas.List.Elements.{All-nil, All-cons, All-append, All-head, All-weaker}
+use Rattle.sha2.specs.Sha256.{sha256, digest_bytes, final_hash, initial_hash_256}
+use Rattle.sha2.proofs.Facts256.{length-sha256}
+use Rattle.time_base.specs.Limits.{limit_of}
+use Rattle.time_base.specs.declared.extent.Extent.{Extent}
+use Rattle.time_base.specs.declared.fraction.Fraction.{Fraction}
+use Rattle.time_base.specs.declared.posting.Posting.{Posting}
+use Rattle.time_base.specs.declared.time.Time.{Time}
+use Rattle.time_base.specs.declared.which.Which.TheVariants.{Pages}
+use Rattle.fold_tokens.specs.Terms.{one_term, only_term, term_of, is_key, key, runs}
+use Rattle.page_store.specs.Placing.{ArePlaced, HaveNoRoom}
+use Rattle.page_store.proofs.PlacingLemmas.{placed_or_not}
+use Rattle.record_codec.specs.declared.entry.Entry.TheVariants as entries
+use Rattle.record_codec.specs.declared.place.Layout.{Layout}
+use Rattle.record_codec.specs.declared.place.Layout.TheVariants.{Blocks}
+use Rattle.record_codec.specs.declared.place.Place.{Place}
+use Rattle.record_codec.specs.declared.plan.PlanEntry.{PlanEntry}
+use Rattle.record_codec.specs.PlanSpelling.{IsWord, IsDigest}
+use Rattle.sublist_store.specs.Preparing.{IsFor, extents, sizes, spellings}
+use Rattle.sublist_store.specs.Segments.{seconds}
+use Rattle.sublist_store.proofs.PlaceLemmas.{lowest_none}
+use Rattle.sublist_store.proofs.WriteLemmas.{as_many}
+use Rattle.stored_plans.specs.Plans.{IsNarrow, IsLeastPlan, plan_space}
+use Rattle.stored_plans.proofs.PlanLemmas.{least_is_fit, each_has_a_plan, well_cut}
+use Rattle.version_store.specs.Changes.{last_time}
+use Rattle.archive_state.specs.declared.refusal.Refusal.{Refusal}
+use Rattle.archive_state.specs.declared.refusal.Refusal.TheVariants as refusals
+use Rattle.archive_state.specs.Histories.{History, changes}
+use Rattle.archive_state.specs.Legal.{IsLegal, IsLegalEntry}
+use Rattle.archive_state.specs.Planning.{last_second, IsListUpTo}
+use Rattle.archive_state.specs.Plans.{live_extents}
+use Rattle.archive_state.specs.Steps.{Reply, Refused, Planned, Declines, AddsPlan, StoresCuts, StoresPlan, Plans, guarantee, spelled_key, full_journal}
+use Rattle.archive_state.specs.Runs.{Turn}
+use Rattle.archive_state.proofs.HistoryLemmas.{legal-push}
+use Rattle.archive_state.proofs.PlanningLemmas.{of_phrase}
+
+-- ---- ranges
+
+-- the bytes of a digest
+word_bytes : (n : ℕ) → All (λ b. b < 256) (to_be_bytes w32 n)
+word_bytes n =
+    let P : ℕ → Type 0 = λ b. b < 256 in
+    let a = n / 16777216 % 256 in
+    let b = n / 65536 % 256 in
+    let c = n / 256 % 256 in
+    let d = n % 256 in
+    All-cons P a (b ∷ c ∷ d ∷ []) (omega arith) (All-cons P b (c ∷ d ∷ []) (omega arith) (All-cons P c (d ∷ []) (omega arith) (All-cons P d [] (omega arith) (All-nil P))))
+
+digest_words : (h : List ℕ) (n : ℕ) → All (λ b. b < 256) (digest_bytes h n)
+unfolding digest_bytes
+digest_words h zero = All-nil (λ b. b < 256)
+digest_words h (suc n) = All-append (λ b. b < 256) (digest_bytes h n) (to_be_bytes w32 (slice_index h n)) (digest_words h n) (word_bytes (slice_index h n))
+
+pub sha_digest : (m : List ℕ) → IsDigest (sha256 m)
+unfolding sha256
+sha_digest m = (length-sha256 m, digest_words (final_hash initial_hash_256 m) 8)
+
+for_digests : (places : List Place) (all : List (List ℕ)) → AllZip IsFor places all → All (λ (place : Place). IsDigest place.digest) places
+for_digests [] [] zip = All-nil (λ (place : Place). IsDigest place.digest)
+for_digests [] (bytes ∷ all) zip = absurd zip
+for_digests (p ∷ places) [] zip = absurd zip
+for_digests (p ∷ places) (bytes ∷ all) zip =
+    All-cons (λ (place : Place). IsDigest place.digest) p places (let D : List ℕ → Type 0 = λ d. IsDigest d in subst D (sym zip.0.digest) (sha_digest bytes)) (for_digests places all zip.1)
+
+pub spellings_long : (layout : Layout) (list : List Posting) (cuts : List ℕ) (h : ℕ) → length (spellings layout list cuts h) ≡ length cuts
+spellings_long layout list [] h = refl
+spellings_long layout list (f ∷ cuts) h = ap suc (spellings_long layout list cuts h)
+
+-- a key that is spelled is a word
+of_term : (run word : List ℕ) → term_of run ≡ Some word → is_key word ≡ true
+of_term run word is = go (is_key (key run)) refl is
+  where
+    go : (b : Bool) → is_key (key run) ≡ b → (if b then Some (key run) else None) ≡ Some word → is_key word ≡ true
+    go true same some = (let one : key run ≡ word = cc in ap is_key (sym one) ∙ same)
+    go false same some = absurd cc
+
+of_runs : (found : List (List ℕ)) (word : List ℕ) → only_term found ≡ Some word → is_key word ≡ true
+of_runs [] word is = absurd cc
+of_runs (run ∷ []) word is = of_term run word is
+of_runs (run ∷ other ∷ found) word is = absurd cc
+
+of_spelled : (o : Option (List ℕ)) (word : List ℕ) → spelled_key o ≡ Some word → (o ≡ Some word) × (is_utf8 word ≡ true)
+of_spelled None word is = absurd cc
+of_spelled (Some k) word is = go (is_utf8 k) refl is
+  where
+    go : (b : Bool) → is_utf8 k ≡ b → (if b then Some k else None) ≡ Some word → (Some k ≡ Some word) × (is_utf8 word ≡ true)
+    go true same some = (some, (let one : k ≡ word = cc in ap is_utf8 (sym one) ∙ same))
+    go false same some = absurd cc
+
+pub spelled_word : (phrase word : List ℕ) → spelled_key (one_term phrase) ≡ Some word → IsWord word
+spelled_word phrase word is =
+    let (term, utf8) = of_spelled (one_term phrase) word is in
+    let long = and_parts (nat_le 1 (length word)) (nat_le (length word) 255) (of_runs (runs (chars phrase)) word term) in
+    (leb-true 1 (length word) long.0, leb-true (length word) 255 long.1, IsUtf8-from_is_utf8 word utf8)
+
+-- ---- an entry of a plan
+
+pub plan_legal : (h : History) (word : List ℕ) (factor : Fraction) (horizon : Time) (cuts : List Time) (places : List Place) (list : List Posting) → IsWord word → horizon.seconds ≡ last_second h
+    → IsListUpTo h word (last_second h) list → 0 < length list → IsNarrow list (last_second h) → IsLeastPlan list factor cuts horizon.seconds
+    → AllZip IsFor places (spellings Blocks list (seconds cuts) horizon.seconds) → IsLegalEntry h (entries.Planned (guarantee word factor horizon cuts places))
+plan_legal h word factor horizon cuts places list is_word last is some narrow least zip =
+    let all = spellings Blocks list (seconds cuts) horizon.seconds in
+    let N : ℕ → Type 0 = λ n. IsNarrow list n in
+    let U : ℕ → Type 0 = λ n. IsListUpTo h word n list in
+    let here = subst N (sym last) narrow in
+    let cut = well_cut list factor cuts horizon here (least_is_fit list factor cuts horizon.seconds least) in
+    record {
+      ranges = record {
+        well_cut = record {
+          some = cut.0;
+          most = cut.1;
+          places = omega (arith, as_many places all zip, spellings_long Blocks list (seconds cuts) horizon.seconds, length-map cuts (λ (t : Time). t.seconds));
+          ascend = cut.2;
+        };
+        word = is_word;
+        digests = for_digests places all zip;
+      };
+      allowed = refl;
+      planned = record { past = omega (arith, last); list = list; list_is = subst U (sym last) is; some = some; suits = (here, least) };
+    }
+
+-- ---- what is stored, or not
+
+-- placed parts are places, with the digests of what is to lie there
+digested : (taken : List Extent) (all : List (List ℕ)) (es : List Extent) → ArePlaced taken (sizes all) es → (places : List Place) × ((extents places ≡ es) × AllZip IsFor places all)
+digested taken [] [] p = ([], (refl, tt))
+digested taken [] (e ∷ es) p = absurd p
+digested taken (bytes ∷ all) [] p = absurd p
+digested taken (bytes ∷ all) (e ∷ es) p =
+    let (places, (same, zip)) = digested (e ∷ taken) all es p.2 in (
+      record { extent = e; digest = sha256 bytes } ∷ places,
+      (ap (λ (l : List Extent). e ∷ l) same, (record { size = p.0; digest = refl; empty = λ none. lowest_none taken (length bytes) e.first (omega (arith, none, p.0)) p.1 }, zip)),
+    )
+
+adds_plan_turn : (h : History) (plan : PlanEntry) (refusal : Option Refusal) (list : List Posting) → (turn : Turn Reply History) × AddsPlan h plan refusal list turn.reply turn.next
+adds_plan_turn h plan None list = (
+  record {
+    reply = Planned (record {
+      length = length (h ++ entries.Planned plan ∷ []);
+      segments = length plan.cuts;
+      space = plan_space list plan.cuts plan.horizon.seconds;
+      full = length list;
+      horizon = plan.horizon.seconds;
+    });
+    next = h ++ entries.Planned plan ∷ [];
+  },
+  (refl, refl),
+)
+adds_plan_turn h plan (Some why) list = (record { reply = Refused why; next = h }, (refl, refl))
+
+cuts_turn : (h : History) (word : List ℕ) (factor : Fraction) (horizon : Time) (cuts : List Time) (list : List Posting) → (turn : Turn Reply History) × StoresCuts h word factor horizon cuts list turn.reply turn.next
+cuts_turn h word factor horizon cuts list = go (placed_or_not (live_extents h) (sizes all))
+  where
+    all : List (List ℕ)
+    all = spellings Blocks list (seconds cuts) horizon.seconds
+
+    go : ((es : List Extent) × ArePlaced (live_extents h) (sizes all) es) ⊎ HaveNoRoom (live_extents h) (sizes all) → (turn : Turn Reply History) × StoresCuts h word factor horizon cuts list turn.reply turn.next
+    go (inr none) = (record { reply = Refused (refusals.Full Pages (limit_of Pages)); next = h }, inl (none, (refl, refl)))
+    go (inl (es, placed)) =
+        let (places, (same, zip)) = digested (live_extents h) all es placed in
+        let plan = guarantee word factor horizon cuts places in
+        let (turn, adds) = adds_plan_turn h plan (full_journal h (entries.Planned plan)) list in
+        let A : List Extent → Type 0 = λ l. ArePlaced (live_extents h) (sizes all) l in
+        (turn, inr (places, subst A (sym same) placed, zip, adds))
+
+-- the last time, where there is a time before it
+last_is : (h : History) → 0 < last_second h → (t : Time) × (t.seconds ≡ last_second h)
+last_is h some = go (last_time (changes h)) some
+  where
+    go : (o : Option Time) → 0 < unwrap_or (option_map (λ (t : Time). t.seconds) o) 0 → (t : Time) × (t.seconds ≡ unwrap_or (option_map (λ (t : Time). t.seconds) o) 0)
+    go None some = absurd (omega (arith, some))
+    go (Some t) some = (t, refl)
+
+-- a list with a posting ends behind the first second
+pub list_behind : (list : List Posting) (h : ℕ) → 0 < length list → All (λ p. (0 ≤ p.span.from) × (p.span.to ≤ h)) list → 0 < h
+list_behind [] h some inside = absurd (omega (arith, some))
+list_behind (p ∷ list) h some inside =
+    let here = All-head (λ (q : Posting). (0 ≤ q.span.from) × (q.span.to ≤ h)) p list inside in
+    let order : p.span.from < p.span.to = p.span.ordered in
+    omega (arith, here.1, order)
+
+pub plan_turn : (h : History) (factor : Fraction) (word : List ℕ) (list : List Posting) → IsListUpTo h word (last_second h) list → 0 < length list
+    → (turn : Turn Reply History) × StoresPlan h factor word list turn.reply turn.next
+plan_turn h factor word list is some =
+    let (horizon, last) = last_is h (list_behind list (last_second h) some is.inside) in
+    let early : All (λ (p : Posting). p.span.to ≤ horizon.seconds) list =
+    All-weaker (λ (p : Posting). (0 ≤ p.span.from) × (p.span.to ≤ last_second h)) (λ (p : Posting). p.span.to ≤ horizon.seconds) (λ p in_it. omega (arith, in_it.1, last)) list is.inside in
+    let (cuts, least) = each_has_a_plan list factor horizon some early in
+    let (turn, stores) = cuts_turn h word factor horizon cuts list in
+    (turn, record { horizon = horizon; horizon_is = last; cuts = cuts; least = least; stores = stores })
+
+-- ---- what is stored is legal
+
+unchanged : (old new : History) → new ≡ old → IsLegal old → IsLegal new
+unchanged old new same legal = subst IsLegal (sym same) legal
+
+pub plans_legal : (h : History) (phrase : List ℕ) (factor : Fraction) (reply : Reply) (next : History) → IsLegal h → Plans h phrase factor reply next → IsLegal next
+plans_legal h phrase factor reply next legal =
+    of_phrase h (IsLegal next) (λ why. Declines h why reply next) (λ word list. StoresPlan h factor word list reply next) (spelled_key (one_term phrase))
+    (λ why declines. unchanged h next declines.0 legal)
+    (λ word list term is some narrow stores. stored word list term is some narrow stores)
+  where
+    added : (plan : PlanEntry) (refusal : Option Refusal) (list : List Posting) → IsLegalEntry h (entries.Planned plan) → AddsPlan h plan refusal list reply next → IsLegal next
+    added plan None list entry adds = subst IsLegal (sym adds.0) (legal-push h (entries.Planned plan) legal entry)
+    added plan (Some why) list entry adds = unchanged h next adds.0 legal
+
+    stored : (word : List ℕ) (list : List Posting) → spelled_key (one_term phrase) ≡ Some word → IsListUpTo h word (last_second h) list → 0 < length list → IsNarrow list (last_second h) → StoresPlan h factor word list reply next → IsLegal next
+    stored word list term is some narrow s = elim s.stores [
+      | inl full ↦ unchanged h next full.1.0 legal
+      | inr fits ↦
+          let (places, placed, zip, adds) = fits in
+          let plan = guarantee word factor s.horizon s.cuts places in
+          added plan (full_journal h (entries.Planned plan)) list (plan_legal h word factor s.horizon s.cuts places list (spelled_word phrase word term) s.horizon_is is some narrow s.least zip) adds
+    ]
