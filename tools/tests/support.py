@@ -36,6 +36,11 @@ _PROBES = {
     "between": (b"between 1 2 a\n", b"end 0 read 0\n"),
     "propose": (b"propose a guarantee 1/1\n", b"no 13 UnknownWord\n"),
     "plans": (b"certificate a\n", b"no 13 UnknownWord\n"),
+    "sublists": (
+        b"arrive 1 1 1\na\ndelete 1 2\narrive 1 3 1\na\ndelete 1 4\nplan a guarantee 1/1\nfind 1 a\n",
+        b"ok 1\nok 2\nok 3\nok 4\nplan 5 segments 3 space 2 full 2 horizon 4\nhit 1 1\nend 1 read 1\n",
+    ),
+    "space": (b"plan a space 1/1 uniform\n", b"no 13 UnknownWord\n"),
 }
 
 

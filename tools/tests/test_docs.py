@@ -45,7 +45,7 @@ def missing(story: str) -> list[str]:
         "queries": r'find "[^"]+ [^"]+"',
         "between": r"tt -C archive (between|timeline)",
         "propose": r"tt -C archive tradeoff",
-        "plans": r"tt -C archive plan",
+        "sublists": r"tt -C archive plan",
     }
     return [what for what, words in wanted.items() if re.search(words, story) and not answers(what)]
 

@@ -111,7 +111,7 @@ class Pictures(ArchiveCase):
                 texts[version.name] = version.text or ""
         return {name: text.split().count(word) for name, text in texts.items() if word in text.split()}
 
-    @needs("between", "plans")
+    @needs("between", "sublists")
     def test_timeline(self) -> None:
         middle = self.versions[60].time
         with self.open() as collection:
@@ -174,12 +174,20 @@ class Pictures(ArchiveCase):
         ElementTree.parse(picture)
 
     @needs("plans")
+    def test_plans(self) -> None:
+        done = self.tt("plan", "w2", "guarantee", "3/2")
+        self.assertRegex(done.stdout, r"^\d+ segments of \d+ postings in all; the list has \d+ before 1972-11-25T12:00:00Z\n$")
+        with self.open() as collection:
+            self.assertEqual(timeline.gather(collection, "w2").horizons, (self.versions[-1].time,))
+        self.assertIn("no plan of 'heron': UnknownWord", self.tt("plan", "heron", "guarantee", "2/1", status=1).stderr)
+
+    @needs("space")
     def test_space_plans(self) -> None:
         done = self.tt("plan", "w2", "space", "3/2", "since", "1972-10-01")
         self.assertRegex(done.stdout, r"^\d+ segments of \d+ postings in all; the list has \d+ before 1972-11-25T12:00:00Z, expected cost \d+\n$")
         with self.open() as collection:
             self.assertEqual(timeline.gather(collection, "w2").horizons, (self.versions[-1].time,))
-        self.assertIn("no plan of 'heron': UnknownWord", self.tt("plan", "heron", "guarantee", "2/1", status=1).stderr)
+        self.assertIn("no plan of 'heron': UnknownWord", self.tt("plan", "heron", "space", "2/1", "uniform", status=1).stderr)
 
     def test_a_program_that_ends(self) -> None:
         done = self.tt("find", "w1", status=1, TT_ARCHIVE="sh -c 'echo tt_archive: disk fault >&2; exit 4'")

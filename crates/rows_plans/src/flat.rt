@@ -1,0 +1,110 @@
+//! An archive with a plan whose sublists are flat, 24 bytes a posting: it is read, and new plans are in
+//! blocks. A program that knows the formats alone made its files.
+use crate::disks::{FIRST_CERTIFICATE, disk_after, expect_held, expect_on};
+use crate::journals::{
+    FLAT, FOUR_RECORDS, Plan, Segment, journal_of, pages_of, plan_of_v, plan_record, segment_at,
+};
+use crate::sublists::{LIFE_OF_1, LIVES_OF_1_AND_2, Sublist};
+use archive_rig::Row;
+use machine_model::Image;
+use std::alloc::{AllocError, Global};
+use std::test::Fail;
+
+/// Document 1 has the word once in [10, 40), flat.
+const FLAT_LIFE: Sublist<'static> = Sublist {
+    bytes: b"\x00\x00\x00\x01\x00\x00\x00\x01\x00\x00\x00\x00\x00\x00\x00\x0a\
+        \x00\x00\x00\x00\x00\x00\x00\x28",
+    digest: b"\x71\x3c\x58\x58\x83\x5b\xfe\xf5\xe1\x79\x03\x6b\x97\x57\xc8\x26\
+        \x58\x72\xcc\xa3\x29\x4c\x93\x70\x12\x04\x59\xca\x08\x4c\x34\x49",
+};
+
+/// Document 1 has it once in [10, 40), and document 2 in [20, 30), flat.
+const FLAT_LIVES: Sublist<'static> = Sublist {
+    bytes: b"\x00\x00\x00\x01\x00\x00\x00\x01\x00\x00\x00\x00\x00\x00\x00\x0a\
+        \x00\x00\x00\x00\x00\x00\x00\x28\x00\x00\x00\x02\x00\x00\x00\x01\
+        \x00\x00\x00\x00\x00\x00\x00\x14\x00\x00\x00\x00\x00\x00\x00\x1e",
+    digest: b"\x9e\x7b\x19\x95\xab\x05\x8b\x20\x26\x32\x3f\x96\xcd\x0a\x8d\xb4\
+        \x47\x81\x14\xb1\x4e\x82\x66\x3a\xd2\x6c\x11\x67\xdc\x59\x00\x18",
+};
+
+/// The archive's plan.
+fn flat_segments() -> [Segment<'static>; 3] {
+    [
+        segment_at(10, 0, FLAT_LIFE),
+        segment_at(20, 1, FLAT_LIVES),
+        segment_at(30, 2, FLAT_LIFE),
+    ]
+}
+
+/// The plan's record.
+fn flat_record(alloc: Global) -> Result<Vec<u8>, AllocError> {
+    let segments = flat_segments();
+    let plan = Plan {
+        form: FLAT,
+        ..plan_of_v(40, &segments)
+    };
+    plan_record(alloc, &plan)
+}
+
+/// The archive's files, 277 and 8,216 bytes.
+fn flat_disk(alloc: Global) -> Result<Image, AllocError> {
+    let record = flat_record(alloc)?;
+    Ok(Image {
+        journal: journal_of(alloc, &[FOUR_RECORDS, &record])?,
+        pages: pages_of(alloc, &flat_segments())?,
+    })
+}
+
+#[test]
+fn a_flat_plan_is_read_and_certified(rt: HostRuntime) -> Result<(), Fail> {
+    let alloc = rt.alloc();
+    let disk = flat_disk(alloc)?;
+    assert_eq!(rt; (disk.journal.len(), disk.pages.len()), (277, 8216));
+    let rows = [
+        Row {
+            script: b"certificate v\n",
+            replies: FIRST_CERTIFICATE,
+        },
+        Row {
+            script: b"find 15 v\nfind 25 v\nfind 40 v\nfind 5 v\nbetween 15 35 v\nbetween 30 41 v\n",
+            replies: b"hit 1 1\nend 1 read 1\nhit 1 1\nhit 2 1\nend 2 read 2\nend 0 read 0\nend 0 read 0\nspan 1 15 35 1\nspan 2 20 30 1\nend 2 read 4\nspan 1 30 40 1\nend 1 read 1\n",
+        },
+        Row {
+            script: b"propose v guarantee 2/1\narrive 3 40 1\nv\nbetween 35 45 v\n",
+            replies: b"segment 10 40 2\nnode 10 0\nnode 20 1\nnode 30 2\nnode 40 2\nend 1 space 2\nok 6\nspan 1 35 40 1\nspan 3 40 45 1\nend 2 read 2\n",
+        },
+    ];
+    expect_on(&rt, alloc, &disk, &rows)
+}
+
+#[test]
+fn a_new_plan_is_in_blocks_and_then_the_flat_ones_pages_are_free(
+    rt: HostRuntime,
+) -> Result<(), Fail> {
+    let alloc = rt.alloc();
+    let row = Row {
+        script: b"plan v guarantee 1/1\nplan v guarantee 2/1\ncertificate v\nfind 25 v\n",
+        replies: b"plan 6 segments 3 space 4 full 2 horizon 40\nplan 7 segments 1 space 2 full 2 horizon 40\nsegment 10 40 2\nnode 10 0\nnode 20 1\nnode 30 2\nnode 40 2\nend 1 space 2\nhit 1 1\nhit 2 1\nend 2 read 2\n",
+    };
+    let disk = disk_after(&rt, alloc, &flat_disk(alloc)?, &row)?;
+    let sixth = [
+        segment_at(10, 3, LIFE_OF_1),
+        segment_at(20, 4, LIVES_OF_1_AND_2),
+        segment_at(30, 5, LIFE_OF_1),
+    ];
+    let seventh = [segment_at(10, 0, LIVES_OF_1_AND_2)];
+    let flat = flat_record(alloc)?;
+    let blocks = plan_record(alloc, &plan_of_v(40, &sixth))?;
+    let whole = Plan {
+        over: 2,
+        ..plan_of_v(40, &seventh)
+    };
+    let last = plan_record(alloc, &whole)?;
+    let journal = journal_of(alloc, &[FOUR_RECORDS, &flat, &blocks, &last])?;
+    assert_eq!(rt; disk.journal.as_slice(), journal.as_slice());
+    for held in sixth {
+        expect_held(&rt, &disk.pages, &held);
+    }
+    expect_held(&rt, &disk.pages, &seventh[0]);
+    Ok(())
+}

@@ -1,0 +1,26 @@
+//! The rows of stored plans, `plan` and `certificate`, over the machine in memory.
+//!
+//! There are tests alone here. What a row wants comes from the worked rows and the formats, never
+//! from what the program answers.
+#![tactic(auto)]
+
+#[cfg(test)]
+mod disks;
+#[cfg(test)]
+mod flat;
+#[cfg(test)]
+mod foreign;
+#[cfg(test)]
+mod journals;
+#[cfg(test)]
+mod many;
+#[cfg(test)]
+mod places;
+#[cfg(test)]
+mod refusals;
+#[cfg(test)]
+mod replies;
+#[cfg(test)]
+mod stops;
+#[cfg(test)]
+mod sublists;

@@ -1,0 +1,177 @@
+//! What plans leave in the journal and in Pages.
+use crate::disks::{
+    FIRST_PLAN, FOUR_CHANGES, disk_after, disk_after_all, expect_held, first_disk, new_disk,
+};
+use crate::journals::{
+    FOUR_RECORDS, FOURTH_ARRIVES, Plan, Segment, THIRD_ARRIVES, THIRD_ENDS, first_segments,
+    journal_of, plan_of_v, plan_record, segment_at, two_words_journal,
+};
+use crate::sublists::{FIRST_LIFE, LIFE_OF_1, LIFE_OF_3, LIVES_OF_1_AND_2, NOTHING, SECOND_LIFE};
+use archive_rig::Row;
+use machine_model::Image;
+use std::alloc::Global;
+use std::process::Abort;
+use std::test::Fail;
+
+/// A second plan behind the life of document 3. The first one lives while it is written.
+fn second_segments() -> [Segment<'static>; 4] {
+    [
+        segment_at(10, 3, LIFE_OF_1),
+        segment_at(20, 4, LIVES_OF_1_AND_2),
+        segment_at(30, 5, LIFE_OF_1),
+        segment_at(40, 6, LIFE_OF_3),
+    ]
+}
+
+/// A third plan. Pages 3 to 6 hold the second one; no document has the word in the last segment.
+fn third_segments() -> [Segment<'static>; 5] {
+    [
+        segment_at(10, 0, LIFE_OF_1),
+        segment_at(20, 1, LIVES_OF_1_AND_2),
+        segment_at(30, 2, LIFE_OF_1),
+        segment_at(40, 7, LIFE_OF_3),
+        segment_at(60, 0, NOTHING),
+    ]
+}
+
+/// The first plan's changes and replies go on so.
+const GOES_ON: Row<'static> = Row {
+    script: b"arrive 3 40 1\nv\ndelete 3 60\nplan v guarantee 1/1\n",
+    replies: b"ok 6\nok 7\nplan 8 segments 4 space 5 full 3 horizon 60\n",
+};
+
+/// And then so.
+const GOES_FURTHER: Row<'static> = Row {
+    script: b"arrive 4 70 1\nv\nplan v guarantee 1/1\n",
+    replies: b"ok 9\nplan 10 segments 5 space 5 full 3 horizon 70\n",
+};
+
+/// The disk's journal is these records, and its Pages hold the sublists of these segments.
+fn expect_left(
+    rt: &impl Abort,
+    alloc: Global,
+    disk: &Image,
+    records: &[&[u8]],
+    segments: &[Segment<'_>],
+) -> Result<(), Fail> {
+    let journal = journal_of(alloc, records)?;
+    assert_eq!(rt; disk.journal.as_slice(), journal.as_slice());
+    for held in segments {
+        expect_held(rt, &disk.pages, held);
+    }
+    Ok(())
+}
+
+#[test]
+fn a_plan_lies_in_the_lowest_pages_and_its_entry_is_the_journals_last(
+    rt: HostRuntime,
+) -> Result<(), Fail> {
+    let alloc = rt.alloc();
+    let disk = first_disk(&rt, alloc)?;
+    assert_eq!(rt; disk.journal.len(), 277);
+    let plan = plan_record(alloc, &plan_of_v(40, &first_segments()))?;
+    expect_left(&rt, alloc, &disk, &[FOUR_RECORDS, &plan], &first_segments())
+}
+
+#[test]
+fn a_plan_of_one_segment_holds_the_whole_list(rt: HostRuntime) -> Result<(), Fail> {
+    let alloc = rt.alloc();
+    let row = Row {
+        script: b"plan v guarantee 2/1\n",
+        replies: b"plan 5 segments 1 space 2 full 2 horizon 40\n",
+    };
+    let disk = disk_after_all(&rt, alloc, new_disk(alloc), &[FOUR_CHANGES, row])?;
+    let segments = [segment_at(10, 0, LIVES_OF_1_AND_2)];
+    let plan = Plan {
+        over: 2,
+        ..plan_of_v(40, &segments)
+    };
+    let record = plan_record(alloc, &plan)?;
+    expect_left(&rt, alloc, &disk, &[FOUR_RECORDS, &record], &segments)
+}
+
+#[test]
+fn an_empty_sublist_has_no_bytes_and_the_digest_of_nothing(rt: HostRuntime) -> Result<(), Fail> {
+    let alloc = rt.alloc();
+    let row = Row {
+        script: b"arrive 1 10 1\nv\ndelete 1 20\narrive 1 30 1\nv\ndelete 1 40\nplan v guarantee 100/1\n",
+        replies: b"ok 1\nok 2\nok 3\nok 4\nplan 5 segments 3 space 2 full 2 horizon 40\n",
+    };
+    let disk = disk_after(&rt, alloc, &new_disk(alloc), &row)?;
+    let segments = [
+        segment_at(10, 0, FIRST_LIFE),
+        segment_at(20, 0, NOTHING),
+        segment_at(30, 1, SECOND_LIFE),
+    ];
+    let plan = Plan {
+        over: 100,
+        ..plan_of_v(40, &segments)
+    };
+    let record = plan_record(alloc, &plan)?;
+    let changes = b"TIMETRAVELTEXT\x00\x01\
+        \xa5\x00\x00\x00\x0e\x01\x00\x00\x00\x01\x00\x00\x00\x00\x00\x00\x00\x0av\
+        \xa5\x00\x00\x00\x0d\x02\x00\x00\x00\x01\x00\x00\x00\x00\x00\x00\x00\x14\
+        \xa5\x00\x00\x00\x0e\x01\x00\x00\x00\x01\x00\x00\x00\x00\x00\x00\x00\x1ev\
+        \xa5\x00\x00\x00\x0d\x02\x00\x00\x00\x01\x00\x00\x00\x00\x00\x00\x00\x28";
+    expect_left(&rt, alloc, &disk, &[changes, &record], &segments)
+}
+
+#[test]
+fn a_later_plan_takes_the_lowest_pages_that_are_free(rt: HostRuntime) -> Result<(), Fail> {
+    let alloc = rt.alloc();
+    let first = plan_record(alloc, &plan_of_v(40, &first_segments()))?;
+    let second = plan_record(alloc, &plan_of_v(60, &second_segments()))?;
+    let third = plan_record(alloc, &plan_of_v(70, &third_segments()))?;
+    let eight: [&[u8]; 5] = [FOUR_RECORDS, &first, THIRD_ARRIVES, THIRD_ENDS, &second];
+    let ten: [&[u8]; 7] = [
+        FOUR_RECORDS,
+        &first,
+        THIRD_ARRIVES,
+        THIRD_ENDS,
+        &second,
+        FOURTH_ARRIVES,
+        &third,
+    ];
+    let disk = disk_after(&rt, alloc, &first_disk(&rt, alloc)?, &GOES_ON)?;
+    expect_left(&rt, alloc, &disk, &eight, &second_segments())?;
+    // the first plan's pages are free, and nothing is written there
+    for held in first_segments() {
+        expect_held(&rt, &disk.pages, &held);
+    }
+    let disk = disk_after(&rt, alloc, &disk, &GOES_FURTHER)?;
+    expect_left(&rt, alloc, &disk, &ten, &third_segments())?;
+    // and in one run
+    let mut script = Vec::new(alloc);
+    let mut replies = Vec::new(alloc);
+    for row in [FOUR_CHANGES, FIRST_PLAN, GOES_ON, GOES_FURTHER] {
+        script.extend_from_slice(row.script)?;
+        replies.extend_from_slice(row.replies)?;
+    }
+    let row = Row {
+        script: &script,
+        replies: &replies,
+    };
+    let disk = disk_after(&rt, alloc, &new_disk(alloc), &row)?;
+    expect_left(&rt, alloc, &disk, &ten, &third_segments())
+}
+
+#[test]
+fn plans_of_two_words_share_no_page(rt: HostRuntime) -> Result<(), Fail> {
+    let alloc = rt.alloc();
+    let row = Row {
+        script: b"arrive 1 10 3\nv w\ndelete 1 20\nplan v guarantee 1/1\nplan w guarantee 1/1\nplan v guarantee 1/1\nplan w guarantee 1/1\n",
+        replies: b"ok 1\nok 2\nplan 3 segments 1 space 1 full 1 horizon 20\nplan 4 segments 1 space 1 full 1 horizon 20\nplan 5 segments 1 space 1 full 1 horizon 20\nplan 6 segments 1 space 1 full 1 horizon 20\n",
+    };
+    let disk = disk_after(&rt, alloc, &new_disk(alloc), &row)?;
+    let plans = [
+        (b"v".as_slice(), 0),
+        (b"w".as_slice(), 1),
+        (b"v".as_slice(), 2),
+        (b"w".as_slice(), 0),
+    ];
+    let journal = two_words_journal(alloc, &plans)?;
+    assert_eq!(rt; disk.journal.as_slice(), journal.as_slice());
+    expect_held(&rt, &disk.pages, &segment_at(10, 2, FIRST_LIFE));
+    expect_held(&rt, &disk.pages, &segment_at(10, 0, FIRST_LIFE));
+    Ok(())
+}

@@ -1,0 +1,186 @@
+//! What a stop may leave of a run that stores plans: after each device call, and within the load that
+//! follows.
+use crate::disks::{FOUR_CHANGES, disk_after, new_disk, shown};
+use archive_rig::{EXTRAS, FILLS, expect_entries, load_image, machine_on, pick_image, run_on};
+use archive_shell::Status;
+use machine_mem::{MemMachine, Tail};
+use machine_model::Image;
+use std::alloc::Global;
+use std::process::Abort;
+use std::test::Fail;
+
+/// Ten changes, three of them plans, and questions among them.
+const SCRIPT: &[u8] =
+    b"arrive 1 10 1\nv\narrive 2 20 1\nv\ndelete 2 30\ndelete 1 40\nplan v guarantee 1/1\nfind 15 v\nfind 25 v\nfind 40 v\nfind 5 v\ncertificate v\narrive 3 40 1\nv\nfind 39 v\nfind 40 v\ndelete 3 60\nplan v guarantee 1/1\nfind 45 v\narrive 4 70 1\nv\nplan v guarantee 1/1\n";
+
+/// The replies to it.
+const REPLIES: &[u8] =
+    b"ok 1\nok 2\nok 3\nok 4\nplan 5 segments 3 space 4 full 2 horizon 40\nhit 1 1\nend 1 read 1\nhit 1 1\nhit 2 1\nend 2 read 2\nend 0 read 0\nend 0 read 0\nsegment 10 20 1\nsegment 20 30 2\nsegment 30 40 1\nnode 10 0\nnode 20 1\nnode 30 3\nnode 40 4\nend 3 space 4\nok 6\nhit 1 1\nend 1 read 1\nhit 3 1\nend 1 read 1\nok 7\nplan 8 segments 4 space 5 full 3 horizon 60\nhit 3 1\nend 1 read 1\nok 9\nplan 10 segments 5 space 5 full 3 horizon 70\n";
+
+/// What is asked of a disk that a stop leaves, and what goes on there.
+const QUESTIONS: &[u8] =
+    b"find 15 v\nfind 25 v\nfind 45 v\nfind 70 v\ncertificate v\narrive 9 100 1\nw\nplan v guarantee 1/1\nfind 25 v\n";
+
+/// What a history of so many of the ten changes answers to that.
+const ANSWERS: [&[u8]; 11] = [
+    b"end 0 read 0\nend 0 read 0\nend 0 read 0\nend 0 read 0\nno 13 UnknownWord\nok 1\nno 13 UnknownWord\nend 0 read 0\n",
+    b"hit 1 1\nend 1 read 1\nhit 1 1\nend 1 read 1\nhit 1 1\nend 1 read 1\nhit 1 1\nend 1 read 1\nno 14 NoPlan\nok 2\nplan 3 segments 1 space 1 full 1 horizon 100\nhit 1 1\nend 1 read 1\n",
+    b"hit 1 1\nend 1 read 2\nhit 1 1\nhit 2 1\nend 2 read 2\nhit 1 1\nhit 2 1\nend 2 read 2\nhit 1 1\nhit 2 1\nend 2 read 2\nno 14 NoPlan\nok 3\nplan 4 segments 2 space 3 full 2 horizon 100\nhit 1 1\nhit 2 1\nend 2 read 2\n",
+    b"hit 1 1\nend 1 read 2\nhit 1 1\nhit 2 1\nend 2 read 2\nhit 1 1\nend 1 read 2\nhit 1 1\nend 1 read 2\nno 14 NoPlan\nok 4\nplan 5 segments 3 space 4 full 2 horizon 100\nhit 1 1\nhit 2 1\nend 2 read 2\n",
+    b"hit 1 1\nend 1 read 2\nhit 1 1\nhit 2 1\nend 2 read 2\nend 0 read 2\nend 0 read 2\nno 14 NoPlan\nok 5\nplan 6 segments 4 space 4 full 2 horizon 100\nhit 1 1\nhit 2 1\nend 2 read 2\n",
+    b"hit 1 1\nend 1 read 1\nhit 1 1\nhit 2 1\nend 2 read 2\nend 0 read 0\nend 0 read 0\nsegment 10 20 1\nsegment 20 30 2\nsegment 30 40 1\nnode 10 0\nnode 20 1\nnode 30 3\nnode 40 4\nend 3 space 4\nok 6\nplan 7 segments 4 space 4 full 2 horizon 100\nhit 1 1\nhit 2 1\nend 2 read 2\n",
+    b"hit 1 1\nend 1 read 1\nhit 1 1\nhit 2 1\nend 2 read 2\nhit 3 1\nend 1 read 1\nhit 3 1\nend 1 read 1\nsegment 10 20 1\nsegment 20 30 2\nsegment 30 40 1\nnode 10 0\nnode 20 1\nnode 30 3\nnode 40 4\nend 3 space 4\nok 7\nplan 8 segments 4 space 5 full 3 horizon 100\nhit 1 1\nhit 2 1\nend 2 read 2\n",
+    b"hit 1 1\nend 1 read 1\nhit 1 1\nhit 2 1\nend 2 read 2\nhit 3 1\nend 1 read 1\nend 0 read 1\nsegment 10 20 1\nsegment 20 30 2\nsegment 30 40 1\nnode 10 0\nnode 20 1\nnode 30 3\nnode 40 4\nend 3 space 4\nok 8\nplan 9 segments 5 space 5 full 3 horizon 100\nhit 1 1\nhit 2 1\nend 2 read 2\n",
+    b"hit 1 1\nend 1 read 1\nhit 1 1\nhit 2 1\nend 2 read 2\nhit 3 1\nend 1 read 1\nend 0 read 0\nsegment 10 20 1\nsegment 20 30 2\nsegment 30 40 1\nsegment 40 60 1\nnode 10 0\nnode 20 1\nnode 30 3\nnode 40 4\nnode 60 5\nend 4 space 5\nok 9\nplan 10 segments 5 space 5 full 3 horizon 100\nhit 1 1\nhit 2 1\nend 2 read 2\n",
+    b"hit 1 1\nend 1 read 1\nhit 1 1\nhit 2 1\nend 2 read 2\nhit 3 1\nend 1 read 1\nhit 4 1\nend 1 read 1\nsegment 10 20 1\nsegment 20 30 2\nsegment 30 40 1\nsegment 40 60 1\nnode 10 0\nnode 20 1\nnode 30 3\nnode 40 4\nnode 60 5\nend 4 space 5\nok 10\nplan 11 segments 6 space 6 full 4 horizon 100\nhit 1 1\nhit 2 1\nend 2 read 2\n",
+    b"hit 1 1\nend 1 read 1\nhit 1 1\nhit 2 1\nend 2 read 2\nhit 3 1\nend 1 read 1\nhit 4 1\nend 1 read 1\nsegment 10 20 1\nsegment 20 30 2\nsegment 30 40 1\nsegment 40 60 1\nsegment 60 70 0\nnode 10 0\nnode 20 1\nnode 30 3\nnode 40 4\nnode 60 5\nnode 70 5\nend 5 space 5\nok 11\nplan 12 segments 6 space 6 full 4 horizon 100\nhit 1 1\nhit 2 1\nend 2 read 2\n",
+];
+
+/// How many of the changes a disk has: its run answers as the history of so many.
+fn changes_on(rt: &impl Abort, alloc: Global, disk: Image) -> Result<u64, Fail> {
+    let mut machine = machine_on(alloc, QUESTIONS, disk, &[])?;
+    assert_eq!(rt; run_on(alloc, &mut machine)?, Status::Done);
+    let answered = shown(alloc, machine.shown())?;
+    let mut changes = 0u64;
+    for answers in ANSWERS {
+        let wanted = shown(alloc, answers)?;
+        if answered.as_slice() == wanted.as_slice() {
+            return Ok(changes);
+        }
+        changes = changes.saturating_add(1);
+    }
+    Err(Fail::from("no history of the script answers so"))
+}
+
+/// How many changes are acknowledged by what is shown: each by a whole line that tells the number of entries.
+fn acknowledged(bytes: &[u8]) -> u64 {
+    let mut changes = 0u64;
+    let mut begins = true;
+    let mut tells = false;
+    for at in 0..bytes.len() {
+        if begins {
+            tells = bytes[at..].starts_with(b"ok ") || bytes[at..].starts_with(b"plan ");
+        }
+        begins = bytes[at] == b'\n';
+        if begins && tells {
+            changes = changes.saturating_add(1);
+        }
+    }
+    changes
+}
+
+/// The images that a stop may leave at a moment of the script's run, and how many changes are
+/// acknowledged then.
+fn images_at(
+    rt: &impl Abort,
+    alloc: Global,
+    machine: &MemMachine,
+    moment: usize,
+) -> Result<(Vec<Image>, u64), Fail> {
+    let mut images = Vec::new(alloc);
+    let mut least = 0;
+    for fill in FILLS {
+        for extra in EXTRAS {
+            let picked = pick_image(alloc, machine, moment, Tail { extra, fill })?;
+            assert!(rt; picked.shown <= machine.shown().len());
+            least = acknowledged(&machine.shown()[..picked.shown]);
+            images.push(picked.image)?;
+        }
+    }
+    Ok((images, least))
+}
+
+/// The machine on which the script was run.
+fn machine_after(rt: &impl Abort, alloc: Global) -> Result<MemMachine, Fail> {
+    let mut machine = machine_on(alloc, SCRIPT, new_disk(alloc), &[])?;
+    assert_eq!(rt; run_on(alloc, &mut machine)?, Status::Done);
+    let answered = shown(alloc, machine.shown())?;
+    let wanted = shown(alloc, REPLIES)?;
+    assert_eq!(rt; answered.as_slice(), wanted.as_slice());
+    Ok(machine)
+}
+
+// The load makes three calls, and each command shows its reply. A change of a document makes four calls more; a
+// plan one for each sublist that has bytes, a sync, and the same four.
+#[test]
+fn a_stop_leaves_what_was_acknowledged_or_one_change_more(rt: HostRuntime) -> Result<(), Fail> {
+    let alloc = rt.alloc();
+    let machine = machine_after(&rt, alloc)?;
+    assert_eq!(rt; machine.moments(), 76);
+    for moment in 0..machine.moments() {
+        let (images, least) = images_at(&rt, alloc, &machine, moment)?;
+        for image in images {
+            let changes = changes_on(&rt, alloc, image)?;
+            let most = least.saturating_add(1);
+            assert!(rt;
+                least <= changes && changes <= most,
+                "{changes} after {least} at {moment}"
+            );
+        }
+    }
+    let (images, least) = images_at(&rt, alloc, &machine, 75)?;
+    assert_eq!(rt; least, 10);
+    for image in images {
+        assert_eq!(rt; changes_on(&rt, alloc, image)?, 10);
+    }
+    Ok(())
+}
+
+#[test]
+fn a_stop_inside_the_load_that_follows_leaves_the_same_changes(
+    rt: HostRuntime,
+) -> Result<(), Fail> {
+    let alloc = rt.alloc();
+    let machine = machine_after(&rt, alloc)?;
+    for moment in 0..machine.moments() {
+        for fill in FILLS {
+            let tail = Tail {
+                extra: u64::MAX,
+                fill,
+            };
+            let picked = pick_image(alloc, &machine, moment, tail)?;
+            let (archive, second) = load_image(alloc, picked.image)?;
+            expect_same(&rt, alloc, &second, archive.length())?;
+        }
+    }
+    Ok(())
+}
+
+/// Each image that a stop may leave of this load has so many changes, and answers as they do.
+fn expect_same(
+    rt: &impl Abort,
+    alloc: Global,
+    machine: &MemMachine,
+    changes: u64,
+) -> Result<(), Fail> {
+    for moment in 0..machine.moments() {
+        for fill in FILLS {
+            let tail = Tail {
+                extra: u64::MAX,
+                fill,
+            };
+            let picked = pick_image(alloc, machine, moment, tail)?;
+            assert_eq!(rt; changes_on(rt, alloc, picked.image)?, changes);
+        }
+    }
+    Ok(())
+}
+
+// The load syncs. The three sublists are written and synced, and then the entry is appended: it is
+// written behind the closed gate and synced, and the gate is opened and synced. At last the reply is shown.
+#[test]
+fn an_entry_is_there_when_its_gate_is_open_and_its_sublists_stay(
+    rt: HostRuntime,
+) -> Result<(), Fail> {
+    let alloc = rt.alloc();
+    let disk = disk_after(&rt, alloc, &new_disk(alloc), &FOUR_CHANGES)?;
+    let mut machine = machine_on(alloc, b"plan v guarantee 1/1\n", disk, &[])?;
+    assert_eq!(rt; run_on(alloc, &mut machine)?, Status::Done);
+    assert_eq!(rt; machine.moments(), 11);
+    for (moments, least, most) in [(0..8, 4, 4), (8..9, 4, 5), (9..11, 5, 5)] {
+        for moment in moments {
+            expect_entries(alloc, &machine, moment, least, most)?;
+        }
+    }
+    Ok(())
+}
