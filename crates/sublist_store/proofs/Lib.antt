@@ -5,3 +5,4 @@ pub mod WriteLemmas
 pub mod HoldLemmas
 pub mod UnionLemmas
 pub mod OutcomeLemmas
+pub mod HeldLemmas

@@ -1,7 +1,6 @@
 -- Bytes lead to one answer.
-use Rattle.std.proofs.Common.{◌≡◌, ◌⊎◌, ℕ, ◌+◌, Bool, true, false, List, [], ◌∷◌, ◌++◌, length, drop, get_or, All, Ok, Err, inl, inr, refl, ap, sym, subst, ◌∙◌}
+use Rattle.std.proofs.Common.{◌≡◌, ◌⊎◌, ℕ, ◌+◌, true, false, List, [], ◌∷◌, ◌++◌, length, drop, get_or, All, Err, inl, inr, ap, sym, subst, ◌∙◌}
 use Rattle.std.proofs.lemmas.List.Elements.{All-head, All-tail}
-use Rattle.sha2.specs.Sha256.{sha256}
 use Rattle.time_base.specs.declared.posting.Posting.{Posting}
 use Rattle.record_codec.specs.declared.place.Layout.{Layout}
 use Rattle.record_codec.specs.declared.place.Layout.TheVariants.{Flat, Blocks}
@@ -13,12 +12,11 @@ use Rattle.sublist_codec.proofs.LayoutLemmas.{layout_of}
 use Rattle.sublist_codec.proofs.FlatLemmas.{flat_codec}
 use Rattle.sublist_codec.proofs.BlockCodec.{block_codec}
 use Rattle.sublist_store.specs.Layouts.{Spells, IsFault}
-use Rattle.sublist_store.specs.Fetching.{IsChecked, IsFetched, IsFirstAstray, Explains, belongs}
-use Rattle.sublist_store.specs.Gathering.{Chosen, Outcome, IsBare, Joins, Parts, Refuses, Gathers, bytes_of}
+use Rattle.sublist_store.specs.Fetching.{IsFetched, IsFirstAstray, belongs}
+use Rattle.sublist_store.specs.Gathering.{Chosen, Outcome, Joins, Parts, Refuses, Gathers, bytes_of}
 use Rattle.sublist_store.specs.Laws.{OneCause, NoCauseAgainstFetched, OneFetched, OneOutcome, AreClashes}
 use Rattle.sublist_store.specs.declared.why.Why.{Why}
 use Rattle.sublist_store.specs.declared.why.Why.TheVariants.{Digest, Form, Astray, Clash, Bare}
-use Rattle.sublist_store.specs.declared.why.Damage.{Damage}
 use Rattle.sublist_store.proofs.UnionLemmas.{one_union, union_or_clash}
 
 one_list : (layout : Layout) (bytes : List ℕ) (a b : List Posting) → Spells layout bytes a → Spells layout bytes b → a ≡ b

@@ -1,8 +1,8 @@
 -- Two lists have one union, or a clash.
-use Rattle.std.proofs.Common.{◌≡◌, ◌⊎◌, ℕ, zero, suc, ◌<◌, ◌≤◌, ◌↔◌, List, [], ◌∷◌, length, Contains, inl, inr, refl, ap, sym, subst, ◌∙◌, arith}
+use Rattle.std.proofs.Common.{◌≡◌, ◌⊎◌, zero, suc, ◌<◌, List, [], ◌∷◌, Contains, inl, inr, refl, ap, sym, subst, ◌∙◌, arith}
 use Rattle.time_base.specs.declared.posting.Posting.{Posting}
 use Rattle.postings.specs.Lists.{ComesBefore, IsList}
-use Rattle.postings.specs.Unions.{IsUnion, IsClash, Clashes}
+use Rattle.postings.specs.Unions.{IsUnion, IsClash}
 use Rattle.postings.proofs.Order.{before-trans, next-tail, next-later, next-pairs}
 
 -- a posting comes before no other one that comes before it
@@ -12,13 +12,13 @@ one_way p q (inl a) (inr b) = omega (arith, a, b.0)
 one_way p q (inr a) (inl b) = omega (arith, a.0, b)
 one_way p q (inr a) (inr b) = omega (arith, a.1, b.1, p.span.ordered, q.span.ordered)
 
-here : (x : Posting) (xs : List Posting) → Contains (x ∷ xs) x
+pub here : (x : Posting) (xs : List Posting) → Contains (x ∷ xs) x
 here x xs = (zero, omega arith, refl)
 
-behind : (x y : Posting) (xs : List Posting) → Contains xs y → Contains (x ∷ xs) y
+pub behind : (x y : Posting) (xs : List Posting) → Contains xs y → Contains (x ∷ xs) y
 behind x y xs (k, l, e) = (suc k, omega (arith, l), e)
 
-cases : (x y : Posting) (xs : List Posting) → Contains (x ∷ xs) y → (x ≡ y) ⊎ Contains xs y
+pub cases : (x y : Posting) (xs : List Posting) → Contains (x ∷ xs) y → (x ≡ y) ⊎ Contains xs y
 cases x y xs (zero, l, e) = inl e
 cases x y xs (suc k, l, e) = inr (k, omega (arith, l), e)
 

@@ -3,6 +3,7 @@ use Rattle.std.specs.Prelude.{◌≡◌, ◌⊎◌, ℕ, ◌+◌, Bool, true, fa
 use Rattle.time_base.specs.declared.posting.Posting.{Posting}
 use Rattle.record_codec.specs.declared.place.Layout.{Layout}
 use Rattle.record_codec.specs.declared.place.Place.{Place}
+use Rattle.postings.specs.Sizes.{size}
 use Rattle.postings.specs.Unions.{IsUnion, IsClash}
 use Rattle.page_store.specs.Ranges.{bytes_in}
 use Rattle.sublist_store.specs.Segments.{next_cut}
@@ -71,3 +72,8 @@ Gathers layout h pages [] union read outcome = outcome ≡ Ok (union, read)
 Gathers layout h pages (c ∷ segments) union read outcome =
     ((why : Why) × (Refuses layout h pages c union why × (outcome ≡ Err (record { page = c.place.extent.first; why = why }))))
     ⊎ ((both : List Posting) × ((n : ℕ) × (Joins layout h pages c union both n × Gathers layout h pages segments both (read + n) outcome)))
+
+-- how many postings of a list the segments that overlap the window [a, b) have, added up
+abbrev pub stored_size : (a b h : ℕ) → List Posting → List ℕ → ℕ
+stored_size a b h list [] = 0
+stored_size a b h list (f ∷ cuts) = (if nat_lt f b && nat_lt a (next_cut cuts h) then size f (next_cut cuts h) list else 0) + stored_size a b h list cuts

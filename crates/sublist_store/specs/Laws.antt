@@ -1,9 +1,12 @@
 -- What follows from the definitions: bytes lead to one answer.
-use Rattle.std.specs.Prelude.{◌≡◌, ◌⊎◌, ℕ, List, Err}
+use Rattle.std.specs.Prelude.{◌≡◌, ◌⊎◌, ℕ, ◌≤◌, ◌<◌, List, [], Ok, Err, true}
 use Rattle.time_base.specs.declared.posting.Posting.{Posting}
 use Rattle.record_codec.specs.declared.place.Layout.{Layout}
+use Rattle.record_codec.specs.declared.place.Place.{Place}
+use Rattle.postings.specs.Lists.{frequency}
+use Rattle.sublist_store.specs.Segments.{EachSegment, HoldsSublist, AreCutsOf}
 use Rattle.sublist_store.specs.Fetching.{IsFetched, Explains}
-use Rattle.sublist_store.specs.Gathering.{Chosen, Outcome, Gathers}
+use Rattle.sublist_store.specs.Gathering.{Chosen, Outcome, Gathers, chosen, stored_size}
 use Rattle.sublist_store.specs.declared.why.Why.{Why}
 use Rattle.sublist_store.specs.declared.why.Why.TheVariants.{Clash}
 
@@ -34,3 +37,15 @@ abbrev pub OneOutcome : Type 0
 OneOutcome =
     (layout : Layout) (h : ℕ) (pages : List ℕ) (segments : List Chosen) (union : List Posting) (read : ℕ) (a b : Outcome)
     → Gathers layout h pages segments union read a → Gathers layout h pages segments union read b → (a ≡ b) ⊎ ((page : ℕ) × AreClashes page a b)
+
+-- what is gathered is a list that says of each time in the window what the other list says, and as many postings are read as its segments have
+pub record IsGathered (list : List Posting) (cuts : List ℕ) (a b h : ℕ) (outcome : Outcome) : Type 0 where
+  pub stored : List Posting
+  pub is : outcome ≡ Ok (stored, stored_size a b h list cuts)
+  pub tells : (d t : ℕ) → a ≤ t → t < b → frequency d t stored ≡ frequency d t list
+
+-- Where the places of a list's segments hold its sublists, nothing is damaged, and what is gathered is of the list.
+abbrev pub HeldIsGathered : Type 0
+HeldIsGathered =
+    (layout : Layout) (list : List Posting) (pages : List ℕ) (cuts : List ℕ) (h : ℕ) (places : List Place) (a b : ℕ) (outcome : Outcome) → AreCutsOf list cuts h
+    → EachSegment (HoldsSublist layout list pages) cuts h places → Gathers layout h pages (chosen a b h true cuts places) [] 0 outcome → IsGathered list cuts a b h outcome

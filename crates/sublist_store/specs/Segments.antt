@@ -1,12 +1,13 @@
 -- The segments of a plan, and the places that hold their sublists. A plan's cuts are the left ends of its segments, and its
 -- horizon is where the last one ends.
-use Rattle.std.specs.Prelude.{◌≡◌, ℕ, ◌+◌, ◌*◌, ◌≤◌, List, [], ◌∷◌, length, map}
+use Rattle.std.specs.Prelude.{◌≡◌, ℕ, ◌+◌, ◌*◌, ◌≤◌, List, [], ◌∷◌, ◌++◌, length, map, All, Contains}
+use Rattle.std.specs.List.Sorted.{IsStrictlyIncreasing}
 use Rattle.sha2.specs.Sha256.{sha256}
 use Rattle.time_base.specs.declared.posting.Posting.{Posting}
 use Rattle.time_base.specs.declared.time.Time.{Time}
 use Rattle.record_codec.specs.declared.place.Layout.{Layout}
 use Rattle.record_codec.specs.declared.place.Place.{Place}
-use Rattle.postings.specs.Lists.{sublist}
+use Rattle.postings.specs.Lists.{IsList, sublist}
 use Rattle.page_store.specs.Ranges.{bytes_in}
 use Rattle.sublist_store.specs.Layouts.{spelling_in}
 
@@ -31,3 +32,12 @@ pub record HoldsSublist (layout : Layout) (list : List Posting) (pages : List �
   pub inside : place.extent.first * 4096 + place.extent.bytes ≤ length pages
   pub bytes : bytes_in place.extent pages ≡ spelling_in layout (sublist f g list)
   pub digest : place.digest ≡ sha256 (bytes_in place.extent pages)
+
+-- these are the left ends of segments of the list: they ascend from the first start of a posting up to the horizon, where all postings have ended
+pub record AreCutsOf (list : List Posting) (cuts : List ℕ) (h : ℕ) : Type 0 where
+  pub ordered : IsList list
+  pub ascending : IsStrictlyIncreasing (cuts ++ h ∷ [])
+  pub first : Posting
+  pub among : Contains list first
+  pub begins : first.span.from ≡ next_cut cuts h
+  pub inside : All (λ p. (next_cut cuts h ≤ p.span.from) × (p.span.to ≤ h)) list

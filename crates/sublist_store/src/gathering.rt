@@ -54,7 +54,7 @@ impl Sublists {
     ) -> Result<Gathered, FetchError>
         requires as_many { length places.now ≡ length cuts.now }
         requires inside { All (λ (p : PlainPlace). IsInside (D.disk disk.old).reach.pages p.extent) places.now }
-        requires few { sum_by (λ (p : PlainPlace). p.extent.bytes) places.now ≤ 2 ^ 40 }
+        requires few { sum_by (λ (p : PlainPlace). p.extent.bytes) places.now ≤ 2 ^ 60 }
         ensures only { D.Disk.only disk.old disk.new }
         ensures failed { IfErr result (IfFailed (Rose (D.disk disk.old).faults (D.disk disk.new).faults)) }
         ensures same { D.disk disk.new ≡ record (D.disk disk.old) { faults = (D.disk disk.new).faults; bytes_read = (D.disk disk.new).bytes_read } }
@@ -96,7 +96,7 @@ fn gather_all<D: Disk>(
 ) -> Result<Gathered, FetchError>
     requires as_many { length places.now ≡ length cuts.now }
     requires inside { All (λ (p : PlainPlace). IsInside (D.disk disk.old).reach.pages p.extent) places.now }
-    requires few { sum_by (λ (p : PlainPlace). p.extent.bytes) places.now ≤ 2 ^ 40 }
+    requires few { sum_by (λ (p : PlainPlace). p.extent.bytes) places.now ≤ 2 ^ 60 }
     ensures only { D.Disk.only disk.old disk.new }
     ensures failed { IfErr result (IfFailed (Rose (D.disk disk.old).faults (D.disk disk.new).faults)) }
     ensures same { D.disk disk.new ≡ record (D.disk disk.old) { faults = (D.disk disk.new).faults; bytes_read = (D.disk disk.new).bytes_read } }

@@ -1,7 +1,7 @@
 //! What holds of sublists in places, whatever is written or read. The functions do nothing when they
 //! run.
 ghost use Rattle.sublist_store.specs.Preparing.{PiecesHoldSublists, PlacesAreForSublists};
-ghost use Rattle.sublist_store.specs.Laws.{OneCause, NoCauseAgainstFetched, OneFetched, OneOutcome};
+ghost use Rattle.sublist_store.specs.Laws.{OneCause, NoCauseAgainstFetched, OneFetched, OneOutcome, HeldIsGathered};
 
 /// Pages that hold the pieces of a list's segments hold their sublists.
 pub fn pieces_hold_sublists()
@@ -24,4 +24,11 @@ pub fn one_answer_of_bytes()
 /// What is gathered has one outcome, but that which two postings of a clash are named is free.
 pub fn one_outcome()
     ensures { OneOutcome }
+{}
+
+/// Where the places of a list's segments hold its sublists, nothing is damaged, and what is gathered
+/// for a window says of each time in it what the list says. As many postings are read as the segments
+/// have that overlap the window.
+pub fn held_sublists_are_gathered()
+    ensures { HeldIsGathered }
 {}

@@ -19,7 +19,10 @@ mod store;
 mod why;
 
 pub use gathering::Gathered;
-pub use laws::{one_answer_of_bytes, one_outcome, pieces_hold_sublists, places_are_for_sublists};
+pub use laws::{
+    held_sublists_are_gathered, one_answer_of_bytes, one_outcome, pieces_hold_sublists,
+    places_are_for_sublists,
+};
 pub use prepared::Prepared;
 pub use store::Sublists;
 pub use why::{Damage, FetchError, Why};

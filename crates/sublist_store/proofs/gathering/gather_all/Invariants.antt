@@ -10,7 +10,7 @@ invariant-loop-k g l = record {
   only : g.D.Disk.only l.fn.disk l.disk;
   same : g.D.Disk.disk l.disk ≡ record (g.D.Disk.disk l.fn.disk) { faults = (g.D.Disk.disk l.disk).faults; bytes_read = (g.D.Disk.disk l.disk).bytes_read };
   list : IsList l.list.items;
-  few : l.read + sum_by (λ (p : Place). p.extent.bytes) (drop l.k l.places) ≤ 2 ^ 40;
+  few : l.read + sum_by (λ (p : Place). p.extent.bytes) (drop l.k l.places) ≤ 2 ^ 60;
   inside : All (λ (p : Place). IsInside (g.D.Disk.disk l.fn.disk).reach.pages p.extent) (drop l.k l.places);
   leads : g.D.Disk.disk_tells → LeadTo l.layout l.horizon.seconds (g.D.Disk.disk l.fn.disk).holds.pages
       (chosen_from l.span.from l.span.to l.horizon.seconds l.cuts l.places 0) (chosen_from l.span.from l.span.to l.horizon.seconds l.cuts l.places l.k) l.list.items l.read;
