@@ -9,3 +9,5 @@ pub mod StoringLemmas
 pub mod ToldLemmas
 pub mod CertifyingLemmas
 pub mod TurnLemmas
+pub mod BoundLemmas
+pub mod ChosenLemmas

@@ -43,7 +43,12 @@ use Rattle.archive_state.specs.declared.refusal.Refusal.TheVariants as refusals
 use Rattle.stored_plans.specs.Plans.{IsFitPlan}
 use Rattle.archive_state.specs.Histories.{History, changes, text_at, entry_refusal}
 use Rattle.archive_state.specs.Legal.{EachMayCome, IsLegal, IsLegalEntry, IsLoadable}
-use Rattle.archive_state.specs.Answers.{frequency_at, IsWordList, IsReadFor}
+use Rattle.record_codec.specs.declared.plan.PlanEntry.{PlanEntry}
+use Rattle.sublist_store.specs.Segments.{seconds}
+use Rattle.sublist_store.specs.Gathering.{stored_size}
+use Rattle.archive_state.specs.Answers.{frequency_at, IsWordList}
+use Rattle.archive_state.specs.Chosen.{IsReadFor, IsReadOf, tail_for}
+use Rattle.archive_state.specs.Plans.{plan_of}
 use Rattle.commands.specs.Documents.{HasDocument}
 use Rattle.commands.specs.declared.command.Command.{Command}
 use Rattle.commands.specs.declared.command.Command.TheVariants as commands
@@ -139,13 +144,25 @@ pub has_word : (word : List ℕ) (held : Option (List ℕ)) → 0 < unwrap_or (o
 has_word word None some = absurd (omega (arith, some))
 has_word word (Some text) some = refl
 
+-- each word has a list up to each time
+each_list_up_to : (h : History) (word : List ℕ) (last : ℕ) → last ≤ 2 ^ 40 → IsLoadable h → (list : List Posting) × IsListUpTo h word last list
+each_list_up_to h word last in_time legal =
+    each_has_a_list (λ d t. frequency_at h word (record { 0 = d }) t) 0 last in_time (λ d t. frequency_few h word (record { 0 = d }) t legal) (λ d t far. frequency_none h word d t legal far)
+
 -- each query is answered at each time
-each_read : (h : History) (words : List (List ℕ)) → IsLoadable h → (n : ℕ) × IsReadFor h words n
-each_read h [] legal = (0, refl)
-each_read h (word ∷ words) legal =
+each_read_of : (h : History) (word : List ℕ) (a b : ℕ) (plan : Option PlanEntry) → IsLoadable h → (n : ℕ) × IsReadOf h word plan a b n
+each_read_of h word a b None legal = let list = each_word_list h word legal in (length list.0, (list.0, list.1, refl))
+each_read_of h word a b (Some plan) legal =
+    let sealed = each_list_up_to h word plan.horizon.seconds (omega (arith, plan.horizon.before_now)) legal in
     let list = each_word_list h word legal in
-    let more = each_read h words legal in
-    (length list.0 + more.0, (list.0, more.0, list.1, more.1, refl))
+    (stored_size a b plan.horizon.seconds sealed.0 (seconds plan.cuts) + length (tail_for b plan.horizon.seconds list.0), (sealed.0, list.0, sealed.1, list.1, refl))
+
+each_read : (h : History) (a b : ℕ) (words : List (List ℕ)) → IsLoadable h → (n : ℕ) × IsReadFor h a b words n
+each_read h a b [] legal = (0, refl)
+each_read h a b (word ∷ words) legal =
+    let one = each_read_of h word a b (plan_of h word) legal in
+    let more = each_read h a b words legal in
+    (one.0 + more.0, (one.0, more.0, one.1, more.1, refl))
 
 -- whatever each query is answered, each text is
 each_replied : (Finds : Query → Reply → Type 0) → ((query : Query) → (reply : Reply) × Finds query reply) → (query : Result Query ℕ) → (reply : Reply) × IsRepliedBy Finds query reply
@@ -161,7 +178,7 @@ each_found : (h : History) (at : Time) → IsLegal h → (query : Query) → (re
 each_found h at legal query =
     let often = λ (doc : DocId) (word : List ℕ). frequency_at h word doc at.seconds in
     let given = each-answer (changed.alive at.seconds (changes h)) often query in
-    let read = each_read h (words_of query) (legal_loads h legal) in
+    let read = each_read h at.seconds (at.seconds + 1) (words_of query) (legal_loads h legal) in
     let answer = same_alive (λ doc. IsSome (text_at h doc at.seconds)) (λ doc. Contains (changed.alive at.seconds (changes h)) doc) often query given.0 (λ doc. alive-has at.seconds (changes h) doc) given.1 in
     (Found given.0 read.0, (given.0, read.0, answer, read.1, refl))
 
@@ -172,17 +189,13 @@ each_spanned : (h : History) (span : Span) → IsLegal h → (query : Query) →
 each_spanned h span legal query =
     let given = each-window (λ doc t. is_some (text_at h doc t)) (λ doc t word. frequency_at h word doc t) query (2 ^ 32) span.from span.to span.in_time
     (λ doc t far. ap is_some (text_none h doc t (legal_loads h legal) far)) in
-    let read = each_read h (words_of query) (legal_loads h legal) in
+    let read = each_read h span.from span.to (words_of query) (legal_loads h legal) in
     (Spanned given.0 read.0, (given.0, read.0, given.1, read.1, refl))
 
 pub each_spans : (h : History) (span : Span) (text : List ℕ) → IsLegal h → (reply : Reply) × Spans h span text reply
 each_spans h span text legal = each_text (SpansBy h span) (each_spanned h span legal) text
 
 -- each proposal is answered
-each_list_up_to : (h : History) (word : List ℕ) (last : ℕ) → last ≤ 2 ^ 40 → IsLoadable h → (list : List Posting) × IsListUpTo h word last list
-each_list_up_to h word last in_time legal =
-    each_has_a_list (λ d t. frequency_at h word (record { 0 = d }) t) 0 last in_time (λ d t. frequency_few h word (record { 0 = d }) t legal) (λ d t far. frequency_none h word d t legal far)
-
 pub each_proposes : (h : History) (phrase : List ℕ) (factor : Fraction) → IsLegal h → (reply : Reply) × Proposes h phrase factor reply
 each_proposes h phrase factor legal =
     each_phrase h (λ (r : Reply) why. r ≡ Refused why) (λ (r : Reply) word list. ProposesPlan factor (last_second h) list r) (λ why. (Refused why, refl))
@@ -264,11 +277,26 @@ one_adds : (h : History) (e : Entry) (refusal : Option Refusal) (reply other : R
 one_adds h e None reply other next then a b = let same : next ≡ then = a.0 ∙ sym b.0 in (a.1 ∙ ap (λ (g : History). Accepted (length g)) same ∙ sym b.1, same)
 one_adds h e (Some why) reply other next then a b = (a.1 ∙ sym b.1, a.0 ∙ sym b.0)
 
-one_read : (h : History) (words : List (List ℕ)) (one other : ℕ) → IsReadFor h words one → IsReadFor h words other → one ≡ other
-one_read h [] one other a b = a ∙ sym b
-one_read h (word ∷ words) one other a b =
-    let list = one_list_of (λ d t. frequency_at h word (record { 0 = d }) t) 0 (2 ^ 40) a.0 b.0 a.2 b.2 in
-    omega (arith, a.4, b.4, one_read h words a.1 b.1 a.3 b.3, ap length list)
+one_read_of : (h : History) (word : List ℕ) (a b : ℕ) (plan : Option PlanEntry) (one other : ℕ) → IsReadOf h word plan a b one → IsReadOf h word plan a b other → one ≡ other
+one_read_of h word a b None one other x y =
+    let list = one_list_of (λ d t. frequency_at h word (record { 0 = d }) t) 0 (2 ^ 40) x.0 y.0 x.1 y.1 in
+    x.2 ∙ ap length list ∙ sym y.2
+one_read_of h word a b (Some plan) one other x y =
+    let f = λ (d t : ℕ). frequency_at h word (record { 0 = d }) t in
+    let sealed = one_list_of f 0 plan.horizon.seconds x.0 y.0 x.2 y.2 in
+    let list = one_list_of f 0 (2 ^ 40) x.1 y.1 x.3 y.3 in
+    omega (
+      arith,
+      x.4,
+      y.4,
+      ap (λ (l : List Posting). stored_size a b plan.horizon.seconds l (seconds plan.cuts)) sealed,
+      ap (λ (l : List Posting). length (tail_for b plan.horizon.seconds l)) list,
+    )
+
+one_read : (h : History) (a b : ℕ) (words : List (List ℕ)) (one other : ℕ) → IsReadFor h a b words one → IsReadFor h a b words other → one ≡ other
+one_read h a b [] one other x y = x ∙ sym y
+one_read h a b (word ∷ words) one other x y =
+    omega (arith, x.4, y.4, one_read_of h word a b (plan_of h word) x.0 y.0 x.2 y.2, one_read h a b words x.1 y.1 x.3 y.3)
 
 -- where a query is answered one way, so is a text
 abbrev IsOnly : (Query → Reply → Type 0) → Type 0
@@ -286,7 +314,7 @@ one_text Finds one text reply other a b =
 one_found : (h : History) (at : Time) → IsOnly (FindsBy h at)
 one_found h at query reply other a b =
     let rows = one_answer (λ doc. IsSome (text_at h doc at.seconds)) (λ doc word. frequency_at h word doc at.seconds) query a.0 b.0 a.2 b.2 in
-    let read = one_read h (words_of query) a.1 b.1 a.3 b.3 in
+    let read = one_read h at.seconds (at.seconds + 1) (words_of query) a.1 b.1 a.3 b.3 in
     a.4 ∙ ap (λ (r : List Row). Found r a.1) rows ∙ ap (λ (n : ℕ). Found b.0 n) read ∙ sym b.4
 
 one_finds : (h : History) (at : Time) (text : List ℕ) (reply other : Reply) → Finds h at text reply → Finds h at text other → reply ≡ other
@@ -295,7 +323,7 @@ one_finds h at text = one_text (FindsBy h at) (one_found h at) text
 one_spanned : (h : History) (span : Span) → IsOnly (SpansBy h span)
 one_spanned h span query reply other a b =
     let rows = longest.one row_kind plain-rows (scored_at (λ doc t. is_some (text_at h doc t)) (λ doc t word. frequency_at h word doc t) query) span.from span.to a.0 b.0 a.2 b.2 in
-    let read = one_read h (words_of query) a.1 b.1 a.3 b.3 in
+    let read = one_read h span.from span.to (words_of query) a.1 b.1 a.3 b.3 in
     a.4 ∙ ap (λ (r : List SpanRow). Spanned r a.1) rows ∙ ap (λ (n : ℕ). Spanned b.0 n) read ∙ sym b.4
 
 one_spans : (h : History) (span : Span) (text : List ℕ) (reply other : Reply) → Spans h span text reply → Spans h span text other → reply ≡ other

@@ -1,5 +1,5 @@
--- What a search would have found at a time, or over a window of time, and what it costs: by the texts that were alive then.
-use Rattle.std.specs.Prelude.{◌≡◌, ℕ, ◌+◌, ◌^◌, List, [], ◌∷◌, length, IsSome, is_some, option_map, unwrap_or}
+-- What a search would have found at a time, or over a window of time: by the texts that were alive then.
+use Rattle.std.specs.Prelude.{ℕ, ◌^◌, List, IsSome, is_some, option_map, unwrap_or}
 use Rattle.time_base.specs.declared.ids.DocId.{DocId}
 use Rattle.time_base.specs.declared.posting.Posting.{Posting}
 use Rattle.postings.specs.ListsOf.{IsListOf}
@@ -26,9 +26,3 @@ IsSpanAnswerAt history a b query rows = IsSpanAnswer (λ doc t. is_some (text_at
 -- a word's whole list: a posting for each of the longest spans of one frequency
 abbrev pub IsWordList : History → List ℕ → List Posting → Type 0
 IsWordList history word list = IsListOf (λ doc t. frequency_at history word (record { 0 = doc }) t) 0 (2 ^ 40) list
-
--- how many postings are read for some words: of each word its whole list
-abbrev pub IsReadFor : History → List (List ℕ) → ℕ → Type 0
-IsReadFor history [] read = read ≡ 0
-IsReadFor history (word ∷ words) read =
-    (list : List Posting) × (more : ℕ) × IsWordList history word list × IsReadFor history words more × (read ≡ length list + more)

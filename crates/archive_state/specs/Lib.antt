@@ -1,5 +1,7 @@
 pub mod Answers
+pub mod Bounds
 pub mod Choices
+pub mod Chosen
 pub mod Histories
 pub mod Holding
 pub mod Legal

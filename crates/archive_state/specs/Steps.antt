@@ -1,5 +1,5 @@
 -- The machine that an archive is: what an item of the input does to a history, and what is replied.
-use Rattle.std.specs.Prelude.{◌≡◌, ◌⊎◌, ℕ, nat_lt, not, if◌then◌else◌, List, [], ◌∷◌, ◌++◌, length, map, Option, Some, None, Result, Ok, Err}
+use Rattle.std.specs.Prelude.{◌≡◌, ◌⊎◌, ℕ, ◌+◌, nat_lt, not, if◌then◌else◌, List, [], ◌∷◌, ◌++◌, length, map, Option, Some, None, Result, Ok, Err}
 use Rattle.std.specs.List.{AllZip}
 use Rattle.std.specs.Str.{is_utf8}
 use Rattle.std.specs.Str.Lossy.{utf8_valid_len}
@@ -41,7 +41,8 @@ use Rattle.query_eval.specs.declared.spans.SpanRow.{SpanRow}
 use Rattle.archive_state.specs.declared.refusal.Refusal.{Refusal}
 use Rattle.archive_state.specs.declared.refusal.Refusal.TheVariants as refusals
 use Rattle.archive_state.specs.Histories.{History, entry_refusal, end_of, text_at}
-use Rattle.archive_state.specs.Answers.{IsAnswerAt, IsSpanAnswerAt, IsReadFor}
+use Rattle.archive_state.specs.Answers.{IsAnswerAt, IsSpanAnswerAt}
+use Rattle.archive_state.specs.Chosen.{IsReadFor}
 use Rattle.archive_state.specs.Planning.{OfPhrase, OfTerm, IsListUpTo, last_second}
 use Rattle.archive_state.specs.Plans.{live_extents, plan_of}
 
@@ -110,7 +111,7 @@ IsReplied Finds text reply = (query : Result Query ℕ) × IsRead key_of text qu
 -- what is found at a time by a query, in rows and postings read
 abbrev pub FindsBy : History → Time → Query → Reply → Type 0
 FindsBy history at query reply =
-    (rows : List Row) × (read : ℕ) × IsAnswerAt history at.seconds query rows × IsReadFor history (words_of query) read × (reply ≡ Found rows read)
+    (rows : List Row) × (read : ℕ) × IsAnswerAt history at.seconds query rows × IsReadFor history at.seconds (at.seconds + 1) (words_of query) read × (reply ≡ Found rows read)
 
 -- the same by a text
 abbrev pub Finds : History → Time → List ℕ → Reply → Type 0
@@ -119,7 +120,7 @@ Finds history at text reply = IsReplied (FindsBy history at) text reply
 -- what is found over a window of time by a query, in rows and postings read
 abbrev pub SpansBy : History → Span → Query → Reply → Type 0
 SpansBy history span query reply =
-    (rows : List SpanRow) × (read : ℕ) × IsSpanAnswerAt history span.from span.to query rows × IsReadFor history (words_of query) read × (reply ≡ Spanned rows read)
+    (rows : List SpanRow) × (read : ℕ) × IsSpanAnswerAt history span.from span.to query rows × IsReadFor history span.from span.to (words_of query) read × (reply ≡ Spanned rows read)
 
 -- the same by a text
 abbrev pub Spans : History → Span → List ℕ → Reply → Type 0

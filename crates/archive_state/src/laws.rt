@@ -11,6 +11,7 @@ ghost use Rattle.archive_state.specs.Choices.{IsChoice, IsStoring, SameButSegmen
 ghost use Rattle.archive_state.specs.Steps.{Reply, Planned, Summary, Step};
 ghost use Rattle.archive_state.specs.Runs.{Turn};
 ghost use Rattle.archive_state.specs.Stands.{Stands, IsNotArchive, bodies_of};
+ghost use Rattle.archive_state.specs.Bounds.{PlannedReadsAreBounded, MadeAtStands, MadeOverStands, HeldIsUndamaged};
 
 /// A history is legal exactly where each of its entries is legal after those before it, and a load
 /// accepts each legal history. A history's journal ends with one byte behind its records, the closed
@@ -46,4 +47,19 @@ pub fn an_image_stands_for_one_history()
 /// Bytes that are refused as no archive's are refused at one place. Does nothing.
 pub fn an_archive_is_refused_at_one_place()
     ensures one_place { (image : Bytes) (one other : ℕ) → IsNotArchive image one → IsNotArchive image other → one ≡ other }
+{}
+
+/// A question for a planned word, for a time from the plan's first cut on and before its horizon,
+/// reads at most the plan's factor times as many postings as documents alive have the word. Does
+/// nothing.
+pub fn planned_reads_are_bounded()
+    ensures { PlannedReadsAreBounded }
+{}
+
+/// In pages that hold the live plans nothing is damaged, and what is made from them is the answer
+/// that the history gives, at its cost. Does nothing.
+pub fn what_is_made_of_held_pages_stands()
+    ensures at { MadeAtStands }
+    ensures over { MadeOverStands }
+    ensures undamaged { HeldIsUndamaged }
 {}

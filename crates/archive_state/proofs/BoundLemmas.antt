@@ -1,0 +1,253 @@
+-- A question for a planned word reads the one segment that holds the time, which is admissible.
+use Rattle.std.proofs.Common.{◌≡◌, ◌⊎◌, ℕ, zero, suc, ◌+◌, ◌*◌, ◌^◌, ◌<◌, ◌≤◌, Bool, true, false, cond, ◌&&◌, if◌then◌else◌, nat_lt, min, bytes_eq, List, [], ◌∷◌, ◌++◌, length, map, filter, get_or, All, Contains, Some, inl, inr, refl, ap, sym, subst, ◌∙◌, arith}
+use Rattle.std.specs.List.{AllZip}
+use Rattle.std.specs.List.Sorted.{IsStrictlyIncreasing}
+use Rattle.std.specs.Cmp.Lexicographic.{bytes_decides}
+use Rattle.std.proofs.lemmas.Bool.{cases_lt}
+use Rattle.std.proofs.lemmas.Bool.Decides.{nat_tests}
+use Rattle.std.proofs.lemmas.List.{map-append}
+use Rattle.std.proofs.lemmas.List.Elements.{All-head, All-contains, Contains-append_cases, Contains-append_left, filter_passes}
+use Rattle.std.proofs.lemmas.List.Sums.{sum_by-cons}
+use Rattle.time_base.specs.declared.fraction.Fraction.{Fraction}
+use Rattle.time_base.specs.declared.posting.Posting.{Posting}
+use Rattle.time_base.specs.declared.time.Time.{Time}
+use Rattle.commands.specs.declared.command.Kind.{Kind}
+use Rattle.commands.specs.declared.command.Kind.TheVariants.{Guarantee, Uniform, Since}
+use Rattle.elementary.specs.Boundaries.{IsBoundary, IsFirst}
+use Rattle.elementary.specs.Partitions.{IsAdmissible, Covers}
+use Rattle.elementary.proofs.Places.{contains_map}
+use Rattle.postings.specs.Clips.{IsCut, IsClip}
+use Rattle.postings.specs.Lists.{IsList, holds, meets, sublist}
+use Rattle.postings.specs.Sizes.{size, alive_count}
+use Rattle.postings.proofs.Clipping.{clip_of_list_of, one_list_of}
+use Rattle.record_codec.specs.declared.plan.PlanEntry.{PlanEntry}
+use Rattle.sublist_store.specs.Segments.{next_cut, seconds, AreCutsOf}
+use Rattle.sublist_store.specs.Gathering.{stored_size}
+use Rattle.stored_plans.specs.Plans.{IsNarrow, IsFitPlan}
+use Rattle.stored_plans.proofs.PlanLemmas.{well_cut}
+use Rattle.archive_state.specs.declared.stored.StoredPlan.{StoredPlan}
+use Rattle.archive_state.specs.Histories.{History}
+use Rattle.archive_state.specs.Answers.{frequency_at, IsWordList}
+use Rattle.archive_state.specs.Bounds.{PlannedReadsAreBounded}
+use Rattle.archive_state.specs.Chosen.{tail_for}
+use Rattle.archive_state.specs.Legal.{Suits, MayBePlanned, IsLoadable}
+use Rattle.archive_state.specs.Planning.{IsListUpTo}
+use Rattle.archive_state.specs.Plans.{first_plan, live_plans, plan_of}
+use Rattle.archive_state.proofs.CertifyingLemmas.{live_has}
+use Rattle.archive_state.proofs.LiveLemmas.{live_planned}
+
+-- ---- the live plan of a word
+
+first_has : (P : PlanEntry → Type 0) (live : List StoredPlan) (plan : PlanEntry) → All (λ stored. P stored.plan) live → first_plan live ≡ Some plan → P plan
+first_has P [] plan all is = absurd cc
+first_has P (s ∷ live) plan all is = let same : s.plan ≡ plan = cc in subst P same (All-head (λ (stored : StoredPlan). P stored.plan) s live all)
+
+-- it is of the word
+pub of_word : (h : History) (word : List ℕ) (plan : PlanEntry) → plan_of h word ≡ Some plan → plan.word ≡ word
+of_word h word plan live =
+    let keep : StoredPlan → Bool = λ stored. bytes_eq stored.plan.word word in
+    (bytes_decides plan.word word).0 (first_has (λ p. bytes_eq p.word word ≡ true) (filter keep (live_plans h)) plan (filter_passes keep (live_plans h)) live)
+
+-- what holds of all live plans holds of it
+pub word_has : (P : PlanEntry → Type 0) (h : History) (word : List ℕ) (plan : PlanEntry) → All (λ stored. P stored.plan) (live_plans h) → plan_of h word ≡ Some plan → P plan
+word_has P h word plan all live = live_has P (λ stored. bytes_eq stored.plan.word word) (live_plans h) plan all live
+
+-- its list, and that it suits the list
+pub record IsPlanned (h : History) (word : List ℕ) (plan : PlanEntry) : Type 0 where
+  pub list : List Posting
+  pub list_is : IsListUpTo h word plan.horizon.seconds list
+  pub some : 0 < length list
+  pub narrow : IsNarrow list plan.horizon.seconds
+  pub fit : IsFitPlan list plan.fraction plan.cuts plan.horizon.seconds
+
+guaranteed : (list : List Posting) (plan : PlanEntry) (kind : Kind) → Suits IsFitPlan list plan kind → IsNarrow list plan.horizon.seconds × IsFitPlan list plan.fraction plan.cuts plan.horizon.seconds
+guaranteed list plan Guarantee suits = suits
+guaranteed list plan Uniform suits = absurd suits
+guaranteed list plan (Since at) suits = absurd suits
+
+pub word_planned : (h : History) (word : List ℕ) (plan : PlanEntry) → IsLoadable h → plan_of h word ≡ Some plan → IsPlanned h word plan
+word_planned h word plan loads live =
+    let may = word_has (λ p. MayBePlanned IsFitPlan h p) h word plan (live_planned IsFitPlan h loads) live in
+    let suits = guaranteed may.list plan plan.kind may.suits in
+    let L : List ℕ → Type 0 = λ w. IsListUpTo h w plan.horizon.seconds may.list in
+    record { list = may.list; list_is = subst L (of_word h word plan live) may.list_is; some = may.some; narrow = suits.0; fit = suits.1 }
+
+-- ---- its cuts
+
+starts : (list : List Posting) (h k : ℕ) (d : Posting) → k < length list → IsBoundary list h (get_or list k d).span.from
+starts list h k d within =
+    let (place, inside, is) = Contains-append_left (map (λ (p : Posting). p.span.from) list) (map (λ (p : Posting). p.span.to) list) (get_or list k d).span.from (contains_map (λ (p : Posting). p.span.from) list k d within) in
+    (suc place, omega (arith, inside), is)
+
+-- an element of a list mapped is one of the list's
+mapped : (f : Posting → ℕ) (list : List Posting) (x : ℕ) → Contains (map f list) x → (p : Posting) × Contains list p × (f p ≡ x)
+mapped f [] x c = absurd (omega (arith, c.1))
+mapped f (p ∷ list) x (zero, within, is) = (p, (zero, omega arith, refl), is)
+mapped f (p ∷ list) x (suc k, within, is) = let (q, c, e) = mapped f list x (k, omega (arith, within), is) in (q, (suc c.0, omega (arith, c.1), c.2), e)
+
+some_there : (list : List Posting) → 0 < length list → (p : Posting) × Contains list p
+some_there [] some = absurd (omega (arith, some))
+some_there (p ∷ list) some = (p, (zero, omega arith, refl))
+
+-- the first boundary is where a posting begins, and all end behind it
+module _ (list : List Posting) (h f : ℕ) (some : 0 < length list) (inside : All (λ p. (0 ≤ p.span.from) × (p.span.to ≤ h)) list) (first : IsFirst list h f) where
+  lowest : (k : ℕ) (d : Posting) → k < length list → f ≤ (get_or list k d).span.from
+  lowest k d within = first.none_before (get_or list k d).span.from (starts list h k d within)
+
+  ends_behind : (p : Posting) → Contains list p → f < p.span.to
+  ends_behind p (k, within, is) =
+      let low = subst (λ (q : Posting). f ≤ q.span.from) is (lowest k p within) in
+      let order : p.span.from < p.span.to = p.span.ordered in
+      omega (arith, low, order)
+
+  first_begins : (p : Posting) × Contains list p × (p.span.from ≡ f)
+  first_begins = go first.is
+    where
+      go : IsBoundary list h f → (p : Posting) × Contains list p × (p.span.from ≡ f)
+      go (zero, within, is) =
+          let (p, there) = some_there list some in
+          absurd (omega (arith, is, ends_behind p there, (All-contains (λ (q : Posting). (0 ≤ q.span.from) × (q.span.to ≤ h)) list p inside there).1))
+      go (suc k, within, is) = elim (Contains-append_cases (map (λ (p : Posting). p.span.from) list) (map (λ (p : Posting). p.span.to) list) f (k, omega (arith, within), is)) [
+        | inl c ↦ mapped (λ p. p.span.from) list f c
+        | inr c ↦ (let (p, there, ends) = mapped (λ p. p.span.to) list f c in absurd (omega (arith, ends_behind p there, ends)))
+      ]
+
+-- the cuts of a fit plan are those of its list
+pub are_cuts : (list : List Posting) (factor : Fraction) (cuts : List Time) (horizon : Time) → IsList list → 0 < length list → All (λ p. (0 ≤ p.span.from) × (p.span.to ≤ horizon.seconds)) list
+    → IsNarrow list horizon.seconds → IsFitPlan list factor cuts horizon.seconds → AreCutsOf list (seconds cuts) horizon.seconds
+are_cuts list factor [] horizon ordered some inside narrow fit = absurd fit
+are_cuts list factor (f ∷ cuts) horizon ordered some inside narrow fit =
+    let (p, there, begins) = first_begins list horizon.seconds f.seconds some inside fit.first in
+    record {
+      ordered = ordered;
+      ascending = subst (λ (xs : List ℕ). IsStrictlyIncreasing xs) (map-append (λ (t : Time). t.seconds) (f ∷ cuts) (horizon ∷ [])) (well_cut list factor (f ∷ cuts) horizon narrow fit).2;
+      first = p;
+      among = there;
+      begins = begins;
+      inside = λ k d within. (lowest list horizon.seconds f.seconds some inside fit.first k d within, (inside k d within).1);
+    }
+
+-- ---- the segment that holds a time
+
+overlap_none : (t f g n : ℕ) → (t < f) ⊎ (g ≤ t) → (if (nat_lt f (t + 1) && nat_lt t g) then n else 0) ≡ 0
+overlap_none t f g n (inl early) = grind (arith, nat_tests)
+overlap_none t f g n (inr late) = grind (arith, nat_tests)
+
+overlap_is : (t f g n : ℕ) → f ≤ t → t < g → (if (nat_lt f (t + 1) && nat_lt t g) then n else 0) ≡ n
+overlap_is t f g n from to = grind (arith, nat_tests)
+
+-- segments that lie behind it have no size there
+none_later : (list : List Posting) (factor : Fraction) (h t f : ℕ) (cuts : List ℕ) → Covers list factor f (cuts ++ h ∷ []) h → t < f → stored_size t (t + 1) h list (f ∷ cuts) ≡ 0
+none_later list factor h t f [] covers early = omega (arith, overlap_none t f h (size f h list) (inl early))
+none_later list factor h t f (g ∷ cuts) covers early =
+    omega (arith, overlap_none t f g (size f g list) (inl early), none_later list factor h t g cuts covers.2 (omega (arith, early, covers.0)))
+
+-- an admissible segment that holds the time, and has all that is read
+record IsRead (list : List Posting) (factor : Fraction) (t read : ℕ) : Type 0 where
+  from : ℕ
+  to : ℕ
+  begun : from ≤ t
+  over : t < to
+  admissible : IsAdmissible list factor from to
+  is : read ≡ size from to list
+
+one_read : (list : List Posting) (factor : Fraction) (h t f : ℕ) (cuts : List ℕ) → Covers list factor f (cuts ++ h ∷ []) h → f ≤ t → t < h → IsRead list factor t (stored_size t (t + 1) h list (f ∷ cuts))
+one_read list factor h t f [] covers from to =
+    record { from = f; to = h; begun = from; over = to; admissible = covers.1; is = omega (arith, overlap_is t f h (size f h list) from to) }
+one_read list factor h t f (g ∷ cuts) covers from to = elim (cases_lt t g) [
+  | inl inside ↦ record {
+    from = f;
+    to = g;
+    begun = from;
+    over = inside;
+    admissible = covers.1;
+    is = omega (arith, overlap_is t f g (size f g list) from inside, none_later list factor h t g cuts covers.2 inside);
+  }
+  | inr behind ↦
+      let more = one_read list factor h t g cuts covers.2 behind to in
+      record {
+        from = more.from;
+        to = more.to;
+        begun = more.begun;
+        over = more.over;
+        admissible = more.admissible;
+        is = omega (arith, overlap_none t f g (size f g list) (inr behind), more.is);
+      }
+]
+
+read_is : (list : List Posting) (factor : Fraction) (cuts : List Time) (h t : ℕ) → IsFitPlan list factor cuts h → next_cut (seconds cuts) h ≤ t → t < h → IsRead list factor t (stored_size t (t + 1) h list (seconds cuts))
+read_is list factor [] h t fit from to = absurd fit
+read_is list factor (f ∷ cuts) h t fit from to = one_read list factor h t f.seconds (seconds cuts) fit.covers from to
+
+-- ---- how many postings hold a time
+
+cut_to : (h : ℕ) (p : Posting) → meets 0 h p ≡ true → (q : Posting) × IsCut 0 h p q
+cut_to h p meeting =
+    let order : p.span.from < p.span.to = p.span.ordered in
+    let last : p.span.to ≤ 2 ^ 40 = p.span.in_time in
+    let early : p.span.from < h = grind (arith, nat_tests) in (
+      record {
+        doc = p.doc;
+        tf = p.tf;
+        span = record { from = p.span.from; to = min p.span.to h; ordered = omega (arith, order, early); in_time = omega (arith, last) };
+        numbered = p.numbered;
+        counted = p.counted;
+        bounded = p.bounded;
+      },
+      record { doc = refl; tf = refl; from = omega arith; to = refl },
+    )
+
+holds_cut : (h t : ℕ) (p q : Posting) → IsCut 0 h p q → t < h → holds t q ≡ holds t p
+holds_cut h t p q cut early =
+    let low : q.span.from ≡ p.span.from = omega (arith, cut.from) in
+    let high : q.span.to ≡ min p.span.to h = cut.to in
+    grind (arith, nat_tests)
+
+holds_not : (h t : ℕ) (p : Posting) → meets 0 h p ≡ false → t < h → holds t p ≡ false
+holds_not h t p apart early = let order : p.span.from < p.span.to = p.span.ordered in grind (arith, nat_tests)
+
+-- a list that is cut to the times before h has as many postings at each of them
+cut_list : (h : ℕ) (list : List Posting) → (clip : List Posting) × IsClip 0 h list clip × ((t : ℕ) → t < h → alive_count t clip ≡ alive_count t list)
+cut_list h [] = ([], tt, λ t early. refl)
+cut_list h (p ∷ list) = go (meets 0 h p) refl (cut_list h list)
+  where
+    go : (m : Bool) → meets 0 h p ≡ m → ((clip : List Posting) × IsClip 0 h list clip × ((t : ℕ) → t < h → alive_count t clip ≡ alive_count t list))
+        → (clip : List Posting) × AllZip (IsCut 0 h) (cond m (p ∷ sublist 0 h list) (sublist 0 h list)) clip × ((t : ℕ) → t < h → alive_count t clip ≡ alive_count t (p ∷ list))
+    go true e (clip, is, alive) =
+        let (q, cut) = cut_to h p e in (
+          q ∷ clip,
+          (cut, is),
+          λ t early.
+              omega (arith, sum_by-cons (λ (r : Posting). cond (holds t r) 1 0) q clip, sum_by-cons (λ (r : Posting). cond (holds t r) 1 0) p list, ap {B = ℕ} (λ b. cond b 1 0) (holds_cut h t p q cut early), alive t early),
+        )
+    go false e (clip, is, alive) =
+        (clip, is, λ t early. omega (arith, sum_by-cons (λ (r : Posting). cond (holds t r) 1 0) p list, ap {B = ℕ} (λ b. cond b 1 0) (holds_not h t p e early), alive t early))
+
+same_alive : (h : History) (word : List ℕ) (horizon t : ℕ) (sealed list : List Posting) → horizon ≤ 2 ^ 40 → t < horizon → IsListUpTo h word horizon sealed → IsWordList h word list
+    → alive_count t sealed ≡ alive_count t list
+same_alive h word horizon t sealed list now early up_to whole =
+    let f : ℕ → ℕ → ℕ = λ doc t. frequency_at h word (record { 0 = doc }) t in
+    let (clip, is, alive) = cut_list horizon list in
+    ap (alive_count t) (one_list_of f 0 horizon sealed clip up_to (clip_of_list_of f 0 (2 ^ 40) 0 horizon list clip (omega arith) now whole is)) ∙ alive t early
+
+-- ---- the bound
+
+no_tail : (b h : ℕ) (list : List Posting) → b ≤ h → length (tail_for b h list) ≡ 0
+no_tail b h list within = go (nat_lt h b) refl
+  where
+    go : (c : Bool) → nat_lt h b ≡ c → length (if c then sublist h (2 ^ 40) list else []) ≡ 0
+    go true past = absurd (grind (arith, nat_tests))
+    go false past = refl
+
+pub planned_bounded : PlannedReadsAreBounded
+planned_bounded h word plan list t read loads live whole from to (sealed, those, up_to, them, is) =
+    let horizon = plan.horizon.seconds in
+    let f : ℕ → ℕ → ℕ = λ doc t. frequency_at h word (record { 0 = doc }) t in
+    let planned = word_planned h word plan loads live in
+    let same = one_list_of f 0 horizon planned.list sealed planned.list_is up_to in
+    let one = read_is sealed plan.fraction plan.cuts horizon t (subst (λ (l : List Posting). IsFitPlan l plan.fraction plan.cuts horizon) same planned.fit) from to in
+    let all : read ≡ size one.from one.to sealed = omega (arith, is, no_tail (t + 1) horizon those (omega (arith, to)), one.is) in
+    let now : horizon < 2 ^ 40 = plan.horizon.before_now in
+    let B : ℕ → ℕ → Type 0 = λ n alive. n * plan.fraction.under ≤ plan.fraction.over * alive in
+    subst (λ (alive : ℕ). B read alive) (same_alive h word horizon t sealed list (omega (arith, now)) to up_to whole)
+    (subst (λ (n : ℕ). B n (alive_count t sealed)) (sym all) (one.admissible t one.begun one.over))

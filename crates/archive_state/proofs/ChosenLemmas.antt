@@ -1,0 +1,259 @@
+-- What is chosen from pages that hold the live plans tells what the history's texts do, and so the answer that is made from it is the history's.
+use Rattle.std.proofs.Common.{◌≡◌, ℕ, zero, suc, ◌+◌, ◌-◌, ◌^◌, ◌<◌, ◌≤◌, ◌==◌, Bool, true, false, cond, ◌&&◌, if◌then◌else◌, nat_lt, bytes_eq, List, [], ◌∷◌, ◌++◌, length, filter, get_or, Option, Some, None, Ok, Err, IsSome, is_some, inl, inr, refl, ap, sym, subst, ◌∙◌, arith}
+use Rattle.std.specs.Cmp.Lexicographic.{bytes_decides}
+use Rattle.std.proofs.lemmas.Bool.{cases_lt}
+use Rattle.std.proofs.lemmas.Bool.Decides.{nat_tests}
+use Rattle.std.proofs.lemmas.List.Sums.{sum_by-cons}
+use Rattle.time_base.specs.declared.ids.DocId.{DocId}
+use Rattle.time_base.specs.declared.posting.Posting.{Posting}
+use Rattle.fold_tokens.proofs.CountLemmas.{itself}
+use Rattle.postings.specs.Lists.{holds, meets, sublist, frequency}
+use Rattle.postings.proofs.Clipping.{one_list_of, outside}
+use Rattle.postings.proofs.Merged.{append-none, append-some}
+use Rattle.stretches.specs.Stretches.{Kind, IsLongest, AreStretches}
+use Rattle.query_lang.specs.Grammar.{Query}
+use Rattle.query_lang.specs.Meaning.{matches, score, words_of}
+use Rattle.query_lang.proofs.Deciding.{agreeing, matches-same, score-same}
+use Rattle.query_eval.specs.Asked.{read_of}
+use Rattle.query_eval.specs.Found.{told}
+use Rattle.query_eval.specs.Spans.{row_kind, scored_at}
+use Rattle.query_eval.specs.declared.part.Part.{Part}
+use Rattle.query_eval.proofs.GivenLemmas.{only_words_matter}
+use Rattle.record_codec.specs.declared.plan.PlanEntry.{PlanEntry}
+use Rattle.sublist_store.specs.Segments.{seconds, EachSegment, HoldsSublist, AreCutsOf}
+use Rattle.sublist_store.specs.Gathering.{Outcome, stored_size}
+use Rattle.sublist_store.specs.Laws.{IsGathered}
+use Rattle.sublist_store.proofs.HeldLemmas.{held_gathered}
+use Rattle.archive_state.specs.Histories.{History, text_at}
+use Rattle.archive_state.specs.Answers.{frequency_at, IsWordList}
+use Rattle.archive_state.specs.Bounds.{MadeAtStands, MadeOverStands, HeldIsUndamaged}
+use Rattle.archive_state.specs.Chosen.{tail_for, IsReadOf, IsReadFor, GathersOf, IsChosenOf, AreChosen}
+use Rattle.archive_state.specs.Holding.{HoldsPlan, HoldsPlans}
+use Rattle.archive_state.specs.Legal.{IsLoadable}
+use Rattle.archive_state.specs.Planning.{IsListUpTo}
+use Rattle.archive_state.specs.Plans.{plan_of}
+use Rattle.archive_state.proofs.BoundLemmas.{of_word, word_has, word_planned, are_cuts}
+
+-- ---- parts of a list
+
+missed : (a b t : ℕ) (p : Posting) → meets a b p ≡ false → a ≤ t → t < b → holds t p ≡ false
+missed a b t p out from to = grind (arith, nat_tests)
+
+-- what stands in a window of a list says how often a document has the word inside it
+pub part_tells : (a b d t : ℕ) (list : List Posting) → a ≤ t → t < b → frequency d t (sublist a b list) ≡ frequency d t list
+part_tells a b d t [] from to = refl
+part_tells a b d t (p ∷ list) from to = go (meets a b p) refl (part_tells a b d t list from to)
+  where
+    neither : (c : Bool) → (if (c && false) then p.tf else frequency d t list) ≡ frequency d t list
+    neither true = refl
+    neither false = refl
+
+    go : (m : Bool) → meets a b p ≡ m → frequency d t (sublist a b list) ≡ frequency d t list
+        → frequency d t (cond m (p ∷ sublist a b list) (sublist a b list)) ≡ (if (p.doc.0 == d && holds t p) then p.tf else frequency d t list)
+    go true e rest = ap (λ (n : ℕ). if (p.doc.0 == d && holds t p) then p.tf else n) rest
+    go false e rest = rest ∙ sym (ap (λ (h : Bool). if (p.doc.0 == d && h) then p.tf else frequency d t list) (missed a b t p e from to) ∙ neither (p.doc.0 == d))
+
+-- where a list has nothing, no part of it has
+part_bare : (keep : Posting → Bool) (d t : ℕ) (list : List Posting) → frequency d t list ≡ 0 → frequency d t (filter keep list) ≡ 0
+part_bare keep d t [] bare = refl
+part_bare keep d t (p ∷ list) bare = go (p.doc.0 == d && holds t p) refl bare (part_bare keep d t list) (keep p)
+  where
+    go : (here : Bool) → (p.doc.0 == d && holds t p) ≡ here → cond here p.tf (frequency d t list) ≡ 0 → (frequency d t list ≡ 0 → frequency d t (filter keep list) ≡ 0)
+        → (m : Bool) → frequency d t (cond m (p ∷ filter keep list) (filter keep list)) ≡ 0
+    go true e bare rest m = absurd (omega (arith, bare, p.counted))
+    go false e bare rest true = ap {B = ℕ} (λ c. cond c p.tf (frequency d t (filter keep list))) e ∙ rest bare
+    go false e bare rest false = rest bare
+
+tail_bare : (b h d t : ℕ) (list : List Posting) → frequency d t list ≡ 0 → frequency d t (tail_for b h list) ≡ 0
+tail_bare b h d t list bare = go (nat_lt h b)
+  where
+    go : (c : Bool) → frequency d t (if c then sublist h (2 ^ 40) list else []) ≡ 0
+    go true = part_bare (meets h (2 ^ 40)) d t list bare
+    go false = refl
+
+tail_tells : (b h d t : ℕ) (list : List Posting) → h ≤ t → t < b → t < 2 ^ 40 → frequency d t (tail_for b h list) ≡ frequency d t list
+tail_tells b h d t list past to now = go (nat_lt h b) refl
+  where
+    go : (c : Bool) → nat_lt h b ≡ c → frequency d t (if c then sublist h (2 ^ 40) list else []) ≡ frequency d t list
+    go true e = part_tells h (2 ^ 40) d t list past now
+    go false e = absurd (grind (arith, nat_tests))
+
+-- ---- a word's list
+
+-- the list says of each time in [a, b) how often a document has the word
+abbrev pub Tells : History → List ℕ → ℕ → ℕ → List Posting → Type 0
+Tells h word a b list = (doc : DocId) (t : ℕ) → a ≤ t → t < b → frequency doc.0 t list ≡ frequency_at h word doc t
+
+-- a live plan of a word whose places hold its sublists
+record IsHeld (h : History) (pages : List ℕ) (word : List ℕ) (plan : PlanEntry) : Type 0 where
+  list : List Posting
+  list_is : IsListUpTo h word plan.horizon.seconds list
+  cuts : AreCutsOf list (seconds plan.cuts) plan.horizon.seconds
+  each : EachSegment (HoldsSublist plan.layout list pages) (seconds plan.cuts) plan.horizon.seconds plan.places
+
+held_for : (h : History) (pages : List ℕ) (word : List ℕ) (plan : PlanEntry) → IsLoadable h → HoldsPlans h pages → plan_of h word ≡ Some plan → IsHeld h pages word plan
+held_for h pages word plan loads held_all live =
+    let horizon = plan.horizon.seconds in
+    let f : ℕ → ℕ → ℕ = λ doc t. frequency_at h word (record { 0 = doc }) t in
+    let held = word_has (λ p. HoldsPlan h pages p) h word plan held_all.each live in
+    let L : List ℕ → Type 0 = λ w. IsListUpTo h w horizon held.list in
+    let H : List Posting → Type 0 = λ l. EachSegment (HoldsSublist plan.layout l pages) (seconds plan.cuts) horizon plan.places in
+    let planned = word_planned h word plan loads live in
+    let same = one_list_of f 0 horizon held.list planned.list (subst L (of_word h word plan live) held.list_is) planned.list_is in
+    record {
+      list = planned.list;
+      list_is = planned.list_is;
+      cuts = are_cuts planned.list plan.fraction plan.cuts plan.horizon planned.list_is.ordered planned.some planned.list_is.inside planned.narrow planned.fit;
+      each = subst H same held.each;
+    }
+
+held_gives : (h : History) (pages : List ℕ) (word : List ℕ) (plan : PlanEntry) (a b : ℕ) (outcome : Outcome) → (held : IsHeld h pages word plan) → GathersOf pages plan a b outcome
+    → IsGathered held.list (seconds plan.cuts) a b plan.horizon.seconds outcome
+held_gives h pages word plan a b outcome held gathers = held_gathered plan.layout held.list pages (seconds plan.cuts) plan.horizon.seconds plan.places a b outcome held.cuts held.each gathers
+
+pub held_undamaged : HeldIsUndamaged
+held_undamaged h pages word a b damage loads held_all damaged =
+    let held = held_for h pages word damaged.plan loads held_all damaged.live in
+    let gathered = held_gives h pages word damaged.plan a b (Err damage) held damaged.shown in
+    let is = gathered.is in
+    cc
+
+-- what is stored tells the times before the horizon, and the tail the others
+joined_tell : (h : History) (word : List ℕ) (a b horizon : ℕ) (sealed stored whole : List Posting) → b ≤ 2 ^ 40 → IsListUpTo h word horizon sealed → IsWordList h word whole
+    → ((d t : ℕ) → a ≤ t → t < b → frequency d t stored ≡ frequency d t sealed) → Tells h word a b (stored ++ tail_for b horizon whole)
+joined_tell h word a b horizon sealed stored whole now up_to all tells doc t from to = elim (cases_lt t horizon) [
+  | inl early ↦ elim (cases_lt 0 (frequency doc.0 t stored)) [
+    | inl some ↦ append-some doc.0 t stored (tail_for b horizon whole) some ∙ tells doc.0 t from to ∙ up_to.same doc.0 t (omega arith) early
+    | inr none ↦
+        let bare : frequency doc.0 t stored ≡ 0 = omega (arith, none) in
+        let zero_at : frequency_at h word doc t ≡ 0 = sym (up_to.same doc.0 t (omega arith) early) ∙ sym (tells doc.0 t from to) ∙ bare in
+        append-none doc.0 t stored (tail_for b horizon whole) bare
+        ∙ tail_bare b horizon doc.0 t whole (all.same doc.0 t (omega arith) (omega (arith, to, now)) ∙ zero_at) ∙ sym zero_at
+  ]
+  | inr past ↦
+      let bare : frequency doc.0 t stored ≡ 0 = tells doc.0 t from to ∙ outside 0 horizon sealed up_to.inside doc.0 t (inr past) in
+      append-none doc.0 t stored (tail_for b horizon whole) bare ∙ tail_tells b horizon doc.0 t whole past to (omega (arith, to, now)) ∙ all.same doc.0 t (omega arith) (omega (arith, to, now))
+]
+
+-- the list that is chosen of a word tells it, and as much is read as should be
+word_chosen : (h : History) (pages : List ℕ) (word : List ℕ) (a b : ℕ) (list : List Posting) (read : ℕ) → b ≤ 2 ^ 40 → IsLoadable h → HoldsPlans h pages
+    → IsChosenOf h pages word (plan_of h word) a b list read → Tells h word a b list × IsReadOf h word (plan_of h word) a b read
+word_chosen h pages word a b list read now loads held_all = go (plan_of h word) refl
+  where
+    go : (o : Option PlanEntry) → plan_of h word ≡ o → IsChosenOf h pages word o a b list read → Tells h word a b list × IsReadOf h word o a b read
+    go None live (whole, all, is, size) = (
+      λ doc t from to. ap (frequency doc.0 t) is ∙ part_tells a b doc.0 t whole from to ∙ all.same doc.0 t (omega arith) (omega (arith, to, now)),
+      (whole, all, size),
+    )
+    go (Some plan) live (stored, whole, n, gathers, all, is, size) =
+        let held = held_for h pages word plan loads held_all live in
+        let gathered = held_gives h pages word plan a b (Ok (stored, n)) held gathers in
+        let outcome = gathered.is in
+        let size_is : ℕ = stored_size a b plan.horizon.seconds held.list (seconds plan.cuts) in
+        let one : List Posting × ℕ = (stored, n) in
+        let other : List Posting × ℕ = (gathered.stored, size_is) in
+        let both : one ≡ other = cc in
+        let same : gathered.stored ≡ stored = sym (ap (λ (x : List Posting × ℕ). x.0) both) in
+        let sizes : n ≡ size_is = ap (λ (x : List Posting × ℕ). x.1) both in
+        let S : List Posting → Type 0 = λ l. (d t : ℕ) → a ≤ t → t < b → frequency d t l ≡ frequency d t held.list in (
+          subst (Tells h word a b) (sym is) (joined_tell h word a b plan.horizon.seconds held.list stored whole now held.list_is all (subst S same gathered.tells)),
+          (held.list, whole, held.list_is, all, omega (arith, size, sizes)),
+        )
+
+-- ---- the words of a query
+
+module _ (h : History) (pages : List ℕ) (a b : ℕ) (now : b ≤ 2 ^ 40) (loads : IsLoadable h) (held_all : HoldsPlans h pages) where
+  -- the parts tell how often a document has each of the words
+  chosen_told : (words : List (List ℕ)) (parts : List Part) (doc : DocId) (t k : ℕ) (d : List ℕ) → a ≤ t → t < b → AreChosen h pages a b words parts → k < length words
+      → told words parts t doc.0 (get_or words k d) ≡ frequency_at h (get_or words k d) doc t
+  chosen_told [] parts doc t k d from to are within = absurd (omega (arith, within))
+  chosen_told (word ∷ words) [] doc t k d from to are within = absurd are
+  chosen_told (word ∷ words) (part ∷ parts) doc t zero d from to are within =
+      ap (λ c. cond c (frequency doc.0 t part.list.items) (told words parts t doc.0 word)) (itself word)
+      ∙ (word_chosen h pages word a b part.list.items part.read now loads held_all are.0).0 doc t from to
+  chosen_told (word ∷ words) (part ∷ parts) doc t (suc k) d from to are within =
+      go (bytes_eq word (get_or words k d)) refl (chosen_told words parts doc t k d from to are.1 (omega (arith, within)))
+    where
+      go : (c : Bool) → bytes_eq word (get_or words k d) ≡ c → told words parts t doc.0 (get_or words k d) ≡ frequency_at h (get_or words k d) doc t
+          → cond c (frequency doc.0 t part.list.items) (told words parts t doc.0 (get_or words k d)) ≡ frequency_at h (get_or words k d) doc t
+      go true e rest =
+          (word_chosen h pages word a b part.list.items part.read now loads held_all are.0).0 doc t from to
+          ∙ ap (λ (w : List ℕ). frequency_at h w doc t) ((bytes_decides word (get_or words k d)).0 e)
+      go false e rest = rest
+
+  chosen_read : (words : List (List ℕ)) (parts : List Part) → AreChosen h pages a b words parts → IsReadFor h a b words (read_of parts)
+  chosen_read [] [] are = refl
+  chosen_read [] (part ∷ parts) are = absurd are
+  chosen_read (word ∷ words) [] are = absurd are
+  chosen_read (word ∷ words) (part ∷ parts) are = (
+    part.read,
+    read_of parts,
+    (word_chosen h pages word a b part.list.items part.read now loads held_all are.0).1,
+    chosen_read words parts are.1,
+    sum_by-cons (λ (p : Part). p.read) part parts,
+  )
+
+  chosen_scored : (query : Query) (parts : List Part) → AreChosen h pages a b (words_of query) parts → (d t : ℕ) → a ≤ t → t < b
+      → scored_at (λ doc t. is_some (text_at h doc t)) (λ doc t. told (words_of query) parts t doc.0) query d t
+      ≡ scored_at (λ doc t. is_some (text_at h doc t)) (λ doc t word. frequency_at h word doc t) query d t
+  chosen_scored query parts are d t from to =
+      let doc : DocId = record { 0 = d } in
+      let f = told (words_of query) parts t doc.0 in
+      let g = λ (word : List ℕ). frequency_at h word doc t in
+      let each = λ (k : ℕ) (w : List ℕ) (within : k < length (words_of query)). chosen_told (words_of query) parts doc t k w from to are within in
+      ap (λ (b : Bool). if (is_some (text_at h doc t) && b) then Some (score query f) else None) (matches-same f g query (agreeing f g query each))
+      ∙ ap (λ (n : ℕ). if (is_some (text_at h doc t) && matches query g) then Some n else None) (score-same f g query each)
+
+-- ---- longest stretches inside a window look at its times alone
+
+module _ {R V : Type 0} (k : Kind R V) (f g : ℕ → ℕ → Option V) (a b : ℕ) (same : (d t : ℕ) → a ≤ t → t < b → f d t ≡ g d t) where
+  longest-same : (r : R) → IsLongest k f a b r → IsLongest k g a b r
+  longest-same r l =
+      let some = k.some r in
+      record {
+        begins = l.begins;
+        ends = l.ends;
+        same = λ t x y. sym (same (k.doc r) t (omega (arith, l.begins, x)) (omega (arith, y, l.ends))) ∙ l.same t x y;
+        new = elim (cases_lt a (k.from r)) [
+          | inr e ↦ inl (omega (arith, l.begins, e))
+          | inl x ↦ elim l.new [
+            | inl e ↦ inl e
+            | inr n ↦ inr (λ e. n (same (k.doc r) (k.from r - 1) (omega (arith, x)) (omega (arith, some, l.ends, x)) ∙ e))
+          ]
+        ];
+        over = elim (cases_lt (k.to r) b) [
+          | inr e ↦ inl (omega (arith, l.ends, e))
+          | inl x ↦ elim l.over [
+            | inl e ↦ inl e
+            | inr n ↦ inr (λ e. n (same (k.doc r) (k.to r) (omega (arith, some, l.begins)) x ∙ e))
+          ]
+        ];
+      }
+
+  pub stretches-same : (rows : List R) → AreStretches k f a b rows → AreStretches k g a b rows
+  stretches-same rows h = record {
+    ordered = h.ordered;
+    longest = λ r c. longest-same r (h.longest r c);
+    covered = λ d t v x y e. h.covered d t v x y (same d t x y ∙ e);
+  }
+
+-- ---- the answers
+
+pub made_at : MadeAtStands
+made_at h pages t query rows read loads held_all now made =
+    let late : t + 1 ≤ 2 ^ 40 = omega (arith, now) in
+    let R : ℕ → Type 0 = λ n. IsReadFor h t (t + 1) (words_of query) n in (
+      only_words_matter (λ doc. IsSome (text_at h doc t)) (λ doc. told (words_of query) made.parts t doc.0) (λ doc word. frequency_at h word doc t) query rows
+          (λ doc k d within. chosen_told h pages t (t + 1) late loads held_all (words_of query) made.parts doc t k d (omega arith) (omega arith) made.are_chosen within) made.rows_are,
+      subst R (sym made.read_is) (chosen_read h pages t (t + 1) late loads held_all (words_of query) made.parts made.are_chosen),
+    )
+
+pub made_over : MadeOverStands
+made_over h pages a b query rows read loads held_all now made =
+    let R : ℕ → Type 0 = λ n. IsReadFor h a b (words_of query) n in (
+      stretches-same row_kind
+          (scored_at (λ doc t. is_some (text_at h doc t)) (λ doc t. told (words_of query) made.parts t doc.0) query)
+          (scored_at (λ doc t. is_some (text_at h doc t)) (λ doc t word. frequency_at h word doc t) query)
+          a b (chosen_scored h pages a b now loads held_all query made.parts made.are_chosen) rows made.rows_are,
+      subst R (sym made.read_is) (chosen_read h pages a b now loads held_all (words_of query) made.parts made.are_chosen),
+    )

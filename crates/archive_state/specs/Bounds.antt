@@ -1,0 +1,41 @@
+-- What follows from the definitions: a planned question is bounded, and what is chosen from pages that hold the live plans is the history's.
+use Rattle.std.specs.Prelude.{◌≡◌, ℕ, ◌+◌, ◌*◌, ◌^◌, ◌<◌, ◌≤◌, List, Some}
+use Rattle.time_base.specs.declared.posting.Posting.{Posting}
+use Rattle.postings.specs.Sizes.{alive_count}
+use Rattle.record_codec.specs.declared.plan.PlanEntry.{PlanEntry}
+use Rattle.sublist_store.specs.Segments.{next_cut, seconds}
+use Rattle.sublist_store.specs.declared.why.Damage.{Damage}
+use Rattle.query_lang.specs.Grammar.{Query}
+use Rattle.query_lang.specs.Meaning.{words_of}
+use Rattle.query_eval.specs.declared.answer.Row.{Row}
+use Rattle.query_eval.specs.declared.spans.SpanRow.{SpanRow}
+use Rattle.archive_state.specs.Histories.{History}
+use Rattle.archive_state.specs.Answers.{IsAnswerAt, IsSpanAnswerAt, IsWordList}
+use Rattle.archive_state.specs.Chosen.{IsReadOf, IsReadFor, IsMadeAt, IsMadeOver, IsDamagedFor}
+use Rattle.archive_state.specs.Holding.{HoldsPlans}
+use Rattle.archive_state.specs.Legal.{IsLoadable}
+use Rattle.archive_state.specs.Plans.{plan_of}
+
+-- From the first cut of a word's plan on, and before its horizon, a question for the word reads at most the plan's factor times as many postings
+-- as hold the time: one for each document alive that has the word.
+abbrev pub PlannedReadsAreBounded : Type 0
+PlannedReadsAreBounded =
+    (h : History) (word : List ℕ) (plan : PlanEntry) (list : List Posting) (t read : ℕ) → IsLoadable h → plan_of h word ≡ Some plan → IsWordList h word list
+    → next_cut (seconds plan.cuts) plan.horizon.seconds ≤ t → t < plan.horizon.seconds → IsReadOf h word (Some plan) t (t + 1) read
+    → read * plan.fraction.under ≤ plan.fraction.over * alive_count t list
+
+-- What is made from pages that hold the live plans is the answer, and costs what it should.
+abbrev pub MadeAtStands : Type 0
+MadeAtStands =
+    (h : History) (pages : List ℕ) (t : ℕ) (query : Query) (rows : List Row) (read : ℕ) → IsLoadable h → HoldsPlans h pages → t < 2 ^ 40
+    → IsMadeAt h pages t query rows read → IsAnswerAt h t query rows × IsReadFor h t (t + 1) (words_of query) read
+
+abbrev pub MadeOverStands : Type 0
+MadeOverStands =
+    (h : History) (pages : List ℕ) (a b : ℕ) (query : Query) (rows : List SpanRow) (read : ℕ) → IsLoadable h → HoldsPlans h pages → b ≤ 2 ^ 40
+    → IsMadeOver h pages a b query rows read → IsSpanAnswerAt h a b query rows × IsReadFor h a b (words_of query) read
+
+-- And in such pages nothing is damaged.
+abbrev pub HeldIsUndamaged : Type 0
+HeldIsUndamaged =
+    (h : History) (pages : List ℕ) (word : List ℕ) (a b : ℕ) (damage : Damage) → IsLoadable h → HoldsPlans h pages → IsDamagedFor h pages word a b damage → ⊥

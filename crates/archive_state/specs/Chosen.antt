@@ -1,0 +1,96 @@
+-- Which postings are read for a query over a window of time, how many they are, and the answer that is made from them. Of a word without a
+-- plan it is its whole list. Of a word with one it is the sublists of the segments that overlap the window, and the word's list from the
+-- horizon on where the window reaches past it.
+use Rattle.std.specs.Prelude.{◌≡◌, ℕ, ◌+◌, ◌^◌, nat_lt, if◌then◌else◌, true, List, [], ◌∷◌, ◌++◌, length, sum_by, Option, Some, None, Ok, Err, IsSome, is_some}
+use Rattle.time_base.specs.declared.posting.Posting.{Posting}
+use Rattle.postings.specs.Lists.{sublist}
+use Rattle.record_codec.specs.declared.plan.PlanEntry.{PlanEntry}
+use Rattle.sublist_store.specs.Segments.{seconds}
+use Rattle.sublist_store.specs.Gathering.{Outcome, Gathers, chosen, stored_size, bytes_of_all}
+use Rattle.sublist_store.specs.declared.why.Damage.{Damage}
+use Rattle.query_lang.specs.Grammar.{Query}
+use Rattle.query_lang.specs.Meaning.{words_of}
+use Rattle.query_eval.specs.Answers.{IsAnswer}
+use Rattle.query_eval.specs.Asked.{read_of}
+use Rattle.query_eval.specs.Found.{told}
+use Rattle.query_eval.specs.Spans.{IsSpanAnswer}
+use Rattle.query_eval.specs.declared.answer.Row.{Row}
+use Rattle.query_eval.specs.declared.part.Part.{Part}
+use Rattle.query_eval.specs.declared.spans.SpanRow.{SpanRow}
+use Rattle.archive_state.specs.Histories.{History, text_at}
+use Rattle.archive_state.specs.Answers.{IsWordList}
+use Rattle.archive_state.specs.Planning.{IsListUpTo}
+use Rattle.archive_state.specs.Plans.{plan_of}
+
+-- ---- how many postings are read, by the history alone
+
+-- the list from the horizon h on, where the window that ends at b reaches past it
+abbrev pub tail_for : ℕ → ℕ → List Posting → List Posting
+tail_for b h list = if nat_lt h b then sublist h (2 ^ 40) list else []
+
+-- how many postings are read of a word for [a, b), by its live plan if it has one
+abbrev pub IsReadOf : History → List ℕ → Option PlanEntry → ℕ → ℕ → ℕ → Type 0
+IsReadOf history word None a b read = (list : List Posting) × IsWordList history word list × (read ≡ length list)
+IsReadOf history word (Some plan) a b read = let h = plan.horizon.seconds in
+    (sealed list : List Posting) × IsListUpTo history word h sealed × IsWordList history word list
+    × (read ≡ stored_size a b h sealed (seconds plan.cuts) + length (tail_for b h list))
+
+-- how many postings are read for some words
+abbrev pub IsReadFor : History → ℕ → ℕ → List (List ℕ) → ℕ → Type 0
+IsReadFor history a b [] read = read ≡ 0
+IsReadFor history a b (word ∷ words) read =
+    (one more : ℕ) × IsReadOf history word (plan_of history word) a b one × IsReadFor history a b words more × (read ≡ one + more)
+
+-- ---- the lists that are chosen, by the history and by what reads of Pages give
+
+-- what is gathered from the places of a plan for [a, b)
+abbrev pub GathersOf : List ℕ → PlanEntry → ℕ → ℕ → Outcome → Type 0
+GathersOf pages plan a b outcome = let h = plan.horizon.seconds in
+    Gathers plan.layout h pages (chosen a b h true (seconds plan.cuts) plan.places) [] 0 outcome
+
+-- the list that is chosen of a word for [a, b), and how many postings are read for it
+abbrev pub IsChosenOf : History → List ℕ → List ℕ → Option PlanEntry → ℕ → ℕ → List Posting → ℕ → Type 0
+IsChosenOf history pages word None a b list read =
+    (whole : List Posting) × IsWordList history word whole × (list ≡ sublist a b whole) × (read ≡ length whole)
+IsChosenOf history pages word (Some plan) a b list read =
+    (stored whole : List Posting) × (n : ℕ) × GathersOf pages plan a b (Ok (stored, n)) × IsWordList history word whole
+    × (list ≡ stored ++ tail_for b plan.horizon.seconds whole) × (read ≡ n + length (tail_for b plan.horizon.seconds whole))
+
+-- these parts are chosen for these words, one by one
+abbrev pub AreChosen : History → List ℕ → ℕ → ℕ → List (List ℕ) → List Part → Type 0
+AreChosen history pages a b [] [] = Unit {0}
+AreChosen history pages a b (word ∷ words) (part ∷ parts) =
+    IsChosenOf history pages word (plan_of history word) a b part.list.items part.read × AreChosen history pages a b words parts
+AreChosen history pages a b [] (part ∷ parts) = ⊥
+AreChosen history pages a b (word ∷ words) [] = ⊥
+
+-- this is damaged of what is read for a word over [a, b): it has a plan, and what is gathered from the plan's places shows it
+pub record IsDamagedFor (history : History) (pages : List ℕ) (word : List ℕ) (a b : ℕ) (damage : Damage) : Type 0 where
+  pub plan : PlanEntry
+  pub live : plan_of history word ≡ Some plan
+  pub shown : GathersOf pages plan a b (Err damage)
+
+-- how many bytes of Pages are read of a word for [a, b), by its live plan if it has one: those of the places that are chosen
+abbrev pub bytes_chosen : Option PlanEntry → ℕ → ℕ → ℕ
+bytes_chosen None a b = 0
+bytes_chosen (Some plan) a b = let h = plan.horizon.seconds in bytes_of_all (chosen a b h true (seconds plan.cuts) plan.places)
+
+-- and of some words
+abbrev pub bytes_for : History → ℕ → ℕ → List (List ℕ) → ℕ
+bytes_for history a b words = sum_by (λ word. bytes_chosen (plan_of history word) a b) words
+
+-- ---- the answers that are made from the lists chosen
+
+-- The answer to a query at a time: the documents alive are the history's, and how often they have a word is told by the lists that are chosen.
+pub record IsMadeAt (history : History) (pages : List ℕ) (t : ℕ) (query : Query) (rows : List Row) (read : ℕ) : Type 0 where
+  pub parts : List Part
+  pub are_chosen : AreChosen history pages t (t + 1) (words_of query) parts
+  pub rows_are : IsAnswer (λ doc. IsSome (text_at history doc t)) (λ doc. told (words_of query) parts t doc.0) query rows
+  pub read_is : read ≡ read_of parts
+
+-- the same over [a, b)
+pub record IsMadeOver (history : History) (pages : List ℕ) (a b : ℕ) (query : Query) (rows : List SpanRow) (read : ℕ) : Type 0 where
+  pub parts : List Part
+  pub are_chosen : AreChosen history pages a b (words_of query) parts
+  pub rows_are : IsSpanAnswer (λ doc t. is_some (text_at history doc t)) (λ doc t. told (words_of query) parts t doc.0) query a b rows
+  pub read_is : read ≡ read_of parts
