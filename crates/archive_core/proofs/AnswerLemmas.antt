@@ -1,110 +1,98 @@
--- The answer by what the lists of a query's words have at a time is the history's.
-use Rattle.std.proofs.Common.{◌≡◌, ◌↔◌, ℕ, zero, suc, ◌<◌, ◌^◌, Bool, true, false, cond, List, [], ◌∷◌, ◌++◌, ◌≤◌, ◌+◌, ◌==◌, ◌&&◌, if◌then◌else◌, length, get_or, Contains, IsSome, refl, ap, sym, subst, ◌∙◌, arith}
-use Rattle.std.specs.Cmp.Lexicographic.{bytes_decides}
-use Rattle.std.specs.Str.{bytes_eq}
-use Rattle.std.proofs.lemmas.Bool.Decides.{nat_tests}
-use Rattle.std.proofs.lemmas.List.Sums.{sum_by-cons}
+-- The answer at a time over the documents that the archive in hand has alive is one over those of the history.
+use Rattle.std.proofs.Common.{◌≡◌, ◌⊎◌, ◌↔◌, ℕ, zero, suc, Bool, true, false, cond, List, [], ◌∷◌, filter, Contains, Option, Some, None, IsSome, is_some, inl, inr, refl, ap, sym, subst, ◌∙◌, arith}
 use Rattle.time_base.specs.declared.ids.DocId.{DocId}
-use Rattle.time_base.specs.declared.time.Time.{Time}
 use Rattle.time_base.specs.declared.text_place.TextPlace.{TextPlace}
-use Rattle.time_base.specs.declared.posting.Posting.{Posting}
-use Rattle.postings.specs.Lists.{holds, meets, sublist, frequency}
-use Rattle.fold_tokens.proofs.CountLemmas.{itself}
-use Rattle.version_store.specs.Changes.{alive}
-use Rattle.version_store.proofs.Mapped.{alive-mapped}
+use Rattle.version_store.specs.declared.change.Change.{Change}
+use Rattle.version_store.specs.Changes.{alive, held_at}
+use Rattle.version_store.proofs.Mapped.{alive-mapped, held_at-mapped, is_some-mapped}
 use Rattle.version_store.proofs.Alive.{alive-has}
+use Rattle.postings.proofs.Order.{next-filter}
 use Rattle.query_lang.specs.Grammar.{Query}
 use Rattle.query_lang.specs.Meaning.{matches, words_of}
-use Rattle.query_eval.specs.Answers.{IsAnswer}
-use Rattle.query_eval.specs.Asked.{read_of}
+use Rattle.query_eval.specs.Answers.{IsAnswer, RanksBefore}
 use Rattle.query_eval.specs.Found.{told, HasHit}
 use Rattle.query_eval.specs.declared.answer.Row.{Row}
 use Rattle.query_eval.specs.declared.part.Part.{Part}
-use Rattle.query_eval.proofs.GivenLemmas.{only_words_matter, only_hits_matter, same_alive}
+use Rattle.query_eval.proofs.GivenLemmas.{only_hits_matter, same_alive}
 use Rattle.archive_state.specs.Histories.{History, changes, text_at}
-use Rattle.archive_state.specs.Answers.{frequency_at, IsAnswerAt, IsWordList, IsReadFor}
-use Rattle.archive_state.proofs.TurnLemmas.{has_word}
 use Rattle.archive_core.specs.States.{ArchiveState, StandsFor}
-use Rattle.archive_core.specs.Texts.{nothing, bare}
-use Rattle.archive_core.specs.Parts.{ArePartsIn}
+use Rattle.archive_core.specs.Texts.{nothing}
 use Rattle.archive_core.proofs.PlaceLemmas.{bare_changes}
 
--- what stands in a window of a list says how often a document has the word inside it
-outside : (a b t : ℕ) (p : Posting) → meets a b p ≡ false → a ≤ t → t < b → holds t p ≡ false
-outside a b t p out from to = grind (arith, nat_tests)
-
-part_tells : (a b d t : ℕ) (list : List Posting) → a ≤ t → t < b → frequency d t (sublist a b list) ≡ frequency d t list
-part_tells a b d t [] from to = refl
-part_tells a b d t (p ∷ list) from to = go (meets a b p) refl (part_tells a b d t list from to)
-  where
-    neither : (c : Bool) → (if (c && false) then p.tf else frequency d t list) ≡ frequency d t list
-    neither true = refl
-    neither false = refl
-
-    go : (m : Bool) → meets a b p ≡ m → frequency d t (sublist a b list) ≡ frequency d t list
-        → frequency d t (cond m (p ∷ sublist a b list) (sublist a b list)) ≡ (if (p.doc.0 == d && holds t p) then p.tf else frequency d t list)
-    go true e rest = ap (λ (n : ℕ). if (p.doc.0 == d && holds t p) then p.tf else n) rest
-    go false e rest = rest ∙ sym (ap (λ (h : Bool). if (p.doc.0 == d && h) then p.tf else frequency d t list) (outside a b t p e from to) ∙ neither (p.doc.0 == d))
-
--- the parts tell how often a document has each of the words
-pub told_is : (a b : ℕ) (h : History) (words : List (List ℕ)) (parts : List Part) (doc : DocId) (t k : ℕ) (d : List ℕ) → a ≤ t → t < b → t < 2 ^ 40 → ArePartsIn a b h words parts → k < length words
-    → told words parts t doc.0 (get_or words k d) ≡ frequency_at h (get_or words k d) doc t
-told_is a b h [] parts doc t k d from to before are within = absurd (omega (arith, within))
-told_is a b h (word ∷ words) [] doc t k d from to before are within = absurd are
-told_is a b h (word ∷ words) (part ∷ parts) doc t zero d from to before are within =
-    ap (λ c. cond c (frequency doc.0 t part.list.items) (told words parts t doc.0 word)) (itself word)
-    ∙ ap (frequency doc.0 t) are.2 ∙ part_tells a b doc.0 t are.0 from to ∙ are.1.same doc.0 t (omega arith) before
-told_is a b h (word ∷ words) (part ∷ parts) doc t (suc k) d from to before are within =
-    go (bytes_eq word (get_or words k d)) refl (told_is a b h words parts doc t k d from to before are.4 (omega (arith, within)))
-  where
-    go : (c : Bool) → bytes_eq word (get_or words k d) ≡ c → told words parts t doc.0 (get_or words k d) ≡ frequency_at h (get_or words k d) doc t
-        → cond c (frequency doc.0 t part.list.items) (told words parts t doc.0 (get_or words k d)) ≡ frequency_at h (get_or words k d) doc t
-    go true e rest =
-        ap (frequency doc.0 t) are.2 ∙ part_tells a b doc.0 t are.0 from to ∙ are.1.same doc.0 t (omega arith) before ∙ ap (λ (w : List ℕ). frequency_at h w doc t) ((bytes_decides word (get_or words k d)).0 e)
-    go false e rest = rest
-
--- the answer by the frequencies that the parts tell
-by_told : (h : History) (query : Query) (parts : List Part) (t : ℕ) (rows : List Row) → t < 2 ^ 40 → ArePartsIn t (t + 1) h (words_of query) parts
-    → IsAnswer (λ doc. IsSome (text_at h doc t)) (λ doc. told (words_of query) parts t doc.0) query rows → IsAnswerAt h t query rows
-by_told h query parts t rows before whole answer =
-    only_words_matter (λ doc. IsSome (text_at h doc t)) (λ doc. told (words_of query) parts t doc.0) (λ doc word. frequency_at h word doc t) query rows
-    (λ doc k d within. told_is t (t + 1) h (words_of query) parts doc t k d (omega arith) (omega arith) before whole within) answer
+-- an archive has a document's version at a time exactly where its history has the text
+pub alive_is : (a : ArchiveState) (h : History) (doc : DocId) (t : ℕ) → StandsFor a h → is_some (held_at doc t a.changes) ≡ is_some (text_at h doc t)
+alive_is a h doc t stands =
+    sym (ap is_some (held_at-mapped (nothing {A = TextPlace}) doc t a.changes) ∙ is_some-mapped (nothing {A = TextPlace}) (held_at doc t a.changes))
+    ∙ ap (λ (cs : List (Change (Unit {0}))). is_some (held_at doc t cs)) (bare_changes 16 h a.changes stands.changes_are)
+    ∙ ap is_some (held_at-mapped (nothing {A = List ℕ}) doc t (changes h)) ∙ is_some-mapped (nothing {A = List ℕ}) (text_at h doc t)
 
 -- over all documents alive
-pub by_alive : (a : ArchiveState) (h : History) (at : Time) (query : Query) (parts : List Part) (docs : List DocId) (rows : List Row) → StandsFor a h → ArePartsIn at.seconds (at.seconds + 1) h (words_of query) parts
-    → docs ≡ alive at.seconds a.changes → IsAnswer (λ doc. Contains docs doc) (λ doc. told (words_of query) parts at.seconds doc.0) query rows → IsAnswerAt h at.seconds query rows
-by_alive a h at query parts docs rows stands whole is answer =
-    let same : docs ≡ alive at.seconds (changes h) =
-    is ∙ sym (alive-mapped (nothing {A = TextPlace}) at.seconds a.changes) ∙ ap (alive at.seconds) (bare_changes 16 h a.changes stands.changes_are) ∙ alive-mapped (nothing {A = List ℕ}) at.seconds (changes h) in
-    let each : (doc : DocId) → Contains docs doc ↔ IsSome (text_at h doc at.seconds) =
-    λ doc. let has = alive-has at.seconds (changes h) doc in (λ c. has.0 (subst (λ l. Contains l doc) same c), λ s. subst (λ l. Contains l doc) (sym same) (has.1 s)) in
-    by_told h query parts at.seconds rows at.before_now whole
-    (same_alive (λ doc. IsSome (text_at h doc at.seconds)) (λ doc. Contains docs doc) (λ doc. told (words_of query) parts at.seconds doc.0) query rows each answer)
+pub by_alive : (a : ArchiveState) (h : History) (t : ℕ) (query : Query) (often : DocId → List ℕ → ℕ) (docs : List DocId) (rows : List Row) → StandsFor a h → docs ≡ alive t a.changes
+    → IsAnswer (λ doc. Contains docs doc) often query rows → IsAnswer (λ doc. IsSome (text_at h doc t)) often query rows
+by_alive a h t query often docs rows stands is answer =
+    let same : docs ≡ alive t (changes h) =
+    is ∙ sym (alive-mapped (nothing {A = TextPlace}) t a.changes) ∙ ap (alive t) (bare_changes 16 h a.changes stands.changes_are) ∙ alive-mapped (nothing {A = List ℕ}) t (changes h) in
+    let each : (doc : DocId) → Contains docs doc ↔ IsSome (text_at h doc t) =
+    λ doc. let has = alive-has t (changes h) doc in (λ c. has.0 (subst (λ l. Contains l doc) same c), λ s. subst (λ l. Contains l doc) (sym same) (has.1 s)) in
+    same_alive (λ doc. IsSome (text_at h doc t)) (λ doc. Contains docs doc) often query rows each answer
 
--- over those that have a word, where others don't match
-pub by_hits : (h : History) (at : Time) (query : Query) (parts : List Part) (rows : List Row) → ArePartsIn at.seconds (at.seconds + 1) h (words_of query) parts → matches query (λ _. 0) ≡ false
-    → IsAnswer (HasHit (words_of query) parts at.seconds) (λ doc. told (words_of query) parts at.seconds doc.0) query rows → IsAnswerAt h at.seconds query rows
-by_hits h at query parts rows whole bare answer =
-    by_told h query parts at.seconds rows at.before_now whole
-    (only_hits_matter (λ doc. IsSome (text_at h doc at.seconds)) (HasHit (words_of query) parts at.seconds) (λ doc. told (words_of query) parts at.seconds doc.0) query rows bare
-    (λ doc hit.
-    let word = get_or (words_of query) hit.place [] in
-    has_word word (text_at h doc at.seconds) (omega (arith, hit.some, told_is at.seconds (at.seconds + 1) h (words_of query) parts doc at.seconds hit.place [] (omega arith) (omega arith) at.before_now whole hit.within)))
-    (λ doc k is within some. record { place = k; within = within; some = some })
-    answer)
+-- ---- over those that have a word, where others don't match, and are alive
 
--- and as much is read as the words' lists have
-pub parts_read : (a b : ℕ) (h : History) (words : List (List ℕ)) (parts : List Part) → ArePartsIn a b h words parts → IsReadFor h words (read_of parts)
-parts_read a b h [] [] are = refl
-parts_read a b h [] (part ∷ parts) are = absurd are
-parts_read a b h (word ∷ words) [] are = absurd are
-parts_read a b h (word ∷ words) (part ∷ parts) are =
-    (are.0, read_of parts, are.1, parts_read a b h words parts are.4, omega (arith, sum_by-cons (λ (p : Part). p.read) part parts, are.3))
+trans : (a b c : Row) → RanksBefore a b → RanksBefore b c → RanksBefore a c
+trans a b c x y = grind arith
 
--- one word more
-pub parts_more : (a b : ℕ) (h : History) (words : List (List ℕ)) (parts : List Part) (word : List ℕ) (list : List Posting) (part : Part) → ArePartsIn a b h words parts → IsWordList h word list
-    → part.list.items ≡ sublist a b list → part.read ≡ length list → ArePartsIn a b h (words ++ word ∷ []) (parts ++ part ∷ [])
-parts_more a b h [] [] word list part are is same read = (list, is, same, read, tt)
-parts_more a b h [] (q ∷ parts) word list part are is same read = absurd are
-parts_more a b h (w ∷ words) [] word list part are is same read = absurd are
-parts_more a b h (w ∷ words) (q ∷ parts) word list part are is same read = (are.0, are.1, are.2, are.3, parts_more a b h words parts word list part are.4 is same read)
+first_or_later : (x y : Row) (rows : List Row) → Contains (x ∷ rows) y → (x ≡ y) ⊎ Contains rows y
+first_or_later x y rows (zero, l, e) = inl e
+first_or_later x y rows (suc k, l, e) = inr (k, omega (arith, l), e)
+
+here : (x : Row) (rows : List Row) → Contains (x ∷ rows) x
+here x rows = (zero, omega arith, refl)
+
+later : (x y : Row) (rows : List Row) → Contains rows y → Contains (x ∷ rows) y
+later x y rows (k, l, e) = (suc k, omega (arith, l), e)
+
+passed : (p : Row → Bool) (rows : List Row) (row : Row) → Contains (filter p rows) row ↔ (Contains rows row × (p row ≡ true))
+passed p [] row = (λ c. absurd (omega (arith, c.1)), λ c. c.0)
+passed p (x ∷ rows) row = go (p x) refl (passed p rows row)
+  where
+    go : (b : Bool) → p x ≡ b → (Contains (filter p rows) row ↔ (Contains rows row × (p row ≡ true))) → Contains (cond b (x ∷ filter p rows) (filter p rows)) row ↔ (Contains (x ∷ rows) row × (p row ≡ true))
+    go true e rest = (
+      λ c. elim (first_or_later x row (filter p rows) c) [ inl i ↦ (subst (λ y. Contains (x ∷ rows) y) i (here x rows), sym (ap p i) ∙ e) | inr k ↦ (let m = rest.0 k in (later x row rows m.0, m.1)) ],
+      λ c. elim (first_or_later x row rows c.0) [ inl i ↦ subst (λ y. Contains (x ∷ filter p rows) y) i (here x (filter p rows)) | inr k ↦ later x row (filter p rows) (rest.1 (k, c.1)) ],
+    )
+    go false e rest = (
+      λ c. let m = rest.0 c in (later x row rows m.0, m.1),
+      λ c. elim (first_or_later x row rows c.0) [ inl i ↦ absurd (let both : true ≡ false = sym c.1 ∙ ap p (sym i) ∙ e in cc) | inr k ↦ rest.1 (k, c.1) ],
+    )
+
+-- an answer without the rows of documents that aren't alive
+only_alive : (IsGiven : DocId → Type 0) (alive : DocId → Bool) (often : DocId → List ℕ → ℕ) (query : Query) (rows : List Row) → IsAnswer IsGiven often query rows
+    → IsAnswer (λ doc. IsGiven doc × (alive doc ≡ true)) often query (filter (λ row. alive row.doc) rows)
+only_alive IsGiven alive often query rows answer = record {
+  ranked = next-filter RanksBefore (λ row. alive row.doc) trans rows answer.ranked;
+  each = λ row. let both = passed (λ (r : Row). alive r.doc) rows row in (
+    λ c. let m = both.0 c in let r = (answer.each row).0 m.0 in record { alive = (r.alive, m.1); matching = r.matching; scored = r.scored },
+    λ r. both.1 ((answer.each row).1 (record { alive = r.alive.0; matching = r.matching; scored = r.scored }), r.alive.1),
+  );
+}
+
+pub by_hits : (a : ArchiveState) (h : History) (t : ℕ) (query : Query) (parts : List Part) (rows left : List Row) → StandsFor a h → matches query (λ _. 0) ≡ false
+    → left ≡ filter (λ row. is_some (held_at row.doc t a.changes)) rows
+    → IsAnswer (HasHit (words_of query) parts t) (λ doc. told (words_of query) parts t doc.0) query rows
+    → IsAnswer (λ doc. IsSome (text_at h doc t)) (λ doc. told (words_of query) parts t doc.0) query left
+by_hits a h t query parts rows left stands bare is answer =
+    let alive : DocId → Bool = λ doc. is_some (held_at doc t a.changes) in
+    let often = λ (doc : DocId). told (words_of query) parts t doc.0 in
+    let A : List Row → Type 0 = λ l. IsAnswer (λ doc. HasHit (words_of query) parts t doc × (alive doc ≡ true)) often query l in
+    only_hits_matter (λ doc. IsSome (text_at h doc t)) (λ doc. HasHit (words_of query) parts t doc × (alive doc ≡ true)) often query left bare
+    (λ doc given. some_is (text_at h doc t) (sym (alive_is a h doc t stands) ∙ given.1))
+    (λ doc k some within has. (record { place = k; within = within; some = has }, alive_is a h doc t stands ∙ is_there (text_at h doc t) some))
+    (subst A (sym is) (only_alive (HasHit (words_of query) parts t) alive often query rows answer))
+  where
+    some_is : (o : Option (List ℕ)) → is_some o ≡ true → IsSome o
+    some_is None e = absurd cc
+    some_is (Some text) e = refl
+
+    is_there : (o : Option (List ℕ)) → IsSome o → is_some o ≡ true
+    is_there None e = absurd cc
+    is_there (Some text) e = refl

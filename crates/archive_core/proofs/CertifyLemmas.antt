@@ -38,6 +38,7 @@ use Rattle.archive_state.proofs.LiveLemmas.{live_planned}
 use Rattle.archive_core.specs.States.{ArchiveState, StandsFor, IsKept}
 use Rattle.archive_core.specs.Shelves.{IsPlanAt}
 use Rattle.archive_core.specs.Takes.{Starved, Faulted, Takes, proposed}
+use Rattle.sublist_store.specs.declared.why.Damage.{Damage}
 use Rattle.archive_core.specs.declared.error.AskError.{AskError}
 use Rattle.archive_core.specs.declared.error.AskError.TheVariants as asks
 use Rattle.archive_core.proofs.ShelfLemmas.{plan_found, none_found}
@@ -177,15 +178,17 @@ other_live h o plan kind reply is kind_is shows =
 
 -- a certificate that was asked for
 pub takes_certificate : (h : History) (phrase : List ℕ) (r : Result Proposal AskError) (d : DiskState) (a : ArchiveState)
-    → ((why : Refusal) → r ≡ Err (asks.Refused why) → Certifies h phrase (Refused why)) → IfOk r (λ p. Certifies h phrase (Proposed p.segments.items p.nodes.items p.space))
+    → ((why : Refusal) → r ≡ Err (asks.Refused why) → Certifies h phrase (Refused why)) → ((damage : Damage) → r ≡ Err (asks.Damaged damage) → ⊥)
+    → IfOk r (λ p. Certifies h phrase (Proposed p.segments.items p.nodes.items p.space))
     → IsKept d a h → Takes h (items.Command (commands.Certificate phrase)) (proposed r) d d a
-takes_certificate h phrase (Ok p) d a refused shows kept =
+takes_certificate h phrase (Ok p) d a refused undamaged shows kept =
     takes_question h (items.Command (commands.Certificate phrase)) (Proposed p.segments.items p.nodes.items p.space) (proposed (Ok p)) d d a (refl, shows) refl kept refl
-takes_certificate h phrase (Err (asks.Refused why)) d a refused shows kept =
+takes_certificate h phrase (Err (asks.Refused why)) d a refused undamaged shows kept =
     takes_question h (items.Command (commands.Certificate phrase)) (Refused why) (proposed (Err (asks.Refused why))) d d a (refl, refused why refl) refl kept refl
-takes_certificate h phrase (Err asks.Failed) d a refused shows kept =
+takes_certificate h phrase (Err asks.Failed) d a refused undamaged shows kept =
     let any = each_certifies h phrase kept.legal in
     takes_question h (items.Command (commands.Certificate phrase)) any.0 Faulted d d a (refl, any.1) refl kept tt
-takes_certificate h phrase (Err asks.Memory) d a refused shows kept =
+takes_certificate h phrase (Err (asks.Damaged damage)) d a refused undamaged shows kept = absurd (undamaged damage refl)
+takes_certificate h phrase (Err asks.Memory) d a refused undamaged shows kept =
     let any = each_certifies h phrase kept.legal in
     takes_question h (items.Command (commands.Certificate phrase)) any.0 Starved d d a (refl, any.1) refl kept tt

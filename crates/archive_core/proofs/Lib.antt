@@ -16,4 +16,5 @@ pub mod ShelfLemmas
 pub mod StoreLemmas
 pub mod StandLemmas
 pub mod CertifyLemmas
+pub mod ChosenLemmas
 pub mod DraftLemmas

@@ -37,6 +37,7 @@ use Rattle.archive_core.specs.States.{ArchiveState, StandsFor, IsKept}
 use Rattle.archive_core.specs.Sealing.{IsSealed}
 use Rattle.archive_core.specs.Texts.{nothing}
 use Rattle.archive_core.specs.Takes.{Starved, Faulted, Takes, proposed}
+use Rattle.sublist_store.specs.declared.why.Damage.{Damage}
 use Rattle.archive_core.specs.declared.error.AskError.{AskError}
 use Rattle.archive_core.specs.declared.error.AskError.TheVariants as asks
 use Rattle.archive_core.proofs.IndexLemmas.{words_are}
@@ -179,16 +180,17 @@ phrase_refused h phrase factor why of =
 -- a proposal that was asked for
 pub takes_propose : (h : History) (phrase : List ℕ) (factor : Fraction) (r : Result Proposal AskError) (d : DiskState) (a : ArchiveState)
     → ((why : Refusal) → r ≡ Err (asks.Refused why) → Proposes h phrase factor (Refused why))
-    → IfOk r (λ p. Proposes h phrase factor (Proposed p.segments.items p.nodes.items p.space))
+    → ((damage : Damage) → r ≡ Err (asks.Damaged damage) → ⊥) → IfOk r (λ p. Proposes h phrase factor (Proposed p.segments.items p.nodes.items p.space))
     → IsKept d a h → Takes h (items.Command (commands.Propose phrase factor)) (proposed r) d d a
-takes_propose h phrase factor (Ok p) d a refused proposes kept =
+takes_propose h phrase factor (Ok p) d a refused undamaged proposes kept =
     takes_question h (items.Command (commands.Propose phrase factor)) (Proposed p.segments.items p.nodes.items p.space) (proposed (Ok p)) d d a (refl, proposes) refl kept refl
-takes_propose h phrase factor (Err (asks.Refused why)) d a refused proposes kept =
+takes_propose h phrase factor (Err (asks.Refused why)) d a refused undamaged proposes kept =
     takes_question h (items.Command (commands.Propose phrase factor)) (Refused why) (proposed (Err (asks.Refused why))) d d a (refl, refused why refl) refl kept refl
-takes_propose h phrase factor (Err asks.Failed) d a refused proposes kept =
+takes_propose h phrase factor (Err asks.Failed) d a refused undamaged proposes kept =
     let any = each_proposes h phrase factor kept.legal in
     takes_question h (items.Command (commands.Propose phrase factor)) any.0 Faulted d d a (refl, any.1) refl kept tt
-takes_propose h phrase factor (Err asks.Memory) d a refused proposes kept =
+takes_propose h phrase factor (Err (asks.Damaged damage)) d a refused undamaged proposes kept = absurd (undamaged damage refl)
+takes_propose h phrase factor (Err asks.Memory) d a refused undamaged proposes kept =
     let any = each_proposes h phrase factor kept.legal in
     takes_question h (items.Command (commands.Propose phrase factor)) any.0 Starved d d a (refl, any.1) refl kept tt
 
@@ -203,6 +205,7 @@ one_error a b e = ap (error_of a) e
 abbrev why_of : Refusal → AskError → Refusal
 why_of other (asks.Refused why) = why
 why_of other asks.Failed = other
+why_of other (asks.Damaged damage) = other
 why_of other asks.Memory = other
 
 pub one_why : {T : Type 0} (a b : Refusal) → ◌≡◌ {A = Result T AskError} (Err (asks.Refused a)) (Err (asks.Refused b)) → b ≡ a

@@ -210,15 +210,18 @@ plans_refused h phrase factor (asks.Refused because) r a b why not refused stand
       subst (λ (s : ArchiveState). StandsFor s h) (sym not.1) stands,
     )
 plans_refused h phrase factor asks.Failed r a b why not refused stands is = let one = not.0 in absurd cc
+plans_refused h phrase factor (asks.Damaged damage) r a b why not refused stands is = let one = not.0 in absurd cc
 plans_refused h phrase factor asks.Memory r a b why not refused stands is = let one = not.0 in absurd cc
 
 -- what was not drafted is refused, or there was no memory
 pub drafted_never : (Q : Type 0) (reason : AskError) (r : Result PlanReport ChangeError) (a b : ArchiveState) → NotDrafted reason r a b → IsOk r ⊎ (r ≡ Err changes.Failed) → Q
 drafted_never Q (asks.Refused because) r a b not (inl ok) = let bad = subst (λ (s : Result PlanReport ChangeError). IsOk s) not.0 ok in absurd cc
 drafted_never Q asks.Failed r a b not (inl ok) = let bad = subst (λ (s : Result PlanReport ChangeError). IsOk s) not.0 ok in absurd cc
+drafted_never Q (asks.Damaged damage) r a b not (inl ok) = let bad = subst (λ (s : Result PlanReport ChangeError). IsOk s) not.0 ok in absurd cc
 drafted_never Q asks.Memory r a b not (inl ok) = let bad = subst (λ (s : Result PlanReport ChangeError). IsOk s) not.0 ok in absurd cc
 drafted_never Q (asks.Refused because) r a b not (inr failed) = let one = not.0 in absurd cc
 drafted_never Q asks.Failed r a b not (inr failed) = let one = not.0 in absurd cc
+drafted_never Q (asks.Damaged damage) r a b not (inr failed) = let one = not.0 in absurd cc
 drafted_never Q asks.Memory r a b not (inr failed) = let one = not.0 in absurd cc
 
 -- a plan was written, or a part of it: what it is, and what each image left stands for

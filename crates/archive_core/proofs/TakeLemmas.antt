@@ -1,5 +1,5 @@
 -- A call that carries out an item is a step of the abstract machine.
-use Rattle.std.proofs.Common.{◌≡◌, ℕ, List, [], ◌∷◌, ◌++◌, length, Option, Result, Ok, Err, OnOk, IfOk, refl, inl, inr, ap, subst, sym, arith, length-append}
+use Rattle.std.proofs.Common.{◌≡◌, ◌⊎◌, ℕ, List, [], ◌∷◌, ◌++◌, length, Option, Result, Ok, Err, OnOk, IfOk, IsOk, refl, inl, inr, ap, subst, sym, arith, length-append, append-nil}
 use Rattle.std.specs.Option.{option_map}
 use Rattle.machine_model.specs.Areas.{Bytes}
 use Rattle.machine_model.specs.Images.{MayLeave}
@@ -12,20 +12,30 @@ use Rattle.commands.specs.declared.command.Command.TheVariants as commands
 use Rattle.commands.specs.declared.command.Item.{Item}
 use Rattle.commands.specs.declared.command.Item.TheVariants as items
 use Rattle.record_codec.specs.declared.entry.Entry.{Entry}
-use Rattle.query_lang.specs.Grammar.{IsRead}
+use Rattle.query_lang.specs.Grammar.{Query, IsRead}
+use Rattle.archive_state.specs.Chosen.{IsMadeAt, IsMadeOver}
+use Rattle.archive_state.specs.Legal.{IsLoadable}
+use Rattle.archive_state.proofs.ChosenLemmas.{made_at, made_over}
 use Rattle.query_lang.specs.Tokens.{key_of}
 use Rattle.query_eval.specs.declared.answer.Answer.{Answer}
+use Rattle.query_eval.specs.declared.spans.SpanAnswer.{SpanAnswer}
+use Rattle.sublist_store.specs.declared.why.Damage.{Damage}
+use Rattle.time_base.specs.declared.time.Span.{Span}
 use Rattle.archive_state.specs.declared.refusal.Refusal.{Refusal}
 use Rattle.archive_state.specs.declared.refusal.Refusal.TheVariants as refusals
 use Rattle.archive_state.specs.Histories.{History, text_at}
 use Rattle.archive_state.specs.Steps as machine
-use Rattle.archive_state.specs.Steps.{Reply, Accepted, Refused, Found, Shown, Finds, Step}
+use Rattle.archive_state.specs.Steps.{Reply, Accepted, Refused, Found, Spanned, Shown, Finds, Spans, Step}
 use Rattle.archive_state.specs.Stands.{EachStands, bodies_of}
-use Rattle.archive_state.proofs.TurnLemmas.{adds_turn, each_finds}
-use Rattle.archive_core.specs.States.{ArchiveState, IsKept}
+use Rattle.archive_state.proofs.TurnLemmas.{adds_turn, each_finds, each_spans}
+use Rattle.archive_core.specs.States.{ArchiveState, StandsFor, IsKept}
+use Rattle.archive_core.specs.Storing.{NotDrafted}
+use Rattle.archive_core.specs.declared.storing.PlanReport.{PlanReport}
+use Rattle.record_codec.specs.declared.plan.PlanEntry.{PlanEntry}
+use Rattle.record_codec.specs.declared.entry.Entry.TheVariants as entries
 use Rattle.archive_core.specs.Adding.{Adds}
 use Rattle.archive_core.specs.Changing.{LeadsTo}
-use Rattle.archive_core.specs.Takes.{Ending, Replied, Starved, Faulted, Takes, changed, found, shown}
+use Rattle.archive_core.specs.Takes.{Ending, Replied, Starved, Faulted, Spoiled, Takes, changed, found, spanned, shown}
 use Rattle.archive_core.specs.declared.error.ChangeError.{ChangeError}
 use Rattle.archive_core.specs.declared.error.ChangeError.TheVariants as changes
 use Rattle.archive_core.specs.declared.error.AskError.{AskError}
@@ -100,6 +110,7 @@ abbrev pub Gives : Reply → Ending → Type 0
 Gives reply (Replied given) = reply ≡ given
 Gives reply Starved = Unit {0}
 Gives reply Faulted = Unit {0}
+Gives reply (Spoiled damage) = ⊥
 
 -- a question, which leaves the history as it is
 pub takes_question : (h : History) (item : Item) (reply : Reply) (ending : Ending) (old new : DiskState) (a : ArchiveState)
@@ -108,34 +119,108 @@ takes_question h item reply (Replied given) old new a step same kept gives =
     record { turn = record { reply = reply; next = h }; step = step; leads = reads_lead h old new a kept same; ends = (gives, reads_keep h old new a kept same) }
 takes_question h item reply Starved old new a step same kept gives =
     record { turn = record { reply = reply; next = h }; step = step; leads = reads_lead h old new a kept same; ends = kept_stands new a h (reads_keep h old new a kept same) }
+takes_question h item reply (Spoiled damage) old new a step same kept gives = absurd gives
 takes_question h item reply Faulted old new a step same kept gives =
     record { turn = record { reply = reply; next = h }; step = step; leads = reads_lead h old new a kept same; ends = tt }
 
 -- a query that was asked
-pub takes_find : (h : History) (at : Time) (text : List ℕ) (r : Result Answer AskError) (d : DiskState) (a : ArchiveState)
+pub takes_find : (h : History) (at : Time) (text : List ℕ) (r : Result Answer AskError) (old new : DiskState) (a : ArchiveState)
     → ((why : Refusal) → r ≡ Err (asks.Refused why) → (place : ℕ) × IsRead key_of text (Err place) × (why ≡ refusals.BadQuery place))
-    → IfOk r (λ answer. Finds h at text (Found answer.rows.items answer.read))
-    → IsKept d a h → Takes h (items.Command (commands.Find at text)) (found r) d d a
-takes_find h at text (Ok answer) d a refused finds kept =
-    takes_question h (items.Command (commands.Find at text)) (Found answer.rows.items answer.read) (found (Ok answer)) d d a (refl, finds) refl kept refl
-takes_find h at text (Err (asks.Refused why)) d a refused finds kept =
+    → ((damage : Damage) → r ≡ Err (asks.Damaged damage) → ⊥) → IfOk r (λ answer. Finds h at text (Found answer.rows.items answer.read))
+    → OnlyReads old new → IsKept old a h → Takes h (items.Command (commands.Find at text)) (found r) old new a
+takes_find h at text (Ok answer) old new a refused undamaged finds same kept =
+    takes_question h (items.Command (commands.Find at text)) (Found answer.rows.items answer.read) (found (Ok answer)) old new a (refl, finds) same kept refl
+takes_find h at text (Err (asks.Refused why)) old new a refused undamaged finds same kept =
     let (place, read, is) = refused why refl in
-    takes_question h (items.Command (commands.Find at text)) (Refused (refusals.BadQuery place)) (found (Err (asks.Refused why))) d d a (refl, (Err place, read, refl)) refl kept (sym (ap Refused is))
-takes_find h at text (Err asks.Failed) d a refused finds kept =
+    takes_question h (items.Command (commands.Find at text)) (Refused (refusals.BadQuery place)) (found (Err (asks.Refused why))) old new a (refl, (Err place, read, refl)) same kept (sym (ap Refused is))
+takes_find h at text (Err (asks.Damaged damage)) old new a refused undamaged finds same kept = absurd (undamaged damage refl)
+takes_find h at text (Err asks.Failed) old new a refused undamaged finds same kept =
     let any = each_finds h at text kept.legal in
-    takes_question h (items.Command (commands.Find at text)) any.0 Faulted d d a (refl, any.1) refl kept tt
-takes_find h at text (Err asks.Memory) d a refused finds kept =
+    takes_question h (items.Command (commands.Find at text)) any.0 Faulted old new a (refl, any.1) same kept tt
+takes_find h at text (Err asks.Memory) old new a refused undamaged finds same kept =
     let any = each_finds h at text kept.legal in
-    takes_question h (items.Command (commands.Find at text)) any.0 Starved d d a (refl, any.1) refl kept tt
+    takes_question h (items.Command (commands.Find at text)) any.0 Starved old new a (refl, any.1) same kept tt
+
+-- a query that was asked over a window
+pub takes_between : (h : History) (span : Span) (text : List ℕ) (r : Result SpanAnswer AskError) (old new : DiskState) (a : ArchiveState)
+    → ((why : Refusal) → r ≡ Err (asks.Refused why) → (place : ℕ) × IsRead key_of text (Err place) × (why ≡ refusals.BadQuery place))
+    → ((damage : Damage) → r ≡ Err (asks.Damaged damage) → ⊥) → IfOk r (λ answer. Spans h span text (Spanned answer.rows.items answer.read))
+    → OnlyReads old new → IsKept old a h → Takes h (items.Command (commands.Between span text)) (spanned r) old new a
+takes_between h span text (Ok answer) old new a refused undamaged spans same kept =
+    takes_question h (items.Command (commands.Between span text)) (Spanned answer.rows.items answer.read) (spanned (Ok answer)) old new a (refl, spans) same kept refl
+takes_between h span text (Err (asks.Refused why)) old new a refused undamaged spans same kept =
+    let (place, read, is) = refused why refl in
+    takes_question h (items.Command (commands.Between span text)) (Refused (refusals.BadQuery place)) (spanned (Err (asks.Refused why))) old new a (refl, (Err place, read, refl)) same kept (sym (ap Refused is))
+takes_between h span text (Err (asks.Damaged damage)) old new a refused undamaged spans same kept = absurd (undamaged damage refl)
+takes_between h span text (Err asks.Failed) old new a refused undamaged spans same kept =
+    let any = each_spans h span text kept.legal in
+    takes_question h (items.Command (commands.Between span text)) any.0 Faulted old new a (refl, any.1) same kept tt
+takes_between h span text (Err asks.Memory) old new a refused undamaged spans same kept =
+    let any = each_spans h span text kept.legal in
+    takes_question h (items.Command (commands.Between span text)) any.0 Starved old new a (refl, any.1) same kept tt
 
 -- a version that was asked for
 pub takes_show : {T : Type 0} (bytes : T → List ℕ) (h : History) (doc : DocId) (at : Time) (r : Result (Option T) AskError) (old new : DiskState) (a : ArchiveState)
-    → ((why : Refusal) → r ≡ Err (asks.Refused why) → ⊥) → IfOk r (λ text. option_map bytes text ≡ text_at h doc at.seconds)
+    → ((why : Refusal) → r ≡ Err (asks.Refused why) → ⊥) → ((damage : Damage) → r ≡ Err (asks.Damaged damage) → ⊥) → IfOk r (λ text. option_map bytes text ≡ text_at h doc at.seconds)
     → OnlyReads old new → IsKept old a h → Takes h (items.Command (commands.Show doc at)) (shown bytes r) old new a
-takes_show bytes h doc at (Ok text) old new a never is same kept =
+takes_show bytes h doc at (Ok text) old new a never undamaged is same kept =
     takes_question h (items.Command (commands.Show doc at)) (Shown (text_at h doc at.seconds)) (shown bytes (Ok text)) old new a (refl, refl) same kept (ap Shown (sym is))
-takes_show bytes h doc at (Err (asks.Refused why)) old new a never is same kept = absurd (never why refl)
-takes_show bytes h doc at (Err asks.Failed) old new a never is same kept =
+takes_show bytes h doc at (Err (asks.Refused why)) old new a never undamaged is same kept = absurd (never why refl)
+takes_show bytes h doc at (Err asks.Failed) old new a never undamaged is same kept =
     takes_question h (items.Command (commands.Show doc at)) (Shown (text_at h doc at.seconds)) Faulted old new a (refl, refl) same kept tt
-takes_show bytes h doc at (Err asks.Memory) old new a never is same kept =
+takes_show bytes h doc at (Err (asks.Damaged damage)) old new a never undamaged is same kept = absurd (undamaged damage refl)
+takes_show bytes h doc at (Err asks.Memory) old new a never undamaged is same kept =
     takes_question h (items.Command (commands.Show doc at)) (Shown (text_at h doc at.seconds)) Starved old new a (refl, refl) same kept tt
+
+-- an answer that was made from the lists chosen, in pages that hold the live plans
+pub finds_made : (h : History) (pages : List ℕ) (at : Time) (text : List ℕ) (B : Answer → Query → Type 0) (r : Result Answer AskError) → IsLoadable h → HoldsPlans h pages
+    → IfOk r (λ answer. (query : Query) × IsRead key_of text (Ok query) × IsMadeAt h pages at.seconds query answer.rows.items answer.read × B answer query)
+    → IfOk r (λ answer. Finds h at text (Found answer.rows.items answer.read))
+finds_made h pages at text B (Ok answer) loads held (query, read, made, rest) =
+    let stands = made_at h pages at.seconds query answer.rows.items answer.read loads held at.before_now made in
+    (Ok query, read, (answer.rows.items, answer.read, stands.0, stands.1, refl))
+finds_made h pages at text B (Err e) loads held made = made
+
+pub spans_made : (h : History) (pages : List ℕ) (span : Span) (text : List ℕ) (B : SpanAnswer → Query → Type 0) (r : Result SpanAnswer AskError) → IsLoadable h → HoldsPlans h pages
+    → IfOk r (λ answer. (query : Query) × IsRead key_of text (Ok query) × IsMadeOver h pages span.from span.to query answer.rows.items answer.read × B answer query)
+    → IfOk r (λ answer. Spans h span text (Spanned answer.rows.items answer.read))
+spans_made h pages span text B (Ok answer) loads held (query, read, made, rest) =
+    let stands = made_over h pages span.from span.to query answer.rows.items answer.read loads held span.in_time made in
+    (Ok query, read, (answer.rows.items, answer.read, stands.0, stands.1, refl))
+spans_made h pages span text B (Err e) loads held made = made
+
+-- ---- what an archive stands for begins with what it stood for
+
+abbrev pub GoesOn : {T : Type 0} → History → Result T ChangeError → ArchiveState → Type 0
+GoesOn h r b = IsOk r ⊎ ((why : Refusal) × (r ≡ Err (changes.Refused why))) → (more : History) × StandsFor b (h ++ more)
+
+stays_on : (h : History) (b : ArchiveState) → StandsFor b h → (more : History) × StandsFor b (h ++ more)
+stays_on h b stands = let S : History → Type 0 = λ x. StandsFor b x in ([], subst S (sym (append-nil h)) stands)
+
+pub adds_follow : (h : History) (e : Entry) (refusal : Option Refusal) (r : Result ℕ ChangeError) (a b : ArchiveState) (D : Type 0) → StandsFor a h → Adds h e refusal r b
+    → ((why : Refusal) → r ≡ Err (changes.Refused why) → (b ≡ a) × D) → GoesOn h r b
+adds_follow h e refusal (Ok n) a b D stands adds same is = (e ∷ [], adds.stands.0)
+adds_follow h e refusal (Err (changes.Refused why)) a b D stands adds same is =
+    let S : ArchiveState → Type 0 = λ x. StandsFor x h in stays_on h b (subst S (sym (same why refl).0) stands)
+adds_follow h e refusal (Err changes.Failed) a b D stands adds same (inl ok) = absurd cc
+adds_follow h e refusal (Err changes.Failed) a b D stands adds same (inr (why, is)) = absurd cc
+adds_follow h e refusal (Err changes.Memory) a b D stands adds same (inl ok) = absurd cc
+adds_follow h e refusal (Err changes.Memory) a b D stands adds same (inr (why, is)) = absurd cc
+
+-- a plan that was stored or refused
+pub plan_follows : {T : Type 0} (h : History) (r : Result T ChangeError) (b : ArchiveState) → (IsOk r → (more : History) × StandsFor b (h ++ more))
+    → ((why : Refusal) → r ≡ Err (changes.Refused why) → StandsFor b h) → GoesOn h r b
+plan_follows h r b stores refused (inl ok) = stores ok
+plan_follows h r b stores refused (inr (why, is)) = stays_on h b (refused why is)
+
+-- as a plan's call tells it
+pub stored_follows : (h : History) (r : Result PlanReport ChangeError) (b : ArchiveState) (P : PlanReport → PlanEntry → Type 0) (Q : PlanReport → Type 0)
+    → IfOk r (λ report. (plan : PlanEntry) × (P report plan × Q report × StandsFor b (h ++ entries.Planned plan ∷ []))) → IsOk r → (more : History) × StandsFor b (h ++ more)
+stored_follows h (Ok report) b P Q (plan, (stored, told, stands)) ok = (entries.Planned plan ∷ [], stands)
+stored_follows h (Err e) b P Q stores ok = absurd cc
+
+pub none_follows : (h : History) (reason : AskError) (r : Result PlanReport ChangeError) (a b : ArchiveState) → NotDrafted reason r a b → IsOk r → (more : History) × StandsFor b (h ++ more)
+none_follows h (asks.Refused because) r a b not ok = let bad = subst (λ (s : Result PlanReport ChangeError). IsOk s) not.0 ok in absurd cc
+none_follows h asks.Failed r a b not ok = let bad = subst (λ (s : Result PlanReport ChangeError). IsOk s) not.0 ok in absurd cc
+none_follows h (asks.Damaged damage) r a b not ok = let bad = subst (λ (s : Result PlanReport ChangeError). IsOk s) not.0 ok in absurd cc
+none_follows h asks.Memory r a b not ok = let bad = subst (λ (s : Result PlanReport ChangeError). IsOk s) not.0 ok in absurd cc

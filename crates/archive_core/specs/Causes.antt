@@ -7,6 +7,8 @@ use Rattle.archive_core.specs.declared.error.ReadError.{ReadError}
 use Rattle.archive_core.specs.declared.error.ReadError.TheVariants as reads
 use Rattle.archive_core.specs.declared.error.AskError.{AskError}
 use Rattle.archive_core.specs.declared.error.AskError.TheVariants as asks
+use Rattle.sublist_store.specs.declared.why.FetchError.{FetchError}
+use Rattle.sublist_store.specs.declared.why.FetchError.TheVariants as fetches
 
 -- a journal's error, as one of an archive: bytes that are no journal are no archive
 abbrev pub load_error_of : JournalError → LoadError
@@ -22,3 +24,9 @@ load_error_of_read reads.Memory = loads.Memory
 abbrev pub ask_error_of : ReadError → AskError
 ask_error_of reads.Failed = asks.Failed
 ask_error_of reads.Memory = asks.Memory
+
+-- sublists that were not had, as a question's error
+abbrev pub ask_error_of_fetch : FetchError → AskError
+ask_error_of_fetch fetches.Failed = asks.Failed
+ask_error_of_fetch (fetches.Damaged damage) = asks.Damaged damage
+ask_error_of_fetch fetches.Memory = asks.Memory

@@ -6,6 +6,5 @@ pub mod Adding
 pub mod Replaying
 pub mod Causes
 pub mod Takes
-pub mod Parts
 pub mod Shelves
 pub mod Storing

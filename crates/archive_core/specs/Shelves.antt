@@ -1,7 +1,8 @@
 -- Live plans in hand: which of them a word has, and when their places lie badly.
-use Rattle.std.specs.Prelude.{◌≡◌, ℕ, ◌+◌, ◌<◌, true, List, [], ◌∷◌, map, take, length, get_or, All}
+use Rattle.std.specs.Prelude.{◌≡◌, ℕ, ◌+◌, ◌^◌, ◌<◌, ◌≤◌, true, List, [], ◌∷◌, map, take, length, get_or, sum_by, All}
 use Rattle.std.specs.List.{flat_map}
-use Rattle.page_store.specs.Live.{AreLive}
+use Rattle.page_store.specs.Live.{AreLive, IsInside}
+use Rattle.record_codec.specs.declared.plan.PlanEntry.{PlanEntry}
 use Rattle.archive_state.specs.declared.stored.StoredPlan.{StoredPlan}
 use Rattle.archive_state.specs.Plans.{is_another, extents_of}
 use Rattle.archive_core.specs.States.{extents_all}
@@ -28,3 +29,9 @@ pub record IsPlanAt (plans : List StoredPlan) (word : List ℕ) (at : ℕ) : Typ
   pub within : at < length plans
   pub is : (stored : StoredPlan) → (get_or plans at stored).plan.word ≡ word
   pub before : All (λ other. is_another word other ≡ true) (take at plans)
+
+-- what is asked of a plan that is read: each cut has its place, and all places lie in so many bytes and have no more of them than are counted
+pub record IsReadable (reach : ℕ) (plan : PlanEntry) : Type 0 where
+  pub as_many : length plan.places ≡ length plan.cuts
+  pub inside : All (λ p. IsInside reach p.extent) plan.places
+  pub few : sum_by (λ p. p.extent.bytes) plan.places ≤ 2 ^ 60

@@ -107,6 +107,7 @@ pub record IsStoredAs (history : History) (draft : Draft) (plan : PlanEntry) : T
 abbrev pub NotDrafted : AskError → Result PlanReport ChangeError → ArchiveState → ArchiveState → Type 0
 NotDrafted (asks.Refused why) result old new = (result ≡ Err (changes.Refused why)) × (new ≡ old)
 NotDrafted asks.Failed result old new = (result ≡ Err changes.Memory) × (new ≡ record old { live = false })
+NotDrafted (asks.Damaged damage) result old new = (result ≡ Err changes.Memory) × (new ≡ record old { live = false })
 NotDrafted asks.Memory result old new = (result ≡ Err changes.Memory) × (new ≡ record old { live = false })
 
 -- what comes of a plan that was not made ready

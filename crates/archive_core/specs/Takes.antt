@@ -4,6 +4,7 @@ use Rattle.std.specs.Option.{option_map}
 use Rattle.machine_model.specs.States.{DiskState}
 use Rattle.commands.specs.declared.command.Item.{Item}
 use Rattle.proposals.specs.declared.proposal.Proposal.{Proposal}
+use Rattle.sublist_store.specs.declared.why.Damage.{Damage}
 use Rattle.query_eval.specs.declared.answer.Answer.{Answer}
 use Rattle.query_eval.specs.declared.spans.SpanAnswer.{SpanAnswer}
 use Rattle.archive_state.specs.Histories.{History}
@@ -18,11 +19,12 @@ use Rattle.archive_core.specs.declared.error.ChangeError.TheVariants as changes
 use Rattle.archive_core.specs.declared.error.AskError.{AskError}
 use Rattle.archive_core.specs.declared.error.AskError.TheVariants as asks
 
--- how a call ends: by a reply, for want of memory, or by a fault of the disk
+-- how a call ends: by a reply, for want of memory, by a fault of the disk, or at a sublist that is damaged
 pub data Ending : Type 0 where
   Replied : Reply → Ending
   Starved : Ending
   Faulted : Ending
+  Spoiled : Damage → Ending
 
 -- how changes end, and how questions do
 abbrev pub unchanged : ChangeError → Ending
@@ -45,6 +47,7 @@ abbrev pub declined : AskError → Ending
 declined (asks.Refused why) = Replied (Refused why)
 declined asks.Failed = Faulted
 declined asks.Memory = Starved
+declined (asks.Damaged damage) = Spoiled damage
 
 abbrev pub found : Result Answer AskError → Ending
 found (Ok answer) = Replied (Found answer.rows.items answer.read)
@@ -63,11 +66,12 @@ shown bytes (Ok text) = Replied (Shown (option_map bytes text))
 shown bytes (Err error) = declined error
 
 -- Where a reply was given it is that of the turn, and the archive stands for the history after the turn; where memory ran out, each image
--- stands for the history before it.
+-- stands for the history before it. Nothing is damaged.
 abbrev pub EndsBy : History → Turn Reply History → DiskState → ArchiveState → Ending → Type 0
 EndsBy before turn new archive_now (Replied reply) = (turn.reply ≡ reply) × IsKept new archive_now turn.next
 EndsBy before turn new archive_now Starved = EachStands new before
 EndsBy before turn new archive_now Faulted = Unit {0}
+EndsBy before turn new archive_now (Spoiled damage) = ⊥
 
 -- The item has a turn of the abstract machine from this history. Each image left since the start of the call stands for the history before
 -- the turn or after it.

@@ -1,5 +1,10 @@
 //! The archive in hand, and its changes.
-ghost use Rattle.std.specs.Prelude.{◌≡◌, ◌⊎◌, ◌↔◌, ◌+◌, ◌<◌, ◌≤◌, ◌^◌, ◌++◌, [], ◌∷◌, ℕ, List, length, Option, Some, None, Err, true, false, IsTrue, IfOk, OnOk, IsOk, IsErrOf};
+ghost use Rattle.std.specs.Prelude.{◌≡◌, ◌⊎◌, ◌↔◌, ◌+◌, ◌<◌, ◌≤◌, ◌^◌, ◌++◌, [], ◌∷◌, ℕ, List, length, get_or, Option, Some, None, Ok, Err, true, false, IsTrue, IfOk, IfErr, OnOk, IsOk, IsErrOf};
+ghost use Rattle.machine_model.specs.Areas.{replaced};
+ghost use Rattle.machine_model.specs.Calls.{OnlyReads};
+ghost use Rattle.sublist_store.specs.Fetching.{IfDamaged, IfFailed};
+ghost use Rattle.archive_state.specs.declared.stored.StoredPlan.{StoredPlan as PlainStored};
+ghost use Rattle.archive_state.specs.Chosen.{GathersOf, bytes_chosen};
 ghost use Rattle.machine_model.specs.Causes.{Rose};
 ghost use Rattle.time_base.specs.Limits.{limit_of};
 ghost use Rattle.gate_journal.specs.InStep.{IsInStep};
@@ -30,10 +35,11 @@ use crate::storing::{Draft, PlanReport, make_ready, write_ready};
 use archive_state::Refusal;
 use commands::Phrase;
 use gate_journal::{Frame, Journal};
-use machine_model::Disk;
+use machine_model::{Area, Disk};
 use std::alloc::Global;
 use std::marker::Model;
-use time_base::{DocId, Fraction, Time, Which};
+use sublist_store::{FetchError, Gathered};
+use time_base::{DocId, Fraction, Span, Time, Which};
 use version_index::Index;
 use version_store::Directory;
 
@@ -137,6 +143,28 @@ impl Archive {
         &self.shelf
     }
 
+    // What Pages have in a window of the list of the plan that stands there.
+    pub(crate) fn gather<D: Disk>(
+        &mut self,
+        alloc: Global,
+        disk: &mut D,
+        at: usize,
+        span: Span,
+    ) -> Result<Gathered, FetchError>
+        requires within { Reaches (D.disk disk.old).reach self.old }
+        requires there { at < length self.old.shelf.plans }
+        ensures only { D.Disk.only disk.old disk.new }
+        ensures failed { IfErr result (IfFailed (Rose (D.disk disk.old).faults (D.disk disk.new).faults)) }
+        ensures same { OnlyReads (D.disk disk.old) (D.disk disk.new) }
+        ensures count { D.disk_tells → (s : PlainStored) → s ≡ get_or self.old.shelf.plans at s →
+            OnOk result ((D.disk disk.new).bytes_read ≡ replaced (D.disk disk.old).bytes_read Area.Pages ((D.disk disk.old).bytes_read.pages + bytes_chosen (Some s.plan) span.from span.to)) }
+        ensures gathered { D.disk_tells → (s : PlainStored) → s ≡ get_or self.old.shelf.plans at s → IfOk result (λ g. GathersOf (D.disk disk.old).holds.pages s.plan span.from span.to (Ok (g.list.items, g.read))) }
+        ensures damaged { D.disk_tells → (s : PlainStored) → s ≡ get_or self.old.shelf.plans at s → IfErr result (IfDamaged (λ d. GathersOf (D.disk disk.old).holds.pages s.plan span.from span.to (Err d))) }
+        ensures kept { self.new ≡ self.old }
+    {
+        self.shelf.gather(alloc, disk, at, span)
+    }
+
     /// Adds a version of a document, and answers how many entries there are. At `Ok` the entry is
     /// durable: each image that a stop may leave has it. All memory is taken before the first write.
     ///
@@ -164,6 +192,8 @@ impl Archive {
         // On any disk: a refusal is the first cause in order, comes wherever there is one (but for want of memory), and changes nothing; at Ok
         // the archive stands for the history with the new entry, and answers how many entries there are.
         ensures adds { (h : History) → StandsFor self.old h → Adds h (entries.Arrive doc at text.now) (arrival_refusal h doc at text.now) result self.new }
+        // What it stands for then begins with what it stood for.
+        ensures follows { (h : History) → StandsFor self.old h → IsOk result ⊎ ((why : Refusal) × IsErrOf result (ChangeError.Refused why)) → (more : History) × StandsFor self.new (h ++ more) }
         ensures same { (why : Refusal) → IsErrOf result (ChangeError.Refused why) → (self.new ≡ self.old) × (disk.new ≡ disk.old) }
         // All memory is taken before the first call of the disk.
         ensures memory { IsErrOf result ChangeError.Memory → disk.new ≡ disk.old }
@@ -204,6 +234,8 @@ impl Archive {
         // On any disk: a refusal is the first cause in order, comes wherever there is one (but for want of memory), and changes nothing; at Ok
         // the archive stands for the history with the new entry, and answers how many entries there are.
         ensures adds { (h : History) → StandsFor self.old h → Adds h (entries.Delete doc at) (deletion_refusal h doc at) result self.new }
+        // What it stands for then begins with what it stood for.
+        ensures follows { (h : History) → StandsFor self.old h → IsOk result ⊎ ((why : Refusal) × IsErrOf result (ChangeError.Refused why)) → (more : History) × StandsFor self.new (h ++ more) }
         ensures same { (why : Refusal) → IsErrOf result (ChangeError.Refused why) → (self.new ≡ self.old) × (disk.new ≡ disk.old) }
         // All memory is taken before the first call of the disk.
         ensures memory { IsErrOf result ChangeError.Memory → disk.new ≡ disk.old }
@@ -245,6 +277,8 @@ impl Archive {
         // the archive stands for a history with a plan that may be stored.
         ensures refused { (h : History) → StandsFor self.old h → (why : Refusal) → IsErrOf result (ChangeError.Refused why) → Plans h word.now factor (Refused why) h × StandsFor self.new h }
         ensures stores { (h : History) → StandsFor self.old h → IfOk result (λ r. (next : History) × (Plans h word.now factor (Planned (summary_of r)) next × StandsFor self.new next)) }
+        // What it stands for then begins with what it stood for.
+        ensures follows { (h : History) → StandsFor self.old h → IsOk result ⊎ ((why : Refusal) × IsErrOf result (ChangeError.Refused why)) → (more : History) × StandsFor self.new (h ++ more) }
         ensures same { (why : Refusal) → IsErrOf result (ChangeError.Refused why) → disk.new ≡ disk.old }
         // All memory is taken before the first call of the disk.
         ensures memory { IsErrOf result ChangeError.Memory → disk.new ≡ disk.old }
@@ -265,7 +299,7 @@ impl Archive {
     {
         match why {
             AskError::Refused(why) => Err(ChangeError::Refused(why)),
-            AskError::Failed | AskError::Memory => {
+            AskError::Failed | AskError::Damaged(_) | AskError::Memory => {
                 self.live = false;
                 Err(ChangeError::Memory)
             }

@@ -1,18 +1,20 @@
 //! What an archive is asked: the text of a document at a time, and what a query finds.
-ghost use Rattle.std.specs.Prelude.{◌≡◌, ◌⊎◌, ◌≤◌, ◌+◌, ◌^◌, ◌++◌, ◌∷◌, [], ℕ, Ok, Err, length, IsOk, IfOk, OnOk, IsErrOf, option_map};
+ghost use Rattle.std.specs.Prelude.{◌≡◌, ◌+◌, ℕ, List, Ok, Err, length, filter, is_some, IsSome, IsOk, IfOk, IsErrOf, option_map};
+ghost use Rattle.machine_model.specs.Areas.{replaced};
 ghost use Rattle.machine_model.specs.Causes.{Rose};
 ghost use Rattle.machine_model.specs.Calls.{OnlyReads};
 ghost use Rattle.machine_model.specs.States.{DiskState};
 ghost use Rattle.query_lang.specs.Grammar.{Query as Meaning, IsRead};
 ghost use Rattle.query_lang.specs.Meaning.{words_of};
 ghost use Rattle.query_lang.specs.Tokens.{key_of};
+ghost use Rattle.query_eval.specs.Answers.{IsAnswer};
 ghost use Rattle.query_eval.specs.Asked.{read_of};
+ghost use Rattle.query_eval.specs.Found.{told};
+ghost use Rattle.version_store.specs.Changes.{held_at};
 ghost use Rattle.archive_state.specs.Histories.{History, text_at};
-ghost use Rattle.archive_state.specs.Answers.{IsAnswerAt};
-ghost use Rattle.archive_state.specs.Steps.{Found, Finds};
+ghost use Rattle.archive_state.specs.Chosen.{IsDamagedFor, IsMadeAt, bytes_for};
 ghost use Rattle.archive_core.specs.States.{StandsFor, IsKept, Reaches};
 ghost use Rattle.archive_core.specs.Takes.{Takes, found, shown};
-ghost use Rattle.archive_core.specs.Parts.{ArePartsIn};
 ghost use Rattle.commands.specs.declared.command.Command.TheVariants as commands;
 ghost use Rattle.commands.specs.declared.command.Item.TheVariants as items;
 
@@ -21,45 +23,80 @@ use crate::error::AskError;
 use crate::texts::read_text;
 use archive_state::Refusal;
 use commands::Phrase;
-use machine_model::Disk;
-use query_eval::{Answer, Part, answer_by_hits, answer_from};
+use machine_model::{Area, Disk};
+use query_eval::{Answer, Part, Row, answer_by_hits, answer_from};
 use query_lang::{Query, QueryError};
 use std::alloc::{AllocError, Global};
-use time_base::{DocId, Key, Span, Time};
-use version_index::ListPart;
+use sublist_store::Damage;
+use time_base::{DocId, Span, Time};
 
 impl Archive {
     /// What a query finds as of a time: the rows of the documents alive then that match, and how many
-    /// postings were read for them. Nothing is changed, and no disk is asked.
+    /// postings were read for them. Nothing is changed.
     ///
-    /// `Refused`: the text is no query. It is never `Failed`.
-    /// Costs the query's length, the postings of its words, and a sort of those that hold the time;
-    /// where it matches without any of its words, also a look-up for each document.
-    pub fn find(&self, alloc: Global, at: Time, expr: &Phrase) -> Result<Answer, AskError>
-        ensures failed { IsErrOf result AskError.Failed → ⊥ }
+    /// `Refused`: the text is no query. `Damaged`: a sublist that was read isn't what the entry of its
+    /// plan says. `Failed`: the disk failed.
+    /// Costs the query's length. Of each word with a plan, the sublist that holds the time is read from
+    /// Pages, before the horizon, and its list in memory from the horizon on; of each other word its
+    /// list in memory. Then the postings are sorted that hold the time, and each row is looked up;
+    /// where the query matches without any of its words, there is also a look-up for each document.
+    pub fn find<D: Disk>(
+        &mut self,
+        alloc: Global,
+        disk: &mut D,
+        at: Time,
+        expr: &Phrase,
+    ) -> Result<Answer, AskError>
+        requires within { Reaches (D.disk disk.old).reach self.old }
+        ensures only { D.Disk.only disk.old disk.new }
+        ensures same { OnlyReads (D.disk disk.old) (D.disk disk.new) }
+        ensures kept { self.new ≡ self.old }
+        ensures failed { IsErrOf result AskError.Failed → Rose (D.disk disk.old).faults (D.disk disk.new).faults }
         // A refusal comes of a text that is no query, at the place where that shows, and wherever it is none (but for want of memory).
         ensures refused { (why : Refusal) → IsErrOf result (AskError.Refused why) → (place : ℕ) × IsRead key_of expr.now (Err place) × (why ≡ Refusal.BadQuery place) }
         ensures asked { IsOk result → (query : Meaning) × IsRead key_of expr.now (Ok query) }
-        // In step with a disk, it is a step of the abstract machine.
-        ensures takes { (d : DiskState) (h : History) → IsKept d self.now h → Takes h (items.Command (commands.Find at expr.now)) (found result) d d self.now }
+        // Whatever the disk holds, if it tells: the answer is made from the lists that are chosen, by what reads of Pages give. Exactly the bytes of
+        // the places chosen are read. What is damaged is shown by what reads give.
+        ensures made { D.disk_tells → (h : History) → StandsFor self.old h → IfOk result (λ answer. (query : Meaning) × IsRead key_of expr.now (Ok query)
+            × IsMadeAt h (D.disk disk.old).holds.pages at.seconds query answer.rows.items answer.read
+            × ((D.disk disk.new).bytes_read ≡ replaced (D.disk disk.old).bytes_read Area.Pages ((D.disk disk.old).bytes_read.pages + bytes_for h at.seconds (at.seconds + 1) (words_of query)))) }
+        ensures damaged { D.disk_tells → (h : History) → StandsFor self.old h → (d : Damage) → IsErrOf result (AskError.Damaged d) →
+            (word : List ℕ) × IsDamagedFor h (D.disk disk.old).holds.pages word at.seconds (at.seconds + 1) d }
+        // In step, it is a step of the abstract machine.
+        ensures takes { D.disk_tells → (h : History) → IsKept (D.disk disk.old) self.old h →
+            Takes h (items.Command (commands.Find at expr.now)) (found result) (D.disk disk.old) (D.disk disk.new) self.new }
     {
-        self.answer_of(alloc, at, expr)
+        self.answer_of(alloc, disk, at, expr)
     }
 
     /// The answer to a query by the lists of its words.
-    fn answer_of(&self, alloc: Global, at: Time, expr: &Phrase) -> Result<Answer, AskError>
-        ensures failed { IsErrOf result AskError.Failed → ⊥ }
+    fn answer_of<D: Disk>(
+        &mut self,
+        alloc: Global,
+        disk: &mut D,
+        at: Time,
+        expr: &Phrase,
+    ) -> Result<Answer, AskError>
+        requires within { Reaches (D.disk disk.old).reach self.old }
+        ensures only { D.Disk.only disk.old disk.new }
+        ensures same { OnlyReads (D.disk disk.old) (D.disk disk.new) }
+        ensures kept { self.new ≡ self.old }
+        ensures failed { IsErrOf result AskError.Failed → Rose (D.disk disk.old).faults (D.disk disk.new).faults }
         ensures refused { (why : Refusal) → IsErrOf result (AskError.Refused why) → (place : ℕ) × IsRead key_of expr.now (Err place) × (why ≡ Refusal.BadQuery place) }
         ensures asked { IsOk result → (query : Meaning) × IsRead key_of expr.now (Ok query) }
-        ensures found { (h : History) → StandsFor self.now h → IfOk result (λ answer. Finds h at expr.now (Found answer.rows.items answer.read)) }
+        ensures made { D.disk_tells → (h : History) → StandsFor self.old h → IfOk result (λ answer. (query : Meaning) × IsRead key_of expr.now (Ok query)
+            × IsMadeAt h (D.disk disk.old).holds.pages at.seconds query answer.rows.items answer.read
+            × ((D.disk disk.new).bytes_read ≡ replaced (D.disk disk.old).bytes_read Area.Pages ((D.disk disk.old).bytes_read.pages + bytes_for h at.seconds (at.seconds + 1) (words_of query)))) }
+        ensures damaged { D.disk_tells → (h : History) → StandsFor self.old h → (d : Damage) → IsErrOf result (AskError.Damaged d) →
+            (word : List ℕ) × IsDamagedFor h (D.disk disk.old).holds.pages word at.seconds (at.seconds + 1) d }
     {
         let query = query_of(alloc, expr)?;
-        let parts = self.parts_of(alloc, query.words(), moment(at))?;
+        let parts = self.parts_of(alloc, disk, query.words(), moment(at))?;
         let answer = self.answer_by(alloc, &query, at, &parts)?;
         Ok(answer)
     }
 
-    /// The answer to a query by what the lists of its words have at the time.
+    /// The answer to a query by what was chosen of the lists of its words.
     fn answer_by(
         &self,
         alloc: Global,
@@ -69,34 +106,27 @@ impl Archive {
     ) -> Result<Answer, AllocError>
         requires { length parts.now ≡ length (words_of query.now) }
         ensures read { IfOk result (λ answer. answer.read ≡ read_of parts.now) }
-        ensures rows { (h : History) → StandsFor self.now h → ArePartsIn at.seconds (at.seconds + 1) h (words_of query.now) parts.now →
-            IfOk result (λ answer. IsAnswerAt h at.seconds query.now answer.rows.items) }
+        ensures rows { (h : History) → StandsFor self.now h → IfOk result (λ answer. IsAnswer (λ doc. IsSome (text_at h doc at.seconds))
+            (λ doc. told (words_of query.now) parts.now at.seconds doc.0) query.now answer.rows.items) }
     {
         if query.matches_without_words() {
             let alive = self.directory().alive(alloc, at)?;
             let answer = answer_from(alloc, query, at, parts, &alive)?;
             return Ok(answer);
         }
-        let answer = answer_by_hits(alloc, query, at, parts)?;
-        Ok(answer)
+        let Answer { rows, read } = answer_by_hits(alloc, query, at, parts)?;
+        let rows = self.alive_of(rows, at);
+        Ok(Answer { rows, read })
     }
 
-    /// What the lists of words have in a window, in order. Costs one pass over each list.
-    pub(crate) fn parts_of(
-        &self,
-        alloc: Global,
-        words: &[Key],
-        span: Span,
-    ) -> Result<Vec<Part>, AllocError>
-        ensures many { IfOk result (λ parts. length parts.items ≡ length words.now) }
-        ensures parts { (h : History) → StandsFor self.now h → IfOk result (λ parts. ArePartsIn span.from span.to h words.now parts.items) }
+    /// Those rows whose documents are alive. (All are, but for bytes of Pages that no archive wrote.)
+    fn alive_of(&self, rows: Vec<Row>, at: Time) -> Vec<Row>
+        ensures { result.items ≡ filter (λ row. is_some (held_at row.doc at.seconds self.now.changes)) rows.items }
     {
-        let mut parts = Vec::new(alloc);
-        for word in words {
-            let part = self.index().part_in(alloc, word, span)?;
-            parts.push(part_of(part))?;
-        }
-        Ok(parts)
+        let mut rows = rows;
+        let directory = self.directory();
+        rows.retain(|row| directory.place(row.doc, at).is_some());
+        rows
     }
 
     /// The text of the document's version that is alive at the time; None exactly where the document
@@ -114,6 +144,7 @@ impl Archive {
         ensures same { OnlyReads (D.disk disk.old) (D.disk disk.new) }
         ensures failed { IsErrOf result AskError.Failed → Rose (D.disk disk.old).faults (D.disk disk.new).faults }
         ensures never { (why : Refusal) → IsErrOf result (AskError.Refused why) → ⊥ }
+        ensures undamaged { (d : Damage) → IsErrOf result (AskError.Damaged d) → ⊥ }
         // In step, it is a step of the abstract machine.
         ensures takes { D.disk_tells → (h : History) → IsKept (D.disk disk.old) self.now h →
             Takes h (items.Command (commands.Show doc at)) (shown (λ v. v.items) result) (D.disk disk.old) (D.disk disk.new) self.now }
@@ -134,6 +165,7 @@ impl Archive {
         ensures same { OnlyReads (D.disk disk.old) (D.disk disk.new) }
         ensures failed { IsErrOf result AskError.Failed → Rose (D.disk disk.old).faults (D.disk disk.new).faults }
         ensures never { (why : Refusal) → IsErrOf result (AskError.Refused why) → ⊥ }
+        ensures undamaged { (d : Damage) → IsErrOf result (AskError.Damaged d) → ⊥ }
         ensures shown { D.disk_tells → (h : History) → IsKept (D.disk disk.old) self.now h → IfOk result (λ text. option_map (λ v. v.items) text ≡ text_at h doc at.seconds) }
     {
         let Some(place) = self.directory().place(doc, at) else {
@@ -149,6 +181,7 @@ pub(crate) fn query_of(alloc: Global, expr: &Phrase) -> Result<Query, AskError>
     ensures query { IfOk result (λ query. IsRead key_of expr.now (Ok query)) }
     ensures refused { (why : Refusal) → IsErrOf result (AskError.Refused why) → (place : ℕ) × IsRead key_of expr.now (Err place) × (why ≡ Refusal.BadQuery place) }
     ensures failed { IsErrOf result AskError.Failed → ⊥ }
+    ensures undamaged { (d : Damage) → IsErrOf result (AskError.Damaged d) → ⊥ }
 {
     match Query::read(alloc, expr.as_str()) {
         Ok(query) => Ok(query),
@@ -156,18 +189,6 @@ pub(crate) fn query_of(alloc: Global, expr: &Phrase) -> Result<Query, AskError>
             offset: at,
         })),
         Err(QueryError::Memory) => Err(AskError::Memory),
-    }
-}
-
-/// What a word's list has in a window; the whole list was read for it.
-fn part_of(part: ListPart) -> Part
-    ensures list { result.list.items ≡ part.rows.items }
-    ensures read { result.read ≡ part.whole }
-{
-    let ListPart { rows, whole } = part;
-    Part {
-        read: whole,
-        list: rows,
     }
 }
 

@@ -22,6 +22,7 @@ use proposals::Proposal;
 use record_codec::PlanEntry;
 use std::alloc::Global;
 use stored_plans::partition_of;
+use sublist_store::Damage;
 use time_base::{Key, Posting};
 
 impl Archive {
@@ -30,10 +31,11 @@ impl Archive {
     /// changed, and no disk is asked.
     ///
     /// `Refused`: for the first cause in order, the phrase isn't one term, no text has the word, or it has
-    /// no stored plan that keeps to a guarantee. It is never `Failed`.
+    /// no stored plan that keeps to a guarantee. It is never `Failed` or `Damaged`.
     /// Costs `n log n` in the word's postings, and memory in them.
     pub fn certificate(&self, alloc: Global, word: &Phrase) -> Result<Proposal, AskError>
         ensures failed { IsErrOf result AskError.Failed → ⊥ }
+        ensures undamaged { (d : Damage) → IsErrOf result (AskError.Damaged d) → ⊥ }
         // Whatever history it stands for, a refusal comes exactly where that has the cause (but for want of memory); what is shown is the stored
         // plan, where the history is legal.
         ensures refused { (h : History) → StandsFor self.now h → (why : Refusal) → IsErrOf result (AskError.Refused why) → Certifies h word.now (Refused why) }
@@ -47,6 +49,7 @@ impl Archive {
     /// The certificate of a phrase's word.
     fn certificate_of(&self, alloc: Global, word: &Phrase) -> Result<Proposal, AskError>
         ensures failed { IsErrOf result AskError.Failed → ⊥ }
+        ensures undamaged { (d : Damage) → IsErrOf result (AskError.Damaged d) → ⊥ }
         ensures refused { (h : History) → StandsFor self.now h → (why : Refusal) → IsErrOf result (AskError.Refused why) → Certifies h word.now (Refused why) }
         ensures shows { (h : History) → StandsFor self.now h → IsLegal h → IfOk result (λ p. Certifies h word.now (Proposed p.segments.items p.nodes.items p.space)) }
     {
@@ -62,6 +65,7 @@ impl Archive {
     /// The certificate of a word's live plan.
     fn shown_of(&self, alloc: Global, word: &Key) -> Result<Proposal, AskError>
         ensures failed { IsErrOf result AskError.Failed → ⊥ }
+        ensures undamaged { (d : Damage) → IsErrOf result (AskError.Damaged d) → ⊥ }
         ensures refused { (h : History) → StandsFor self.now h → (why : Refusal) → IsErrOf result (AskError.Refused why) → ShowsLive h (plan_of h word.now) (Refused why) }
         ensures shows { (h : History) → StandsFor self.now h → IsLegal h → IfOk result (λ p. ShowsLive h (plan_of h word.now) (Proposed p.segments.items p.nodes.items p.space)) }
     {
@@ -80,6 +84,7 @@ impl Archive {
         requires live { (h : History) → StandsFor self.now h → plan_of h plan.now.word ≡ Some plan.now }
         requires kind { plan.now.kind ≡ Kind.Guarantee }
         ensures failed { IsErrOf result AskError.Failed → ⊥ }
+        ensures undamaged { (d : Damage) → IsErrOf result (AskError.Damaged d) → ⊥ }
         ensures refused { (why : Refusal) → IsErrOf result (AskError.Refused why) → ⊥ }
         ensures shows { (h : History) → StandsFor self.now h → IsLegal h → IfOk result (λ p. ShowsPlan h plan.now Kind.Guarantee (Proposed p.segments.items p.nodes.items p.space)) }
     {
@@ -99,6 +104,7 @@ fn certified(alloc: Global, list: &[Posting], plan: &PlanEntry) -> Result<Propos
     requires few { length list.now < 2 ^ 38 }
     requires early { All (λ p. p.span.to ≤ plan.now.horizon.seconds) list.now }
     ensures failed { IsErrOf result AskError.Failed → ⊥ }
+    ensures undamaged { (d : Damage) → IsErrOf result (AskError.Damaged d) → ⊥ }
     ensures refused { (why : Refusal) → IsErrOf result (AskError.Refused why) → ⊥ }
     ensures shows { IfOk result (λ p. IsLeastPlan list.now plan.now.fraction plan.now.cuts plan.now.horizon.seconds → IsCertificate plan.now list.now p.segments.items p.nodes.items p.space) }
 {

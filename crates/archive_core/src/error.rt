@@ -5,6 +5,7 @@ use archive_state::Refusal;
 use gate_journal::JournalError;
 use machine_model::Failed;
 use std::alloc::{AllocError, AllocFailed};
+use sublist_store::{Damage, FetchError};
 
 /// Why an archive was not loaded.
 #[derive(Clone, Copy, Debug, PartialEq, Eq)]
@@ -38,6 +39,8 @@ pub enum AskError {
     Refused(Refusal),
     /// A call of the disk failed.
     Failed,
+    /// A sublist that was read isn't what the entry of its plan says.
+    Damaged(Damage),
     /// There was no memory.
     Memory,
 }
@@ -103,6 +106,21 @@ impl From<ReadError> for AskError {
     }
 }
 
+impl From<FetchError> for AskError {
+    ghost use Rattle.archive_core.specs.Causes.{ask_error_of_fetch};
+    ghost use Rattle.std.specs.Prelude.{◌≡◌};
+
+    ghost from_gives = { λ why e. e ≡ ask_error_of_fetch why };
+
+    fn from(why: FetchError) -> Self {
+        match why {
+            FetchError::Failed => AskError::Failed,
+            FetchError::Damaged(damage) => AskError::Damaged(damage),
+            FetchError::Memory => AskError::Memory,
+        }
+    }
+}
+
 impl From<AllocError> for AskError {
     ghost use Rattle.archive_core.specs.declared.error.AskError.TheVariants.{Memory};
     ghost use Rattle.std.specs.Prelude.{◌≡◌};
@@ -110,6 +128,17 @@ impl From<AllocError> for AskError {
     ghost from_gives = { λ _ e. e ≡ Memory };
 
     fn from(_: AllocError) -> Self {
+        AskError::Memory
+    }
+}
+
+impl<T: Drop> From<AllocFailed<T>> for AskError {
+    ghost use Rattle.archive_core.specs.declared.error.AskError.TheVariants.{Memory};
+    ghost use Rattle.std.specs.Prelude.{◌≡◌};
+
+    ghost from_gives = { λ _ e. e ≡ Memory };
+
+    fn from(_: AllocFailed<T>) -> Self {
         AskError::Memory
     }
 }

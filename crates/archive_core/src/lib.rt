@@ -10,6 +10,7 @@ mod archive;
 mod asking;
 mod certifying;
 mod change;
+mod choosing;
 mod error;
 mod laws;
 mod loading;

@@ -28,6 +28,7 @@ use plan_certificate::Certificate;
 use postings::clip;
 use proposals::Proposal;
 use std::alloc::{AllocError, Global};
+use sublist_store::Damage;
 use time_base::{Fraction, Key, Posting, Span, Time};
 
 /// So many postings and more are not planned; the memory for them is never there.
@@ -47,7 +48,7 @@ impl Archive {
     /// no disk is asked.
     ///
     /// `Refused`: for the first cause in order, the phrase isn't one term, no text has the word, it has no
-    /// posting before the last time, or its list has too many boundaries. It is never `Failed`.
+    /// posting before the last time, or its list has too many boundaries. It is never `Failed` or `Damaged`.
     /// Costs `n log n` in the word's postings, and memory in them.
     pub fn propose(
         &self,
@@ -56,6 +57,7 @@ impl Archive {
         factor: Fraction,
     ) -> Result<Proposal, AskError>
         ensures failed { IsErrOf result AskError.Failed → ⊥ }
+        ensures undamaged { (d : Damage) → IsErrOf result (AskError.Damaged d) → ⊥ }
         // Whatever history it stands for: a refusal comes exactly where that has the cause (but for want of memory), and what is proposed is
         // of it.
         ensures refused { (h : History) → StandsFor self.now h → (why : Refusal) → IsErrOf result (AskError.Refused why) → Proposes h word.now factor (Refused why) }
@@ -74,6 +76,7 @@ impl Archive {
         factor: Fraction,
     ) -> Result<Proposal, AskError>
         ensures failed { IsErrOf result AskError.Failed → ⊥ }
+        ensures undamaged { (d : Damage) → IsErrOf result (AskError.Damaged d) → ⊥ }
         ensures refused { (h : History) → StandsFor self.now h → (why : Refusal) → IsErrOf result (AskError.Refused why) → Proposes h word.now factor (Refused why) }
         ensures proposes { (h : History) → StandsFor self.now h → IfOk result (λ p. Proposes h word.now factor (Proposed p.segments.items p.nodes.items p.space)) }
     {
@@ -86,6 +89,7 @@ impl Archive {
     /// The list of a phrase's word up to the last time, or why it can't be planned.
     pub(crate) fn sealed(&self, alloc: Global, word: &Phrase) -> Result<Sealed, AskError>
         ensures failed { IsErrOf result AskError.Failed → ⊥ }
+        ensures undamaged { (d : Damage) → IsErrOf result (AskError.Damaged d) → ⊥ }
         ensures refused { (h : History) → StandsFor self.now h → (why : Refusal) → IsErrOf result (AskError.Refused why) →
             OfPhrase h (term_of word.now) (λ because. why ≡ because) (λ word list. ⊥) }
         ensures sealed { (h : History) → StandsFor self.now h → IfOk result (λ s. IsSealed h word.now s.word s.list.items s.horizon.seconds) }
@@ -107,6 +111,7 @@ impl Archive {
     /// The list of a word up to the last time, or why it can't be planned.
     fn sealed_list(&self, alloc: Global, key: Key) -> Result<Sealed, AskError>
         ensures failed { IsErrOf result AskError.Failed → ⊥ }
+        ensures undamaged { (d : Damage) → IsErrOf result (AskError.Damaged d) → ⊥ }
         ensures refused { (h : History) → StandsFor self.now h → (why : Refusal) → IsErrOf result (AskError.Refused why) →
             OfWord h key (λ because. why ≡ because) (λ list. ⊥) }
         ensures word { IfOk result (λ s. s.word ≡ key) }
@@ -172,6 +177,7 @@ fn least_plan(
     requires few { length list.now < 2 ^ 38 }
     requires early { All (λ p. p.span.to ≤ horizon.seconds) list.now }
     ensures failed { IsErrOf result AskError.Failed → ⊥ }
+    ensures undamaged { (d : Damage) → IsErrOf result (AskError.Damaged d) → ⊥ }
     ensures refused { (why : Refusal) → IsErrOf result (AskError.Refused why) → OfBoundaries horizon.seconds list.now (λ because. why ≡ because) ⊥ }
     ensures least { IfOk result (λ p. OfBoundaries horizon.seconds list.now (λ because. ⊥) (IsProposal list.now factor horizon.seconds p.segments.items p.nodes.items p.space)) }
 {
@@ -188,6 +194,7 @@ pub(crate) fn planned(
     factor: Fraction,
 ) -> Result<(Partition, Certificate), AskError>
     ensures failed { IsErrOf result AskError.Failed → ⊥ }
+    ensures undamaged { (d : Damage) → IsErrOf result (AskError.Damaged d) → ⊥ }
     ensures within { IfOk result (λ _. length table.now.boundaries ≤ widest) }
     ensures refused { (why : Refusal) → IsErrOf result (AskError.Refused why) → (widest < length table.now.boundaries) × (why ≡ Refusal.TooWide (length table.now.boundaries)) }
     ensures fits { IfOk result (λ p. IsFitting table.now.boundaries p.0) }

@@ -1,5 +1,11 @@
 //! The live plans of an archive, and the pages that hold their sublists.
-ghost use Rattle.std.specs.Prelude.{◌≡◌, ◌⊎◌, ◌+◌, ◌<◌, ◌≤◌, ◌++◌, ◌∷◌, [], ℕ, List, true, length, map, take, get_or, All, IfOk, OnOk, OnErr, IsErrOf, MatchOption};
+ghost use Rattle.std.specs.Prelude.{◌≡◌, ◌⊎◌, ◌+◌, ◌<◌, ◌≤◌, ◌++◌, ◌∷◌, [], ℕ, List, true, length, map, take, get_or, All, Some, Ok, Err, IfOk, IfErr, OnOk, OnErr, IsErrOf, MatchOption};
+ghost use Rattle.machine_model.specs.Areas.{replaced};
+ghost use Rattle.machine_model.specs.Calls.{OnlyReads};
+ghost use Rattle.machine_model.specs.Causes.{Rose};
+ghost use Rattle.sublist_store.specs.Fetching.{IfDamaged, IfFailed};
+ghost use Rattle.archive_state.specs.declared.stored.StoredPlan.{StoredPlan as PlainStored};
+ghost use Rattle.archive_state.specs.Chosen.{GathersOf, bytes_chosen};
 ghost use Rattle.time_base.specs.declared.extent.Extent.{Extent as PlainExtent};
 ghost use Rattle.page_store.specs.Live.{AreLive, IsRefused};
 ghost use Rattle.page_store.specs.Placing.{ArePlaced, HaveNoRoom};
@@ -11,17 +17,17 @@ ghost use Rattle.sublist_store.specs.Segments.{seconds};
 ghost use Rattle.std.specs.List.{AllZip};
 ghost use Rattle.archive_state.specs.Plans.{is_another, with_plan};
 ghost use Rattle.archive_core.specs.States.{extents_all};
-ghost use Rattle.archive_core.specs.Shelves.{IsBadShelf, EachOnce, IsPlanAt, gates_all};
+ghost use Rattle.archive_core.specs.Shelves.{IsBadShelf, EachOnce, IsPlanAt, IsReadable, gates_all};
 
 use crate::error::LoadError;
 use archive_state::StoredPlan;
-use machine_model::{Disk, Failed};
+use machine_model::{Area, Disk, Failed};
 use page_store::{LiveError, TakeError};
 use record_codec::{Layout, Place};
 use std::alloc::{AllocError, Global};
 use std::marker::Model;
-use sublist_store::{Prepared, Sublists};
-use time_base::{Extent, Key, Posting, Time};
+use sublist_store::{FetchError, Gathered, Prepared, Sublists};
+use time_base::{Extent, Key, Posting, Span, Time};
 
 /// Live plans, each of another word, and the pages that their sublists leave free.
 #[derive(Drop)]
@@ -71,6 +77,45 @@ impl Shelf {
             Some(at) => Some(&self.plans[at]),
             None => None,
         }
+    }
+
+    /// Where the plan of a word stands. Costs the plans in front of it.
+    pub(crate) fn position(&self, word: &Key) -> Option<usize>
+        ensures { MatchOption result (All (λ s. is_another word.now s ≡ true) self.now.plans) (IsPlanAt self.now.plans word.now) }
+    {
+        position_of(&self.plans, word)
+    }
+
+    /// What Pages have in a window of the list of the plan that stands there. Costs what
+    /// `Sublists::gather` does.
+    pub(crate) fn gather<D: Disk>(
+        &mut self,
+        alloc: Global,
+        disk: &mut D,
+        at: usize,
+        span: Span,
+    ) -> Result<Gathered, FetchError>
+        requires there { at < length self.old.plans }
+        requires readable { (s : PlainStored) → s ≡ get_or self.old.plans at s → IsReadable (D.disk disk.old).reach.pages s.plan }
+        ensures only { D.Disk.only disk.old disk.new }
+        ensures failed { IfErr result (IfFailed (Rose (D.disk disk.old).faults (D.disk disk.new).faults)) }
+        ensures same { OnlyReads (D.disk disk.old) (D.disk disk.new) }
+        ensures count { D.disk_tells → (s : PlainStored) → s ≡ get_or self.old.plans at s →
+            OnOk result ((D.disk disk.new).bytes_read ≡ replaced (D.disk disk.old).bytes_read Area.Pages ((D.disk disk.old).bytes_read.pages + bytes_chosen (Some s.plan) span.from span.to)) }
+        ensures gathered { D.disk_tells → (s : PlainStored) → s ≡ get_or self.old.plans at s → IfOk result (λ g. GathersOf (D.disk disk.old).holds.pages s.plan span.from span.to (Ok (g.list.items, g.read))) }
+        ensures damaged { D.disk_tells → (s : PlainStored) → s ≡ get_or self.old.plans at s → IfErr result (IfDamaged (λ d. GathersOf (D.disk disk.old).holds.pages s.plan span.from span.to (Err d))) }
+        ensures kept { self.new ≡ self.old }
+    {
+        let plan = &self.plans[at].plan;
+        self.sublists.gather(
+            alloc,
+            disk,
+            plan.layout,
+            plan.cuts.as_slice(),
+            plan.horizon,
+            plan.places.as_slice(),
+            span,
+        )
     }
 
     /// Spells the sublists of a plan in blocks, and takes their pages. Costs what

@@ -46,7 +46,7 @@ use machine_model::{Disk, Failed};
 use page_store::TakeError;
 use record_codec::{Cuts, Layout, Place, Places, PlanEntry, encode_plan};
 use std::alloc::{AllocError, Global};
-use sublist_store::{Prepared, Sublists};
+use sublist_store::{Damage, Prepared, Sublists};
 use time_base::{Fraction, Key, Posting, Time, Which};
 
 /// What is told of a plan that was stored.
@@ -93,6 +93,7 @@ impl Archive {
         factor: Fraction,
     ) -> Result<Draft, AskError>
         ensures failed { IsErrOf result AskError.Failed → ⊥ }
+        ensures undamaged { (d : Damage) → IsErrOf result (AskError.Damaged d) → ⊥ }
         ensures refused { (h : History) → StandsFor self.now h → (why : Refusal) → IsErrOf result (AskError.Refused why) →
             OfPhrase h (spelled_key (term_of word.now)) (λ because. why ≡ because) (λ word list. ⊥) }
         ensures known { (h : History) → StandsFor self.now h → IfOk result (λ d. IsKnown h d.word) }
@@ -113,6 +114,7 @@ fn draft_of(alloc: Global, sealed: Sealed, factor: Fraction) -> Result<Draft, As
     requires few { length sealed.list.items < 2 ^ 38 }
     requires early { All (λ p. p.span.to ≤ sealed.horizon.seconds) sealed.list.items }
     ensures failed { IsErrOf result AskError.Failed → ⊥ }
+    ensures undamaged { (d : Damage) → IsErrOf result (AskError.Damaged d) → ⊥ }
     ensures refused { (why : Refusal) → IsErrOf result (AskError.Refused why) → OfBoundaries sealed.horizon.seconds sealed.list.items (λ because. why ≡ because) ⊥ }
     ensures word { IfOk result (λ d. d.word ≡ sealed.word) }
     ensures factor { IfOk result (λ d. d.factor ≡ factor) }

@@ -1,16 +1,18 @@
 //! What an archive is asked over a window of time.
-ghost use Rattle.std.specs.Prelude.{◌≡◌, ℕ, Ok, Err, length, IsOk, IfOk, IsErrOf};
-ghost use Rattle.machine_model.specs.States.{DiskState};
+ghost use Rattle.std.specs.Prelude.{◌≡◌, ◌+◌, ℕ, List, Ok, Err, length, is_some, IsOk, IfOk, IsErrOf};
+ghost use Rattle.machine_model.specs.Areas.{replaced};
+ghost use Rattle.machine_model.specs.Calls.{OnlyReads};
+ghost use Rattle.machine_model.specs.Causes.{Rose};
 ghost use Rattle.query_lang.specs.Grammar.{Query as Meaning, IsRead};
 ghost use Rattle.query_lang.specs.Meaning.{words_of};
 ghost use Rattle.query_lang.specs.Tokens.{key_of};
 ghost use Rattle.query_eval.specs.Asked.{read_of};
-ghost use Rattle.archive_state.specs.Histories.{History};
-ghost use Rattle.archive_state.specs.Answers.{IsSpanAnswerAt};
-ghost use Rattle.archive_state.specs.Steps.{Spanned, Spans};
-ghost use Rattle.archive_core.specs.States.{StandsFor, IsKept};
+ghost use Rattle.query_eval.specs.Found.{told};
+ghost use Rattle.query_eval.specs.Spans.{IsSpanAnswer};
+ghost use Rattle.archive_state.specs.Histories.{History, text_at};
+ghost use Rattle.archive_state.specs.Chosen.{IsDamagedFor, IsMadeOver, bytes_for};
+ghost use Rattle.archive_core.specs.States.{StandsFor, IsKept, Reaches};
 ghost use Rattle.archive_core.specs.Takes.{Takes, spanned};
-ghost use Rattle.archive_core.specs.Parts.{ArePartsIn};
 ghost use Rattle.commands.specs.declared.command.Command.TheVariants as commands;
 ghost use Rattle.commands.specs.declared.command.Item.TheVariants as items;
 
@@ -19,49 +21,81 @@ use crate::asking::query_of;
 use crate::error::AskError;
 use archive_state::Refusal;
 use commands::Phrase;
+use machine_model::{Area, Disk};
 use query_eval::{Part, SpanAnswer, answer_over};
 use query_lang::Query;
 use std::alloc::{AllocError, Global};
+use sublist_store::Damage;
 use time_base::Span;
 
 impl Archive {
     /// What a query finds over a window of time: for each document the longest spans inside it in which
     /// the document is alive, matches and has one score, and how many postings were read for them.
-    /// Nothing is changed, and no disk is asked.
+    /// Nothing is changed.
     ///
-    /// `Refused`: the text is no query. It is never `Failed`.
-    /// Costs the postings of the query's words, what the directory's `lives` does, and then a sort of the
-    /// postings and the lives.
-    pub fn between(&self, alloc: Global, span: Span, expr: &Phrase) -> Result<SpanAnswer, AskError>
-        ensures failed { IsErrOf result AskError.Failed → ⊥ }
-        // A refusal comes of a text that is no query, at the place where that shows, and wherever it is none (but for want of memory).
-        ensures refused { (why : Refusal) → IsErrOf result (AskError.Refused why) → (place : ℕ) × IsRead key_of expr.now (Err place) × (why ≡ Refusal.BadQuery place) }
-        ensures asked { IsOk result → (query : Meaning) × IsRead key_of expr.now (Ok query) }
-        // In step with a disk, it is a step of the abstract machine.
-        ensures takes { (d : DiskState) (h : History) → IsKept d self.now h → Takes h (items.Command (commands.Between span expr.now)) (spanned result) d d self.now }
-    {
-        self.span_answer_of(alloc, span, expr)
-    }
-
-    /// The answer to a query over a window by the lists of its words.
-    fn span_answer_of(
-        &self,
+    /// `Refused`: the text is no query. `Damaged`: a sublist that was read isn't what the entry of its
+    /// plan says. `Failed`: the disk failed.
+    /// Costs the query's length. Of each word with a plan, the sublists of the segments that overlap the
+    /// window are read from Pages, and its list in memory from the horizon on, where the window
+    /// reaches past it; of each other word its list in memory. Then it costs what the directory's
+    /// `lives` does, and a sort of the postings and the lives.
+    pub fn between<D: Disk>(
+        &mut self,
         alloc: Global,
+        disk: &mut D,
         span: Span,
         expr: &Phrase,
     ) -> Result<SpanAnswer, AskError>
-        ensures failed { IsErrOf result AskError.Failed → ⊥ }
+        requires within { Reaches (D.disk disk.old).reach self.old }
+        ensures only { D.Disk.only disk.old disk.new }
+        ensures same { OnlyReads (D.disk disk.old) (D.disk disk.new) }
+        ensures kept { self.new ≡ self.old }
+        ensures failed { IsErrOf result AskError.Failed → Rose (D.disk disk.old).faults (D.disk disk.new).faults }
+        // A refusal comes of a text that is no query, at the place where that shows, and wherever it is none (but for want of memory).
         ensures refused { (why : Refusal) → IsErrOf result (AskError.Refused why) → (place : ℕ) × IsRead key_of expr.now (Err place) × (why ≡ Refusal.BadQuery place) }
         ensures asked { IsOk result → (query : Meaning) × IsRead key_of expr.now (Ok query) }
-        ensures spans { (h : History) → StandsFor self.now h → IfOk result (λ answer. Spans h span expr.now (Spanned answer.rows.items answer.read)) }
+        // Whatever the disk holds, if it tells: the answer is made from the lists that are chosen, by what reads of Pages give. Exactly the bytes of
+        // the places chosen are read. What is damaged is shown by what reads give.
+        ensures made { D.disk_tells → (h : History) → StandsFor self.old h → IfOk result (λ answer. (query : Meaning) × IsRead key_of expr.now (Ok query)
+            × IsMadeOver h (D.disk disk.old).holds.pages span.from span.to query answer.rows.items answer.read
+            × ((D.disk disk.new).bytes_read ≡ replaced (D.disk disk.old).bytes_read Area.Pages ((D.disk disk.old).bytes_read.pages + bytes_for h span.from span.to (words_of query)))) }
+        ensures damaged { D.disk_tells → (h : History) → StandsFor self.old h → (d : Damage) → IsErrOf result (AskError.Damaged d) →
+            (word : List ℕ) × IsDamagedFor h (D.disk disk.old).holds.pages word span.from span.to d }
+        // In step, it is a step of the abstract machine.
+        ensures takes { D.disk_tells → (h : History) → IsKept (D.disk disk.old) self.old h →
+            Takes h (items.Command (commands.Between span expr.now)) (spanned result) (D.disk disk.old) (D.disk disk.new) self.new }
+    {
+        self.span_answer_of(alloc, disk, span, expr)
+    }
+
+    /// The answer to a query over a window by the lists of its words.
+    fn span_answer_of<D: Disk>(
+        &mut self,
+        alloc: Global,
+        disk: &mut D,
+        span: Span,
+        expr: &Phrase,
+    ) -> Result<SpanAnswer, AskError>
+        requires within { Reaches (D.disk disk.old).reach self.old }
+        ensures only { D.Disk.only disk.old disk.new }
+        ensures same { OnlyReads (D.disk disk.old) (D.disk disk.new) }
+        ensures kept { self.new ≡ self.old }
+        ensures failed { IsErrOf result AskError.Failed → Rose (D.disk disk.old).faults (D.disk disk.new).faults }
+        ensures refused { (why : Refusal) → IsErrOf result (AskError.Refused why) → (place : ℕ) × IsRead key_of expr.now (Err place) × (why ≡ Refusal.BadQuery place) }
+        ensures asked { IsOk result → (query : Meaning) × IsRead key_of expr.now (Ok query) }
+        ensures made { D.disk_tells → (h : History) → StandsFor self.old h → IfOk result (λ answer. (query : Meaning) × IsRead key_of expr.now (Ok query)
+            × IsMadeOver h (D.disk disk.old).holds.pages span.from span.to query answer.rows.items answer.read
+            × ((D.disk disk.new).bytes_read ≡ replaced (D.disk disk.old).bytes_read Area.Pages ((D.disk disk.old).bytes_read.pages + bytes_for h span.from span.to (words_of query)))) }
+        ensures damaged { D.disk_tells → (h : History) → StandsFor self.old h → (d : Damage) → IsErrOf result (AskError.Damaged d) →
+            (word : List ℕ) × IsDamagedFor h (D.disk disk.old).holds.pages word span.from span.to d }
     {
         let query = query_of(alloc, expr)?;
-        let parts = self.parts_of(alloc, query.words(), span)?;
+        let parts = self.parts_of(alloc, disk, query.words(), span)?;
         let answer = self.span_answer_by(alloc, &query, span, &parts)?;
         Ok(answer)
     }
 
-    /// The answer to a query over a window by what the lists of its words have in it.
+    /// The answer to a query over a window by what was chosen of the lists of its words.
     fn span_answer_by(
         &self,
         alloc: Global,
@@ -71,8 +105,8 @@ impl Archive {
     ) -> Result<SpanAnswer, AllocError>
         requires { length parts.now ≡ length (words_of query.now) }
         ensures read { IfOk result (λ answer. answer.read ≡ read_of parts.now) }
-        ensures rows { (h : History) → StandsFor self.now h → ArePartsIn span.from span.to h (words_of query.now) parts.now →
-            IfOk result (λ answer. IsSpanAnswerAt h span.from span.to query.now answer.rows.items) }
+        ensures rows { (h : History) → StandsFor self.now h → IfOk result (λ answer. IsSpanAnswer (λ doc t. is_some (text_at h doc t))
+            (λ doc t. told (words_of query.now) parts.now t doc.0) query.now span.from span.to answer.rows.items) }
     {
         let lives = self.directory().lives(alloc, span)?;
         let answer = answer_over(alloc, query, span, parts, &lives)?;

@@ -22,11 +22,12 @@ use Rattle.archive_core.specs.Changing.{KeepsHistory}
 use Rattle.archive_core.specs.declared.error.LoadError.{LoadError}
 use Rattle.archive_core.specs.declared.error.LoadError.TheVariants as loads
 use Rattle.archive_core.proofs.AddLemmas.{kept_stands}
+use Rattle.sublist_store.specs.declared.why.Damage.{Damage}
 use Rattle.archive_shell.specs.Headline.{EndsEarly, Headline, IsInTurn, MachineState}
 use Rattle.archive_shell.specs.Serving.{Serving, Serves}
 use Rattle.archive_shell.specs.Statuses.{status_of_load}
 use Rattle.archive_shell.specs.declared.status.Status.{Status}
-use Rattle.archive_shell.specs.declared.status.Status.TheVariants.{Done, NotArchive, Disk, Memory}
+use Rattle.archive_shell.specs.declared.status.Status.TheVariants.{Done, NotArchive, Damaged, Disk, Memory}
 use Rattle.archive_shell.proofs.PullLemmas.{not_early, pulling_first, stood_early}
 use Rattle.archive_shell.proofs.ShowLemmas.{some_bytes}
 
@@ -54,9 +55,9 @@ keeps_now : (history : History) (old new : DiskState) → KeepsHistory history o
 keeps_now history old new keeps = λ image allowed. (keeps.images image new.now.beside (inl (allowed, refl))).0
 
 -- a run that ended before its input was begun
-pub not_begun : (history : History) (status : Status) (old : MachineState) (sink : SinkState) (disk : DiskState) → EndsEarly status → sink ≡ old.sink → old.disk.now.beside ≡ old.sink.shown
+pub not_begun : (history : History) (status : Status) (old : MachineState) (sink : SinkState) (disk : DiskState) → EndsEarly status → ((damage : Damage) → status ≡ Damaged damage → ⊥) → sink ≡ old.sink → old.disk.now.beside ≡ old.sink.shown
     → (EachStands old.disk history → KeepsHistory history old.disk disk) → Headline history status old (record { source = old.source; sink = sink; disk = disk }) []
-not_begun history status old sink disk early same beside keeps = record {
+not_begun history status old sink disk early undamaged same beside keeps = record {
   ran = record {
     pulled = [];
     pulled_are = refl;
@@ -78,6 +79,7 @@ not_begun history status old sink disk early same beside keeps = record {
   images = λ each. reopens reply_text some_bytes Stands history [] old.sink.shown old.disk disk (no_turn history old.sink.shown old.disk disk beside (keeps each));
   last = λ all. absurd (not_early status early all);
   steady = λ each not_disk. (0, omega arith, keeps_now history old.disk disk (keeps each));
+  undamaged = undamaged;
 }
 
 -- a run at its start, behind the load
@@ -106,13 +108,20 @@ whole_run history status old mid new pulls beside keeps serves = record {
       (carried_joins serves.ran.turns new.disk (no_turn history old.sink.shown old.disk mid beside (keeps each)) (subst C (sym (append-nil old.sink.shown)) serves.carried)));
   last = λ all. (let L : History → Type 0 = λ h. EachStands new.disk h in subst L (sym (state_after_all history serves.ran.turns)) (serves.last all));
   steady = λ each. serves.steady;
+  undamaged = serves.undamaged;
 }
 
 -- how a run ends where the archive isn't loaded
 pub load_early : (error : LoadError) → ((at : ℕ) → error ≡ loads.NotArchive at → ⊥) → EndsEarly (status_of_load error)
 load_early loads.Failed never = inl refl
 load_early (loads.NotArchive at) never = absurd (never at refl)
-load_early loads.Memory never = inr (inr refl)
+load_early loads.Memory never = inr (inr (inl refl))
+
+-- and nothing was damaged then
+pub load_undamaged : (error : LoadError) (damage : Damage) → status_of_load error ≡ Damaged damage → ⊥
+load_undamaged loads.Failed damage is = cc
+load_undamaged (loads.NotArchive at) damage is = cc
+load_undamaged loads.Memory damage is = cc
 
 pub load_refused : (error : LoadError) (at : ℕ) → ((place : ℕ) → error ≡ loads.NotArchive place → place ≡ at)
     → (status_of_load error ≡ NotArchive at) ⊎ ((status_of_load error ≡ Disk) ⊎ (status_of_load error ≡ Memory))
@@ -120,10 +129,11 @@ load_refused loads.Failed at once = inr (inl refl)
 load_refused (loads.NotArchive place) at once = inl (ap NotArchive (once place refl))
 load_refused loads.Memory at once = inr (inr refl)
 
-pub load_completes : (error : LoadError) → (error ≡ loads.Failed → ⊥) → ((at : ℕ) → error ≡ loads.NotArchive at → ⊥) → (status_of_load error ≡ Done) ⊎ (status_of_load error ≡ Memory)
+pub load_completes : (error : LoadError) → (error ≡ loads.Failed → ⊥) → ((at : ℕ) → error ≡ loads.NotArchive at → ⊥)
+    → (status_of_load error ≡ Done) ⊎ ((status_of_load error ≡ Memory) ⊎ ((damage : Damage) × (status_of_load error ≡ Damaged damage)))
 load_completes loads.Failed never archive = absurd (never refl)
 load_completes (loads.NotArchive at) never archive = absurd (archive at refl)
-load_completes loads.Memory never archive = inr refl
+load_completes loads.Memory never archive = inr (inl refl)
 
 -- a count that rose rose since any earlier moment
 pub rose_earlier : (a b c : ℕ) → a ≤ b → Rose b c → Rose a c

@@ -1,3 +1,5 @@
+pub mod QuestionLemmas
+pub mod DamageLemmas
 pub mod EndLemmas
 pub mod PullLemmas
 pub mod ServeLemmas

@@ -10,13 +10,14 @@ use Rattle.script_read.specs.declared.error.ScriptError.{ScriptError}
 use Rattle.script_read.specs.declared.error.ScriptError.TheVariants as errors
 use Rattle.script_read.proofs.Splitting.{broken_once, more-open, not_broken, script_unbroken, script_whole}
 use Rattle.script_read.proofs.RunLemmas.{reads_start, reads_on, reads_end}
+use Rattle.sublist_store.specs.declared.why.Damage.{Damage}
 use Rattle.archive_shell.specs.Headline.{CarriesOutAll, EndsEarly, StoodAt}
 use Rattle.archive_shell.specs.Serving.{Pulling, Ends}
 use Rattle.archive_shell.specs.Statuses.{status_of_script, status_of_stop}
 use Rattle.archive_shell.specs.declared.stop.Stop.{Stop}
 use Rattle.archive_shell.specs.declared.stop.Stop.TheVariants as stops
 use Rattle.archive_shell.specs.declared.status.Status.{Status}
-use Rattle.archive_shell.specs.declared.status.Status.TheVariants.{Done, Usage, NotArchive, Disk, Sink, Source, Budget, Script, Memory}
+use Rattle.archive_shell.specs.declared.status.Status.TheVariants.{Done, Usage, NotArchive, Disk, Sink, Source, Budget, Script, Damaged, Memory}
 
 -- what a call of the reader gave: the bytes that it pulled, and what they say
 pub record Gives (held held_now : Held) (since : List ℕ) (answer : Result (Option Item) ScriptError) (before after : SourceState) : Type 0 where
@@ -85,7 +86,8 @@ ends_at status old new held pulling stood =
 pub not_early : (status : Status) → EndsEarly status → CarriesOutAll status → ⊥
 not_early status (inl is) all = subst CarriesOutAll is all
 not_early status (inr (inl is)) all = subst CarriesOutAll is all
-not_early status (inr (inr is)) all = subst CarriesOutAll is all
+not_early status (inr (inr (inl is))) all = subst CarriesOutAll is all
+not_early status (inr (inr (inr (damage, is)))) all = subst CarriesOutAll is all
 
 -- where the input stood needn't be known at a status that ends a run early
 pub stood_early : (status : Status) (ended : Bool) (pulled rest : List ℕ) → EndsEarly status → StoodAt status ended pulled rest
@@ -104,7 +106,8 @@ ends_early status old new held early pulling = ends_at status old new held pulli
 pub stops_early : (stop : Stop) → EndsEarly (status_of_stop stop)
 stops_early stops.Disk = inl refl
 stops_early stops.Sink = inr (inl refl)
-stops_early stops.Memory = inr (inr refl)
+stops_early stops.Memory = inr (inr (inl refl))
+stops_early (stops.Damaged damage) = inr (inr (inr (damage, refl)))
 
 -- where the input stood, for each status at which all items are carried out
 stood_done : (bytes : List ℕ) (items : List Item) → Items true bytes items [] → StoodAt Done true bytes []
@@ -181,13 +184,15 @@ pub ends_by : (old now source : SourceState) (held held_now : Held) (error : Scr
 ends_by old now source held held_now (errors.Broken at) pulling gives = (whole_by old now source held held_now (errors.Broken at) (λ is. cc) pulling gives).ends
 ends_by old now source held held_now errors.Budget pulling gives = (whole_by old now source held held_now errors.Budget (λ is. cc) pulling gives).ends
 ends_by old now source held held_now errors.Failed pulling gives = (whole_by old now source held held_now errors.Failed (λ is. cc) pulling gives).ends
-ends_by old now source held held_now errors.Memory pulling gives = ends_early Memory old source held_now (inr (inr refl)) (pulling_still old now source held held_now (Err errors.Memory) refl pulling gives)
+ends_by old now source held held_now errors.Memory pulling gives = ends_early Memory old source held_now (inr (inr (inl refl))) (pulling_still old now source held held_now (Err errors.Memory) refl pulling gives)
 
--- why a run whose machine didn't fail came to its end, or found no memory
+-- why a run whose machine didn't fail came to its end, or found no memory or a sublist damaged
 pub completes : (status : Status) (old new : SourceState) → Ends status old new → IsScript old.left → length old.left < 2 ^ 40
-    → (status ≡ Usage → ⊥) → ((at : ℕ) → status ≡ NotArchive at → ⊥) → (status ≡ Disk → ⊥) → (status ≡ Source → ⊥) → (status ≡ Sink → ⊥) → (status ≡ Done) ⊎ (status ≡ Memory)
+    → (status ≡ Usage → ⊥) → ((at : ℕ) → status ≡ NotArchive at → ⊥) → (status ≡ Disk → ⊥) → (status ≡ Source → ⊥) → (status ≡ Sink → ⊥)
+    → (status ≡ Done) ⊎ ((status ≡ Memory) ⊎ ((damage : Damage) × (status ≡ Damaged damage)))
 completes Done old new ends script few usage load disk source sink = inl refl
-completes Memory old new ends script few usage load disk source sink = inr refl
+completes Memory old new ends script few usage load disk source sink = inr (inl refl)
+completes (Damaged damage) old new ends script few usage load disk source sink = inr (inr (damage, refl))
 completes Usage old new ends script few usage load disk source sink = absurd (usage refl)
 completes (NotArchive at) old new ends script few usage load disk source sink = absurd (load at refl)
 completes Disk old new ends script few usage load disk source sink = absurd (disk refl)

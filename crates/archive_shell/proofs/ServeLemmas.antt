@@ -20,10 +20,11 @@ use Rattle.archive_state.specs.Standing.{last_state, Carried}
 use Rattle.archive_state.specs.Stands.{Stands, EachStands}
 use Rattle.archive_state.proofs.RunLemmas.{runs_join, shown_by_joins, carried_on, state_after_front}
 use Rattle.archive_state.proofs.TurnLemmas.{each_turn, step_legal}
+use Rattle.sublist_store.specs.declared.why.Damage.{Damage}
 use Rattle.archive_shell.specs.Headline.{EndsEarly, IsInTurn, MachineState}
 use Rattle.archive_shell.specs.Serving.{Pulling, Serves}
 use Rattle.archive_shell.specs.declared.status.Status.{Status}
-use Rattle.archive_shell.specs.declared.status.Status.TheVariants.{Disk, Sink}
+use Rattle.archive_shell.specs.declared.status.Status.TheVariants.{Damaged, Disk, Sink}
 use Rattle.archive_shell.proofs.PullLemmas.{not_early, stood_early}
 
 -- a run from a legal history keeps it legal, where the items are in range
@@ -70,6 +71,7 @@ all_in_turn input output items more turns further pulls all =
 pub record Stopped (history : History) (status : Status) (old new : MachineState) (held : Held) (pulls : List Pull) : Type 0 where
   pub legal : IsLegal history
   pub early : EndsEarly status
+  pub undamaged : (damage : Damage) → status ≡ Damaged damage → ⊥
   pub pulling : Pulling old.source new.source held
   pub turns : List (Turn Reply History)
   pub run : IsRun Step history pulling.items turns
@@ -112,6 +114,7 @@ ended_early history status old new held pulls s =
       };
       carried = carried_on reply_text Stands history s.turns further.0 old.sink.shown old.disk new.disk s.carried;
       last = λ all. absurd (not_early status s.early all);
+      undamaged = s.undamaged;
       steady = λ not_disk. (let is = s.steady not_disk in
           let E : History → Type 0 = λ h. EachStands new.disk h in
           (is.0, omega (arith, is.1, length-append s.turns further.0), subst E (sym (state_after_front history s.turns further.0 is.0 is.1)) is.2));

@@ -87,6 +87,7 @@ cut_short history item halt stop before old new archive_now page answered is bes
   where
     stops_at : (h : Halt) → AnsweredBy history answered.turn new archive_now page (Err h) → StopsAt history answered.turn new (stop_of_halt h)
     stops_at halts.Disk ends = tt
+    stops_at (halts.Damaged damage) ends = absurd ends
     stops_at halts.Memory ends = ends
 
 -- what is known of the end of a show: all of the page was shown, or a part
@@ -94,6 +95,7 @@ abbrev pub ShownTo : List ℕ → List ℕ → List ℕ → Result (Unit {0}) St
 ShownTo before after page (Ok done) = after ≡ before ++ page
 ShownTo before after page (Err stops.Sink) = length after < length before + length page
 ShownTo before after page (Err stops.Disk) = ⊥
+ShownTo before after page (Err (stops.Damaged damage)) = ⊥
 ShownTo before after page (Err stops.Memory) = ⊥
 
 -- the reply was shown, or a front of it
@@ -127,4 +129,5 @@ carried_out history item result before after old mid new archive_now page answer
       kept_stands new archive_now answered.turn.next still,
     )
     ends (Err stops.Disk) never = absurd never
+    ends (Err (stops.Damaged damage)) never = absurd never
     ends (Err stops.Memory) never = absurd never

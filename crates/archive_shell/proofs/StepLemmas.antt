@@ -20,6 +20,7 @@ use Rattle.archive_state.specs.Stands.{Stands, EachStands}
 use Rattle.archive_state.proofs.RunLemmas.{runs_join, last_state_joins, shown_by_joins, carried_joins, state_after_all, state_after_front}
 use Rattle.archive_core.specs.States.{ArchiveState, IsKept}
 use Rattle.archive_core.proofs.AddLemmas.{kept_stands}
+use Rattle.sublist_store.specs.declared.why.Damage.{Damage}
 use Rattle.archive_shell.specs.Headline.{IsInTurn, MachineState}
 use Rattle.archive_shell.specs.Serving.{Serving, Serves}
 use Rattle.archive_shell.specs.Statuses.{status_of_script, status_of_stop}
@@ -27,7 +28,7 @@ use Rattle.archive_shell.specs.Turns.{CarriesOut, StopsAt}
 use Rattle.archive_shell.specs.declared.stop.Stop.{Stop}
 use Rattle.archive_shell.specs.declared.stop.Stop.TheVariants as stops
 use Rattle.archive_shell.specs.declared.status.Status.{Status}
-use Rattle.archive_shell.specs.declared.status.Status.TheVariants.{Done, Disk, Sink, Source, Budget, Script, Memory}
+use Rattle.archive_shell.specs.declared.status.Status.TheVariants.{Done, Damaged, Disk, Sink, Source, Budget, Script, Memory}
 use Rattle.archive_shell.proofs.PullLemmas.{EndsWhole, Gives, pulling_next, pulling_still, stops_early, whole_by, whole_done}
 use Rattle.archive_shell.proofs.ServeLemmas.{ended_early, all_in_turn}
 
@@ -82,9 +83,9 @@ all_pulls history old now archive held before lefts serving awaited =
 
 -- a run in which all items are carried out ends
 ended_whole : (history : History) (status : Status) (old now : MachineState) (archive : ArchiveState) (held : Held) (before : List Pull) (source : SourceState) (lefts : List (List ℕ)) (serving : Serving history old now archive held before)
-    → AreAwaited held serving.pulling.since now.source.left lefts → EndsWhole status old.source source serving.pulling.items → (status ≡ Disk → ⊥) → (status ≡ Sink → ⊥)
+    → AreAwaited held serving.pulling.since now.source.left lefts → EndsWhole status old.source source serving.pulling.items → (status ≡ Disk → ⊥) → (status ≡ Sink → ⊥) → ((damage : Damage) → status ≡ Damaged damage → ⊥)
     → Serves history status old (record { source = source; sink = now.sink; disk = now.disk }) (before ++ pulls_beside now.sink.shown lefts)
-ended_whole history status old now archive held before source lefts serving awaited whole no_disk no_sink =
+ended_whole history status old now archive held before source lefts serving awaited whole no_disk no_sink no_damage =
     let E : History → Type 0 = λ h. EachStands now.disk h in
     let all = kept_stands now.disk archive (last_state history serving.turns) serving.kept in
     record {
@@ -107,6 +108,7 @@ ended_whole history status old now archive held before source lefts serving awai
         in_turn = all_pulls history old now archive held before lefts serving awaited;
       };
       carried = serving.carried;
+      undamaged = no_damage;
       last = λ carried. all;
       steady = λ not_disk. (length serving.turns, omega arith, subst E (sym (state_after_all history serving.turns)) all);
     }
@@ -116,16 +118,17 @@ pub ended_by : (history : History) (old now : MachineState) (archive : ArchiveSt
     → AreAwaited held serving.pulling.since now.source.left lefts → Gives held held_now serving.pulling.since (Err error) now.source source
     → Serves history (status_of_script error) old (record { source = source; sink = now.sink; disk = now.disk }) (before ++ pulls_beside now.sink.shown lefts)
 ended_by history old now archive held held_now before (errors.Broken at) source lefts serving awaited gives =
-    ended_whole history (Script at) old now archive held before source lefts serving awaited (whole_by old.source now.source source held held_now (errors.Broken at) (λ is. cc) serving.pulling gives) (λ is. cc) (λ is. cc)
+    ended_whole history (Script at) old now archive held before source lefts serving awaited (whole_by old.source now.source source held held_now (errors.Broken at) (λ is. cc) serving.pulling gives) (λ is. cc) (λ is. cc) (λ damage is. cc)
 ended_by history old now archive held held_now before errors.Budget source lefts serving awaited gives =
-    ended_whole history Budget old now archive held before source lefts serving awaited (whole_by old.source now.source source held held_now errors.Budget (λ is. cc) serving.pulling gives) (λ is. cc) (λ is. cc)
+    ended_whole history Budget old now archive held before source lefts serving awaited (whole_by old.source now.source source held held_now errors.Budget (λ is. cc) serving.pulling gives) (λ is. cc) (λ is. cc) (λ damage is. cc)
 ended_by history old now archive held held_now before errors.Failed source lefts serving awaited gives =
-    ended_whole history Source old now archive held before source lefts serving awaited (whole_by old.source now.source source held held_now errors.Failed (λ is. cc) serving.pulling gives) (λ is. cc) (λ is. cc)
+    ended_whole history Source old now archive held before source lefts serving awaited (whole_by old.source now.source source held held_now errors.Failed (λ is. cc) serving.pulling gives) (λ is. cc) (λ is. cc) (λ damage is. cc)
 ended_by history old now archive held held_now before errors.Memory source lefts serving awaited gives =
     let E : History → Type 0 = λ h. EachStands now.disk h in
     ended_early history Memory old (record { source = source; sink = now.sink; disk = now.disk }) held_now (before ++ pulls_beside now.sink.shown lefts) (record {
       legal = serving.legal;
-      early = inr (inr refl);
+      early = inr (inr (inl refl));
+      undamaged = λ damage is. cc;
       pulling = pulling_still old.source now.source source held held_now (Err errors.Memory) refl serving.pulling gives;
       turns = serving.turns;
       run = serving.run;
@@ -143,7 +146,7 @@ pub ended_done : (history : History) (old now : MachineState) (archive : Archive
     → AreAwaited held serving.pulling.since now.source.left lefts → Gives held held_now serving.pulling.since (Ok None) now.source source
     → Serves history Done old (record { source = source; sink = now.sink; disk = now.disk }) (before ++ pulls_beside now.sink.shown lefts)
 ended_done history old now archive held held_now before source lefts serving awaited gives =
-    ended_whole history Done old now archive held before source lefts serving awaited (whole_done old.source now.source source held held_now serving.pulling gives) (λ is. cc) (λ is. cc)
+    ended_whole history Done old now archive held before source lefts serving awaited (whole_done old.source now.source source held held_now serving.pulling gives) (λ is. cc) (λ is. cc) (λ damage is. cc)
 
 -- what the texts of the turns so far and of one more show
 shown_turned : (turns : List (Turn Reply History)) (turn : Turn Reply History) → shown_by reply_text (turns ++ turn ∷ []) ≡ shown_by reply_text turns ++ reply_text turn.reply
@@ -185,6 +188,7 @@ stopped history old now sink disk archive archive_new held held_now before item 
     ended_early history (status_of_stop stop) old (record { source = source; sink = sink; disk = disk }) held_now (before ++ pulls_beside now.sink.shown lefts) (record {
       legal = serving.legal;
       early = stops_early stop;
+      undamaged = λ damage is. undamaged stop out.ends.1 damage is;
       pulling = pulling_next old.source now.source source held held_now item serving.pulling gives;
       turns = serving.turns ++ turn ∷ [];
       run = runs_join Step history items (item ∷ []) serving.turns (turn ∷ []) serving.run (out.step, tt);
@@ -214,9 +218,16 @@ stopped history old now sink disk archive archive_new held held_now before item 
     steady : (stop : Stop) → StopsAt (last_state history serving.turns) out.turn disk stop → (status_of_stop stop ≡ Disk → ⊥)
         → (j : ℕ) × (j ≤ length (serving.turns ++ out.turn ∷ [])) × EachStands disk (state_after history (serving.turns ++ out.turn ∷ []) j)
     steady stops.Disk ends not_disk = absurd (not_disk refl)
+    steady (stops.Damaged damage) ends not_disk = absurd ends
     steady stops.Sink ends not_disk = after_it ends
     steady stops.Memory (inl each) not_disk = before_it each
     steady stops.Memory (inr each) not_disk = after_it each
+
+    undamaged : (stop : Stop) → StopsAt (last_state history serving.turns) out.turn disk stop → (damage : Damage) → status_of_stop stop ≡ Damaged damage → ⊥
+    undamaged stops.Disk ends damage is = cc
+    undamaged (stops.Damaged other) ends damage is = absurd ends
+    undamaged stops.Sink ends damage is = cc
+    undamaged stops.Memory ends damage is = cc
 
 -- a run goes on where neither what was shown nor the disk changed
 pub serving_along : (history : History) (old : MachineState) (source : SourceState) (one other : SinkState) (now then : DiskState) (archive : ArchiveState) (held : Held) (pulls : List Pull) → other ≡ one → then ≡ now

@@ -7,7 +7,7 @@ use Rattle.archive_state.specs.Histories.{History}
 use Rattle.archive_state.specs.Steps.{Refused, Step}
 use Rattle.archive_state.specs.Replies.{reply_text}
 use Rattle.archive_core.specs.States.{ArchiveState, IsKept}
-use Rattle.archive_core.specs.Takes.{Ending, Replied, Starved, Faulted, Takes}
+use Rattle.archive_core.specs.Takes.{Ending, Replied, Starved, Faulted, Spoiled, Takes}
 use Rattle.archive_core.proofs.AddLemmas.{kept_stands, leads_nowhere}
 use Rattle.archive_shell.specs.Turns.{AnsweredBy, Answers, Writes}
 use Rattle.archive_shell.specs.declared.stop.Halt.{Halt}
@@ -27,6 +27,7 @@ answers_by h item Starved result old new archive page takes is =
 answers_by h item Faulted result old new archive page takes is =
     let A : Result (Unit {0}) Halt → Type 0 = λ r. AnsweredBy h takes.turn new archive page r in
     record { turn = takes.turn; step = takes.step; leads = takes.leads; ends = subst A (sym is) tt }
+answers_by h item (Spoiled damage) result old new archive page takes is = absurd takes.ends
 
 -- an item that is refused without a call
 pub refused_by : (h : History) (item : Item) (why : Refusal) (result : Result (Unit {0}) Halt) (d : DiskState) (archive : ArchiveState) (page : List ℕ)

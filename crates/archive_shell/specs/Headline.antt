@@ -13,8 +13,9 @@ use Rattle.archive_state.specs.Steps.{Reply, Step}
 use Rattle.archive_state.specs.Replies.{reply_text}
 use Rattle.archive_state.specs.Runs.{Turn, IsRun, state_after, shown_by, Reopens}
 use Rattle.archive_state.specs.Stands.{Stands, EachStands}
+use Rattle.sublist_store.specs.declared.why.Damage.{Damage}
 use Rattle.archive_shell.specs.declared.status.Status.{Status}
-use Rattle.archive_shell.specs.declared.status.Status.TheVariants.{Done, Usage, NotArchive, Disk, Source, Sink, Script, Budget, Memory}
+use Rattle.archive_shell.specs.declared.status.Status.TheVariants.{Done, Usage, NotArchive, Disk, Source, Sink, Script, Damaged, Budget, Memory}
 
 -- a machine's meanings
 pub record MachineState : Type 0 where
@@ -32,11 +33,12 @@ CarriesOutAll Usage = ⊥
 CarriesOutAll (NotArchive at) = ⊥
 CarriesOutAll Disk = ⊥
 CarriesOutAll Sink = ⊥
+CarriesOutAll (Damaged damage) = ⊥
 CarriesOutAll Memory = ⊥
 
--- the statuses of an event that may end a run before its input is gone over: a fault of the disk or the sink, and want of memory
+-- the statuses of an event that may end a run before its input is gone over: a fault of the disk or the sink, want of memory, and a damaged sublist
 abbrev pub EndsEarly : Status → Type 0
-EndsEarly status = (status ≡ Disk) ⊎ ((status ≡ Sink) ⊎ (status ≡ Memory))
+EndsEarly status = (status ≡ Disk) ⊎ ((status ≡ Sink) ⊎ ((status ≡ Memory) ⊎ ((damage : Damage) × (status ≡ Damaged damage))))
 
 -- Where the input stood when the run ended: whether its end was told, the bytes pulled, and what is left of them behind the last whole item.
 pub record StoodAt (status : Status) (ended : Bool) (pulled rest : List ℕ) : Type 0 where
@@ -99,3 +101,5 @@ pub record Headline (history : History) (status : Status) (old new : MachineStat
   pub last : CarriesOutAll status → EachStands new.disk (state_after history ran.turns (length ran.turns))
   -- where the disk didn't fail, all images stand for one history
   pub steady : EachStands old.disk history → (status ≡ Disk → ⊥) → (j : ℕ) × (j ≤ length ran.turns) × EachStands new.disk (state_after history ran.turns j)
+  -- nothing is damaged
+  pub undamaged : (damage : Damage) → status ≡ Damaged damage → ⊥

@@ -1,4 +1,7 @@
+pub mod Damages
+pub mod Asking
 pub mod Headline
+pub mod Questions
 pub mod Serving
 pub mod Statuses
 pub mod Turns

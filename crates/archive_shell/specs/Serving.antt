@@ -13,8 +13,9 @@ use Rattle.archive_state.specs.Standing.{last_state, Carried}
 use Rattle.archive_state.specs.Stands.{Stands, EachStands}
 use Rattle.archive_core.specs.States.{ArchiveState, IsKept}
 use Rattle.archive_shell.specs.Headline.{CarriesOutAll, IsInTurn, MachineState, Ran, StoodAt}
+use Rattle.sublist_store.specs.declared.why.Damage.{Damage}
 use Rattle.archive_shell.specs.declared.status.Status.{Status}
-use Rattle.archive_shell.specs.declared.status.Status.TheVariants.{Disk}
+use Rattle.archive_shell.specs.declared.status.Status.TheVariants.{Damaged, Disk}
 
 -- Since a run began, these bytes were pulled: items that were given out, and then what is held.
 pub record Pulling (old now : SourceState) (held : Held) : Type 0 where
@@ -53,3 +54,4 @@ pub record Serves (history : History) (status : Status) (old new : MachineState)
   pub carried : Carried reply_text Stands history ran.turns old.sink.shown old.disk new.disk
   pub last : CarriesOutAll status → EachStands new.disk (last_state history ran.turns)
   pub steady : (status ≡ Disk → ⊥) → (j : ℕ) × (j ≤ length ran.turns) × EachStands new.disk (state_after history ran.turns j)
+  pub undamaged : (damage : Damage) → status ≡ Damaged damage → ⊥

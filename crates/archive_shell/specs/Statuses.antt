@@ -5,12 +5,14 @@ use Rattle.script_read.specs.declared.error.ScriptError.{ScriptError}
 use Rattle.script_read.specs.declared.error.ScriptError.TheVariants as errors
 use Rattle.archive_core.specs.declared.error.LoadError.{LoadError}
 use Rattle.archive_core.specs.declared.error.LoadError.TheVariants as loads
+use Rattle.sublist_store.specs.declared.why.Why.{Why}
+use Rattle.sublist_store.specs.declared.why.Why.TheVariants.{Form, Digest, Astray, Clash, Bare}
 use Rattle.archive_shell.specs.declared.stop.Halt.{Halt}
 use Rattle.archive_shell.specs.declared.stop.Halt.TheVariants as halts
 use Rattle.archive_shell.specs.declared.stop.Stop.{Stop}
 use Rattle.archive_shell.specs.declared.stop.Stop.TheVariants as stops
 use Rattle.archive_shell.specs.declared.status.Status.{Status}
-use Rattle.archive_shell.specs.declared.status.Status.TheVariants.{Done, Usage, NotArchive, Disk, Source, Sink, Script, Budget, Memory}
+use Rattle.archive_shell.specs.declared.status.Status.TheVariants.{Done, Usage, NotArchive, Disk, Source, Sink, Script, Damaged, Budget, Memory}
 
 -- the exit status
 abbrev pub code_of : Status → ℕ
@@ -21,8 +23,17 @@ code_of Disk = 4
 code_of Source = 5
 code_of Sink = 6
 code_of (Script at) = 7
+code_of (Damaged damage) = 8
 code_of Budget = 9
 code_of Memory = 12
+
+-- what is told of why a sublist is damaged
+abbrev pub why_text : Why → List ℕ
+why_text (Form at) = codes "form"
+why_text (Digest kept got) = codes "digest"
+why_text (Astray posting) = codes "astray"
+why_text (Clash one other) = codes "clash"
+why_text Bare = codes "bare"
 
 -- the line, without its end
 abbrev pub status_text : Status → List ℕ
@@ -33,6 +44,7 @@ status_text Disk = codes "tt_archive: disk fault"
 status_text Source = codes "tt_archive: source fault"
 status_text Sink = codes "tt_archive: sink fault"
 status_text (Script at) = codes "tt_archive: script fault at byte " ++ decimal at
+status_text (Damaged damage) = codes "tt_archive: damaged sublist at page " ++ decimal damage.page ++ codes ": " ++ why_text damage.why
 status_text Budget = codes "tt_archive: no end after 1099511627776 bytes"
 status_text Memory = codes "tt_archive: no memory"
 
@@ -46,12 +58,14 @@ status_of_script errors.Memory = Memory
 -- how a run ends that was stopped at a command
 abbrev pub status_of_stop : Stop → Status
 status_of_stop stops.Disk = Disk
+status_of_stop (stops.Damaged damage) = Damaged damage
 status_of_stop stops.Sink = Sink
 status_of_stop stops.Memory = Memory
 
 -- a halt, as an event that stops a run
 abbrev pub stop_of_halt : Halt → Stop
 stop_of_halt halts.Disk = stops.Disk
+stop_of_halt (halts.Damaged damage) = stops.Damaged damage
 stop_of_halt halts.Memory = stops.Memory
 
 -- how a run ends where there is no archive

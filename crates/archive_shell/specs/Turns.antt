@@ -4,15 +4,16 @@ use Rattle.machine_model.specs.Areas.{Both}
 use Rattle.machine_model.specs.States.{DiskState}
 use Rattle.machine_model.specs.Pushes.{IsPrefix}
 use Rattle.commands.specs.declared.command.Item.{Item}
+use Rattle.record_codec.specs.declared.entry.Entry.{Entry}
 use Rattle.archive_state.specs.Histories.{History}
 use Rattle.archive_state.specs.Steps.{Reply, Step}
 use Rattle.archive_state.specs.Replies.{reply_text}
 use Rattle.archive_state.specs.Runs.{Turn}
 use Rattle.archive_state.specs.Standing.{Carried}
 use Rattle.archive_state.specs.Stands.{Stands, EachStands}
-use Rattle.archive_core.specs.States.{ArchiveState, IsKept, Reaches}
+use Rattle.archive_core.specs.States.{ArchiveState, IsKept, Reaches, StandsFor}
 use Rattle.archive_core.specs.Changing.{LeadsTo}
-use Rattle.archive_core.specs.Takes.{Ending, Replied, Starved, Faulted}
+use Rattle.archive_core.specs.Takes.{Ending, Replied, Starved, Faulted, Spoiled}
 use Rattle.archive_shell.specs.declared.stop.Halt.{Halt}
 use Rattle.archive_shell.specs.declared.stop.Halt.TheVariants as halts
 use Rattle.archive_shell.specs.declared.stop.Stop.{Stop}
@@ -22,17 +23,23 @@ use Rattle.archive_shell.specs.declared.stop.Stop.TheVariants as stops
 abbrev pub CanGoOn : ArchiveState → Both ℕ → Type 0
 CanGoOn archive reach = IsTrue archive.live × Reaches reach archive
 
+-- an archive in hand stands for the history and some entries more
+abbrev pub GoesOnFrom : History → ArchiveState → Type 0
+GoesOnFrom history archive = (more : List Entry) × StandsFor archive (history ++ more)
+
 -- What is written of a call's end: its reply is on the page, unless there is no memory for it; or the run is halted.
 abbrev pub Writes : Ending → Result (Unit {0}) Halt → List ℕ → Type 0
 Writes (Replied reply) result page = ((result ≡ Ok tt) × (page ≡ reply_text reply)) ⊎ (result ≡ Err halts.Memory)
 Writes Starved result page = result ≡ Err halts.Memory
 Writes Faulted result page = result ≡ Err halts.Disk
+Writes (Spoiled damage) result page = result ≡ Err (halts.Damaged damage)
 
 -- where an item was answered the archive stands for the history after the turn, and the page has the reply; where memory ran out, each
--- image stands for the history before the turn, or each for the one after it
+-- image stands for the history before the turn, or each for the one after it; nothing was damaged
 abbrev pub AnsweredBy : History → Turn Reply History → DiskState → ArchiveState → List ℕ → Result (Unit {0}) Halt → Type 0
 AnsweredBy before turn new archive_now page (Ok done) = IsKept new archive_now turn.next × (page ≡ reply_text turn.reply)
 AnsweredBy before turn new archive_now page (Err halts.Disk) = Unit {0}
+AnsweredBy before turn new archive_now page (Err (halts.Damaged damage)) = ⊥
 AnsweredBy before turn new archive_now page (Err halts.Memory) = EachStands new before ⊎ EachStands new turn.next
 
 -- An item that was answered, or during which the run was halted: it has a turn of the abstract machine. Each image left since the start
@@ -43,9 +50,10 @@ pub record Answers (history : History) (item : Item) (result : Result (Unit {0})
   pub leads : LeadsTo history turn.next old new
   pub ends : AnsweredBy history turn new archive_now page result
 
--- what is known of the images where the run is stopped
+-- what is known of the images where the run is stopped, which is never for damage
 abbrev pub StopsAt : History → Turn Reply History → DiskState → Stop → Type 0
 StopsAt before turn new stops.Disk = Unit {0}
+StopsAt before turn new (stops.Damaged damage) = ⊥
 StopsAt before turn new stops.Sink = EachStands new turn.next
 StopsAt before turn new stops.Memory = EachStands new before ⊎ EachStands new turn.next
 

@@ -4,11 +4,15 @@ ghost use Rattle.machine_model.specs.Causes.{Rose};
 ghost use Rattle.archive_state.specs.Histories.{History};
 ghost use Rattle.archive_state.specs.Replies.{reply_text};
 ghost use Rattle.archive_state.specs.Steps.{Refused};
-ghost use Rattle.archive_core.specs.States.{IsKept};
+ghost use Rattle.archive_core.specs.States.{IsKept, StandsFor};
 ghost use Rattle.archive_core.specs.Takes.{changed, declined, found, planned, proposed, shown, spanned, unchanged};
 ghost use Rattle.commands.specs.declared.command.Item.TheVariants as items;
 ghost use Rattle.commands.specs.declared.command.Command.TheVariants as plain;
-ghost use Rattle.archive_shell.specs.Turns.{Answers, CanGoOn, Writes};
+ghost use Rattle.archive_shell.specs.Damages.{IsShownOf};
+ghost use Rattle.machine_model.specs.Calls.{OnlyReads};
+ghost use Rattle.archive_shell.specs.Asking.{IsOnPage};
+ghost use Rattle.archive_shell.specs.Questions.{IsQuestion};
+ghost use Rattle.archive_shell.specs.Turns.{Answers, CanGoOn, GoesOnFrom, Writes};
 
 use crate::stop::Halt;
 use archive_core::{Archive, AskError, ChangeError, PlanReport};
@@ -19,6 +23,7 @@ use machine_model::Disk;
 use proposals::Proposal;
 use query_eval::{Answer, SpanAnswer};
 use std::alloc::Global;
+use sublist_store::Damage;
 use time_base::{DocId, Fraction, Time};
 
 /// Carries out an item on the archive and its disk, and writes its reply on the page.
@@ -33,6 +38,11 @@ pub(crate) fn answer<D: Disk>(
     ensures only { D.Disk.only disk.old disk.new }
     ensures disk_fault { IsErrOf result Halt.Disk → Rose (D.disk disk.old).faults (D.disk disk.new).faults }
     ensures ready { OnOk result (CanGoOn archive.new (D.disk disk.new).reach) }
+    ensures follows { (h : History) → StandsFor archive.old h → OnOk result (GoesOnFrom h archive.new) }
+    ensures damaged { D.disk_tells → (h : History) → StandsFor archive.old h → (d : Damage) → IsErrOf result (Halt.Damaged d) → IsShownOf h (D.disk disk.new).holds.pages d }
+    // Whatever the disk holds, a question leaves it and the archive as they are, and its reply is made from the lists that are chosen.
+    ensures still { IsQuestion item → OnlyReads (D.disk disk.old) (D.disk disk.new) × (archive.new ≡ archive.old) }
+    ensures made { D.disk_tells → (h : History) → StandsFor archive.old h → IsQuestion item → OnOk result (IsOnPage h (D.disk disk.old).holds.pages item page.new.bytes) }
     ensures turn { D.disk_tells → (h : History) → IsKept (D.disk disk.old) archive.old h →
         Answers h item result (D.disk disk.old) (D.disk disk.new) archive.new page.new.bytes }
 {
@@ -54,6 +64,11 @@ fn carry_out<D: Disk>(
     ensures only { D.Disk.only disk.old disk.new }
     ensures disk_fault { IsErrOf result Halt.Disk → Rose (D.disk disk.old).faults (D.disk disk.new).faults }
     ensures ready { OnOk result (CanGoOn archive.new (D.disk disk.new).reach) }
+    ensures follows { (h : History) → StandsFor archive.old h → OnOk result (GoesOnFrom h archive.new) }
+    ensures damaged { D.disk_tells → (h : History) → StandsFor archive.old h → (d : Damage) → IsErrOf result (Halt.Damaged d) → IsShownOf h (D.disk disk.new).holds.pages d }
+    // Whatever the disk holds, a question leaves it and the archive as they are, and its reply is made from the lists that are chosen.
+    ensures still { IsQuestion (items.Command command) → OnlyReads (D.disk disk.old) (D.disk disk.new) × (archive.new ≡ archive.old) }
+    ensures made { D.disk_tells → (h : History) → StandsFor archive.old h → IsQuestion (items.Command command) → OnOk result (IsOnPage h (D.disk disk.old).holds.pages (items.Command command) page.new.bytes) }
     ensures turn { D.disk_tells → (h : History) → IsKept (D.disk disk.old) archive.old h →
         Answers h (items.Command command) result (D.disk disk.old) (D.disk disk.new) archive.new page.new.bytes }
 {
@@ -64,11 +79,11 @@ fn carry_out<D: Disk>(
             write_change(page, result)
         }
         Command::Find { at, expr } => {
-            let result = archive.find(alloc, at, &expr);
+            let result = archive.find(alloc, disk, at, &expr);
             write_found(page, result)
         }
         Command::Between { span, expr } => {
-            let result = archive.between(alloc, span, &expr);
+            let result = archive.between(alloc, disk, span, &expr);
             write_spanned(page, result)
         }
         Command::Show { doc, at } => {
@@ -106,6 +121,8 @@ fn arrive<D: Disk>(
     ensures only { D.Disk.only disk.old disk.new }
     ensures disk_fault { IsErrOf result Halt.Disk → Rose (D.disk disk.old).faults (D.disk disk.new).faults }
     ensures ready { OnOk result (CanGoOn archive.new (D.disk disk.new).reach) }
+    ensures follows { (h : History) → StandsFor archive.old h → OnOk result (GoesOnFrom h archive.new) }
+    ensures undamaged { (d : Damage) → IsErrOf result (Halt.Damaged d) → ⊥ }
     ensures turn { D.disk_tells → (h : History) → IsKept (D.disk disk.old) archive.old h →
         Answers h (items.Command (plain.Arrive doc at text)) result (D.disk disk.old) (D.disk disk.new) archive.new page.new.bytes }
 {
@@ -137,6 +154,8 @@ fn plan<D: Disk>(
     ensures only { D.Disk.only disk.old disk.new }
     ensures disk_fault { IsErrOf result Halt.Disk → Rose (D.disk disk.old).faults (D.disk disk.new).faults }
     ensures ready { OnOk result (CanGoOn archive.new (D.disk disk.new).reach) }
+    ensures follows { (h : History) → StandsFor archive.old h → OnOk result (GoesOnFrom h archive.new) }
+    ensures undamaged { (d : Damage) → IsErrOf result (Halt.Damaged d) → ⊥ }
     ensures turn { D.disk_tells → (h : History) → IsKept (D.disk disk.old) archive.old h →
         Answers h (items.Command (plain.Plan word.now kind fraction)) result (D.disk disk.old) (D.disk disk.new) archive.new page.new.bytes }
 {
@@ -163,6 +182,7 @@ fn refuse(page: &mut ReplyPage, why: Refusal) -> Result<(), Halt>
 fn write_change(page: &mut ReplyPage, change: Result<u64, ChangeError>) -> Result<(), Halt>
     ensures writes { Writes (changed change) result page.new.bytes }
     ensures fault { IsErrOf result Halt.Disk → IsErrOf change ChangeError.Failed }
+    ensures undamaged { (d : Damage) → IsErrOf result (Halt.Damaged d) → ⊥ }
     ensures live { OnOk result (IsOk change ⊎ ((why : Refusal) × IsErrOf change (ChangeError.Refused why))) }
 {
     match change {
@@ -178,6 +198,7 @@ fn write_change(page: &mut ReplyPage, change: Result<u64, ChangeError>) -> Resul
 fn write_planned(page: &mut ReplyPage, plan: Result<PlanReport, ChangeError>) -> Result<(), Halt>
     ensures writes { Writes (planned plan) result page.new.bytes }
     ensures fault { IsErrOf result Halt.Disk → IsErrOf plan ChangeError.Failed }
+    ensures undamaged { (d : Damage) → IsErrOf result (Halt.Damaged d) → ⊥ }
     ensures live { OnOk result (IsOk plan ⊎ ((why : Refusal) × IsErrOf plan (ChangeError.Refused why))) }
 {
     match plan {
@@ -199,6 +220,7 @@ fn write_planned(page: &mut ReplyPage, plan: Result<PlanReport, ChangeError>) ->
 fn write_unchanged(page: &mut ReplyPage, error: ChangeError) -> Result<(), Halt>
     ensures writes { Writes (unchanged error) result page.new.bytes }
     ensures fault { IsErrOf result Halt.Disk → error ≡ ChangeError.Failed }
+    ensures undamaged { (d : Damage) → IsErrOf result (Halt.Damaged d) → ⊥ }
     ensures live { OnOk result ((why : Refusal) × (error ≡ ChangeError.Refused why)) }
 {
     match error {
@@ -212,6 +234,7 @@ fn write_unchanged(page: &mut ReplyPage, error: ChangeError) -> Result<(), Halt>
 fn write_found(page: &mut ReplyPage, answer: Result<Answer, AskError>) -> Result<(), Halt>
     ensures writes { Writes (found answer) result page.new.bytes }
     ensures fault { IsErrOf result Halt.Disk → IsErrOf answer AskError.Failed }
+    ensures damage { (d : Damage) → IsErrOf result (Halt.Damaged d) → IsErrOf answer (AskError.Damaged d) }
 {
     match answer {
         Ok(answer) => match page.found(&answer.rows, answer.read) {
@@ -226,6 +249,7 @@ fn write_found(page: &mut ReplyPage, answer: Result<Answer, AskError>) -> Result
 fn write_spanned(page: &mut ReplyPage, answer: Result<SpanAnswer, AskError>) -> Result<(), Halt>
     ensures writes { Writes (spanned answer) result page.new.bytes }
     ensures fault { IsErrOf result Halt.Disk → IsErrOf answer AskError.Failed }
+    ensures damage { (d : Damage) → IsErrOf result (Halt.Damaged d) → IsErrOf answer (AskError.Damaged d) }
 {
     match answer {
         Ok(answer) => match page.spanned(&answer.rows, answer.read) {
@@ -240,6 +264,7 @@ fn write_spanned(page: &mut ReplyPage, answer: Result<SpanAnswer, AskError>) -> 
 fn write_proposed(page: &mut ReplyPage, plan: Result<Proposal, AskError>) -> Result<(), Halt>
     ensures writes { Writes (proposed plan) result page.new.bytes }
     ensures fault { IsErrOf result Halt.Disk → IsErrOf plan AskError.Failed }
+    ensures damage { (d : Damage) → IsErrOf result (Halt.Damaged d) → IsErrOf plan (AskError.Damaged d) }
 {
     match plan {
         Ok(plan) => match page.proposed(&plan.segments, &plan.nodes, plan.space) {
@@ -254,6 +279,7 @@ fn write_proposed(page: &mut ReplyPage, plan: Result<Proposal, AskError>) -> Res
 fn write_shown(page: &mut ReplyPage, text: Result<Option<Vec<u8>>, AskError>) -> Result<(), Halt>
     ensures writes { Writes (shown (λ v. v.items) text) result page.new.bytes }
     ensures fault { IsErrOf result Halt.Disk → IsErrOf text AskError.Failed }
+    ensures damage { (d : Damage) → IsErrOf result (Halt.Damaged d) → IsErrOf text (AskError.Damaged d) }
 {
     match text {
         Ok(text) => write_text(page, text),
@@ -265,6 +291,7 @@ fn write_shown(page: &mut ReplyPage, text: Result<Option<Vec<u8>>, AskError>) ->
 fn write_text(page: &mut ReplyPage, text: Option<Vec<u8>>) -> Result<(), Halt>
     ensures writes { Writes (shown (λ v. v.items) (Ok text)) result page.new.bytes }
     ensures fault { IsErrOf result Halt.Disk → ⊥ }
+    ensures undamaged { (d : Damage) → IsErrOf result (Halt.Damaged d) → ⊥ }
 {
     let Some(text) = text else {
         page.none();
@@ -280,10 +307,12 @@ fn write_text(page: &mut ReplyPage, text: Option<Vec<u8>>) -> Result<(), Halt>
 fn write_declined(page: &mut ReplyPage, error: AskError) -> Result<(), Halt>
     ensures writes { Writes (declined error) result page.new.bytes }
     ensures fault { IsErrOf result Halt.Disk → error ≡ AskError.Failed }
+    ensures damage { (d : Damage) → IsErrOf result (Halt.Damaged d) → error ≡ AskError.Damaged d }
 {
     match error {
         AskError::Refused(why) => refuse(page, why),
         AskError::Failed => Err(Halt::Disk),
+        AskError::Damaged(damage) => Err(Halt::Damaged(damage)),
         AskError::Memory => Err(Halt::Memory),
     }
 }

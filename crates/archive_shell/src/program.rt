@@ -1,11 +1,15 @@
 //! The program's run.
-ghost use Rattle.std.specs.Prelude.{◌≡◌, ◌⊎◌, ◌↔◌, ◌<◌, ◌≤◌, ◌^◌, ℕ, List, length, IsTrue};
+ghost use Rattle.std.specs.Prelude.{◌≡◌, ◌⊎◌, ◌↔◌, ◌<◌, ◌≤◌, ◌^◌, ℕ, true, List, [], length, All, IsTrue};
 ghost use Rattle.machine_model.specs.Calls.{Syncs};
 ghost use Rattle.machine_model.specs.Causes.{Rose};
 ghost use Rattle.machine_model.specs.Pulls.{Pull};
-ghost use Rattle.script_read.specs.Items.{IsScript};
+ghost use Rattle.script_read.specs.Items.{IsScript, Splits};
 ghost use Rattle.archive_state.specs.Histories.{History};
-ghost use Rattle.archive_state.specs.Stands.{Stands, IsNotArchive};
+ghost use Rattle.archive_state.specs.Stands.{Stands, IsNotArchive, bodies_of};
+ghost use Rattle.gate_journal.specs.Spelled.{Spells};
+ghost use Rattle.commands.specs.declared.command.Item.{Item};
+ghost use Rattle.archive_shell.specs.Damages.{ShowsDamage};
+ghost use Rattle.archive_shell.specs.Questions.{AreMade, IsQuestion};
 ghost use Rattle.archive_shell.specs.Headline.{Headline, MachineState};
 
 use crate::desk::Desk;
@@ -14,6 +18,7 @@ use crate::status::Status;
 use archive_core::Archive;
 use machine_model::Machine;
 use std::alloc::Global;
+use sublist_store::Damage;
 
 /// Whether a run refuses these words of the command line, without the program's name, before it
 /// touches anything: each word is one too many. Constant cost.
@@ -42,6 +47,13 @@ pub fn run<M: Machine>(alloc: Global, words: &[String], machine: &mut M) -> Stat
     ensures not_archive { M.disk_tells → (at : ℕ) → result ≡ Status.NotArchive at → IsNotArchive (M.disk machine.old).holds at }
     ensures refused { M.disk_tells → length words.now ≡ 0 → (at : ℕ) → IsNotArchive (M.disk machine.old).holds at →
         (result ≡ Status.NotArchive at) ⊎ ((result ≡ Status.Disk) ⊎ (result ≡ Status.Memory)) }
+    // A damaged sublist is told only where reads of Pages show it, whatever the disk holds.
+    ensures damaged { M.disk_tells → (d : Damage) → result ≡ Status.Damaged d → ShowsDamage (M.disk machine.old) (M.disk machine.new) d }
+    // Where the script is questions alone, and whatever the disk holds: each reply shown at status 0 is made from the lists that are chosen, by
+    // the history for which the journal stands and by what reads of Pages gave at entry.
+    ensures questions { M.source_tells → M.sink_tells → M.disk_tells → length words.now ≡ 0 → (asked : List Item) → Splits true (M.source machine.old).left asked [] →
+        All IsQuestion asked → result ≡ Status.Done → (loaded : History) × Spells (M.disk machine.old).holds.journal (bodies_of loaded)
+        × AreMade loaded (M.disk machine.old).holds.pages asked (M.sink machine.old).shown (M.sink machine.new).shown }
     // Such bytes are left as they are: they are synced and read, and nothing is pulled, shown or written.
     ensures left_alone { M.disk_tells → length words.now ≡ 0 → (at : ℕ) → IsNotArchive (M.disk machine.old).holds at →
         (M.source machine.new ≡ M.source machine.old) × (M.sink machine.new ≡ M.sink machine.old)
@@ -52,14 +64,14 @@ pub fn run<M: Machine>(alloc: Global, words: &[String], machine: &mut M) -> Stat
         (pulls : List Pull) × M.asked machine.old pulls machine.new
         × Headline h result (record { source = M.source machine.old; sink = M.sink machine.old; disk = M.disk machine.old })
         (record { source = M.source machine.new; sink = M.sink machine.new; disk = M.disk machine.new }) pulls }
-    // Where nothing is wrong, the run comes to the end of the input, unless memory runs out.
+    // Where nothing is wrong, the run comes to the end of the input, unless memory runs out or a sublist is damaged.
     ensures complete { M.source_tells → M.sink_tells → M.disk_tells → length words.now ≡ 0 →
         ((at : ℕ) → IsNotArchive (M.disk machine.old).holds at → ⊥) →
         IsScript (M.source machine.old).left → length (M.source machine.old).left < 2 ^ 40 →
         (Rose (M.disk machine.old).faults (M.disk machine.new).faults → ⊥) →
         (Rose (M.source machine.old).faults (M.source machine.new).faults → ⊥) →
         (Rose (M.sink machine.old).faults (M.sink machine.new).faults → ⊥) →
-        (result ≡ Status.Done) ⊎ (result ≡ Status.Memory) }
+        (result ≡ Status.Done) ⊎ ((result ≡ Status.Memory) ⊎ ((damage : Damage) × (result ≡ Status.Damaged damage))) }
 {
     if are_refused(words) {
         return Status::Usage;

@@ -3,10 +3,14 @@ ghost use Rattle.std.specs.Prelude.{◌≡◌, ◌<◌, ◌≤◌, ◌^◌, ◌+
 ghost use Rattle.machine_model.specs.Causes.{Rose};
 ghost use Rattle.machine_model.specs.Pulls.{Pull};
 ghost use Rattle.machine_model.specs.States.{SourceState};
+ghost use Rattle.record_codec.specs.declared.entry.Entry.{Entry};
 ghost use Rattle.archive_state.specs.Histories.{History};
+ghost use Rattle.archive_core.specs.States.{StandsFor};
+ghost use Rattle.archive_shell.specs.Damages.{IsShownOf};
 ghost use Rattle.archive_shell.specs.Headline.{MachineState};
+ghost use Rattle.archive_shell.specs.Asking.{Asking, HasAsked};
 ghost use Rattle.archive_shell.specs.Serving.{Pulling, Ends, Serving, Serves};
-ghost use Rattle.archive_shell.specs.Turns.{CanGoOn};
+ghost use Rattle.archive_shell.specs.Turns.{CanGoOn, GoesOnFrom};
 
 use crate::carry_out::carry_out;
 use crate::status::Status;
@@ -15,6 +19,7 @@ use archive_replies::ReplyPage;
 use machine_model::Machine;
 use script_read::Reader;
 use std::alloc::Global;
+use sublist_store::Damage;
 
 /// Carries out the next item of the input and shows its reply, or says how the run ends.
 pub(crate) fn step<M: Machine>(
@@ -34,6 +39,8 @@ pub(crate) fn step<M: Machine>(
     ensures no_usage { IsErrOf result Status.Usage → ⊥ }
     ensures no_load { (at : ℕ) → IsErrOf result (Status.NotArchive at) → ⊥ }
     ensures ready { OnOk result (CanGoOn archive.new (M.disk machine.new).reach) }
+    ensures follows { (h : History) → StandsFor archive.old h → OnOk result (GoesOnFrom h archive.new) }
+    ensures damaged { M.disk_tells → (h : History) → StandsFor archive.old h → (d : Damage) → IsErrOf result (Status.Damaged d) → IsShownOf h (M.disk machine.new).holds.pages d }
     ensures nearer { OnOk result (reader.old.passed < reader.new.passed) }
     ensures bound { reader.new.passed ≤ 2 ^ 40 }
     ensures pulls { M.source_tells → (began : SourceState) → Pulling began (M.source machine.old) reader.old →
@@ -43,6 +50,10 @@ pub(crate) fn step<M: Machine>(
         (pulls : List Pull) × M.asked machine.old pulls machine.new × MatchResult result
         (λ _. Serving h began (record { source = M.source machine.new; sink = M.sink machine.new; disk = M.disk machine.new }) archive.new reader.new (before ++ pulls))
         (λ status. Serves h status began (record { source = M.source machine.new; sink = M.sink machine.new; disk = M.disk machine.new }) (before ++ pulls)) }
+    ensures asks { M.source_tells → M.sink_tells → M.disk_tells → (h : History) (pages : List ℕ) (began : MachineState) →
+        Asking h pages began (record { source = M.source machine.old; sink = M.sink machine.old; disk = M.disk machine.old }) archive.old reader.old → MatchResult result
+        (λ _. Asking h pages began (record { source = M.source machine.new; sink = M.sink machine.new; disk = M.disk machine.new }) archive.new reader.new)
+        (λ status. status ≡ Status.Done → HasAsked h pages began (record { source = M.source machine.new; sink = M.sink machine.new; disk = M.disk machine.new })) }
 {
     let item = match reader.next_item(alloc, machine) {
         Ok(item) => item,
@@ -72,6 +83,8 @@ pub(crate) fn serve<M: Machine>(
     ensures disk_later { (M.disk machine.old).faults ≤ (M.disk machine.new).faults }
     ensures no_usage { result ≡ Status.Usage → ⊥ }
     ensures no_load { (at : ℕ) → result ≡ Status.NotArchive at → ⊥ }
+    ensures damaged { M.disk_tells → (h : History) → StandsFor archive.old h → (d : Damage) → result ≡ Status.Damaged d →
+        (more : List Entry) × IsShownOf (h ++ more) (M.disk machine.new).holds.pages d }
     ensures ends { M.source_tells → Pulling (M.source machine.old) (M.source machine.old) reader.old → Ends result (M.source machine.old) (M.source machine.new) }
     ensures served { M.source_tells → M.sink_tells → M.disk_tells → (h : History) →
         Serving h (record { source = M.source machine.old; sink = M.sink machine.old; disk = M.disk machine.old })
@@ -79,6 +92,11 @@ pub(crate) fn serve<M: Machine>(
         (pulls : List Pull) × M.asked machine.old pulls machine.new
         × Serves h result (record { source = M.source machine.old; sink = M.sink machine.old; disk = M.disk machine.old })
         (record { source = M.source machine.new; sink = M.sink machine.new; disk = M.disk machine.new }) pulls }
+    ensures asks { M.source_tells → M.sink_tells → M.disk_tells → (h : History) (pages : List ℕ) →
+        Asking h pages (record { source = M.source machine.old; sink = M.sink machine.old; disk = M.disk machine.old })
+        (record { source = M.source machine.old; sink = M.sink machine.old; disk = M.disk machine.old }) archive.old reader.old → result ≡ Status.Done →
+        HasAsked h pages (record { source = M.source machine.old; sink = M.sink machine.old; disk = M.disk machine.old })
+        (record { source = M.source machine.new; sink = M.sink machine.new; disk = M.disk machine.new }) }
 {
     'items: loop {
         match step(alloc, machine, reader, archive, page) {

@@ -1,11 +1,12 @@
 //! How a run ends.
 ghost use Rattle.std.specs.Prelude.{◌≡◌};
-ghost use Rattle.archive_shell.specs.Statuses.{code_of, status_of_load, status_of_script, status_of_stop};
+ghost use Rattle.archive_shell.specs.Statuses.{code_of, status_of_load, status_of_script, status_of_stop, why_text};
 
 use crate::stop::Stop;
 use archive_core::LoadError;
 use script_read::ScriptError;
 use std::fmt;
+use sublist_store::{Damage, Why};
 
 /// How a run ends: what decides the program's exit status, and the line that it prints of it.
 #[derive(Clone, Copy, Debug, PartialEq, Eq)]
@@ -30,6 +31,8 @@ pub enum Status {
         /// The place in the input, in bytes.
         at: u64,
     },
+    /// A sublist that was read isn't what the entry of its plan says.
+    Damaged(Damage),
     /// The input has no end within 2^40 bytes.
     Budget,
     /// There was no memory.
@@ -49,6 +52,7 @@ impl Status {
             Status::Source => 5,
             Status::Sink => 6,
             Status::Script { .. } => 7,
+            Status::Damaged(_) => 8,
             Status::Budget => 9,
             Status::Memory => 12,
         }
@@ -86,6 +90,7 @@ impl From<Stop> for Status {
     fn from(stop: Stop) -> Status {
         match stop {
             Stop::Disk => Status::Disk,
+            Stop::Damaged(damage) => Status::Damaged(damage),
             Stop::Sink => Status::Sink,
             Stop::Memory => Status::Memory,
         }
@@ -112,8 +117,25 @@ impl fmt::Display for Status {
             Status::Source => write!(f, "tt_archive: source fault"),
             Status::Sink => write!(f, "tt_archive: sink fault"),
             Status::Script { at } => write!(f, "tt_archive: script fault at byte {at}"),
+            Status::Damaged(Damage { page, why }) => {
+                let word = word_of(why);
+                write!(f, "tt_archive: damaged sublist at page {page}: {word}")
+            }
             Status::Budget => write!(f, "tt_archive: no end after 1099511627776 bytes"),
             Status::Memory => write!(f, "tt_archive: no memory"),
         }
+    }
+}
+
+/// What is told of why a sublist is damaged. Constant cost.
+fn word_of(why: &Why) -> &'static str
+    ensures { result.now ≡ why_text why.now }
+{
+    match why {
+        Why::Form { .. } => "form",
+        Why::Digest { .. } => "digest",
+        Why::Astray { .. } => "astray",
+        Why::Clash { .. } => "clash",
+        Why::Bare => "bare",
     }
 }

@@ -2,11 +2,15 @@
 ghost use Rattle.std.specs.Prelude.{◌≡◌};
 ghost use Rattle.archive_shell.specs.Statuses.{stop_of_halt};
 
+use sublist_store::Damage;
+
 /// An event that ends a run before the reply to an item is known.
 #[derive(Clone, Copy, Debug, PartialEq, Eq)]
 pub(crate) enum Halt {
     /// A call of the disk failed.
     Disk,
+    /// A sublist that was read isn't what the entry of its plan says.
+    Damaged(Damage),
     /// There was no memory.
     Memory,
 }
@@ -16,6 +20,8 @@ pub(crate) enum Halt {
 pub(crate) enum Stop {
     /// A call of the disk failed.
     Disk,
+    /// A sublist that was read isn't what the entry of its plan says.
+    Damaged(Damage),
     /// A reply couldn't be shown whole.
     Sink,
     /// There was no memory.
@@ -28,6 +34,7 @@ impl From<Halt> for Stop {
     fn from(halt: Halt) -> Stop {
         match halt {
             Halt::Disk => Stop::Disk,
+            Halt::Damaged(damage) => Stop::Damaged(damage),
             Halt::Memory => Stop::Memory,
         }
     }

@@ -1,6 +1,7 @@
 //! The program's exit statuses and the lines that it prints of them.
 use archive_shell::Status;
 use std::test::Fail;
+use sublist_store::{Damage, Why};
 
 #[test]
 fn each_status_has_its_code_and_its_line(rt: HostRuntime) -> Result<(), Fail> {
@@ -24,6 +25,14 @@ fn each_status_has_its_code_and_its_line(rt: HostRuntime) -> Result<(), Fail> {
             Status::Script { at: 20 },
             7,
             "tt_archive: script fault at byte 20",
+        ),
+        (
+            Status::Damaged(Damage {
+                page: 7,
+                why: Why::Bare,
+            }),
+            8,
+            "tt_archive: damaged sublist at page 7: bare",
         ),
         (
             Status::Budget,

@@ -3,7 +3,7 @@ use crate::journals::Segment;
 use archive_rig::{Row, copy_image, machine_on, read_image, run_on};
 use archive_shell::Status;
 use machine_model::Image;
-use std::alloc::{AllocError, Global};
+use std::alloc::Global;
 use std::process::Abort;
 use std::test::Fail;
 
@@ -32,26 +32,6 @@ pub(crate) fn new_disk(alloc: Global) -> Image {
     }
 }
 
-/// Replies without how much was read. This is for a time: a question of a planned word still goes
-/// through the word's whole list in memory. Where it reads the chosen sublists, the replies are compared as
-/// they are.
-pub(crate) fn shown(alloc: Global, replies: &[u8]) -> Result<Vec<u8>, AllocError> {
-    let mut kept = Vec::new(alloc);
-    let mut dropping = false;
-    for at in 0..replies.len() {
-        if replies[at] == b'\n' {
-            dropping = false;
-        }
-        if replies[at..].starts_with(b" read ") {
-            dropping = true;
-        }
-        if !dropping {
-            kept.push(replies[at])?;
-        }
-    }
-    Ok(kept)
-}
-
 /// The disk that a script leaves, which comes to its end with these replies. (A run that always ended
 /// for want of memory, which its contract allows, fails here.)
 pub(crate) fn disk_after(
@@ -67,9 +47,7 @@ pub(crate) fn disk_after(
         "{:?}",
         row.script
     );
-    let found = shown(alloc, machine.shown())?;
-    let wanted = shown(alloc, row.replies)?;
-    assert_eq!(rt; found.as_slice(), wanted.as_slice(), "{:?}", row.script);
+    assert_eq!(rt; machine.shown(), row.replies, "{:?}", row.script);
     Ok(read_image(alloc, &mut machine)?)
 }
 

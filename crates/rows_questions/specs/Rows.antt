@@ -160,7 +160,7 @@ is_red = refl
 found : Step one_arrival (Command (Find ten (codes "red"))) (Found (hit ∷ []) 1) one_arrival
 found =
     let R : Result Query ℕ → Type 0 = λ r. IsRead key_of (codes "red") r in
-    (refl, (Ok (Has red), subst R is_red (is_read key_of (codes "red")), (hit ∷ [], 1, one_row, (posting ∷ [], 0, one_posting, refl, refl), refl)))
+    (refl, (Ok (Has red), subst R is_red (is_read key_of (codes "red")), (hit ∷ [], 1, one_row, (1, 0, (posting ∷ [], one_posting, refl), refl, refl), refl)))
 
 -- the same over a window that ends while the version is alive: it has the word from its time on
 abbrev window : Span
@@ -227,4 +227,4 @@ one_span = record { ordered = tt; longest = λ r there. longest r there; covered
 spanned : Step one_arrival (Command (Between window (codes "red"))) (Spanned (span_row ∷ []) 1) one_arrival
 spanned =
     let R : Result Query ℕ → Type 0 = λ r. IsRead key_of (codes "red") r in
-    (refl, (Ok (Has red), subst R is_red (is_read key_of (codes "red")), (span_row ∷ [], 1, one_span, (posting ∷ [], 0, one_posting, refl, refl), refl)))
+    (refl, (Ok (Has red), subst R is_red (is_read key_of (codes "red")), (span_row ∷ [], 1, one_span, (1, 0, (posting ∷ [], one_posting, refl), refl, refl), refl)))

@@ -1,10 +1,13 @@
-use Rattle.std.proofs.Common.{refl, sym, subst}
+use Rattle.std.proofs.Common.{◌+◌, OnOk, refl, sym, subst}
 use Rattle.commands.specs.declared.command.Command.{Command}
 use Rattle.commands.specs.declared.command.Command.TheVariants as plain
 use Rattle.commands.specs.declared.command.Item.TheVariants as items
 use Rattle.archive_state.specs.declared.refusal.Refusal.TheVariants as refusals
 use Rattle.archive_core.specs.Takes.{changed, found, proposed, shown, spanned}
 use Rattle.archive_shell.specs.Turns.{Answers}
+use Rattle.archive_shell.specs.Asking.{IsOnPage}
+use Rattle.archive_shell.proofs.DamageLemmas.{shown_still}
+use Rattle.archive_shell.proofs.QuestionLemmas.{made_find, made_between}
 use Rattle.archive_shell.proofs.TurnLemmas.{answers_by, refused_by}
 use Rattle.archive_shell.proofs.answer.carry_out.Goals as goal
 
@@ -16,15 +19,15 @@ returns-in-Delete-clause-turn g c = λ tells h kept.
 
 pub returns-in-Find-clause-turn : goal.returns-in-Find-clause-turn
 returns-in-Find-clause-turn g c = λ tells h kept.
-    let C : Command → Type 0 = λ d. Answers h (items.Command d) c.write_found.result (g.D.Disk.disk c.args.disk.now) (g.D.Disk.disk c.args.disk.now) c.args.archive.now c.write_found.new.page.bytes in
-    subst C (sym c.in-Find.is) (answers_by h (items.Command (plain.Find c.in-Find.at c.in-Find.expr)) (found c.find-result.result) c.write_found.result _ _ c.args.archive.now c.write_found.new.page.bytes
-    (c.find-result.ensures.takes (g.D.Disk.disk c.args.disk.now) h kept) c.write_found.ensures.writes)
+    let C : Command → Type 0 = λ d. Answers h (items.Command d) c.write_found.result (g.D.Disk.disk c.args.disk.now) (g.D.Disk.disk c.find-result.new.disk) c.find-result.new.self c.write_found.new.page.bytes in
+    subst C (sym c.in-Find.is) (answers_by h (items.Command (plain.Find c.in-Find.at c.in-Find.expr)) (found c.find-result.result) c.write_found.result _ _ c.find-result.new.self c.write_found.new.page.bytes
+    (c.find-result.ensures.takes tells h kept) c.write_found.ensures.writes)
 
 pub returns-in-Between-clause-turn : goal.returns-in-Between-clause-turn
 returns-in-Between-clause-turn g c = λ tells h kept.
-    let C : Command → Type 0 = λ d. Answers h (items.Command d) c.write_spanned.result (g.D.Disk.disk c.args.disk.now) (g.D.Disk.disk c.args.disk.now) c.args.archive.now c.write_spanned.new.page.bytes in
-    subst C (sym c.in-Between.is) (answers_by h (items.Command (plain.Between c.in-Between.span c.in-Between.expr)) (spanned c.between-result.result) c.write_spanned.result _ _ c.args.archive.now c.write_spanned.new.page.bytes
-    (c.between-result.ensures.takes (g.D.Disk.disk c.args.disk.now) h kept) c.write_spanned.ensures.writes)
+    let C : Command → Type 0 = λ d. Answers h (items.Command d) c.write_spanned.result (g.D.Disk.disk c.args.disk.now) (g.D.Disk.disk c.between-result.new.disk) c.between-result.new.self c.write_spanned.new.page.bytes in
+    subst C (sym c.in-Between.is) (answers_by h (items.Command (plain.Between c.in-Between.span c.in-Between.expr)) (spanned c.between-result.result) c.write_spanned.result _ _ c.between-result.new.self c.write_spanned.new.page.bytes
+    (c.between-result.ensures.takes tells h kept) c.write_spanned.ensures.writes)
 
 pub returns-in-Show-clause-turn : goal.returns-in-Show-clause-turn
 returns-in-Show-clause-turn g c = λ tells h kept.
@@ -48,3 +51,27 @@ pub returns-in-Verify-clause-turn : goal.returns-in-Verify-clause-turn
 returns-in-Verify-clause-turn g c = λ tells h kept.
     let C : Command → Type 0 = λ d. Answers h (items.Command d) c.refuse.result (g.D.Disk.disk c.args.disk.now) (g.D.Disk.disk c.args.disk.now) c.args.archive.now c.refuse.new.page.bytes in
     subst C (sym c.in-Verify.is) (refused_by h (items.Command plain.Verify) refusals.Line c.refuse.result _ c.args.archive.now c.refuse.new.page.bytes (refl, refl) kept c.refuse.ensures.goes_on c.refuse.ensures.reply)
+
+pub returns-in-Find-clause-damaged : goal.returns-in-Find-clause-damaged
+returns-in-Find-clause-damaged g c = λ tells h stands d is.
+    let shown = c.find-result.ensures.damaged tells h stands d (c.write_found.ensures.damage d is) in
+    shown_still h shown.0 c.in-Find.at.seconds (c.in-Find.at.seconds + 1) (g.D.Disk.disk c.args.disk.now) (g.D.Disk.disk c.find-result.new.disk) d c.find-result.ensures.same shown.1
+
+pub returns-in-Between-clause-damaged : goal.returns-in-Between-clause-damaged
+returns-in-Between-clause-damaged g c = λ tells h stands d is.
+    let shown = c.between-result.ensures.damaged tells h stands d (c.write_spanned.ensures.damage d is) in
+    shown_still h shown.0 c.in-Between.span.from c.in-Between.span.to (g.D.Disk.disk c.args.disk.now) (g.D.Disk.disk c.between-result.new.disk) d c.between-result.ensures.same shown.1
+
+pub returns-in-Find-clause-made : goal.returns-in-Find-clause-made
+returns-in-Find-clause-made g c = λ tells h stands question.
+    let pages = (g.D.Disk.disk c.args.disk.now).holds.pages in
+    let C : Command → Type 0 = λ d. OnOk c.write_found.result (IsOnPage h pages (items.Command d) c.write_found.new.page.bytes) in
+    subst C (sym c.in-Find.is)
+    (made_find h pages c.in-Find.at c.in-Find.expr _ c.find-result.result c.write_found.result c.write_found.new.page.bytes (c.find-result.ensures.made tells h stands) c.find-result.ensures.refused c.write_found.ensures.writes)
+
+pub returns-in-Between-clause-made : goal.returns-in-Between-clause-made
+returns-in-Between-clause-made g c = λ tells h stands question.
+    let pages = (g.D.Disk.disk c.args.disk.now).holds.pages in
+    let C : Command → Type 0 = λ d. OnOk c.write_spanned.result (IsOnPage h pages (items.Command d) c.write_spanned.new.page.bytes) in
+    subst C (sym c.in-Between.is)
+    (made_between h pages c.in-Between.span c.in-Between.expr _ c.between-result.result c.write_spanned.result c.write_spanned.new.page.bytes (c.between-result.ensures.made tells h stands) c.between-result.ensures.refused c.write_spanned.ensures.writes)

@@ -2,6 +2,7 @@ use Rattle.std.proofs.Common.{◌≡◌, List, ℕ, [], Ok, Err, ap, sym, subst,
 use Rattle.machine_model.specs.States.{SinkState}
 use Rattle.archive_shell.specs.Turns.{Answers, CarriesOut}
 use Rattle.archive_shell.specs.declared.stop.Stop.TheVariants.{Sink}
+use Rattle.archive_shell.proofs.QuestionLemmas.{shown_so}
 use Rattle.archive_shell.proofs.ShowLemmas.{cut_short, carried_out}
 use Rattle.archive_shell.proofs.carry_out.carry_out.Goals as goal
 
@@ -60,3 +61,13 @@ returns-in-Err-show-clause-turn g c = λ disk_tells sink_tells h kept.
     (c.in-Err-show.ensures.front sink_tells) (c.in-Err-show.ensures.short sink_tells) in
     let P : List ℕ → Type 0 = λ before. CarriesOut h c.args.item (Err Sink) before after (g.M.Disk.disk c.args.machine.now) (g.M.Disk.disk c.show.new.sink) c.answer.new.archive in
     subst P shown out
+
+pub returns-in-Ok-show-clause-question : goal.returns-in-Ok-show-clause-question
+returns-in-Ok-show-clause-question g c = λ disk_tells sink_tells h stands question.
+    let m = g.met.M.Machine in
+    let mid = c.answer.new.disk in
+    let alone = m.disk_alone c.args.machine.now mid c.answer.ensures.only in
+    let still = c.in-Ok.ensures.still question in
+    shown_so h c.args.item c.answer.new.page.bytes c.as_bytes.result.now (g.M.Sink.sink c.args.machine.now).shown (g.M.Sink.sink mid).shown (g.M.Sink.sink c.show.new.sink).shown
+    (g.M.Disk.disk c.args.machine.now) (g.M.Disk.disk mid) (g.M.Disk.disk c.show.new.sink) c.args.archive.now c.answer.new.archive still.0 still.1 (c.in-Ok.ensures.made disk_tells h stands question)
+    (m.sink_alone mid c.show.new.sink c.show.ensures.only).1 (ap (λ (s : SinkState). s.shown) alone.1) c.as_bytes.ensures (c.in-Ok-show.ensures.whole sink_tells)

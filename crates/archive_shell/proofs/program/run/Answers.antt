@@ -1,15 +1,21 @@
-use Rattle.std.proofs.Common.{◌≡◌, ◌⊎◌, [], length, Err, refl, inl, inr, ap, sym, subst}
+use Rattle.std.proofs.Common.{◌≡◌, ◌⊎◌, true, List, [], length, All, Err, refl, inl, inr, ap, sym, subst}
 use Rattle.std.proofs.lemmas.Bool.{cases_lt}
 use Rattle.machine_model.specs.Calls.{Syncs}
 use Rattle.machine_model.specs.Causes.{Rose}
 use Rattle.machine_model.specs.States.{SourceState, SinkState}
 use Rattle.archive_state.proofs.StandsLemmas.{stands_is_archive, not_archive_once}
+use Rattle.sublist_store.specs.declared.why.Damage.{Damage}
 use Rattle.archive_shell.specs.Headline.{Headline, EndsEarly}
 use Rattle.archive_shell.specs.Serving.{Ends}
 use Rattle.archive_shell.specs.declared.status.Status.{Status}
-use Rattle.archive_shell.specs.declared.status.Status.TheVariants.{Done, NotArchive, Disk, Memory}
-use Rattle.archive_shell.proofs.EndLemmas.{new_stands, keeps_still, syncs_still, not_begun, serving_start, whole_run, load_early, load_refused, load_completes, rose_earlier, serves_of}
+use Rattle.archive_shell.specs.declared.status.Status.TheVariants.{Done, NotArchive, Damaged, Disk, Memory}
+use Rattle.archive_shell.proofs.EndLemmas.{new_stands, keeps_still, syncs_still, not_begun, serving_start, whole_run, load_early, load_refused, load_undamaged, load_completes, rose_earlier, serves_of}
 use Rattle.archive_shell.proofs.PullLemmas.{completes, pulling_start}
+use Rattle.commands.specs.declared.command.Item.{Item}
+use Rattle.script_read.specs.Items.{Splits}
+use Rattle.script_read.proofs.Splitting.{one_split}
+use Rattle.archive_shell.specs.Questions.{AreMade, IsQuestion}
+use Rattle.archive_shell.proofs.QuestionLemmas.{asking_start, made_at_start}
 use Rattle.archive_shell.proofs.program.run.Goals as goal
 
 pub returns-in-Err-clause-left_alone : goal.returns-in-Err-clause-left_alone
@@ -20,7 +26,7 @@ returns-in-Err-clause-headline g c = λ source_tells sink_tells disk_tells none 
     let m = c.args.machine.now in (
       [],
       g.met.M.Machine.disk_asks_nothing m m (g.met.M.Disk.only_same m),
-      not_begun h Memory (record { source = g.M.Source.source m; sink = g.M.Sink.sink m; disk = g.M.Disk.disk m }) (g.M.Sink.sink m) (g.M.Disk.disk m) (inr (inr refl)) refl
+      not_begun h Memory (record { source = g.M.Source.source m; sink = g.M.Sink.sink m; disk = g.M.Disk.disk m }) (g.M.Sink.sink m) (g.M.Disk.disk m) (inr (inr (inl refl))) (λ damage is. cc) refl
           (g.met.M.Machine.beside_shown m sink_tells disk_tells) (λ each. keeps_still h (g.M.Disk.disk m) each),
     )
 
@@ -49,16 +55,17 @@ returns-in-Err-load-clause-headline g c = λ source_tells sink_tells disk_tells 
     let alone = g.met.M.Machine.disk_alone m n c.load.ensures.only in
     let early = load_early c.in-Err-load.error (λ at is. stands_is_archive h (g.M.Disk.disk m).holds at stands (c.in-Err-load.ensures.not_archive disk_tells at (ap Err is))) in
     let E : Status → Type 0 = λ s. EndsEarly s in
+    let U : Status → Type 0 = λ s. (damage : Damage) → s ≡ Damaged damage → ⊥ in
     let S : SourceState → Type 0 = λ s. Headline h c.from.result (record { source = g.M.Source.source m; sink = g.M.Sink.sink m; disk = g.M.Disk.disk m }) (record { source = s; sink = g.M.Sink.sink n; disk = g.M.Disk.disk n }) [] in (
       [],
       g.met.M.Machine.disk_asks_nothing m n c.load.ensures.only,
-      subst S (sym alone.0) (not_begun h c.from.result (record { source = g.M.Source.source m; sink = g.M.Sink.sink m; disk = g.M.Disk.disk m }) (g.M.Sink.sink n) (g.M.Disk.disk n) (subst E (sym c.from.ensures) early) alone.1
+      subst S (sym alone.0) (not_begun h c.from.result (record { source = g.M.Source.source m; sink = g.M.Sink.sink m; disk = g.M.Disk.disk m }) (g.M.Sink.sink n) (g.M.Disk.disk n) (subst E (sym c.from.ensures) early) (subst U (sym c.from.ensures) (load_undamaged c.in-Err-load.error)) alone.1
           (g.met.M.Machine.beside_shown m sink_tells disk_tells) (λ each. c.in-Err-load.ensures.crash disk_tells h each)),
     )
 
 pub returns-in-Err-load-clause-complete : goal.returns-in-Err-load-clause-complete
 returns-in-Err-load-clause-complete g c = λ source_tells sink_tells disk_tells none archive script few disk source sink.
-    let P : Status → Type 0 = λ s. (s ≡ Done) ⊎ (s ≡ Memory) in
+    let P : Status → Type 0 = λ s. (s ≡ Done) ⊎ ((s ≡ Memory) ⊎ ((damage : Damage) × (s ≡ Damaged damage))) in
     subst P (sym c.from.ensures) (load_completes c.in-Err-load.error (λ is. disk (c.in-Err-load.ensures.failed (ap Err is))) (λ at is. archive at (c.in-Err-load.ensures.not_archive disk_tells at (ap Err is))))
 
 pub returns-clause-disk_fault : goal.returns-clause-disk_fault
@@ -80,6 +87,12 @@ returns-clause-sink_fault g c = λ is.
 
 pub returns-clause-not_archive : goal.returns-clause-not_archive
 returns-clause-not_archive g c = λ disk_tells at is. absurd (c.serve.ensures.no_load at is)
+
+pub returns-clause-damaged : goal.returns-clause-damaged
+returns-clause-damaged g c = λ disk_tells d is.
+    let found = c.in-Ok-load.ensures.found disk_tells in
+    let shown = c.serve.ensures.damaged disk_tells found.0 found.1.0 d is in
+    record { loaded = found.0; spelled = found.1.1; added = shown.0; shown = shown.1 }
 
 pub returns-clause-refused : goal.returns-clause-refused
 returns-clause-refused g c = λ disk_tells none at refused. absurd (c.in-Ok-load.ensures.exact disk_tells at refused)
@@ -118,3 +131,21 @@ returns-clause-complete g c = λ source_tells sink_tells disk_tells none archive
     completes c.serve.result (g.M.Source.source m) (g.M.Source.source last) ends script few c.serve.ensures.no_usage c.serve.ensures.no_load
     (λ is. disk (rose_earlier (g.M.Disk.disk m).faults (g.M.Disk.disk n).faults (g.M.Disk.disk last).faults (g.met.M.Disk.only_faults m n c.load.ensures.only) (c.serve.ensures.disk_fault is)))
     (λ is. source (subst S alone.0 (c.serve.ensures.source_fault is))) (λ is. sink (subst T alone.1 (c.serve.ensures.sink_fault is)))
+
+pub returns-clause-questions : goal.returns-clause-questions
+returns-clause-questions g c = λ source_tells sink_tells disk_tells none asked split all is.
+    let m = c.args.machine.now in
+    let n = c.load.new.disk in
+    let last = c.serve.new.machine in
+    let alone = g.met.M.Machine.disk_alone m n c.load.ensures.only in
+    let found = c.in-Ok-load.ensures.found disk_tells in
+    let pages = (g.M.Disk.disk n).holds.pages in
+    let has = c.serve.ensures.asks source_tells sink_tells disk_tells found.0 pages
+    (asking_start found.0 (record { source = g.M.Source.source n; sink = g.M.Sink.sink n; disk = g.M.Disk.disk n }) c.in-Ok-load.archive c.in-Ok.desk.reader c.in-Ok.ensures found.1.0) is in
+    let S : SourceState → Type 0 = λ s. Splits true s.left asked [] in
+    let same : has.items ≡ asked = (one_split true (g.M.Source.source n).left has.items asked [] [] has.split (subst S (sym alone.0) split)).0 in
+    let A : List Item → Type 0 = λ l. All IsQuestion l in
+    let M : List Item → Type 0 = λ l. AreMade found.0 pages l (g.M.Sink.sink n).shown (g.M.Sink.sink last).shown in
+    let K : SinkState → Type 0 = λ s. AreMade found.0 pages asked s.shown (g.M.Sink.sink last).shown in
+    let made = subst K alone.1 (subst M same (has.made (subst A (sym same) all))) in
+    (found.0, found.1.1, made_at_start found.0 asked (g.M.Disk.disk m) (g.M.Disk.disk n) (g.M.Sink.sink m).shown (g.M.Sink.sink last).shown found.1.1 found.1.0.loadable (c.in-Ok-load.ensures.longer disk_tells) made)

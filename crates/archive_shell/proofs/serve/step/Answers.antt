@@ -1,4 +1,4 @@
-use Rattle.std.proofs.Common.{◌++◌, ℕ, List, [], Some, None, Ok, sym, ap, subst}
+use Rattle.std.proofs.Common.{◌++◌, ℕ, List, [], Some, None, Ok, sym, ap, subst, ◌∙◌}
 use Rattle.std.proofs.lemmas.List.{append-nil}
 use Rattle.machine_model.specs.States.{SourceState}
 use Rattle.machine_model.specs.Pulls.{Pull}
@@ -8,6 +8,8 @@ use Rattle.archive_shell.specs.Statuses.{status_of_script, status_of_stop}
 use Rattle.archive_shell.specs.declared.status.Status.{Status}
 use Rattle.archive_shell.proofs.PullLemmas.{ends_by, ends_early, gives_as, pulling_next, stops_early, whole_done}
 use Rattle.archive_shell.proofs.StepLemmas.{ended_by, ended_done, serving_next, stopped, serving_along, serves_as, pulls_in, pulls_beside}
+use Rattle.archive_shell.specs.Asking.{Asking}
+use Rattle.archive_shell.proofs.QuestionLemmas.{asked_all, asking_along, asking_next, script_not_done, stop_not_done}
 use Rattle.archive_shell.proofs.serve.step.Goals as goal
 
 pub returns-in-Err-clause-pulls : goal.returns-in-Err-clause-pulls
@@ -140,3 +142,37 @@ returns-in-Err-carry_out-clause-goes_on g c = λ source_tells sink_tells disk_te
           (record { more = says.0; gave = says.1 source_tells; calm = says.2; says = says.3; told = c.in-Ok.ensures.end source_tells p.told }))
           (c.in-Err-carry_out.ensures.turn disk_tells sink_tells (last_state h here.turns) here.kept))),
     )
+
+pub returns-in-Err-clause-asks : goal.returns-in-Err-clause-asks
+returns-in-Err-clause-asks g c = λ source_tells sink_tells disk_tells h pages began asking is. absurd (script_not_done c.in-Err.error (sym c.from.ensures ∙ is))
+
+pub returns-in_default-clause-asks : goal.returns-in_default-clause-asks
+returns-in_default-clause-asks g c = λ source_tells sink_tells disk_tells h pages began asking is.
+    let m = c.args.machine.now in
+    let mid = c.next_item.new.source in
+    let alone = g.met.M.Machine.source_alone m mid c.next_item.ensures.only in
+    let here = asking_along h pages began (g.M.Source.source m) (g.M.Sink.sink m) (g.M.Sink.sink mid) (g.M.Disk.disk m) (g.M.Disk.disk mid) c.args.archive.now c.args.reader.now alone.0 alone.1 asking in
+    let p = here.pulling in
+    let says = c.in-Ok.ensures.says p.since p.reads.stands in
+    asked_all h pages began (record { source = g.M.Source.source m; sink = g.M.Sink.sink mid; disk = g.M.Disk.disk mid }) (g.M.Source.source mid) c.args.archive.now c.args.reader.now c.next_item.new.self here
+    (gives_as c.args.reader.now c.next_item.new.self p.since (Ok c.in-Ok.item) (Ok None) (g.M.Source.source m) (g.M.Source.source mid) (ap Ok c.in_default.is)
+    (record { more = says.0; gave = says.1 source_tells; calm = says.2; says = says.3; told = c.in-Ok.ensures.end source_tells p.told }))
+
+pub returns-in-Ok-carry_out-clause-asks : goal.returns-in-Ok-carry_out-clause-asks
+returns-in-Ok-carry_out-clause-asks g c = λ source_tells sink_tells disk_tells h pages began asking.
+    let m = c.args.machine.now in
+    let mid = c.next_item.new.source in
+    let last = c.carry_out.new.machine in
+    let alone = g.met.M.Machine.source_alone m mid c.next_item.ensures.only in
+    let here = asking_along h pages began (g.M.Source.source m) (g.M.Sink.sink m) (g.M.Sink.sink mid) (g.M.Disk.disk m) (g.M.Disk.disk mid) c.args.archive.now c.args.reader.now alone.0 alone.1 asking in
+    let p = here.pulling in
+    let says = c.in-Ok.ensures.says p.since p.reads.stands in
+    let S : SourceState → Type 0 = λ s. Asking h pages began (record { source = s; sink = g.M.Sink.sink last; disk = g.M.Disk.disk last }) c.carry_out.new.archive c.next_item.new.self in
+    subst S (sym c.carry_out.ensures.source)
+    (asking_next h pages began (record { source = g.M.Source.source m; sink = g.M.Sink.sink mid; disk = g.M.Disk.disk mid }) (g.M.Source.source mid) (g.M.Sink.sink last) (g.M.Disk.disk last) c.args.archive.now c.carry_out.new.archive c.args.reader.now c.next_item.new.self c.in-Some.item here
+    (gives_as c.args.reader.now c.next_item.new.self p.since (Ok c.in-Ok.item) (Ok (Some c.in-Some.item)) (g.M.Source.source m) (g.M.Source.source mid) (ap Ok c.in-Some.is)
+    (record { more = says.0; gave = says.1 source_tells; calm = says.2; says = says.3; told = c.in-Ok.ensures.end source_tells p.told }))
+    (λ stands question. c.in-Ok-carry_out.ensures.question disk_tells sink_tells h stands question))
+
+pub returns-in-Err-carry_out-clause-asks : goal.returns-in-Err-carry_out-clause-asks
+returns-in-Err-carry_out-clause-asks g c = λ source_tells sink_tells disk_tells h pages began asking is. absurd (stop_not_done c.in-Err-carry_out.stop (sym c.from-in-Err-carry_out.ensures ∙ is))

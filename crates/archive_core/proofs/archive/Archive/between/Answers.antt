@@ -1,6 +1,20 @@
-use Rattle.archive_core.proofs.SpanLemmas.{takes_between}
+use Rattle.std.proofs.Common.{sym, subst}
+use Rattle.commands.specs.declared.command.Command.TheVariants as commands
+use Rattle.commands.specs.declared.command.Item.TheVariants as items
+use Rattle.archive_state.proofs.ChosenLemmas.{held_undamaged}
+use Rattle.archive_core.specs.States.{ArchiveState}
+use Rattle.archive_core.specs.Takes.{Takes, spanned}
+use Rattle.archive_core.proofs.TakeLemmas.{takes_between, spans_made}
 use Rattle.archive_core.proofs.archive.Archive.between.Goals as goal
 
 pub returns-clause-takes : goal.returns-clause-takes
-returns-clause-takes c = λ d h kept.
-    takes_between h c.args.span c.args.expr.now c.span_answer_of.result d c.args.self.now c.span_answer_of.ensures.refused (c.span_answer_of.ensures.spans h kept.stands) kept
+returns-clause-takes g c = λ tells h kept.
+    let disk = g.D.Disk.disk c.args.disk.now in
+    let done = g.D.Disk.disk c.span_answer_of.new.disk in
+    let loads = kept.stands.loadable in
+    let held = kept.held disk.holds (g.met.D.Disk.holds_allowed c.args.disk.now tells) in
+    let T : ArchiveState → Type 0 = λ a. Takes h (items.Command (commands.Between c.args.span c.args.expr.now)) (spanned c.span_answer_of.result) disk done a in
+    subst T (sym c.span_answer_of.ensures.kept)
+    (takes_between h c.args.span c.args.expr.now c.span_answer_of.result disk done c.args.self.now c.span_answer_of.ensures.refused
+    (λ d is. let (word, shown) = c.span_answer_of.ensures.damaged tells h kept.stands d is in held_undamaged h disk.holds.pages word _ _ d loads held shown)
+    (spans_made h disk.holds.pages c.args.span c.args.expr.now _ c.span_answer_of.result loads held (c.span_answer_of.ensures.made tells h kept.stands)) c.span_answer_of.ensures.same kept)

@@ -7,7 +7,7 @@ use Rattle.archive_state.specs.Histories.{changes}
 use Rattle.archive_state.specs.Steps.{deletion_refusal}
 use Rattle.archive_core.specs.States.{ArchiveState, StandsFor, IsKept}
 use Rattle.archive_core.specs.Adding.{IsPrepared}
-use Rattle.archive_core.proofs.TakeLemmas.{takes_entry}
+use Rattle.archive_core.proofs.TakeLemmas.{adds_follow, takes_entry}
 use Rattle.archive_core.proofs.archive.Archive.delete.Goals as goal
 
 pub add-requires-clause-next : goal.add-requires-clause-next
@@ -47,3 +47,7 @@ returns-clause-takes g c = λ tells h kept.
     (λ reply next adds. adds) kept (c.add.ensures.adds h (entries.Delete c.args.doc c.args.at) (deletion_refusal h c.args.doc c.args.at) before.stands prepared)
     (λ why is. (let still = c.add.ensures.same why is in (still.0 ∙ here, ap g.D.Disk.disk still.1))) (λ is. ap g.D.Disk.disk (c.add.ensures.memory is))
     (c.add.ensures.leads tells h (entries.Delete c.args.doc c.args.at) (deletion_refusal h c.args.doc c.args.at) before prepared)
+
+pub returns-clause-follows : goal.returns-clause-follows
+returns-clause-follows g c = λ h stands.
+    adds_follow h (entries.Delete c.args.doc c.args.at) (deletion_refusal h c.args.doc c.args.at) c.add.result c.args.self.now c.add.new.self _ stands (returns-clause-adds g c h stands) (returns-clause-same g c)

@@ -1,27 +1,50 @@
-use Rattle.std.proofs.Common.{arith, ℕ, ◌+◌, List, length, take, sym, subst, ap, ◌∙◌, ◌++◌, ◌∷◌, []}
+use Rattle.std.proofs.Common.{arith, ◌≡◌, ℕ, ◌+◌, ◌++◌, ◌∷◌, List, [], length, take, Err, ap, sym, subst, ◌∙◌}
 use Rattle.std.proofs.lemmas.List.{take_more, length_push}
+use Rattle.machine_model.specs.States.{DiskState}
 use Rattle.query_eval.specs.declared.part.Part.{Part}
-use Rattle.version_index.specs.Indexes.{IndexState, Indexes}
-use Rattle.archive_state.specs.Histories.{changes}
-use Rattle.archive_core.specs.Parts.{ArePartsIn}
-use Rattle.archive_core.proofs.AnswerLemmas.{parts_more}
-use Rattle.archive_core.proofs.IndexLemmas.{word_list}
+use Rattle.archive_state.specs.Plans.{plan_of}
+use Rattle.archive_state.specs.Chosen.{AreChosen, IsChosenOf, IsDamagedFor, bytes_for}
+use Rattle.archive_core.specs.States.{ArchiveState, StandsFor}
+use Rattle.archive_core.specs.declared.error.AskError.{AskError}
+use Rattle.archive_core.proofs.ChosenLemmas.{bytes_more, chosen_more, counts_join, handed_on, reaches_on, reads_join}
 use Rattle.archive_core.proofs.archive.Archive.parts_of.Goals as goal
 
+pub returns-in_err-part-clause-damaged : goal.returns-in_err-part-clause-damaged
+returns-in_err-part-clause-damaged g c = λ tells h stands d is.
+    let was = c.loop-word.invariant in
+    let first = g.D.Disk.disk c.args.disk.now in
+    let pages : (g.D.Disk.disk c.loop-word.disk).holds.pages ≡ first.holds.pages = ap (λ (x : DiskState). x.holds.pages) was.same in
+    let P : List ℕ → Type 0 = λ ps. IsDamagedFor h ps c.word-item.result c.args.span.from c.args.span.to d in
+    let here = c.in_err-part.ensures.damaged tells h (subst (λ (x : ArchiveState). StandsFor x h) (sym was.kept) stands) d
+    (ap (λ (e : AskError). Err e) (handed_on c.from_residual.result c.in_err-part.field-0.0 d c.from_residual.ensures.1 is)) in
+    (c.word-item.result, subst P pages here)
+
 pub loop-word-preserved : goal.loop-word-preserved
-loop-word-preserved c =
-    let part = c.part_of.result in
+loop-word-preserved g c =
+    let was = c.loop-word.invariant in
+    let done = c.in_ok-part.ensures in
+    let part = c.in_ok-part.part in
     let put = c.in_ok-push.ensures.items in
-    let span = c.args.span in
+    let a = c.args.span.from in
+    let b = c.args.span.to in
+    let first = g.D.Disk.disk c.args.disk.now in
+    let before = g.D.Disk.disk c.loop-word.disk in
+    let next = take_more c.args.words.now c.loop-word.word-index c.word-item.result c.loop-word-test.true ∙ ap (λ (w : List ℕ). take c.loop-word.word-index c.args.words.now ++ w ∷ []) (sym c.word-item.is) in
     record {
-      many = omega (arith, ap length put, length_push c.loop-word.parts.items part, c.loop-word.invariant.many);
-      parts = λ h stands.
-          let word = c.word-item.result in
-          let I : IndexState → Type 0 = λ i. Indexes i (changes h) in
-          let (list, listed, rows, whole) = c.in_ok-part.ensures (changes h) (subst I (sym c.index.ensures) stands.index_is) in
-          let more = parts_more span.from span.to h (take c.loop-word.word-index c.args.words.now) c.loop-word.parts.items word list part (c.loop-word.invariant.parts h stands) (word_list h word list listed) (c.part_of.ensures.list ∙ rows) (c.part_of.ensures.read ∙ whole) in
-          let P : List Part → Type 0 = λ l. ArePartsIn span.from span.to h (take (c.loop-word.word-index + 1) c.args.words.now) l in
-          let W : List (List ℕ) → Type 0 = λ l. ArePartsIn span.from span.to h l (c.loop-word.parts.items ++ part ∷ []) in
-          subst P (sym put)
-          (subst W (sym (take_more c.args.words.now c.loop-word.word-index word c.loop-word-test.true ∙ ap (λ (w : List ℕ). take c.loop-word.word-index c.args.words.now ++ w ∷ []) (sym c.word-item.is))) more);
+      only = g.met.D.Disk.only_joins _ _ _ was.only done.only;
+      same = reads_join first before (g.D.Disk.disk c.part_of.new.disk) was.same done.same;
+      kept = done.kept ∙ was.kept;
+      within = reaches_on before (g.D.Disk.disk c.part_of.new.disk) c.loop-word.self c.part_of.new.self done.same done.kept was.within;
+      many = omega (arith, ap length put, length_push c.loop-word.parts.items part, was.many);
+      chosen = λ tells h stands.
+          let pages : before.holds.pages ≡ first.holds.pages = ap (λ (d : DiskState). d.holds.pages) was.same in
+          let K : List ℕ → Type 0 = λ ps. IsChosenOf h ps c.word-item.result (plan_of h c.word-item.result) a b part.list.items part.read in
+          let here = subst K pages (done.chosen tells h (subst (λ (x : ArchiveState). StandsFor x h) (sym was.kept) stands)) in
+          let more = chosen_more a b h first.holds.pages (take c.loop-word.word-index c.args.words.now) c.loop-word.parts.items c.word-item.result part (was.chosen tells h stands) here in
+          let P : List Part → Type 0 = λ l. AreChosen h first.holds.pages a b (take (c.loop-word.word-index + 1) c.args.words.now) l in
+          let W : List (List ℕ) → Type 0 = λ l. AreChosen h first.holds.pages a b l (c.loop-word.parts.items ++ part ∷ []) in
+          subst P (sym put) (subst W (sym next) more);
+      count = λ tells h stands.
+          counts_join first.bytes_read before.bytes_read (g.D.Disk.disk c.part_of.new.disk).bytes_read _ _ _ (was.count tells h stands) (done.count tells h (subst (λ (x : ArchiveState). StandsFor x h) (sym was.kept) stands))
+          (ap (bytes_for h a b) next ∙ bytes_more h a b (take c.loop-word.word-index c.args.words.now) c.word-item.result);
     }

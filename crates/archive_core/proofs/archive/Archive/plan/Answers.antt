@@ -9,6 +9,7 @@ use Rattle.archive_core.specs.Takes.{summary_of}
 use Rattle.archive_core.specs.declared.error.ChangeError.{ChangeError}
 use Rattle.archive_core.specs.declared.storing.PlanReport.{PlanReport}
 use Rattle.archive_core.proofs.StoreLemmas.{plans_full, plans_stored, plans_refused, drafted_never, takes_plan}
+use Rattle.archive_core.proofs.TakeLemmas.{none_follows, plan_follows, stored_follows}
 use Rattle.archive_core.proofs.archive.Archive.plan.Goals as goal
 
 pub returns-in-Ok-clause-refused : goal.returns-in-Ok-clause-refused
@@ -58,3 +59,14 @@ returns-in-Err-clause-takes g c = λ tells h kept.
     takes_plan h c.args.word.now c.args.factor c.not_drafted.result _ _ c.args.self.now c.not_drafted.new.self kept
     (λ why is. plans_refused h c.args.word.now c.args.factor c.in-Err.why c.not_drafted.result c.args.self.now c.not_drafted.new.self why c.not_drafted.ensures (c.in-Err.ensures.refused h kept.stands) kept.stands is)
     (λ why is. refl) (λ is. refl) (λ is. drafted_never _ c.in-Err.why c.not_drafted.result c.args.self.now c.not_drafted.new.self c.not_drafted.ensures is)
+
+pub returns-in-Ok-clause-follows : goal.returns-in-Ok-clause-follows
+returns-in-Ok-clause-follows g c = λ h stands.
+    plan_follows h c.store.result c.store.new.self
+    (stored_follows h c.store.result c.store.new.self (λ report plan. IsStoredAs h c.in-Ok.draft plan) (λ report. summary_of report ≡ tells_of c.in-Ok.draft (length h + 1)) (c.store.ensures.stores h stands))
+    (λ why is. (c.store.ensures.refused h stands why is).1)
+
+pub returns-in-Err-clause-follows : goal.returns-in-Err-clause-follows
+returns-in-Err-clause-follows g c = λ h stands.
+    plan_follows h c.not_drafted.result c.not_drafted.new.self (none_follows h c.in-Err.why c.not_drafted.result c.args.self.now c.not_drafted.new.self c.not_drafted.ensures)
+    (λ why is. (returns-in-Err-clause-refused g c h stands why is).1)

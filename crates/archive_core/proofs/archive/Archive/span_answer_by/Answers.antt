@@ -1,4 +1,7 @@
-use Rattle.std.proofs.Common.{sym, subst, ◌↔◌, List, IsTrue, IsSome}
+use Rattle.std.proofs.Common.{ℕ, sym, subst, ◌↔◌, List, IsTrue, IsSome}
+use Rattle.time_base.specs.declared.ids.DocId.{DocId}
+use Rattle.query_lang.specs.Meaning.{words_of}
+use Rattle.query_eval.specs.Found.{told}
 use Rattle.time_base.specs.declared.text_place.TextPlace.{TextPlace}
 use Rattle.stretches.specs.Kinds.{is_alive}
 use Rattle.stretches.specs.declared.life.Life.{Life}
@@ -8,8 +11,8 @@ use Rattle.archive_core.proofs.SpanLemmas.{by_lives}
 use Rattle.archive_core.proofs.archive.Archive.span_answer_by.Goals as goal
 
 pub returns-clause-rows : goal.returns-clause-rows
-returns-clause-rows c = λ h stands whole.
-    by_lives c.args.self.now h c.args.span c.args.query.now c.args.parts.now c.deref.result.now _ stands whole
+returns-clause-rows c = λ h stands.
+    by_lives c.args.self.now h c.args.span c.args.query.now (λ (doc : DocId) (t : ℕ). told (words_of c.args.query.now) c.args.parts.now t doc.0) c.deref.result.now _ stands
     (λ doc t from to.
     let L : List Life → Type 0 = λ lives. IsTrue (is_alive lives doc.0 t) ↔ IsSome (held_at doc t c.args.self.now.changes) in
     let C : List (Change TextPlace) → Type 0 = λ changes. IsTrue (is_alive c.in_ok-lives.lives.items doc.0 t) ↔ IsSome (held_at doc t changes) in

@@ -1,18 +1,8 @@
-use Rattle.std.proofs.Common.{ℕ, Ok, List, refl, subst, sym}
-use Rattle.query_lang.specs.Meaning.{words_of}
-use Rattle.query_eval.specs.declared.part.Part.{Part}
-use Rattle.archive_state.specs.Answers.{IsReadFor}
-use Rattle.archive_core.specs.Parts.{ArePartsIn}
-use Rattle.archive_core.proofs.AnswerLemmas.{parts_read}
+use Rattle.std.proofs.Common.{Err, ap}
+use Rattle.archive_core.specs.declared.error.AskError.{AskError}
+use Rattle.archive_core.proofs.ChosenLemmas.{handed_on}
 use Rattle.archive_core.proofs.archive.Archive.span_answer_of.Goals as goal
 
-pub returns-clause-spans : goal.returns-clause-spans
-returns-clause-spans c = λ h stands.
-    let query = c.in_ok-query.query in
-    let parts = c.deref.result.now in
-    let W : List (List ℕ) → Type 0 = λ words. ArePartsIn c.args.span.from c.args.span.to h words c.in_ok-parts.parts.items in
-    let P : List Part → Type 0 = λ l. ArePartsIn c.args.span.from c.args.span.to h (words_of query) l in
-    let whole = subst P (sym c.deref.ensures.value) (subst W c.words.ensures.words (c.in_ok-parts.ensures.parts h stands)) in
-    let R : ℕ → Type 0 = λ n. IsReadFor h (words_of query) n in
-    let read = subst R (sym c.in_ok-answer.ensures.read) (parts_read c.args.span.from c.args.span.to h (words_of query) parts whole) in
-    (Ok query, c.in_ok-query.ensures.query, (c.in_ok-answer.answer.rows.items, c.in_ok-answer.answer.read, c.in_ok-answer.ensures.rows h stands whole, read, refl))
+pub returns-in_err-parts-clause-damaged : goal.returns-in_err-parts-clause-damaged
+returns-in_err-parts-clause-damaged g c = λ tells h stands d is.
+    c.in_err-parts.ensures.damaged tells h stands d (ap (λ (e : AskError). Err e) (handed_on c.from_residual-in_err-parts.result c.in_err-parts.field-0.0 d c.from_residual-in_err-parts.ensures.1 is))

@@ -1,0 +1,175 @@
+-- What is chosen of words' lists, by the plans in hand.
+use Rattle.std.proofs.Common.{◌≡◌, ℕ, zero, suc, ◌+◌, ◌*◌, ◌<◌, ◌≤◌, ◌^◌, Bool, true, false, nat_lt, List, [], ◌∷◌, ◌++◌, length, get_or, filter, map, cond, sum_by, All, Option, Some, None, Result, Ok, Err, refl, ap, sym, subst, ◌∙◌, arith}
+use Rattle.std.proofs.lemmas.List.Elements.{All-nil, All-cons, All-head, All-tail, All-append, All-filter}
+use Rattle.std.proofs.lemmas.List.Sums.{sum_by-cons, sum_by-append}
+use Rattle.machine_model.specs.Areas.{Both, replaced}
+use Rattle.machine_model.specs.Calls.{OnlyReads}
+use Rattle.machine_model.specs.States.{DiskState}
+use Rattle.machine_model.specs.declared.area.Area.TheVariants.{Pages}
+use Rattle.archive_state.specs.Answers.{IsWordList}
+use Rattle.time_base.specs.declared.extent.Extent.{Extent}
+use Rattle.time_base.specs.declared.posting.Posting.{Posting}
+use Rattle.postings.specs.Lists.{sublist}
+use Rattle.page_store.specs.Live.{IsInside}
+use Rattle.record_codec.specs.Spelling.{spelling}
+use Rattle.record_codec.specs.PlanSpelling.{IsPlanEntry}
+use Rattle.record_codec.specs.declared.entry.Entry.TheVariants.{Arrive, Delete, Planned}
+use Rattle.record_codec.specs.declared.place.Place.{Place}
+use Rattle.record_codec.specs.declared.plan.PlanEntry.{PlanEntry}
+use Rattle.query_eval.specs.declared.part.Part.{Part}
+use Rattle.stored_plans.specs.Plans.{IsFitPlan}
+use Rattle.archive_state.specs.declared.stored.StoredPlan.{StoredPlan}
+use Rattle.archive_state.specs.Histories.{History}
+use Rattle.archive_state.specs.Legal.{EachMayCome, IsLoadable}
+use Rattle.archive_state.specs.Plans.{is_another, live_after, live_plans, with_plan, plan_of}
+use Rattle.archive_state.specs.Chosen.{AreChosen, GathersOf, IsChosenOf, bytes_chosen, bytes_for, tail_for}
+use Rattle.archive_core.specs.States.{ArchiveState, StandsFor, Reaches, extents_all}
+use Rattle.archive_core.specs.Shelves.{IsReadable, IsPlanAt}
+use Rattle.archive_core.specs.Causes.{ask_error_of_fetch}
+use Rattle.archive_core.specs.declared.error.AskError.{AskError}
+use Rattle.archive_core.specs.declared.error.AskError.TheVariants as asks
+use Rattle.std.specs.Result.{IsErrAnd}
+use Rattle.archive_core.proofs.ShelfLemmas.{plan_found, none_found}
+use Rattle.sublist_store.specs.Fetching.{IfDamaged}
+use Rattle.sublist_store.specs.declared.why.Damage.{Damage}
+use Rattle.sublist_store.specs.declared.why.FetchError.{FetchError}
+use Rattle.sublist_store.specs.declared.why.FetchError.TheVariants as fetches
+
+-- ---- the live plans have their fields in their ranges
+
+abbrev is_entry : StoredPlan → Type 0
+is_entry stored = IsPlanEntry stored.plan
+
+with_one : (before : History) (gate : ℕ) (live : List StoredPlan) (h : History) → EachMayCome IsFitPlan before h → All is_entry live → All is_entry (live_after gate live h)
+with_one before gate live [] each all = all
+with_one before gate live (Arrive doc at text ∷ h) each all = with_one (before ++ Arrive doc at text ∷ []) (gate + 5 + length (spelling (Arrive doc at text))) live h each.1 all
+with_one before gate live (Delete doc at ∷ h) each all = with_one (before ++ Delete doc at ∷ []) (gate + 5 + length (spelling (Delete doc at))) live h each.1 all
+with_one before gate live (Planned plan ∷ h) each all =
+    let new : StoredPlan = record { gate = gate; plan = plan } in
+    with_one (before ++ Planned plan ∷ []) (gate + 5 + length (spelling (Planned plan))) (with_plan live new) h each.1
+    (All-append is_entry (filter (is_another plan.word) live) (new ∷ []) (All-filter (is_another plan.word) is_entry live all) (All-cons is_entry new [] each.0.ranges (All-nil is_entry)))
+
+live_entries : (h : History) → IsLoadable h → All is_entry (live_plans h)
+live_entries h loads = with_one [] 16 [] h loads (All-nil is_entry)
+
+-- ---- so they can be read
+
+all_of : (P : Extent → Type 0) (places : List Place) (rest : List Extent) → All P (map (λ (p : Place). p.extent) places ++ rest) → All (λ (p : Place). P p.extent) places × All P rest
+all_of P [] rest all = (All-nil (λ (p : Place). P p.extent), all)
+all_of P (p ∷ places) rest all =
+    let more = all_of P places rest (All-tail P p.extent (map (λ (p : Place). p.extent) places ++ rest) all) in
+    (All-cons (λ (q : Place). P q.extent) p places (All-head P p.extent (map (λ (p : Place). p.extent) places ++ rest) all) more.0, more.1)
+
+inside_at : (P : Extent → Type 0) (live : List StoredPlan) (at : ℕ) (s : StoredPlan) → All P (extents_all live) → at < length live → s ≡ get_or live at s → All (λ (p : Place). P p.extent) s.plan.places
+inside_at P [] at s all within same = absurd (omega (arith, within))
+inside_at P (x ∷ live) zero s all within same =
+    let L : StoredPlan → Type 0 = λ y. All (λ (p : Place). P p.extent) y.plan.places in
+    subst L (sym same) (all_of P x.plan.places (extents_all live) all).0
+inside_at P (x ∷ live) (suc at) s all within same = inside_at P live at s (all_of P x.plan.places (extents_all live) all).1 (omega (arith, within)) same
+
+-- no extent has more bytes than Pages may have
+few_bytes : (places : List Place) → sum_by (λ (p : Place). p.extent.bytes) places ≤ length places * 2 ^ 40
+few_bytes [] = omega arith
+few_bytes (p ∷ places) =
+    let in_pages = p.extent.in_pages in
+    omega (arith, few_bytes places, sum_by-cons (λ (q : Place). q.extent.bytes) p places, in_pages)
+
+pub readable : (a : ArchiveState) (h : History) (reach : Both ℕ) (at : ℕ) (s : StoredPlan) → StandsFor a h → Reaches reach a → at < length a.shelf.plans → s ≡ get_or a.shelf.plans at s → IsReadable reach.pages s.plan
+readable a h reach at s stands within there same =
+    let all : All is_entry a.shelf.plans = subst (All is_entry) (sym stands.plans_are) (live_entries h stands.loadable) in
+    let is : IsPlanEntry s.plan = subst is_entry (sym same) (all at s there) in
+    record {
+      as_many = is.well_cut.places;
+      inside = inside_at (IsInside reach.pages) a.shelf.plans at s within.1 there same;
+      few = omega (arith, few_bytes s.plan.places, is.well_cut.places, is.well_cut.most);
+    }
+
+-- ---- one word more
+
+pub chosen_more : (a b : ℕ) (h : History) (pages : List ℕ) (words : List (List ℕ)) (parts : List Part) (word : List ℕ) (part : Part) → AreChosen h pages a b words parts
+    → IsChosenOf h pages word (plan_of h word) a b part.list.items part.read → AreChosen h pages a b (words ++ word ∷ []) (parts ++ part ∷ [])
+chosen_more a b h pages [] [] word part are is = (is, tt)
+chosen_more a b h pages [] (q ∷ parts) word part are is = absurd are
+chosen_more a b h pages (w ∷ words) [] word part are is = absurd are
+chosen_more a b h pages (w ∷ words) (q ∷ parts) word part are is = (are.0, chosen_more a b h pages words parts word part are.1 is)
+
+pub bytes_more : (h : History) (a b : ℕ) (words : List (List ℕ)) (word : List ℕ) → bytes_for h a b (words ++ word ∷ []) ≡ bytes_for h a b words + bytes_chosen (plan_of h word) a b
+bytes_more h a b words word =
+    let f : List ℕ → ℕ = λ w. bytes_chosen (plan_of h w) a b in
+    omega (arith, sum_by-append f words (word ∷ []), sum_by-cons f word [])
+
+-- no tail is needed where the window ends by the horizon
+pub no_tail : (b h : ℕ) (list : List Posting) → b ≤ h → tail_for b h list ≡ []
+no_tail b h list early = go (nat_lt h b) refl
+  where
+    go : (c : Bool) → nat_lt h b ≡ c → tail_for b h list ≡ []
+    go true e = absurd (grind (arith, e, early))
+    go false e = ap (λ (c : Bool). cond c (sublist h (2 ^ 40) list) []) e
+
+-- the plan that stands there is the word's
+pub planned_is : (a : ArchiveState) (h : History) (word : List ℕ) (at : ℕ) (s : StoredPlan) → StandsFor a h → IsPlanAt a.shelf.plans word at → s ≡ get_or a.shelf.plans at s → plan_of h word ≡ Some s.plan
+planned_is a h word at s stands is same =
+    let P : List StoredPlan → Type 0 = λ ps. IsPlanAt ps word at in
+    plan_found h word at s (subst P stands.plans_are is) (same ∙ ap (λ (ps : List StoredPlan). get_or ps at s) stands.plans_are)
+
+pub unplanned_is : (a : ArchiveState) (h : History) (word : List ℕ) → StandsFor a h → All (λ s. is_another word s ≡ true) a.shelf.plans → plan_of h word ≡ None
+unplanned_is a h word stands others =
+    let P : List StoredPlan → Type 0 = λ ps. All (λ s. is_another word s ≡ true) ps in
+    none_found h word (subst P stands.plans_are others)
+
+-- a damage that is handed on
+pub damage_of : (P : Damage → Type 0) (e : FetchError) (d : Damage) → IfDamaged P e → ask_error_of_fetch e ≡ asks.Damaged d → P d
+damage_of P (fetches.Damaged x) d holds is = let same : x ≡ d = cc in subst P same holds
+damage_of P fetches.Failed d holds is = absurd cc
+damage_of P fetches.Memory d holds is = absurd cc
+
+-- what was gathered of a plan, with its tail, is chosen of the word
+pub planned_chosen : (h : History) (pages : List ℕ) (word : List ℕ) (plan : PlanEntry) (a b : ℕ) (stored tail list : List Posting) (n read : ℕ) → plan_of h word ≡ Some plan → GathersOf pages plan a b (Ok (stored, n))
+    → ((whole : List Posting) × IsWordList h word whole × (tail ≡ tail_for b plan.horizon.seconds whole)) → list ≡ stored ++ tail → read ≡ n + length tail
+    → IsChosenOf h pages word (plan_of h word) a b list read
+planned_chosen h pages word plan a b stored tail list n read live gathers (whole, is, tail_is) list_is read_is =
+    let P : Option PlanEntry → Type 0 = λ o. IsChosenOf h pages word o a b list read in
+    subst P (sym live) (stored, whole, n, gathers, is, list_is ∙ ap (λ (l : List Posting). stored ++ l) tail_is, read_is ∙ ap (λ (l : List Posting). n + length l) tail_is)
+
+-- of a word without a plan it is the whole list
+pub whole_chosen : (h : History) (pages : List ℕ) (word : List ℕ) (a b : ℕ) (list whole : List Posting) (read : ℕ) → plan_of h word ≡ None → IsWordList h word whole → list ≡ sublist a b whole → read ≡ length whole
+    → IsChosenOf h pages word (plan_of h word) a b list read
+whole_chosen h pages word a b list whole read none is list_is read_is =
+    let P : Option PlanEntry → Type 0 = λ o. IsChosenOf h pages word o a b list read in
+    subst P (sym none) (whole, is, list_is, read_is)
+
+-- bytes that were counted by a word's plan
+pub counted : (word : List ℕ) (h : History) (o : Option PlanEntry) (a b : ℕ) (old new : Both ℕ) → plan_of h word ≡ o → new ≡ replaced old Pages (old.pages + bytes_chosen o a b)
+    → new ≡ replaced old Pages (old.pages + bytes_chosen (plan_of h word) a b)
+counted word h o a b old new live is = is ∙ ap (λ (x : Option PlanEntry). replaced old Pages (old.pages + bytes_chosen x a b)) (sym live)
+
+-- a fetch's error that was handed on
+pub handed : {T : Type 0} (r : Result T AskError) (e : FetchError) (d : Damage) → IsErrAnd r (λ x. x ≡ ask_error_of_fetch e) → r ≡ Err (asks.Damaged d) → ask_error_of_fetch e ≡ asks.Damaged d
+handed {T = T} r e d and is = sym (subst (λ (x : Result T AskError). IsErrAnd x (λ y. y ≡ ask_error_of_fetch e)) is and)
+
+-- of a word without a plan no byte is read
+pub none_counted : (word : List ℕ) (h : History) (a b : ℕ) (old : Both ℕ) → plan_of h word ≡ None → old ≡ replaced old Pages (old.pages + bytes_chosen (plan_of h word) a b)
+none_counted word h a b old none =
+    let same : old.pages ≡ old.pages + 0 = omega arith in
+    counted word h None a b old old none (ap (λ (n : ℕ). replaced old Pages n) same)
+
+-- ---- reads one behind another
+
+pub reads_join : (a b c : DiskState) → OnlyReads a b → OnlyReads b c → OnlyReads a c
+reads_join a b c x y = y ∙ ap (λ (d : DiskState). record d { faults = c.faults; bytes_read = c.bytes_read }) x
+
+pub reaches_on : (a b : DiskState) (x y : ArchiveState) → OnlyReads a b → y ≡ x → Reaches a.reach x → Reaches b.reach y
+reaches_on a b x y same kept within =
+    let R : Both ℕ → Type 0 = λ r. Reaches r y in
+    let X : ArchiveState → Type 0 = λ z. Reaches a.reach z in
+    subst R (sym (ap (λ (d : DiskState). d.reach) same)) (subst X (sym kept) within)
+
+pub counts_join : (a b c : Both ℕ) (m n k : ℕ) → b ≡ replaced a Pages (a.pages + m) → c ≡ replaced b Pages (b.pages + n) → k ≡ m + n → c ≡ replaced a Pages (a.pages + k)
+counts_join a b c m n k x y sum =
+    let journal : b.journal ≡ a.journal = ap (λ (d : Both ℕ). d.journal) x in
+    let pages : b.pages + n ≡ a.pages + k = omega (arith, ap (λ (d : Both ℕ). d.pages) x, sum) in
+    y ∙ ap (λ (j : ℕ). record { journal = j; pages = b.pages + n }) journal ∙ ap (λ (p : ℕ). record { journal = a.journal; pages = p }) pages
+
+-- a question's error that was handed on
+pub handed_on : {T : Type 0} (r : Result T AskError) (e : AskError) (d : Damage) → IsErrAnd r (λ x. x ≡ e) → r ≡ Err (asks.Damaged d) → e ≡ asks.Damaged d
+handed_on {T = T} r e d and is = sym (subst (λ (x : Result T AskError). IsErrAnd x (λ y. y ≡ e)) is and)

@@ -1,0 +1,175 @@
+//! Which postings are read for a query.
+ghost use Rattle.std.specs.Prelude.{◌≡◌, ◌+◌, ◌^◌, ◌++◌, ◌<◌, ◌≤◌, ℕ, List, length, get_or, IfOk, OnOk, IsErrOf};
+ghost use Rattle.machine_model.specs.Areas.{replaced};
+ghost use Rattle.machine_model.specs.Calls.{OnlyReads};
+ghost use Rattle.machine_model.specs.Causes.{Rose};
+ghost use Rattle.archive_state.specs.Histories.{History};
+ghost use Rattle.archive_state.specs.Answers.{IsWordList};
+ghost use Rattle.archive_state.specs.Plans.{plan_of};
+ghost use Rattle.time_base.specs.declared.posting.Posting.{Posting as PlainPosting};
+ghost use Rattle.archive_state.specs.Chosen.{AreChosen, IsChosenOf, IsDamagedFor, bytes_chosen, bytes_for, tail_for};
+ghost use Rattle.archive_core.specs.Shelves.{IsPlanAt};
+ghost use Rattle.archive_core.specs.States.{StandsFor, Reaches};
+
+use crate::archive::Archive;
+use crate::error::AskError;
+use archive_state::Refusal;
+use machine_model::{Area, Disk};
+use query_eval::Part;
+use std::alloc::{AllocError, Global};
+use sublist_store::{Damage, Gathered};
+use time_base::{Key, NOW, Posting, Span, Time};
+use version_index::ListPart;
+
+/// The most postings of a part. Pages have no more bytes, and a list no more postings, so more are
+/// never read.
+const MOST_READ: u64 = 1 << 40;
+
+impl Archive {
+    /// What is chosen of the lists of words for a window, in order: of a word with a plan the sublists
+    /// of the segments that overlap the window, from Pages, and its list from the horizon on; of
+    /// another word its whole list.
+    /// Costs the fetches of these sublists, and a pass over each list in memory that is read.
+    pub(crate) fn parts_of<D: Disk>(
+        &mut self,
+        alloc: Global,
+        disk: &mut D,
+        words: &[Key],
+        span: Span,
+    ) -> Result<Vec<Part>, AskError>
+        requires within { Reaches (D.disk disk.old).reach self.old }
+        ensures only { D.Disk.only disk.old disk.new }
+        ensures same { OnlyReads (D.disk disk.old) (D.disk disk.new) }
+        ensures kept { self.new ≡ self.old }
+        ensures failed { IsErrOf result AskError.Failed → Rose (D.disk disk.old).faults (D.disk disk.new).faults }
+        ensures never { (why : Refusal) → IsErrOf result (AskError.Refused why) → ⊥ }
+        ensures many { IfOk result (λ parts. length parts.items ≡ length words.now) }
+        ensures chosen { D.disk_tells → (h : History) → StandsFor self.old h → IfOk result (λ parts. AreChosen h (D.disk disk.old).holds.pages span.from span.to words.now parts.items) }
+        ensures count { D.disk_tells → (h : History) → StandsFor self.old h →
+            OnOk result ((D.disk disk.new).bytes_read ≡ replaced (D.disk disk.old).bytes_read Area.Pages ((D.disk disk.old).bytes_read.pages + bytes_for h span.from span.to words.now)) }
+        ensures damaged { D.disk_tells → (h : History) → StandsFor self.old h → (d : Damage) → IsErrOf result (AskError.Damaged d) → (word : List ℕ) × IsDamagedFor h (D.disk disk.old).holds.pages word span.from span.to d }
+    {
+        let mut parts = Vec::new(alloc);
+        for word in words {
+            let part = self.part_of(alloc, disk, word, span)?;
+            parts.push(part)?;
+        }
+        Ok(parts)
+    }
+
+    /// What is chosen of a word's list for a window.
+    fn part_of<D: Disk>(
+        &mut self,
+        alloc: Global,
+        disk: &mut D,
+        word: &Key,
+        span: Span,
+    ) -> Result<Part, AskError>
+        requires within { Reaches (D.disk disk.old).reach self.old }
+        ensures only { D.Disk.only disk.old disk.new }
+        ensures same { OnlyReads (D.disk disk.old) (D.disk disk.new) }
+        ensures kept { self.new ≡ self.old }
+        ensures failed { IsErrOf result AskError.Failed → Rose (D.disk disk.old).faults (D.disk disk.new).faults }
+        ensures never { (why : Refusal) → IsErrOf result (AskError.Refused why) → ⊥ }
+        ensures chosen { D.disk_tells → (h : History) → StandsFor self.old h →
+            IfOk result (λ part. IsChosenOf h (D.disk disk.old).holds.pages word.now (plan_of h word.now) span.from span.to part.list.items part.read) }
+        ensures count { D.disk_tells → (h : History) → StandsFor self.old h →
+            OnOk result ((D.disk disk.new).bytes_read ≡ replaced (D.disk disk.old).bytes_read Area.Pages ((D.disk disk.old).bytes_read.pages + bytes_chosen (plan_of h word.now) span.from span.to)) }
+        ensures damaged { D.disk_tells → (h : History) → StandsFor self.old h → (d : Damage) → IsErrOf result (AskError.Damaged d) → IsDamagedFor h (D.disk disk.old).holds.pages word.now span.from span.to d }
+    {
+        match self.shelf().position(word) {
+            Some(at) => self.planned_part(alloc, disk, at, word, span),
+            None => {
+                let part = self.index().part_in(alloc, word, span)?;
+                Ok(whole_part(part))
+            }
+        }
+    }
+
+    /// What is chosen of the list of a word whose plan stands there.
+    fn planned_part<D: Disk>(
+        &mut self,
+        alloc: Global,
+        disk: &mut D,
+        at: usize,
+        word: &Key,
+        span: Span,
+    ) -> Result<Part, AskError>
+        requires within { Reaches (D.disk disk.old).reach self.old }
+        requires there { IsPlanAt self.old.shelf.plans word.now at }
+        ensures only { D.Disk.only disk.old disk.new }
+        ensures same { OnlyReads (D.disk disk.old) (D.disk disk.new) }
+        ensures kept { self.new ≡ self.old }
+        ensures failed { IsErrOf result AskError.Failed → Rose (D.disk disk.old).faults (D.disk disk.new).faults }
+        ensures never { (why : Refusal) → IsErrOf result (AskError.Refused why) → ⊥ }
+        ensures chosen { D.disk_tells → (h : History) → StandsFor self.old h →
+            IfOk result (λ part. IsChosenOf h (D.disk disk.old).holds.pages word.now (plan_of h word.now) span.from span.to part.list.items part.read) }
+        ensures count { D.disk_tells → (h : History) → StandsFor self.old h →
+            OnOk result ((D.disk disk.new).bytes_read ≡ replaced (D.disk disk.old).bytes_read Area.Pages ((D.disk disk.old).bytes_read.pages + bytes_chosen (plan_of h word.now) span.from span.to)) }
+        ensures damaged { D.disk_tells → (h : History) → StandsFor self.old h → (d : Damage) → IsErrOf result (AskError.Damaged d) → IsDamagedFor h (D.disk disk.old).holds.pages word.now span.from span.to d }
+    {
+        let horizon = self.shelf().plans()[at].plan.horizon;
+        let stored = self.gather(alloc, disk, at, span)?;
+        let tail = self.tail_of(alloc, word, horizon, span)?;
+        let part = with_tail(stored, &tail)?;
+        Ok(part)
+    }
+
+    /// A word's list from a horizon on, where a window reaches past that.
+    fn tail_of(
+        &self,
+        alloc: Global,
+        word: &Key,
+        horizon: Time,
+        span: Span,
+    ) -> Result<Vec<Posting>, AllocError>
+        ensures { (h : History) → StandsFor self.now h → IfOk result (λ tail. (list : List PlainPosting) × IsWordList h word.now list × (tail.items ≡ tail_for span.to horizon.seconds list)) }
+    {
+        if span.to <= horizon.seconds {
+            return Ok(Vec::new(alloc));
+        }
+        let part = self.index().part_in(alloc, word, from_on(horizon))?;
+        Ok(part.rows)
+    }
+}
+
+/// All of a list in a window; the whole list was read for it.
+fn whole_part(part: ListPart) -> Part
+    ensures list { result.list.items ≡ part.rows.items }
+    ensures read { result.read ≡ part.whole }
+{
+    let ListPart { rows, whole } = part;
+    Part {
+        read: whole,
+        list: rows,
+    }
+}
+
+/// What was gathered, and a tail behind it. More than can be there is answered as want of memory.
+fn with_tail(stored: Gathered, tail: &[Posting]) -> Result<Part, AllocError>
+    ensures list { IfOk result (λ part. part.list.items ≡ stored.list.items ++ tail.now) }
+    ensures read { IfOk result (λ part. part.read ≡ stored.read + length tail.now) }
+{
+    let Gathered { list, read } = stored;
+    let mut list = list;
+    list.extend_from_slice(tail)?;
+    let more = tail.len() as u64;
+    if read > MOST_READ || more > MOST_READ - read {
+        return Err(AllocError);
+    }
+    Ok(Part {
+        list,
+        read: read + more,
+    })
+}
+
+/// All times from one on.
+fn from_on(t: Time) -> Span
+    ensures from { result.from ≡ t.seconds }
+    ensures to { result.to ≡ 2 ^ 40 }
+{
+    Span {
+        from: t.seconds,
+        to: NOW,
+    }
+}

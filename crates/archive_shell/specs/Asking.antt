@@ -1,0 +1,41 @@
+-- A run of questions alone while it goes on, whatever the disk holds.
+use Rattle.std.specs.Prelude.{◌≡◌, ℕ, true, List, [], ◌∷◌, All}
+use Rattle.machine_model.specs.States.{DiskState}
+use Rattle.commands.specs.declared.command.Item.{Item}
+use Rattle.script_read.specs.Items.{Splits}
+use Rattle.script_read.specs.Reading.{Held}
+use Rattle.archive_state.specs.Histories.{History}
+use Rattle.archive_state.specs.Replies.{reply_text}
+use Rattle.archive_state.specs.Steps.{Reply}
+use Rattle.archive_core.specs.States.{ArchiveState, StandsFor}
+use Rattle.archive_shell.specs.Headline.{MachineState}
+use Rattle.archive_shell.specs.Questions.{AreMade, IsMadeReply, IsQuestion}
+use Rattle.archive_shell.specs.Serving.{Pulling}
+
+-- the page has the reply to a question, which was made from these pages
+pub record IsOnPage (history : History) (pages : List ℕ) (item : Item) (page : List ℕ) : Type 0 where
+  pub reply : Reply
+  pub made : IsMadeReply history pages item reply
+  pub is : page ≡ reply_text reply
+
+-- a question was carried out and its reply shown: the archive and Pages are as they were
+pub record IsAsked (history : History) (item : Item) (before after : List ℕ) (old new : DiskState) (archive archive_now : ArchiveState) : Type 0 where
+  pub kept : archive_now ≡ archive
+  pub pages : new.holds.pages ≡ old.holds.pages
+  pub asked : AreMade history old.holds.pages (item ∷ []) before after
+
+-- what is known where all items so far were questions
+pub record AllAsked (history : History) (pages : List ℕ) (items : List Item) (old now : MachineState) (archive : ArchiveState) : Type 0 where
+  pub stands : StandsFor archive history
+  pub pages_are : now.disk.holds.pages ≡ pages
+  pub made : AreMade history pages items old.sink.shown now.sink.shown
+
+pub record Asking (history : History) (pages : List ℕ) (old now : MachineState) (archive : ArchiveState) (held : Held) : Type 0 where
+  pub pulling : Pulling old.source now.source held
+  pub all_asked : All IsQuestion pulling.items → AllAsked history pages pulling.items old now archive
+
+-- a run that came to its end: the items are those of all the input, and where all are questions, each reply was made so
+pub record HasAsked (history : History) (pages : List ℕ) (old new : MachineState) : Type 0 where
+  pub items : List Item
+  pub split : Splits true old.source.left items []
+  pub made : All IsQuestion items → AreMade history pages items old.sink.shown new.sink.shown

@@ -1,0 +1,55 @@
+-- What a run of questions alone shows, whatever the disk holds: replies that are made from the lists that are chosen, by what reads of Pages give.
+use Rattle.std.specs.Prelude.{◌≡◌, ℕ, List, ◌++◌}
+use Rattle.std.specs.List.{AllZip, flat_map}
+use Rattle.time_base.specs.declared.time.Span.{Span}
+use Rattle.time_base.specs.declared.time.Time.{Time}
+use Rattle.commands.specs.declared.command.Command.TheVariants as commands
+use Rattle.commands.specs.declared.command.Item.{Item}
+use Rattle.commands.specs.declared.command.Item.TheVariants as items
+use Rattle.query_lang.specs.Grammar.{Query}
+use Rattle.query_eval.specs.declared.answer.Row.{Row}
+use Rattle.query_eval.specs.declared.spans.SpanRow.{SpanRow}
+use Rattle.archive_state.specs.Chosen.{IsMadeAt, IsMadeOver}
+use Rattle.archive_state.specs.Histories.{History}
+use Rattle.archive_state.specs.Replies.{reply_text}
+use Rattle.archive_state.specs.Steps.{Reply, Found, Spanned, IsReplied}
+
+-- what is found by a query at a time, by the lists that are chosen
+abbrev pub MakesAt : History → List ℕ → Time → Query → Reply → Type 0
+MakesAt history pages at query reply = (rows : List Row) × (read : ℕ) × IsMadeAt history pages at.seconds query rows read × (reply ≡ Found rows read)
+
+-- the same over a window
+abbrev pub MakesOver : History → List ℕ → Span → Query → Reply → Type 0
+MakesOver history pages span query reply = (rows : List SpanRow) × (read : ℕ) × IsMadeOver history pages span.from span.to query rows read × (reply ≡ Spanned rows read)
+
+-- The item is a question, and this is its reply, made from the lists that are chosen; or its text is no query, and it is refused where that shows.
+abbrev pub IsMadeReply : History → List ℕ → Item → Reply → Type 0
+IsMadeReply history pages (items.Command (commands.Find at expr)) reply = IsReplied (MakesAt history pages at) expr reply
+IsMadeReply history pages (items.Command (commands.Between span expr)) reply = IsReplied (MakesOver history pages span) expr reply
+IsMadeReply history pages (items.Command (commands.Arrive doc at text)) reply = ⊥
+IsMadeReply history pages (items.Command (commands.Delete doc at)) reply = ⊥
+IsMadeReply history pages (items.Command (commands.Show doc at)) reply = ⊥
+IsMadeReply history pages (items.Command (commands.Plan word kind fraction)) reply = ⊥
+IsMadeReply history pages (items.Command (commands.Propose word fraction)) reply = ⊥
+IsMadeReply history pages (items.Command (commands.Certificate word)) reply = ⊥
+IsMadeReply history pages (items.Command commands.Verify) reply = ⊥
+IsMadeReply history pages items.Line reply = ⊥
+
+-- the item asks what is found, at a time or over a window
+abbrev pub IsQuestion : Item → Type 0
+IsQuestion (items.Command (commands.Find at expr)) = Unit {0}
+IsQuestion (items.Command (commands.Between span expr)) = Unit {0}
+IsQuestion (items.Command (commands.Arrive doc at text)) = ⊥
+IsQuestion (items.Command (commands.Delete doc at)) = ⊥
+IsQuestion (items.Command (commands.Show doc at)) = ⊥
+IsQuestion (items.Command (commands.Plan word kind fraction)) = ⊥
+IsQuestion (items.Command (commands.Propose word fraction)) = ⊥
+IsQuestion (items.Command (commands.Certificate word)) = ⊥
+IsQuestion (items.Command commands.Verify) = ⊥
+IsQuestion items.Line = ⊥
+
+-- behind what was shown before, the replies to these questions were shown, one by one, each made so
+pub record AreMade (history : History) (pages : List ℕ) (asked : List Item) (before after : List ℕ) : Type 0 where
+  pub replies : List Reply
+  pub each : AllZip (IsMadeReply history pages) asked replies
+  pub shown : after ≡ before ++ flat_map reply_text replies
