@@ -15,6 +15,8 @@ from support import TOOLS, answers
 
 TOP = TOOLS.parent
 STORY = re.compile(r"^## (.+?)\n(.*?)(?=^## |\Z)", re.MULTILINE | re.DOTALL)
+#: What the stories draw, and where the page has it.
+PICTURES = {"bridge.svg": "timeline.svg", "tradeoff.svg": "tradeoff.svg"}
 BLOCK = re.compile(r"^```console\n(.*?)^```$", re.MULTILINE | re.DOTALL)
 
 
@@ -68,5 +70,8 @@ class Stories(unittest.TestCase):
                 for command, printed in (pair for block in blocks for pair in commands_of(block)):
                     self.assertEqual(run(command, folder), printed, command)
                     told += 1
+                for drawn, shown in PICTURES.items():
+                    if (folder / drawn).exists():
+                        self.assertEqual((folder / drawn).read_text(), (TOP / "docs" / shown).read_text(), shown)
         if not any(missing(body) for _, body in STORY.findall(text)):
             self.assertGreater(told, 20)

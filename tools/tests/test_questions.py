@@ -8,7 +8,7 @@ import xml.etree.ElementTree as ElementTree
 from fractions import Fraction
 
 from support import DAY, ArchiveCase, Version, needs, sample
-from tt_archive_tools import timeline, tradeoff
+from tt_archive_tools import commands, timeline, tradeoff
 from tt_archive_tools.errors import ToolError
 
 #: 2007-07-23
@@ -36,7 +36,7 @@ class Questions(ArchiveCase):
         )
         self.assertEqual(self.tt("find", "bridge", "--at", "2007-07-24", "--tsv").stdout, "2\tbridge\n")
         self.assertEqual(self.tt("find", "bridge").stdout.splitlines()[1], "1      ferry")
-        self.assertEqual(self.tt("find", "heron").stdout, "0 documents at now; 0 postings read\n")
+        self.assertEqual(self.tt("find", "heron").stdout, "0 documents now; 0 postings read\n")
 
     @needs("queries", "utf8")
     def test_queries(self) -> None:
@@ -70,7 +70,7 @@ class Questions(ArchiveCase):
             self.tt("status").stdout.splitlines()[:3],
             [
                 "documents  2, of which 1 have a text now; 2 names",
-                "entries    4 versions, 1 deletion, 0 others",
+                "entries    4 versions, 1 deletion, 0 plans",
                 "times      2007-07-23 to 2007-07-26",
             ],
         )
@@ -79,7 +79,9 @@ class Questions(ArchiveCase):
         self.assertIn("there are no words to find", self.tt("find", " ", status=1).stderr)
         self.assertIn("a question is one line", self.tt("find", "a\nb", status=1).stderr)
         self.assertIn("is no time", self.tt("find", "a", "--at", "yesterday", status=1).stderr)
-        self.assertIn("a plan is", self.tt("plan", "a", "guarantee", "2", status=1).stderr)
+        self.assertIn("a plan is", self.tt("plan", "a", "guarantee", "2", "uniform", status=1).stderr)
+        for factor in ("0.5", "2/0", "2/3", "4294967296"):
+            self.assertIn(f"'{factor}' is no factor", self.tt("plan", "a", "guarantee", factor, status=1).stderr)
 
     @unittest.skipUnless(FAKE, "only the stand-in can leave commands out")
     def test_what_a_program_does_not_answer_yet(self) -> None:
@@ -111,6 +113,13 @@ class Pictures(ArchiveCase):
                 texts[version.name] = version.text or ""
         return {name: text.split().count(word) for name, text in texts.items() if word in text.split()}
 
+    def assert_costs(self, line: timeline.Timeline, times: list[int]) -> None:
+        """What is drawn is what a question of that time reads."""
+        with self.open() as collection:
+            for time in (*times, *(move.time for move in line.moves)):
+                drawn = [cost for start, cost in line.costs if start <= time][-1]
+                self.assertEqual(drawn, collection.ask_rows(commands.find(time, line.word)).read, time)
+
     @needs("between", "sublists")
     def test_timeline(self) -> None:
         middle = self.versions[60].time
@@ -138,6 +147,7 @@ class Pictures(ArchiveCase):
                 alive = len(self.counts("w2", time))
                 self.assertLessEqual(2 * cost, 3 * max(alive, 0) if alive else 0, time)
         self.assertLess(line.costs[len(line.costs) // 2][1], line.whole)
+        self.assert_costs(line, [last - 1, last, last + DAY])
         self.assertGreater(len(self.counts("w2", middle)), 0)
 
     @needs("between")
@@ -179,15 +189,52 @@ class Pictures(ArchiveCase):
         self.assertRegex(done.stdout, r"^\d+ segments of \d+ postings in all; the list has \d+ before 1972-11-25T12:00:00Z\n$")
         with self.open() as collection:
             self.assertEqual(timeline.gather(collection, "w2").horizons, (self.versions[-1].time,))
-        self.assertIn("no plan of 'heron': UnknownWord", self.tt("plan", "heron", "guarantee", "2/1", status=1).stderr)
+        self.assertIn("no plan of 'heron': no text has the word", self.tt("plan", "heron", "guarantee", "2/1", status=1).stderr)
+        self.assertEqual(self.tt("plan", "w2", "guarantee", "1.5").stdout, done.stdout)
+        self.tt("plan", "w3", "guarantee", "2")
+        told = self.tt("status").stdout.splitlines()
+        self.assertRegex(told[1], r"^entries    \d+ versions, \d+ deletions, 3 plans$")
+        self.assertRegex(told[4], r"^plan       w2 guarantee 3/2: \d+ segments, until 1972-11-25T12:00:00Z$")
+        self.assertRegex(told[5], r"^plan       w3 guarantee 2/1: ")
+
+    @unittest.skipIf(FAKE, "the stand-in keeps no sublists in Pages")
+    @needs("sublists")
+    def test_damage_is_told_and_mended(self) -> None:
+        whole = self.tt("find", "w2", "--at", "1972-10-20").stdout
+        self.tt("plan", "w2", "guarantee", "3/2")
+        pages = self.archive / "archive.pages"
+        kept = pages.read_bytes()
+        pages.write_bytes(bytes(byte ^ 1 if at % 4_096 == 3 else byte for at, byte in enumerate(kept)))
+        for words in (("find", "w2", "--at", "1972-10-20"), ("timeline", "w2", "-o", self.folder / "picture.svg")):
+            self.assertRegex(
+                self.tt(*words, status=1).stderr,
+                r"damaged sublist at page \d+ of archive.pages, of the plan of w2: its bytes aren't those that were stored "
+                r"\(digest\); no version is lost, and `tt plan w2 guarantee 3/2` stores its sublists anew\n$",
+            )
+        self.tt("plan", "w2", "guarantee", "3/2")
+        self.assertEqual(self.tt("find", "w2", "--at", "1972-10-20").stdout.splitlines()[:-1], whole.splitlines()[:-1])
+        pages.unlink()
+        told = self.tt("find", "w2", status=1).stderr
+        self.assertIn("archive.pages is shorter than the plans that stand reach", told)
+        os.truncate(pages, int(told.partition("truncate -s ")[2].split()[0]))
+        self.tt("plan", "w2", "guarantee", "3/2")
+        self.assertEqual(self.tt("find", "w2", "--at", "1972-10-20").stdout.splitlines()[:-1], whole.splitlines()[:-1])
+
+    def test_a_journal_that_is_gone(self) -> None:
+        (self.archive / "archive.journal").unlink()
+        self.assertIn("archive.journal is gone, and", self.tt("find", "w1", status=1).stderr)
+        self.assertFalse((self.archive / "archive.journal").exists())
 
     @needs("space")
     def test_space_plans(self) -> None:
         done = self.tt("plan", "w2", "space", "3/2", "since", "1972-10-01")
         self.assertRegex(done.stdout, r"^\d+ segments of \d+ postings in all; the list has \d+ before 1972-11-25T12:00:00Z, expected cost \d+\n$")
         with self.open() as collection:
-            self.assertEqual(timeline.gather(collection, "w2").horizons, (self.versions[-1].time,))
-        self.assertIn("no plan of 'heron': UnknownWord", self.tt("plan", "heron", "space", "2/1", "uniform", status=1).stderr)
+            line = timeline.gather(collection, "w2")
+        self.assertEqual(line.horizons, (self.versions[-1].time,))
+        self.assert_costs(line, [self.versions[-1].time + DAY])
+        self.assertIn("plan       w2 space 3/2 since 86745600: ", self.tt("status").stdout)
+        self.assertIn("no plan of 'heron': no text has the word", self.tt("plan", "heron", "space", "2/1", "uniform", status=1).stderr)
 
     def test_a_program_that_ends(self) -> None:
         done = self.tt("find", "w1", status=1, TT_ARCHIVE="sh -c 'echo tt_archive: disk fault >&2; exit 4'")

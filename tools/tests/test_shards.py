@@ -8,7 +8,7 @@ import shutil
 import unittest
 
 from support import DAY, ArchiveCase, answers, needs, sample
-from tt_archive_tools import commands
+from tt_archive_tools import commands, timeline
 from tt_archive_tools.replies import Pieces, Rows
 
 QUESTIONS = 200
@@ -75,6 +75,19 @@ class Shards(ArchiveCase):
         with self.open(self.shards) as four:
             plans = four.ask_all(commands.certificate("w1"))
         self.assertTrue(all(isinstance(plan, Pieces) for plan in plans))
+        self.assertRegex(self.tt("-C", self.shards, "status").stdout, r"plan       w1 guarantee 3/2: \d+ segments")
+
+    @needs("between", "sublists")
+    def test_a_timeline_of_shards_tells_what_they_read(self) -> None:
+        self.tt("shard", 4, self.shards)
+        self.tt("-C", self.shards, "plan", "w1", "guarantee", "3/2")
+        with self.open(self.shards) as four, self.open() as one:
+            drawn, whole = timeline.gather(four, "w1"), timeline.gather(one, "w1")
+            self.assertEqual((drawn.counts, drawn.moves, drawn.whole), (whole.counts, whole.moves, whole.whole))
+            self.assertEqual(len(drawn.horizons), 4)
+            for time in (*drawn.horizons, *(move.time for move in drawn.moves[::5])):
+                read = four.ask_rows(commands.find(time, "w1")).read
+                self.assertEqual([cost for start, cost in drawn.costs if start <= time][-1], read, time)
 
     def test_an_import_into_shards(self) -> None:
         tree = self.folder / "tree"
@@ -102,6 +115,9 @@ class Shards(ArchiveCase):
         whole = self.tt("find", "w1", "--at", "1972-10-20").stdout
         for how in (["--parallel"], ["--sshlogin", ":"]):
             self.assertEqual(self.tt("-C", self.shards, "find", "w1", "--at", "1972-10-20", *how).stdout, whole)
+        broken = "sh -c 'echo tt_archive: disk fault >&2; exit 4'"
+        done = self.tt("-C", self.shards, "find", "w1", "--parallel", status=1, TT_ARCHIVE=broken)
+        self.assertEqual(done.stderr, f"tt: {self.shards.resolve()}/shard-0: tt_archive: disk fault\n")
 
     def test_shards_on_other_machines(self) -> None:
         self.tt("shard", 4, self.shards)

@@ -44,6 +44,8 @@ class Texts(unittest.TestCase):
         self.assertEqual(text_of_html("<head><title>unclosed</title><p>body"), "unclosed\nbody")
         self.assertEqual(text_of_html("<div><script>never closed"), "")
         self.assertEqual(text_of_html("a<!-- b -->c"), "ac")
+        self.assertEqual(text_of_html("<p>one<noscript>two</noscript><button>three</button>four"), "one two three four")
+        self.assertEqual(text_of_html("<p>whole</p>rest" + "<a b='" * 100_000), "whole\nrest")
 
     def test_names_on_a_line(self) -> None:
         name = "a\tb\\n\nc\rd\udce9\\x41\x1b[1m\x7f"

@@ -5,23 +5,26 @@ from __future__ import annotations
 import argparse
 import re
 import sys
+from fractions import Fraction
+from typing import Sequence
 
 from . import commands
 from .collection import SHARDS, Collection, locked, shards_of
 from .errors import ToolError
-from .journal import summary
+from .journal import StoredPlan, summary
 from .ledger import FILE as LEDGER
 from .ledger import Ledger
 from .names import FILE as NAMES
 from .names import NameTable
-from .plans import note_plan
 from .program import find_program
 from .replies import Gone, Hit, Planned, Refused, Rows, Span, Text, merge_rows
 from .shards import ask_with_parallel
-from .times import parse_time, show_time
-from .wording import counted
+from .times import parse_time, show_at, show_time
+from .wording import counted, one_line
 
-_FORM = re.compile(r"(?:guarantee \d+/\d+|space \d+/\d+ (?:uniform|since \S+))\Z", re.ASCII)
+_FORM = re.compile(r"(guarantee|space) (\d+/\d+|\d+(?:\.\d+)?)( uniform| since \S+)?\Z", re.ASCII)
+#: The live plans of so many words are told by `status`.
+_MOST_PLANS = 20
 
 
 def find(options: argparse.Namespace) -> None:
@@ -30,7 +33,7 @@ def find(options: argparse.Namespace) -> None:
     shown = [(row.score, names.shown(row.doc)) for row in rows.rows if isinstance(row, Hit)]
     _show_rows(options, ("score", "document"), shown)
     if not options.tsv:
-        print(f"{counted(len(shown), 'document')} at {show_time(at)}; {counted(rows.read, 'posting')} read")
+        print(f"{counted(len(shown), 'document')} {show_at(at)}; {counted(rows.read, 'posting')} read")
 
 
 def between(options: argparse.Namespace) -> None:
@@ -58,24 +61,19 @@ def show(options: argparse.Namespace) -> None:
         case Text(text=text):
             sys.stdout.buffer.write(text if text.endswith(b"\n") else text + b"\n")
         case Gone():
-            raise ToolError(f"{options.name} has no text at {show_time(at)}")
+            raise ToolError(f"{options.name} has no text {show_at(at)}")
         case _:
             raise ToolError(f"the question was refused: {reply}")
 
 
 def plan(options: argparse.Namespace) -> None:
-    form = " ".join(options.form)
-    if not _FORM.match(form):
-        raise ToolError("a plan is `guarantee A/B`, `space A/B uniform` or `space A/B since TIME`")
-    if " since " in form:
-        start, since, time = form.partition(" since ")
-        form = f"{start}{since}{parse_time(time)}"
+    form = _form(" ".join(options.form))
     with Collection(options.archive, find_program(options.program)) as collection:
         replies = collection.ask_all(commands.plan(options.word, form))
         plans = [reply for reply in replies if isinstance(reply, Planned)]
         if not plans:
-            raise ToolError(f"no plan of {options.word!r}: {replies[0]}")
-        note_plan(collection.folder, options.word, form, plans)
+            refusal = replies[0].meaning if isinstance(replies[0], Refused) else replies[0]
+            raise ToolError(f"no plan of {options.word!r}: {refusal}")
     for planned in plans:
         cost = "" if planned.cost is None else f", expected cost {planned.cost}"
         print(
@@ -84,7 +82,25 @@ def plan(options: argparse.Namespace) -> None:
         )
     refused = [reply for reply in replies if isinstance(reply, Refused)]
     if refused:
-        print(f"{counted(len(refused), 'shard')} without a plan: {refused[0]}")
+        print(f"{counted(len(refused), 'shard')} without a plan: {refused[0].meaning}")
+
+
+def _form(words: str) -> str:
+    """The form as a script has it: the factor as A/B, the time in seconds."""
+    match = _FORM.match(words)
+    if not match or (match[1] == "space") != bool(match[3]):
+        raise ToolError("a plan is `guarantee A/B`, `space A/B uniform` or `space A/B since TIME`")
+    kind, factor, load = match.groups("")
+    try:
+        ratio = factor if "/" in factor else "%d/%d" % Fraction(factor).as_integer_ratio()
+        over, under = map(int, ratio.split("/"))
+    except ValueError as error:
+        raise ToolError(f"{factor!r} is no factor: {error}") from None
+    if not 1 <= under <= over < 1 << 32:
+        raise ToolError(f"{factor!r} is no factor: it is 1 or more, A/B with A and B below 2^32")
+    if load.startswith(" since "):
+        load = f" since {parse_time(load.removeprefix(' since '))}"
+    return f"{kind} {ratio}{load}"
 
 
 def status(options: argparse.Namespace) -> None:
@@ -98,14 +114,26 @@ def status(options: argparse.Namespace) -> None:
         apart = f", of which {away} on other machines aren't counted here" if away else ""
         print(f"shards     {len(shards)}{apart}")
     print(f"documents  {held.documents}, of which {held.alive} have a text now; {counted(names, 'name')}")
-    kinds = ((held.arrivals, "version"), (held.deletions, "deletion"), (held.others, "other"))
+    kinds = ((held.arrivals, "version"), (held.deletions, "deletion"), (held.plans, "plan"))
     print("entries    " + ", ".join(counted(count, what) for count, what in kinds))
     if held.first is not None and held.last is not None:
         print(f"times      {show_time(held.first)} to {show_time(held.last)}")
-    print(f"journal    {held.bytes} bytes")
+    print(f"files      {counted(held.journal, 'byte')} of journal, {counted(held.pages, 'byte')} of pages")
+    for word, plans in list(held.live.items())[:_MOST_PLANS]:
+        print(f"plan       {one_line(word)} {_live(plans)}")
+    if len(held.live) > _MOST_PLANS:
+        print(f"           and of {len(held.live) - _MOST_PLANS} words more")
     ends = {line.source: line for line in lines if line.ended}
     for source, line in ends.items():
         print(f"imported   {source}, until {'-' if line.last is None else show_time(line.last)}")
+
+
+def _live(plans: Sequence[StoredPlan]) -> str:
+    """A word's plans that stand, one of each shard that has one."""
+    segments = counted(sum(plan.segments for plan in plans), "segment")
+    until = show_time(max(plan.horizon for plan in plans))
+    forms = " and ".join(sorted({plan.form for plan in plans}))
+    return f"{forms}: {segments}, until {until}"
 
 
 def _rows(options: argparse.Namespace, question: bytes) -> tuple[Rows, NameTable]:

@@ -114,7 +114,7 @@ def _add_questions(kinds: Kinds) -> None:
     show.add_argument("--at", default="now", metavar="TIME", help=_TIME)
     plan = _command(kinds, "plan", asking.plan, "store a plan of a word's list, which bounds reading or space")
     plan.add_argument("word", metavar="WORD")
-    plan.add_argument("form", nargs="+", metavar="FORM", help="guarantee A/B, space A/B uniform, space A/B since TIME")
+    plan.add_argument("form", nargs="+", metavar="FORM", help="guarantee A/B, space A/B uniform, space A/B since TIME; 1.5 is 3/2")
 
 
 def _add_pictures(kinds: Kinds) -> None:

@@ -18,15 +18,15 @@ from types import TracebackType
 from typing import Any, Callable, Iterator, Sequence
 
 from . import commands
+from .damage import explained
 from .errors import NotBuilt, ProgramFailed, ToolError
 from .ledger import FILE as IMPORTS
 from .names import FILE as NAMES
 from .names import NameTable
-from .program import Answer, Program, Shard
+from .program import JOURNAL, Answer, Program, Shard
 from .replies import Refused, Reply, Rows, merge_rows
 
 SHARDS = "shards.tsv"
-JOURNAL = "archive.journal"
 _LOCK = ".tt.lock"
 #: So many commands may be under way in all; it bounds the memory for what isn't answered yet.
 _MOST_UNDER_WAY = 8_192
@@ -91,6 +91,7 @@ class Collection:
         self._lock.enter_context(locked(self.folder))
         try:
             self.names = NameTable(self.folder / NAMES)
+            self._check_journals()
             self._start()
         except BaseException:
             self._close()
@@ -104,7 +105,7 @@ class Collection:
         if kind is None:
             for shard, (status, said) in zip(self.shards, ends):
                 if status != 0:
-                    raise ProgramFailed(f"{shard}: {said or 'status %d' % status}")
+                    raise ProgramFailed(f"{shard}: {explained(said, shard) or 'status %d' % status}")
 
     def side_of(self, doc: int) -> int:
         """Which of the archives has the document."""
@@ -185,13 +186,19 @@ class Collection:
             side.program.end_input()
             status, said = side.program.wait()
             raise ProgramFailed(
-                f"{side.program.shard}: {said or answer or 'tt_archive ended with status %d' % status}"
+                f"{side.program.shard}: {explained(said, side.program.shard) or answer or 'tt_archive ended with status %d' % status}"
             )
         if not side.under_way:
             raise ProgramFailed(f"{side.program.shard}: a reply to nothing that was asked: {answer}")
         token, handle = side.under_way.popleft()
         self._count -= 1
         handle(token, answer)
+
+    def _check_journals(self) -> None:
+        """A program makes a new archive where there is none. Where documents have names, it was lost."""
+        for shard in self.shards:
+            if len(self.names) and not (shard.login or (shard.folder / JOURNAL).exists()):
+                raise ToolError(f"{shard.folder / JOURNAL} is gone, and {self.folder / NAMES} names documents of it")
 
     def _start(self) -> None:
         self._answers = SimpleQueue()

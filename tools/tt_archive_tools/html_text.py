@@ -12,7 +12,8 @@ _BLOCKS = {
     "h5", "h6", "header", "hr", "html", "legend", "li", "main", "nav", "ol", "option", "p", "pre",
     "section", "summary", "table", "tbody", "tfoot", "thead", "title", "tr", "ul",
 }  # fmt: skip
-_CELLS = {"td", "th"}
+#: Their texts stand apart from what is beside them.
+_CELLS = {"td", "th", "button", "textarea", "noscript"}
 #: Tags that begin the page's body where its `head` was never closed.
 _ENDS_HEAD = _BLOCKS - {"title", "html"}
 _SPACES = re.compile(r"[ \t\r\f\n]+")
@@ -21,7 +22,9 @@ _SPACES = re.compile(r"[ \t\r\f\n]+")
 def text_of_html(page: str) -> str:
     """The page's text: a line for each block, without tags, scripts and styles."""
     parser = _Stripper()
-    parser.feed(page)
+    # No tag ends behind the last `>`. What begins there is left out, since the parser would try each again and again.
+    whole, end, rest = page.rpartition(">")
+    parser.feed(whole + end + rest.partition("<")[0])
     parser.close()
     return parser.text()
 

@@ -2,27 +2,46 @@
 
 from __future__ import annotations
 
-from dataclasses import dataclass
+import struct
+from dataclasses import dataclass, field
 from pathlib import Path
 from typing import BinaryIO, Iterable, Iterator
 
-from .collection import JOURNAL
 from .errors import InputError
-from .program import Shard
+from .program import JOURNAL, PAGES, Shard
 
 _HEADER = b"TIMETRAVELTEXT\x00\x01"
 _OPEN = b"\xa5"
-_ARRIVE, _DELETE = 1, 2
+_PAGE = 4_096
+_ARRIVE, _DELETE, _PLAN = 1, 2, 3
+#: The kinds of plans, as a script writes them.
+_KINDS = {1: "guarantee {}/{}", 2: "space {}/{} uniform", 3: "space {}/{} since {}"}
+#: A segment: its cut, first page, bytes, and a digest.
+_SEGMENT = struct.Struct(">QIQ32x")
+
+
+@dataclass(frozen=True)
+class StoredPlan:
+    """A plan as its entry has it: `word` is the word's key, `pages` the first page of each sublist that
+    has one, and `end` how many bytes of Pages they reach to."""
+
+    word: str
+    form: str
+    horizon: int
+    segments: int
+    pages: frozenset[int]
+    end: int
 
 
 @dataclass(frozen=True)
 class Entry:
-    """An arrival (with its text, where texts are read), a deletion, or another entry (no document)."""
+    """An arrival (with its text, where texts are read), a deletion, or a plan (no document)."""
 
     tag: int
     doc: int
     time: int
     text: bytes
+    plan: StoredPlan | None = None
 
     @property
     def arrives(self) -> bool:
@@ -52,13 +71,42 @@ def _records(file: BinaryIO, path: Path, texts: bool) -> Iterator[Entry]:
         head = file.read(min(size, 13))
         tag = head[0] if head else 0
         rest = size - len(head)
+        if tag == _PLAN:
+            yield Entry(tag, 0, 0, b"", _plan(head + file.read(rest), path))
+            continue
         text = file.read(rest) if texts else b""
         if not texts:
             file.seek(rest, 1)
-        if tag in (_ARRIVE, _DELETE):
-            yield Entry(tag, int.from_bytes(head[1:5], "big"), int.from_bytes(head[5:13], "big"), text)
-        else:
-            yield Entry(tag, 0, 0, b"")
+        yield Entry(tag, int.from_bytes(head[1:5], "big"), int.from_bytes(head[5:13], "big"), text)
+
+
+def _plan(body: bytes, path: Path) -> StoredPlan:
+    """What a plan's entry says, behind its tag and layout."""
+    try:
+        kind, at = body[2], 3
+        since, at = (_number(body, at, 8), at + 8) if kind == 3 else (0, at)
+        over, under, horizon = _number(body, at, 4), _number(body, at + 4, 4), _number(body, at + 8, 8)
+        end = at + 17 + body[at + 16]
+        form = _KINDS[kind].format(over, under, since)
+        segments = list(_SEGMENT.iter_unpack(body[end + 4 :]))
+        places = {page: size for _, page, size in segments if size}
+        reach = max((_PAGE * page + size for page, size in places.items()), default=0)
+        return StoredPlan(body[at + 17 : end].decode(), form, horizon, len(segments), frozenset(places), reach)
+    except (IndexError, KeyError, UnicodeDecodeError, struct.error):
+        raise InputError(str(path), "a plan's entry can't be read") from None
+
+
+def _number(body: bytes, at: int, size: int) -> int:
+    return int.from_bytes(body[at : at + size], "big")
+
+
+def pages_size(folder: Path) -> int:
+    return _size(folder / PAGES)
+
+
+def live_plans(folder: Path) -> dict[str, StoredPlan]:
+    """By key the plan of each word that has one."""
+    return {entry.plan.word: entry.plan for entry in entries(folder, texts=False) if entry.plan}
 
 
 @dataclass
@@ -67,21 +115,27 @@ class Summary:
 
     arrivals: int = 0
     deletions: int = 0
-    others: int = 0
+    plans: int = 0
     documents: int = 0
     alive: int = 0
     first: int | None = None
     last: int | None = None
-    bytes: int = 0
+    journal: int = 0
+    pages: int = 0
+    #: By key the live plans of a word, one of each archive.
+    live: dict[str, list[StoredPlan]] = field(default_factory=dict)
 
     def add(self, other: Summary) -> None:
         """Takes in the counts of an archive of other documents."""
         self.arrivals += other.arrivals
         self.deletions += other.deletions
-        self.others += other.others
+        self.plans += other.plans
         self.documents += other.documents
         self.alive += other.alive
-        self.bytes += other.bytes
+        self.journal += other.journal
+        self.pages += other.pages
+        for word, plans in other.live.items():
+            self.live.setdefault(word, []).extend(plans)
         self.first = min((time for time in (self.first, other.first) if time is not None), default=None)
         self.last = max((time for time in (self.last, other.last) if time is not None), default=None)
 
@@ -95,14 +149,19 @@ def summary(shards: Iterable[Shard]) -> Summary:
     return held
 
 
+def _size(path: Path) -> int:
+    return path.stat().st_size if path.exists() else 0
+
+
 def _summary(folder: Path) -> Summary:
-    found = Summary(bytes=(folder / JOURNAL).stat().st_size if (folder / JOURNAL).exists() else 0)
+    found = Summary(journal=_size(folder / JOURNAL), pages=_size(folder / PAGES))
     alive: dict[int, bool] = {}
-    if not found.bytes:
+    if not found.journal:
         return found
     for entry in entries(folder, texts=False):
-        if not (entry.arrives or entry.deletes):
-            found.others += 1
+        if entry.plan:
+            found.plans += 1
+            found.live[entry.plan.word] = [entry.plan]
             continue
         found.arrivals += entry.arrives
         found.deletions += entry.deletes

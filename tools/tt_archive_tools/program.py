@@ -16,6 +16,8 @@ from .errors import ProgramFailed, ToolError
 from .replies import Reply, read_reply
 
 VARIABLE = "TT_ARCHIVE"
+#: The files of an archive.
+JOURNAL, PAGES = "archive.journal", "archive.pages"
 _BUILT = Path(__file__).resolve().parents[2] / "crates" / "tt_archive" / "out" / "tt_archive"
 
 #: What a program's reader puts into the queue: who, and a reply or what ended the replies.

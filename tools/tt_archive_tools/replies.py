@@ -29,6 +29,20 @@ class Refused:
     def __str__(self) -> str:
         return f"{self.name} {self.detail}".rstrip()
 
+    @property
+    def meaning(self) -> str:
+        """What a plan's refusal says to a keeper."""
+        match self.name:
+            case "NotOneTerm":
+                return "that isn't one word"
+            case "UnknownWord":
+                return "no text has the word"
+            case "NothingSealed":
+                return "the word came only at the archive's last time, and a plan is of what lies before it"
+            case "TooWide":
+                return f"its list has {self.detail} boundaries, and a plan is of at most 1048576"
+        return str(self)
+
 
 @dataclass(frozen=True, order=True)
 class Hit:

@@ -11,14 +11,15 @@ import shutil
 import subprocess
 from io import BytesIO
 from pathlib import Path
-from typing import Any, Sequence
+from typing import Any, Mapping, Sequence
 
 from . import commands
-from .collection import JOURNAL, SHARDS, Collection
+from .collection import SHARDS, Collection
+from .damage import explained
 from .errors import ProgramFailed, ToolError
 from .journal import entries
 from .names import FILE as NAMES
-from .program import Shard
+from .program import JOURNAL, Shard
 from .replies import Ok, Reply, read_reply
 
 _BATCH_BYTES = 1 << 20
@@ -83,14 +84,13 @@ def ask_with_parallel(
     table says, or all on the machines of `logins`, which then need the folders at the same paths."""
     if shutil.which("parallel") is None:
         raise ToolError("there is no GNU parallel: install the package parallel")
-    run = "cd {1} && printf '%s\\n' {2} | " + shlex.join(command)
-    words = ["parallel", "--will-cite", "--keep-order", "--halt", "now,fail=1", *_machines(shards, logins), run]
+    run = "cd {1} && printf '%s\\n' {2} | " + shlex.join(command) + " || { echo tt_archive: {1} >&2; exit 1; }"
+    words = ["parallel", "--will-cite", "--keep-order", *_machines(shards, logins), run]
     words += [":::", *_places(shards, logins), ":::", question.decode().rstrip("\n")]
     done = subprocess.run(words, stdin=subprocess.DEVNULL, capture_output=True)
     if done.returncode != 0:
-        said = done.stderr.decode("utf-8", "replace").strip().splitlines()
-        own = next((line for line in said if line.startswith("tt_archive:")), "; ".join(said))
-        raise ProgramFailed(own or f"parallel ended with status {done.returncode}")
+        here = {str(shard.folder.resolve()): shard for shard in shards if not (shard.login or logins)}
+        raise ProgramFailed(_fault(done.stderr.decode("utf-8", "replace").strip(), done.returncode, here))
     stream = BytesIO(done.stdout)
     replies = []
     while reply := read_reply(stream):
@@ -98,6 +98,15 @@ def ask_with_parallel(
     if len(replies) != len(shards):
         raise ProgramFailed(f"{len(shards)} shards gave {len(replies)} replies")
     return replies
+
+
+def _fault(said: str, status: int, here: Mapping[str, Shard]) -> str:
+    """What the first job that failed said, behind where it ran."""
+    own = [line for line in said.splitlines() if line.startswith("tt_archive: ")]
+    if len(own) < 2:
+        return "; ".join(said.splitlines()) or f"parallel ended with status {status}"
+    place = own[1].removeprefix("tt_archive: ")
+    return f"{place}: {explained(own[0], here.get(place, Shard(Path(place), 'elsewhere')))}"
 
 
 def _machines(shards: Sequence[Shard], logins: str | None) -> list[str]:

@@ -2,22 +2,25 @@
 
 from __future__ import annotations
 
+import unicodedata
 from dataclasses import dataclass
 from html import escape
-from typing import Sequence
+from typing import Iterable, Sequence
 
 from . import commands, svg
 from .collection import Collection
 from .errors import NotBuilt, ToolError
 from .journal import summary
-from .plans import stored_horizon
 from .replies import Hit, Pieces, Rows, Span
-from .times import LAST_TIME, show_day, show_time
+from .times import DAY, LAST_TIME, show_day, show_time
 
-#: A picture asks for the cost at so many times at most.
+#: Of a word without a plan that is shown, a picture asks for the cost at so many times at most.
 _MOST_QUESTIONS = 300
 #: Where the program can't tell the spans, the word is looked for at so many times.
 _SAMPLES = 120
+#: From each time on, until the next, a number.
+Steps = tuple[tuple[int, int], ...]
+
 #: Of the changes that fall on one mark so many are named.
 _MOST_TOLD = 8
 
@@ -39,8 +42,8 @@ class Timeline:
     word: str
     first: int
     last: int
-    counts: tuple[tuple[int, int], ...]
-    costs: tuple[tuple[int, int], ...]
+    counts: Steps
+    costs: Steps
     moves: tuple[Move, ...]
     #: The postings of the whole list, which a question reads without a plan; None where unknown.
     whole: int | None
@@ -54,7 +57,8 @@ def gather(collection: Collection, word: str) -> Timeline:
     last = collection.last_time()
     if last is None:
         raise ToolError("the archive has no version yet")
-    horizons = _horizons(collection, word)
+    plans = _plans(collection, word)
+    horizons = _horizons(collection, word, plans)
     try:
         spans = [row for row in collection.ask_rows(commands.between(0, LAST_TIME, word)).rows if isinstance(row, Span)]
     except NotBuilt:
@@ -65,8 +69,45 @@ def gather(collection: Collection, word: str) -> Timeline:
     changes = sorted({move.time for move in moves})
     end = max(last, changes[-1])
     times = _some(sorted({*changes, *horizons, end}), _MOST_QUESTIONS)
-    costs = tuple((time, collection.ask_rows(commands.find(time, word)).read) for time in times)
+    costs = sums_of([_costs(collection, side, word, plan, times) for side, plan in enumerate(plans)])
     return Timeline(word, changes[0], end, counts_of(moves), costs, moves, len(spans), horizons, True)
+
+
+def _plans(collection: Collection, word: str) -> list[Pieces | None]:
+    """The plan that each archive shows for the word."""
+    try:
+        replies = collection.ask_all(commands.certificate(word))
+    except NotBuilt:
+        return [None for _ in collection.shards]
+    return [reply if isinstance(reply, Pieces) and reply.segments else None for reply in replies]
+
+
+def _costs(collection: Collection, side: int, word: str, plan: Pieces | None, times: Sequence[int]) -> Steps:
+    """What one archive reads: by its plan the segment that holds a time, and its list from the horizon on."""
+
+    def read(time: int) -> int:
+        return collection.rows_of(collection.ask_side(side, commands.find(time, word))).read
+
+    if plan is None:
+        return tuple((time, read(time)) for time in times)
+    horizon = plan.segments[-1].end
+    return (*((segment.start, segment.size) for segment in plan.segments), (horizon, read(horizon)))
+
+
+def sums_of(parts: Sequence[Steps]) -> Steps:
+    """The sum over the parts, each of which is 0 before its first time."""
+    sums: dict[int, int] = {}
+    for part in parts:
+        before = 0
+        for time, value in part:
+            sums[time] = sums.get(time, 0) + value - before
+            before = value
+    total = 0
+    steps = []
+    for time in sorted(sums):
+        total += sums[time]
+        steps.append((time, total))
+    return tuple(steps)
 
 
 def moves_of(spans: Sequence[Span]) -> tuple[Move, ...]:
@@ -83,7 +124,7 @@ def moves_of(spans: Sequence[Span]) -> tuple[Move, ...]:
     return tuple(sorted(moves, key=lambda move: (move.time, move.doc)))
 
 
-def counts_of(moves: Sequence[Move]) -> tuple[tuple[int, int], ...]:
+def counts_of(moves: Sequence[Move]) -> Steps:
     """In how many documents the word stands from each time on."""
     counts: dict[int, int] = {}
     count = 0
@@ -104,17 +145,17 @@ def _sampled(collection: Collection, word: str, last: int, horizons: tuple[int, 
     return Timeline(word, first, last, counts, costs, (), None, horizons, False)
 
 
-def _horizons(collection: Collection, word: str) -> tuple[int, ...]:
-    """The horizons of the word's plans that stand."""
-    try:
-        replies = collection.ask_all(commands.certificate(word))
-    except NotBuilt:
-        return ()
-    horizons = {reply.segments[-1].end for reply in replies if isinstance(reply, Pieces) and reply.segments}
-    kept = stored_horizon(collection.folder, word)
-    if not horizons and kept is not None:
-        horizons = {kept}
+def _horizons(collection: Collection, word: str, plans: Iterable[Pieces | None]) -> tuple[int, ...]:
+    """The horizons of the word's plans that stand. A plan that the program doesn't show is in the journal."""
+    horizons = {plan.segments[-1].end for plan in plans if plan}
+    if not horizons:
+        live = summary(collection.shards).live.get(_key(word), ())
+        horizons = {plan.horizon for plan in live}
     return tuple(sorted(horizons))
+
+
+def _key(word: str) -> str:
+    return unicodedata.normalize("NFD", unicodedata.normalize("NFD", word).casefold())
 
 
 def _some(times: Sequence[int], most: int) -> list[int]:
@@ -129,7 +170,7 @@ def draw(line: Timeline, collection: Collection) -> str:
     margin = max((line.last - line.first) // 30, 1)
     x = svg.Scale(line.first - margin, line.last + margin, 70, 930)
     end = line.last + margin
-    picture.text(70, 28, f"“{line.word}”, {show_day(line.first)} to {show_day(line.last)}", size=17)
+    picture.text(70, 28, f"“{line.word}”, {_days(line)} (UTC)", size=17)
     svg.time_axis(picture, x, 70, 470)
 
     most = svg.number_ticks(max(count for _, count in line.counts))
@@ -144,7 +185,13 @@ def draw(line: Timeline, collection: Collection) -> str:
     picture.words(70, 258, heading + (kinds if line.exact else [("not known to this program", svg.FAINT)]))
     _draw_moves(picture, line, x, collection)
     _draw_costs(picture, line, x, end)
+    _draw_horizons(picture, line.horizons, x)
     return picture.render()
+
+
+def _days(line: Timeline) -> str:
+    first, last = show_day(line.first), show_day(line.last)
+    return first if first == last else f"{first} to {last}"
 
 
 def _draw_moves(picture: svg.Picture, line: Timeline, x: svg.Scale, collection: Collection) -> None:
@@ -172,13 +219,24 @@ def _draw_costs(picture: svg.Picture, line: Timeline, x: svg.Scale, end: int) ->
     if line.whole is not None:
         picture.path([(x(line.first), y(line.whole)), (x(end), y(line.whole))], svg.ORANGE, 'stroke-dasharray="6 4"')
     picture.path(svg.steps(line.costs, end, x, y), svg.BLUE)
-    for horizon in line.horizons:
-        picture.line(x(horizon), 70, x(horizon), 470, svg.INK, 'stroke-dasharray="2 3"')
-        picture.text(x(horizon) - 4, 82, f"horizon {show_day(horizon)}", "end", svg.INK, 11)
-    legend = [("as the archive stands", svg.BLUE, "")]
+    most = max(cost for _, cost in line.costs)
+    stands = f"with the plan that stands: up to {most}" if line.horizons else "as the archive stands"
+    legend = [(stands, svg.BLUE, "")]
     if line.whole is not None:
         legend.append((f"without a plan: {line.whole}", svg.ORANGE, 'stroke-dasharray="6 4"'))
     picture.legend(70, 510, legend)
+
+
+def _draw_horizons(picture: svg.Picture, horizons: Sequence[int], x: svg.Scale) -> None:
+    """An upright line for the horizon of each archive's plan, and above the last one the days."""
+    for horizon in horizons:
+        picture.line(x(horizon), 54, x(horizon), 470, svg.INK, 'stroke-dasharray="2 3"')
+    if horizons:
+        show = show_day if x.high - x.low > 4 * DAY else show_time
+        first, last = show(horizons[0]), show(horizons[-1])
+        label = f"horizon {last}" if first == last else f"horizons {first} to {last}"
+        anchor = "end" if x(horizons[-1]) > 300 else "start"
+        picture.text(x(horizons[-1]), 48, label, anchor, svg.INK, 11)
 
 
 def page(line: Timeline, picture: str, collection: Collection) -> str:

@@ -71,6 +71,12 @@ def show_time(seconds: int) -> str:
     return moment.strftime("%Y-%m-%d" if seconds % DAY == 0 else "%Y-%m-%dT%H:%M:%SZ")
 
 
+def show_at(seconds: int) -> str:
+    """`at` a time, or `now`."""
+    shown = show_time(seconds)
+    return shown if shown == "now" else f"at {shown}"
+
+
 def show_day(seconds: int) -> str:
     """The day of a time."""
     return show_time(seconds).partition("T")[0]

@@ -4,7 +4,7 @@ from __future__ import annotations
 
 from dataclasses import dataclass
 from fractions import Fraction
-from typing import Iterable
+from typing import Iterable, Sequence
 
 from . import commands, svg
 from .collection import Collection
@@ -16,6 +16,12 @@ from .times import show_day
 FACTORS = tuple(Fraction(k, 8) for k in range(8, 33))
 #: With this factor every partition is allowed, so that the least space is the size of the list.
 _ANY = Fraction((1 << 32) - 1, 1)
+
+
+#: The axes go at least so far past the greatest value, which leaves room for its label.
+_ROOM = 1.08
+#: Left, top, right and bottom of a place in the picture.
+Box = tuple[float, float, float, float]
 
 
 @dataclass(frozen=True)
@@ -50,8 +56,8 @@ def _propose(collection: Collection, word: str, factor: Fraction) -> list[Pieces
     replies = collection.ask_all(commands.propose(word, factor.numerator, factor.denominator))
     plans = [reply for reply in replies if isinstance(reply, Pieces) and reply.segments]
     if not plans:
-        refusal = next((reply for reply in replies if isinstance(reply, Refused)), None)
-        raise ToolError(f"there is no plan for {word!r}: {refusal}")
+        refusal = next((reply.meaning for reply in replies if isinstance(reply, Refused)), "an empty reply")
+        raise ToolError(f"no plan of {word!r}: {refusal}")
     return plans
 
 
@@ -69,8 +75,8 @@ def _point(factor: Fraction, plans: Iterable[Pieces]) -> Point:
 def draw(tradeoff: Tradeoff) -> str:
     """The picture: a dot for each plan, space to the right and cost upwards."""
     picture = svg.Picture(760, 480, f"Plans for {tradeoff.word!r}")
-    across = svg.number_ticks(max([point.space for point in tradeoff.points] + [tradeoff.whole]))
-    up = svg.number_ticks(max([point.mean for point in tradeoff.points] + [tradeoff.whole]))
+    across = svg.number_ticks(_ROOM * max([point.space for point in tradeoff.points] + [tradeoff.whole]))
+    up = svg.number_ticks(_ROOM * max([point.mean for point in tradeoff.points] + [tradeoff.whole]))
     x = svg.Scale(0, across[-1], 70, 720)
     y = svg.Scale(0, up[-1], 400, 80)
     picture.text(70, 28, f"“{tradeoff.word}”: space against reading, until {show_day(tradeoff.horizon)}", size=17)
@@ -85,11 +91,13 @@ def draw(tradeoff: Tradeoff) -> str:
         place = x(group[0].space), y(group[0].mean)
         tip = f"{_factors(group)}: {group[0].space} postings, {group[0].mean:.1f} read, {group[0].worst} at worst"
         picture.dot(*place, svg.BLUE, tip)
-    for group, place in _labelled([(group, (x(group[0].space), y(group[0].mean))) for group in groups]):
-        picture.text(place[0] + 7, place[1] - 6, _factors(group), size=11)
-    picture.dot(x(tradeoff.whole), y(tradeoff.whole), svg.ORANGE, "without a plan")
-    picture.text(x(tradeoff.whole) + 7, y(tradeoff.whole) - 6, "no plan", colour=svg.ORANGE, size=11)
-    note = "Each dot is a least plan, with the factors that give it; where there is no room, the pointer tells them."
+    whole = x(tradeoff.whole), y(tradeoff.whole)
+    picture.dot(*whole, svg.ORANGE, f"without a plan: {tradeoff.whole} postings, {tradeoff.whole} read")
+    picture.text(whole[0] + 8, whole[1] + 4, "no plan", colour=svg.ORANGE, size=11)
+    taken = [(whole[0] - 5, whole[1] - 7, whole[0] + 55, whole[1] + 7)]
+    for text, place in _labels([(group, (x(group[0].space), y(group[0].mean))) for group in groups], taken):
+        picture.text(*place, text, size=11)
+    note = "Each dot is a least plan, with the factors that give it; the pointer tells more."
     picture.text(70, 464, note, colour=svg.FAINT, size=12)
     return picture.render()
 
@@ -105,13 +113,42 @@ def _alike(points: Iterable[Point]) -> list[list[Point]]:
     return groups
 
 
-def _labelled(dots: Iterable[tuple[list[Point], tuple[float, float]]]) -> list[tuple[list[Point], tuple[float, float]]]:
-    """The dots that get a label: whole factors first, and none where it would run into another."""
-    placed: list[tuple[list[Point], tuple[float, float]]] = []
-    for group, (x, y) in sorted(dots, key=lambda dot: min(point.factor.denominator for point in dot[0])):
-        if all(abs(y - other[1]) > 13 or abs(x - other[0]) > 75 for _, other in placed):
-            placed.append((group, (x, y)))
+def _labels(
+    dots: Sequence[tuple[list[Point], tuple[float, float]]], taken: list[Box]
+) -> list[tuple[str, tuple[float, float]]]:
+    """The labels of whole factors and halves, and where they begin: beside their dot, where nothing stands yet."""
+    places = [place for _, place in dots]
+    taken += [(x - 5, y - 5, x + 5, y + 5) for x, y in places]
+    for one, other in zip(places, places[1:]):
+        taken += [(x, y, x, y) for x, y in _between(one, other)]
+    placed = []
+    for group, (x, y) in sorted(dots, key=lambda dot: _roundest(dot[0])):
+        if _roundest(group) > 2:
+            break
+        text = _factors(group)
+        width = 6.6 * len(text)
+        for left, base in ((x + 7, y - 6), (x + 8, y + 4), (x - 8 - width, y + 4), (x - 7 - width, y - 6), (x + 7, y + 15)):
+            box = (left, base - 9, left + width, base + 2)
+            if left > 74 and box[2] < 756 and not any(_overlap(box, other) for other in taken):
+                taken.append(box)
+                placed.append((text, (left, base)))
+                break
     return placed
+
+
+def _roundest(group: list[Point]) -> int:
+    """The least denominator of the factors."""
+    return min(point.factor.denominator for point in group)
+
+
+def _between(one: tuple[float, float], other: tuple[float, float]) -> list[tuple[float, float]]:
+    """Places on the way from one dot to another, a few units apart."""
+    count = 1 + int(max(abs(other[0] - one[0]), abs(other[1] - one[1])) / 4)
+    return [(one[0] + (other[0] - one[0]) * k / count, one[1] + (other[1] - one[1]) * k / count) for k in range(count)]
+
+
+def _overlap(one: Box, other: Box) -> bool:
+    return one[0] < other[2] and other[0] < one[2] and one[1] < other[3] and other[1] < one[3]
 
 
 def _factors(group: list[Point]) -> str:

@@ -21,13 +21,12 @@ use Rattle.record_codec.specs.declared.entry.Entry.{Entry}
 use Rattle.record_codec.specs.declared.entry.Entry.TheVariants.{Arrive, Delete, Planned}
 use Rattle.machine_model.specs.States.{moment}
 use Rattle.page_store.specs.Taken.{HasTaken}
-use Rattle.stored_plans.specs.Plans.{IsLeastPlan, IsFitPlan}
+use Rattle.stored_plans.specs.Plans.{IsLeastPlan}
 use Rattle.archive_state.specs.declared.stored.StoredPlan.{StoredPlan}
 use Rattle.archive_state.specs.Histories.{History, changes, end_of}
 use Rattle.archive_state.specs.Legal.{IsLegal, IsLegalEntry}
 use Rattle.archive_state.specs.Plans.{IsChange, live_plans, live_extents}
 use Rattle.archive_state.specs.Holding.{HoldsPlans}
-use Rattle.archive_state.proofs.LiveLemmas.{come_allowed}
 use Rattle.archive_state.proofs.HoldLemmas.{held_push, same_live}
 use Rattle.archive_state.specs.Stands.{bodies_of, Stands, EachStands}
 use Rattle.archive_state.proofs.HistoryLemmas.{bodies_of-push, end_of-push, end_of-least, legal-push, loadable-push, entry_loads}
@@ -36,29 +35,23 @@ use Rattle.archive_state.specs.declared.refusal.Refusal.TheVariants.{Full}
 use Rattle.version_store.specs.Tests.{first_of}
 use Rattle.archive_state.specs.Steps.{full_journal}
 use Rattle.archive_state.proofs.RefusalLemmas.{cause, cause-allowed, cause-full, cause-none}
-use Rattle.archive_core.specs.States.{ArchiveState, ShelfState, IsPlaced, ArePlaced, StandsFor, IsKept, Reaches, extents_all}
+use Rattle.archive_core.specs.States.{ArchiveState, StandsFor, IsKept, Reaches}
+use Rattle.plan_shelf.specs.Shelves.{ShelfState, extents_all}
+use Rattle.archive_replay.specs.Places.{ArePlaced}
 use Rattle.time_base.specs.declared.time.Time.{Time}
 use Rattle.version_index.specs.Indexing.{IndexValue, AreIndexed, ComesLater}
 use Rattle.version_index.specs.Measuring.{IsMeasured}
 use Rattle.version_index.specs.Indexes.{IndexState, Indexes, IsPreparedFor, seen}
 use Rattle.version_index.specs.declared.prepared.Prepared.{Prepared as Words}
-use Rattle.archive_core.specs.Adding.{Adds, GivesUp, IsNext, IsHeld, IsMore, IsPrepared, Makes, document_of, text_of}
-use Rattle.archive_core.proofs.IndexLemmas.{takes_change, makes_is_change}
+use Rattle.archive_core.specs.Adding.{Adds, GivesUp, IsMore}
+use Rattle.archive_replay.specs.Entries.{IsNext, IsHeld, IsPrepared, Makes, document_of, text_of}
+use Rattle.archive_replay.proofs.IndexLemmas.{change_comes}
 use Rattle.archive_core.specs.declared.error.ChangeError.{ChangeError}
 use Rattle.archive_core.specs.declared.error.ChangeError.TheVariants as errors
-use Rattle.archive_core.specs.declared.preparing.Unprepared.{Unprepared}
-use Rattle.archive_core.specs.declared.preparing.Unprepared.TheVariants as unprepared
+use Rattle.archive_replay.specs.declared.preparing.Unprepared.{Unprepared}
+use Rattle.archive_replay.specs.declared.preparing.Unprepared.TheVariants as unprepared
 use Rattle.archive_core.specs.Changing.{LeadsTo}
-use Rattle.archive_core.proofs.PlaceLemmas.{placed_push}
-
--- a change that an entry makes, with its text's place
-pub makes_placed : (e : Entry) (gate : ℕ) (x : Change ℕ) (held : Option TextPlace) → Makes e x → IsHeld (gate + 18) x.held held
-    → IsPlaced gate e (record { doc = x.doc; at = x.at; held = held })
-makes_placed (Arrive doc at text) gate x held makes is =
-    (sym makes.0, sym makes.1, let P : Option ℕ → Type 0 = λ n. IsHeld (gate + 18) n held in subst P makes.2 is)
-makes_placed (Delete doc at) gate x held makes is =
-    (sym makes.0, sym makes.1, let P : Option ℕ → Type 0 = λ n. IsHeld (gate + 18) n held in subst P makes.2 is)
-makes_placed (Planned plan) gate x held makes is = absurd makes
+use Rattle.archive_replay.proofs.PlaceLemmas.{placed_more}
 
 makes_document : (e : Entry) (x : Change ℕ) → Makes e x → document_of e ≡ x.doc
 makes_document (Arrive doc at text) x makes = makes.0
@@ -69,19 +62,21 @@ pub stands_more : (a b : ArchiveState) (h : History) (e : Entry) (x : Change ℕ
     → StandsFor a h → IsNext h e x body → IsPreparedFor a.index (document_of e) (text_of e) words → IsMore a b x body words → StandsFor b (h ++ e ∷ [])
 stands_more a b h e x body words stands next prepared more =
     let least : 17 ≤ end_of h = omega (arith, end_of-least h) in
-    let c : Change TextPlace = record { doc = x.doc; at = x.at; held = more.held } in
     let gate : ℕ = end_of h - 1 in
     let P : ℕ → Type 0 = λ n. IsHeld n x.held more.held in
     let held : IsHeld (gate + 18) x.held more.held = subst P (omega (arith, least, stands.end_is)) more.held_is in
-    let placed = placed_push h a.changes e c gate stands.changes_are (omega (arith, least, stands.end_is)) (makes_placed e gate x more.held next.makes held) in
+    let placed = placed_more h a.changes e x more.held gate stands.changes_are (omega (arith, least, stands.end_is)) next.makes held in
     let Q : List (Change TextPlace) → Type 0 = λ cs. ArePlaced 16 (h ++ e ∷ []) cs in
-    let live : live_plans (h ++ e ∷ []) ≡ live_plans h = same_live h e (makes_is_change e x next.makes) in
+    let comes = change_comes h e x stands.loadable next.legal.allowed next.makes in
+    let D : DocId → Type 0 = λ d. IsPreparedFor a.index d (text_of e) words in
+    let I : List (Change (List ℕ)) → Type 0 = λ cs. Indexes b.index cs in
+    let live : live_plans (h ++ e ∷ []) ≡ live_plans h = same_live h e comes.0 in
     record {
       loadable = loadable-push h e stands.loadable (entry_loads h e next.legal);
       end_is = omega (arith, more.end_is, stands.end_is, end_of-push h e, ap length next.spelled);
       length_is = omega (arith, more.length_is, stands.length_is, length_push h e);
       changes_are = subst Q (sym more.changes_are) placed;
-      index_is = takes_change (Indexes b.index) h e x (text_of e) next.makes refl (come_allowed IsFitPlan [] h stands.loadable) next.legal.allowed (more.indexed (changes h) x.doc (text_of e) stands.index_is (let D : DocId → Type 0 = λ d. IsPreparedFor a.index d (text_of e) words in subst D (makes_document e x next.makes) prepared));
+      index_is = subst I (sym comes.1) (more.indexed (changes h) x.doc (text_of e) stands.index_is (subst D (makes_document e x next.makes) prepared) comes.2);
       plans_are = ap (λ (s : ShelfState). s.plans) more.shelf_is ∙ stands.plans_are ∙ sym live;
       pages_are = (let S : ShelfState → Type 0 = λ s. HasTaken s.pages (live_extents (h ++ e ∷ [])) in
           let T : List StoredPlan → Type 0 = λ l. HasTaken a.shelf.pages (extents_all l) in
@@ -235,7 +230,7 @@ pub leads_entry : (r : Result ℕ ChangeError) (a b : ArchiveState) (old new : D
 leads_entry r a b old new h e x body words kept next prepared more appends pages step = (leads_to h e body old new change kept.legal next.legal next.spelled kept.held appends pages, go r more step)
   where
     change : IsChange e
-    change = makes_is_change e x next.makes
+    change = (change_comes h e x kept.stands.loadable next.legal.allowed next.makes).0
 
     go : (r : Result ℕ ChangeError) → IfOk r (λ n. IsMore a b x body words × (n ≡ b.length)) → OnOk r (IsInStep new b.end (bodies_of h ++ body ∷ [])) → OnOk r (IsKept new b (h ++ e ∷ []))
     go (Ok n) more step = kept_more new b h e body (stands_more a b h e x body words kept.stands next prepared more.0) next.spelled (legal-push h e kept.legal next.legal)

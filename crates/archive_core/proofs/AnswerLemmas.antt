@@ -1,5 +1,6 @@
 -- The answer at a time over the documents that the archive in hand has alive is one over those of the history.
-use Rattle.std.proofs.Common.{◌≡◌, ◌⊎◌, ◌↔◌, ℕ, zero, suc, Bool, true, false, cond, List, [], ◌∷◌, filter, Contains, Option, Some, None, IsSome, is_some, inl, inr, refl, ap, sym, subst, ◌∙◌, arith}
+use Rattle.std.proofs.Common.{◌≡◌, ◌⊎◌, ◌↔◌, ℕ, zero, suc, ◌+◌, ◌<◌, ◌^◌, Bool, true, false, cond, List, [], ◌∷◌, filter, All, Contains, Option, Some, None, IsSome, is_some, inl, inr, refl, ap, sym, subst, ◌∙◌, arith}
+use Rattle.std.proofs.lemmas.List.Elements.{All-weaker}
 use Rattle.time_base.specs.declared.ids.DocId.{DocId}
 use Rattle.time_base.specs.declared.text_place.TextPlace.{TextPlace}
 use Rattle.version_store.specs.declared.change.Change.{Change}
@@ -14,10 +15,14 @@ use Rattle.query_eval.specs.Found.{told, HasHit}
 use Rattle.query_eval.specs.declared.answer.Row.{Row}
 use Rattle.query_eval.specs.declared.part.Part.{Part}
 use Rattle.query_eval.proofs.GivenLemmas.{only_hits_matter, same_alive}
+use Rattle.archive_state.specs.Chosen.{AreChosen}
 use Rattle.archive_state.specs.Histories.{History, changes, text_at}
+use Rattle.archive_state.specs.Plans.{is_another, plan_of}
+use Rattle.archive_state.proofs.ChosenLemmas.{unplanned_alive}
 use Rattle.archive_core.specs.States.{ArchiveState, StandsFor}
-use Rattle.archive_core.specs.Texts.{nothing}
-use Rattle.archive_core.proofs.PlaceLemmas.{bare_changes}
+use Rattle.archive_core.proofs.ChosenLemmas.{unplanned_is}
+use Rattle.archive_replay.specs.Texts.{nothing}
+use Rattle.archive_replay.proofs.PlaceLemmas.{bare_changes}
 
 -- an archive has a document's version at a time exactly where its history has the text
 pub alive_is : (a : ArchiveState) (h : History) (doc : DocId) (t : ℕ) → StandsFor a h → is_some (held_at doc t a.changes) ≡ is_some (text_at h doc t)
@@ -75,6 +80,19 @@ only_alive IsGiven alive often query rows answer = record {
     λ r. both.1 ((answer.each row).1 (record { alive = r.alive.0; matching = r.matching; scored = r.scored }), r.alive.1),
   );
 }
+
+-- where no word has a plan, all that are told of are alive
+pub by_unplanned : (a : ArchiveState) (h : History) (pages : List ℕ) (t : ℕ) (query : Query) (parts : List Part) (rows : List Row) → t < 2 ^ 40 → StandsFor a h
+    → All (λ word. All (λ s. is_another word s ≡ true) a.shelf.plans) (words_of query) → AreChosen h pages t (t + 1) (words_of query) parts → matches query (λ _. 0) ≡ false
+    → IsAnswer (HasHit (words_of query) parts t) (λ doc. told (words_of query) parts t doc.0) query rows
+    → IsAnswer (λ doc. IsSome (text_at h doc t)) (λ doc. told (words_of query) parts t doc.0) query rows
+by_unplanned a h pages t query parts rows now stands others chosen bare answer =
+    let none : All (λ word. plan_of h word ≡ None) (words_of query) =
+    All-weaker (λ word. All (λ s. is_another word s ≡ true) a.shelf.plans) (λ word. plan_of h word ≡ None) (λ word each. unplanned_is a h word stands each) (words_of query) others in
+    only_hits_matter (λ doc. IsSome (text_at h doc t)) (HasHit (words_of query) parts t) (λ doc. told (words_of query) parts t doc.0) query rows bare
+    (λ doc hit. unplanned_alive h pages t (words_of query) parts doc now none chosen hit)
+    (λ doc k is within some. record { place = k; within = within; some = some })
+    answer
 
 pub by_hits : (a : ArchiveState) (h : History) (t : ℕ) (query : Query) (parts : List Part) (rows left : List Row) → StandsFor a h → matches query (λ _. 0) ≡ false
     → left ≡ filter (λ row. is_some (held_at row.doc t a.changes)) rows

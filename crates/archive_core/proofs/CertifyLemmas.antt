@@ -36,12 +36,12 @@ use Rattle.archive_state.specs.Steps.{Reply, Refused, Proposed, IsCertificate, S
 use Rattle.archive_state.proofs.CertifyingLemmas.{live_has, each_certifies}
 use Rattle.archive_state.proofs.LiveLemmas.{live_planned}
 use Rattle.archive_core.specs.States.{ArchiveState, StandsFor, IsKept}
-use Rattle.archive_core.specs.Shelves.{IsPlanAt}
+use Rattle.archive_replay.specs.Live.{IsPlanAt}
 use Rattle.archive_core.specs.Takes.{Starved, Faulted, Takes, proposed}
 use Rattle.sublist_store.specs.declared.why.Damage.{Damage}
 use Rattle.archive_core.specs.declared.error.AskError.{AskError}
 use Rattle.archive_core.specs.declared.error.AskError.TheVariants as asks
-use Rattle.archive_core.proofs.ShelfLemmas.{plan_found, none_found}
+use Rattle.archive_core.proofs.LiveLemmas.{plan_found, none_found}
 use Rattle.archive_core.proofs.TakeLemmas.{takes_question}
 
 -- ---- cuts among times

@@ -23,13 +23,15 @@ use Rattle.archive_state.specs.Histories.{History}
 use Rattle.archive_state.specs.Legal.{EachMayCome, IsLoadable}
 use Rattle.archive_state.specs.Plans.{is_another, live_after, live_plans, with_plan, plan_of}
 use Rattle.archive_state.specs.Chosen.{AreChosen, GathersOf, IsChosenOf, bytes_chosen, bytes_for, tail_for}
-use Rattle.archive_core.specs.States.{ArchiveState, StandsFor, Reaches, extents_all}
-use Rattle.archive_core.specs.Shelves.{IsReadable, IsPlanAt}
+use Rattle.archive_core.specs.States.{ArchiveState, StandsFor, Reaches}
+use Rattle.plan_shelf.specs.Shelves.{extents_all}
+use Rattle.plan_shelf.specs.Shelves.{IsReadable}
+use Rattle.archive_replay.specs.Live.{IsPlanAt}
 use Rattle.archive_core.specs.Causes.{ask_error_of_fetch}
 use Rattle.archive_core.specs.declared.error.AskError.{AskError}
 use Rattle.archive_core.specs.declared.error.AskError.TheVariants as asks
 use Rattle.std.specs.Result.{IsErrAnd}
-use Rattle.archive_core.proofs.ShelfLemmas.{plan_found, none_found}
+use Rattle.archive_core.proofs.LiveLemmas.{plan_found, none_found}
 use Rattle.sublist_store.specs.Fetching.{IfDamaged}
 use Rattle.sublist_store.specs.declared.why.Damage.{Damage}
 use Rattle.sublist_store.specs.declared.why.FetchError.{FetchError}

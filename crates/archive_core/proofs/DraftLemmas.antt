@@ -1,4 +1,4 @@
--- A plan that is drafted, and made ready to be stored.
+-- A plan that is drafted.
 use Rattle.std.proofs.Common.{◌≡◌, ℕ, ◌-◌, ◌<◌, ◌≤◌, List, [], ◌∷◌, ◌++◌, length, map, take, drop, Option, Some, None, if◌then◌else◌, Result, Ok, Err, IfOk, IsUtf8, ap, sym, subst, ◌∙◌, arith}
 use Rattle.std.specs.Prelude.{slice_index}
 use Rattle.std.specs.List.Sorted.{IsStrictlyIncreasing}
@@ -11,10 +11,7 @@ use Rattle.elementary.specs.Counts.{Counts, Tabulates}
 use Rattle.elementary.specs.Partitions.{IsFitting, IsLeast, space}
 use Rattle.elementary.proofs.Places.{rises}
 use Rattle.elementary.proofs.Tables.{last_is_horizon}
-use Rattle.record_codec.specs.declared.plan.PlanEntry.{PlanEntry}
-use Rattle.record_codec.specs.PlanSpelling.{IsWellCut}
-use Rattle.stored_plans.specs.Plans.{IsNarrow, IsLeastPlan, plan_space}
-use Rattle.stored_plans.proofs.PlanLemmas.{well_cut, least_is_fit}
+use Rattle.stored_plans.specs.Plans.{IsLeastPlan, plan_space}
 use Rattle.archive_state.specs.Steps.{spelled_key}
 
 -- ---- words
@@ -50,11 +47,3 @@ pub space_of : (list : List Posting) (p : List ℕ) (cuts : List Time) (h n : �
     → n ≡ space list (slice_index p 0) (drop 1 p) → n ≡ plan_space list cuts h
 space_of list p [] h n many same is = absurd (omega (arith, many, ap length same))
 space_of list p (f ∷ cuts) h n many same is = is ∙ ap (λ (p : List ℕ). space list (slice_index p 0) (drop 1 p)) (sym same)
-
--- the cuts of a least plan of a narrow list are well cut
-pub is_well_cut : (list : List Posting) (entry : PlanEntry) (cuts : List Time) → entry.cuts ≡ cuts → length entry.places ≡ length cuts → IsNarrow list entry.horizon.seconds
-    → IsLeastPlan list entry.fraction cuts entry.horizon.seconds → IsWellCut entry
-is_well_cut list entry cuts same many narrow least =
-    let here : IsLeastPlan list entry.fraction entry.cuts entry.horizon.seconds = subst (λ (c : List Time). IsLeastPlan list entry.fraction c entry.horizon.seconds) (sym same) least in
-    let cut = well_cut list entry.fraction entry.cuts entry.horizon narrow (least_is_fit list entry.fraction entry.cuts entry.horizon.seconds here) in
-    record { some = cut.0; most = cut.1; places = many ∙ ap length (sym same); ascend = cut.2 }

@@ -2,7 +2,7 @@
 use Rattle.std.proofs.Common.{◌≡◌, ℕ, ◌+◌, ◌<◌, ◌≤◌, List, [], ◌∷◌, ◌++◌, length, Result, Err, inl, inr, refl, ap, subst, sym, ◌∙◌, arith, length-append}
 use Rattle.std.proofs.lemmas.Bool.{cases_lt}
 use Rattle.std.proofs.lemmas.List.Elements.{All-nil}
-use Rattle.std.proofs.lemmas.List.{length-map, nil_from_length}
+use Rattle.std.proofs.lemmas.List.{nil_from_length}
 use Rattle.machine_model.specs.Areas.{Bytes}
 use Rattle.machine_model.specs.States.{DiskState, Moment}
 use Rattle.machine_model.specs.Images.{MayLeave, Only}
@@ -12,14 +12,12 @@ use Rattle.page_store.specs.Live.{AreLive}
 use Rattle.gate_journal.specs.Records.{front}
 use Rattle.machine_model.specs.Calls.{OnlyReads, OnlyFails}
 use Rattle.gate_journal.specs.declared.head.Head.{Head}
-use Rattle.gate_journal.specs.Heads.{AreInRow}
 use Rattle.gate_journal.specs.Spelled.{Spells, EachSpells}
 use Rattle.gate_journal.specs.InStep.{IsInStep}
 use Rattle.gate_journal.proofs.LoadLemmas.{fails_read}
 use Rattle.gate_journal.specs.Crash.{KeepsBodies, KeepsPages}
 use Rattle.time_base.specs.declared.text_place.TextPlace.{TextPlace}
 use Rattle.version_store.specs.declared.change.Change.{Change}
-use Rattle.record_codec.specs.Spelling.{spelling}
 use Rattle.version_index.specs.Indexes.{IndexState, Indexes}
 use Rattle.archive_state.specs.Histories as histories
 use Rattle.archive_state.specs.declared.stored.StoredPlan.{StoredPlan}
@@ -30,16 +28,17 @@ use Rattle.archive_state.specs.Holding.{HoldsPlan, HoldsPlans}
 use Rattle.archive_state.specs.Stands.{bodies_of, Stands, EachStands, IsNotArchive}
 use Rattle.archive_state.proofs.HistoryLemmas.{end_of_is, end_of-least, legal_loads}
 use Rattle.archive_state.proofs.StandsLemmas.{spells_one_history}
-use Rattle.archive_core.specs.States.{ArchiveState, ArePlaced, StandsFor, IsKept, extents_all}
-use Rattle.archive_core.specs.Shelves.{IsBadShelf}
+use Rattle.archive_core.specs.States.{ArchiveState, StandsFor, IsKept}
+use Rattle.archive_replay.specs.Places.{ArePlaced}
+use Rattle.plan_shelf.specs.Shelves.{extents_all}
+use Rattle.plan_shelf.specs.Shelves.{IsBadShelf}
 use Rattle.archive_core.specs.Changing.{KeepsHistory}
 use Rattle.gate_journal.specs.declared.error.JournalError.{JournalError}
 use Rattle.gate_journal.specs.declared.error.JournalError.TheVariants.{Failed, NotJournal, Memory}
-use Rattle.archive_core.specs.declared.error.LoadError.{LoadError}
-use Rattle.archive_core.specs.declared.error.LoadError.TheVariants.{NotArchive}
-use Rattle.archive_core.specs.Causes.{load_error_of}
-use Rattle.archive_core.specs.Replaying.{IsReplayed, IsBadAmong}
-use Rattle.archive_core.proofs.HeadLemmas.{row_end, length_front, length_heads}
+use Rattle.archive_replay.specs.declared.error.LoadError.{LoadError}
+use Rattle.archive_replay.specs.declared.error.LoadError.TheVariants.{NotArchive}
+use Rattle.archive_replay.specs.Causes.{load_error_of}
+use Rattle.archive_replay.specs.Replaying.{IsReplayed, IsBadAmong}
 
 -- each image that stands for a history spells its bodies
 stands_spells : (d : DiskState) (h : History) → EachStands d h → EachSpells d (bodies_of h)
@@ -84,14 +83,6 @@ step_reads b c end bodies step same =
     let P : DiskState → Type 0 = λ d. IsInStep d end bodies in
     subst P (sym same) (record { gate = step.gate; shut = step.shut; fit = step.fit; end_is = step.end_is; images = step.images })
 
--- all entries are gone over
-pub replayed_end : (h : History) (heads : List Head) (changes : List (Change TextPlace)) (plans : List StoredPlan) (end : ℕ) → AreInRow 16 heads end → IsReplayed h heads changes plans → end ≡ end_of h
-replayed_end h heads changes plans end row replayed =
-    omega (arith, row_end 16 end heads (bodies_of h) row replayed.heads_are, end_of_is h, length_front (bodies_of h))
-
-pub replayed_length : (h : History) (heads : List Head) (changes : List (Change TextPlace)) (plans : List StoredPlan) → IsReplayed h heads changes plans → length heads ≡ length h
-replayed_length h heads changes plans replayed = ap length replayed.heads_are ∙ length_heads 16 (bodies_of h) ∙ length-map h spelling
-
 -- an archive of what was gone over
 pub record IsMadeOf (a : ArchiveState) (end : ℕ) (heads : List Head) (changes : List (Change TextPlace)) (index : IndexState) (plans : List StoredPlan) : Type 0 where
   pub end_is : a.end ≡ end
@@ -102,11 +93,11 @@ pub record IsMadeOf (a : ArchiveState) (end : ℕ) (heads : List Head) (changes 
   pub pages_are : HasTaken a.shelf.pages (extents_all plans)
 
 pub stands_replayed : (a : ArchiveState) (h : History) (heads : List Head) (changes : List (Change TextPlace)) (index : IndexState) (plans : List StoredPlan) (end : ℕ) → IsMadeOf a end heads changes index plans
-    → AreInRow 16 heads end → IsReplayed h heads changes plans → Indexes index (histories.changes h) → StandsFor a h
-stands_replayed a h heads changes index plans end made row replayed indexed = record {
+    → end ≡ end_of h → length heads ≡ length h → IsReplayed h heads changes plans → Indexes index (histories.changes h) → StandsFor a h
+stands_replayed a h heads changes index plans end made at many replayed indexed = record {
   loadable = replayed.loadable;
-  end_is = made.end_is ∙ replayed_end h heads changes plans end row replayed;
-  length_is = made.length_is ∙ replayed_length h heads changes plans replayed;
+  end_is = made.end_is ∙ at;
+  length_is = made.length_is ∙ many;
   changes_are = let P : List (Change TextPlace) → Type 0 = λ l. ArePlaced 16 h l in subst P (sym made.changes_are) replayed.placed;
   index_is = let I : IndexState → Type 0 = λ i. Indexes i (histories.changes h) in subst I (sym made.index_is) indexed;
   plans_are = made.plans_are ∙ replayed.plans_are;
@@ -114,9 +105,8 @@ stands_replayed a h heads changes index plans end made row replayed indexed = re
 }
 
 -- entries are fewer than bytes
-pub few_heads : (h : History) (heads : List Head) (changes : List (Change TextPlace)) (plans : List StoredPlan) (end : ℕ) → AreInRow 16 heads end → IsReplayed h heads changes plans → length heads + 17 ≤ end
-few_heads h heads changes plans end row replayed =
-    omega (arith, end_of-least h, replayed_end h heads changes plans end row replayed, replayed_length h heads changes plans replayed)
+pub few_heads : (h : History) (count end : ℕ) → end ≡ end_of h → count ≡ length h → count + 17 ≤ end
+few_heads h count end at many = omega (arith, end_of-least h, at, many)
 
 -- bodies of which one is bad are no archive's
 pub bad_archive : (image : Bytes) (bodies : List (List ℕ)) (at : ℕ) → Spells image.journal bodies → IsBadAmong bodies at → IsNotArchive image at
@@ -207,3 +197,7 @@ pub journal_exit : {T U : Type 0} (r : Result T JournalError) (s : Result U Load
 journal_exit r s Failed y at was made same is = absurd cc
 journal_exit r s (NotJournal n) y at was made same is = cc
 journal_exit r s Memory y at was made same is = absurd cc
+
+-- what a call's error is where the caller hands it on
+pub exit_is : {T U E : Type 0} (r : Result T E) (s : Result U E) (e y x : E) → r ≡ Err e → s ≡ Err y → y ≡ e → s ≡ Err x → r ≡ Err x
+exit_is r s e y x was made same is = cc

@@ -1,21 +1,15 @@
 -- What is proposed is of the history that an archive stands for.
-use Rattle.std.proofs.Common.{Bool, true, false, ◌==◌, ◌≡◌, ℕ, ◌+◌, ◌<◌, ◌≤◌, ◌^◌, List, [], ◌∷◌, length, drop, All, Contains, Option, Some, None, option_map, unwrap_or, Result, Ok, Err, IfOk, refl, ap, sym, subst, ◌∙◌, inl, inr, arith}
+use Rattle.std.proofs.Common.{Bool, true, false, ◌==◌, ◌≡◌, ℕ, ◌+◌, ◌<◌, ◌≤◌, ◌^◌, List, [], ◌∷◌, length, drop, Contains, Option, Some, None, option_map, unwrap_or, Result, Ok, Err, IfOk, refl, ap, sym, subst, ◌∙◌, inl, inr, arith}
 use Rattle.std.specs.Prelude.{slice_index}
-use Rattle.std.specs.List.{AllZip}
-use Rattle.std.proofs.Math.Nat.{min-le_right}
 use Rattle.std.proofs.lemmas.Bool.Decides.{nat_tests}
 use Rattle.std.proofs.lemmas.List.{length-drop}
-use Rattle.std.proofs.lemmas.List.Elements.{All-nil, All-cons}
+use Rattle.std.proofs.lemmas.List.Elements.{All-nil}
 use Rattle.machine_model.specs.States.{DiskState}
 use Rattle.time_base.specs.declared.fraction.Fraction.{Fraction}
-use Rattle.time_base.specs.declared.time.Span.{Span}
 use Rattle.time_base.specs.declared.time.Time.{Time}
 use Rattle.time_base.specs.declared.text_place.TextPlace.{TextPlace}
 use Rattle.time_base.specs.declared.posting.Posting.{Posting}
-use Rattle.postings.specs.Lists.{sublist}
-use Rattle.postings.specs.Clips.{IsCut, IsClip}
 use Rattle.postings.specs.ListsOf.{IsListOf}
-use Rattle.postings.proofs.Clipping.{clip_of_list_of}
 use Rattle.elementary.specs.Counts.{Counts, Tabulates}
 use Rattle.elementary.specs.Partitions.{widest, IsLeast, AreBest, space}
 use Rattle.elementary.proofs.Narrow.{narrow}
@@ -35,13 +29,13 @@ use Rattle.archive_state.specs.Steps.{Refused, Proposed, Proposes, ProposesPlan}
 use Rattle.archive_state.proofs.TurnLemmas.{each_proposes}
 use Rattle.archive_core.specs.States.{ArchiveState, StandsFor, IsKept}
 use Rattle.archive_core.specs.Sealing.{IsSealed}
-use Rattle.archive_core.specs.Texts.{nothing}
+use Rattle.archive_replay.specs.Texts.{nothing}
 use Rattle.archive_core.specs.Takes.{Starved, Faulted, Takes, proposed}
 use Rattle.sublist_store.specs.declared.why.Damage.{Damage}
 use Rattle.archive_core.specs.declared.error.AskError.{AskError}
 use Rattle.archive_core.specs.declared.error.AskError.TheVariants as asks
-use Rattle.archive_core.proofs.IndexLemmas.{words_are}
-use Rattle.archive_core.proofs.PlaceLemmas.{bare_changes}
+use Rattle.archive_replay.proofs.IndexLemmas.{words_are}
+use Rattle.archive_replay.proofs.PlaceLemmas.{bare_changes}
 use Rattle.archive_core.proofs.TakeLemmas.{takes_question}
 
 -- an archive has the last time of its history
@@ -58,26 +52,6 @@ known_is h word c = subst (λ (ws : List (List ℕ)). Contains ws word) (sym (wo
 
 pub known_there : (h : History) (word : List ℕ) → IsKnown h word → Contains (words_in (changes h)) word
 known_there h word c = subst (λ (ws : List (List ℕ)). Contains ws word) (words_are h) c
-
--- a clip ends in time
-pub clip_early : (f g : ℕ) (list clip : List Posting) → AllZip (IsCut f g) list clip → All (λ p. p.span.to ≤ g) clip
-clip_early f g [] [] c = All-nil (λ p. p.span.to ≤ g)
-clip_early f g [] (q ∷ clip) c = absurd c
-clip_early f g (p ∷ list) [] c = absurd c
-clip_early f g (p ∷ list) (q ∷ clip) c = All-cons (λ r. r.span.to ≤ g) q clip (omega (arith, c.0.to, min-le_right p.span.to g)) (clip_early f g list clip c.1)
-
--- a list clipped at a time is the list up to there
-pub clipped : {T E : Type 0} (items : T → List Posting) (list : List Posting) (span : Span) (h : ℕ) (r : Result T E) → span.from ≡ 0 → span.to ≡ h
-    → IfOk r (λ v. IsClip span.from span.to list (items v)) → IfOk r (λ v. (f : ℕ → ℕ → ℕ) → IsListOf f 0 (2 ^ 40) list → IsListOf f 0 h (items v))
-clipped items list span h (Ok v) from to clip = λ f is.
-    let there = clip_of_list_of f 0 (2 ^ 40) span.from span.to list (items v) (omega arith) (omega (arith, span.in_time)) is clip in
-    subst (λ (n : ℕ). IsListOf f 0 n (items v)) to (subst (λ (n : ℕ). IsListOf f n span.to (items v)) from there)
-clipped items list span h (Err e) from to clip = tt
-
-pub clipped_early : {T E : Type 0} (items : T → List Posting) (list : List Posting) (span : Span) (h : ℕ) (r : Result T E) → span.to ≡ h
-    → IfOk r (λ v. IsClip span.from span.to list (items v)) → IfOk r (λ v. All (λ p. p.span.to ≤ h) (items v))
-clipped_early items list span h (Ok v) to clip = subst (λ (n : ℕ). All (λ p. p.span.to ≤ n) (items v)) to (clip_early span.from span.to (sublist span.from span.to list) (items v) clip)
-clipped_early items list span h (Err e) to clip = tt
 
 -- nothing happens before the first second
 pub none_before : (f : ℕ → ℕ → ℕ) (h : ℕ) → h ≡ 0 → IsListOf f 0 h []

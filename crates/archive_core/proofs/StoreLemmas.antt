@@ -42,23 +42,26 @@ use Rattle.archive_state.proofs.StoringLemmas.{plan_legal}
 use Rattle.archive_state.proofs.TurnLemmas.{each_plans}
 use Rattle.archive_core.specs.Adding.{HasSameShelf}
 use Rattle.archive_core.specs.Changing.{LeadsTo}
-use Rattle.archive_core.specs.States.{ArchiveState, ShelfState, StandsFor, IsKept, Reaches, extents_all}
-use Rattle.archive_core.specs.Storing.{HasPlaces, IsDraft, IsFull, IsReady, IsStorable, IsStoredAs, NotDrafted, NotReady, plan_with, tells_of}
-use Rattle.archive_core.specs.Takes.{Takes, planned, summary_of}
+use Rattle.archive_core.specs.States.{ArchiveState, StandsFor, IsKept, Reaches}
+use Rattle.plan_shelf.specs.Shelves.{ShelfState, extents_all}
+use Rattle.plan_shelf.specs.Readying.{HasPlaces, IsFull, IsReady, plan_with, tells_of}
+use Rattle.archive_core.specs.Storing.{IsDraft, IsStorable, IsStoredAs, NotDrafted, NotReady}
+use Rattle.archive_core.specs.Takes.{Takes, planned}
+use Rattle.plan_shelf.specs.Readying.{summary_of}
 use Rattle.archive_core.specs.declared.error.AskError.{AskError}
 use Rattle.archive_core.specs.declared.error.AskError.TheVariants as asks
 use Rattle.archive_core.specs.declared.error.ChangeError.{ChangeError}
 use Rattle.archive_core.specs.declared.error.ChangeError.TheVariants as changes
-use Rattle.archive_core.specs.declared.preparing.Unprepared.{Unprepared}
-use Rattle.archive_core.specs.declared.preparing.Unprepared.TheVariants as unprepared
-use Rattle.archive_core.specs.declared.storing.Draft.{Draft}
-use Rattle.archive_core.specs.declared.storing.PlanReport.{PlanReport}
-use Rattle.archive_core.specs.declared.storing.Ready.{Ready}
+use Rattle.archive_replay.specs.declared.preparing.Unprepared.{Unprepared}
+use Rattle.archive_replay.specs.declared.preparing.Unprepared.TheVariants as unprepared
+use Rattle.plan_shelf.specs.declared.readying.Draft.{Draft}
+use Rattle.plan_shelf.specs.declared.readying.PlanReport.{PlanReport}
+use Rattle.plan_shelf.specs.declared.readying.Ready.{Ready}
 use Rattle.archive_core.proofs.AddLemmas.{inside_on, kept_stands, leads_nowhere, step_at}
-use Rattle.archive_core.proofs.IndexLemmas.{changes_still}
-use Rattle.archive_core.proofs.PlaceLemmas.{placed_plan}
+use Rattle.archive_replay.proofs.IndexLemmas.{changes_still}
+use Rattle.archive_replay.proofs.PlaceLemmas.{placed_plan}
 use Rattle.archive_core.proofs.PlanLemmas.{map_phrase}
-use Rattle.archive_core.proofs.ShelfLemmas.{all_inside_with}
+use Rattle.archive_core.proofs.LiveLemmas.{all_inside_with}
 
 -- ---- what is ready may come next
 

@@ -30,7 +30,7 @@ use Rattle.archive_state.specs.Stands.{EachStands, bodies_of}
 use Rattle.archive_state.proofs.TurnLemmas.{adds_turn, each_finds, each_spans}
 use Rattle.archive_core.specs.States.{ArchiveState, StandsFor, IsKept}
 use Rattle.archive_core.specs.Storing.{NotDrafted}
-use Rattle.archive_core.specs.declared.storing.PlanReport.{PlanReport}
+use Rattle.plan_shelf.specs.declared.readying.PlanReport.{PlanReport}
 use Rattle.record_codec.specs.declared.plan.PlanEntry.{PlanEntry}
 use Rattle.record_codec.specs.declared.entry.Entry.TheVariants as entries
 use Rattle.archive_core.specs.Adding.{Adds}

@@ -24,8 +24,9 @@ use Rattle.record_codec.specs.declared.entry.Entry.TheVariants.{Arrive, Delete, 
 use Rattle.archive_state.specs.Histories.{History, changes, text_at}
 use Rattle.archive_state.specs.Stands.{bodies_of}
 use Rattle.archive_state.proofs.HistoryLemmas.{length_record}
-use Rattle.archive_core.specs.States.{ArchiveState, IsPlace, BeginWith, ArePlaced, StandsFor, IsKept}
-use Rattle.archive_core.specs.Texts.{text_in, LiesIn}
+use Rattle.archive_core.specs.States.{ArchiveState, StandsFor, IsKept}
+use Rattle.archive_replay.specs.Places.{IsPlace, BeginWith, ArePlaced}
+use Rattle.archive_replay.specs.Texts.{text_in, LiesIn}
 
 -- what stands in the record of an arrival before its text
 abbrev before_text : DocId → Time → List ℕ → List ℕ

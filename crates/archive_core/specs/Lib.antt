@@ -1,10 +1,7 @@
 pub mod Sealing
 pub mod States
-pub mod Texts
 pub mod Changing
 pub mod Adding
-pub mod Replaying
 pub mod Causes
 pub mod Takes
-pub mod Shelves
 pub mod Storing

@@ -8,12 +8,13 @@ use Rattle.sublist_store.specs.declared.why.Damage.{Damage}
 use Rattle.query_eval.specs.declared.answer.Answer.{Answer}
 use Rattle.query_eval.specs.declared.spans.SpanAnswer.{SpanAnswer}
 use Rattle.archive_state.specs.Histories.{History}
-use Rattle.archive_state.specs.Steps.{Reply, Accepted, Refused, Found, Spanned, Shown, Proposed, Planned, Summary, Step}
+use Rattle.archive_state.specs.Steps.{Reply, Accepted, Refused, Found, Spanned, Shown, Proposed, Planned, Step}
 use Rattle.archive_state.specs.Runs.{Turn}
 use Rattle.archive_state.specs.Stands.{EachStands}
 use Rattle.archive_core.specs.States.{ArchiveState, IsKept}
 use Rattle.archive_core.specs.Changing.{LeadsTo}
-use Rattle.archive_core.specs.declared.storing.PlanReport.{PlanReport}
+use Rattle.plan_shelf.specs.declared.readying.PlanReport.{PlanReport}
+use Rattle.plan_shelf.specs.Readying.{summary_of}
 use Rattle.archive_core.specs.declared.error.ChangeError.{ChangeError}
 use Rattle.archive_core.specs.declared.error.ChangeError.TheVariants as changes
 use Rattle.archive_core.specs.declared.error.AskError.{AskError}
@@ -35,9 +36,6 @@ unchanged changes.Memory = Starved
 abbrev pub changed : Result ℕ ChangeError → Ending
 changed (Ok length) = Replied (Accepted length)
 changed (Err error) = unchanged error
-
-abbrev pub summary_of : PlanReport → Summary
-summary_of r = record { length = r.length; segments = r.segments; space = r.space; full = r.full; horizon = r.horizon.seconds }
 
 abbrev pub planned : Result PlanReport ChangeError → Ending
 planned (Ok report) = Replied (Planned (summary_of report))

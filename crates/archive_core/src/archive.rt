@@ -13,29 +13,32 @@ ghost use Rattle.archive_state.specs.Histories.{History};
 ghost use Rattle.archive_state.specs.Steps.{Planned, Plans, Refused, arrival_refusal, deletion_refusal};
 ghost use Rattle.archive_state.specs.Plans.{live_extents};
 ghost use Rattle.record_codec.specs.declared.plan.PlanEntry.{PlanEntry};
-ghost use Rattle.archive_core.specs.Storing.{IsDraft, IsFull, IsStoredAs, NotDrafted, NotReady, tells_of};
+ghost use Rattle.archive_core.specs.Storing.{IsDraft, IsStoredAs, NotDrafted, NotReady};
+ghost use Rattle.plan_shelf.specs.Readying.{IsFull, tells_of};
 ghost use Rattle.commands.specs.declared.command.Kind.TheVariants as kinds;
 ghost use Rattle.archive_core.specs.States.{StandsFor, IsKept, Reaches};
 ghost use Rattle.archive_core.specs.Changing.{LeadsTo};
-ghost use Rattle.archive_core.specs.Takes.{Takes, changed, planned, summary_of};
+ghost use Rattle.archive_core.specs.Takes.{Takes, changed, planned};
+ghost use Rattle.plan_shelf.specs.Readying.{summary_of};
 ghost use Rattle.record_codec.specs.declared.entry.Entry.{Entry};
-ghost use Rattle.archive_core.specs.Adding.{Adds, GivesUp, IsMore, IsNext, IsPrepared, IsSpent, document_of, text_of, change_refusal};
+ghost use Rattle.archive_core.specs.Adding.{Adds, GivesUp, IsMore, IsSpent};
+ghost use Rattle.archive_replay.specs.Entries.{IsNext, IsPrepared, document_of, text_of, change_refusal};
 ghost use Rattle.version_index.specs.Indexes.{IsPreparedFor, state_of};
-ghost use Rattle.version_index.specs.declared.prepared.Prepared.{Prepared as Words};
 ghost use Rattle.record_codec.specs.declared.entry.Entry.TheVariants as entries;
 ghost use Rattle.commands.specs.declared.command.Command.TheVariants as commands;
 ghost use Rattle.commands.specs.declared.command.Item.TheVariants as items;
 ghost use Rattle.commands.specs.declared.text.Text.TheVariants as texts;
 
-use crate::change::{TEXT_AT, note, placed};
 use crate::error::{AskError, ChangeError};
-use crate::preparing::{Prepared, Unprepared, prepare_arrival, prepare_deletion};
-use crate::shelf::Shelf;
-use crate::storing::{Draft, PlanReport, make_ready, write_ready};
+use crate::storing::write_ready;
+use archive_replay::{
+    Prepared, TEXT_AT, Unprepared, full_journal, note, placed, prepare_arrival, prepare_deletion,
+};
 use archive_state::Refusal;
 use commands::Phrase;
 use gate_journal::{Frame, Journal};
 use machine_model::{Area, Disk};
+use plan_shelf::{Draft, PlanReport, Shelf, make_ready};
 use std::alloc::Global;
 use std::marker::Model;
 use sublist_store::{FetchError, Gathered};
@@ -257,7 +260,7 @@ impl Archive {
     /// `Refused`: for the first cause in order, the phrase isn't one term, no text has the word, it has no
     /// posting before the last time, its list has too many boundaries, or Pages or the journal
     /// are full. `Failed`, `Memory`: the archive is spent, and keeps what it had.
-    /// Costs `n log n` in the word's postings; a pass over them for each segment; the sublists' bytes,
+    /// Costs `n log n` in the word's postings; what `Sublists::prepare` does; the sublists' bytes,
     /// hashed and written once; a sync; and two synced writes of the entry.
     pub fn plan<D: Disk>(
         &mut self,
@@ -459,15 +462,5 @@ impl Archive {
             }
             Err(_) => Err(ChangeError::Failed),
         }
-    }
-}
-
-// The refusal of an entry for which the journal has no room.
-pub(crate) fn full_journal() -> Refusal
-    ensures { result ≡ Refusal.Full Which.Journal (limit_of Which.Journal) }
-{
-    Refusal::Full {
-        which: Which::Journal,
-        limit: Which::Journal.limit(),
     }
 }

@@ -1,5 +1,5 @@
 //! What an archive is asked: the text of a document at a time, and what a query finds.
-ghost use Rattle.std.specs.Prelude.{◌≡◌, ◌+◌, ℕ, List, Ok, Err, length, filter, is_some, IsSome, IsOk, IfOk, IsErrOf, option_map};
+ghost use Rattle.std.specs.Prelude.{◌≡◌, ◌+◌, ℕ, List, Ok, Err, All, length, filter, false, true, is_some, IsSome, IsOk, IfOk, IsErrOf, option_map};
 ghost use Rattle.machine_model.specs.Areas.{replaced};
 ghost use Rattle.machine_model.specs.Causes.{Rose};
 ghost use Rattle.machine_model.specs.Calls.{OnlyReads};
@@ -12,7 +12,8 @@ ghost use Rattle.query_eval.specs.Asked.{read_of};
 ghost use Rattle.query_eval.specs.Found.{told};
 ghost use Rattle.version_store.specs.Changes.{held_at};
 ghost use Rattle.archive_state.specs.Histories.{History, text_at};
-ghost use Rattle.archive_state.specs.Chosen.{IsDamagedFor, IsMadeAt, bytes_for};
+ghost use Rattle.archive_state.specs.Plans.{is_another};
+ghost use Rattle.archive_state.specs.Chosen.{AreChosen, IsMadeAt, SpoilsAnswer, bytes_for};
 ghost use Rattle.archive_core.specs.States.{StandsFor, IsKept, Reaches};
 ghost use Rattle.archive_core.specs.Takes.{Takes, found, shown};
 ghost use Rattle.commands.specs.declared.command.Command.TheVariants as commands;
@@ -20,7 +21,7 @@ ghost use Rattle.commands.specs.declared.command.Item.TheVariants as items;
 
 use crate::archive::Archive;
 use crate::error::AskError;
-use crate::texts::read_text;
+use archive_replay::read_text;
 use archive_state::Refusal;
 use commands::Phrase;
 use machine_model::{Area, Disk};
@@ -28,7 +29,7 @@ use query_eval::{Answer, Part, Row, answer_by_hits, answer_from};
 use query_lang::{Query, QueryError};
 use std::alloc::{AllocError, Global};
 use sublist_store::Damage;
-use time_base::{DocId, Span, Time};
+use time_base::{DocId, Key, Span, Time};
 
 impl Archive {
     /// What a query finds as of a time: the rows of the documents alive then that match, and how many
@@ -38,8 +39,9 @@ impl Archive {
     /// plan says. `Failed`: the disk failed.
     /// Costs the query's length. Of each word with a plan, the sublist that holds the time is read from
     /// Pages, before the horizon, and its list in memory from the horizon on; of each other word its
-    /// list in memory. Then the postings are sorted that hold the time, and each row is looked up;
-    /// where the query matches without any of its words, there is also a look-up for each document.
+    /// list in memory. Then the postings are sorted that hold the time, and where a word has a plan,
+    /// each row is looked up; where the query matches without any of its words, there is also a look-up
+    /// for each document.
     pub fn find<D: Disk>(
         &mut self,
         alloc: Global,
@@ -56,12 +58,12 @@ impl Archive {
         ensures refused { (why : Refusal) → IsErrOf result (AskError.Refused why) → (place : ℕ) × IsRead key_of expr.now (Err place) × (why ≡ Refusal.BadQuery place) }
         ensures asked { IsOk result → (query : Meaning) × IsRead key_of expr.now (Ok query) }
         // Whatever the disk holds, if it tells: the answer is made from the lists that are chosen, by what reads of Pages give. Exactly the bytes of
-        // the places chosen are read. What is damaged is shown by what reads give.
+        // the places chosen are read. What is damaged is the first of what is read for the query's words, as what reads give shows.
         ensures made { D.disk_tells → (h : History) → StandsFor self.old h → IfOk result (λ answer. (query : Meaning) × IsRead key_of expr.now (Ok query)
             × IsMadeAt h (D.disk disk.old).holds.pages at.seconds query answer.rows.items answer.read
             × ((D.disk disk.new).bytes_read ≡ replaced (D.disk disk.old).bytes_read Area.Pages ((D.disk disk.old).bytes_read.pages + bytes_for h at.seconds (at.seconds + 1) (words_of query)))) }
         ensures damaged { D.disk_tells → (h : History) → StandsFor self.old h → (d : Damage) → IsErrOf result (AskError.Damaged d) →
-            (word : List ℕ) × IsDamagedFor h (D.disk disk.old).holds.pages word at.seconds (at.seconds + 1) d }
+            SpoilsAnswer h (D.disk disk.old).holds.pages at.seconds (at.seconds + 1) expr.now d }
         // In step, it is a step of the abstract machine.
         ensures takes { D.disk_tells → (h : History) → IsKept (D.disk disk.old) self.old h →
             Takes h (items.Command (commands.Find at expr.now)) (found result) (D.disk disk.old) (D.disk disk.new) self.new }
@@ -88,7 +90,7 @@ impl Archive {
             × IsMadeAt h (D.disk disk.old).holds.pages at.seconds query answer.rows.items answer.read
             × ((D.disk disk.new).bytes_read ≡ replaced (D.disk disk.old).bytes_read Area.Pages ((D.disk disk.old).bytes_read.pages + bytes_for h at.seconds (at.seconds + 1) (words_of query)))) }
         ensures damaged { D.disk_tells → (h : History) → StandsFor self.old h → (d : Damage) → IsErrOf result (AskError.Damaged d) →
-            (word : List ℕ) × IsDamagedFor h (D.disk disk.old).holds.pages word at.seconds (at.seconds + 1) d }
+            SpoilsAnswer h (D.disk disk.old).holds.pages at.seconds (at.seconds + 1) expr.now d }
     {
         let query = query_of(alloc, expr)?;
         let parts = self.parts_of(alloc, disk, query.words(), moment(at))?;
@@ -106,7 +108,7 @@ impl Archive {
     ) -> Result<Answer, AllocError>
         requires { length parts.now ≡ length (words_of query.now) }
         ensures read { IfOk result (λ answer. answer.read ≡ read_of parts.now) }
-        ensures rows { (h : History) → StandsFor self.now h → IfOk result (λ answer. IsAnswer (λ doc. IsSome (text_at h doc at.seconds))
+        ensures rows { (h : History) (pages : List ℕ) → StandsFor self.now h → AreChosen h pages at.seconds (at.seconds + 1) (words_of query.now) parts.now → IfOk result (λ answer. IsAnswer (λ doc. IsSome (text_at h doc at.seconds))
             (λ doc. told (words_of query.now) parts.now at.seconds doc.0) query.now answer.rows.items) }
     {
         if query.matches_without_words() {
@@ -114,9 +116,25 @@ impl Archive {
             let answer = answer_from(alloc, query, at, parts, &alive)?;
             return Ok(answer);
         }
-        let Answer { rows, read } = answer_by_hits(alloc, query, at, parts)?;
-        let rows = self.alive_of(rows, at);
-        Ok(Answer { rows, read })
+        let hits = answer_by_hits(alloc, query, at, parts)?;
+        if self.is_any_planned(query.words()) {
+            let Answer { rows, read } = hits;
+            let rows = self.alive_of(rows, at);
+            return Ok(Answer { rows, read });
+        }
+        Ok(hits)
+    }
+
+    /// Whether one of some words has a plan. Costs a search among the plans for each word.
+    fn is_any_planned(&self, words: &[Key]) -> bool
+        ensures { result ≡ false → All (λ word. All (λ s. is_another word s ≡ true) self.now.shelf.plans) words.now }
+    {
+        for word in words {
+            if self.shelf().position(word).is_some() {
+                return true;
+            }
+        }
+        false
     }
 
     /// Those rows whose documents are alive. (All are, but for bytes of Pages that no archive wrote.)

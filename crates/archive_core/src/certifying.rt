@@ -1,5 +1,5 @@
 //! The certificate of a plan that is stored.
-ghost use Rattle.std.specs.Prelude.{◌≡◌, ◌<◌, ◌≤◌, ◌^◌, ◌++◌, ◌∷◌, [], ℕ, List, length, map, All, IfOk, IsErrOf, Some};
+ghost use Rattle.std.specs.Prelude.{◌≡◌, ◌<◌, ◌≤◌, ◌^◌, length, All, IfOk, IsErrOf, Some};
 ghost use Rattle.machine_model.specs.States.{DiskState};
 ghost use Rattle.stored_plans.specs.Plans.{IsLeastPlan};
 ghost use Rattle.archive_state.specs.Histories.{History};
@@ -13,7 +13,8 @@ ghost use Rattle.commands.specs.declared.command.Item.TheVariants as items;
 
 use crate::archive::Archive;
 use crate::error::AskError;
-use crate::planning::{MANY_POSTINGS, list_up_to, planned};
+use crate::planning::planned;
+use archive_replay::{MANY_POSTINGS, list_up_to};
 use archive_state::Refusal;
 use commands::{Kind, Phrase};
 use elementary::Table;

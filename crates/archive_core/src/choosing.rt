@@ -1,5 +1,5 @@
 //! Which postings are read for a query.
-ghost use Rattle.std.specs.Prelude.{◌≡◌, ◌+◌, ◌^◌, ◌++◌, ◌<◌, ◌≤◌, ℕ, List, length, get_or, IfOk, OnOk, IsErrOf};
+ghost use Rattle.std.specs.Prelude.{◌≡◌, ◌+◌, ◌^◌, ◌++◌, ◌<◌, ℕ, List, length, IfOk, OnOk, IsErrOf};
 ghost use Rattle.machine_model.specs.Areas.{replaced};
 ghost use Rattle.machine_model.specs.Calls.{OnlyReads};
 ghost use Rattle.machine_model.specs.Causes.{Rose};
@@ -7,8 +7,8 @@ ghost use Rattle.archive_state.specs.Histories.{History};
 ghost use Rattle.archive_state.specs.Answers.{IsWordList};
 ghost use Rattle.archive_state.specs.Plans.{plan_of};
 ghost use Rattle.time_base.specs.declared.posting.Posting.{Posting as PlainPosting};
-ghost use Rattle.archive_state.specs.Chosen.{AreChosen, IsChosenOf, IsDamagedFor, bytes_chosen, bytes_for, tail_for};
-ghost use Rattle.archive_core.specs.Shelves.{IsPlanAt};
+ghost use Rattle.archive_state.specs.Chosen.{AreChosen, IsChosenOf, IsDamagedFor, IsFirstDamage, bytes_chosen, bytes_for, tail_for};
+ghost use Rattle.archive_replay.specs.Live.{IsPlanAt};
 ghost use Rattle.archive_core.specs.States.{StandsFor, Reaches};
 
 use crate::archive::Archive;
@@ -47,7 +47,7 @@ impl Archive {
         ensures chosen { D.disk_tells → (h : History) → StandsFor self.old h → IfOk result (λ parts. AreChosen h (D.disk disk.old).holds.pages span.from span.to words.now parts.items) }
         ensures count { D.disk_tells → (h : History) → StandsFor self.old h →
             OnOk result ((D.disk disk.new).bytes_read ≡ replaced (D.disk disk.old).bytes_read Area.Pages ((D.disk disk.old).bytes_read.pages + bytes_for h span.from span.to words.now)) }
-        ensures damaged { D.disk_tells → (h : History) → StandsFor self.old h → (d : Damage) → IsErrOf result (AskError.Damaged d) → (word : List ℕ) × IsDamagedFor h (D.disk disk.old).holds.pages word span.from span.to d }
+        ensures damaged { D.disk_tells → (h : History) → StandsFor self.old h → (d : Damage) → IsErrOf result (AskError.Damaged d) → IsFirstDamage h (D.disk disk.old).holds.pages span.from span.to words.now d }
     {
         let mut parts = Vec::new(alloc);
         for word in words {

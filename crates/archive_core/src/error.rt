@@ -1,36 +1,10 @@
 //! Why a call of an archive didn't do its work.
 ghost use Rattle.std.specs.Prelude.{◌≡◌};
 
+use archive_replay::ReadError;
 use archive_state::Refusal;
-use gate_journal::JournalError;
-use machine_model::Failed;
 use std::alloc::{AllocError, AllocFailed};
 use sublist_store::{Damage, FetchError};
-
-/// Why an archive was not loaded.
-#[derive(Clone, Copy, Debug, PartialEq, Eq)]
-pub enum LoadError {
-    /// A call of the disk failed.
-    Failed,
-    /// The journal is no archive's, which shows at that place: of a byte that differs from the
-    /// header, of an open gate whose record lies past the end or isn't legal, or of the first field
-    /// of an entry that isn't allowed; or of the gate of a plan whose places lie badly.
-    NotArchive {
-        /// The place in the journal.
-        at: u64,
-    },
-    /// There was no memory.
-    Memory,
-}
-
-/// Why bytes of the journal were not read.
-#[derive(Clone, Copy, Debug, PartialEq, Eq)]
-pub(crate) enum ReadError {
-    /// A call of the disk failed.
-    Failed,
-    /// There was no memory.
-    Memory,
-}
 
 /// Why a question was not answered. Nothing was changed.
 #[derive(Clone, Copy, Debug, PartialEq, Eq)]
@@ -64,31 +38,6 @@ impl From<AllocError> for ChangeError {
 
     fn from(_: AllocError) -> Self {
         ChangeError::Memory
-    }
-}
-
-impl From<AllocError> for LoadError {
-    ghost use Rattle.archive_core.specs.declared.error.LoadError.TheVariants.{Memory};
-    ghost use Rattle.std.specs.Prelude.{◌≡◌};
-
-    ghost from_gives = { λ _ e. e ≡ Memory };
-
-    fn from(_: AllocError) -> Self {
-        LoadError::Memory
-    }
-}
-
-impl From<ReadError> for LoadError {
-    ghost use Rattle.archive_core.specs.Causes.{load_error_of_read};
-    ghost use Rattle.std.specs.Prelude.{◌≡◌};
-
-    ghost from_gives = { λ why e. e ≡ load_error_of_read why };
-
-    fn from(why: ReadError) -> Self {
-        match why {
-            ReadError::Failed => LoadError::Failed,
-            ReadError::Memory => LoadError::Memory,
-        }
     }
 }
 
@@ -140,64 +89,5 @@ impl<T: Drop> From<AllocFailed<T>> for AskError {
 
     fn from(_: AllocFailed<T>) -> Self {
         AskError::Memory
-    }
-}
-
-impl From<AllocError> for ReadError {
-    ghost use Rattle.archive_core.specs.declared.error.ReadError.TheVariants.{Memory};
-    ghost use Rattle.std.specs.Prelude.{◌≡◌};
-
-    ghost from_gives = { λ _ e. e ≡ Memory };
-
-    fn from(_: AllocError) -> Self {
-        ReadError::Memory
-    }
-}
-
-impl<T: Drop> From<AllocFailed<T>> for ReadError {
-    ghost use Rattle.archive_core.specs.declared.error.ReadError.TheVariants.{Memory};
-    ghost use Rattle.std.specs.Prelude.{◌≡◌};
-
-    ghost from_gives = { λ _ e. e ≡ Memory };
-
-    fn from(_: AllocFailed<T>) -> Self {
-        ReadError::Memory
-    }
-}
-
-impl From<Failed> for ReadError {
-    ghost use Rattle.archive_core.specs.declared.error.ReadError.TheVariants.{Failed};
-    ghost use Rattle.std.specs.Prelude.{◌≡◌};
-
-    ghost from_gives = { λ _ e. e ≡ Failed };
-
-    fn from(_: machine_model::Failed) -> Self {
-        ReadError::Failed
-    }
-}
-
-impl From<JournalError> for LoadError {
-    ghost use Rattle.archive_core.specs.Causes.{load_error_of};
-    ghost use Rattle.std.specs.Prelude.{◌≡◌};
-
-    ghost from_gives = { λ why e. e ≡ load_error_of why };
-
-    fn from(why: JournalError) -> Self {
-        match why {
-            JournalError::Failed => LoadError::Failed,
-            JournalError::NotJournal { at } => LoadError::NotArchive { at },
-            JournalError::Memory => LoadError::Memory,
-        }
-    }
-}
-
-impl From<Failed> for LoadError {
-    ghost use Rattle.archive_core.specs.declared.error.LoadError.TheVariants.{Failed};
-    ghost use Rattle.std.specs.Prelude.{◌≡◌};
-
-    ghost from_gives = { λ _ e. e ≡ Failed };
-
-    fn from(_: machine_model::Failed) -> Self {
-        LoadError::Failed
     }
 }

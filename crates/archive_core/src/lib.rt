@@ -9,22 +9,16 @@
 mod archive;
 mod asking;
 mod certifying;
-mod change;
 mod choosing;
 mod error;
 mod laws;
 mod loading;
 mod planning;
-mod preparing;
-mod replaying;
-mod shelf;
 mod storing;
-mod text;
-mod texts;
-mod window;
 mod windows;
 
 pub use archive::Archive;
-pub use error::{AskError, ChangeError, LoadError};
+pub use archive_replay::LoadError;
+pub use error::{AskError, ChangeError};
 pub use laws::an_archive_in_step_stands;
-pub use storing::PlanReport;
+pub use plan_shelf::PlanReport;

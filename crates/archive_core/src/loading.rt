@@ -10,11 +10,10 @@ ghost use Rattle.archive_core.specs.States.{StandsFor, IsKept, Reaches};
 ghost use Rattle.archive_core.specs.Changing.{KeepsHistory};
 
 use crate::archive::Archive;
-use crate::error::LoadError;
-use crate::replaying::{Replayed, replay};
-use crate::shelf::Shelf;
+use archive_replay::{LoadError, Replayed, replay};
 use gate_journal::Journal;
 use machine_model::{Area, Disk};
+use plan_shelf::Shelf;
 use std::alloc::Global;
 
 impl Archive {

@@ -1,11 +1,10 @@
 //! What is planned for a word.
-ghost use Rattle.std.specs.Prelude.{◌≡◌, ◌<◌, ◌≤◌, ◌^◌, ℕ, List, [], ◌∷◌, length, drop, slice_index, All, IfOk, IsErrOf, Some};
+ghost use Rattle.std.specs.Prelude.{◌≡◌, ◌<◌, ◌≤◌, ◌^◌, ℕ, List, length, drop, slice_index, All, IfOk, IsErrOf, Some};
 ghost use Rattle.time_base.specs.declared.posting.Posting.{Posting as PlainPosting};
 ghost use Rattle.elementary.specs.Counts.{Tabulates};
 ghost use Rattle.elementary.specs.Partitions.{IsFitting, IsLeast, AreBest, widest};
 ghost use Rattle.machine_model.specs.States.{DiskState};
 ghost use Rattle.fold_tokens.specs.Terms.{one_term as term_of};
-ghost use Rattle.postings.specs.ListsOf.{IsListOf};
 ghost use Rattle.proposals.specs.Proposals.{IsProposal};
 ghost use Rattle.record_codec.specs.PlanSpelling.{IsWord};
 ghost use Rattle.archive_state.specs.Histories.{History};
@@ -19,20 +18,17 @@ ghost use Rattle.commands.specs.declared.command.Item.TheVariants as items;
 
 use crate::archive::Archive;
 use crate::error::AskError;
+use archive_replay::{MANY_POSTINGS, list_up_to};
 use archive_state::Refusal;
 use commands::Phrase;
 use elementary::{Partition, Table};
 use fold_tokens::one_term;
 use guarantee_planner::{PlanError, plan};
 use plan_certificate::Certificate;
-use postings::clip;
 use proposals::Proposal;
-use std::alloc::{AllocError, Global};
+use std::alloc::Global;
 use sublist_store::Damage;
-use time_base::{Fraction, Key, Posting, Span, Time};
-
-/// So many postings and more are not planned; the memory for them is never there.
-pub(crate) const MANY_POSTINGS: usize = 1 << 38;
+use time_base::{Fraction, Key, Posting, Time};
 
 /// A word with its list up to the last time.
 #[derive(Drop)]
@@ -149,21 +145,6 @@ fn key_fits(key: &Key)
     ensures { IsWord key.now }
 {
     key.as_str();
-}
-
-/// A whole list, clipped to the times before a horizon. Costs its postings.
-pub(crate) fn list_up_to(
-    alloc: Global,
-    list: &[Posting],
-    horizon: Time,
-) -> Result<Vec<Posting>, AllocError>
-    ensures list { IfOk result (λ v. (f : ℕ → ℕ → ℕ) → IsListOf f 0 (2 ^ 40) list.now → IsListOf f 0 horizon.seconds v.items) }
-    ensures early { IfOk result (λ v. All (λ p. p.span.to ≤ horizon.seconds) v.items) }
-{
-    match Span::new(0, horizon.seconds()) {
-        Some(span) => clip(alloc, list, span),
-        None => Ok(Vec::new(alloc)),
-    }
 }
 
 /// A least plan of a list, as it is shown, or why there is none.

@@ -1,12 +1,10 @@
 //! Plans that are stored.
-ghost use Rattle.std.specs.Prelude.{◌≡◌, ◌⊎◌, ◌+◌, ◌-◌, ◌<◌, ◌≤◌, ◌^◌, ◌++◌, ◌∷◌, [], ℕ, List, length, map, All, IsTrue, IfOk, OnOk, OnErr, IsErrOf};
-ghost use Rattle.std.specs.List.{AllZip};
+ghost use Rattle.std.specs.Prelude.{◌≡◌, ◌+◌, ◌-◌, ◌<◌, ◌≤◌, ◌^◌, ◌++◌, ◌∷◌, [], List, length, map, All, IsTrue, IfOk, OnOk, OnErr, IsErrOf};
 ghost use Rattle.machine_model.specs.Causes.{Rose};
 ghost use Rattle.machine_model.specs.Areas.{Bytes};
 ghost use Rattle.machine_model.specs.Images.{MayLeave};
 ghost use Rattle.std.specs.Prelude.{slice_index, Some};
 ghost use Rattle.std.specs.List.Sorted.{IsStrictlyIncreasing};
-ghost use Rattle.time_base.specs.Limits.{limit_of};
 ghost use Rattle.time_base.specs.declared.extent.Extent.{Extent as PlainExtent};
 ghost use Rattle.time_base.specs.declared.time.Time.{Time as PlainTime};
 ghost use Rattle.record_codec.specs.declared.place.Place.{Place as PlainPlace};
@@ -14,11 +12,9 @@ ghost use Rattle.record_codec.specs.declared.plan.PlanEntry.{PlanEntry as PlainP
 ghost use Rattle.gate_journal.specs.InStep.{IsInStep};
 ghost use Rattle.page_store.specs.Live.{IsInside};
 ghost use Rattle.page_store.specs.Taken.{HasTaken};
-ghost use Rattle.postings.specs.Lists.{IsList};
 ghost use Rattle.stored_plans.specs.Plans.{IsLeastPlan, IsNarrow, plan_space};
-ghost use Rattle.sublist_store.specs.Preparing.{IsFor, extents};
+ghost use Rattle.sublist_store.specs.Preparing.{extents};
 ghost use Rattle.fold_tokens.specs.Terms.{one_term as term_of};
-ghost use Rattle.record_codec.specs.PlanSpelling.{plan_spelling};
 ghost use Rattle.archive_state.specs.Histories.{History};
 ghost use Rattle.archive_state.specs.Legal.{IsLegal};
 ghost use Rattle.archive_state.specs.Holding.{HoldsPlans};
@@ -27,62 +23,23 @@ ghost use Rattle.archive_state.specs.Plans.{with_plan};
 ghost use Rattle.archive_state.specs.Stands.{bodies_of};
 ghost use Rattle.archive_state.specs.Steps.{spelled_key};
 ghost use Rattle.record_codec.specs.declared.entry.Entry.TheVariants as entries;
-ghost use Rattle.archive_core.specs.States.{StandsFor, extents_all};
+ghost use Rattle.archive_core.specs.States.{StandsFor};
+ghost use Rattle.plan_shelf.specs.Shelves.{extents_all};
 ghost use Rattle.archive_core.specs.Changing.{LeadsTo};
-ghost use Rattle.archive_core.specs.Shelves.{EachOnce};
-ghost use Rattle.archive_core.specs.Storing.{IsReady, IsFull, IsDraft, IsStorable, HasPlaces, plan_with, tells_of};
-ghost use Rattle.archive_core.specs.Takes.{summary_of};
+ghost use Rattle.archive_core.specs.Storing.{IsDraft, IsStorable};
 
-use crate::archive::{Archive, full_journal};
+use crate::archive::Archive;
 use crate::error::AskError;
 use crate::planning::{Sealed, planned};
-use crate::preparing::Unprepared;
-use crate::shelf::Shelf;
-use archive_state::{Refusal, StoredPlan};
-use commands::{Kind, Phrase};
+use archive_state::Refusal;
+use commands::Phrase;
 use elementary::Table;
 use gate_journal::{AppendError, Frame, Journal};
 use machine_model::{Disk, Failed};
-use page_store::TakeError;
-use record_codec::{Cuts, Layout, Place, Places, PlanEntry, encode_plan};
+use plan_shelf::{Draft, PlanReport, Ready, Shelf};
 use std::alloc::{AllocError, Global};
 use sublist_store::{Damage, Prepared, Sublists};
-use time_base::{Fraction, Key, Posting, Time, Which};
-
-/// What is told of a plan that was stored.
-#[derive(Clone, Copy, Debug, PartialEq, Eq)]
-pub struct PlanReport {
-    /// How many entries the archive has now.
-    pub length: u64,
-    /// How many segments the plan has.
-    pub segments: u64,
-    /// The sizes of their sublists added up, in postings.
-    pub space: u64,
-    /// The size of the list up to the horizon, in postings.
-    pub full: u64,
-    /// The horizon, which is the last time.
-    pub horizon: Time,
-}
-
-/// A least plan of a word's list up to the last time, of which nothing is stored yet.
-#[derive(Drop)]
-pub(crate) struct Draft {
-    pub(crate) word: Key,
-    pub(crate) factor: Fraction,
-    pub(crate) list: Vec<Posting>,
-    pub(crate) horizon: Time,
-    pub(crate) cuts: Vec<Time>,
-    pub(crate) space: u64,
-}
-
-/// A plan whose sublists and whose entry are ready to be written.
-#[derive(Drop)]
-pub(crate) struct Ready {
-    pub(crate) stored: StoredPlan,
-    pub(crate) frame: Frame,
-    pub(crate) prepared: Prepared,
-    pub(crate) report: PlanReport,
-}
+use time_base::{Fraction, Time};
 
 impl Archive {
     /// A least plan of the list of a phrase's word up to the last time, or why there is none to store.
@@ -168,121 +125,6 @@ fn push_time(times: &mut Vec<Time>, seconds: u64) -> Result<(), AllocError>
     Ok(())
 }
 
-/// Takes the pages of a draft's sublists and spells its entry, if the journal, which ends there, has room
-/// for it. Costs what `Shelf::prepare` does, and the entry's length.
-pub(crate) fn make_ready(
-    alloc: Global,
-    end: u64,
-    count: u64,
-    shelf: &mut Shelf,
-    draft: Draft,
-) -> Result<Ready, Unprepared>
-    requires list { IsList draft.list.items }
-    requires taken { (taken : List PlainExtent) × HasTaken shelf.old.pages taken }
-    requires least { IsLeastPlan draft.list.items draft.factor draft.cuts.items draft.horizon.seconds }
-    requires narrow { IsNarrow draft.list.items draft.horizon.seconds }
-    requires space { draft.space ≡ plan_space draft.list.items draft.cuts.items draft.horizon.seconds }
-    requires low { 17 ≤ end }
-    requires high { end ≤ 2 ^ 40 }
-    requires few { count < 2 ^ 40 }
-    ensures plans { shelf.new.plans ≡ shelf.old.plans }
-    ensures ready { IfOk result (λ r. IsReady draft end count r) }
-    ensures placed { (taken : List PlainExtent) → HasTaken shelf.old.pages taken → IfOk result (λ r. HasPlaces draft taken r.prepared.places) }
-    ensures taken { (taken : List PlainExtent) → HasTaken shelf.old.pages taken → IfOk result (λ r. HasTaken shelf.new.pages (extents r.prepared.places ++ taken)) }
-    ensures room { OnOk result (1 ≤ shelf.new.room) }
-    ensures none { (taken : List PlainExtent) → HasTaken shelf.old.pages taken → OnErr result (HasTaken shelf.new.pages taken) }
-    ensures full { (taken : List PlainExtent) → HasTaken shelf.old.pages taken → (why : Refusal) → IsErrOf result (Unprepared.Refused why) → IsFull draft taken end why }
-{
-    shelf.make_room()?;
-    let prepared = match shelf.prepare(alloc, &draft.list, &draft.cuts, draft.horizon) {
-        Ok(prepared) => prepared,
-        Err(TakeError::Full) => return Err(Unprepared::Refused(full_pages())),
-        Err(TakeError::Memory) => return Err(Unprepared::Memory),
-    };
-    let report = report_of(&draft, count);
-    match spell_entry(alloc, end, draft, prepared.places()) {
-        Ok(spelled) => Ok(Ready {
-            stored: StoredPlan {
-                gate: end - 1,
-                plan: spelled.plan,
-            },
-            frame: spelled.frame,
-            prepared,
-            report,
-        }),
-        Err(why) => {
-            shelf.forget(prepared);
-            Err(why)
-        }
-    }
-}
-
-/// What is told of a draft, behind so many entries.
-fn report_of(draft: &Draft, count: u64) -> PlanReport
-    requires few { count < 2 ^ 40 }
-    requires space { draft.now.space ≡ plan_space draft.now.list.items draft.now.cuts.items draft.now.horizon.seconds }
-    ensures { summary_of result ≡ tells_of draft.now (count + 1) }
-{
-    PlanReport {
-        length: count + 1,
-        segments: draft.cuts.len() as u64,
-        space: draft.space,
-        full: draft.list.len() as u64,
-        horizon: draft.horizon,
-    }
-}
-
-/// The refusal of a plan for which Pages have no room.
-fn full_pages() -> Refusal
-    ensures { result ≡ Refusal.Full Which.Pages (limit_of Which.Pages) }
-{
-    Refusal::Full {
-        which: Which::Pages,
-        limit: Which::Pages.limit(),
-    }
-}
-
-/// A plan with its entry's frame.
-#[derive(Drop)]
-struct Spelled {
-    plan: PlanEntry,
-    frame: Frame,
-}
-
-/// The entry of a draft with these places, if the journal, which ends there, has room for it.
-fn spell_entry(
-    alloc: Global,
-    end: u64,
-    draft: Draft,
-    places: &[Place],
-) -> Result<Spelled, Unprepared>
-    requires least { IsLeastPlan draft.list.items draft.factor draft.cuts.items draft.horizon.seconds }
-    requires narrow { IsNarrow draft.list.items draft.horizon.seconds }
-    requires many { length places.now ≡ length draft.cuts.items }
-    requires high { end ≤ 2 ^ 40 }
-    ensures plan { IfOk result (λ s. s.plan ≡ plan_with draft places.now) }
-    ensures frame { IfOk result (λ s. s.frame ≡ plan_spelling s.plan) }
-    ensures fits { IfOk result (λ s. end + 5 + length s.frame ≤ limit_of Which.Journal) }
-    ensures full { (why : Refusal) → IsErrOf result (Unprepared.Refused why) → (limit_of Which.Journal < end + 5 + length (plan_spelling (plan_with draft places.now))) × (why ≡ Refusal.Full Which.Journal (limit_of Which.Journal)) }
-{
-    let places = Vec::from_slice(alloc, places)?;
-    let plan = PlanEntry {
-        word: draft.word,
-        layout: Layout::Blocks,
-        kind: Kind::Guarantee,
-        fraction: draft.factor,
-        horizon: draft.horizon,
-        cuts: Cuts::new(draft.cuts),
-        places: Places::new(places),
-    };
-    let body = encode_plan(alloc, &plan)?;
-    if Which::Journal.limit() < end + 5 + body.len() as u64 {
-        return Err(Unprepared::Refused(full_journal()));
-    }
-    let frame = Frame::new(alloc, &body)?;
-    Ok(Spelled { plan, frame })
-}
-
 /// Writes what is ready, first the sublists and then the entry; the plan takes the place of the one that its
 /// word had, whose pages are free only then. Takes no memory.
 pub(crate) fn write_ready<D: Disk>(
@@ -294,7 +136,6 @@ pub(crate) fn write_ready<D: Disk>(
     requires live { IsTrue journal.old.live }
     requires fits { journal.old.end + 5 + length ready.frame ≤ 2 ^ 40 }
     requires room { 1 ≤ shelf.old.room }
-    requires once { EachOnce shelf.old.plans }
     requires places { ready.stored.plan.places ≡ ready.prepared.places }
     requires taken { HasTaken shelf.old.pages (extents ready.prepared.places ++ extents_all shelf.old.plans) }
     ensures only { D.Disk.only disk.old disk.new }

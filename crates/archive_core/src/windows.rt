@@ -10,7 +10,7 @@ ghost use Rattle.query_eval.specs.Asked.{read_of};
 ghost use Rattle.query_eval.specs.Found.{told};
 ghost use Rattle.query_eval.specs.Spans.{IsSpanAnswer};
 ghost use Rattle.archive_state.specs.Histories.{History, text_at};
-ghost use Rattle.archive_state.specs.Chosen.{IsDamagedFor, IsMadeOver, bytes_for};
+ghost use Rattle.archive_state.specs.Chosen.{IsMadeOver, SpoilsAnswer, bytes_for};
 ghost use Rattle.archive_core.specs.States.{StandsFor, IsKept, Reaches};
 ghost use Rattle.archive_core.specs.Takes.{Takes, spanned};
 ghost use Rattle.commands.specs.declared.command.Command.TheVariants as commands;
@@ -55,12 +55,12 @@ impl Archive {
         ensures refused { (why : Refusal) → IsErrOf result (AskError.Refused why) → (place : ℕ) × IsRead key_of expr.now (Err place) × (why ≡ Refusal.BadQuery place) }
         ensures asked { IsOk result → (query : Meaning) × IsRead key_of expr.now (Ok query) }
         // Whatever the disk holds, if it tells: the answer is made from the lists that are chosen, by what reads of Pages give. Exactly the bytes of
-        // the places chosen are read. What is damaged is shown by what reads give.
+        // the places chosen are read. What is damaged is the first of what is read for the query's words, as what reads give shows.
         ensures made { D.disk_tells → (h : History) → StandsFor self.old h → IfOk result (λ answer. (query : Meaning) × IsRead key_of expr.now (Ok query)
             × IsMadeOver h (D.disk disk.old).holds.pages span.from span.to query answer.rows.items answer.read
             × ((D.disk disk.new).bytes_read ≡ replaced (D.disk disk.old).bytes_read Area.Pages ((D.disk disk.old).bytes_read.pages + bytes_for h span.from span.to (words_of query)))) }
         ensures damaged { D.disk_tells → (h : History) → StandsFor self.old h → (d : Damage) → IsErrOf result (AskError.Damaged d) →
-            (word : List ℕ) × IsDamagedFor h (D.disk disk.old).holds.pages word span.from span.to d }
+            SpoilsAnswer h (D.disk disk.old).holds.pages span.from span.to expr.now d }
         // In step, it is a step of the abstract machine.
         ensures takes { D.disk_tells → (h : History) → IsKept (D.disk disk.old) self.old h →
             Takes h (items.Command (commands.Between span expr.now)) (spanned result) (D.disk disk.old) (D.disk disk.new) self.new }
@@ -87,7 +87,7 @@ impl Archive {
             × IsMadeOver h (D.disk disk.old).holds.pages span.from span.to query answer.rows.items answer.read
             × ((D.disk disk.new).bytes_read ≡ replaced (D.disk disk.old).bytes_read Area.Pages ((D.disk disk.old).bytes_read.pages + bytes_for h span.from span.to (words_of query)))) }
         ensures damaged { D.disk_tells → (h : History) → StandsFor self.old h → (d : Damage) → IsErrOf result (AskError.Damaged d) →
-            (word : List ℕ) × IsDamagedFor h (D.disk disk.old).holds.pages word span.from span.to d }
+            SpoilsAnswer h (D.disk disk.old).holds.pages span.from span.to expr.now d }
     {
         let query = query_of(alloc, expr)?;
         let parts = self.parts_of(alloc, disk, query.words(), span)?;

@@ -19,8 +19,8 @@ use Rattle.archive_state.specs.Stands.{Stands, EachStands}
 use Rattle.archive_state.proofs.RunLemmas.{carried_joins, reopens, state_after_all}
 use Rattle.archive_core.specs.States.{ArchiveState, IsKept}
 use Rattle.archive_core.specs.Changing.{KeepsHistory}
-use Rattle.archive_core.specs.declared.error.LoadError.{LoadError}
-use Rattle.archive_core.specs.declared.error.LoadError.TheVariants as loads
+use Rattle.archive_replay.specs.declared.error.LoadError.{LoadError}
+use Rattle.archive_replay.specs.declared.error.LoadError.TheVariants as loads
 use Rattle.archive_core.proofs.AddLemmas.{kept_stands}
 use Rattle.sublist_store.specs.declared.why.Damage.{Damage}
 use Rattle.archive_shell.specs.Headline.{EndsEarly, Headline, IsInTurn, MachineState}

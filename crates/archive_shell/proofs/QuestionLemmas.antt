@@ -1,5 +1,5 @@
 -- A question's reply is made from the lists that are chosen.
-use Rattle.std.proofs.Common.{◌≡◌, ℕ, ◌+◌, ◌<◌, Bool, true, List, [], ◌∷◌, ◌++◌, length, get_or, Some, None, Result, Ok, Err, IfOk, OnOk, All, refl, inl, inr, ap, subst, sym, ◌∙◌, arith, append_assoc}
+use Rattle.std.proofs.Common.{◌≡◌, ℕ, ◌+◌, ◌<◌, Bool, false, true, List, [], ◌∷◌, ◌++◌, length, get_or, Some, None, Result, Ok, Err, IfOk, OnOk, All, refl, inl, inr, ap, subst, sym, ◌∙◌, arith, append_assoc}
 use Rattle.std.specs.List.{AllZip, flat_map}
 use Rattle.std.proofs.lemmas.Grind.{flat_map-append}
 use Rattle.std.proofs.lemmas.List.{append-nil, get_or_append_left, length-append}
@@ -32,18 +32,22 @@ use Rattle.archive_state.specs.declared.refusal.Refusal.TheVariants as refusals
 use Rattle.archive_core.specs.Takes.{Replied, found, spanned}
 use Rattle.archive_core.specs.declared.error.AskError.{AskError}
 use Rattle.archive_core.specs.declared.error.AskError.TheVariants as asks
-use Rattle.archive_shell.specs.Asking.{IsOnPage, IsAsked, Asking, HasAsked}
+use Rattle.sublist_store.specs.declared.why.Damage.{Damage}
+use Rattle.archive_shell.specs.Damages.{Spoils}
+use Rattle.archive_shell.specs.Asking.{IsOnPage, IsAsked, Asking, HasAsked, HasStopped}
 use Rattle.archive_shell.specs.Headline.{MachineState}
 use Rattle.archive_core.specs.States.{ArchiveState, StandsFor}
 use Rattle.machine_model.specs.Calls.{OnlyReads, Syncs}
 use Rattle.machine_model.specs.Pushes.{IsSameBeside}
-use Rattle.script_read.specs.Items.{Splits}
-use Rattle.script_read.specs.Reading.{Held, fresh}
+use Rattle.script_read.specs.Items.{Items, Splits}
+use Rattle.script_read.specs.Reading.{Held, MayFollow, fresh}
+use Rattle.script_read.proofs.Joins.{items-join}
+use Rattle.script_read.proofs.Splitting.{each_splits, one_split}
 use Rattle.archive_shell.proofs.PullLemmas.{Gives, pulling_first, pulling_next, whole_done}
-use Rattle.archive_shell.specs.Questions.{AreMade, IsMadeReply, IsQuestion, MakesAt, MakesOver}
+use Rattle.archive_shell.specs.Questions.{AreMade, AreMadeUpTo, IsMadeReply, IsQuestion, MakesAt, MakesOver}
 use Rattle.archive_shell.specs.Turns.{Writes}
 use Rattle.archive_shell.specs.Statuses.{status_of_script, status_of_stop}
-use Rattle.archive_shell.specs.declared.status.Status.TheVariants.{Done}
+use Rattle.archive_shell.specs.declared.status.Status.TheVariants.{Done, Damaged}
 use Rattle.archive_shell.specs.declared.stop.Stop.{Stop}
 use Rattle.archive_shell.specs.declared.stop.Stop.TheVariants as stops
 use Rattle.script_read.specs.declared.error.ScriptError.{ScriptError}
@@ -133,8 +137,11 @@ asking_start h now archive held is stands =
       all_asked = λ none. record { stands = stands; pages_are = refl; made = none_asked h now.disk.holds.pages now.sink.shown };
     })
 
+all_part : (items rest : List Item) → All IsQuestion (items ++ rest) → All IsQuestion items
+all_part items rest all = λ k d lt. subst IsQuestion (get_or_append_left items rest d k lt) (all k d (omega (arith, lt, length-append items rest)))
+
 all_front : (items : List Item) (item : Item) → All IsQuestion (items ++ item ∷ []) → All IsQuestion items
-all_front items item all = λ k d lt. subst IsQuestion (get_or_append_left items (item ∷ []) d k lt) (all k d (omega (arith, lt, length-append items (item ∷ []))))
+all_front items item all = all_part items (item ∷ []) all
 
 last_there : (items : List Item) (item d : Item) → get_or (items ++ item ∷ []) (length items) d ≡ item
 last_there [] item d = refl
@@ -179,6 +186,34 @@ asked_all h pages old now source archive held held_now asking gives =
       made = λ questions. (asking.all_asked questions).made;
     }
 
+-- the next item was carried out up to a damage
+asked_before : (ended : Bool) (left : List ℕ) → (ended ≡ true → left ≡ []) → MayFollow ended true left
+asked_before false left told = tt
+asked_before true left told = (refl, told refl)
+
+pub asking_stops : (h : History) (pages : List ℕ) (old now : MachineState) (source : SourceState) (sink : SinkState) (disk : DiskState) (archive : ArchiveState) (held held_now : Held) (item : Item) (damage : Damage)
+    → (asking : Asking h pages old now archive held) → Gives held held_now asking.pulling.since (Ok (Some item)) now.source source
+    → (StandsFor archive h → Spoils h now.disk.holds.pages item damage × (sink.shown ≡ now.sink.shown))
+    → HasStopped h pages old (record { source = source; sink = sink; disk = disk }) damage
+asking_stops h pages old now source sink disk archive held held_now item damage asking gives out =
+    let items = asking.pulling.items in
+    let next = pulling_next old.source now.source source held held_now item asking.pulling gives in
+    let I : List ℕ → Type 0 = λ bytes. Items true bytes (items ++ item ∷ []) (next.since ++ source.left) in
+    record {
+      answered = items;
+      item = item;
+      rest = next.since ++ source.left;
+      read = subst I (sym next.pulled_are) (next.reads.split true source.left (asked_before held_now.ended source.left next.told));
+      made = λ all.
+          let was = asking.all_asked all in
+          let M : List ℕ → Type 0 = λ shown. AreMade h pages items old.sink.shown shown in
+          subst M (sym (out was.stands).1) was.made;
+      spoiled = λ all.
+          let was = asking.all_asked all in
+          let P : List ℕ → Type 0 = λ ps. Spoils h ps item damage in
+          subst P was.pages_are (out was.stands).0;
+    }
+
 -- a run goes on where neither what was shown nor the disk changed
 pub asking_along : (h : History) (pages : List ℕ) (old : MachineState) (source : SourceState) (one other : SinkState) (now then : DiskState) (archive : ArchiveState) (held : Held) → other ≡ one → then ≡ now
     → Asking h pages old (record { source = source; sink = one; disk = now }) archive held → Asking h pages old (record { source = source; sink = other; disk = then }) archive held
@@ -193,6 +228,12 @@ script_not_done (errors.Broken at) is = cc
 script_not_done errors.Budget is = cc
 script_not_done errors.Failed is = cc
 script_not_done errors.Memory is = cc
+
+pub script_not_damaged : (error : ScriptError) (damage : Damage) → status_of_script error ≡ Damaged damage → ⊥
+script_not_damaged (errors.Broken at) damage is = cc
+script_not_damaged errors.Budget damage is = cc
+script_not_damaged errors.Failed damage is = cc
+script_not_damaged errors.Memory damage is = cc
 
 pub stop_not_done : (stop : Stop) → status_of_stop stop ≡ Done → ⊥
 stop_not_done stops.Disk is = cc
@@ -268,3 +309,41 @@ made_at_start h asked old new before after spelled loads longer made = elim (cas
       subst B (sym none) (made_anywhere new.holds.pages old.holds.pages asked before after (subst H none made))
       )
 ]
+
+none_spoiled : (pages : List ℕ) (item : Item) (damage : Damage) → Spoils [] pages item damage → ⊥
+none_spoiled pages (items.Command (commands.Find at expr)) damage spoiled = let live = spoiled.first.shown.live in cc
+none_spoiled pages (items.Command (commands.Between span expr)) damage spoiled = let live = spoiled.first.shown.live in cc
+none_spoiled pages (items.Command (commands.Arrive doc at text)) damage spoiled = spoiled
+none_spoiled pages (items.Command (commands.Delete doc at)) damage spoiled = spoiled
+none_spoiled pages (items.Command (commands.Show doc at)) damage spoiled = spoiled
+none_spoiled pages (items.Command (commands.Plan word kind fraction)) damage spoiled = spoiled
+none_spoiled pages (items.Command (commands.Propose word fraction)) damage spoiled = spoiled
+none_spoiled pages (items.Command (commands.Certificate word)) damage spoiled = spoiled
+none_spoiled pages (items.Command commands.Verify) damage spoiled = spoiled
+none_spoiled pages items.Line damage spoiled = spoiled
+
+pub stopped_at_start : (h : History) (asked : List Item) (damage : Damage) (old new : DiskState) (before after : List ℕ) → Spells old.holds.journal (bodies_of h) → IsLoadable h → (17 < length old.holds.journal → Syncs old new)
+    → AreMadeUpTo h new.holds.pages asked damage before after → AreMadeUpTo h old.holds.pages asked damage before after
+stopped_at_start h asked damage old new before after spelled loads longer made = elim (cases_lt 17 (length old.holds.journal)) as (λ _. AreMadeUpTo h old.holds.pages asked damage before after) [
+  | inl long ↦ (let P : Bytes → Type 0 = λ b. AreMadeUpTo h b.pages asked damage before after in subst P (longer long).holds made)
+  | inr short ↦ (
+      let new_one : Stands [] old.holds = new_stands old.holds short in
+      let none : h ≡ [] = spells_one_history old.holds.journal h [] spelled loads new_one.spelled (legal_loads [] new_one.legal) in
+      let H : History → Type 0 = λ x. Spoils x new.holds.pages made.item damage in
+      absurd (none_spoiled new.holds.pages made.item damage (subst H none made.spoiled))
+      )
+]
+
+-- ---- where all the input is questions, the items up to the damage are the first of these
+
+pub stopped_among : (h : History) (pages : List ℕ) (old new : MachineState) (damage : Damage) (asked : List Item) → HasStopped h pages old new damage → Splits true old.source.left asked [] → All IsQuestion asked
+    → AreMadeUpTo h pages asked damage old.sink.shown new.sink.shown
+stopped_among h pages old new damage asked has split all =
+    let left = old.source.left in
+    let up_to = has.answered ++ has.item ∷ [] in
+    let behind = each_splits true has.rest in
+    let joined : Splits true left (up_to ++ behind.0) behind.1 = (items-join true left has.rest behind.1 up_to behind.0 has.read behind.2.0, behind.2.1) in
+    let is : asked ≡ has.answered ++ has.item ∷ behind.0 = (one_split true left asked (up_to ++ behind.0) [] behind.1 split joined).0 ∙ append_assoc has.answered (has.item ∷ []) behind.0 in
+    let A : List Item → Type 0 = λ l. All IsQuestion l in
+    let front = all_part has.answered (has.item ∷ behind.0) (subst A is all) in
+    record { answered = has.answered; item = has.item; behind = behind.0; asked_are = is; made = has.made front; spoiled = has.spoiled front }

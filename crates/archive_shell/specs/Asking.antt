@@ -1,16 +1,20 @@
 -- A run of questions alone while it goes on, whatever the disk holds.
-use Rattle.std.specs.Prelude.{◌≡◌, ℕ, true, List, [], ◌∷◌, All}
+use Rattle.std.specs.Prelude.{◌≡◌, ℕ, true, List, [], ◌∷◌, ◌++◌, All}
 use Rattle.machine_model.specs.States.{DiskState}
 use Rattle.commands.specs.declared.command.Item.{Item}
-use Rattle.script_read.specs.Items.{Splits}
+use Rattle.script_read.specs.Items.{Items, Splits}
 use Rattle.script_read.specs.Reading.{Held}
 use Rattle.archive_state.specs.Histories.{History}
 use Rattle.archive_state.specs.Replies.{reply_text}
 use Rattle.archive_state.specs.Steps.{Reply}
 use Rattle.archive_core.specs.States.{ArchiveState, StandsFor}
+use Rattle.sublist_store.specs.declared.why.Damage.{Damage}
+use Rattle.archive_shell.specs.Damages.{Spoils}
 use Rattle.archive_shell.specs.Headline.{MachineState}
 use Rattle.archive_shell.specs.Questions.{AreMade, IsMadeReply, IsQuestion}
 use Rattle.archive_shell.specs.Serving.{Pulling}
+use Rattle.archive_shell.specs.declared.status.Status.{Status}
+use Rattle.archive_shell.specs.declared.status.Status.TheVariants.{Done, Damaged}
 
 -- the page has the reply to a question, which was made from these pages
 pub record IsOnPage (history : History) (pages : List ℕ) (item : Item) (page : List ℕ) : Type 0 where
@@ -30,6 +34,7 @@ pub record AllAsked (history : History) (pages : List ℕ) (items : List Item) (
   pub pages_are : now.disk.holds.pages ≡ pages
   pub made : AreMade history pages items old.sink.shown now.sink.shown
 
+-- a run that goes on: the bytes pulled so far, and what is known where all their items were questions
 pub record Asking (history : History) (pages : List ℕ) (old now : MachineState) (archive : ArchiveState) (held : Held) : Type 0 where
   pub pulling : Pulling old.source now.source held
   pub all_asked : All IsQuestion pulling.items → AllAsked history pages pulling.items old now archive
@@ -39,3 +44,18 @@ pub record HasAsked (history : History) (pages : List ℕ) (old new : MachineSta
   pub items : List Item
   pub split : Splits true old.source.left items []
   pub made : All IsQuestion items → AreMade history pages items old.sink.shown new.sink.shown
+
+-- a run that was stopped by a damage: the items up to the one at which it was, and where all in front of it are questions, each of their replies
+-- was made so, and the damage is the first of what is read for it
+pub record HasStopped (history : History) (pages : List ℕ) (old new : MachineState) (damage : Damage) : Type 0 where
+  pub answered : List Item
+  pub item : Item
+  pub rest : List ℕ
+  pub read : Items true old.source.left (answered ++ item ∷ []) rest
+  pub made : All IsQuestion answered → AreMade history pages answered old.sink.shown new.sink.shown
+  pub spoiled : All IsQuestion answered → Spoils history pages item damage
+
+-- a run that ended, at the end of its input or at a damage
+pub record HasEnded (history : History) (pages : List ℕ) (status : Status) (old new : MachineState) : Type 0 where
+  pub done : status ≡ Done → HasAsked history pages old new
+  pub damaged : (damage : Damage) → status ≡ Damaged damage → HasStopped history pages old new damage

@@ -1,21 +1,44 @@
--- What a run shows that ends at a damaged sublist, whatever the disk holds.
-use Rattle.std.specs.Prelude.{List, ℕ, ◌++◌}
-use Rattle.machine_model.specs.States.{DiskState}
+-- What a run shows that ends at a damaged sublist, whatever the disk holds: which question it was, and what it read.
+use Rattle.std.specs.Prelude.{◌≡◌, ℕ, ◌+◌, Bool, List, ◌∷◌, ◌++◌}
+use Rattle.machine_model.specs.States.{DiskState, SourceState}
+use Rattle.commands.specs.declared.command.Command.TheVariants as commands
+use Rattle.commands.specs.declared.command.Item.{Item}
+use Rattle.commands.specs.declared.command.Item.TheVariants as items
 use Rattle.gate_journal.specs.Spelled.{Spells}
 use Rattle.record_codec.specs.declared.entry.Entry.{Entry}
+use Rattle.script_read.specs.Items.{Splits}
 use Rattle.sublist_store.specs.declared.why.Damage.{Damage}
-use Rattle.archive_state.specs.Chosen.{IsDamagedFor}
+use Rattle.archive_state.specs.Chosen.{SpoilsAnswer}
 use Rattle.archive_state.specs.Histories.{History}
 use Rattle.archive_state.specs.Stands.{bodies_of}
 
--- what is read of Pages for some word over some window shows that a live plan of the history is damaged
-abbrev pub IsShownOf : History → List ℕ → Damage → Type 0
-IsShownOf history pages damage = (word : List ℕ) × (a b : ℕ) × IsDamagedFor history pages word a b damage
+-- the item asks what is found, and this is the first that is damaged of what is read for it
+abbrev pub Spoils : History → List ℕ → Item → Damage → Type 0
+Spoils history pages (items.Command (commands.Find at expr)) damage = SpoilsAnswer history pages at.seconds (at.seconds + 1) expr damage
+Spoils history pages (items.Command (commands.Between span expr)) damage = SpoilsAnswer history pages span.from span.to expr damage
+Spoils history pages (items.Command (commands.Arrive doc at text)) damage = ⊥
+Spoils history pages (items.Command (commands.Delete doc at)) damage = ⊥
+Spoils history pages (items.Command (commands.Show doc at)) damage = ⊥
+Spoils history pages (items.Command (commands.Plan word kind fraction)) damage = ⊥
+Spoils history pages (items.Command (commands.Propose word fraction)) damage = ⊥
+Spoils history pages (items.Command (commands.Certificate word)) damage = ⊥
+Spoils history pages (items.Command commands.Verify) damage = ⊥
+Spoils history pages items.Line damage = ⊥
 
--- Reads of Pages give now, after the run, that a live plan is damaged: of the history for which the journal stood, with the entries that were
--- accepted since.
-pub record ShowsDamage (old new : DiskState) (damage : Damage) : Type 0 where
+-- The item is one of the bytes that were pulled since.
+pub record IsPulled (old new : SourceState) (item : Item) : Type 0 where
+  pub pulled : List ℕ
+  pub pulled_are : old.left ≡ pulled ++ new.left
+  pub ended : Bool
+  pub before : List Item
+  pub behind : List Item
+  pub rest : List ℕ
+  pub split : Splits ended pulled (before ++ item ∷ behind) rest
+
+-- Reads of Pages give now, after the run, that what is read for this item is damaged: by the history for which the journal stood, with the
+-- entries that were accepted since.
+pub record ShowsDamage (old new : DiskState) (item : Item) (damage : Damage) : Type 0 where
   pub loaded : History
   pub spelled : Spells old.holds.journal (bodies_of loaded)
   pub added : List Entry
-  pub shown : IsShownOf (loaded ++ added) new.holds.pages damage
+  pub shown : Spoils (loaded ++ added) new.holds.pages item damage

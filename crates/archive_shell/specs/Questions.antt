@@ -1,5 +1,5 @@
 -- What a run of questions alone shows, whatever the disk holds: replies that are made from the lists that are chosen, by what reads of Pages give.
-use Rattle.std.specs.Prelude.{◌≡◌, ℕ, List, ◌++◌}
+use Rattle.std.specs.Prelude.{◌≡◌, ℕ, List, ◌∷◌, ◌++◌}
 use Rattle.std.specs.List.{AllZip, flat_map}
 use Rattle.time_base.specs.declared.time.Span.{Span}
 use Rattle.time_base.specs.declared.time.Time.{Time}
@@ -13,6 +13,8 @@ use Rattle.archive_state.specs.Chosen.{IsMadeAt, IsMadeOver}
 use Rattle.archive_state.specs.Histories.{History}
 use Rattle.archive_state.specs.Replies.{reply_text}
 use Rattle.archive_state.specs.Steps.{Reply, Found, Spanned, IsReplied}
+use Rattle.sublist_store.specs.declared.why.Damage.{Damage}
+use Rattle.archive_shell.specs.Damages.{Spoils}
 
 -- what is found by a query at a time, by the lists that are chosen
 abbrev pub MakesAt : History → List ℕ → Time → Query → Reply → Type 0
@@ -53,3 +55,13 @@ pub record AreMade (history : History) (pages : List ℕ) (asked : List Item) (b
   pub replies : List Reply
   pub each : AllZip (IsMadeReply history pages) asked replies
   pub shown : after ≡ before ++ flat_map reply_text replies
+
+-- behind what was shown before, the replies to the first of these questions were shown, each made so; then this is the first damage of what is read
+-- for the next one
+pub record AreMadeUpTo (history : History) (pages : List ℕ) (asked : List Item) (damage : Damage) (before after : List ℕ) : Type 0 where
+  pub answered : List Item
+  pub item : Item
+  pub behind : List Item
+  pub asked_are : asked ≡ answered ++ item ∷ behind
+  pub made : AreMade history pages answered before after
+  pub spoiled : Spoils history pages item damage

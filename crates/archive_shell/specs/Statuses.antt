@@ -3,8 +3,8 @@ use Rattle.std.specs.Prelude.{ℕ, List, ◌++◌, codes}
 use Rattle.std.specs.Fmt.{decimal}
 use Rattle.script_read.specs.declared.error.ScriptError.{ScriptError}
 use Rattle.script_read.specs.declared.error.ScriptError.TheVariants as errors
-use Rattle.archive_core.specs.declared.error.LoadError.{LoadError}
-use Rattle.archive_core.specs.declared.error.LoadError.TheVariants as loads
+use Rattle.archive_replay.specs.declared.error.LoadError.{LoadError}
+use Rattle.archive_replay.specs.declared.error.LoadError.TheVariants as loads
 use Rattle.sublist_store.specs.declared.why.Why.{Why}
 use Rattle.sublist_store.specs.declared.why.Why.TheVariants.{Form, Digest, Astray, Clash, Bare}
 use Rattle.archive_shell.specs.declared.stop.Halt.{Halt}

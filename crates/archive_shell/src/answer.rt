@@ -8,7 +8,7 @@ ghost use Rattle.archive_core.specs.States.{IsKept, StandsFor};
 ghost use Rattle.archive_core.specs.Takes.{changed, declined, found, planned, proposed, shown, spanned, unchanged};
 ghost use Rattle.commands.specs.declared.command.Item.TheVariants as items;
 ghost use Rattle.commands.specs.declared.command.Command.TheVariants as plain;
-ghost use Rattle.archive_shell.specs.Damages.{IsShownOf};
+ghost use Rattle.archive_shell.specs.Damages.{Spoils};
 ghost use Rattle.machine_model.specs.Calls.{OnlyReads};
 ghost use Rattle.archive_shell.specs.Asking.{IsOnPage};
 ghost use Rattle.archive_shell.specs.Questions.{IsQuestion};
@@ -39,7 +39,7 @@ pub(crate) fn answer<D: Disk>(
     ensures disk_fault { IsErrOf result Halt.Disk → Rose (D.disk disk.old).faults (D.disk disk.new).faults }
     ensures ready { OnOk result (CanGoOn archive.new (D.disk disk.new).reach) }
     ensures follows { (h : History) → StandsFor archive.old h → OnOk result (GoesOnFrom h archive.new) }
-    ensures damaged { D.disk_tells → (h : History) → StandsFor archive.old h → (d : Damage) → IsErrOf result (Halt.Damaged d) → IsShownOf h (D.disk disk.new).holds.pages d }
+    ensures damaged { D.disk_tells → (h : History) → StandsFor archive.old h → (d : Damage) → IsErrOf result (Halt.Damaged d) → Spoils h (D.disk disk.old).holds.pages item d }
     // Whatever the disk holds, a question leaves it and the archive as they are, and its reply is made from the lists that are chosen.
     ensures still { IsQuestion item → OnlyReads (D.disk disk.old) (D.disk disk.new) × (archive.new ≡ archive.old) }
     ensures made { D.disk_tells → (h : History) → StandsFor archive.old h → IsQuestion item → OnOk result (IsOnPage h (D.disk disk.old).holds.pages item page.new.bytes) }
@@ -65,7 +65,7 @@ fn carry_out<D: Disk>(
     ensures disk_fault { IsErrOf result Halt.Disk → Rose (D.disk disk.old).faults (D.disk disk.new).faults }
     ensures ready { OnOk result (CanGoOn archive.new (D.disk disk.new).reach) }
     ensures follows { (h : History) → StandsFor archive.old h → OnOk result (GoesOnFrom h archive.new) }
-    ensures damaged { D.disk_tells → (h : History) → StandsFor archive.old h → (d : Damage) → IsErrOf result (Halt.Damaged d) → IsShownOf h (D.disk disk.new).holds.pages d }
+    ensures damaged { D.disk_tells → (h : History) → StandsFor archive.old h → (d : Damage) → IsErrOf result (Halt.Damaged d) → Spoils h (D.disk disk.old).holds.pages (items.Command command) d }
     // Whatever the disk holds, a question leaves it and the archive as they are, and its reply is made from the lists that are chosen.
     ensures still { IsQuestion (items.Command command) → OnlyReads (D.disk disk.old) (D.disk disk.new) × (archive.new ≡ archive.old) }
     ensures made { D.disk_tells → (h : History) → StandsFor archive.old h → IsQuestion (items.Command command) → OnOk result (IsOnPage h (D.disk disk.old).holds.pages (items.Command command) page.new.bytes) }

@@ -3,7 +3,7 @@ ghost use Rattle.std.specs.Prelude.{◌≡◌, ◌≤◌, [], OnOk, IsErrOf};
 ghost use Rattle.machine_model.specs.Causes.{Rose};
 ghost use Rattle.archive_state.specs.Histories.{History};
 ghost use Rattle.archive_core.specs.States.{IsKept, StandsFor};
-ghost use Rattle.archive_shell.specs.Damages.{IsShownOf};
+ghost use Rattle.archive_shell.specs.Damages.{Spoils};
 ghost use Rattle.archive_shell.specs.Asking.{IsAsked};
 ghost use Rattle.archive_shell.specs.Questions.{IsQuestion};
 ghost use Rattle.archive_shell.specs.Turns.{CanGoOn, CarriesOut, GoesOnFrom};
@@ -35,7 +35,8 @@ pub(crate) fn carry_out<M: Machine>(
     ensures sink_fault { IsErrOf result Stop.Sink → Rose (M.sink machine.old).faults (M.sink machine.new).faults }
     ensures ready { OnOk result (CanGoOn archive.new (M.disk machine.new).reach) }
     ensures follows { (h : History) → StandsFor archive.old h → OnOk result (GoesOnFrom h archive.new) }
-    ensures damaged { M.disk_tells → (h : History) → StandsFor archive.old h → (d : Damage) → IsErrOf result (Stop.Damaged d) → IsShownOf h (M.disk machine.new).holds.pages d }
+    ensures damaged { M.disk_tells → (h : History) → StandsFor archive.old h → (d : Damage) → IsErrOf result (Stop.Damaged d) →
+        Spoils h (M.disk machine.old).holds.pages item d × ((M.disk machine.new).holds.pages ≡ (M.disk machine.old).holds.pages) × (M.sink machine.new ≡ M.sink machine.old) }
     ensures question { M.disk_tells → M.sink_tells → (h : History) → StandsFor archive.old h → IsQuestion item →
         OnOk result (IsAsked h item (M.sink machine.old).shown (M.sink machine.new).shown (M.disk machine.old) (M.disk machine.new) archive.old archive.new) }
     ensures turn { M.disk_tells → M.sink_tells → (h : History) → IsKept (M.disk machine.old) archive.old h →

@@ -8,8 +8,8 @@ ghost use Rattle.archive_state.specs.Histories.{History};
 ghost use Rattle.archive_state.specs.Stands.{Stands, IsNotArchive, bodies_of};
 ghost use Rattle.gate_journal.specs.Spelled.{Spells};
 ghost use Rattle.commands.specs.declared.command.Item.{Item};
-ghost use Rattle.archive_shell.specs.Damages.{ShowsDamage};
-ghost use Rattle.archive_shell.specs.Questions.{AreMade, IsQuestion};
+ghost use Rattle.archive_shell.specs.Damages.{IsPulled, ShowsDamage};
+ghost use Rattle.archive_shell.specs.Questions.{AreMade, AreMadeUpTo, IsQuestion};
 ghost use Rattle.archive_shell.specs.Headline.{Headline, MachineState};
 
 use crate::desk::Desk;
@@ -47,13 +47,20 @@ pub fn run<M: Machine>(alloc: Global, words: &[String], machine: &mut M) -> Stat
     ensures not_archive { M.disk_tells → (at : ℕ) → result ≡ Status.NotArchive at → IsNotArchive (M.disk machine.old).holds at }
     ensures refused { M.disk_tells → length words.now ≡ 0 → (at : ℕ) → IsNotArchive (M.disk machine.old).holds at →
         (result ≡ Status.NotArchive at) ⊎ ((result ≡ Status.Disk) ⊎ (result ≡ Status.Memory)) }
-    // A damaged sublist is told only where reads of Pages show it, whatever the disk holds.
-    ensures damaged { M.disk_tells → (d : Damage) → result ≡ Status.Damaged d → ShowsDamage (M.disk machine.old) (M.disk machine.new) d }
+    // A damaged sublist is told only of a question of the input, and only where it is the first damage of what is read for that question, as
+    // reads of Pages show, whatever the disk holds.
+    ensures damaged { M.disk_tells → (d : Damage) → result ≡ Status.Damaged d → (item : Item) × ShowsDamage (M.disk machine.old) (M.disk machine.new) item d
+        × (M.source_tells → IsPulled (M.source machine.old) (M.source machine.new) item) }
     // Where the script is questions alone, and whatever the disk holds: each reply shown at status 0 is made from the lists that are chosen, by
     // the history for which the journal stands and by what reads of Pages gave at entry.
     ensures questions { M.source_tells → M.sink_tells → M.disk_tells → length words.now ≡ 0 → (asked : List Item) → Splits true (M.source machine.old).left asked [] →
         All IsQuestion asked → result ≡ Status.Done → (loaded : History) × Spells (M.disk machine.old).holds.journal (bodies_of loaded)
         × AreMade loaded (M.disk machine.old).holds.pages asked (M.sink machine.old).shown (M.sink machine.new).shown }
+    // And where such a script ends at a damaged sublist, the replies to the questions in front of one were shown, each made so, and the damage is
+    // the first of what is read for that one.
+    ensures stopped { M.source_tells → M.sink_tells → M.disk_tells → length words.now ≡ 0 → (asked : List Item) → Splits true (M.source machine.old).left asked [] →
+        All IsQuestion asked → (d : Damage) → result ≡ Status.Damaged d → (loaded : History) × Spells (M.disk machine.old).holds.journal (bodies_of loaded)
+        × AreMadeUpTo loaded (M.disk machine.old).holds.pages asked d (M.sink machine.old).shown (M.sink machine.new).shown }
     // Such bytes are left as they are: they are synced and read, and nothing is pulled, shown or written.
     ensures left_alone { M.disk_tells → length words.now ≡ 0 → (at : ℕ) → IsNotArchive (M.disk machine.old).holds at →
         (M.source machine.new ≡ M.source machine.old) × (M.sink machine.new ≡ M.sink machine.old)

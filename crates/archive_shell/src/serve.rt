@@ -3,12 +3,13 @@ ghost use Rattle.std.specs.Prelude.{◌≡◌, ◌<◌, ◌≤◌, ◌^◌, ◌+
 ghost use Rattle.machine_model.specs.Causes.{Rose};
 ghost use Rattle.machine_model.specs.Pulls.{Pull};
 ghost use Rattle.machine_model.specs.States.{SourceState};
+ghost use Rattle.commands.specs.declared.command.Item.{Item};
 ghost use Rattle.record_codec.specs.declared.entry.Entry.{Entry};
 ghost use Rattle.archive_state.specs.Histories.{History};
 ghost use Rattle.archive_core.specs.States.{StandsFor};
-ghost use Rattle.archive_shell.specs.Damages.{IsShownOf};
+ghost use Rattle.archive_shell.specs.Damages.{IsPulled, Spoils};
 ghost use Rattle.archive_shell.specs.Headline.{MachineState};
-ghost use Rattle.archive_shell.specs.Asking.{Asking, HasAsked};
+ghost use Rattle.archive_shell.specs.Asking.{Asking, HasEnded};
 ghost use Rattle.archive_shell.specs.Serving.{Pulling, Ends, Serving, Serves};
 ghost use Rattle.archive_shell.specs.Turns.{CanGoOn, GoesOnFrom};
 
@@ -40,7 +41,9 @@ pub(crate) fn step<M: Machine>(
     ensures no_load { (at : ℕ) → IsErrOf result (Status.NotArchive at) → ⊥ }
     ensures ready { OnOk result (CanGoOn archive.new (M.disk machine.new).reach) }
     ensures follows { (h : History) → StandsFor archive.old h → OnOk result (GoesOnFrom h archive.new) }
-    ensures damaged { M.disk_tells → (h : History) → StandsFor archive.old h → (d : Damage) → IsErrOf result (Status.Damaged d) → IsShownOf h (M.disk machine.new).holds.pages d }
+    ensures damaged { M.disk_tells → (h : History) → StandsFor archive.old h → (d : Damage) → IsErrOf result (Status.Damaged d) →
+        (item : Item) × Spoils h (M.disk machine.new).holds.pages item d
+        × (M.source_tells → (began : SourceState) → Pulling began (M.source machine.old) reader.old → IsPulled began (M.source machine.new) item) }
     ensures nearer { OnOk result (reader.old.passed < reader.new.passed) }
     ensures bound { reader.new.passed ≤ 2 ^ 40 }
     ensures pulls { M.source_tells → (began : SourceState) → Pulling began (M.source machine.old) reader.old →
@@ -53,7 +56,7 @@ pub(crate) fn step<M: Machine>(
     ensures asks { M.source_tells → M.sink_tells → M.disk_tells → (h : History) (pages : List ℕ) (began : MachineState) →
         Asking h pages began (record { source = M.source machine.old; sink = M.sink machine.old; disk = M.disk machine.old }) archive.old reader.old → MatchResult result
         (λ _. Asking h pages began (record { source = M.source machine.new; sink = M.sink machine.new; disk = M.disk machine.new }) archive.new reader.new)
-        (λ status. status ≡ Status.Done → HasAsked h pages began (record { source = M.source machine.new; sink = M.sink machine.new; disk = M.disk machine.new })) }
+        (λ status. HasEnded h pages status began (record { source = M.source machine.new; sink = M.sink machine.new; disk = M.disk machine.new })) }
 {
     let item = match reader.next_item(alloc, machine) {
         Ok(item) => item,
@@ -84,7 +87,8 @@ pub(crate) fn serve<M: Machine>(
     ensures no_usage { result ≡ Status.Usage → ⊥ }
     ensures no_load { (at : ℕ) → result ≡ Status.NotArchive at → ⊥ }
     ensures damaged { M.disk_tells → (h : History) → StandsFor archive.old h → (d : Damage) → result ≡ Status.Damaged d →
-        (more : List Entry) × IsShownOf (h ++ more) (M.disk machine.new).holds.pages d }
+        (item : Item) × ((more : List Entry) × Spoils (h ++ more) (M.disk machine.new).holds.pages item d)
+        × (M.source_tells → Pulling (M.source machine.old) (M.source machine.old) reader.old → IsPulled (M.source machine.old) (M.source machine.new) item) }
     ensures ends { M.source_tells → Pulling (M.source machine.old) (M.source machine.old) reader.old → Ends result (M.source machine.old) (M.source machine.new) }
     ensures served { M.source_tells → M.sink_tells → M.disk_tells → (h : History) →
         Serving h (record { source = M.source machine.old; sink = M.sink machine.old; disk = M.disk machine.old })
@@ -94,8 +98,8 @@ pub(crate) fn serve<M: Machine>(
         (record { source = M.source machine.new; sink = M.sink machine.new; disk = M.disk machine.new }) pulls }
     ensures asks { M.source_tells → M.sink_tells → M.disk_tells → (h : History) (pages : List ℕ) →
         Asking h pages (record { source = M.source machine.old; sink = M.sink machine.old; disk = M.disk machine.old })
-        (record { source = M.source machine.old; sink = M.sink machine.old; disk = M.disk machine.old }) archive.old reader.old → result ≡ Status.Done →
-        HasAsked h pages (record { source = M.source machine.old; sink = M.sink machine.old; disk = M.disk machine.old })
+        (record { source = M.source machine.old; sink = M.sink machine.old; disk = M.disk machine.old }) archive.old reader.old →
+        HasEnded h pages result (record { source = M.source machine.old; sink = M.sink machine.old; disk = M.disk machine.old })
         (record { source = M.source machine.new; sink = M.sink machine.new; disk = M.disk machine.new }) }
 {
     'items: loop {

@@ -1,8 +1,9 @@
 -- What is chosen from pages that hold the live plans tells what the history's texts do, and so the answer that is made from it is the history's.
-use Rattle.std.proofs.Common.{◌≡◌, ℕ, zero, suc, ◌+◌, ◌-◌, ◌^◌, ◌<◌, ◌≤◌, ◌==◌, Bool, true, false, cond, ◌&&◌, if◌then◌else◌, nat_lt, bytes_eq, List, [], ◌∷◌, ◌++◌, length, filter, get_or, Option, Some, None, Ok, Err, IsSome, is_some, inl, inr, refl, ap, sym, subst, ◌∙◌, arith}
+use Rattle.std.proofs.Common.{◌≡◌, ℕ, zero, suc, ◌+◌, ◌-◌, ◌^◌, ◌<◌, ◌≤◌, ◌==◌, Bool, true, false, cond, ◌&&◌, if◌then◌else◌, nat_lt, bytes_eq, List, [], ◌∷◌, ◌++◌, length, filter, get_or, All, Option, Some, None, Ok, Err, IsSome, is_some, inl, inr, refl, ap, sym, subst, ◌∙◌, arith}
 use Rattle.std.specs.Cmp.Lexicographic.{bytes_decides}
 use Rattle.std.proofs.lemmas.Bool.{cases_lt}
 use Rattle.std.proofs.lemmas.Bool.Decides.{nat_tests}
+use Rattle.std.proofs.lemmas.List.Elements.{All-head, All-tail}
 use Rattle.std.proofs.lemmas.List.Sums.{sum_by-cons}
 use Rattle.time_base.specs.declared.ids.DocId.{DocId}
 use Rattle.time_base.specs.declared.posting.Posting.{Posting}
@@ -26,13 +27,14 @@ use Rattle.sublist_store.specs.Laws.{IsGathered}
 use Rattle.sublist_store.proofs.HeldLemmas.{held_gathered}
 use Rattle.archive_state.specs.Histories.{History, text_at}
 use Rattle.archive_state.specs.Answers.{frequency_at, IsWordList}
-use Rattle.archive_state.specs.Bounds.{MadeAtStands, MadeOverStands, HeldIsUndamaged}
+use Rattle.archive_state.specs.Bounds.{MadeAtStands, MadeOverStands, HeldIsUndamaged, UnplannedHitsAreAlive}
 use Rattle.archive_state.specs.Chosen.{tail_for, IsReadOf, IsReadFor, GathersOf, IsChosenOf, AreChosen}
 use Rattle.archive_state.specs.Holding.{HoldsPlan, HoldsPlans}
 use Rattle.archive_state.specs.Legal.{IsLoadable}
 use Rattle.archive_state.specs.Planning.{IsListUpTo}
 use Rattle.archive_state.specs.Plans.{plan_of}
 use Rattle.archive_state.proofs.BoundLemmas.{of_word, word_has, word_planned, are_cuts}
+use Rattle.archive_state.proofs.TurnLemmas.{has_word}
 
 -- ---- parts of a list
 
@@ -162,24 +164,59 @@ word_chosen h pages word a b list read now loads held_all = go (plan_of h word) 
 
 -- ---- the words of a query
 
-module _ (h : History) (pages : List ℕ) (a b : ℕ) (now : b ≤ 2 ^ 40) (loads : IsLoadable h) (held_all : HoldsPlans h pages) where
-  -- the parts tell how often a document has each of the words
-  chosen_told : (words : List (List ℕ)) (parts : List Part) (doc : DocId) (t k : ℕ) (d : List ℕ) → a ≤ t → t < b → AreChosen h pages a b words parts → k < length words
+module _ (h : History) (a b : ℕ) where
+  -- each part tells its word
+  abbrev AllTell : List (List ℕ) → List Part → Type 0
+  AllTell [] [] = Unit {0}
+  AllTell (word ∷ words) (part ∷ parts) = Tells h word a b part.list.items × AllTell words parts
+  AllTell [] (part ∷ parts) = ⊥
+  AllTell (word ∷ words) [] = ⊥
+
+  -- so the parts tell how often a document has each of the words
+  told_by : (words : List (List ℕ)) (parts : List Part) (doc : DocId) (t k : ℕ) (d : List ℕ) → a ≤ t → t < b → AllTell words parts → k < length words
       → told words parts t doc.0 (get_or words k d) ≡ frequency_at h (get_or words k d) doc t
-  chosen_told [] parts doc t k d from to are within = absurd (omega (arith, within))
-  chosen_told (word ∷ words) [] doc t k d from to are within = absurd are
-  chosen_told (word ∷ words) (part ∷ parts) doc t zero d from to are within =
-      ap (λ c. cond c (frequency doc.0 t part.list.items) (told words parts t doc.0 word)) (itself word)
-      ∙ (word_chosen h pages word a b part.list.items part.read now loads held_all are.0).0 doc t from to
-  chosen_told (word ∷ words) (part ∷ parts) doc t (suc k) d from to are within =
-      go (bytes_eq word (get_or words k d)) refl (chosen_told words parts doc t k d from to are.1 (omega (arith, within)))
+  told_by [] parts doc t k d from to tell within = absurd (omega (arith, within))
+  told_by (word ∷ words) [] doc t k d from to tell within = absurd tell
+  told_by (word ∷ words) (part ∷ parts) doc t zero d from to tell within =
+      ap (λ c. cond c (frequency doc.0 t part.list.items) (told words parts t doc.0 word)) (itself word) ∙ tell.0 doc t from to
+  told_by (word ∷ words) (part ∷ parts) doc t (suc k) d from to tell within =
+      go (bytes_eq word (get_or words k d)) refl (told_by words parts doc t k d from to tell.1 (omega (arith, within)))
     where
       go : (c : Bool) → bytes_eq word (get_or words k d) ≡ c → told words parts t doc.0 (get_or words k d) ≡ frequency_at h (get_or words k d) doc t
           → cond c (frequency doc.0 t part.list.items) (told words parts t doc.0 (get_or words k d)) ≡ frequency_at h (get_or words k d) doc t
-      go true e rest =
-          (word_chosen h pages word a b part.list.items part.read now loads held_all are.0).0 doc t from to
-          ∙ ap (λ (w : List ℕ). frequency_at h w doc t) ((bytes_decides word (get_or words k d)).0 e)
+      go true e rest = tell.0 doc t from to ∙ ap (λ (w : List ℕ). frequency_at h w doc t) ((bytes_decides word (get_or words k d)).0 e)
       go false e rest = rest
+
+  -- the whole lists of words without plans do, whatever is in Pages
+  unplanned_tell : (pages : List ℕ) (words : List (List ℕ)) (parts : List Part) → b ≤ 2 ^ 40 → All (λ word. plan_of h word ≡ None) words → AreChosen h pages a b words parts → AllTell words parts
+  unplanned_tell pages [] [] now none are = tt
+  unplanned_tell pages [] (part ∷ parts) now none are = absurd are
+  unplanned_tell pages (word ∷ words) [] now none are = absurd are
+  unplanned_tell pages (word ∷ words) (part ∷ parts) now none are =
+      let N : List ℕ → Type 0 = λ w. plan_of h w ≡ None in
+      let C : Option PlanEntry → Type 0 = λ o. IsChosenOf h pages word o a b part.list.items part.read in
+      let (whole, all, is, size) = subst C (All-head N word words none) are.0 in (
+        λ doc t from to. ap (frequency doc.0 t) is ∙ part_tells a b doc.0 t whole from to ∙ all.same doc.0 t (omega arith) (omega (arith, to, now)),
+        unplanned_tell pages words parts now (All-tail N word words none) are.1,
+      )
+
+pub unplanned_alive : UnplannedHitsAreAlive
+unplanned_alive h pages t words parts doc now none are hit =
+    let word = get_or words hit.place [] in
+    let tell = unplanned_tell h t (t + 1) pages words parts (omega (arith, now)) none are in
+    has_word word (text_at h doc t) (omega (arith, hit.some, told_by h t (t + 1) words parts doc t hit.place [] (omega arith) (omega arith) tell hit.within))
+
+module _ (h : History) (pages : List ℕ) (a b : ℕ) (now : b ≤ 2 ^ 40) (loads : IsLoadable h) (held_all : HoldsPlans h pages) where
+  -- what is chosen from pages that hold the live plans does
+  held_tell : (words : List (List ℕ)) (parts : List Part) → AreChosen h pages a b words parts → AllTell h a b words parts
+  held_tell [] [] are = tt
+  held_tell [] (part ∷ parts) are = absurd are
+  held_tell (word ∷ words) [] are = absurd are
+  held_tell (word ∷ words) (part ∷ parts) are = ((word_chosen h pages word a b part.list.items part.read now loads held_all are.0).0, held_tell words parts are.1)
+
+  chosen_told : (words : List (List ℕ)) (parts : List Part) (doc : DocId) (t k : ℕ) (d : List ℕ) → a ≤ t → t < b → AreChosen h pages a b words parts → k < length words
+      → told words parts t doc.0 (get_or words k d) ≡ frequency_at h (get_or words k d) doc t
+  chosen_told words parts doc t k d from to are within = told_by h a b words parts doc t k d from to (held_tell words parts are) within
 
   chosen_read : (words : List (List ℕ)) (parts : List Part) → AreChosen h pages a b words parts → IsReadFor h a b words (read_of parts)
   chosen_read [] [] are = refl

@@ -1,5 +1,6 @@
 -- What follows from the definitions: a planned question is bounded, and what is chosen from pages that hold the live plans is the history's.
-use Rattle.std.specs.Prelude.{◌≡◌, ℕ, ◌+◌, ◌*◌, ◌^◌, ◌<◌, ◌≤◌, List, Some}
+use Rattle.std.specs.Prelude.{◌≡◌, ℕ, ◌+◌, ◌*◌, ◌^◌, ◌<◌, ◌≤◌, List, Some, None, All, IsSome}
+use Rattle.time_base.specs.declared.ids.DocId.{DocId}
 use Rattle.time_base.specs.declared.posting.Posting.{Posting}
 use Rattle.postings.specs.Sizes.{alive_count}
 use Rattle.record_codec.specs.declared.plan.PlanEntry.{PlanEntry}
@@ -7,11 +8,13 @@ use Rattle.sublist_store.specs.Segments.{next_cut, seconds}
 use Rattle.sublist_store.specs.declared.why.Damage.{Damage}
 use Rattle.query_lang.specs.Grammar.{Query}
 use Rattle.query_lang.specs.Meaning.{words_of}
+use Rattle.query_eval.specs.Found.{HasHit}
 use Rattle.query_eval.specs.declared.answer.Row.{Row}
+use Rattle.query_eval.specs.declared.part.Part.{Part}
 use Rattle.query_eval.specs.declared.spans.SpanRow.{SpanRow}
-use Rattle.archive_state.specs.Histories.{History}
+use Rattle.archive_state.specs.Histories.{History, text_at}
 use Rattle.archive_state.specs.Answers.{IsAnswerAt, IsSpanAnswerAt, IsWordList}
-use Rattle.archive_state.specs.Chosen.{IsReadOf, IsReadFor, IsMadeAt, IsMadeOver, IsDamagedFor}
+use Rattle.archive_state.specs.Chosen.{AreChosen, IsReadOf, IsReadFor, IsMadeAt, IsMadeOver, IsDamagedFor}
 use Rattle.archive_state.specs.Holding.{HoldsPlans}
 use Rattle.archive_state.specs.Legal.{IsLoadable}
 use Rattle.archive_state.specs.Plans.{plan_of}
@@ -39,3 +42,9 @@ MadeOverStands =
 abbrev pub HeldIsUndamaged : Type 0
 HeldIsUndamaged =
     (h : History) (pages : List ℕ) (word : List ℕ) (a b : ℕ) (damage : Damage) → IsLoadable h → HoldsPlans h pages → IsDamagedFor h pages word a b damage → ⊥
+
+-- Whatever is in Pages: a document that has one of some words without plans at a time, by what is chosen of them, is alive then.
+abbrev pub UnplannedHitsAreAlive : Type 0
+UnplannedHitsAreAlive =
+    (h : History) (pages : List ℕ) (t : ℕ) (words : List (List ℕ)) (parts : List Part) (doc : DocId) → t < 2 ^ 40 → All (λ word. plan_of h word ≡ None) words
+    → AreChosen h pages t (t + 1) words parts → HasHit words parts t doc → IsSome (text_at h doc t)

@@ -8,8 +8,9 @@ use Rattle.record_codec.specs.declared.plan.PlanEntry.{PlanEntry}
 use Rattle.sublist_store.specs.Segments.{seconds}
 use Rattle.sublist_store.specs.Gathering.{Outcome, Gathers, chosen, stored_size, bytes_of_all}
 use Rattle.sublist_store.specs.declared.why.Damage.{Damage}
-use Rattle.query_lang.specs.Grammar.{Query}
+use Rattle.query_lang.specs.Grammar.{Query, IsRead}
 use Rattle.query_lang.specs.Meaning.{words_of}
+use Rattle.query_lang.specs.Tokens.{key_of}
 use Rattle.query_eval.specs.Answers.{IsAnswer}
 use Rattle.query_eval.specs.Asked.{read_of}
 use Rattle.query_eval.specs.Found.{told}
@@ -69,6 +70,22 @@ pub record IsDamagedFor (history : History) (pages : List ℕ) (word : List ℕ)
   pub plan : PlanEntry
   pub live : plan_of history word ≡ Some plan
   pub shown : GathersOf pages plan a b (Err damage)
+
+-- this is the first that is damaged of what is read for some words over [a, b), in their order: of those in front all is chosen
+pub record IsFirstDamage (history : History) (pages : List ℕ) (a b : ℕ) (words : List (List ℕ)) (damage : Damage) : Type 0 where
+  pub front : List (List ℕ)
+  pub word : List ℕ
+  pub back : List (List ℕ)
+  pub words_are : words ≡ front ++ word ∷ back
+  pub parts : List Part
+  pub are_chosen : AreChosen history pages a b front parts
+  pub shown : IsDamagedFor history pages word a b damage
+
+-- the phrase is a query, and this is the first that is damaged of what is read for its words over [a, b)
+pub record SpoilsAnswer (history : History) (pages : List ℕ) (a b : ℕ) (phrase : List ℕ) (damage : Damage) : Type 0 where
+  pub query : Query
+  pub is_read : IsRead key_of phrase (Ok query)
+  pub first : IsFirstDamage history pages a b (words_of query) damage
 
 -- how many bytes of Pages are read of a word for [a, b), by its live plan if it has one: those of the places that are chosen
 abbrev pub bytes_chosen : Option PlanEntry → ℕ → ℕ → ℕ

@@ -11,7 +11,7 @@ ghost use Rattle.archive_state.specs.Choices.{IsChoice, IsStoring, SameButSegmen
 ghost use Rattle.archive_state.specs.Steps.{Reply, Planned, Summary, Step};
 ghost use Rattle.archive_state.specs.Runs.{Turn};
 ghost use Rattle.archive_state.specs.Stands.{Stands, IsNotArchive, bodies_of};
-ghost use Rattle.archive_state.specs.Bounds.{PlannedReadsAreBounded, MadeAtStands, MadeOverStands, HeldIsUndamaged};
+ghost use Rattle.archive_state.specs.Bounds.{PlannedReadsAreBounded, MadeAtStands, MadeOverStands, HeldIsUndamaged, UnplannedHitsAreAlive};
 
 /// A history is legal exactly where each of its entries is legal after those before it, and a load
 /// accepts each legal history. A history's journal ends with one byte behind its records, the closed
@@ -57,9 +57,11 @@ pub fn planned_reads_are_bounded()
 {}
 
 /// In pages that hold the live plans nothing is damaged, and what is made from them is the answer
-/// that the history gives, at its cost. Does nothing.
+/// that the history gives, at its cost. What is told of words without plans, whatever the pages hold,
+/// is told of documents that are alive. Does nothing.
 pub fn what_is_made_of_held_pages_stands()
     ensures at { MadeAtStands }
     ensures over { MadeOverStands }
     ensures undamaged { HeldIsUndamaged }
+    ensures alive { UnplannedHitsAreAlive }
 {}

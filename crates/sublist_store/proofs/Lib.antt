@@ -6,3 +6,4 @@ pub mod HoldLemmas
 pub mod UnionLemmas
 pub mod OutcomeLemmas
 pub mod HeldLemmas
+pub mod SpellLemmas

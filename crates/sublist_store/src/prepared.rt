@@ -53,8 +53,9 @@ impl Prepared {
 
 impl Sublists {
     /// Spells the sublist of each segment and takes its pages, in the order of the segments. The cuts
-    /// are the left ends of the segments, and the horizon is the end of the last. It costs a pass over
-    /// the list for each segment, and the digests of all bytes.
+    /// are the left ends of the segments, and the horizon is the end of the last. It costs passes over
+    /// the list, and for each halving of the segments passes over the postings of all sublists at most;
+    /// and the digests of all bytes. Beside the bytes it holds as many postings as the list has, at most.
     pub fn prepare(
         &mut self,
         alloc: Global,

@@ -1,26 +1,16 @@
 //! The program `tt_archive`: one run of the archive on the files of the working folder.
 //!
 //! It opens `archive.journal` and `archive.pages`, makes a machine of them and of the standard
-//! streams, and calls `archive_shell::run` on it. What it promises is that call's contract. Here
-//! stand only the machine (`FileMachine`), which tells its lengths and its faults and no content,
-//! and the words, the status line and the exit status.
+//! streams (`machine_files::open_machine`), and calls `archive_shell::run` on it. What it promises
+//! is that call's contract. Here stand only the words, the status line and the exit status.
 #![tactic(auto)]
 
 ghost use Rattle.std.specs.Prelude.{◌≡◌};
 ghost use Rattle.std.specs.Process.{exit_status};
 ghost use Rattle.archive_shell.specs.Statuses.{code_of};
 
-mod area_file;
-mod calls;
-mod disk;
-mod fault_count;
-mod machine;
-mod sink;
-mod source;
-mod store;
-
 use archive_shell::{Status, are_refused, run};
-use machine::open_machine;
+use machine_files::open_machine;
 use std::env::Env;
 use std::fs::Files;
 use std::io;

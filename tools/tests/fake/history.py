@@ -2,13 +2,12 @@
 
 from __future__ import annotations
 
-import json
 from bisect import bisect_right
 from collections import Counter
 from dataclasses import dataclass
 from pathlib import Path
 
-from .planning import Plan, Posting, Table
+from .planning import GUARANTEE, Plan, Posting, Stored, Table
 from .words import BadQuery, Query, one_term, parse, terms
 
 NOW = 1 << 40
@@ -34,11 +33,10 @@ class History:
 
     def __init__(self, folder: Path) -> None:
         self._path = folder / "archive.journal"
-        self._plans_path = folder / "fake.plans"
         self._versions: dict[int, list[Version]] = {}
         self._last: int | None = None
         self._length = 0
-        self._plans: dict[str, dict] = {}
+        self._plans: dict[str, Stored] = {}
         self._lists: dict[str, list[Posting]] = {}
         if not self._path.exists():
             self._path.write_bytes(HEADER + b"\0")
@@ -53,7 +51,7 @@ class History:
             raise Refusal(f"6 BadText {error.start}") from None
         self._in_time(time)
         self._other_time(doc, time)
-        self._append(1, doc, time, text)
+        self._append(_change(1, doc, time) + text)
         return [f"ok {self._length}"]
 
     def delete(self, doc: int, time: int) -> list[str]:
@@ -61,7 +59,7 @@ class History:
         if doc not in self._versions or self._versions[doc][-1].text is None:
             raise Refusal("4 NoDocument")
         self._other_time(doc, time)
-        self._append(2, doc, time, b"")
+        self._append(_change(2, doc, time))
         return [f"ok {self._length}"]
 
     def show(self, doc: int, time: int) -> bytes | None:
@@ -94,17 +92,15 @@ class History:
         read = sum(self._read_between(word, start, end) for word in query.words)
         return [*(f"span {d} {a} {b} {s}" for d, a, b, s in rows), f"end {len(rows)} read {read}"]
 
-    def plan(self, word: str, kind: str, factor: tuple[int, int], since: int) -> list[str]:
+    def plan(self, word: str, kind: int, factor: tuple[int, int], since: int) -> list[str]:
         key, table = self._table(word)
         cost = ""
-        if kind == "guarantee":
+        if kind == GUARANTEE:
             plan, _ = table.least(*factor)
         else:
             plan, expected = table.bounded(*factor, since)
             cost = f" cost {expected}"
-        self._plans[key] = {"kind": kind, "cuts": plan.cuts, "sizes": plan.sizes, "factor": factor}
-        self._length += 1
-        self._plans_path.write_text(json.dumps(self._plans))
+        self._append(Stored(key, kind, since, factor, plan).encode())
         return [
             f"plan {self._length} segments {len(plan.sizes)} space {plan.space} full {table.full} horizon {self._last}{cost}"
         ]
@@ -116,14 +112,14 @@ class History:
     def certificate(self, word: str) -> list[str]:
         key = self._known(word)
         stored = self._plans.get(key)
-        if stored is None or stored["kind"] != "guarantee":
+        if stored is None or stored.kind != GUARANTEE:
             raise Refusal("14 NoPlan")
-        plan = Plan(tuple(stored["cuts"]), tuple(stored["sizes"]))
+        plan = stored.plan
         table = Table(_clipped(self._list(key), 0, plan.cuts[-1]), plan.cuts[-1])
-        return _pieces(table, plan, table.least(*stored["factor"])[1])
+        return _pieces(table, plan, table.least(*stored.factor)[1])
 
     def verify(self) -> list[str]:
-        return [f"sound {len(self._plans)} {sum(len(plan['sizes']) for plan in self._plans.values())}"]
+        return [f"sound {len(self._plans)} {sum(len(stored.plan.sizes) for stored in self._plans.values())}"]
 
     def _in_time(self, time: int) -> None:
         if self._last is not None and time < self._last:
@@ -198,21 +194,25 @@ class History:
 
     def _stored(self, key: str) -> Plan | None:
         stored = self._plans.get(key)
-        return Plan(tuple(stored["cuts"]), tuple(stored["sizes"])) if stored else None
+        return stored.plan if stored else None
 
-    def _append(self, tag: int, doc: int, time: int, text: bytes) -> None:
-        body = bytes([tag]) + doc.to_bytes(4, "big") + time.to_bytes(8, "big") + text
+    def _append(self, body: bytes) -> None:
         with open(self._path, "r+b") as file:
             gate = file.seek(0, 2) - 1
             file.seek(gate)
             file.write(b"\xa5" + len(body).to_bytes(4, "big") + body + b"\0")
-        self._note(tag, doc, time, text)
+        self._note(body)
 
-    def _note(self, tag: int, doc: int, time: int, text: bytes) -> None:
-        version = Version(time, text, terms(text.decode())) if tag == 1 else Version(time, None, Counter())
+    def _note(self, body: bytes) -> None:
+        self._length += 1
+        if body[0] == 3:
+            stored = Stored.decode(body)
+            self._plans[stored.key] = stored
+            return
+        doc, time, text = int.from_bytes(body[1:5], "big"), int.from_bytes(body[5:13], "big"), body[13:]
+        version = Version(time, text, terms(text.decode())) if body[0] == 1 else Version(time, None, Counter())
         self._versions.setdefault(doc, []).append(version)
         self._last = time
-        self._length += 1
         self._lists.clear()
 
     def _load(self) -> None:
@@ -220,12 +220,12 @@ class History:
         gate = len(HEADER)
         while data[gate] == 0xA5:
             size = int.from_bytes(data[gate + 1 : gate + 5], "big")
-            body = data[gate + 5 : gate + 5 + size]
-            self._note(body[0], int.from_bytes(body[1:5], "big"), int.from_bytes(body[5:13], "big"), body[13:])
+            self._note(data[gate + 5 : gate + 5 + size])
             gate += 5 + size
-        if self._plans_path.exists():
-            self._plans = json.loads(self._plans_path.read_text())
-            self._length += len(self._plans)
+
+
+def _change(tag: int, doc: int, time: int) -> bytes:
+    return bytes([tag]) + doc.to_bytes(4, "big") + time.to_bytes(8, "big")
 
 
 def _clipped(postings: list[Posting], start: int, end: int) -> list[Posting]:

@@ -2,11 +2,16 @@
 
 from __future__ import annotations
 
+import struct
 from bisect import bisect_left, bisect_right
 from dataclasses import dataclass
 
 #: A posting: document, count, from, to.
 Posting = tuple[int, int, int, int]
+#: A posting's bytes in a flat sublist.
+POSTING = 24
+GUARANTEE, UNIFORM, SINCE = 1, 2, 3
+_SEGMENT = struct.Struct(">QIQ32x")
 
 
 @dataclass(frozen=True)
@@ -28,6 +33,35 @@ class Plan:
     def read_between(self, start: int, end: int) -> int:
         pairs = zip(self.cuts, self.cuts[1:], self.sizes)
         return sum(size for left, right, size in pairs if left < end and start < right)
+
+
+@dataclass(frozen=True)
+class Stored:
+    """A plan's entry, whose sublists are counted and lie nowhere."""
+
+    key: str
+    kind: int
+    since: int
+    factor: tuple[int, int]
+    plan: Plan
+
+    def encode(self) -> bytes:
+        since = struct.pack(">Q", self.since) if self.kind == SINCE else b""
+        word = self.key.encode()
+        head = struct.pack(">IIQB", *self.factor, self.plan.cuts[-1], len(word))
+        segments = b"".join(_SEGMENT.pack(cut, 0, POSTING * size) for cut, size in zip(self.plan.cuts, self.plan.sizes))
+        return bytes([3, 1, self.kind]) + since + head + word + struct.pack(">I", len(self.plan.sizes)) + segments
+
+    @staticmethod
+    def decode(body: bytes) -> Stored:
+        kind, at = body[2], 11 if body[2] == SINCE else 3
+        over, under, horizon, length = struct.unpack_from(">IIQB", body, at)
+        since = int.from_bytes(body[3:at], "big")
+        end = at + 17 + length
+        segments = list(_SEGMENT.iter_unpack(body[end + 4 :]))
+        cuts = (*(cut for cut, _, _ in segments), horizon)
+        sizes = tuple(size // POSTING for _, _, size in segments)
+        return Stored(body[at + 17 : end].decode(), kind, since, (over, under), Plan(cuts, sizes))
 
 
 class Table:

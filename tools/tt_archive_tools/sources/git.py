@@ -103,6 +103,8 @@ class GitSource:
             raise InputError(str(self.repository), "git isn't installed: install the package git") from None
         if done.returncode != 0:
             said = done.stderr.decode("utf-8", "replace").strip().splitlines() or ["git failed"]
+            if any("bad revision" in line for line in said):
+                raise InputError(str(self.repository), f"there is no commit {self.branch}")
             raise InputError(str(self.repository), next((line for line in said if line.startswith("fatal:")), said[-1]))
         return done.stdout.decode("utf-8", "replace")
 

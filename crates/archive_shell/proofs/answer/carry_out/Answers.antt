@@ -1,4 +1,4 @@
-use Rattle.std.proofs.Common.{◌+◌, OnOk, refl, sym, subst}
+use Rattle.std.proofs.Common.{OnOk, refl, sym, subst}
 use Rattle.commands.specs.declared.command.Command.{Command}
 use Rattle.commands.specs.declared.command.Command.TheVariants as plain
 use Rattle.commands.specs.declared.command.Item.TheVariants as items
@@ -6,7 +6,7 @@ use Rattle.archive_state.specs.declared.refusal.Refusal.TheVariants as refusals
 use Rattle.archive_core.specs.Takes.{changed, found, proposed, shown, spanned}
 use Rattle.archive_shell.specs.Turns.{Answers}
 use Rattle.archive_shell.specs.Asking.{IsOnPage}
-use Rattle.archive_shell.proofs.DamageLemmas.{shown_still}
+use Rattle.archive_shell.specs.Damages.{Spoils}
 use Rattle.archive_shell.proofs.QuestionLemmas.{made_find, made_between}
 use Rattle.archive_shell.proofs.TurnLemmas.{answers_by, refused_by}
 use Rattle.archive_shell.proofs.answer.carry_out.Goals as goal
@@ -54,13 +54,13 @@ returns-in-Verify-clause-turn g c = λ tells h kept.
 
 pub returns-in-Find-clause-damaged : goal.returns-in-Find-clause-damaged
 returns-in-Find-clause-damaged g c = λ tells h stands d is.
-    let shown = c.find-result.ensures.damaged tells h stands d (c.write_found.ensures.damage d is) in
-    shown_still h shown.0 c.in-Find.at.seconds (c.in-Find.at.seconds + 1) (g.D.Disk.disk c.args.disk.now) (g.D.Disk.disk c.find-result.new.disk) d c.find-result.ensures.same shown.1
+    let C : Command → Type 0 = λ x. Spoils h (g.D.Disk.disk c.args.disk.now).holds.pages (items.Command x) d in
+    subst C (sym c.in-Find.is) (c.find-result.ensures.damaged tells h stands d (c.write_found.ensures.damage d is))
 
 pub returns-in-Between-clause-damaged : goal.returns-in-Between-clause-damaged
 returns-in-Between-clause-damaged g c = λ tells h stands d is.
-    let shown = c.between-result.ensures.damaged tells h stands d (c.write_spanned.ensures.damage d is) in
-    shown_still h shown.0 c.in-Between.span.from c.in-Between.span.to (g.D.Disk.disk c.args.disk.now) (g.D.Disk.disk c.between-result.new.disk) d c.between-result.ensures.same shown.1
+    let C : Command → Type 0 = λ x. Spoils h (g.D.Disk.disk c.args.disk.now).holds.pages (items.Command x) d in
+    subst C (sym c.in-Between.is) (c.between-result.ensures.damaged tells h stands d (c.write_spanned.ensures.damage d is))
 
 pub returns-in-Find-clause-made : goal.returns-in-Find-clause-made
 returns-in-Find-clause-made g c = λ tells h stands question.

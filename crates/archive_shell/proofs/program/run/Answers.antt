@@ -14,8 +14,9 @@ use Rattle.archive_shell.proofs.PullLemmas.{completes, pulling_start}
 use Rattle.commands.specs.declared.command.Item.{Item}
 use Rattle.script_read.specs.Items.{Splits}
 use Rattle.script_read.proofs.Splitting.{one_split}
-use Rattle.archive_shell.specs.Questions.{AreMade, IsQuestion}
-use Rattle.archive_shell.proofs.QuestionLemmas.{asking_start, made_at_start}
+use Rattle.archive_shell.specs.Questions.{AreMade, AreMadeUpTo, IsQuestion}
+use Rattle.archive_shell.specs.Damages.{IsPulled}
+use Rattle.archive_shell.proofs.QuestionLemmas.{asking_start, made_at_start, stopped_among, stopped_at_start}
 use Rattle.archive_shell.proofs.program.run.Goals as goal
 
 pub returns-in-Err-clause-left_alone : goal.returns-in-Err-clause-left_alone
@@ -91,8 +92,14 @@ returns-clause-not_archive g c = λ disk_tells at is. absurd (c.serve.ensures.no
 pub returns-clause-damaged : goal.returns-clause-damaged
 returns-clause-damaged g c = λ disk_tells d is.
     let found = c.in-Ok-load.ensures.found disk_tells in
-    let shown = c.serve.ensures.damaged disk_tells found.0 found.1.0 d is in
-    record { loaded = found.0; spelled = found.1.1; added = shown.0; shown = shown.1 }
+    let (item, shown, pulled) = c.serve.ensures.damaged disk_tells found.0 found.1.0 d is in
+    let m = c.args.machine.now in
+    let n = c.load.new.disk in
+    let S : SourceState → Type 0 = λ s. IsPulled s (g.M.Source.source c.serve.new.machine) item in (
+      item,
+      record { loaded = found.0; spelled = found.1.1; added = shown.0; shown = shown.1 },
+      λ source_tells. subst S (g.met.M.Machine.disk_alone m n c.load.ensures.only).0 (pulled source_tells (pulling_start (g.M.Source.source n) c.in-Ok.desk.reader c.in-Ok.ensures)),
+    )
 
 pub returns-clause-refused : goal.returns-clause-refused
 returns-clause-refused g c = λ disk_tells none at refused. absurd (c.in-Ok-load.ensures.exact disk_tells at refused)
@@ -140,8 +147,9 @@ returns-clause-questions g c = λ source_tells sink_tells disk_tells none asked 
     let alone = g.met.M.Machine.disk_alone m n c.load.ensures.only in
     let found = c.in-Ok-load.ensures.found disk_tells in
     let pages = (g.M.Disk.disk n).holds.pages in
-    let has = c.serve.ensures.asks source_tells sink_tells disk_tells found.0 pages
-    (asking_start found.0 (record { source = g.M.Source.source n; sink = g.M.Sink.sink n; disk = g.M.Disk.disk n }) c.in-Ok-load.archive c.in-Ok.desk.reader c.in-Ok.ensures found.1.0) is in
+    let ended = c.serve.ensures.asks source_tells sink_tells disk_tells found.0 pages
+    (asking_start found.0 (record { source = g.M.Source.source n; sink = g.M.Sink.sink n; disk = g.M.Disk.disk n }) c.in-Ok-load.archive c.in-Ok.desk.reader c.in-Ok.ensures found.1.0) in
+    let has = ended.done is in
     let S : SourceState → Type 0 = λ s. Splits true s.left asked [] in
     let same : has.items ≡ asked = (one_split true (g.M.Source.source n).left has.items asked [] [] has.split (subst S (sym alone.0) split)).0 in
     let A : List Item → Type 0 = λ l. All IsQuestion l in
@@ -149,3 +157,18 @@ returns-clause-questions g c = λ source_tells sink_tells disk_tells none asked 
     let K : SinkState → Type 0 = λ s. AreMade found.0 pages asked s.shown (g.M.Sink.sink last).shown in
     let made = subst K alone.1 (subst M same (has.made (subst A (sym same) all))) in
     (found.0, found.1.1, made_at_start found.0 asked (g.M.Disk.disk m) (g.M.Disk.disk n) (g.M.Sink.sink m).shown (g.M.Sink.sink last).shown found.1.1 found.1.0.loadable (c.in-Ok-load.ensures.longer disk_tells) made)
+
+pub returns-clause-stopped : goal.returns-clause-stopped
+returns-clause-stopped g c = λ source_tells sink_tells disk_tells none asked split all d is.
+    let m = c.args.machine.now in
+    let n = c.load.new.disk in
+    let last = c.serve.new.machine in
+    let alone = g.met.M.Machine.disk_alone m n c.load.ensures.only in
+    let found = c.in-Ok-load.ensures.found disk_tells in
+    let pages = (g.M.Disk.disk n).holds.pages in
+    let ended = c.serve.ensures.asks source_tells sink_tells disk_tells found.0 pages
+    (asking_start found.0 (record { source = g.M.Source.source n; sink = g.M.Sink.sink n; disk = g.M.Disk.disk n }) c.in-Ok-load.archive c.in-Ok.desk.reader c.in-Ok.ensures found.1.0) in
+    let S : SourceState → Type 0 = λ s. Splits true s.left asked [] in
+    let stopped = stopped_among found.0 pages _ _ d asked (ended.damaged d is) (subst S (sym alone.0) split) all in
+    let K : SinkState → Type 0 = λ s. AreMadeUpTo found.0 pages asked d s.shown (g.M.Sink.sink last).shown in
+    (found.0, found.1.1, stopped_at_start found.0 asked d (g.M.Disk.disk m) (g.M.Disk.disk n) (g.M.Sink.sink m).shown (g.M.Sink.sink last).shown found.1.1 found.1.0.loadable (c.in-Ok-load.ensures.longer disk_tells) (subst K alone.1 stopped))

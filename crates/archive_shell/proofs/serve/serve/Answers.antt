@@ -23,7 +23,8 @@ items-preserved g c =
 pub returns-in-Err-clause-damaged : goal.returns-in-Err-clause-damaged
 returns-in-Err-clause-damaged g c = λ tells h stands d is.
     let before = c.items.invariant.follows h stands in
-    (before.0, c.in-Err.ensures.damaged tells (h ++ before.0) before.1 d (ap Err is))
+    let (item, spoils, pulled) = c.in-Err.ensures.damaged tells (h ++ before.0) before.1 d (ap Err is) in
+    (item, (before.0, spoils), λ source_tells start. pulled source_tells _ (c.items.invariant.pulling source_tells start))
 
 pub returns-in-Err-clause-ends : goal.returns-in-Err-clause-ends
 returns-in-Err-clause-ends g c = λ source_tells start. c.in-Err.ensures.pulls source_tells _ (c.items.invariant.pulling source_tells start)
@@ -35,5 +36,5 @@ returns-in-Err-clause-served g c = λ source_tells sink_tells disk_tells h start
     (so_far.0 ++ next.0, g.M.Machine.asked_joins _ _ _ so_far.0 next.0 so_far.1 next.1, next.2)
 
 pub returns-in-Err-clause-asks : goal.returns-in-Err-clause-asks
-returns-in-Err-clause-asks g c = λ source_tells sink_tells disk_tells h pages start is.
-    c.in-Err.ensures.asks source_tells sink_tells disk_tells h pages _ (c.items.invariant.asking source_tells sink_tells disk_tells h pages start) is
+returns-in-Err-clause-asks g c = λ source_tells sink_tells disk_tells h pages start.
+    c.in-Err.ensures.asks source_tells sink_tells disk_tells h pages _ (c.items.invariant.asking source_tells sink_tells disk_tells h pages start)

@@ -1,15 +1,20 @@
-use Rattle.std.proofs.Common.{◌++◌, ℕ, List, [], Some, None, Ok, sym, ap, subst, ◌∙◌}
+use Rattle.std.proofs.Common.{◌≡◌, ◌++◌, ℕ, List, [], Some, None, Ok, Err, refl, sym, ap, subst, ◌∙◌}
 use Rattle.std.proofs.lemmas.List.{append-nil}
-use Rattle.machine_model.specs.States.{SourceState}
+use Rattle.machine_model.specs.States.{SinkState, SourceState}
 use Rattle.machine_model.specs.Pulls.{Pull}
 use Rattle.archive_state.specs.Standing.{last_state}
+use Rattle.archive_core.specs.States.{StandsFor}
+use Rattle.sublist_store.specs.declared.why.Damage.{Damage}
 use Rattle.archive_shell.specs.Serving.{Pulling, Ends, Serving, Serves}
 use Rattle.archive_shell.specs.Statuses.{status_of_script, status_of_stop}
 use Rattle.archive_shell.specs.declared.status.Status.{Status}
+use Rattle.archive_shell.specs.declared.status.Status.TheVariants.{Damaged}
 use Rattle.archive_shell.proofs.PullLemmas.{ends_by, ends_early, gives_as, pulling_next, stops_early, whole_done}
 use Rattle.archive_shell.proofs.StepLemmas.{ended_by, ended_done, serving_next, stopped, serving_along, serves_as, pulls_in, pulls_beside}
-use Rattle.archive_shell.specs.Asking.{Asking}
-use Rattle.archive_shell.proofs.QuestionLemmas.{asked_all, asking_along, asking_next, script_not_done, stop_not_done}
+use Rattle.archive_shell.specs.Asking.{Asking, HasStopped}
+use Rattle.archive_shell.specs.Damages.{IsPulled, Spoils}
+use Rattle.archive_shell.proofs.DamageLemmas.{last_pulled, stopped_at}
+use Rattle.archive_shell.proofs.QuestionLemmas.{asked_all, asking_along, asking_next, asking_stops, script_not_damaged, script_not_done, stop_not_done}
 use Rattle.archive_shell.proofs.serve.step.Goals as goal
 
 pub returns-in-Err-clause-pulls : goal.returns-in-Err-clause-pulls
@@ -144,19 +149,26 @@ returns-in-Err-carry_out-clause-goes_on g c = λ source_tells sink_tells disk_te
     )
 
 pub returns-in-Err-clause-asks : goal.returns-in-Err-clause-asks
-returns-in-Err-clause-asks g c = λ source_tells sink_tells disk_tells h pages began asking is. absurd (script_not_done c.in-Err.error (sym c.from.ensures ∙ is))
+returns-in-Err-clause-asks g c = λ source_tells sink_tells disk_tells h pages began asking. record {
+  done = λ is. absurd (script_not_done c.in-Err.error (sym c.from.ensures ∙ is));
+  damaged = λ d is. absurd (script_not_damaged c.in-Err.error d (sym c.from.ensures ∙ is));
+}
 
 pub returns-in_default-clause-asks : goal.returns-in_default-clause-asks
-returns-in_default-clause-asks g c = λ source_tells sink_tells disk_tells h pages began asking is.
+returns-in_default-clause-asks g c = λ source_tells sink_tells disk_tells h pages began asking.
     let m = c.args.machine.now in
     let mid = c.next_item.new.source in
     let alone = g.met.M.Machine.source_alone m mid c.next_item.ensures.only in
     let here = asking_along h pages began (g.M.Source.source m) (g.M.Sink.sink m) (g.M.Sink.sink mid) (g.M.Disk.disk m) (g.M.Disk.disk mid) c.args.archive.now c.args.reader.now alone.0 alone.1 asking in
     let p = here.pulling in
     let says = c.in-Ok.ensures.says p.since p.reads.stands in
-    asked_all h pages began (record { source = g.M.Source.source m; sink = g.M.Sink.sink mid; disk = g.M.Disk.disk mid }) (g.M.Source.source mid) c.args.archive.now c.args.reader.now c.next_item.new.self here
-    (gives_as c.args.reader.now c.next_item.new.self p.since (Ok c.in-Ok.item) (Ok None) (g.M.Source.source m) (g.M.Source.source mid) (ap Ok c.in_default.is)
-    (record { more = says.0; gave = says.1 source_tells; calm = says.2; says = says.3; told = c.in-Ok.ensures.end source_tells p.told }))
+    record {
+      damaged = λ d is. absurd cc;
+      done = λ is.
+          asked_all h pages began (record { source = g.M.Source.source m; sink = g.M.Sink.sink mid; disk = g.M.Disk.disk mid }) (g.M.Source.source mid) c.args.archive.now c.args.reader.now c.next_item.new.self here
+          (gives_as c.args.reader.now c.next_item.new.self p.since (Ok c.in-Ok.item) (Ok None) (g.M.Source.source m) (g.M.Source.source mid) (ap Ok c.in_default.is)
+          (record { more = says.0; gave = says.1 source_tells; calm = says.2; says = says.3; told = c.in-Ok.ensures.end source_tells p.told }));
+    }
 
 pub returns-in-Ok-carry_out-clause-asks : goal.returns-in-Ok-carry_out-clause-asks
 returns-in-Ok-carry_out-clause-asks g c = λ source_tells sink_tells disk_tells h pages began asking.
@@ -175,4 +187,40 @@ returns-in-Ok-carry_out-clause-asks g c = λ source_tells sink_tells disk_tells 
     (λ stands question. c.in-Ok-carry_out.ensures.question disk_tells sink_tells h stands question))
 
 pub returns-in-Err-carry_out-clause-asks : goal.returns-in-Err-carry_out-clause-asks
-returns-in-Err-carry_out-clause-asks g c = λ source_tells sink_tells disk_tells h pages began asking is. absurd (stop_not_done c.in-Err-carry_out.stop (sym c.from-in-Err-carry_out.ensures ∙ is))
+returns-in-Err-carry_out-clause-asks g c = λ source_tells sink_tells disk_tells h pages began asking.
+    let m = c.args.machine.now in
+    let mid = c.next_item.new.source in
+    let last = c.carry_out.new.machine in
+    let alone = g.met.M.Machine.source_alone m mid c.next_item.ensures.only in
+    let here = asking_along h pages began (g.M.Source.source m) (g.M.Sink.sink m) (g.M.Sink.sink mid) (g.M.Disk.disk m) (g.M.Disk.disk mid) c.args.archive.now c.args.reader.now alone.0 alone.1 asking in
+    let p = here.pulling in
+    let says = c.in-Ok.ensures.says p.since p.reads.stands in
+    let out = λ (d : Damage) (stands : StandsFor c.args.archive.now h) (is : c.from-in-Err-carry_out.result ≡ Damaged d).
+    c.in-Err-carry_out.ensures.damaged disk_tells h stands d (ap Err (stopped_at c.in-Err-carry_out.stop d (sym c.from-in-Err-carry_out.ensures ∙ is))) in
+    let S : Damage → SourceState → Type 0 = λ d s. HasStopped h pages began (record { source = s; sink = g.M.Sink.sink last; disk = g.M.Disk.disk last }) d in
+    record {
+      done = λ is. absurd (stop_not_done c.in-Err-carry_out.stop (sym c.from-in-Err-carry_out.ensures ∙ is));
+      damaged = λ d is. subst (S d) (sym c.carry_out.ensures.source)
+          (asking_stops h pages began (record { source = g.M.Source.source m; sink = g.M.Sink.sink mid; disk = g.M.Disk.disk mid }) (g.M.Source.source mid) (g.M.Sink.sink last) (g.M.Disk.disk last) c.args.archive.now c.args.reader.now c.next_item.new.self c.in-Some.item d here
+          (gives_as c.args.reader.now c.next_item.new.self p.since (Ok c.in-Ok.item) (Ok (Some c.in-Some.item)) (g.M.Source.source m) (g.M.Source.source mid) (ap Ok c.in-Some.is)
+          (record { more = says.0; gave = says.1 source_tells; calm = says.2; says = says.3; told = c.in-Ok.ensures.end source_tells p.told }))
+          (λ stands. let found = out d stands is in (found.0, ap (λ (s : SinkState). s.shown) found.2)));
+    }
+
+pub returns-in-Err-carry_out-clause-damaged : goal.returns-in-Err-carry_out-clause-damaged
+returns-in-Err-carry_out-clause-damaged g c = λ tells h stands d is.
+    let one = g.M.Source.source c.args.machine.now in
+    let other = g.M.Source.source c.next_item.new.source in
+    let same : c.from-in-Err-carry_out.result ≡ Damaged d = cc in
+    let found = c.in-Err-carry_out.ensures.damaged tells h stands d (ap Err (stopped_at c.in-Err-carry_out.stop d (sym c.from-in-Err-carry_out.ensures ∙ same))) in
+    let P : List ℕ → Type 0 = λ pages. Spoils h pages c.in-Some.item d in (
+      c.in-Some.item,
+      subst P (sym found.1) found.0,
+      λ source_tells began p.
+          let says = c.in-Ok.ensures.says p.since p.reads.stands in
+          let S : SourceState → Type 0 = λ s. IsPulled began s c.in-Some.item in
+          subst S (sym c.carry_out.ensures.source) (last_pulled began other c.next_item.new.self c.in-Some.item p.items
+          (pulling_next began one other c.args.reader.now c.next_item.new.self c.in-Some.item p
+          (gives_as c.args.reader.now c.next_item.new.self p.since (Ok c.in-Ok.item) (Ok (Some c.in-Some.item)) one other (ap Ok c.in-Some.is)
+          (record { more = says.0; gave = says.1 source_tells; calm = says.2; says = says.3; told = c.in-Ok.ensures.end source_tells p.told }))) refl),
+    )

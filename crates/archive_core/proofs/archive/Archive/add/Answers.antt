@@ -1,7 +1,7 @@
 use Rattle.std.proofs.Common.{Result, subst}
-use Rattle.archive_core.specs.Adding.{IsPrepared}
-use Rattle.archive_core.specs.declared.preparing.Prepared.{Prepared}
-use Rattle.archive_core.specs.declared.preparing.Unprepared.{Unprepared}
+use Rattle.archive_replay.specs.Entries.{IsPrepared}
+use Rattle.archive_replay.specs.declared.preparing.Prepared.{Prepared}
+use Rattle.archive_replay.specs.declared.preparing.Unprepared.{Unprepared}
 use Rattle.archive_core.proofs.AddLemmas.{adds_entry, leads_entry, adds_none, gives_no_ok, leads_nowhere, pages_nowhere}
 use Rattle.archive_core.proofs.archive.Archive.add.Goals as goal
 

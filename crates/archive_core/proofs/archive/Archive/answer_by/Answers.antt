@@ -1,13 +1,20 @@
-use Rattle.std.proofs.Common.{sym, ap, ◌∙◌}
-use Rattle.archive_core.proofs.AnswerLemmas.{by_alive, by_hits}
+use Rattle.std.proofs.Common.{◌≡◌, List, ℕ, All, true, sym, ap, subst, ◌∙◌}
+use Rattle.archive_state.specs.Plans.{is_another}
+use Rattle.archive_core.proofs.AnswerLemmas.{by_alive, by_hits, by_unplanned}
 use Rattle.version_store.specs.Changes.{alive}
 use Rattle.archive_core.proofs.archive.Archive.answer_by.Goals as goal
 
 pub returns-then-matches_without_words-clause-rows : goal.returns-then-matches_without_words-clause-rows
-returns-then-matches_without_words-clause-rows c = λ h stands.
+returns-then-matches_without_words-clause-rows c = λ h pages stands chosen.
     by_alive c.args.self.now h c.args.at.seconds c.args.query.now _ c.deref.result.now _ stands
     (c.deref.ensures.value ∙ c.in_ok-alive.ensures ∙ ap (alive c.args.at.seconds) c.directory.ensures.changes) c.in_ok-answer.ensures.rows
 
+pub returns-then-is_any_planned-clause-rows : goal.returns-then-is_any_planned-clause-rows
+returns-then-is_any_planned-clause-rows c = λ h pages stands chosen.
+    by_hits c.args.self.now h c.args.at.seconds c.args.query.now c.args.parts.now _ _ stands (sym c.matches_without_words.ensures ∙ c.if-matches_without_words.false) c.alive_of-rows.ensures c.in_ok-hits.ensures.rows
+
 pub returns-clause-rows : goal.returns-clause-rows
-returns-clause-rows c = λ h stands.
-    by_hits c.args.self.now h c.args.at.seconds c.args.query.now c.args.parts.now _ _ stands (sym c.matches_without_words.ensures ∙ c.if-matches_without_words.false) c.alive_of-rows.ensures c.in_ok-rows.ensures.rows
+returns-clause-rows c = λ h pages stands chosen.
+    let W : List (List ℕ) → Type 0 = λ words. All (λ word. All (λ s. is_another word s ≡ true) c.args.self.now.shelf.plans) words in
+    by_unplanned c.args.self.now h pages c.args.at.seconds c.args.query.now c.args.parts.now _ c.args.at.before_now stands
+    (subst W c.words.ensures.words (c.is_any_planned.ensures c.if-is_any_planned.false)) chosen (sym c.matches_without_words.ensures ∙ c.if-matches_without_words.false) c.in_ok-hits.ensures.rows

@@ -16,5 +16,5 @@ returns-clause-takes g c = λ tells h kept.
     let T : ArchiveState → Type 0 = λ a. Takes h (items.Command (commands.Between c.args.span c.args.expr.now)) (spanned c.span_answer_of.result) disk done a in
     subst T (sym c.span_answer_of.ensures.kept)
     (takes_between h c.args.span c.args.expr.now c.span_answer_of.result disk done c.args.self.now c.span_answer_of.ensures.refused
-    (λ d is. let (word, shown) = c.span_answer_of.ensures.damaged tells h kept.stands d is in held_undamaged h disk.holds.pages word _ _ d loads held shown)
+    (λ d is. let first = (c.span_answer_of.ensures.damaged tells h kept.stands d is).first in held_undamaged h disk.holds.pages first.word _ _ d loads held first.shown)
     (spans_made h disk.holds.pages c.args.span c.args.expr.now _ c.span_answer_of.result loads held (c.span_answer_of.ensures.made tells h kept.stands)) c.span_answer_of.ensures.same kept)

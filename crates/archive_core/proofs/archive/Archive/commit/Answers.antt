@@ -7,7 +7,8 @@ use Rattle.gate_journal.specs.declared.error.AppendError.{AppendError}
 use Rattle.gate_journal.specs.declared.error.AppendError.TheVariants as appends
 use Rattle.version_index.specs.Indexes.{state_of}
 use Rattle.archive_state.specs.Histories.{History}
-use Rattle.archive_core.specs.States.{ArchiveState, StandsFor, extents_all}
+use Rattle.archive_core.specs.States.{ArchiveState, StandsFor}
+use Rattle.plan_shelf.specs.Shelves.{extents_all}
 use Rattle.archive_core.proofs.AddLemmas.{appends_nowhere, pages_nowhere, step_at, is_more, stands_on, inside_on}
 use Rattle.archive_core.proofs.archive.Archive.commit.Goals as goal
 

@@ -6,7 +6,7 @@ use Rattle.version_index.specs.Indexes.{IndexState, Indexes, state_of}
 use Rattle.archive_state.specs.Histories.{changes}
 use Rattle.archive_state.specs.Steps.{deletion_refusal}
 use Rattle.archive_core.specs.States.{ArchiveState, StandsFor, IsKept}
-use Rattle.archive_core.specs.Adding.{IsPrepared}
+use Rattle.archive_replay.specs.Entries.{IsPrepared}
 use Rattle.archive_core.proofs.TakeLemmas.{adds_follow, takes_entry}
 use Rattle.archive_core.proofs.archive.Archive.delete.Goals as goal
 

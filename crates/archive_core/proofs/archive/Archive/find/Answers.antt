@@ -16,5 +16,5 @@ returns-clause-takes g c = λ tells h kept.
     let T : ArchiveState → Type 0 = λ a. Takes h (items.Command (commands.Find c.args.at c.args.expr.now)) (found c.answer_of.result) disk done a in
     subst T (sym c.answer_of.ensures.kept)
     (takes_find h c.args.at c.args.expr.now c.answer_of.result disk done c.args.self.now c.answer_of.ensures.refused
-    (λ d is. let (word, shown) = c.answer_of.ensures.damaged tells h kept.stands d is in held_undamaged h disk.holds.pages word _ _ d loads held shown)
+    (λ d is. let first = (c.answer_of.ensures.damaged tells h kept.stands d is).first in held_undamaged h disk.holds.pages first.word _ _ d loads held first.shown)
     (finds_made h disk.holds.pages c.args.at c.args.expr.now _ c.answer_of.result loads held (c.answer_of.ensures.made tells h kept.stands)) c.answer_of.ensures.same kept)

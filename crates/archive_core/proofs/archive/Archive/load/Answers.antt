@@ -1,4 +1,4 @@
-use Rattle.std.proofs.Common.{◌≡◌, ◌∙◌, List, inl, ap, refl, sym, subst, arith}
+use Rattle.std.proofs.Common.{◌≡◌, ◌∙◌, List, length, inl, ap, refl, sym, subst, arith}
 use Rattle.std.proofs.lemmas.Result.{err_from_is_err_and}
 use Rattle.machine_model.specs.Calls.{OnlyReads}
 use Rattle.machine_model.specs.States.{DiskState}
@@ -12,9 +12,10 @@ use Rattle.archive_state.specs.Plans.{live_plans}
 use Rattle.archive_state.specs.Stands.{bodies_of}
 use Rattle.archive_state.proofs.StandsLemmas.{loaded_is_archive, stands_is_archive}
 use Rattle.version_index.specs.Indexes.{state_of}
-use Rattle.archive_core.specs.States.{ShelfState, StandsFor, extents_all}
-use Rattle.archive_core.specs.Replaying.{IsReplayed}
-use Rattle.archive_core.proofs.ReplayLemmas.{exit_is}
+use Rattle.plan_shelf.specs.Shelves.{ShelfState, extents_all}
+use Rattle.archive_core.specs.States.{StandsFor}
+use Rattle.archive_replay.specs.Replaying.{IsReplayed}
+use Rattle.archive_core.proofs.LoadLemmas.{exit_is}
 use Rattle.archive_core.proofs.LoadLemmas.{IsMadeOf, history_loaded, pages_reads, few_heads, stands_replayed, bad_archive, bad_shelf, gone_over, pages_long, reads_on, all_live, kept_loaded, journal_exit}
 use Rattle.archive_core.proofs.archive.Archive.load.Given.{Over}
 use Rattle.archive_core.proofs.archive.Archive.load.Goals as goal
@@ -108,16 +109,19 @@ returns-clause-only g c = g.met.D.Disk.only_joins _ _ _ (g.met.D.Disk.only_joins
 pub of-requires-2-clause-few : goal.of-requires-2-clause-few
 of-requires-2-clause-few g c =
     let all = c.in_ok-replayed.ensures.stands in
-    let P : List Head → Type 0 = λ l. IsReplayed all.0 l c.in_ok-replayed.replayed.directory.changes c.in_ok-replayed.replayed.plans.items in
-    omega (arith, few_heads all.0 c.in_ok-journal.heads.items c.in_ok-replayed.replayed.directory.changes c.in_ok-replayed.replayed.plans.items c.in_ok-journal.journal.end c.in_ok-journal.ensures.row (subst P c.deref.ensures.value all.1))
+    let counted = c.in_ok-replayed.ensures.counted all.0 all.1 in
+    let many : length c.in_ok-journal.heads.items ≡ length all.0 = ap length (sym c.deref.ensures.value) ∙ counted.1 in
+    omega (arith, few_heads all.0 (length c.in_ok-journal.heads.items) c.in_ok-journal.journal.end counted.0 many)
 
 pub of-requires-2-clause-stands : goal.of-requires-2-clause-stands
 of-requires-2-clause-stands g c =
     let all = c.in_ok-replayed.ensures.stands in
+    let counted = c.in_ok-replayed.ensures.counted all.0 all.1 in
+    let many : length c.in_ok-journal.heads.items ≡ length all.0 = ap length (sym c.deref.ensures.value) ∙ counted.1 in
     let P : List Head → Type 0 = λ l. IsReplayed all.0 l c.in_ok-replayed.replayed.directory.changes c.in_ok-replayed.replayed.plans.items in (
       all.0,
       stands_replayed _ all.0 c.in_ok-journal.heads.items c.in_ok-replayed.replayed.directory.changes (state_of c.in_ok-replayed.replayed.index) c.in_ok-replayed.replayed.plans.items c.in_ok-journal.journal.end
-          (record { end_is = refl; length_is = omega arith; changes_are = refl; index_is = refl; plans_are = c.in_ok-shelf.ensures.plans; pages_are = c.in_ok-shelf.ensures.taken }) c.in_ok-journal.ensures.row (subst P c.deref.ensures.value all.1) all.2,
+          (record { end_is = refl; length_is = omega arith; changes_are = refl; index_is = refl; plans_are = c.in_ok-shelf.ensures.plans; pages_are = c.in_ok-shelf.ensures.taken }) counted.0 many (subst P c.deref.ensures.value all.1) all.2,
     )
 
 made : (g : Over) (c : goal.After-drop-heads-2 g)
@@ -134,10 +138,12 @@ made g c = record {
 pub returns-clause-stands : goal.returns-clause-stands
 returns-clause-stands g c =
     let all = c.in_ok-replayed.ensures.stands in
+    let counted = c.in_ok-replayed.ensures.counted all.0 all.1 in
+    let many : length c.in_ok-journal.heads.items ≡ length all.0 = ap length (sym c.deref.ensures.value) ∙ counted.1 in
     let P : List Head → Type 0 = λ l. IsReplayed all.0 l c.in_ok-replayed.replayed.directory.changes c.in_ok-replayed.replayed.plans.items in (
       all.0,
       stands_replayed c.of-2.result all.0 c.in_ok-journal.heads.items c.in_ok-replayed.replayed.directory.changes (state_of c.in_ok-replayed.replayed.index) c.in_ok-replayed.replayed.plans.items c.in_ok-journal.journal.end
-          (made g c) c.in_ok-journal.ensures.row (subst P c.deref.ensures.value all.1) all.2,
+          (made g c) counted.0 many (subst P c.deref.ensures.value all.1) all.2,
     )
 
 -- it stands for the history of the bodies found
@@ -147,10 +153,13 @@ loaded g c tells =
     let found = c.in_ok-journal.ensures.found tells in
     let step = c.in_ok-journal.ensures.in_step tells found.bodies found.spelled in
     let all = gone_over (g.D.Disk.disk c.args.disk.now).holds.journal c.in_ok-journal.heads.items c.deref.result.now c.in_ok-replayed.replayed.directory.changes (state_of c.in_ok-replayed.replayed.index) c.in_ok-replayed.replayed.plans.items found.bodies
-    c.deref.ensures.value found.spelled (c.in_ok-replayed.ensures.found tells found.bodies (c.deref.ensures.value ∙ found.laid_out.heads_are) step.2) in (
+    c.deref.ensures.value found.spelled (c.in_ok-replayed.ensures.found tells found.bodies (c.deref.ensures.value ∙ found.laid_out.heads_are) step.2) in
+    let P : List Head → Type 0 = λ l. IsReplayed all.0 l c.in_ok-replayed.replayed.directory.changes c.in_ok-replayed.replayed.plans.items in
+    let counted = c.in_ok-replayed.ensures.counted all.0 (subst P (sym c.deref.ensures.value) all.1) in
+    let many : length c.in_ok-journal.heads.items ≡ length all.0 = ap length (sym c.deref.ensures.value) ∙ counted.1 in (
       all.0,
       stands_replayed c.of-2.result all.0 c.in_ok-journal.heads.items c.in_ok-replayed.replayed.directory.changes (state_of c.in_ok-replayed.replayed.index) c.in_ok-replayed.replayed.plans.items c.in_ok-journal.journal.end
-          (made g c) c.in_ok-journal.ensures.row all.1 all.2,
+          (made g c) counted.0 many all.1 all.2,
       all.1.plans_are,
       all.3,
       all.4,

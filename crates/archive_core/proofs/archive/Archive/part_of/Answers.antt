@@ -1,10 +1,10 @@
 use Rattle.std.proofs.Common.{◌≡◌, All, true, sym, subst, ◌∙◌}
 use Rattle.archive_state.specs.Histories.{changes}
 use Rattle.archive_state.specs.Plans.{is_another}
-use Rattle.archive_core.specs.States.{ShelfState}
+use Rattle.plan_shelf.specs.Shelves.{ShelfState}
 use Rattle.version_index.specs.Indexes.{IndexState, Indexes}
 use Rattle.archive_core.proofs.ChosenLemmas.{none_counted, unplanned_is, whole_chosen}
-use Rattle.archive_core.proofs.IndexLemmas.{word_list}
+use Rattle.archive_replay.proofs.IndexLemmas.{word_list}
 use Rattle.archive_core.proofs.archive.Archive.part_of.Goals as goal
 
 pub returns-in_ok-part-in-None-clause-chosen : goal.returns-in_ok-part-in-None-clause-chosen

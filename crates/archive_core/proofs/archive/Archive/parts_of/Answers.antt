@@ -1,5 +1,5 @@
-use Rattle.std.proofs.Common.{arith, ◌≡◌, ℕ, ◌+◌, ◌++◌, ◌∷◌, List, [], length, take, Err, ap, sym, subst, ◌∙◌}
-use Rattle.std.proofs.lemmas.List.{take_more, length_push}
+use Rattle.std.proofs.Common.{arith, ◌≡◌, ℕ, ◌+◌, ◌++◌, ◌∷◌, List, [], length, take, drop, Err, append_assoc, ap, sym, subst, ◌∙◌}
+use Rattle.std.proofs.lemmas.List.{take_more, take-append-drop, length_push}
 use Rattle.machine_model.specs.States.{DiskState}
 use Rattle.query_eval.specs.declared.part.Part.{Part}
 use Rattle.archive_state.specs.Plans.{plan_of}
@@ -17,7 +17,18 @@ returns-in_err-part-clause-damaged g c = λ tells h stands d is.
     let P : List ℕ → Type 0 = λ ps. IsDamagedFor h ps c.word-item.result c.args.span.from c.args.span.to d in
     let here = c.in_err-part.ensures.damaged tells h (subst (λ (x : ArchiveState). StandsFor x h) (sym was.kept) stands) d
     (ap (λ (e : AskError). Err e) (handed_on c.from_residual.result c.in_err-part.field-0.0 d c.from_residual.ensures.1 is)) in
-    (c.word-item.result, subst P pages here)
+    let index = c.loop-word.word-index in
+    let words = c.args.words.now in
+    let next = take_more words index c.word-item.result c.loop-word-test.true ∙ ap (λ (w : List ℕ). take index words ++ w ∷ []) (sym c.word-item.is) in
+    record {
+      front = take index words;
+      word = c.word-item.result;
+      back = drop (index + 1) words;
+      words_are = sym (take-append-drop (index + 1) words) ∙ ap (λ (l : List (List ℕ)). l ++ drop (index + 1) words) next ∙ append_assoc (take index words) (c.word-item.result ∷ []) (drop (index + 1) words);
+      parts = c.loop-word.parts.items;
+      are_chosen = was.chosen tells h stands;
+      shown = subst P pages here;
+    }
 
 pub loop-word-preserved : goal.loop-word-preserved
 loop-word-preserved g c =

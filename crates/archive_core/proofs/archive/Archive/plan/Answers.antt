@@ -4,10 +4,11 @@ use Rattle.record_codec.specs.declared.plan.PlanEntry.{PlanEntry}
 use Rattle.archive_state.specs.Histories.{History}
 use Rattle.archive_state.specs.Steps.{Planned, Plans}
 use Rattle.archive_core.specs.States.{StandsFor}
-use Rattle.archive_core.specs.Storing.{IsStoredAs, tells_of}
-use Rattle.archive_core.specs.Takes.{summary_of}
+use Rattle.archive_core.specs.Storing.{IsStoredAs}
+use Rattle.plan_shelf.specs.Readying.{tells_of}
+use Rattle.plan_shelf.specs.Readying.{summary_of}
 use Rattle.archive_core.specs.declared.error.ChangeError.{ChangeError}
-use Rattle.archive_core.specs.declared.storing.PlanReport.{PlanReport}
+use Rattle.plan_shelf.specs.declared.readying.PlanReport.{PlanReport}
 use Rattle.archive_core.proofs.StoreLemmas.{plans_full, plans_stored, plans_refused, drafted_never, takes_plan}
 use Rattle.archive_core.proofs.TakeLemmas.{none_follows, plan_follows, stored_follows}
 use Rattle.archive_core.proofs.archive.Archive.plan.Goals as goal

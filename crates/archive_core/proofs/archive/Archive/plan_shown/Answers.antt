@@ -4,7 +4,7 @@ use Rattle.postings.specs.ListsOf.{IsListOf}
 use Rattle.version_index.specs.Indexes.{IndexState, Indexes}
 use Rattle.archive_state.specs.Histories.{changes}
 use Rattle.archive_state.specs.Answers.{frequency_at}
-use Rattle.archive_core.proofs.IndexLemmas.{word_list}
+use Rattle.archive_replay.proofs.IndexLemmas.{word_list}
 use Rattle.archive_core.proofs.CertifyLemmas.{plan_shown}
 use Rattle.archive_core.proofs.archive.Archive.plan_shown.Goals as goal
 

@@ -2,7 +2,8 @@ use Rattle.std.proofs.Common.{◌≡◌, List, Err, get_or, ap, sym, subst, ◌�
 use Rattle.sublist_store.specs.declared.why.Damage.{Damage}
 use Rattle.archive_state.specs.declared.stored.StoredPlan.{StoredPlan}
 use Rattle.archive_state.specs.Chosen.{GathersOf, tail_for}
-use Rattle.archive_core.specs.States.{ArchiveState, ShelfState, StandsFor}
+use Rattle.archive_core.specs.States.{ArchiveState, StandsFor}
+use Rattle.plan_shelf.specs.Shelves.{ShelfState}
 use Rattle.archive_core.proofs.ChosenLemmas.{counted, damage_of, handed, planned_chosen, planned_is}
 use Rattle.archive_core.proofs.archive.Archive.planned_part.Goals as goal
 

@@ -8,7 +8,7 @@ use Rattle.archive_state.specs.Histories.{changes}
 use Rattle.archive_state.specs.Answers.{frequency_at}
 use Rattle.archive_state.specs.Planning.{IsListUpTo, last_second}
 use Rattle.archive_state.specs.declared.refusal.Refusal.TheVariants as refusals
-use Rattle.archive_core.proofs.IndexLemmas.{word_list}
+use Rattle.archive_replay.proofs.IndexLemmas.{word_list}
 use Rattle.archive_core.proofs.PlanLemmas.{known_is, known_there, last_second_is, one_why, not_both, nothing_sealed, none_before, no_second, none_left}
 use Rattle.archive_core.proofs.archive.Archive.sealed_list.Goals as goal
 

@@ -3,7 +3,7 @@ use Rattle.commands.specs.declared.command.Kind.TheVariants.{Guarantee, Uniform,
 use Rattle.archive_state.specs.declared.refusal.Refusal.TheVariants as refusals
 use Rattle.archive_state.specs.Plans.{plan_of}
 use Rattle.archive_state.specs.Steps.{Refused}
-use Rattle.archive_core.specs.States.{ShelfState}
+use Rattle.plan_shelf.specs.Shelves.{ShelfState}
 use Rattle.archive_core.proofs.PlanLemmas.{one_why}
 use Rattle.archive_core.proofs.CertifyLemmas.{found_live, none_live, live_as, no_live, other_live}
 use Rattle.archive_core.proofs.archive.Archive.shown_of.Goals as goal

@@ -7,12 +7,11 @@ use Rattle.archive_state.specs.declared.stored.StoredPlan.{StoredPlan}
 use Rattle.archive_state.specs.Plans.{with_plan, live_extents}
 use Rattle.archive_state.proofs.HistoryLemmas.{legal-push}
 use Rattle.archive_core.specs.Adding.{HasSameShelf}
-use Rattle.archive_core.specs.Shelves.{EachOnce}
-use Rattle.archive_core.specs.States.{ArchiveState, StandsFor, IsKept, Reaches, extents_all}
-use Rattle.archive_core.specs.Storing.{IsFull, tells_of}
-use Rattle.archive_core.specs.Takes.{summary_of}
+use Rattle.archive_core.specs.States.{ArchiveState, StandsFor, IsKept, Reaches}
+use Rattle.plan_shelf.specs.Shelves.{extents_all}
+use Rattle.plan_shelf.specs.Readying.{IsFull, tells_of}
+use Rattle.plan_shelf.specs.Readying.{summary_of}
 use Rattle.archive_core.proofs.AddLemmas.{reaches_on}
-use Rattle.archive_core.proofs.ShelfLemmas.{live_once}
 use Rattle.archive_core.proofs.StoreLemmas.{ready_storable, ready_stored, stands_planned, reaches_planned, same_shelf, stands_still, full_refused}
 use Rattle.archive_core.proofs.archive.Archive.store.Goals as goal
 
@@ -23,11 +22,6 @@ returns-in-Err-clause-refused g c = λ h stands why is.
     let still = stands_still a h c.make_ready.new.shelf before c.in-Err.ensures.plans (c.in-Err.ensures.none _ before.pages_are) in
     full_refused c.in-Err.why c.not_ready.result _ c.not_ready.new.self h c.args.draft c.args.self.now.end why c.not_ready.ensures
     (λ because e. subst (λ (n : ℕ). IsFull c.args.draft (live_extents h) n because) (c.end.ensures.end ∙ ap (λ (s : ArchiveState). s.end) c.self.view_is) (c.in-Err.ensures.full _ before.pages_are because e)) still is
-
-pub write_ready-requires-clause-once : goal.write_ready-requires-clause-once
-write_ready-requires-clause-once g c =
-    let stands = c.self.invariant.2 in
-    subst EachOnce (sym (c.in-Ok.ensures.plans ∙ stands.1.plans_are)) (live_once stands.0)
 
 pub invariant_of-self-in-Ok-write_ready : goal.invariant_of-self-in-Ok-write_ready
 invariant_of-self-in-Ok-write_ready g c =

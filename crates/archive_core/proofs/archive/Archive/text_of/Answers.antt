@@ -1,7 +1,7 @@
 use Rattle.std.proofs.Common.{◌≡◌, Some, None, ap, sym, ◌∙◌, arith, rules}
 use Rattle.std.specs.Option.{option_map}
 use Rattle.version_store.specs.Changes.{held_at}
-use Rattle.archive_core.specs.Texts.{text_in}
+use Rattle.archive_replay.specs.Texts.{text_in}
 use Rattle.archive_core.proofs.TextLemmas.{text_is, found_lies}
 use Rattle.archive_core.proofs.archive.Archive.text_of.Goals as goal
 

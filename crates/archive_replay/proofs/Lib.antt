@@ -1,0 +1,9 @@
+pub mod PlaceLemmas
+pub mod RisingLemmas
+pub mod IndexLemmas
+pub mod ListLemmas
+pub mod LiveLemmas
+pub mod HeadLemmas
+pub mod ReplayLemmas
+pub mod SettleLemmas
+pub mod PrepareLemmas

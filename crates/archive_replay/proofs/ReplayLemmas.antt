@@ -1,0 +1,346 @@
+-- Going over entries: one entry more, and one that is refused.
+use Rattle.std.proofs.Common.{◌≡◌, ℕ, ◌+◌, ◌<◌, ◌≤◌, ◌^◌, Bool, IsTrue, ◌↔◌, List, [], ◌∷◌, ◌++◌, length, take, drop, get_or, sum_by, unwrap_or, Option, Some, None, IsSome, Result, Err, inr, refl, ap, subst, sym, ◌∙◌, arith, append_assoc, append-nil}
+use Rattle.std.proofs.lemmas.List.{take_more}
+use Rattle.machine_model.specs.States.{DiskState}
+use Rattle.machine_model.specs.Calls.{OnlyReads}
+use Rattle.gate_journal.specs.declared.head.Head.{Head}
+use Rattle.gate_journal.specs.Records.{records, front}
+use Rattle.gate_journal.specs.Heads.{AreInRow, heads_of}
+use Rattle.gate_journal.specs.Spelled.{Spells}
+use Rattle.gate_journal.specs.Scanning.{IsView}
+use Rattle.time_base.specs.declared.ids.DocId.{DocId}
+use Rattle.time_base.specs.declared.time.Time.{Time}
+use Rattle.time_base.specs.declared.text_place.TextPlace.{TextPlace}
+use Rattle.version_store.specs.declared.change.Change.{Change}
+use Rattle.version_store.specs.declared.refusal.VersionRefusal.{VersionRefusal}
+use Rattle.version_store.specs.Refusals.{arrive_refusal, delete_refusal}
+use Rattle.record_codec.specs.Spelling.{spelling, IsEntry}
+use Rattle.record_codec.specs.declared.entry.Entry.{Entry}
+use Rattle.record_codec.specs.declared.entry.Entry.TheVariants.{Arrive, Delete, Planned}
+use Rattle.std.specs.Option.{option_map}
+use Rattle.archive_state.specs.Refusals.{refusal_of}
+use Rattle.version_store.specs.Tests.{first_of}
+use Rattle.version_index.specs.Words.{words_in}
+use Rattle.version_index.specs.Indexing.{ComesLater}
+use Rattle.version_index.specs.Loads.{Loaded, AreLoaded}
+use Rattle.archive_state.specs.declared.refusal.Refusal.{Refusal}
+use Rattle.archive_state.specs.declared.stored.StoredPlan.{StoredPlan}
+use Rattle.archive_state.specs.Histories.{History, changes, end_of, entry_refusal}
+use Rattle.archive_state.specs.Legal.{Suits, MayBePlanned}
+use Rattle.archive_state.specs.Plans.{IsChange}
+use Rattle.archive_state.proofs.LiveLemmas.{EachAllowed}
+use Rattle.archive_state.proofs.StoringLemmas.{list_behind}
+use Rattle.archive_replay.specs.Texts.{nothing}
+use Rattle.commands.specs.declared.command.Kind.{Kind}
+use Rattle.commands.specs.declared.command.Kind.TheVariants.{Guarantee, Uniform, Since}
+use Rattle.time_base.specs.declared.posting.Posting.{Posting}
+use Rattle.stored_plans.specs.Plans.{Asks, IsFitPlan}
+use Rattle.record_codec.specs.declared.plan.PlanEntry.{PlanEntry}
+use Rattle.version_store.specs.Changes.{last_time}
+use Rattle.version_store.proofs.Mapped.{last_time-mapped}
+use Rattle.std.proofs.lemmas.List.Sums.{sum_by-cons}
+use Rattle.archive_state.specs.Stands.{bodies_of}
+use Rattle.archive_state.proofs.HistoryLemmas.{bodies_of-push, end_of-push, end_of_is}
+use Rattle.archive_replay.specs.Places.{ArePlaced}
+use Rattle.archive_state.proofs.RefusalLemmas.{arrival-refused, arrival-words}
+use Rattle.archive_replay.specs.Entries.{Makes, IsHeld, refusal_by, change_refusal, text_of}
+use Rattle.archive_replay.proofs.IndexLemmas.{change_of, changes_still, makes_change, makes_is_change, takes_change, words_full, words_within}
+use Rattle.archive_replay.specs.declared.error.LoadError.{LoadError}
+use Rattle.archive_replay.specs.declared.error.LoadError.TheVariants as loads
+use Rattle.archive_replay.specs.declared.error.ReadError.{ReadError}
+use Rattle.archive_replay.specs.declared.error.ReadError.TheVariants as reads
+use Rattle.archive_replay.specs.Causes.{load_error_of_read}
+use Rattle.archive_replay.specs.Replaying.{IsTimely, IfTimely, IsOpen, AreOpen, plans_in, plans_from, IsReached, IsGoneOver, IsFaulty, IsReplaying, IsNextBad}
+use Rattle.archive_replay.proofs.PlaceLemmas.{bare_changes, placed_more, placed_plan, placed_arrive_refusal, placed_delete_refusal}
+use Rattle.archive_replay.proofs.HeadLemmas.{head_at, head_by_parts, heads_push, row_gate, length_heads, head_bytes, around, length_front, body_found}
+
+-- ---- entries that may come as far as is asked at once
+
+pub open_push : (before h : History) (e : Entry) → AreOpen before h → IsOpen (before ++ h) e → AreOpen before (h ++ e ∷ [])
+open_push before [] e opens next = (let P : History → Type 0 = λ g. IsOpen g e in subst P (append-nil before) next, tt)
+open_push before (x ∷ h) e opens next = (
+  opens.0,
+  open_push (before ++ x ∷ []) h e opens.1 (let P : History → Type 0 = λ g. IsOpen g e in subst P (sym (append_assoc before (x ∷ []) h)) next),
+)
+
+pub open_allowed : (before h : History) → AreOpen before h → EachAllowed before h
+open_allowed before [] opens = tt
+open_allowed before (e ∷ h) opens = (opens.0.allowed, open_allowed (before ++ e ∷ []) h opens.1)
+
+timely_change : (h : History) (e : Entry) → IsChange e → IfTimely h e
+timely_change h (Arrive doc at text) change = tt
+timely_change h (Delete doc at) change = tt
+timely_change h (Planned plan) change = absurd change
+
+-- the plans of entries with one more
+plans_after : (gate last : ℕ) (h : History) (e : Entry) → last ≡ gate + sum_by (λ (x : Entry). length (spelling x) + 5) h → plans_from gate (h ++ e ∷ []) ≡ plans_from gate h ++ plans_in last e
+plans_after gate last [] e at = append-nil (plans_in gate e) ∙ ap (λ (n : ℕ). plans_in n e) (omega (arith, at))
+plans_after gate last (x ∷ h) e at =
+    ap (λ (l : List StoredPlan). plans_in gate x ++ l) (plans_after (gate + 5 + length (spelling x)) last h e (omega (arith, at, sum_by-cons (λ (y : Entry). length (spelling y) + 5) x h)))
+    ∙ sym (append_assoc (plans_in gate x) (plans_from (gate + 5 + length (spelling x)) h) (plans_in last e))
+
+plans_push : (h : History) (e : Entry) (gate : ℕ) → end_of h ≡ gate + 1 → plans_from 16 (h ++ e ∷ []) ≡ plans_from 16 h ++ plans_in gate e
+plans_push h e gate at = plans_after 16 gate h e (omega (arith, at))
+
+none_in : (gate : ℕ) (e : Entry) → IsChange e → plans_in gate e ≡ []
+none_in gate (Arrive doc at text) change = refl
+none_in gate (Delete doc at) change = refl
+none_in gate (Planned plan) change = absurd change
+
+-- ---- a change of a document
+
+-- the directory's cause against an entry
+abbrev directory_refusal : History → Entry → Option VersionRefusal
+directory_refusal h (Arrive doc at text) = arrive_refusal doc at (changes h)
+directory_refusal h (Delete doc at) = delete_refusal doc at (changes h)
+directory_refusal h (Planned plan) = None
+
+-- is its cause against the change that the entry makes
+makes_refusal : (e : Entry) (x : Change ℕ) (h : History) (cs : List (Change TextPlace)) → Makes e x → ArePlaced 16 h cs → change_refusal x cs ≡ directory_refusal h e
+makes_refusal (Arrive doc at text) x h cs makes placed =
+    ap (λ (o : Option ℕ). refusal_by o x.doc x.at cs) makes.2
+    ∙ ap (λ (d : DocId). arrive_refusal d x.at cs) (sym makes.0)
+    ∙ ap (λ (t : Time). arrive_refusal doc t cs) (sym makes.1)
+    ∙ placed_arrive_refusal doc at 16 h cs placed
+makes_refusal (Delete doc at) x h cs makes placed =
+    ap (λ (o : Option ℕ). refusal_by o x.doc x.at cs) makes.2
+    ∙ ap (λ (d : DocId). delete_refusal d x.at cs) (sym makes.0)
+    ∙ ap (λ (t : Time). delete_refusal doc t cs) (sym makes.1)
+    ∙ placed_delete_refusal doc at 16 h cs placed
+makes_refusal (Planned plan) x h cs makes placed = absurd makes
+
+entry_allowed : (h : History) (e : Entry) → directory_refusal h e ≡ None → length (words_in (changes h ++ change_of e ∷ [])) ≤ 2 ^ 20 → entry_refusal h e ≡ None
+entry_allowed h (Arrive doc at text) allowed within = arrival-words h doc at text allowed ∙ ap (λ (o : Option Refusal). first_of (o ∷ [])) (words_within h (Arrive doc at text) tt within)
+entry_allowed h (Delete doc at) allowed within = ap (option_map refusal_of) allowed
+entry_allowed h (Planned plan) allowed within = refl
+
+entry_refused : (h : History) (e : Entry) (why : VersionRefusal) → directory_refusal h e ≡ Some why → entry_refusal h e ≡ None → ⊥
+entry_refused h (Arrive doc at text) why refused none = let some = arrival-refused h doc at text why refused in cc
+entry_refused h (Delete doc at) why refused none = let some = ap (option_map refusal_of) refused in cc
+entry_refused h (Planned plan) why refused none = absurd cc
+
+entry_words : (h : History) (e : Entry) → directory_refusal h e ≡ None → IsSome (text_of e) → 2 ^ 20 < length (words_in (changes h ++ change_of e ∷ [])) → entry_refusal h e ≡ None → ⊥
+entry_words h (Arrive doc at text) allowed some over none =
+    let full = arrival-words h doc at text allowed ∙ ap (λ (o : Option Refusal). first_of (o ∷ [])) (words_full h (Arrive doc at text) tt over) in
+    cc
+entry_words h (Delete doc at) allowed some over none = cc
+entry_words h (Planned plan) allowed some over none = cc
+
+-- an entry that neither the directory nor the index refuses
+pub gone_over : (gate : ℕ) (h : History) (e : Entry) (x : Change ℕ) (held : Option TextPlace) (cs more : List (Change TextPlace)) (plans : List StoredPlan) (loader : Loaded) (text : Option (List ℕ))
+    → IsReached gate h cs plans → IsEntry e → Makes e x → change_refusal x cs ≡ None → IsHeld (gate + 18) x.held held
+    → more ≡ cs ++ record { doc = x.doc; at = x.at; held = held } ∷ [] → text ≡ text_of e
+    → length (words_in (changes h ++ record { doc = x.doc; at = x.at; held = text } ∷ [])) ≤ 2 ^ 20
+    → (ComesLater (changes h) (record { doc = x.doc; at = x.at; held = text }) → AreLoaded loader (changes h ++ record { doc = x.doc; at = x.at; held = text } ∷ []))
+    → IsGoneOver gate h (spelling e) more plans loader
+gone_over gate h e x held cs more plans loader text reached ranges makes allowed is pushed same within takes =
+    let P : List (Change TextPlace) → Type 0 = λ l. ArePlaced 16 (h ++ e ∷ []) l in
+    let change = makes_change e x text makes same in
+    let is_change = makes_is_change e x makes in
+    let may : entry_refusal h e ≡ None = entry_allowed h e (sym (makes_refusal e x h cs makes reached.placed) ∙ allowed) (omega (arith, within, ap (λ (c : Change (List ℕ)). length (words_in (changes h ++ c ∷ []))) change)) in
+    record {
+      entry = e;
+      spelled = refl;
+      reached = record {
+        opens = open_push [] h e reached.opens (record { ranges = ranges; allowed = may; timely = timely_change h e is_change });
+        gate_is = omega (arith, reached.gate_is, end_of-push h e);
+        placed = subst P (sym pushed) (placed_more h cs e x held gate reached.placed reached.gate_is makes is);
+        plans_are = reached.plans_are ∙ sym (plans_push h e gate reached.gate_is ∙ ap (λ (l : List StoredPlan). plans_from 16 h ++ l) (none_in gate e is_change) ∙ append-nil (plans_from 16 h));
+      };
+      loads = takes_change (AreLoaded loader) h e x text makes same (open_allowed [] h reached.opens) may takes;
+    }
+
+-- an entry that the directory refuses
+pub refused_there : (gate : ℕ) (h : History) (e : Entry) (x : Change ℕ) (why : VersionRefusal) (cs : List (Change TextPlace)) (plans : List StoredPlan) (at : ℕ)
+    → IsReached gate h cs plans → IsEntry e → Makes e x → change_refusal x cs ≡ Some why → at ≡ gate → IsFaulty gate h (spelling e) at
+refused_there gate h e x why cs plans at reached ranges makes refused here =
+    inr (record { entry = e; ranges = ranges; spelled = refl; refused = λ may. entry_refused h e why (sym (makes_refusal e x h cs makes reached.placed) ∙ refused) may.allowed }, here)
+
+-- an entry whose words are too many
+pub words_there : (gate : ℕ) (h : History) (e : Entry) (x : Change ℕ) (cs : List (Change TextPlace)) (plans : List StoredPlan) (at : ℕ) (text : Option (List ℕ))
+    → IsReached gate h cs plans → IsEntry e → Makes e x → change_refusal x cs ≡ None → text ≡ text_of e → IsSome text
+    → 2 ^ 20 < length (words_in (changes h ++ record { doc = x.doc; at = x.at; held = text } ∷ [])) → at ≡ gate → IsFaulty gate h (spelling e) at
+words_there gate h e x cs plans at text reached ranges makes allowed same some over here =
+    let S : Option (List ℕ) → Type 0 = λ o. IsSome o in
+    let change = makes_change e x text makes same in
+    inr (
+      record {
+        entry = e;
+        ranges = ranges;
+        spelled = refl;
+        refused = λ may. entry_words h e (sym (makes_refusal e x h cs makes reached.placed) ∙ allowed) (subst S same some) (omega (arith, over, ap (λ (c : Change (List ℕ)). length (words_in (changes h ++ c ∷ []))) change)) may.allowed;
+      },
+      here,
+    )
+
+-- ---- a plan
+
+-- the last time, with places or texts
+placed_last : (h : History) (cs : List (Change TextPlace)) → ArePlaced 16 h cs → last_time cs ≡ last_time (changes h)
+placed_last h cs placed =
+    sym (last_time-mapped (nothing {A = TextPlace}) cs) ∙ ap last_time (bare_changes 16 h cs placed) ∙ last_time-mapped (nothing {A = List ℕ}) (changes h)
+
+timely_same : (h : History) (cs : List (Change TextPlace)) (plan : PlanEntry) → ArePlaced 16 h cs → IsTimely cs plan → IsTimely (changes h) plan
+timely_same h cs plan placed timely = (timely.0, (timely.1.0, (sym (placed_last h cs placed) ∙ timely.1.1.0, timely.1.1.1)))
+
+timely_back : (h : History) (cs : List (Change TextPlace)) (plan : PlanEntry) → ArePlaced 16 h cs → IsTimely (changes h) plan → IsTimely cs plan
+timely_back h cs plan placed timely = (timely.0, (timely.1.0, (placed_last h cs placed ∙ timely.1.1.0, timely.1.1.1)))
+
+-- the test of it
+pub timely_at : (cs : List (Change TextPlace)) (plan : PlanEntry) (last : Time) (b : Bool) → last_time cs ≡ Some last → plan.kind ≡ Guarantee → (IsTrue b ↔ (plan.horizon.seconds ≤ last.seconds)) → IsTrue b ↔ IsTimely cs plan
+timely_at cs plan last b is kind by = (
+  (λ holds. (kind, (last, (is, by.0 holds)))),
+  (λ timely. by.1 (let T : Time → Type 0 = λ t. plan.horizon.seconds ≤ t.seconds in let same : timely.1.0 ≡ last = (let there = timely.1.1.0 in cc) in subst T same timely.1.1.1)),
+)
+
+pub timely_never : (cs : List (Change TextPlace)) (plan : PlanEntry) → last_time cs ≡ None → IsTimely cs plan → ⊥
+timely_never cs plan none timely = let some = timely.1.1.0 in cc
+
+-- what may be planned is timely
+suits_kind : (Good : Asks) (list : List Posting) (plan : PlanEntry) (kind : Kind) → Suits Good list plan kind → kind ≡ Guarantee
+suits_kind Good list plan Guarantee suits = refl
+suits_kind Good list plan Uniform suits = absurd suits
+suits_kind Good list plan (Since at) suits = absurd suits
+
+some_last : (o : Option Time) (n : ℕ) → 0 < n → n ≤ unwrap_or (option_map (λ (t : Time). t.seconds) o) 0 → (t : Time) × ((o ≡ Some t) × (n ≤ t.seconds))
+some_last None n some within = absurd (omega (arith, some, within))
+some_last (Some t) n some within = (t, (refl, within))
+
+pub planned_timely : (h : History) (plan : PlanEntry) → MayBePlanned IsFitPlan h plan → IsTimely (changes h) plan
+planned_timely h plan may =
+    (suits_kind IsFitPlan may.list plan plan.kind may.suits, some_last (last_time (changes h)) plan.horizon.seconds (list_behind may.list plan.horizon.seconds may.some may.list_is.inside) may.past)
+
+pub plan_over : (gate : ℕ) (h : History) (plan : PlanEntry) (cs : List (Change TextPlace)) (plans : List StoredPlan) (loader : Loaded)
+    → IsReached gate h cs plans → IsEntry (Planned plan) → IsTimely cs plan → AreLoaded loader (changes h) → IsGoneOver gate h (spelling (Planned plan)) cs (plans ++ record { gate = gate; plan = plan } ∷ []) loader
+plan_over gate h plan cs plans loader reached ranges timely loads =
+    let L : List (Change (List ℕ)) → Type 0 = λ l. AreLoaded loader l in
+    record {
+      entry = Planned plan;
+      spelled = refl;
+      reached = record {
+        opens = open_push [] h (Planned plan) reached.opens (record { ranges = ranges; allowed = refl; timely = timely_same h cs plan reached.placed timely });
+        gate_is = omega (arith, reached.gate_is, end_of-push h (Planned plan));
+        placed = placed_plan h cs plan reached.placed;
+        plans_are = ap (λ (l : List StoredPlan). l ++ record { gate = gate; plan = plan } ∷ []) reached.plans_are ∙ sym (plans_push h (Planned plan) gate reached.gate_is);
+      };
+      loads = subst L (sym (changes_still h plan)) loads;
+    }
+
+pub plan_there : (gate : ℕ) (h : History) (plan : PlanEntry) (cs : List (Change TextPlace)) (plans : List StoredPlan) (at : ℕ)
+    → IsReached gate h cs plans → IsEntry (Planned plan) → (IsTimely cs plan → ⊥) → at ≡ gate → IsFaulty gate h (spelling (Planned plan)) at
+plan_there gate h plan cs plans at reached ranges late here =
+    inr (record { entry = Planned plan; ranges = ranges; spelled = refl; refused = λ may. late (timely_back h cs plan reached.placed (planned_timely h plan may.planned)) }, here)
+
+-- ---- heads, one after another
+
+-- the next gate is where the next head says
+pub reached_at : (tells : Type 0) (journal : List ℕ) (heads : List Head) (i : ℕ) (cs : List (Change TextPlace)) (plans : List StoredPlan) (loader : Loaded) (head : Head) (end : ℕ) → AreInRow 16 heads end → i < length heads
+    → head ≡ get_or heads i head → (r : IsReplaying tells journal heads i cs plans loader) → IsReached head.gate r.history cs plans
+reached_at tells journal heads i cs plans loader head end row within is r =
+    let there = row_gate 16 end heads (bodies_of r.history) i head row r.met.heads_are within in
+    let gate : head.gate ≡ 16 + length (records (bodies_of r.history)) = ap (λ (x : Head). x.gate) is ∙ there.0 in
+    record {
+      opens = r.met.opens;
+      gate_is = omega (arith, gate, end_of_is r.history, length_front (bodies_of r.history));
+      placed = r.met.placed;
+      plans_are = r.met.plans_are;
+    }
+
+-- a body read is the journal's
+body_read : (journal : List ℕ) (bodies : List (List ℕ)) (heads : List Head) (i : ℕ) (h : History) (head : Head) (end : ℕ) (body : List ℕ) → AreInRow 16 heads end → i < length heads
+    → head ≡ get_or heads i head → take i heads ≡ heads_of 16 (bodies_of h) → heads ≡ heads_of 16 bodies → Spells journal bodies → bodies_of h ≡ take i bodies
+    → body ≡ take head.bytes (drop head.body journal) → (i < length bodies) × (body ≡ get_or bodies i [])
+body_read journal bodies heads i h head end body row within is early same spelled before read =
+    let inside : i < length bodies = omega (arith, within, ap length same, length_heads 16 bodies) in
+    let there = row_gate 16 end heads (bodies_of h) i head row early within in
+    let at : head.body ≡ 16 + length (records (take i bodies)) + 5 = ap (λ (x : Head). x.body) is ∙ there.1 ∙ ap (λ (l : List (List ℕ)). 16 + length (records l) + 5) before in
+    let count : head.bytes ≡ length (get_or bodies i []) = ap (λ (x : Head). x.bytes) (is ∙ ap (λ (l : List Head). get_or l i head) same) ∙ head_bytes 16 bodies i head inside in
+    (inside, read ∙ ap (λ (n : ℕ). take n (drop head.body journal)) count ∙ body_found journal bodies i head.body spelled inside at)
+
+-- one head more
+pub replayed_more : (tells : Type 0) (journal : List ℕ) (heads : List Head) (i : ℕ) (cs more : List (Change TextPlace)) (plans others : List StoredPlan) (loader after : Loaded) (head : Head) (end : ℕ) (body : List ℕ)
+    → AreInRow 16 heads end → i < length heads → head ≡ get_or heads i head → length body ≡ head.bytes → (tells → body ≡ take head.bytes (drop head.body journal))
+    → (r : IsReplaying tells journal heads i cs plans loader) → IsGoneOver head.gate r.history body more others after → IsReplaying tells journal heads (i + 1) more others after
+replayed_more tells journal heads i cs more plans others loader after head end body row within is long read r over =
+    let h = r.history in
+    let there = row_gate 16 end heads (bodies_of h) i head row r.met.heads_are within in
+    let next : bodies_of (h ++ over.entry ∷ []) ≡ bodies_of h ++ body ∷ [] = bodies_of-push h over.entry ∙ ap (λ (l : List ℕ). bodies_of h ++ l ∷ []) (sym over.spelled) in
+    let one : head.gate ≡ 16 + length (records (bodies_of h)) = ap (λ (x : Head). x.gate) is ∙ there.0 in
+    let two : head.body ≡ 16 + length (records (bodies_of h)) + 5 = ap (λ (x : Head). x.body) is ∙ there.1 in
+    let here : head ≡ head_at (16 + length (records (bodies_of h))) body = head_by_parts head (16 + length (records (bodies_of h))) body one two (sym long) in
+    record {
+      history = h ++ over.entry ∷ [];
+      met = record {
+        opens = over.reached.opens;
+        heads_are = take_more heads i head within
+            ∙ ap (λ (x : Head). take i heads ++ x ∷ []) (sym is ∙ here)
+            ∙ ap (λ (l : List Head). l ++ head_at (16 + length (records (bodies_of h))) body ∷ []) r.met.heads_are
+            ∙ sym (heads_push 16 (bodies_of h) body) ∙ ap (heads_of 16) (sym next);
+        placed = over.reached.placed;
+        plans_are = over.reached.plans_are;
+      };
+      loads = over.loads;
+      bodies_are = λ told bodies same spelled.
+          let before = r.bodies_are told bodies same spelled in
+          let found = body_read journal bodies heads i h head end body row within is r.met.heads_are same spelled before (read told) in
+          next ∙ ap (λ (l : List (List ℕ)). l ++ body ∷ []) before ∙ ap (λ (b : List ℕ). take i bodies ++ b ∷ []) found.1 ∙ sym (take_more bodies i [] found.0);
+    }
+
+-- one head whose entry is refused
+pub next_bad : (tells : Type 0) (journal : List ℕ) (heads : List Head) (i : ℕ) (cs : List (Change TextPlace)) (plans : List StoredPlan) (loader : Loaded) (head : Head) (end : ℕ) (body : List ℕ) (bodies : List (List ℕ)) (at : ℕ)
+    → AreInRow 16 heads end → i < length heads → head ≡ get_or heads i head → tells → body ≡ take head.bytes (drop head.body journal)
+    → heads ≡ heads_of 16 bodies → Spells journal bodies
+    → (r : IsReplaying tells journal heads i cs plans loader) → IsFaulty head.gate r.history body at → IsNextBad r.history bodies at
+next_bad tells journal heads i cs plans loader head end body bodies at row within is told read same spelled r fault =
+    let h = r.history in
+    let before = r.bodies_are told bodies same spelled in
+    let found = body_read journal bodies heads i h head end body row within is r.met.heads_are same spelled before read in
+    let there = row_gate 16 end heads (bodies_of h) i head row r.met.heads_are within in
+    let gate : head.gate ≡ length (front (bodies_of h)) = ap (λ (x : Head). x.gate) is ∙ there.0 ∙ sym (length_front (bodies_of h)) in
+    let P : ℕ → Type 0 = λ n. IsFaulty n h body at in
+    record {
+      body = body;
+      rest = drop (i + 1) bodies;
+      split = around bodies i found.0
+          ∙ ap (λ (l : List (List ℕ)). l ++ get_or bodies i [] ∷ drop (i + 1) bodies) (sym before)
+          ∙ ap (λ (b : List ℕ). bodies_of h ++ b ∷ drop (i + 1) bodies) (sym found.1);
+      fault = subst P gate fault;
+    }
+
+-- what was met is as it was
+unfoldable pub same_replaying : (tells : Type 0) (journal : List ℕ) (heads : List Head) (i : ℕ) (cs others : List (Change TextPlace)) (plans those : List StoredPlan) (loader other : Loaded) → others ≡ cs → those ≡ plans → other ≡ loader
+    → IsReplaying tells journal heads i cs plans loader → IsReplaying tells journal heads i others those other
+same_replaying tells journal heads i cs others plans those loader other a b d r = record {
+  history = r.history;
+  met = record {
+    opens = r.met.opens;
+    heads_are = r.met.heads_are;
+    placed = let P : List (Change TextPlace) → Type 0 = λ l. ArePlaced 16 r.history l in subst P (sym a) r.met.placed;
+    plans_are = b ∙ r.met.plans_are;
+  };
+  loads = let L : Loaded → Type 0 = λ l. AreLoaded l (changes r.history) in subst L (sym d) r.loads;
+  bodies_are = r.bodies_are;
+}
+
+pub holds_on : (old new : DiskState) → OnlyReads old new → new.holds.journal ≡ old.holds.journal
+holds_on old new same = ap (λ (d : DiskState). d.holds.journal) same
+
+pub empty_view : (bytes : List ℕ) (from : ℕ) (journal : List ℕ) → length bytes ≡ 0 → IsView bytes from journal
+empty_view [] from journal none = refl
+empty_view (b ∷ bytes) from journal none = absurd (omega (arith, none))
+
+pub view_on : (bytes : List ℕ) (from : ℕ) (journal other : List ℕ) → other ≡ journal → IsView bytes from journal → IsView bytes from other
+view_on bytes from journal other same view = let P : List ℕ → Type 0 = λ l. IsView bytes from l in subst P (sym same) view
+
+-- a load whose read failed
+pub failed_read : {T U : Type 0} (r : Result T ReadError) (s : Result U LoadError) (e : ReadError) (y : LoadError) → r ≡ Err e → s ≡ Err y → y ≡ load_error_of_read e
+    → s ≡ Err loads.Failed → r ≡ Err reads.Failed
+failed_read r s reads.Failed y was made same is = was
+failed_read r s reads.Memory y was made same is = absurd cc
+
+-- one change more, by its parts
+pub pushed_is : (cs early more : List (Change TextPlace)) (x : Change ℕ) (p : Change TextPlace) → p.doc ≡ x.doc → p.at ≡ x.at → early ≡ cs → more ≡ early ++ p ∷ []
+    → more ≡ cs ++ record { doc = x.doc; at = x.at; held = p.held } ∷ []
+pushed_is cs early more x p doc at same pushed = pushed ∙ ap (λ (l : List (Change TextPlace)). l ++ p ∷ []) same
+    ∙ ap (λ (d : DocId). cs ++ record { doc = d; at = p.at; held = p.held } ∷ []) doc
+    ∙ ap (λ (t : Time). cs ++ record { doc = x.doc; at = t; held = p.held } ∷ []) at

@@ -1,0 +1,11 @@
+use Rattle.archive_replay.proofs.PlaceLemmas.{bare_changes, placed_more, placed_plan}
+use Rattle.archive_replay.proofs.laws.places_follow_entries.Goals as goal
+
+pub returns-clause-alike : goal.returns-clause-alike
+returns-clause-alike c = bare_changes
+
+pub returns-clause-change : goal.returns-clause-change
+returns-clause-change c = placed_more
+
+pub returns-clause-plan : goal.returns-clause-plan
+returns-clause-plan c = placed_plan

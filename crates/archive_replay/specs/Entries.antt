@@ -1,0 +1,69 @@
+-- An entry, the change that it makes, and why that may not come next.
+use Rattle.std.specs.Prelude.{◌≡◌, ℕ, List, [], ◌∷◌, length, Option, Some, None, Result, Ok, Err}
+use Rattle.time_base.specs.declared.ids.DocId.{DocId}
+use Rattle.time_base.specs.declared.time.Time.{Time}
+use Rattle.time_base.specs.declared.text_place.TextPlace.{TextPlace}
+use Rattle.version_store.specs.declared.change.Change.{Change}
+use Rattle.version_store.specs.declared.refusal.VersionRefusal.{VersionRefusal}
+use Rattle.version_store.specs.Refusals.{arrive_refusal, delete_refusal}
+use Rattle.version_store.specs.Tests.{first_of}
+use Rattle.record_codec.specs.Spelling.{spelling}
+use Rattle.record_codec.specs.declared.entry.Entry.{Entry}
+use Rattle.record_codec.specs.declared.entry.Entry.TheVariants.{Arrive, Delete, Planned}
+use Rattle.archive_state.specs.declared.refusal.Refusal.{Refusal}
+use Rattle.archive_state.specs.Histories.{History}
+use Rattle.archive_state.specs.Legal.{IsLegalEntry}
+use Rattle.archive_state.specs.Steps.{full_journal}
+use Rattle.version_index.specs.Indexes.{IndexState, IsPreparedFor}
+use Rattle.archive_replay.specs.Places.{IsPlace}
+use Rattle.archive_replay.specs.declared.preparing.Prepared.{Prepared}
+use Rattle.archive_replay.specs.declared.preparing.Unprepared.{Unprepared}
+use Rattle.archive_replay.specs.declared.preparing.Unprepared.TheVariants as unprepared
+
+-- the change that an entry makes, with the length of its text; a plan makes none
+abbrev pub Makes : Entry → Change ℕ → Type 0
+Makes (Arrive doc at text) change = (doc ≡ change.doc) × (at ≡ change.at) × (change.held ≡ Some (length text))
+Makes (Delete doc at) change = (doc ≡ change.doc) × (at ≡ change.at) × (change.held ≡ None)
+Makes (Planned plan) change = ⊥
+
+-- the document of a change, its time, and the text that it has then (a plan, which changes no document, has its horizon and no text)
+abbrev pub document_of : Entry → DocId
+document_of (Arrive doc at text) = doc
+document_of (Delete doc at) = doc
+document_of (Planned plan) = record { 0 = 0 }
+
+abbrev pub time_of : Entry → Time
+time_of (Arrive doc at text) = at
+time_of (Delete doc at) = at
+time_of (Planned plan) = plan.horizon
+
+abbrev pub text_of : Entry → Option (List ℕ)
+text_of (Arrive doc at text) = Some text
+text_of (Delete doc at) = None
+text_of (Planned plan) = None
+
+-- what is held of a text of so many bytes that lies at this place, or of none
+abbrev pub IsHeld : ℕ → Option ℕ → Option TextPlace → Type 0
+IsHeld at (Some bytes) held = IsPlace at bytes held
+IsHeld at None held = held ≡ None
+
+-- why a change may not come after others: an arrival, of whose text something is held, or a deletion
+abbrev pub refusal_by : {A B : Type 0} → Option A → DocId → Time → List (Change B) → Option VersionRefusal
+refusal_by (Some held) doc at changes = arrive_refusal doc at changes
+refusal_by None doc at changes = delete_refusal doc at changes
+
+abbrev pub change_refusal : {A B : Type 0} → Change A → List (Change B) → Option VersionRefusal
+change_refusal change changes = refusal_by change.held change.doc change.at changes
+
+-- an entry may come next after a history, makes this change, and has this spelling
+pub record IsNext (history : History) (entry : Entry) (change : Change ℕ) (body : List ℕ) : Type 0 where
+  pub legal : IsLegalEntry history entry
+  pub makes : Makes entry change
+  pub spelled : body ≡ spelling entry
+
+-- An entry is prepared that may come next after a history, but for the journal's room; or this is why it may not.
+abbrev pub IsPrepared : History → IndexState → Entry → Option Refusal → Result Prepared Unprepared → Type 0
+IsPrepared history index entry refusal (Ok p) = IsNext history entry p.change p.body.items × IsPreparedFor index (document_of entry) (text_of entry) p.words
+    × (refusal ≡ first_of (full_journal history entry ∷ []))
+IsPrepared history index entry refusal (Err (unprepared.Refused why)) = refusal ≡ Some why
+IsPrepared history index entry refusal (Err unprepared.Memory) = Unit {0}

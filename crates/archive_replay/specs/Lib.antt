@@ -1,0 +1,6 @@
+pub mod Places
+pub mod Entries
+pub mod Texts
+pub mod Live
+pub mod Replaying
+pub mod Causes

@@ -1,0 +1,115 @@
+//! Why a journal was not gone over, or not read.
+ghost use Rattle.std.specs.Prelude.{◌≡◌};
+
+use gate_journal::JournalError;
+use machine_model::Failed;
+use std::alloc::{AllocError, AllocFailed};
+
+/// Why an archive was not loaded.
+#[derive(Clone, Copy, Debug, PartialEq, Eq)]
+pub enum LoadError {
+    /// A call of the disk failed.
+    Failed,
+    /// The journal is no archive's, which shows at that place: of a byte that differs from the
+    /// header, of an open gate whose record lies past the end or isn't legal, or of the first field
+    /// of an entry that isn't allowed; or of the gate of a plan whose places lie badly.
+    NotArchive {
+        /// The place in the journal.
+        at: u64,
+    },
+    /// There was no memory.
+    Memory,
+}
+
+/// Why bytes of the journal were not read.
+#[derive(Clone, Copy, Debug, PartialEq, Eq)]
+pub enum ReadError {
+    /// A call of the disk failed.
+    Failed,
+    /// There was no memory.
+    Memory,
+}
+
+impl From<AllocError> for LoadError {
+    ghost use Rattle.archive_replay.specs.declared.error.LoadError.TheVariants.{Memory};
+    ghost use Rattle.std.specs.Prelude.{◌≡◌};
+
+    ghost from_gives = { λ _ e. e ≡ Memory };
+
+    fn from(_: AllocError) -> Self {
+        LoadError::Memory
+    }
+}
+
+impl From<ReadError> for LoadError {
+    ghost use Rattle.archive_replay.specs.Causes.{load_error_of_read};
+    ghost use Rattle.std.specs.Prelude.{◌≡◌};
+
+    ghost from_gives = { λ why e. e ≡ load_error_of_read why };
+
+    fn from(why: ReadError) -> Self {
+        match why {
+            ReadError::Failed => LoadError::Failed,
+            ReadError::Memory => LoadError::Memory,
+        }
+    }
+}
+
+impl From<AllocError> for ReadError {
+    ghost use Rattle.archive_replay.specs.declared.error.ReadError.TheVariants.{Memory};
+    ghost use Rattle.std.specs.Prelude.{◌≡◌};
+
+    ghost from_gives = { λ _ e. e ≡ Memory };
+
+    fn from(_: AllocError) -> Self {
+        ReadError::Memory
+    }
+}
+
+impl<T: Drop> From<AllocFailed<T>> for ReadError {
+    ghost use Rattle.archive_replay.specs.declared.error.ReadError.TheVariants.{Memory};
+    ghost use Rattle.std.specs.Prelude.{◌≡◌};
+
+    ghost from_gives = { λ _ e. e ≡ Memory };
+
+    fn from(_: AllocFailed<T>) -> Self {
+        ReadError::Memory
+    }
+}
+
+impl From<Failed> for ReadError {
+    ghost use Rattle.archive_replay.specs.declared.error.ReadError.TheVariants.{Failed};
+    ghost use Rattle.std.specs.Prelude.{◌≡◌};
+
+    ghost from_gives = { λ _ e. e ≡ Failed };
+
+    fn from(_: machine_model::Failed) -> Self {
+        ReadError::Failed
+    }
+}
+
+impl From<JournalError> for LoadError {
+    ghost use Rattle.archive_replay.specs.Causes.{load_error_of};
+    ghost use Rattle.std.specs.Prelude.{◌≡◌};
+
+    ghost from_gives = { λ why e. e ≡ load_error_of why };
+
+    fn from(why: JournalError) -> Self {
+        match why {
+            JournalError::Failed => LoadError::Failed,
+            JournalError::NotJournal { at } => LoadError::NotArchive { at },
+            JournalError::Memory => LoadError::Memory,
+        }
+    }
+}
+
+impl From<Failed> for LoadError {
+    ghost use Rattle.archive_replay.specs.declared.error.LoadError.TheVariants.{Failed};
+    ghost use Rattle.std.specs.Prelude.{◌≡◌};
+
+    ghost from_gives = { λ _ e. e ≡ Failed };
+
+    fn from(_: machine_model::Failed) -> Self {
+        LoadError::Failed
+    }
+}

@@ -1,0 +1,37 @@
+//! What a directory and an index have of entries, whatever is read.
+ghost use Rattle.std.specs.Prelude.{◌≡◌, ◌+◌, ◌++◌, [], ◌∷◌, ℕ, List, Option, map};
+ghost use Rattle.time_base.specs.declared.posting.Posting.{Posting};
+ghost use Rattle.time_base.specs.declared.text_place.TextPlace.{TextPlace};
+ghost use Rattle.version_store.specs.declared.change.Change.{Change};
+ghost use Rattle.version_index.specs.Indexing.{ComesLater};
+ghost use Rattle.version_index.specs.Words as index;
+ghost use Rattle.record_codec.specs.declared.entry.Entry.{Entry};
+ghost use Rattle.record_codec.specs.declared.entry.Entry.TheVariants as entries;
+ghost use Rattle.record_codec.specs.declared.plan.PlanEntry.{PlanEntry};
+ghost use Rattle.archive_state.specs.Answers.{IsWordList};
+ghost use Rattle.archive_state.specs.Histories.{History, changes, end_of, entry_refusal, vocabulary};
+ghost use Rattle.archive_state.specs.Legal.{IsLoadable};
+ghost use Rattle.archive_state.specs.Plans.{IsChange};
+ghost use Rattle.archive_replay.specs.Entries.{IsHeld, Makes, text_of};
+ghost use Rattle.archive_replay.specs.Places.{ArePlaced};
+ghost use Rattle.archive_replay.specs.Texts.{bare};
+
+/// The changes with places are the history's but for what they hold. With the change of one entry
+/// more behind them they are those of the history with that entry; a plan makes none. Does nothing.
+pub fn places_follow_entries()
+    ensures alike { (gate : ℕ) (h : History) (cs : List (Change TextPlace)) → ArePlaced gate h cs → map bare cs ≡ map bare (changes h) }
+    ensures change { (h : History) (cs : List (Change TextPlace)) (e : Entry) (x : Change ℕ) (held : Option TextPlace) (gate : ℕ) → ArePlaced 16 h cs → end_of h ≡ gate + 1 → Makes e x → IsHeld (gate + 18) x.held held →
+        ArePlaced 16 (h ++ e ∷ []) (cs ++ record { doc = x.doc; at = x.at; held = held } ∷ []) }
+    ensures plan { (h : History) (cs : List (Change TextPlace)) (plan : PlanEntry) → ArePlaced 16 h cs → ArePlaced 16 (h ++ entries.Planned plan ∷ []) cs }
+{}
+
+/// The changes of a history have its words, and its words' lists. An entry that is not refused behind a
+/// history that loads, and makes a change, adds that, which comes later than its document's earlier
+/// ones; a plan adds none. Does nothing.
+pub fn changes_follow_entries()
+    ensures words { (h : History) → vocabulary h ≡ index.words_in (changes h) }
+    ensures list { (h : History) (word : List ℕ) (list : List Posting) → index.IsWordList (changes h) word list → IsWordList h word list }
+    ensures change { (h : History) (e : Entry) (x : Change ℕ) → IsLoadable h → entry_refusal h e ≡ None → Makes e x →
+        IsChange e × (changes (h ++ e ∷ []) ≡ changes h ++ record { doc = x.doc; at = x.at; held = text_of e } ∷ []) × ComesLater (changes h) (record { doc = x.doc; at = x.at; held = text_of e }) }
+    ensures plan { (h : History) (plan : PlanEntry) → changes (h ++ entries.Planned plan ∷ []) ≡ changes h }
+{}

@@ -1,0 +1,156 @@
+//! Preparing a change: the tests of it that need no disk, and the spelling of its entry.
+ghost use Rattle.std.specs.Prelude.{◌≡◌, ◌<◌, ◌^◌, length, IfOk};
+ghost use Rattle.time_base.specs.Limits.{limit_of};
+ghost use Rattle.archive_state.specs.Histories.{History, changes};
+ghost use Rattle.version_index.specs.Indexes.{state_of, Indexes};
+ghost use Rattle.archive_state.specs.Steps.{arrival_refusal, deletion_refusal};
+ghost use Rattle.record_codec.specs.declared.entry.Entry.TheVariants as entries;
+ghost use Rattle.archive_replay.specs.Places.{ArePlaced};
+ghost use Rattle.archive_replay.specs.Entries.{IsPrepared, change_refusal};
+
+use crate::change::may_come;
+use crate::text::text_of;
+use archive_state::Refusal;
+use fold_tokens::NumberError;
+use record_codec::{encode_arrival, encode_deletion};
+use std::alloc::{AllocError, Global};
+use time_base::{DocId, Time, Which};
+use version_index::Index;
+use version_store::{Change, Directory};
+
+/// A change that may come next, with the length of its text, its entry's spelling, and what the
+/// index needs of its text.
+#[derive(Drop)]
+pub struct Prepared {
+    /// The change, with the length of its text in bytes.
+    pub change: Change<u32>,
+    /// The spelling of its entry.
+    pub body: Vec<u8>,
+    /// What the index needs of its text.
+    pub words: version_index::Prepared,
+}
+
+/// Why a change was not prepared.
+#[derive(Clone, Copy, Debug, PartialEq, Eq)]
+pub enum Unprepared {
+    /// It isn't allowed.
+    Refused(Refusal),
+    /// There was no memory.
+    Memory,
+}
+
+impl From<AllocError> for Unprepared {
+    ghost use Rattle.archive_replay.specs.declared.preparing.Unprepared.TheVariants.{Memory};
+    ghost use Rattle.std.specs.Prelude.{◌≡◌};
+
+    ghost from_gives = { λ _ e. e ≡ Memory };
+
+    fn from(_: AllocError) -> Self {
+        Unprepared::Memory
+    }
+}
+
+/// The refusal of a text with which there would be too many words.
+fn full_words() -> Refusal
+    ensures { result ≡ Refusal.Full Which.Words (limit_of Which.Words) }
+{
+    Refusal::Full {
+        which: Which::Words,
+        limit: Which::Words.limit(),
+    }
+}
+
+/// Prepares a version of a document. Nothing is changed.
+///
+/// `Refused`: for the first cause in order, the text is too long, isn't UTF-8, the time lies before the
+/// last one, the document's latest change has this time, or the documents, the versions or the words are
+/// full; the journal's room isn't asked. `Memory`: there was none.
+/// Costs the text's words and a look-up.
+pub fn prepare_arrival(
+    alloc: Global,
+    directory: &Directory,
+    index: &mut Index,
+    doc: DocId,
+    at: Time,
+    text: &[u8],
+) -> Result<Prepared, Unprepared>
+    ensures same { state_of index.new ≡ state_of index.old }
+    ensures fits { IfOk result (λ p. length p.body.items < 2 ^ 32) }
+    ensures allowed { IfOk result (λ p. change_refusal p.change directory.now.changes ≡ None) }
+    ensures prepared { (h : History) → ArePlaced 16 h directory.now.changes → Indexes (state_of index.old) (changes h)
+        → IsPrepared h (state_of index.old) (entries.Arrive doc at text.now) (arrival_refusal h doc at text.now) result }
+{
+    let text = match text_of(text) {
+        Ok(text) => text,
+        Err(why) => return Err(Unprepared::Refused(why)),
+    };
+    let change = Change {
+        doc,
+        at,
+        held: Some(text.len() as u32),
+    };
+    match may_come(directory, change) {
+        Ok(()) => {}
+        Err(why) => return Err(Unprepared::Refused(why.into())),
+    }
+    let words = match index.prepare(alloc, doc, Some(text)) {
+        Ok(words) => words,
+        Err(NumberError::Full) => return Err(Unprepared::Refused(full_words())),
+        Err(NumberError::Memory) => return Err(Unprepared::Memory),
+    };
+    let body = encode_arrival(alloc, doc, at, text)?;
+    Ok(Prepared {
+        change,
+        body,
+        words,
+    })
+}
+
+/// Prepares the end of a document's newest version. Nothing is changed.
+///
+/// `Refused`: for the first cause in order, the time lies before the last one, the document has no version
+/// or its latest is a tombstone, its latest version has this time, or the versions are full; the journal's
+/// room isn't asked. `Memory`: there was none.
+/// Costs a look-up.
+pub fn prepare_deletion(
+    alloc: Global,
+    directory: &Directory,
+    index: &mut Index,
+    doc: DocId,
+    at: Time,
+) -> Result<Prepared, Unprepared>
+    ensures same { state_of index.new ≡ state_of index.old }
+    ensures fits { IfOk result (λ p. length p.body.items < 2 ^ 32) }
+    ensures allowed { IfOk result (λ p. change_refusal p.change directory.now.changes ≡ None) }
+    ensures prepared { (h : History) → ArePlaced 16 h directory.now.changes → Indexes (state_of index.old) (changes h)
+        → IsPrepared h (state_of index.old) (entries.Delete doc at) (deletion_refusal h doc at) result }
+{
+    let change = Change {
+        doc,
+        at,
+        held: None,
+    };
+    match may_come(directory, change) {
+        Ok(()) => {}
+        Err(why) => return Err(Unprepared::Refused(why.into())),
+    }
+    let Ok(words) = index.prepare(alloc, doc, None) else {
+        return Err(Unprepared::Memory);
+    };
+    let body = encode_deletion(alloc, doc, at)?;
+    Ok(Prepared {
+        change,
+        body,
+        words,
+    })
+}
+
+/// The refusal of an entry for which the journal has no room. Constant cost.
+pub fn full_journal() -> Refusal
+    ensures { result ≡ Refusal.Full Which.Journal (limit_of Which.Journal) }
+{
+    Refusal::Full {
+        which: Which::Journal,
+        limit: Which::Journal.limit(),
+    }
+}

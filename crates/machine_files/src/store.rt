@@ -1,0 +1,173 @@
+//! The files of an archive, and their folder.
+ghost use Rattle.std.specs.Prelude.{◌≡◌, ◌+◌, ◌^◌, ◌≤◌, max, length, true, false, IfOk, OnOk, OnErr, IsErr};
+ghost use Rattle.machine_model.specs.Areas.{part, replaced};
+ghost use Rattle.machine_model.specs.Calls.{IsPartlyReached};
+ghost use Rattle.machine_files.specs.Stores.{lengths};
+
+use crate::area_file::AreaFile;
+use machine_model::{Area, Failed};
+use std::fs::{Files, OpenFile, OpenOptions};
+use std::io;
+use std::io::Seek;
+use std::os::unix::fs::FileExt;
+
+/// The file of each area, and the folder that they lie in.
+#[derive(Drop)]
+pub(crate) struct Store<F> {
+    pub(crate) journal: AreaFile<F>,
+    pub(crate) pages: AreaFile<F>,
+    folder: F,
+    /// Whether the names in the folder are durable. Before the first good sync it isn't known, and
+    /// false: a file that was made is lost with its name.
+    pub(crate) is_folder_synced: bool,
+    /// Whether a sync has failed. The system may then have dropped what it could not write, and
+    /// would answer the next sync as if all were well.
+    pub(crate) has_lost: bool,
+}
+
+/// Opens a file for reading and writing, and makes it where it is missing. What it holds stays.
+///
+/// The handle that is kept is a second one: it stands above the standard streams, also where one
+/// of those was closed and the first handle took its number. So no reply lands in a file.
+fn open_or_make<R: Files>(rt: &R, name: &str) -> io::Result<R::File> {
+    let file = OpenOptions::new()
+        .read(true)
+        .write(true)
+        .create(true)
+        .open(rt, name)?;
+    file.try_clone()
+}
+
+/// Opens the file of one area in the working folder.
+fn open_area<R: Files>(rt: &R, area: Area) -> Result<AreaFile<R::File>, Failed>
+where
+    R::File: FileExt,
+    ensures { IfOk result (λ a. a.is_synced ≡ false) }
+{
+    let name = match area {
+        Area::Journal => "archive.journal",
+        Area::Pages => "archive.pages",
+    };
+    match open_or_make(rt, name) {
+        Ok(file) => AreaFile::new(file),
+        Err(_) => Err(Failed),
+    }
+}
+
+/// Opens the working folder, so that the names in it can be made durable.
+fn open_folder<R: Files>(rt: &R) -> Result<R::File, Failed> {
+    match OpenOptions::new().read(true).open(rt, ".") {
+        Ok(folder) => Ok(folder),
+        Err(_) => Err(Failed),
+    }
+}
+
+impl<F: FileExt + Seek + OpenFile> Store<F> {
+    /// Opens both files of the working folder. Where that fails, no call of an archive is made.
+    pub(crate) fn open<R: Files<File = F>>(rt: &R) -> Result<Store<F>, Failed>
+    where
+        F: Drop,
+        ensures journal { IfOk result (λ s. s.journal.is_synced ≡ false) }
+        ensures pages { IfOk result (λ s. s.pages.is_synced ≡ false) }
+    {
+        let journal = open_area(rt, Area::Journal)?;
+        let pages = open_area(rt, Area::Pages)?;
+        let folder = open_folder(rt)?;
+        Ok(Store {
+            journal,
+            pages,
+            folder,
+            is_folder_synced: false,
+            has_lost: false,
+        })
+    }
+
+    /// The length of an area, in bytes.
+    pub(crate) fn length(&self, area: Area) -> u64
+        ensures { result ≡ part (lengths self.now) area }
+    {
+        match area {
+            Area::Journal => self.journal.length,
+            Area::Pages => self.pages.length,
+        }
+    }
+
+    /// Fills the buffer with the bytes of an area from the place `at` on.
+    pub(crate) fn read(&self, area: Area, at: u64, buf: &mut [u8]) -> Result<(), Failed>
+        requires { at + length buf.old ≤ part (lengths self.now) area }
+    {
+        match area {
+            Area::Journal => self.journal.read(at, buf),
+            Area::Pages => self.pages.read(at, buf),
+        }
+    }
+
+    /// Writes bytes into an area from the place `at` on.
+    pub(crate) fn write(&mut self, area: Area, at: u64, bytes: &[u8]) -> Result<(), Failed>
+        requires { at + length bytes.now ≤ 2 ^ 40 }
+        ensures ok { OnOk result (lengths self.new ≡ replaced (lengths self.old) area (max (part (lengths self.old) area) (at + length bytes.now))) }
+        ensures err { OnErr result (IsPartlyReached area (at + length bytes.now) (lengths self.old) (lengths self.new)) }
+        ensures journal { self.old.journal.length ≤ self.new.journal.length }
+        ensures pages { self.old.pages.length ≤ self.new.pages.length }
+        ensures open_journal { area ≡ Area.Journal → self.new.journal.is_synced ≡ false }
+        ensures open_pages { area ≡ Area.Pages → self.new.pages.is_synced ≡ false }
+    {
+        match area {
+            Area::Journal => self.journal.write(at, bytes),
+            Area::Pages => self.pages.write(at, bytes),
+        }
+    }
+
+    /// Makes both files durable, each where it was written since its last good sync or since the
+    /// opening; and at the first good sync the names of the files in their folder.
+    ///
+    /// Once a sync has failed, every later one fails.
+    pub(crate) fn sync(&mut self) -> Result<(), Failed>
+        ensures lengths { lengths self.new ≡ lengths self.old }
+        ensures journal { OnOk result (self.new.journal.is_synced ≡ true) }
+        ensures pages { OnOk result (self.new.pages.is_synced ≡ true) }
+        ensures folder { OnOk result (self.new.is_folder_synced ≡ true) }
+        ensures lost { OnErr result (self.new.has_lost ≡ true) }
+        ensures stays_lost { self.old.has_lost ≡ true → IsErr result }
+    {
+        if self.has_lost {
+            return Err(Failed);
+        }
+        match self.sync_each() {
+            Ok(()) => Ok(()),
+            Err(Failed) => {
+                self.has_lost = true;
+                Err(Failed)
+            }
+        }
+    }
+
+    fn sync_each(&mut self) -> Result<(), Failed>
+        ensures lengths { lengths self.new ≡ lengths self.old }
+        ensures journal { OnOk result (self.new.journal.is_synced ≡ true) }
+        ensures pages { OnOk result (self.new.pages.is_synced ≡ true) }
+        ensures folder { OnOk result (self.new.is_folder_synced ≡ true) }
+    {
+        self.journal.sync()?;
+        self.pages.sync()?;
+        self.sync_folder()
+    }
+
+    /// Makes the names in the folder durable, once: `sync_all`, since a folder is all metadata.
+    fn sync_folder(&mut self) -> Result<(), Failed>
+        ensures journal { self.new.journal ≡ self.old.journal }
+        ensures pages { self.new.pages ≡ self.old.pages }
+        ensures folder { OnOk result (self.new.is_folder_synced ≡ true) }
+    {
+        if self.is_folder_synced {
+            return Ok(());
+        }
+        match self.folder.sync_all() {
+            Ok(()) => {
+                self.is_folder_synced = true;
+                Ok(())
+            }
+            Err(_) => Err(Failed),
+        }
+    }
+}

@@ -1,0 +1,99 @@
+-- Spelling segments from the postings that overlap them all, and half by half.
+use Rattle.std.proofs.Common.{◌≡◌, ◌⊎◌, ◌≤◌, ◌<◌, ℕ, ◌+◌, suc, Bool, true, false, cond, List, [], ◌∷◌, ◌++◌, length, filter, take, drop, get_or, All, inl, inr, refl, ap, sym, subst, ◌∙◌, arith}
+use Rattle.std.specs.Prelude.{Option, None, Some, IfSome, MatchOption}
+use Rattle.std.proofs.Math.Seq.{drop-cons}
+use Rattle.std.proofs.lemmas.Bool.Decides.{nat_tests}
+use Rattle.std.proofs.lemmas.List.{map-append, take-append-drop, take_more}
+use Rattle.std.proofs.lemmas.List.Elements.{All-nil, All-cons, All-head, All-tail, All-append}
+use Rattle.time_base.specs.declared.posting.Posting.{Posting}
+use Rattle.time_base.specs.declared.time.Time.{Time}
+use Rattle.record_codec.specs.declared.place.Layout.{Layout}
+use Rattle.postings.specs.Lists.{IsList, meets, sublist}
+use Rattle.postings.proofs.Clipping.{sublist_list}
+use Rattle.sublist_store.specs.Layouts.{spelling_in}
+use Rattle.sublist_store.specs.Segments.{seconds, next_cut}
+use Rattle.sublist_store.specs.Preparing.{spellings}
+
+-- ---- from a part of the list
+
+-- what passes the one test passes the other, so the other one before it changes nothing
+filter_within : (P Q : Posting → Bool) → ((p : Posting) → P p ≡ true → Q p ≡ true) → (list : List Posting) → filter P (filter Q list) ≡ filter P list
+filter_within P Q wider [] = refl
+filter_within P Q wider (p ∷ list) = go (Q p) refl (P p) refl (filter_within P Q wider list)
+  where
+    go : (q : Bool) → Q p ≡ q → (b : Bool) → P p ≡ b → filter P (filter Q list) ≡ filter P list → filter P (cond q (p ∷ filter Q list) (filter Q list)) ≡ cond b (p ∷ filter P list) (filter P list)
+    go true e b f rest = ap (λ (t : Bool). cond t (p ∷ filter P (filter Q list)) (filter P (filter Q list))) f ∙ ap (λ (l : List Posting). cond b (p ∷ l) l) rest
+    go false e true f rest = let w = wider p f in absurd (cc)
+    go false e false f rest = rest
+
+meets_within : (f g a b : ℕ) (p : Posting) → f ≤ a → b ≤ g → meets a b p ≡ true → meets f g p ≡ true
+meets_within f g a b p x y m = grind (arith, nat_tests)
+
+abbrev pub AreWithin : ℕ → ℕ → List Time → Type 0
+AreWithin f g cuts = All (λ (c : Time). (f ≤ c.seconds) × (c.seconds ≤ g)) cuts
+
+-- one cut more
+pub within_more : (a b f g : ℕ) (cuts : List Time) (i : ℕ) (c : Time) → i < length cuts → c ≡ get_or cuts i c → f ≤ a → b ≤ g → f ≤ c.seconds → c.seconds ≤ g → AreWithin a b (take i cuts) → AreWithin f g (take (i + 1) cuts)
+within_more a b f g cuts i c inside is x y from to within =
+    let W : Time → Type 0 = λ t. (f ≤ t.seconds) × (t.seconds ≤ g) in
+    let wider : AreWithin f g (take i cuts) = λ k d l. let w = within k d l in (omega (arith, w.0, x), omega (arith, w.1, y)) in
+    let one : All W (c ∷ []) = All-cons W c [] (from, to) (All-nil W) in
+    subst (λ (l : List Time). All W l) (ap (λ (t : Time). take i cuts ++ t ∷ []) is ∙ sym (take_more cuts i c inside)) (All-append W (take i cuts) (c ∷ []) wider one)
+
+next_within : (f g h : ℕ) (cuts : List Time) → AreWithin f g cuts → h ≤ g → next_cut (seconds cuts) h ≤ g
+next_within f g h [] within ends = ends
+next_within f g h (c ∷ cuts) within ends = (All-head (λ (x : Time). (f ≤ x.seconds) × (x.seconds ≤ g)) c cuts within).1
+
+spellings_within : (layout : Layout) (f g : ℕ) (list : List Posting) (cuts : List Time) (h : ℕ) → AreWithin f g cuts → h ≤ g → spellings layout (sublist f g list) (seconds cuts) h ≡ spellings layout list (seconds cuts) h
+spellings_within layout f g list [] h within ends = refl
+spellings_within layout f g list (c ∷ cuts) h within ends =
+    let W : Time → Type 0 = λ x. (f ≤ x.seconds) × (x.seconds ≤ g) in
+    let behind = All-tail W c cuts within in
+    let b : ℕ = next_cut (seconds cuts) h in
+    let here : sublist c.seconds b (sublist f g list) ≡ sublist c.seconds b list = filter_within (meets c.seconds b) (meets f g)
+    (λ p m. meets_within f g c.seconds b p (All-head W c cuts within).0 (next_within f g h cuts behind ends) m) list in
+    ap (λ (l : List Posting). spelling_in layout l ∷ spellings layout (sublist f g list) (seconds cuts) h) here
+    ∙ ap (λ (rest : List (List ℕ)). spelling_in layout (sublist c.seconds b list) ∷ rest) (spellings_within layout f g list cuts h behind ends)
+
+-- the list, or the part of it that overlaps
+abbrev pub IsPart : ℕ → ℕ → List Posting → List Posting → Type 0
+IsPart f g list given = (given ≡ list) ⊎ (given ≡ sublist f g list)
+
+pub given_part : {V : Type 0} (part : Option V) (items : V → List Posting) (f g : ℕ) (list given : List Posting) → MatchOption part (given ≡ list) (λ v. given ≡ items v)
+    → IfSome part (λ v. items v ≡ sublist f g list) → IsPart f g list given
+given_part None items f g list given is narrow = inl is
+given_part (Some v) items f g list given is narrow = inr (is ∙ narrow)
+
+pub part_list : (f g : ℕ) (list given : List Posting) → IsPart f g list given → IsList list → IsList given
+part_list f g list given (inl e) l = subst IsList (sym e) l
+part_list f g list given (inr e) l = subst IsList (sym e) (sublist_list f g list l)
+
+part_spellings : (layout : Layout) (f g : ℕ) (list given : List Posting) (cuts : List Time) (h : ℕ) → AreWithin f g cuts → h ≤ g → IsPart f g list given
+    → spellings layout given (seconds cuts) h ≡ spellings layout list (seconds cuts) h
+part_spellings layout f g list given cuts h within ends (inl e) = ap (λ (l : List Posting). spellings layout l (seconds cuts) h) e
+part_spellings layout f g list given cuts h within ends (inr e) = ap (λ (l : List Posting). spellings layout l (seconds cuts) h) e ∙ spellings_within layout f g list cuts h within ends
+
+-- ---- half by half
+
+next_append : (a b : List ℕ) (h : ℕ) → next_cut (a ++ b) h ≡ next_cut a (next_cut b h)
+next_append [] b h = refl
+next_append (f ∷ a) b h = refl
+
+spellings_append : (layout : Layout) (list : List Posting) (a b : List ℕ) (h : ℕ) → spellings layout list (a ++ b) h ≡ spellings layout list a (next_cut b h) ++ spellings layout list b h
+spellings_append layout list [] b h = refl
+spellings_append layout list (f ∷ a) b h =
+    ap (λ (g : ℕ). spelling_in layout (sublist f g list) ∷ spellings layout list (a ++ b) h) (next_append a b h)
+    ∙ ap (λ (rest : List (List ℕ)). spelling_in layout (sublist f (next_cut a (next_cut b h)) list) ∷ rest) (spellings_append layout list a b h)
+
+-- the segments in front of a cut, and those from it on
+pub both_halves : (layout : Layout) (f g : ℕ) (list given : List Posting) (cuts : List Time) (k : ℕ) (middle : Time) (h : ℕ) (front back : List (List ℕ)) → IsPart f g list given
+    → AreWithin f g cuts → h ≤ g → k < length cuts → middle ≡ get_or cuts k middle
+    → front ≡ spellings layout given (seconds (take k cuts)) middle.seconds → back ≡ spellings layout given (seconds (drop k cuts)) h → front ++ back ≡ spellings layout list (seconds cuts) h
+both_halves layout f g list given cuts k middle h front back part within ends inside is one two =
+    let S : List ℕ → ℕ → List (List ℕ) = λ cs e. spellings layout given cs e in
+    let left : List ℕ = seconds (take k cuts) in
+    let right : List ℕ = seconds (drop k cuts) in
+    let begins : next_cut right h ≡ middle.seconds = ap (λ (cs : List Time). next_cut (seconds cs) h) (drop-cons cuts k middle (omega (arith, inside))) ∙ ap (λ (c : Time). c.seconds) (sym is) in
+    let whole : left ++ right ≡ seconds cuts = sym (map-append (λ (c : Time). c.seconds) (take k cuts) (drop k cuts)) ∙ ap seconds (take-append-drop k cuts) in
+    ap (λ (l : List (List ℕ)). l ++ back) (one ∙ ap (λ (e : ℕ). S left e) (sym begins)) ∙ ap (λ (l : List (List ℕ)). S left (next_cut right h) ++ l) two
+    ∙ sym (spellings_append layout given left right h) ∙ ap (λ (cs : List ℕ). S cs h) whole ∙ part_spellings layout f g list given cuts h within ends part
