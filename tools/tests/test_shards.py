@@ -126,7 +126,7 @@ class Shards(ArchiveCase):
         ssh = self.folder / "bin" / "ssh"
         ssh.write_text(f'#!/bin/sh\n# Runs here what is meant for there.\necho "$1" >>{self.folder}/logins\nshift\n[ "$1" = -- ] && shift\nexec sh -c "$*"\n')
         ssh.chmod(0o755)
-        path = {"PATH": f"{ssh.parent}:{os.environ['PATH']}"}
+        path = {"PATH": f"{ssh.parent}:{os.environ['PATH']}", "SHELL": "/bin/false"}
         (self.shards / "shards.tsv").write_text("".join(
             f"{self.shards}/shard-{index}\tfar\n" if index % 2 else f"shard-{index}\n" for index in range(4)
         ))  # fmt: skip

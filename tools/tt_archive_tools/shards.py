@@ -6,6 +6,7 @@ of the one archive.
 
 from __future__ import annotations
 
+import os
 import shlex
 import shutil
 import subprocess
@@ -87,7 +88,8 @@ def ask_with_parallel(
     run = "cd {1} && printf '%s\\n' {2} | " + shlex.join(command) + " || { echo tt_archive: {1} >&2; exit 1; }"
     words = ["parallel", "--will-cite", "--keep-order", *_machines(shards, logins), run]
     words += [":::", *_places(shards, logins), ":::", question.decode().rstrip("\n")]
-    done = subprocess.run(words, stdin=subprocess.DEVNULL, capture_output=True)
+    sh = {"PARALLEL_SHELL": "/bin/sh"}  # not the shell of whoever is logged in there, who may have none
+    done = subprocess.run(words, stdin=subprocess.DEVNULL, capture_output=True, env={**os.environ, **sh})
     if done.returncode != 0:
         here = {str(shard.folder.resolve()): shard for shard in shards if not (shard.login or logins)}
         raise ProgramFailed(_fault(done.stderr.decode("utf-8", "replace").strip(), done.returncode, here))
