@@ -48,9 +48,9 @@ posting_shorter before bytes p rest e =
 
 -- ---- writing
 
-pub spelling_more : (list : List Posting) (i : ℕ) (p : Posting) (old text new : List ℕ) → i < length list → p ≡ get_or list i p → old ≡ spelling (take i list) → text ≡ spelled (fields p) → new ≡ old ++ text → new ≡ spelling (take (i + 1) list)
-spelling_more list i p old text new lt is so_far one all =
-    all ∙ ap (λ (xs : List ℕ). xs ++ text) so_far ∙ ap (λ (xs : List ℕ). spelling (take i list) ++ xs) one
+pub spelling_more : (list : List Posting) (i : ℕ) (p : Posting) (old new : List ℕ) → i < length list → p ≡ get_or list i p → old ≡ spelling (take i list) → new ≡ old ++ spelled (fields p) → new ≡ spelling (take (i + 1) list)
+spelling_more list i p old new lt is so_far all =
+    all ∙ ap (λ (xs : List ℕ). xs ++ spelled (fields p)) so_far
     ∙ sym (ap spelling (take_more list i p lt ∙ ap (λ (q : Posting). take i list ++ q ∷ []) (sym is)) ∙ flat_map-append (λ (q : Posting). spelled (fields q)) (take i list) (p ∷ []) ∙ ap (λ (xs : List ℕ). spelling (take i list) ++ xs) (append-nil (spelled (fields p))))
 
 -- ---- what is read is spelled

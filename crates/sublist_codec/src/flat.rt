@@ -1,5 +1,5 @@
 //! The flat layout: 24 bytes a posting, one after another.
-ghost use Rattle.std.specs.Prelude.{◌≡◌, ◌≢◌, ℕ, List, length, map, option_map, Ok, OnOk, IfOk, IfErr};
+ghost use Rattle.std.specs.Prelude.{◌≡◌, ◌≢◌, ◌++◌, ℕ, List, length, map, option_map, Ok, OnOk, IfOk, IfErr};
 ghost use Rattle.time_base.specs.declared.posting.Posting.{Posting};
 ghost use Rattle.postings.specs.Lists.{IsList};
 ghost use Rattle.sublist_codec.specs.Fields.{fields, seen, may_follow};
@@ -72,19 +72,15 @@ fn list_at(alloc: Global, bytes: &[u8]) -> Result<Vec<Posting>, ListError>
     Ok(list)
 }
 
-/// The bytes of a posting.
-fn bytes_of(posting: Posting) -> [u8; POSTING_BYTES]
-    ensures { result ≡ spelled (fields posting) }
+/// Writes the bytes of a posting behind the others.
+fn put_posting(bytes: &mut Vec<u8>, posting: Posting) -> Result<(), AllocError>
+    ensures { OnOk result (bytes.new.items ≡ bytes.old.items ++ spelled (fields posting)) }
 {
-    let doc = posting.doc.0.to_be_bytes();
-    let tf = posting.tf.to_be_bytes();
-    let from = posting.span.from.to_be_bytes();
-    let to = posting.span.to.to_be_bytes();
-    [
-        doc[0], doc[1], doc[2], doc[3], tf[0], tf[1], tf[2], tf[3], from[0], from[1], from[2],
-        from[3], from[4], from[5], from[6], from[7], to[0], to[1], to[2], to[3], to[4], to[5],
-        to[6], to[7],
-    ]
+    bytes.extend_from_slice(&posting.doc.0.to_be_bytes())?;
+    bytes.extend_from_slice(&posting.tf.to_be_bytes())?;
+    bytes.extend_from_slice(&posting.span.from.to_be_bytes())?;
+    bytes.extend_from_slice(&posting.span.to.to_be_bytes())?;
+    Ok(())
 }
 
 /// The bytes of a list. One pass over it.
@@ -93,7 +89,7 @@ pub fn encode_list(alloc: Global, list: &[Posting]) -> Result<Vec<u8>, AllocErro
 {
     let mut bytes = Vec::with_capacity(alloc, list.len() * POSTING_BYTES)?;
     for posting in list {
-        bytes.extend_from_slice(&bytes_of(*posting))?;
+        put_posting(&mut bytes, *posting)?;
     }
     Ok(bytes)
 }

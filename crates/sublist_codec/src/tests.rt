@@ -291,6 +291,20 @@ fn an_altered_byte_is_refused_or_makes_another_list(rt: HostRuntime) -> Result<(
 }
 
 #[test]
+fn a_block_whose_first_document_is_below_the_one_before_is_refused(
+    rt: HostRuntime,
+) -> Result<(), Fail> {
+    let list = long(rt.alloc(), 257)?;
+    let mut blocks = encode_blocks(rt.alloc(), &list)?;
+    // The first block ends with document 127, and the second one's header, at 526, now says 126.
+    if let Some(first) = blocks.get_mut(536) {
+        *first = 126;
+    }
+    assert_eq!(rt; place(decode_blocks(rt.alloc(), &blocks)), Some(526));
+    Ok(())
+}
+
+#[test]
 fn blocks_are_opened_one_by_one(rt: HostRuntime) -> Result<(), Fail> {
     let list = long(rt.alloc(), 257)?;
     let blocks = encode_blocks(rt.alloc(), &list)?;

@@ -3,4 +3,4 @@ use Rattle.sublist_codec.proofs.FlatLemmas.{spelling_more}
 use Rattle.sublist_codec.proofs.flat.encode_list.Goals as goal
 
 pub loop-posting-preserved : goal.loop-posting-preserved
-loop-posting-preserved c = spelling_more c.args.list.now c.loop-posting.posting-index c.posting-item.result c.loop-posting.bytes.items c.bytes_of.result c.extend_from_slice.new.self.items (omega arith) c.posting-item.is c.loop-posting.invariant c.bytes_of.ensures c.in_ok-extend_from_slice.ensures.items
+loop-posting-preserved c = spelling_more c.args.list.now c.loop-posting.posting-index c.posting-item.result c.loop-posting.bytes.items c.put_posting.new.bytes.items (omega arith) c.posting-item.is c.loop-posting.invariant c.in_ok-put_posting.ensures
