@@ -63,6 +63,7 @@ last_pulled old new held item before pulling are =
       pulled = pulling.pulled;
       pulled_are = pulling.pulled_are;
       ended = held.ended;
+      ended_is = pulling.told;
       before = before;
       behind = behind.0;
       rest = behind.1;

@@ -1,5 +1,5 @@
 -- What a run shows that ends at a damaged sublist, whatever the disk holds: which question it was, and what it read.
-use Rattle.std.specs.Prelude.{◌≡◌, ℕ, ◌+◌, Bool, List, ◌∷◌, ◌++◌}
+use Rattle.std.specs.Prelude.{◌≡◌, ℕ, ◌+◌, Bool, true, List, [], ◌∷◌, ◌++◌}
 use Rattle.machine_model.specs.States.{DiskState, SourceState}
 use Rattle.commands.specs.declared.command.Command.TheVariants as commands
 use Rattle.commands.specs.declared.command.Item.{Item}
@@ -25,11 +25,12 @@ Spoils history pages (items.Command (commands.Certificate word)) damage = ⊥
 Spoils history pages (items.Command commands.Verify) damage = ⊥
 Spoils history pages items.Line damage = ⊥
 
--- The item is one of the bytes that were pulled since.
+-- The item is one of those of the bytes that were pulled since; that their end is the input's is known only where it was told.
 pub record IsPulled (old new : SourceState) (item : Item) : Type 0 where
   pub pulled : List ℕ
   pub pulled_are : old.left ≡ pulled ++ new.left
   pub ended : Bool
+  pub ended_is : ended ≡ true → new.left ≡ []
   pub before : List Item
   pub behind : List Item
   pub rest : List ℕ
