@@ -28,6 +28,7 @@ use Rattle.archive_state.specs.Steps as machine
 use Rattle.archive_state.specs.Steps.{Reply, Accepted, Refused, Found, Spanned, Shown, Finds, Spans, Step}
 use Rattle.archive_state.specs.Stands.{EachStands, bodies_of}
 use Rattle.archive_state.proofs.TurnLemmas.{adds_turn, each_finds, each_spans}
+use Rattle.archive_core.specs.Answering.{IsNoQuery}
 use Rattle.archive_core.specs.States.{ArchiveState, StandsFor, IsKept}
 use Rattle.archive_core.specs.Storing.{NotDrafted}
 use Rattle.plan_shelf.specs.declared.readying.PlanReport.{PlanReport}
@@ -125,7 +126,7 @@ takes_question h item reply Faulted old new a step same kept gives =
 
 -- a query that was asked
 pub takes_find : (h : History) (at : Time) (text : List ℕ) (r : Result Answer AskError) (old new : DiskState) (a : ArchiveState)
-    → ((why : Refusal) → r ≡ Err (asks.Refused why) → (place : ℕ) × IsRead key_of text (Err place) × (why ≡ refusals.BadQuery place))
+    → ((why : Refusal) → r ≡ Err (asks.Refused why) → IsNoQuery text why)
     → ((damage : Damage) → r ≡ Err (asks.Damaged damage) → ⊥) → IfOk r (λ answer. Finds h at text (Found answer.rows.items answer.read))
     → OnlyReads old new → IsKept old a h → Takes h (items.Command (commands.Find at text)) (found r) old new a
 takes_find h at text (Ok answer) old new a refused undamaged finds same kept =
@@ -143,7 +144,7 @@ takes_find h at text (Err asks.Memory) old new a refused undamaged finds same ke
 
 -- a query that was asked over a window
 pub takes_between : (h : History) (span : Span) (text : List ℕ) (r : Result SpanAnswer AskError) (old new : DiskState) (a : ArchiveState)
-    → ((why : Refusal) → r ≡ Err (asks.Refused why) → (place : ℕ) × IsRead key_of text (Err place) × (why ≡ refusals.BadQuery place))
+    → ((why : Refusal) → r ≡ Err (asks.Refused why) → IsNoQuery text why)
     → ((damage : Damage) → r ≡ Err (asks.Damaged damage) → ⊥) → IfOk r (λ answer. Spans h span text (Spanned answer.rows.items answer.read))
     → OnlyReads old new → IsKept old a h → Takes h (items.Command (commands.Between span text)) (spanned r) old new a
 takes_between h span text (Ok answer) old new a refused undamaged spans same kept =

@@ -5,3 +5,4 @@ pub mod Adding
 pub mod Causes
 pub mod Takes
 pub mod Storing
+pub mod Answering

@@ -1,10 +1,8 @@
 //! What an archive is asked: the text of a document at a time, and what a query finds.
 ghost use Rattle.std.specs.Prelude.{◌≡◌, ◌+◌, ℕ, List, Ok, Err, All, length, filter, false, true, is_some, IsSome, IsOk, IfOk, IsErrOf, option_map};
-ghost use Rattle.machine_model.specs.Areas.{replaced};
 ghost use Rattle.machine_model.specs.Causes.{Rose};
 ghost use Rattle.machine_model.specs.Calls.{OnlyReads};
-ghost use Rattle.machine_model.specs.States.{DiskState};
-ghost use Rattle.query_lang.specs.Grammar.{Query as Meaning, IsRead};
+ghost use Rattle.query_lang.specs.Grammar.{IsRead};
 ghost use Rattle.query_lang.specs.Meaning.{words_of};
 ghost use Rattle.query_lang.specs.Tokens.{key_of};
 ghost use Rattle.query_eval.specs.Answers.{IsAnswer};
@@ -13,7 +11,8 @@ ghost use Rattle.query_eval.specs.Found.{told};
 ghost use Rattle.version_store.specs.Changes.{held_at};
 ghost use Rattle.archive_state.specs.Histories.{History, text_at};
 ghost use Rattle.archive_state.specs.Plans.{is_another};
-ghost use Rattle.archive_state.specs.Chosen.{AreChosen, IsMadeAt, SpoilsAnswer, bytes_for};
+ghost use Rattle.archive_state.specs.Chosen.{AreChosen, SpoilsAnswer};
+ghost use Rattle.archive_core.specs.Answering.{AnswersAt, IsNoQuery, IsQuery};
 ghost use Rattle.archive_core.specs.States.{StandsFor, IsKept, Reaches};
 ghost use Rattle.archive_core.specs.Takes.{Takes, found, shown};
 ghost use Rattle.commands.specs.declared.command.Command.TheVariants as commands;
@@ -24,7 +23,7 @@ use crate::error::AskError;
 use archive_replay::read_text;
 use archive_state::Refusal;
 use commands::Phrase;
-use machine_model::{Area, Disk};
+use machine_model::Disk;
 use query_eval::{Answer, Part, Row, answer_by_hits, answer_from};
 use query_lang::{Query, QueryError};
 use std::alloc::{AllocError, Global};
@@ -55,13 +54,11 @@ impl Archive {
         ensures kept { self.new ≡ self.old }
         ensures failed { IsErrOf result AskError.Failed → Rose (D.disk disk.old).faults (D.disk disk.new).faults }
         // A refusal comes of a text that is no query, at the place where that shows, and wherever it is none (but for want of memory).
-        ensures refused { (why : Refusal) → IsErrOf result (AskError.Refused why) → (place : ℕ) × IsRead key_of expr.now (Err place) × (why ≡ Refusal.BadQuery place) }
-        ensures asked { IsOk result → (query : Meaning) × IsRead key_of expr.now (Ok query) }
+        ensures refused { (why : Refusal) → IsErrOf result (AskError.Refused why) → IsNoQuery expr.now why }
+        ensures asked { IsOk result → IsQuery expr.now }
         // Whatever the disk holds, if it tells: the answer is made from the lists that are chosen, by what reads of Pages give. Exactly the bytes of
         // the places chosen are read. What is damaged is the first of what is read for the query's words, as what reads give shows.
-        ensures made { D.disk_tells → (h : History) → StandsFor self.old h → IfOk result (λ answer. (query : Meaning) × IsRead key_of expr.now (Ok query)
-            × IsMadeAt h (D.disk disk.old).holds.pages at.seconds query answer.rows.items answer.read
-            × ((D.disk disk.new).bytes_read ≡ replaced (D.disk disk.old).bytes_read Area.Pages ((D.disk disk.old).bytes_read.pages + bytes_for h at.seconds (at.seconds + 1) (words_of query)))) }
+        ensures made { D.disk_tells → (h : History) → StandsFor self.old h → IfOk result (λ answer. AnswersAt h at.seconds expr.now (D.disk disk.old) (D.disk disk.new) answer.rows.items answer.read) }
         ensures damaged { D.disk_tells → (h : History) → StandsFor self.old h → (d : Damage) → IsErrOf result (AskError.Damaged d) →
             SpoilsAnswer h (D.disk disk.old).holds.pages at.seconds (at.seconds + 1) expr.now d }
         // In step, it is a step of the abstract machine.
@@ -84,11 +81,9 @@ impl Archive {
         ensures same { OnlyReads (D.disk disk.old) (D.disk disk.new) }
         ensures kept { self.new ≡ self.old }
         ensures failed { IsErrOf result AskError.Failed → Rose (D.disk disk.old).faults (D.disk disk.new).faults }
-        ensures refused { (why : Refusal) → IsErrOf result (AskError.Refused why) → (place : ℕ) × IsRead key_of expr.now (Err place) × (why ≡ Refusal.BadQuery place) }
-        ensures asked { IsOk result → (query : Meaning) × IsRead key_of expr.now (Ok query) }
-        ensures made { D.disk_tells → (h : History) → StandsFor self.old h → IfOk result (λ answer. (query : Meaning) × IsRead key_of expr.now (Ok query)
-            × IsMadeAt h (D.disk disk.old).holds.pages at.seconds query answer.rows.items answer.read
-            × ((D.disk disk.new).bytes_read ≡ replaced (D.disk disk.old).bytes_read Area.Pages ((D.disk disk.old).bytes_read.pages + bytes_for h at.seconds (at.seconds + 1) (words_of query)))) }
+        ensures refused { (why : Refusal) → IsErrOf result (AskError.Refused why) → IsNoQuery expr.now why }
+        ensures asked { IsOk result → IsQuery expr.now }
+        ensures made { D.disk_tells → (h : History) → StandsFor self.old h → IfOk result (λ answer. AnswersAt h at.seconds expr.now (D.disk disk.old) (D.disk disk.new) answer.rows.items answer.read) }
         ensures damaged { D.disk_tells → (h : History) → StandsFor self.old h → (d : Damage) → IsErrOf result (AskError.Damaged d) →
             SpoilsAnswer h (D.disk disk.old).holds.pages at.seconds (at.seconds + 1) expr.now d }
     {
@@ -197,7 +192,7 @@ impl Archive {
 /// The query of a phrase, or where it shows that there is none.
 pub(crate) fn query_of(alloc: Global, expr: &Phrase) -> Result<Query, AskError>
     ensures query { IfOk result (λ query. IsRead key_of expr.now (Ok query)) }
-    ensures refused { (why : Refusal) → IsErrOf result (AskError.Refused why) → (place : ℕ) × IsRead key_of expr.now (Err place) × (why ≡ Refusal.BadQuery place) }
+    ensures refused { (why : Refusal) → IsErrOf result (AskError.Refused why) → IsNoQuery expr.now why }
     ensures failed { IsErrOf result AskError.Failed → ⊥ }
     ensures undamaged { (d : Damage) → IsErrOf result (AskError.Damaged d) → ⊥ }
 {

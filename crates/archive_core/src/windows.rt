@@ -1,16 +1,14 @@
 //! What an archive is asked over a window of time.
-ghost use Rattle.std.specs.Prelude.{◌≡◌, ◌+◌, ℕ, List, Ok, Err, length, is_some, IsOk, IfOk, IsErrOf};
-ghost use Rattle.machine_model.specs.Areas.{replaced};
+ghost use Rattle.std.specs.Prelude.{◌≡◌, ◌+◌, Ok, length, is_some, IsOk, IfOk, IsErrOf};
 ghost use Rattle.machine_model.specs.Calls.{OnlyReads};
 ghost use Rattle.machine_model.specs.Causes.{Rose};
-ghost use Rattle.query_lang.specs.Grammar.{Query as Meaning, IsRead};
 ghost use Rattle.query_lang.specs.Meaning.{words_of};
-ghost use Rattle.query_lang.specs.Tokens.{key_of};
 ghost use Rattle.query_eval.specs.Asked.{read_of};
 ghost use Rattle.query_eval.specs.Found.{told};
 ghost use Rattle.query_eval.specs.Spans.{IsSpanAnswer};
 ghost use Rattle.archive_state.specs.Histories.{History, text_at};
-ghost use Rattle.archive_state.specs.Chosen.{IsMadeOver, SpoilsAnswer, bytes_for};
+ghost use Rattle.archive_state.specs.Chosen.{SpoilsAnswer};
+ghost use Rattle.archive_core.specs.Answering.{AnswersOver, IsNoQuery, IsQuery};
 ghost use Rattle.archive_core.specs.States.{StandsFor, IsKept, Reaches};
 ghost use Rattle.archive_core.specs.Takes.{Takes, spanned};
 ghost use Rattle.commands.specs.declared.command.Command.TheVariants as commands;
@@ -21,7 +19,7 @@ use crate::asking::query_of;
 use crate::error::AskError;
 use archive_state::Refusal;
 use commands::Phrase;
-use machine_model::{Area, Disk};
+use machine_model::Disk;
 use query_eval::{Part, SpanAnswer, answer_over};
 use query_lang::Query;
 use std::alloc::{AllocError, Global};
@@ -52,13 +50,11 @@ impl Archive {
         ensures kept { self.new ≡ self.old }
         ensures failed { IsErrOf result AskError.Failed → Rose (D.disk disk.old).faults (D.disk disk.new).faults }
         // A refusal comes of a text that is no query, at the place where that shows, and wherever it is none (but for want of memory).
-        ensures refused { (why : Refusal) → IsErrOf result (AskError.Refused why) → (place : ℕ) × IsRead key_of expr.now (Err place) × (why ≡ Refusal.BadQuery place) }
-        ensures asked { IsOk result → (query : Meaning) × IsRead key_of expr.now (Ok query) }
+        ensures refused { (why : Refusal) → IsErrOf result (AskError.Refused why) → IsNoQuery expr.now why }
+        ensures asked { IsOk result → IsQuery expr.now }
         // Whatever the disk holds, if it tells: the answer is made from the lists that are chosen, by what reads of Pages give. Exactly the bytes of
         // the places chosen are read. What is damaged is the first of what is read for the query's words, as what reads give shows.
-        ensures made { D.disk_tells → (h : History) → StandsFor self.old h → IfOk result (λ answer. (query : Meaning) × IsRead key_of expr.now (Ok query)
-            × IsMadeOver h (D.disk disk.old).holds.pages span.from span.to query answer.rows.items answer.read
-            × ((D.disk disk.new).bytes_read ≡ replaced (D.disk disk.old).bytes_read Area.Pages ((D.disk disk.old).bytes_read.pages + bytes_for h span.from span.to (words_of query)))) }
+        ensures made { D.disk_tells → (h : History) → StandsFor self.old h → IfOk result (λ answer. AnswersOver h span.from span.to expr.now (D.disk disk.old) (D.disk disk.new) answer.rows.items answer.read) }
         ensures damaged { D.disk_tells → (h : History) → StandsFor self.old h → (d : Damage) → IsErrOf result (AskError.Damaged d) →
             SpoilsAnswer h (D.disk disk.old).holds.pages span.from span.to expr.now d }
         // In step, it is a step of the abstract machine.
@@ -81,11 +77,9 @@ impl Archive {
         ensures same { OnlyReads (D.disk disk.old) (D.disk disk.new) }
         ensures kept { self.new ≡ self.old }
         ensures failed { IsErrOf result AskError.Failed → Rose (D.disk disk.old).faults (D.disk disk.new).faults }
-        ensures refused { (why : Refusal) → IsErrOf result (AskError.Refused why) → (place : ℕ) × IsRead key_of expr.now (Err place) × (why ≡ Refusal.BadQuery place) }
-        ensures asked { IsOk result → (query : Meaning) × IsRead key_of expr.now (Ok query) }
-        ensures made { D.disk_tells → (h : History) → StandsFor self.old h → IfOk result (λ answer. (query : Meaning) × IsRead key_of expr.now (Ok query)
-            × IsMadeOver h (D.disk disk.old).holds.pages span.from span.to query answer.rows.items answer.read
-            × ((D.disk disk.new).bytes_read ≡ replaced (D.disk disk.old).bytes_read Area.Pages ((D.disk disk.old).bytes_read.pages + bytes_for h span.from span.to (words_of query)))) }
+        ensures refused { (why : Refusal) → IsErrOf result (AskError.Refused why) → IsNoQuery expr.now why }
+        ensures asked { IsOk result → IsQuery expr.now }
+        ensures made { D.disk_tells → (h : History) → StandsFor self.old h → IfOk result (λ answer. AnswersOver h span.from span.to expr.now (D.disk disk.old) (D.disk disk.new) answer.rows.items answer.read) }
         ensures damaged { D.disk_tells → (h : History) → StandsFor self.old h → (d : Damage) → IsErrOf result (AskError.Damaged d) →
             SpoilsAnswer h (D.disk disk.old).holds.pages span.from span.to expr.now d }
     {

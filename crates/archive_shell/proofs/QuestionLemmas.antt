@@ -29,6 +29,7 @@ use Rattle.archive_state.specs.Replies.{reply_text}
 use Rattle.archive_state.specs.Steps.{Reply, Found, Spanned, Refused, IsReplied}
 use Rattle.archive_state.specs.declared.refusal.Refusal.{Refusal}
 use Rattle.archive_state.specs.declared.refusal.Refusal.TheVariants as refusals
+use Rattle.archive_core.specs.Answering.{IsNoQuery}
 use Rattle.archive_core.specs.Takes.{Replied, found, spanned}
 use Rattle.archive_core.specs.declared.error.AskError.{AskError}
 use Rattle.archive_core.specs.declared.error.AskError.TheVariants as asks
@@ -68,7 +69,7 @@ halted P (Err other) halt is = tt
 
 pub made_find : (h : History) (pages : List ℕ) (at : Time) (text : List ℕ) (B : Answer → Query → Type 0) (r : Result Answer AskError) (result : Result (Unit {0}) Halt) (page : List ℕ)
     → IfOk r (λ answer. (query : Query) × IsRead key_of text (Ok query) × IsMadeAt h pages at.seconds query answer.rows.items answer.read × B answer query)
-    → ((why : Refusal) → r ≡ Err (asks.Refused why) → (place : ℕ) × IsRead key_of text (Err place) × (why ≡ refusals.BadQuery place))
+    → ((why : Refusal) → r ≡ Err (asks.Refused why) → IsNoQuery text why)
     → Writes (found r) result page → OnOk result (IsOnPage h pages (items.Command (commands.Find at text)) page)
 made_find h pages at text B (Ok answer) result page (query, read, made, rest) refused writes =
     on_page h pages (items.Command (commands.Find at text)) (Found answer.rows.items answer.read) result page (Ok query, read, (answer.rows.items, answer.read, made, refl)) writes
@@ -81,7 +82,7 @@ made_find h pages at text B (Err asks.Memory) result page made refused writes = 
 
 pub made_between : (h : History) (pages : List ℕ) (span : Span) (text : List ℕ) (B : SpanAnswer → Query → Type 0) (r : Result SpanAnswer AskError) (result : Result (Unit {0}) Halt) (page : List ℕ)
     → IfOk r (λ answer. (query : Query) × IsRead key_of text (Ok query) × IsMadeOver h pages span.from span.to query answer.rows.items answer.read × B answer query)
-    → ((why : Refusal) → r ≡ Err (asks.Refused why) → (place : ℕ) × IsRead key_of text (Err place) × (why ≡ refusals.BadQuery place))
+    → ((why : Refusal) → r ≡ Err (asks.Refused why) → IsNoQuery text why)
     → Writes (spanned r) result page → OnOk result (IsOnPage h pages (items.Command (commands.Between span text)) page)
 made_between h pages span text B (Ok answer) result page (query, read, made, rest) refused writes =
     on_page h pages (items.Command (commands.Between span text)) (Spanned answer.rows.items answer.read) result page (Ok query, read, (answer.rows.items, answer.read, made, refl)) writes
