@@ -28,7 +28,6 @@ use Rattle.archive_state.specs.Histories.{History}
 use Rattle.archive_state.specs.Replies.{reply_text}
 use Rattle.archive_state.specs.Steps.{Reply, Found, Spanned, Refused, IsReplied}
 use Rattle.archive_state.specs.declared.refusal.Refusal.{Refusal}
-use Rattle.archive_state.specs.declared.refusal.Refusal.TheVariants as refusals
 use Rattle.archive_core.specs.Answering.{IsNoQuery}
 use Rattle.archive_core.specs.Takes.{Replied, found, spanned}
 use Rattle.archive_core.specs.declared.error.AskError.{AskError}
