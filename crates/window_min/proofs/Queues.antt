@@ -1,156 +1,170 @@
 -- What becomes of a queue where a value is added, where the window's start moves on, and what its first place is.
-use Rattle.std.specs.Prelude.{◌≡◌, ◌⊎◌, ℕ, ◌+◌, ◌-◌, ◌<◌, ◌≤◌, List, [], ◌∷◌, ◌++◌, length, slice_index}
-use Rattle.std.proofs.Common.{arith, ap, ◌∙◌, inl, inr, length-append}
-use Rattle.std.proofs.Math.ListN.{get_or-append}
-use Rattle.std.proofs.Math.Seq.{get_or-append_seam}
-use Rattle.std.proofs.lemmas.Bool.{cases_lt}
-use Rattle.window_min.specs.Windows.{IsLeastIn, Covers, IsQueue}
+use Rattle.std.specs.Prelude.{◌≡◌, ◌⊎◌, ◌↔◌, ℕ, zero, suc, ◌+◌, ◌-◌, ◌<◌, ◌≤◌, IsTrue, cond, nat_lt, List, [], ◌∷◌, ◌++◌, length, slice_index_or, Option, Some, None, refl}
+use Rattle.std.proofs.Common.{arith, ap, sym, ◌∙◌, subst, inl, inr, length-append}
+use Rattle.std.proofs.lemmas.Bool.{cases_lt, ltb-true, lt-ltb}
+use Rattle.std.proofs.lemmas.Bool.Decides.{nat_tests}
+use Rattle.std.proofs.lemmas.List.{append-nil}
+use Rattle.std.specs.Option.{option_to_list}
+use Rattle.window_min.specs.Windows.{Window, IsLeastIn, IsEntry, IsQueue, IsFront, IsOver, IsWindow, StartsBefore, EndsBelow}
 
-pub no_queue : (places : List ℕ) → IsQueue [] 0 places 0 0
-no_queue places = record {
-  start = omega arith;
-  order = omega arith;
-  room = omega arith;
-  after = λ m a b. absurd (omega arith);
-  before = λ m a b. absurd (omega arith);
-  rise = λ m n a b c. absurd (omega arith);
-  keep = λ m n a b c. absurd (omega arith);
-  covered = λ i a b. absurd (omega arith);
-}
+-- a queue of a window from some place up to this one
+pub record StartsUpTo (f : ℕ → ℕ) (place next : ℕ) (queue : List (ℕ × ℕ)) : Type 0 where
+  pub from : ℕ
+  pub up_to : from ≤ place
+  pub is : IsQueue f from next queue
 
--- numbers past the end don't matter
-pub queue_same : (values : List ℕ) (from : ℕ) (places places' : List ℕ) (head end : ℕ) → end ≤ length places' → ((m : ℕ) → m < end → slice_index places' m ≡ slice_index places m) → IsQueue values from places head end
-    → IsQueue values from places' head end
-queue_same values from places places' head end room same q = record {
-  start = q.start;
-  order = q.order;
-  room = room;
-  after = λ m a b. omega (arith, same m b, q.after m a b);
-  before = λ m a b. omega (arith, same m b, q.before m a b);
-  rise = λ m n a b c. omega (arith, same m (omega arith), same n c, q.rise m n a b c);
-  keep = λ m n a b c. omega (arith, ap (λ p. slice_index values p) (same m (omega arith)), ap (λ p. slice_index values p) (same n c), q.keep m n a b c);
-  covered = λ i a b. go i (q.covered i a b);
-}
+-- the start isn't past the end
+pub queue_ends : (f : ℕ → ℕ) (from next : ℕ) (queue : List (ℕ × ℕ)) → IsQueue f from next queue → from ≤ next
+queue_ends f from next [] q = omega (arith, q)
+queue_ends f from next (e ∷ queue) (a, q) = omega (arith, a.least.after, a.least.before)
+
+-- the first entry leaves
+pub first_left : (f : ℕ → ℕ) (place next : ℕ) (old new : List (ℕ × ℕ)) (e : ℕ × ℕ) → old ≡ e ∷ new → StartsBefore place old → StartsUpTo f place next old → StartsUpTo f place next new
+first_left f place next old new e made before s =
+    let b : e.0 < place = subst (λ (l : List (ℕ × ℕ)). StartsBefore place l) made before in
+    let q : IsQueue f s.from next (e ∷ new) = subst (λ (l : List (ℕ × ℕ)). IsQueue f s.from next l) made s.is in
+    record { from = e.0 + 1; up_to = omega arith; is = q.1 }
+
+-- no more entries leave
+pub all_left : (f : ℕ → ℕ) (place next : ℕ) (queue : List (ℕ × ℕ)) → place ≤ next → (StartsBefore place queue → ⊥) → StartsUpTo f place next queue → IsQueue f place next queue
+all_left f place next [] l n s = omega (arith, s.up_to, s.is)
+all_left f place next (e ∷ queue) l n s = go (cases_lt e.0 place)
   where
-    go : (i : ℕ) → ((m : ℕ) × Covers values places head end i m) → (m : ℕ) × Covers values places' head end i m
-    go i (m, c) = (m, record { from = c.from; to = c.to; after = omega (arith, same m c.to, c.after); at_most = omega (arith, ap (λ p. slice_index values p) (same m c.to), c.at_most) })
+    go : ((e.0 < place) ⊎ (place ≤ e.0)) → IsEntry f place next e × IsQueue f (e.0 + 1) next queue
+    go (inl h) = absurd (n h)
+    go (inr h) = (
+      record {
+        least = record {
+          after = h;
+          before = s.is.0.least.before;
+          least = λ i a b. s.is.0.least.least i (omega (arith, s.up_to)) b;
+        };
+        value = s.is.0.value;
+      },
+      s.is.1,
+    )
 
--- the number of the last place, which is that of the last value
-pub queue_some : (values : List ℕ) (from : ℕ) (places : List ℕ) (head end i : ℕ) → from ≤ i → i < length values → IsQueue values from places head end → (head < end) × (i ≤ slice_index places (end - 1))
-queue_some values from places head end i a b q = go (q.covered i a b)
+-- a whole queue is a front of one
+pub front_whole : (f : ℕ → ℕ) (value from next : ℕ) (queue : List (ℕ × ℕ)) → IsQueue f from next queue → IsFront f value from next queue
+front_whole f value from next [] q = (omega (arith, q), λ i a b. absurd (omega (arith, q)))
+front_whole f value from next (e ∷ queue) (a, q) = (a, front_whole f value (e.0 + 1) next queue q)
+
+-- the last entry leaves
+pub last_left : (f : ℕ → ℕ) (value from next : ℕ) (queue : List (ℕ × ℕ)) (e : ℕ × ℕ) → value ≤ e.1 → IsFront f value from next (queue ++ e ∷ []) → IsFront f value from next queue
+last_left f value from next [] e l (a, q) = (omega (arith, a.least.after, a.least.before), λ i b c. omega (arith, a.value, a.least.least i b c))
+last_left f value from next (d ∷ queue) e l (a, q) = (a, last_left f value (d.0 + 1) next queue e l q)
+
+-- what the last entry is
+pub ends_at : (value : ℕ) (queue : List (ℕ × ℕ)) (n : ℕ) (x : ℕ × ℕ) → n + 1 ≡ length queue → x ≡ slice_index_or queue n x → EndsBelow value queue ↔ (x.1 < value)
+ends_at value [] n x l e = absurd (omega (arith, l))
+ends_at value (d ∷ []) zero x l e = (λ h. omega (arith, h, ap (λ (y : ℕ × ℕ). y.1) e), λ h. omega (arith, h, ap (λ (y : ℕ × ℕ). y.1) e))
+ends_at value (d ∷ []) (suc n) x l e = absurd (omega (arith, l))
+ends_at value (d ∷ b ∷ queue) zero x l e = absurd (omega (arith, l))
+ends_at value (d ∷ b ∷ queue) (suc n) x l e = ends_at value (b ∷ queue) n x (omega (arith, l)) e
+
+ends_last : (value : ℕ) (queue : List (ℕ × ℕ)) (e : ℕ × ℕ) → e.1 < value → EndsBelow value (queue ++ e ∷ [])
+ends_last value [] e h = h
+ends_last value (d ∷ []) e h = h
+ends_last value (d ∷ b ∷ queue) e h = ends_last value (b ∷ queue) e h
+
+pub ends_iff : (value : ℕ) (queue : List (ℕ × ℕ)) (long : ℕ) (x : ℕ × ℕ) → long ≡ length queue → 0 < long → x ≡ slice_index_or queue (long - 1) x → IsTrue (nat_lt x.1 value) ↔ EndsBelow value queue
+ends_iff value queue long x l some e =
+    let h : EndsBelow value queue ↔ (x.1 < value) = ends_at value queue (long - 1) x (omega arith) e in
+    (λ t. h.1 (ltb-true x.1 value t), λ b. lt-ltb x.1 value (h.0 b))
+
+pub last_gone : (f : ℕ → ℕ) (value from next : ℕ) (old new : List (ℕ × ℕ)) (r : Option (ℕ × ℕ)) → old ≡ new ++ option_to_list r → (EndsBelow value old → ⊥) → IsFront f value from next old → IsFront f value from next new
+last_gone f value from next old new None made n q = subst (λ (l : List (ℕ × ℕ)). IsFront f value from next l) (made ∙ append-nil new) q
+last_gone f value from next old new (Some e) made n q = go (cases_lt e.1 value)
   where
-    last : (m : ℕ) → Covers values places head end i m → ((m < end - 1) ⊎ (end - 1 ≤ m)) → i ≤ slice_index places (end - 1)
-    last m c (inl h) = omega (arith, c.after, q.rise m (end - 1) c.from h (omega (arith, c.to)))
-    last m c (inr h) = let e : m ≡ end - 1 = omega (arith, c.to) in omega (arith, c.after, ap (λ n. slice_index places n) e)
-
-    go : ((m : ℕ) × Covers values places head end i m) → (head < end) × (i ≤ slice_index places (end - 1))
-    go (m, c) = (omega (arith, c.from, c.to), last m c (cases_lt m (end - 1)))
-
--- the first place has the least value
-pub queue_least : (values : List ℕ) (from : ℕ) (places : List ℕ) (head end : ℕ) → from < length values → IsQueue values from places head end → IsLeastIn values from (slice_index places head)
-queue_least values from places head end some q = record {
-  after = q.after head (omega arith) (queue_some values from places head end from (omega arith) some q).0;
-  before = q.before head (omega arith) (queue_some values from places head end from (omega arith) some q).0;
-  least = λ i a b. go i (q.covered i a b);
-}
-  where
-    first : (i m : ℕ) → Covers values places head end i m → ((head < m) ⊎ (m ≤ head)) → slice_index values (slice_index places head) ≤ slice_index values i
-    first i m c (inl h) = omega (arith, c.at_most, q.keep head m (omega arith) h c.to)
-    first i m c (inr h) = let e : m ≡ head = omega (arith, c.from) in omega (arith, c.at_most, ap (λ n. slice_index values (slice_index places n)) e)
-
-    go : (i : ℕ) → ((m : ℕ) × Covers values places head end i m) → slice_index values (slice_index places head) ≤ slice_index values i
-    go i (m, c) = first i m c (cases_lt head m)
-
--- the start moves on
-pub queue_moved : (values : List ℕ) (from : ℕ) (places : List ℕ) (head end place first : ℕ) → from ≤ place → place < length values → head ≤ first → first < end → place ≤ slice_index places first
-    → ((m : ℕ) → head ≤ m → m < first → slice_index places m < place) → IsQueue values from places head end → IsQueue values place places first end
-queue_moved values from places head end place first on in_ a b at passed q = record {
-  start = omega arith;
-  order = omega arith;
-  room = q.room;
-  after = λ m c d. after m c d (cases_lt first m);
-  before = λ m c d. q.before m (omega arith) d;
-  rise = λ m n c d e. q.rise m n (omega arith) d e;
-  keep = λ m n c d e. q.keep m n (omega arith) d e;
-  covered = λ i c d. go i c (q.covered i (omega arith) d);
-}
-  where
-    after : (m : ℕ) → first ≤ m → m < end → ((first < m) ⊎ (m ≤ first)) → place ≤ slice_index places m
-    after m c d (inl h) = omega (arith, at, q.rise first m a h d)
-    after m c d (inr h) = let e : m ≡ first = omega arith in omega (arith, at, ap (λ n. slice_index places n) e)
-
-    late : (i m : ℕ) → place ≤ i → Covers values places head end i m → ((m < first) ⊎ (first ≤ m)) → (k : ℕ) × Covers values places first end i k
-    late i m l c (inl h) = absurd (omega (arith, c.after, passed m c.from h))
-    late i m l c (inr h) = (m, record { from = h; to = c.to; after = c.after; at_most = c.at_most })
-
-    go : (i : ℕ) → place ≤ i → ((m : ℕ) × Covers values places head end i m) → (k : ℕ) × Covers values places first end i k
-    go i l (m, c) = late i m l c (cases_lt m first)
+    go : ((e.1 < value) ⊎ (value ≤ e.1)) → IsFront f value from next new
+    go (inl h) = absurd (n (subst (λ (l : List (ℕ × ℕ)). EndsBelow value l) (sym made) (ends_last value new e h)))
+    go (inr h) = last_left f value from next new e h (subst (λ (l : List (ℕ × ℕ)). IsFront f value from next l) made q)
 
 -- a value is added
-pub queue_more : (values : List ℕ) (from : ℕ) (places places' values' : List ℕ) (head end left value : ℕ) → values' ≡ values ++ value ∷ [] → head ≤ left → left ≤ end → left < length places'
-    → ((m : ℕ) → m < left → slice_index places' m ≡ slice_index places m) → slice_index places' left ≡ length values
-    → (head < left → slice_index values (slice_index places (left - 1)) < value) → ((m : ℕ) → left ≤ m → m < end → value ≤ slice_index values (slice_index places m))
-    → IsQueue values from places head end → IsQueue values' from places' head (left + 1)
-queue_more values from places places' values' head end left value made a b room same new less passed q = record {
-  start = omega (arith, long, q.start);
-  order = omega arith;
-  room = omega arith;
-  after = λ m c d. after m c (cases_lt m left) d;
-  before = λ m c d. before m c (cases_lt m left) d;
-  rise = λ m n c d e. rise m n c d (cases_lt n left) e;
-  keep = λ m n c d e. keep m n c d (cases_lt n left) e;
-  covered = λ i c d. covered i c (cases_lt i (length values)) d;
+with_last : (f : ℕ → ℕ) (from next : ℕ) (e : ℕ × ℕ) → e.1 ≤ f next → IsEntry f from next e → IsEntry f from (next + 1) e
+with_last f from next e l a = record {
+  least = record {
+    after = a.least.after;
+    before = omega (arith, a.least.before);
+    least = λ i b c. go i b c (cases_lt i next);
+  };
+  value = a.value;
 }
   where
-    long : length values' ≡ length values + 1
-    long = ap length made ∙ length-append values (value ∷ [])
+    go : (i : ℕ) → from ≤ i → i < next + 1 → ((i < next) ⊎ (next ≤ i)) → f e.0 ≤ f i
+    go i b c (inl h) = a.least.least i b h
+    go i b c (inr h) = let s : next ≡ i = omega arith in omega (arith, ap f s, a.value)
 
-    old : (i : ℕ) → i < length values → slice_index values' i ≡ slice_index values i
-    old i l = ap (λ v. slice_index v i) made ∙ get_or-append values (value ∷ []) 0 i l
+pub queue_more : (f : ℕ → ℕ) (value from next : ℕ) (queue : List (ℕ × ℕ)) → value ≡ f next → EndsBelow value queue → IsFront f value from next queue → IsQueue f from (next + 1) (queue ++ (next, value) ∷ [])
+queue_more f value from next [] v b (a, q) = (
+  record {
+    least = record {
+      after = a;
+      before = omega arith;
+      least = λ i c d. go i c d (cases_lt i next);
+    };
+    value = v;
+  },
+  refl,
+)
+  where
+    go : (i : ℕ) → from ≤ i → i < next + 1 → ((i < next) ⊎ (next ≤ i)) → f next ≤ f i
+    go i c d (inl h) = omega (arith, v, q i c h)
+    go i c d (inr h) = let s : next ≡ i = omega arith in omega (arith, ap f s)
+queue_more f value from next (e ∷ []) v b (a, q) = (with_last f from next e (omega (arith, b, v)) a, queue_more f value (e.0 + 1) next [] v tt q)
+queue_more f value from next (e ∷ d ∷ queue) v b (a, q) =
+    let rest : IsQueue f (e.0 + 1) (next + 1) ((d ∷ queue) ++ (next, value) ∷ []) = queue_more f value (e.0 + 1) next (d ∷ queue) v b q in
+    (with_last f from next e (omega (arith, a.value, a.least.least d.0 (omega (arith, a.least.after, q.0.least.after)) q.0.least.before, rest.0.least.least next (omega (arith, a.least.before)) (omega arith))) a, rest)
 
-    last : slice_index values' (length values) ≡ value
-    last = ap (λ v. slice_index v (length values)) made ∙ get_or-append_seam values value [] 0
+pub pushed : (f : ℕ → ℕ) (value : ℕ) (old new : Window) (left : List (ℕ × ℕ)) → new.next ≡ old.next + 1 → new.from ≡ old.from → new.queue ≡ left ++ (old.next, value) ∷ [] → EndsBelow value left
+    → (IsQueue f old.from old.next old.queue → IsFront f value old.from old.next left) → value ≡ f old.next → IsOver f old → IsOver f new
+pushed f value old new left e g made below front v o = record {
+  queue =
+      subst (λ n. IsQueue f n new.next new.queue) (sym g)
+      (subst (λ n. IsQueue f old.from n new.queue) (sym e)
+      (subst (λ (l : List (ℕ × ℕ)). IsQueue f old.from (old.next + 1) l) (sym made) (queue_more f value old.from old.next left v below (front o.queue))));
+}
 
-    there : (m : ℕ) → m ≡ left → slice_index places' m ≡ length values
-    there m e = ap (λ n. slice_index places' n) e ∙ new
+-- one popped entry is one less
+pub one_less : (old new : List (ℕ × ℕ)) (r : Option (ℕ × ℕ)) → old ≡ new ++ option_to_list r → length new ≤ length old
+one_less old new r made = omega (arith, ap length made, length-append new (option_to_list r))
 
-    -- what stands at a place that is left
-    at : (m : ℕ) → head ≤ m → m < left → slice_index values' (slice_index places' m) ≡ slice_index values (slice_index places m)
-    at m c d = ap (λ p. slice_index values' p) (same m d) ∙ old (slice_index places m) (q.before m c (omega arith))
+-- only the values before the end count
+pub queue_same : (f g : ℕ → ℕ) (from next : ℕ) (queue : List (ℕ × ℕ)) → ((i : ℕ) → i < next → f i ≡ g i) → IsQueue f from next queue → IsQueue g from next queue
+queue_same f g from next [] same q = q
+queue_same f g from next (e ∷ queue) same (a, q) = (
+  record {
+    least = record {
+      after = a.least.after;
+      before = a.least.before;
+      least = λ i b c. omega (arith, same i c, same e.0 a.least.before, a.least.least i b c);
+    };
+    value = omega (arith, a.value, same e.0 a.least.before);
+  },
+  queue_same f g (e.0 + 1) next queue same q,
+)
 
-    at_last : (m : ℕ) → m ≡ left → slice_index values' (slice_index places' m) ≡ value
-    at_last m e = ap (λ p. slice_index values' p) (there m e) ∙ last
+pub over_same : (f g : ℕ → ℕ) (window : Window) → ((i : ℕ) → i < window.next → f i ≡ g i) → IsOver f window → IsOver g window
+over_same f g window same o = record { queue = queue_same f g window.from window.next window.queue same o.queue }
 
-    after : (m : ℕ) → head ≤ m → ((m < left) ⊎ (left ≤ m)) → m < left + 1 → from ≤ slice_index places' m
-    after m c (inl h) d = omega (arith, same m h, q.after m c (omega arith))
-    after m c (inr h) d = omega (arith, there m (omega arith), q.start)
+-- a window with a value more is over some function
+pub window_more : (old new : Window) (value : ℕ) → ((f : ℕ → ℕ) → value ≡ f old.next → IsOver f old → IsOver f new) → IsWindow old → IsWindow new
+window_more old new value more w = record { values = longer; over = more longer here (over_same w.values longer old before w.over) }
+  where
+    longer : ℕ → ℕ
+    longer i = cond (nat_lt i old.next) (w.values i) value
 
-    before : (m : ℕ) → head ≤ m → ((m < left) ⊎ (left ≤ m)) → m < left + 1 → slice_index places' m < length values'
-    before m c (inl h) d = omega (arith, long, same m h, q.before m c (omega arith))
-    before m c (inr h) d = omega (arith, long, there m (omega arith))
+    here : value ≡ longer old.next
+    here = grind (arith, nat_tests)
 
-    rise : (m n : ℕ) → head ≤ m → m < n → ((n < left) ⊎ (left ≤ n)) → n < left + 1 → slice_index places' m < slice_index places' n
-    rise m n c d (inl h) e = omega (arith, same m (omega arith), same n h, q.rise m n c d (omega arith))
-    rise m n c d (inr h) e = omega (arith, same m (omega arith), there n (omega arith), q.before m c (omega arith))
+    before : (i : ℕ) → i < old.next → w.values i ≡ longer i
+    before i l = grind (arith, nat_tests)
 
-    -- all values that are left are less than the new one
-    all_less : (m : ℕ) → head ≤ m → m < left → ((m < left - 1) ⊎ (left - 1 ≤ m)) → slice_index values (slice_index places m) < value
-    all_less m c d (inl h) = omega (arith, q.keep m (left - 1) c h (omega arith), less (omega arith))
-    all_less m c d (inr h) = let e : m ≡ left - 1 = omega arith in omega (arith, ap (λ n. slice_index values (slice_index places n)) e, less (omega arith))
+-- the first entry has the least value
+pub queue_some : (f : ℕ → ℕ) (from next : ℕ) (queue : List (ℕ × ℕ)) → from < next → IsQueue f from next queue → 0 < length queue
+queue_some f from next [] l q = absurd (omega (arith, q))
+queue_some f from next (e ∷ queue) l q = omega arith
 
-    keep : (m n : ℕ) → head ≤ m → m < n → ((n < left) ⊎ (left ≤ n)) → n < left + 1 → slice_index values' (slice_index places' m) ≤ slice_index values' (slice_index places' n)
-    keep m n c d (inl h) e = omega (arith, at m c (omega arith), at n (omega arith) h, q.keep m n c d (omega arith))
-    keep m n c d (inr h) e = omega (arith, at m c (omega arith), at_last n (omega arith), all_less m c (omega arith) (cases_lt m (left - 1)))
-
-    kept : (i m : ℕ) → i < length values → Covers values places head end i m → ((m < left) ⊎ (left ≤ m)) → (n : ℕ) × Covers values' places' head (left + 1) i n
-    kept i m l c (inl h) = (m, record { from = c.from; to = omega arith; after = omega (arith, same m h, c.after); at_most = omega (arith, at m c.from h, old i l, c.at_most) })
-    kept i m l c (inr h) = (left, record { from = a; to = omega arith; after = omega (arith, new, l); at_most = omega (arith, at_last left (omega arith), old i l, c.at_most, passed m h c.to) })
-
-    go : (i : ℕ) → i < length values → ((m : ℕ) × Covers values places head end i m) → (n : ℕ) × Covers values' places' head (left + 1) i n
-    go i l (m, c) = kept i m l c (cases_lt m left)
-
-    covered : (i : ℕ) → from ≤ i → ((i < length values) ⊎ (length values ≤ i)) → i < length values' → (n : ℕ) × Covers values' places' head (left + 1) i n
-    covered i c (inl h) d = go i h (q.covered i c h)
-    covered i c (inr h) d =
-        let e : i ≡ length values = omega (arith, long) in
-        (left, record { from = a; to = omega arith; after = omega (arith, new); at_most = omega (arith, at_last left (omega arith), last, ap (λ n. slice_index values' n) e) })
+pub queue_least : (f : ℕ → ℕ) (from next : ℕ) (queue : List (ℕ × ℕ)) (e : ℕ × ℕ) → from < next → e ≡ slice_index_or queue 0 e → IsQueue f from next queue → IsLeastIn f from next e.0
+queue_least f from next [] e l is q = absurd (omega (arith, q))
+queue_least f from next (d ∷ queue) e l is (a, q) = subst (λ (x : ℕ × ℕ). IsLeastIn f from next x.0) (sym is) a.least

@@ -1,42 +1,48 @@
-//! The queue of places whose values rise.
-ghost use Rattle.std.specs.Prelude.{ℕ, ◌-◌, ◌<◌, ◌≤◌, length, slice_index};
+//! The queue of entries, each of a place where the least value stands of the window from behind the
+//! entry before.
+ghost use Rattle.std.specs.Prelude.{◌≡◌, ◌↔◌, ℕ, ◌≤◌, IsTrue};
+ghost use Rattle.std.specs.VecDeque.{deque_len, deque_capacity};
+ghost use Rattle.window_min.specs.Windows.{IsQueue, IsFront, StartsBefore, EndsBelow};
 
-/// The end of the places that are left before a value: those up to the last whose value is less.
-pub(crate) fn last_left(
-    values: &[u128],
-    places: &[usize],
-    head: usize,
-    end: usize,
-    value: u128,
-) -> usize
-    requires order { head ≤ end }
-    requires room { end ≤ length places.now }
-    requires inside { (m : ℕ) → head ≤ m → m < end → slice_index places.now m < length values.now }
-    ensures after { head ≤ result }
-    ensures before { result ≤ end }
-    ensures less { head < result → slice_index values.now (slice_index places.now (result - 1)) < value }
-    ensures passed { (m : ℕ) → result ≤ m → m < end → value ≤ slice_index values.now (slice_index places.now m) }
+use std::collections::VecDeque;
+
+/// Whether the last entry's value, where there is one, is less than `value`.
+fn ends_below(queue: &VecDeque<(usize, u128)>, value: u128) -> bool
+    ensures { IsTrue result ↔ EndsBelow value queue.now.items }
 {
-    let mut end = end;
-    while head < end && value <= values[places[end - 1]] {
-        end -= 1;
+    match queue.back() {
+        Some(&(_, last)) => last < value,
+        None => true,
     }
-    end
 }
 
-/// The number of the first of the places that isn't before `place`, where there is one.
-pub(crate) fn first_left(places: &[usize], head: usize, end: usize, place: usize) -> usize
-    requires order { head < end }
-    requires room { end ≤ length places.now }
-    requires last { place ≤ slice_index places.now (end - 1) }
-    ensures after { head ≤ result }
-    ensures before { result < end }
-    ensures first { place ≤ slice_index places.now result }
-    ensures passed { (m : ℕ) → head ≤ m → m < result → slice_index places.now m < place }
+/// Lets the last entries go whose values aren't less than `value`.
+pub(crate) fn leave_from(queue: &mut VecDeque<(usize, u128)>, value: u128)
+    ensures front { (f : ℕ → ℕ) (from next : ℕ) → IsQueue f from next queue.old.items → IsFront f value from next queue.new.items }
+    ensures less { EndsBelow value queue.new.items }
+    ensures length { deque_len queue.new ≤ deque_len queue.old }
+    ensures capacity { deque_capacity queue.new ≡ deque_capacity queue.old }
 {
-    let mut first = head;
-    while places[first] < place {
-        first += 1;
+    while !ends_below(queue, value) {
+        queue.pop_back();
     }
-    first
+}
+
+/// Whether there is a first entry, and it stands before `place`.
+fn starts_before(queue: &VecDeque<(usize, u128)>, place: usize) -> bool
+    ensures { IsTrue result ↔ StartsBefore place queue.now.items }
+{
+    match queue.front() {
+        Some(&(first, _)) => first < place,
+        None => false,
+    }
+}
+
+/// Lets the first entries go that stand before `place`.
+pub(crate) fn leave_before(queue: &mut VecDeque<(usize, u128)>, place: usize)
+    ensures { (f : ℕ → ℕ) (from next : ℕ) → from ≤ place → place ≤ next → IsQueue f from next queue.old.items → IsQueue f place next queue.new.items }
+{
+    while starts_before(queue, place) {
+        queue.pop_front();
+    }
 }

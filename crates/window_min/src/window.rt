@@ -1,49 +1,43 @@
 //! Windows over lists of values.
-ghost use Rattle.std.specs.Prelude.{◌≡◌, ℕ, ◌<◌, ◌≤◌, [], ◌∷◌, ◌++◌, length, IfOk, IfErr};
-ghost use Rattle.window_min.specs.Windows.{IsLeastIn};
+ghost use Rattle.std.specs.Prelude.{◌≡◌, ℕ, ◌+◌, ◌<◌, ◌≤◌, IfOk, IfErr};
+ghost use Rattle.window_min.specs.Windows.{IsLeastIn, IsOver};
 
-use crate::queue::{first_left, last_left};
+use crate::queue::{leave_before, leave_from};
 use std::alloc::{AllocError, Global};
+use std::collections::VecDeque;
 use std::marker::Model;
 
-/// A window over a list of values, from one of its places to its end.
+/// A window over the values that were added, from one of their places to the end. Holds a queue alone:
+/// 32 bytes for each place that it has room for, and never more places than the window has.
 #[derive(Debug, Drop)]
 pub struct WindowMin {
-    values: Vec<u128>,
+    next: usize,
     from: usize,
-    /// From `head` on and before `end`, the places of the values that are less than all that follow
-    /// them, in order.
-    places: Vec<usize>,
-    head: usize,
-    end: usize,
+    queue: VecDeque<(usize, u128)>,
 }
 
 impl Model for WindowMin {
-    ghost use Rattle.window_min.specs.Windows.{Window, IsQueue};
+    ghost use Rattle.window_min.specs.Windows.{Window, IsWindow};
 
     ghost Value = { Window };
 
-    ghost view = { λ w. record { values = w.values.items; from = w.from } };
+    ghost view = { λ w. record { next = w.next; from = w.from; queue = w.queue.items } };
 
-    ghost invariant = { λ w. IsQueue w.values.items w.from w.places.items w.head w.end };
+    ghost invariant = { λ w. IsWindow (record { next = w.next; from = w.from; queue = w.queue.items }) };
 }
 
 impl WindowMin {
-    /// The window that starts at place 0 of no values, with room for so many values. Costs memory for
-    /// these and their places, 24 bytes each.
-    pub fn with_capacity(alloc: Global, capacity: usize) -> Result<WindowMin, AllocError>
-        ensures values { IfOk result (λ w. w.values ≡ []) }
-        ensures from { IfOk result (λ w. w.from ≡ 0) }
+    /// The window that starts at place 0 of no values. Constant cost, and no memory.
+    pub fn new(alloc: Global) -> WindowMin
+        ensures next { result.next ≡ 0 }
+        ensures from { result.from ≡ 0 }
+        ensures over { (f : ℕ → ℕ) → IsOver f result }
     {
-        let values = Vec::with_capacity(alloc, capacity)?;
-        let places = Vec::with_capacity(alloc, capacity)?;
-        Ok(WindowMin {
-            values,
+        WindowMin {
+            next: 0,
             from: 0,
-            places,
-            head: 0,
-            end: 0,
-        })
+            queue: VecDeque::new(alloc),
+        }
     }
 
     /// The place where the window starts. Constant cost.
@@ -53,40 +47,43 @@ impl WindowMin {
         self.from
     }
 
-    /// Adds a value at the end. Costs memory for it and its place where the room is used up, and time in
-    /// the queued places whose values aren't less, each of which leaves the queue for good. Without memory
-    /// the window stays.
+    /// Adds a value at the end. Costs memory where the queue has no room for one more place, and time in
+    /// the queued places whose values aren't less, each of which leaves the queue for good. Without
+    /// memory, or a number for the place behind, the window stays.
     pub fn push(&mut self, value: u128) -> Result<(), AllocError>
-        ensures values { IfOk result (λ _. self.new.values ≡ self.old.values ++ value ∷ []) }
+        ensures next { IfOk result (λ _. self.new.next ≡ self.old.next + 1) }
         ensures from { IfOk result (λ _. self.new.from ≡ self.old.from) }
+        ensures over { IfOk result (λ _. (f : ℕ → ℕ) → value ≡ f self.old.next → IsOver f self.old → IsOver f self.new) }
         ensures kept { IfErr result (λ _. self.new ≡ self.old) }
     {
-        let place = self.values.len();
-        let end = last_left(&self.values, &self.places, self.head, self.end, value);
-        self.places.push(0)?;
-        self.values.push(value)?;
-        self.places[end] = place;
-        self.end = end + 1;
+        let Some(next) = self.next.checked_add(1) else {
+            return Err(AllocError);
+        };
+        self.queue.reserve(1)?;
+        leave_from(&mut self.queue, value);
+        self.queue.push_back((self.next, value))?;
+        self.next = next;
         Ok(())
     }
 
-    /// Moves the start on to a place of a value. Costs time in the queued places before it, which leave
-    /// the queue for good.
+    /// Moves the start on to a place, at most to the end. Costs time in the queued places before it,
+    /// which leave the queue for good.
     pub fn start_at(&mut self, place: usize)
         requires on { self.old.from ≤ place }
-        requires inside { place < length self.old.values }
-        ensures values { self.new.values ≡ self.old.values }
+        requires inside { place ≤ self.old.next }
+        ensures next { self.new.next ≡ self.old.next }
         ensures from { self.new.from ≡ place }
+        ensures over { (f : ℕ → ℕ) → IsOver f self.old → IsOver f self.new }
     {
-        self.head = first_left(&self.places, self.head, self.end, place);
+        leave_before(&mut self.queue, place);
         self.from = place;
     }
 
     /// A place where the least value of the window stands. Constant cost.
     pub fn least_place(&self) -> usize
-        requires { self.now.from < length self.now.values }
-        ensures { IsLeastIn self.now.values self.now.from result }
+        requires { self.now.from < self.now.next }
+        ensures { (f : ℕ → ℕ) → IsOver f self.now → IsLeastIn f self.now.from self.now.next result }
     {
-        self.places[self.head]
+        self.queue[0].0
     }
 }
