@@ -5,44 +5,13 @@ use Rattle.std.proofs.lemmas.Bool.{cases_lt, ltb-true, lt-ltb}
 use Rattle.std.proofs.lemmas.Bool.Decides.{nat_tests}
 use Rattle.std.proofs.lemmas.List.{append-nil}
 use Rattle.std.specs.Option.{option_to_list}
-use Rattle.window_min.specs.Windows.{Window, IsLeastIn, IsEntry, IsQueue, IsFront, IsOver, IsWindow, StartsBefore, EndsBelow}
+use Rattle.window_min.specs.Windows.{Window, IsEntry, IsQueue, IsFront, IsOver, IsWindow, EndsBelow}
 
 -- a queue of a window from some place up to this one
 pub record StartsUpTo (f : ℕ → ℕ) (place next : ℕ) (queue : List (ℕ × ℕ)) : Type 0 where
   pub from : ℕ
   pub up_to : from ≤ place
   pub is : IsQueue f from next queue
-
--- the start isn't past the end
-pub queue_ends : (f : ℕ → ℕ) (from next : ℕ) (queue : List (ℕ × ℕ)) → IsQueue f from next queue → from ≤ next
-queue_ends f from next [] q = omega (arith, q)
-queue_ends f from next (e ∷ queue) (a, q) = omega (arith, a.least.after, a.least.before)
-
--- the first entry leaves
-pub first_left : (f : ℕ → ℕ) (place next : ℕ) (old new : List (ℕ × ℕ)) (e : ℕ × ℕ) → old ≡ e ∷ new → StartsBefore place old → StartsUpTo f place next old → StartsUpTo f place next new
-first_left f place next old new e made before s =
-    let b : e.0 < place = subst (λ (l : List (ℕ × ℕ)). StartsBefore place l) made before in
-    let q : IsQueue f s.from next (e ∷ new) = subst (λ (l : List (ℕ × ℕ)). IsQueue f s.from next l) made s.is in
-    record { from = e.0 + 1; up_to = omega arith; is = q.1 }
-
--- no more entries leave
-pub all_left : (f : ℕ → ℕ) (place next : ℕ) (queue : List (ℕ × ℕ)) → place ≤ next → (StartsBefore place queue → ⊥) → StartsUpTo f place next queue → IsQueue f place next queue
-all_left f place next [] l n s = omega (arith, s.up_to, s.is)
-all_left f place next (e ∷ queue) l n s = go (cases_lt e.0 place)
-  where
-    go : ((e.0 < place) ⊎ (place ≤ e.0)) → IsEntry f place next e × IsQueue f (e.0 + 1) next queue
-    go (inl h) = absurd (n h)
-    go (inr h) = (
-      record {
-        least = record {
-          after = h;
-          before = s.is.0.least.before;
-          least = λ i a b. s.is.0.least.least i (omega (arith, s.up_to)) b;
-        };
-        value = s.is.0.value;
-      },
-      s.is.1,
-    )
 
 -- a whole queue is a front of one
 pub front_whole : (f : ℕ → ℕ) (value from next : ℕ) (queue : List (ℕ × ℕ)) → IsQueue f from next queue → IsFront f value from next queue
@@ -159,12 +128,3 @@ window_more old new value more w = record { values = longer; over = more longer 
 
     before : (i : ℕ) → i < old.next → w.values i ≡ longer i
     before i l = grind (arith, nat_tests)
-
--- the first entry has the least value
-pub queue_some : (f : ℕ → ℕ) (from next : ℕ) (queue : List (ℕ × ℕ)) → from < next → IsQueue f from next queue → 0 < length queue
-queue_some f from next [] l q = absurd (omega (arith, q))
-queue_some f from next (e ∷ queue) l q = omega arith
-
-pub queue_least : (f : ℕ → ℕ) (from next : ℕ) (queue : List (ℕ × ℕ)) (e : ℕ × ℕ) → from < next → e ≡ slice_index_or queue 0 e → IsQueue f from next queue → IsLeastIn f from next e.0
-queue_least f from next [] e l is q = absurd (omega (arith, q))
-queue_least f from next (d ∷ queue) e l is (a, q) = subst (λ (x : ℕ × ℕ). IsLeastIn f from next x.0) (sym is) a.least
