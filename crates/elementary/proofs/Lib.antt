@@ -5,6 +5,7 @@ pub mod Distinct
 pub mod Cuts
 pub mod Walk
 pub mod LeastAlive
+pub mod Pushing
 pub mod Reaching
 pub mod Ordering
 pub mod Searching

@@ -5,8 +5,8 @@ use Rattle.std.proofs.Math.Nat.{mul-le-mul_left, mul-le-mul_right}
 use Rattle.std.proofs.lemmas.Bool.{cases_lt}
 use Rattle.std.proofs.lemmas.List.Sorted.{IsNonDecreasingBy-short, IsNonDecreasingBy-from_default}
 use Rattle.time_base.specs.declared.fraction.Fraction.{Fraction}
-use Rattle.window_min.specs.Windows.{IsLeastIn, AreValues}
-use Rattle.window_min.proofs.Values.{at_end, kept_before, one_longer}
+use Rattle.window_min.specs.Windows.{IsLeastIn}
+use Rattle.elementary.proofs.Pushing.{at_end, kept_before, one_longer}
 use Rattle.elementary.specs.Counts.{Counts, AreOrdered, size_between, alive_in, AdmissibleBetween}
 use Rattle.elementary.specs.Reaches.{IsReach, AreReaches, NoneBefore}
 use Rattle.elementary.proofs.LeastAlive.{IsLeastAlive, within_is}
@@ -63,18 +63,18 @@ not_last table factor k low lt bad = go (cases_lt (low + 1) k)
     go (inr h) = absurd (bad (elementary_admissible table factor low k (omega arith)))
 
 -- the least value of a window over what is alive
-pub least_is : (table : Counts) (values : List ℕ) (low k place : ℕ) → AreValues (alive_in table) values k → IsLeastIn values low place → IsLeastAlive table low k (alive_in table place)
-least_is table values low k place a s = record {
+pub least_is : (table : Counts) (low k place : ℕ) → IsLeastIn (alive_in table) low k place → IsLeastAlive table low k (alive_in table place)
+least_is table low k place s = record {
   place = place;
   from = s.after;
-  to = omega (arith, a.long, s.before);
+  to = s.before;
   is = λ i. alive_in table place;
-  below = λ i b c. omega (arith, a.each i c, a.each place (omega (arith, a.long, s.before)), s.least i b (omega (arith, a.long)));
+  below = s.least;
 }
 
-pub reached_iff : (table : Counts) (factor : Fraction) (values : List ℕ) (low k place from size least : ℕ) (b : Bool) → AreValues (alive_in table) values k → IsLeastIn values low place → from ≡ low → size ≡ size_between table from k → least ≡ alive_in table place
+pub reached_iff : (table : Counts) (factor : Fraction) (low next k place from size least : ℕ) (b : Bool) → IsLeastIn (alive_in table) low next place → next ≡ k → from ≡ low → size ≡ size_between table from k → least ≡ alive_in table place
     → (IsTrue b ↔ (size * factor.under ≤ factor.over * least)) → IsTrue b ↔ AdmissibleBetween table factor low k
-reached_iff table factor values low k place from size least b a s e f g h = (
+reached_iff table factor low next k place from size least b s d e f g h = (
   λ t. w.0 (subst (λ n. n * factor.under ≤ factor.over * alive_in table place) there (subst (λ n. size * factor.under ≤ factor.over * n) g (h.0 t))),
   λ adm. h.1 (subst (λ n. size * factor.under ≤ factor.over * n) (sym g) (subst (λ n. n * factor.under ≤ factor.over * alive_in table place) (sym there) (w.1 adm))),
 )
@@ -83,7 +83,7 @@ reached_iff table factor values low k place from size least b a s e f g h = (
     there = f ∙ ap (λ n. size_between table n k) e
 
     w : (size_between table low k * factor.under ≤ factor.over * alive_in table place) ↔ AdmissibleBetween table factor low k
-    w = within_is table factor low k (alive_in table place) (least_is table values low k place a s)
+    w = within_is table factor low k (alive_in table place) (least_is table low k place (subst (λ n. IsLeastIn (alive_in table) low n place) d s))
 
 pub reaches_first : (table : Counts) (factor : Fraction) (lows : List ℕ) → lows ≡ 0 ∷ [] → AreReaches table factor lows 1
 reaches_first table factor lows e = record {

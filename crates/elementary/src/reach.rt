@@ -1,6 +1,6 @@
 //! How far back admissible segments reach.
 ghost use Rattle.std.specs.Prelude.{◌≡◌, ◌↔◌, ℕ, ◌<◌, ◌≤◌, length, IfOk, IsTrue};
-ghost use Rattle.window_min.specs.Windows.{AreValues};
+ghost use Rattle.window_min.specs.Windows.{IsOver};
 ghost use Rattle.elementary.specs.Counts.{AdmissibleBetween, AreOrdered, alive_in};
 ghost use Rattle.elementary.specs.Reaches.{IsReach, AreReaches, NoneBefore};
 
@@ -14,7 +14,8 @@ use window_min::WindowMin;
 /// what is alive in the elementary intervals before `k`.
 fn is_reached(table: &Table, factor: Fraction, k: usize, window: &WindowMin) -> bool
     requires inside { k < length table.now.boundaries }
-    requires alive { AreValues (alive_in table.now) window.now.values k }
+    requires alive { IsOver (alive_in table.now) window.now }
+    requires next { window.now.next ≡ k }
     requires before { window.now.from < k }
     ensures { IsTrue result ↔ AdmissibleBetween table.now factor window.now.from k }
 {
@@ -27,10 +28,12 @@ fn is_reached(table: &Table, factor: Fraction, k: usize, window: &WindowMin) -> 
 fn reach_to(table: &Table, factor: Fraction, k: usize, window: &mut WindowMin)
     requires ordered { AreOrdered table.now.boundaries table.now.begun table.now.ended }
     requires inside { k < length table.now.boundaries }
-    requires alive { AreValues (alive_in table.now) window.old.values k }
+    requires alive { IsOver (alive_in table.now) window.old }
+    requires next { window.old.next ≡ k }
     requires before { window.old.from < k }
     requires none { NoneBefore table.now factor k window.old.from }
-    ensures values { window.new.values ≡ window.old.values }
+    ensures alive { IsOver (alive_in table.now) window.new }
+    ensures next { window.new.next ≡ k }
     ensures on { window.old.from ≤ window.new.from }
     ensures reach { IsReach table.now factor k window.new.from }
 {
@@ -43,12 +46,13 @@ fn reach_to(table: &Table, factor: Fraction, k: usize, window: &mut WindowMin)
 /// For each boundary the first one from which a segment to it is admissible, by place; 0 for the first
 /// boundary. Since what is inside an admissible segment is admissible, the segments from all later
 /// boundaries are too, and the places never fall; so one pass finds them all, with a moving minimum of
-/// what is alive. Costs time in the boundaries, and 32 bytes of memory for each of them, of which 8 stay.
+/// what is alive. Costs time in the boundaries, and 8 bytes of memory for each of them, which stay; and
+/// while it runs that of the moving minimum, 32 bytes for each place in its queue.
 pub fn reaches(alloc: Global, table: &Table, factor: Fraction) -> Result<Vec<usize>, AllocError>
     ensures { IfOk result (λ v. AreReaches table.now factor v.items (length table.now.boundaries)) }
 {
     let boundaries = table.boundaries().len();
-    let mut window = WindowMin::with_capacity(alloc, boundaries)?;
+    let mut window = WindowMin::new(alloc);
     let mut lows = Vec::with_capacity(alloc, boundaries)?;
     lows.push(0)?;
     for k in 1..boundaries {

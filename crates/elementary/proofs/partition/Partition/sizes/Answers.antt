@@ -1,4 +1,4 @@
-use Rattle.std.proofs.Common.{◌≡◌, List, ℕ, IfOk, length, drop, subst, ◌+◌}
+use Rattle.std.proofs.Common.{◌≡◌, List, ℕ, IfOk, length, subst, ◌+◌}
 use Rattle.elementary.proofs.Cuts.{sizes_of_cuts}
 use Rattle.elementary.proofs.partition.Partition.sizes.Goals as goal
 
