@@ -4,7 +4,7 @@ use Rattle.std.proofs.Common.{arith, sym, ◌∙◌, subst, inl, inr}
 use Rattle.std.proofs.lemmas.Bool.{cases_lt}
 use Rattle.std.proofs.lemmas.Grind.{get_or_default_zero}
 use Rattle.time_base.specs.declared.fraction.Fraction.{Fraction}
-use Rattle.window_min.specs.Windows.{IsLeastIn, AreValues}
+use Rattle.window_min.specs.Windows.{IsLeastIn}
 use Rattle.elementary.specs.Counts.{Counts, AreOrdered, size_between}
 use Rattle.elementary.specs.Reaches.{IsReach, AreReaches}
 use Rattle.plan_certificate.specs.Edges.{EdgesTo, EdgesBelow}
@@ -21,16 +21,12 @@ cheaper table pi i j k o l a b h = omega (
   o.paired j (length table.boundaries - 1) (omega arith) (omega arith),
 )
 
-pub cheapest_is : (table : Counts) (pi values : List ℕ) (low k left : ℕ) → AreOrdered table.boundaries table.begun table.ended → k < length table.boundaries → AreValues (cost_to_end table pi) values k → IsLeastIn values low left
-    → IsCheapest table pi low k left
-cheapest_is table pi values low k left o l a s = record {
+pub cheapest_is : (table : Counts) (pi : List ℕ) (low k left : ℕ) → AreOrdered table.boundaries table.begun table.ended → k < length table.boundaries → IsLeastIn (cost_to_end table pi) low k left → IsCheapest table pi low k left
+cheapest_is table pi low k left o l s = record {
   after = s.after;
-  before = before;
-  none_cheaper = λ j b c. cheaper table pi left j k o l before c (omega (arith, a.each left before, a.each j c, s.least j b (omega (arith, a.long))));
+  before = s.before;
+  none_cheaper = λ j b c. cheaper table pi left j k o l s.before c (s.least j b c);
 }
-  where
-    before : left < k
-    before = omega (arith, a.long, s.before)
 
 -- a number grows over no segment by more than its size exactly where it doesn't over the cheapest one
 pub edges_by_cheapest : (table : Counts) (factor : Fraction) (pi : List ℕ) (low k left : ℕ) → IsReach table factor k low → IsCheapest table pi low k left → (slice_index pi k ≤ slice_index pi left + size_between table left k) ↔ EdgesTo table factor pi k

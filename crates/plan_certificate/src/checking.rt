@@ -36,7 +36,7 @@ fn edges_hold(
     ensures { IfOk result (λ b. IsTrue b ↔ EdgesBelow table.now factor pi.now (length pi.now)) }
 {
     let lows = reaches(alloc, table, factor)?;
-    let mut window = WindowMin::with_capacity(alloc, pi.len())?;
+    let mut window = WindowMin::new(alloc);
     for k in 1..pi.len() {
         let low = lows[k];
         let left = cheapest_left(table, pi, low, k, &mut window)?;
@@ -77,7 +77,8 @@ fn numbers_certify(
 }
 
 /// Whether the certificate shows that the partition is least for the factor, of the list that the table
-/// is of. Costs time in the boundaries, and 32 bytes of memory for each of them.
+/// is of. Costs time in the boundaries, and 8 bytes of memory for each of them and 32 for each place in the
+/// queue of a moving minimum.
 pub fn check(
     alloc: Global,
     table: &Table,

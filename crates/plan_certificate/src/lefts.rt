@@ -1,6 +1,6 @@
 //! The cheapest last segment to a boundary.
 ghost use Rattle.std.specs.Prelude.{◌≡◌, ◌-◌, ◌<◌, ◌≤◌, length, IfOk};
-ghost use Rattle.window_min.specs.Windows.{AreValues};
+ghost use Rattle.window_min.specs.Windows.{IsOver};
 ghost use Rattle.plan_certificate.specs.Lefts.{cost_to_end, IsCheapest};
 
 use elementary::Table;
@@ -24,10 +24,12 @@ pub fn cheapest_left(
     requires some { 0 < k }
     requires inside { k < length table.now.boundaries }
     requires long { k ≤ length numbers.now }
-    requires costs { AreValues (cost_to_end table.now numbers.now) window.old.values (k - 1) }
+    requires costs { IsOver (cost_to_end table.now numbers.now) window.old }
+    requires next { window.old.next ≡ k - 1 }
     requires on { window.old.from ≤ low }
     requires before { low < k }
-    ensures costs { IfOk result (λ _. AreValues (cost_to_end table.now numbers.now) window.new.values k) }
+    ensures costs { IfOk result (λ _. IsOver (cost_to_end table.now numbers.now) window.new) }
+    ensures next { IfOk result (λ _. window.new.next ≡ k) }
     ensures from { IfOk result (λ _. window.new.from ≡ low) }
     ensures cheapest { IfOk result (IsCheapest table.now numbers.now low k) }
 {

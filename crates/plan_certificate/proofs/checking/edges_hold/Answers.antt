@@ -2,8 +2,6 @@ use Rattle.std.proofs.Common.{arith, ◌∙◌, subst, ◌≡◌, ◌<◌, ◌+�
 use Rattle.std.specs.Prelude.{slice_index}
 use Rattle.std.proofs.lemmas.Bool.{iff_false}
 use Rattle.std.proofs.lemmas.Grind.{get_or_default_zero}
-use Rattle.window_min.specs.Windows.{AreValues}
-use Rattle.plan_certificate.specs.Lefts.{cost_to_end}
 use Rattle.plan_certificate.proofs.Cheapest.{edge_is, edges_next}
 use Rattle.plan_certificate.proofs.Shown.{refused}
 use Rattle.plan_certificate.proofs.checking.edges_hold.Goals as goal
@@ -22,7 +20,8 @@ loop-k-preserved c =
       some = omega arith;
       edges = edges_next c.args.table.now c.args.factor c.args.pi.now c.loop-k.k c.loop-k.invariant.edges
           ((edge_is c.args.table.now c.args.factor c.args.pi.now c.in_ok-lows.lows.items c.loop-k.k c.index-low.result.now c.in_ok-left.left c.is_edge.result c.loop-k.invariant.some l c.in_ok-lows.ensures c.index-low.ensures c.in_ok-left.ensures.cheapest c.is_edge.ensures).0 c.if-not-is_edge.false);
-      costs = subst (λ n. AreValues (cost_to_end c.args.table.now c.args.pi.now) c.cheapest_left.new.window.values n) here c.in_ok-left.ensures.costs;
+      costs = c.in_ok-left.ensures.costs;
+      next = omega (arith, c.in_ok-left.ensures.next);
       from = subst (λ n. c.cheapest_left.new.window.from ≡ slice_index c.in_ok-lows.lows.items n) here
           (c.in_ok-left.ensures.from ∙ (c.index-low.ensures ∙ get_or_default_zero c.in_ok-lows.lows.items c.loop-k.k c.index-low.result.now (omega (arith, l, c.in_ok-lows.ensures.long))));
     }

@@ -1,6 +1,6 @@
 use Rattle.std.proofs.Common.{◌≡◌, ◌-◌, ◌≤◌}
 use Rattle.std.specs.Prelude.{slice_index}
-use Rattle.window_min.specs.Windows.{AreValues}
+use Rattle.window_min.specs.Windows.{IsOver}
 use Rattle.plan_certificate.specs.Edges.{EdgesBelow}
 use Rattle.plan_certificate.specs.Lefts.{cost_to_end}
 use Rattle.plan_certificate.proofs.checking.edges_hold.Given as goal
@@ -9,6 +9,7 @@ abbrev pub invariant-loop-k : goal.invariant-loop-k
 invariant-loop-k l = record {
   some : 1 ≤ l.k;
   edges : EdgesBelow l.table l.fn.factor l.pi l.k;
-  costs : AreValues (cost_to_end l.table l.pi) l.window.values (l.k - 1);
+  costs : IsOver (cost_to_end l.table l.pi) l.window;
+  next : l.window.next ≡ l.k - 1;
   from : l.window.from ≡ slice_index l.lows.items (l.k - 1);
 }
