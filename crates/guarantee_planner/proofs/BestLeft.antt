@@ -1,16 +1,16 @@
 -- The best last segment that ends at a boundary is the cheapest of those that reach to it.
-use Rattle.std.specs.Prelude.{◌≡◌, ℕ, ◌+◌, ◌-◌, ◌<◌, List, [], ◌∷◌, ◌++◌, length, get_or}
-use Rattle.std.proofs.Common.{arith, ap, sym, ◌∙◌, subst}
-use Rattle.std.proofs.lemmas.Grind.{get_or_default_zero}
+use Rattle.std.specs.Prelude.{◌≡◌, ℕ, ◌+◌, ◌-◌, ◌<◌, List, [], ◌∷◌, ◌++◌, length, slice_index}
+use Rattle.std.proofs.Common.{arith, ap, sym, subst}
 use Rattle.time_base.specs.declared.fraction.Fraction.{Fraction}
-use Rattle.window_min.specs.Windows.{AreValues}
-use Rattle.window_min.proofs.Values.{values_same, kept_before}
+use Rattle.window_min.specs.Windows.{Window, IsOver}
+use Rattle.window_min.proofs.Queues.{over_same}
 use Rattle.elementary.specs.Counts.{Counts, size_between}
 use Rattle.elementary.specs.Reaches.{IsReach, AreReaches}
+use Rattle.elementary.proofs.Pushing.{kept_before}
 use Rattle.plan_certificate.specs.Lefts.{cost_to_end, IsCheapest}
 use Rattle.guarantee_planner.specs.Steps.{IsBestLeft}
 
-pub best_is : (table : Counts) (factor : Fraction) (pi lows : List ℕ) (k low left : ℕ) → 0 < k → k < length table.boundaries → AreReaches table factor lows (length table.boundaries) → low ≡ get_or lows k low → IsCheapest table pi low k left
+pub best_is : (table : Counts) (factor : Fraction) (pi lows : List ℕ) (k low left : ℕ) → 0 < k → k < length table.boundaries → AreReaches table factor lows (length table.boundaries) → low ≡ slice_index lows k → IsCheapest table pi low k left
     → IsBestLeft table factor pi k left
 best_is table factor pi lows k low left some l r e s = record {
   before = s.before;
@@ -19,9 +19,9 @@ best_is table factor pi lows k low left some l r e s = record {
 }
   where
     reach : IsReach table factor k low
-    reach = subst (λ n. IsReach table factor k n) (sym (e ∙ get_or_default_zero lows k low (omega (arith, r.long)))) (r.each k some l)
+    reach = subst (λ n. IsReach table factor k n) (sym e) (r.each k some l)
 
 -- one more number changes no cost before it
-pub costs_kept : (table : Counts) (pi pi' values : List ℕ) (k number : ℕ) → length pi ≡ k → pi' ≡ pi ++ number ∷ [] → AreValues (cost_to_end table pi) values k → AreValues (cost_to_end table pi') values k
-costs_kept table pi pi' values k number e made a =
-    values_same (cost_to_end table pi) (cost_to_end table pi') values k (λ i l. ap (λ n. n + size_between table i (length table.boundaries - 1)) (sym (kept_before pi pi' k number i e made l))) a
+pub costs_kept : (table : Counts) (pi pi' : List ℕ) (window : Window) (k number : ℕ) → length pi ≡ k → window.next ≡ k → pi' ≡ pi ++ number ∷ [] → IsOver (cost_to_end table pi) window → IsOver (cost_to_end table pi') window
+costs_kept table pi pi' window k number e f made o =
+    over_same (cost_to_end table pi) (cost_to_end table pi') window (λ i l. ap (λ n. n + size_between table i (length table.boundaries - 1)) (sym (kept_before pi pi' k number i e made (omega arith)))) o

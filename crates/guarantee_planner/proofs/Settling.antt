@@ -1,5 +1,5 @@
 -- One more boundary with its number.
-use Rattle.std.specs.Prelude.{◌≡◌, ◌⊎◌, ℕ, ◌+◌, ◌*◌, ◌^◌, ◌<◌, ◌≤◌, List, [], ◌∷◌, ◌++◌, length, slice_index}
+use Rattle.std.specs.Prelude.{◌≡◌, ◌⊎◌, ℕ, ◌+◌, ◌*◌, ◌^◌, ◌<◌, ◌≤◌, List, [], ◌∷◌, ◌++◌, length, slice_index, take}
 use Rattle.std.proofs.Common.{arith, ap, subst, sym, ◌∙◌, inl, inr, length-append}
 use Rattle.std.proofs.Math.ListN.{get_or-append}
 use Rattle.std.proofs.Math.Seq.{get_or-append_seam}
@@ -66,3 +66,8 @@ settled_first table factor pi lefts e f = record {
   numbers = λ k a c. absurd (omega arith);
   small = λ k c. let q : 0 ≡ k = omega arith in subst (λ n. slice_index pi n ≤ n * 2 ^ 38) q (omega (arith, ap (λ l. slice_index l 0) e));
 }
+
+-- the first left end, which is 0
+pub one_taken : (lefts : List ℕ) → 1 ≤ length lefts → slice_index lefts 0 ≡ 0 → take 1 lefts ≡ 0 ∷ []
+one_taken [] l e = absurd (omega (arith, l))
+one_taken (x ∷ lefts) l e = ap (λ n. n ∷ []) e

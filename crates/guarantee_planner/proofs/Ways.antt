@@ -14,7 +14,7 @@ use Rattle.elementary.proofs.Places.{rises}
 use Rattle.elementary.proofs.Tables.{size_is, admissible_from_counts, counts_from_admissible, last_is_horizon}
 use Rattle.elementary.proofs.Walk.{AreBounds, paths_cost}
 use Rattle.plan_certificate.specs.Certificates.{CertifiesCuts}
-use Rattle.guarantee_planner.specs.Steps.{AreSettled, LeadsBy, IsWay}
+use Rattle.guarantee_planner.specs.Steps.{AreSettled, HasCuts, LeadsBy, IsWay}
 
 -- the way grows at its front
 pub way_more : (times lefts : List ℕ) (at next end : ℕ) (cuts : List ℕ) (x : ℕ) → next ≡ slice_index lefts at → x ≡ slice_index times next → next < at → at < length lefts
@@ -23,6 +23,13 @@ way_more times lefts at next end cuts x e f lt l w = record {
   places = at ∷ w.places;
   are = reverse-append cuts (x ∷ []) ∙ (λ i. f i ∷ w.are i);
   leads = (sym e, lt, l, w.leads);
+}
+
+pub count_more : (lefts : List ℕ) (at next end count : ℕ) → next ≡ slice_index lefts at → next < at → at < length lefts → HasCuts lefts at end count → HasCuts lefts next end (count + 1)
+count_more lefts at next end count e lt l h = record {
+  places = at ∷ h.places;
+  leads = (sym e, lt, l, h.leads);
+  many = omega (arith, h.many);
 }
 
 pub way_first : (times lefts : List ℕ) (at end : ℕ) (cuts : List ℕ) → cuts ≡ slice_index times at ∷ [] → at ≡ end → IsWay times lefts at end (reverse cuts)

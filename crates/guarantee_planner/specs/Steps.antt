@@ -28,3 +28,9 @@ pub record IsWay (times lefts : List ℕ) (at end : ℕ) (cuts : List ℕ) : Typ
   pub places : List ℕ
   pub are : cuts ≡ map (λ p. slice_index times p) (at ∷ places)
   pub leads : LeadsBy lefts at places end
+
+-- From one place to the end others lead, and with it they are so many.
+pub record HasCuts (lefts : List ℕ) (at end count : ℕ) : Type 0 where
+  pub places : List ℕ
+  pub leads : LeadsBy lefts at places end
+  pub many : count ≡ length places + 1

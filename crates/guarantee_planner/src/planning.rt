@@ -40,7 +40,8 @@ impl From<AllocError> for PlanError {
 
 /// A partition that keeps the factor and takes the least space of all that do, wherever these cut, with
 /// the least space up to each boundary as its certificate, which `check` accepts. Costs time in the
-/// boundaries, and 48 bytes of memory for each of them, of which 8 and the cuts stay.
+/// boundaries, and 16 bytes of memory for each of them, of which 8 stay, 8 for each cut, which stay, and
+/// 32 for each place in the queue of a moving minimum.
 pub fn plan(
     alloc: Global,
     table: &Table,

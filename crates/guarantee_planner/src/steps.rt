@@ -1,6 +1,6 @@
 //! The numbers at the boundaries, and the way back along their best last segments.
 ghost use Rattle.std.specs.Prelude.{◌≡◌, ℕ, ◌-◌, ◌<◌, ◌≤◌, ◌^◌, length, slice_index, IfOk};
-ghost use Rattle.guarantee_planner.specs.Steps.{AreSettled, IsWay};
+ghost use Rattle.guarantee_planner.specs.Steps.{AreSettled, HasCuts, IsWay};
 
 use elementary::{Table, reaches};
 use plan_certificate::cheapest_left;
@@ -15,30 +15,45 @@ pub(crate) struct Settled {
     pub(crate) lefts: Vec<usize>,
 }
 
-/// The numbers at all boundaries. Costs time in the boundaries, and 48 bytes of memory for each of them,
-/// of which 16 stay.
+/// The numbers at all boundaries. Costs time in the boundaries, and 16 bytes of memory for each of them,
+/// which stay; and while it runs 32 bytes for each place in the queue of a moving minimum.
 pub(crate) fn settle(alloc: Global, table: &Table, factor: Fraction) -> Result<Settled, AllocError>
     requires { length table.now.boundaries ≤ 2 ^ 20 }
     ensures { IfOk result (λ s. AreSettled table.now factor s.pi.items s.lefts.items (length table.now.boundaries)) }
 {
     let boundaries = table.boundaries().len();
-    let lows = reaches(alloc, table, factor)?;
-    let mut window = WindowMin::with_capacity(alloc, boundaries)?;
+    // how far segments reach, and in place of that, once it is known, the left end
+    let mut lefts = reaches(alloc, table, factor)?;
+    let mut window = WindowMin::new(alloc);
     let mut pi = Vec::with_capacity(alloc, boundaries)?;
-    let mut lefts = Vec::with_capacity(alloc, boundaries)?;
     pi.push(0)?;
-    lefts.push(0)?;
     for k in 1..boundaries {
-        let low = lows[k];
+        let low = lefts[k];
         let left = cheapest_left(table, &pi, low, k, &mut window)?;
         let number = pi[left] + table.size(left, k);
         pi.push(number)?;
-        lefts.push(left)?;
+        lefts[k] = left;
     }
     Ok(Settled { pi, lefts })
 }
 
-/// The times of the way back from the last boundary by left ends, in ascending order.
+/// How many cuts the way back from the last boundary by left ends has.
+fn count_back(lefts: &[usize]) -> usize
+    requires some { 0 < length lefts.now }
+    requires falling { (k : ℕ) → 0 < k → k < length lefts.now → slice_index lefts.now k < k }
+    ensures { HasCuts lefts.now 0 (length lefts.now - 1) result }
+{
+    let mut at = lefts.len() - 1;
+    let mut count = 1;
+    while at > 0 {
+        at = lefts[at];
+        count += 1;
+    }
+    count
+}
+
+/// The times of the way back from the last boundary by left ends, in ascending order. Costs time in them,
+/// and 8 bytes of memory for each.
 pub(crate) fn cuts_back(
     alloc: Global,
     times: &[u64],
@@ -50,7 +65,7 @@ pub(crate) fn cuts_back(
     ensures { IfOk result (λ v. IsWay times.now lefts.now 0 (length times.now - 1) v.items) }
 {
     let mut at = times.len() - 1;
-    let mut cuts = Vec::new(alloc);
+    let mut cuts = Vec::with_capacity(alloc, count_back(lefts))?;
     cuts.push(times[at])?;
     while at > 0 {
         at = lefts[at];

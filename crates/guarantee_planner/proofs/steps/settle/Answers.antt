@@ -1,35 +1,55 @@
-use Rattle.std.proofs.Common.{arith, ap, sym, ◌∙◌, subst, List, [], ◌∷◌, ◌++◌, ℕ, ◌≡◌, ◌+◌, ◌-◌, ◌<◌, length}
+use Rattle.std.proofs.Common.{arith, ap, sym, ◌∙◌, subst, refl, List, [], ◌∷◌, ◌++◌, ℕ, ◌≡◌, ◌+◌, ◌-◌, ◌<◌, length, length-set, take, set}
 use Rattle.std.specs.Prelude.{slice_index}
 use Rattle.std.proofs.lemmas.Grind.{get_or_default_zero}
-use Rattle.window_min.specs.Windows.{AreValues}
+use Rattle.std.proofs.lemmas.List.{take_more_set, take_all, get_or-set_other}
 use Rattle.elementary.specs.Counts.{size_between}
 use Rattle.plan_certificate.specs.Lefts.{cost_to_end, IsCheapest}
+use Rattle.window_min.specs.Windows.{IsOver}
 use Rattle.guarantee_planner.specs.Steps.{AreSettled, IsBestLeft}
 use Rattle.guarantee_planner.proofs.BestLeft.{best_is, costs_kept}
-use Rattle.guarantee_planner.proofs.Settling.{settled_more}
+use Rattle.guarantee_planner.proofs.Settling.{settled_first, settled_more, one_taken}
 use Rattle.guarantee_planner.proofs.steps.settle.Goals as goal
+
+pub loop-k-init : goal.loop-k-init
+loop-k-init c = record {
+  some = omega arith;
+  long = refl;
+  lows = λ m l. refl;
+  settled = settled_first c.args.table.now c.args.factor c.push.new.self.items (take 1 c.in_ok-lefts.lefts.items) (c.in_ok-push.ensures.items ∙ ap (λ (l : List ℕ). l ++ 0 ∷ []) c.in_ok-pi.ensures.items)
+      (one_taken c.in_ok-lefts.lefts.items (omega (arith, c.in_ok-lefts.ensures.long, c.boundaries-boundaries.ensures.many, ap length c.boundaries-boundaries.ensures.value)) c.in_ok-lefts.ensures.starts);
+  costs = c.new-window.ensures.over (cost_to_end c.args.table.now c.push.new.self.items);
+  next = c.new-window.ensures.next;
+  from = omega (arith, c.new-window.ensures.from, c.in_ok-lefts.ensures.starts);
+}
 
 pub loop-k-preserved : goal.loop-k-preserved
 loop-k-preserved c =
     let l : c.loop-k.k < length c.args.table.now.boundaries = omega (arith, c.loop-k-test.true, ap length c.boundaries-boundaries.ensures.value) in
+    let m : c.loop-k.k < length c.loop-k.lefts.items = omega (arith, l, c.loop-k.invariant.long, c.in_ok-lefts.ensures.long) in
     let here : c.loop-k.k ≡ c.loop-k.k + 1 - 1 = omega arith in
+    let low : c.index-low.result.now ≡ slice_index c.in_ok-lefts.lefts.items c.loop-k.k =
+    c.index-low.ensures ∙ (get_or_default_zero c.loop-k.lefts.items c.loop-k.k c.index-low.result.now m ∙ c.loop-k.invariant.lows c.loop-k.k (omega arith)) in
     let s : IsCheapest c.args.table.now c.loop-k.pi.items c.index-low.result.now c.loop-k.k c.in_ok-left.left =
     subst (λ (p : List ℕ). IsCheapest c.args.table.now p c.index-low.result.now c.loop-k.k c.in_ok-left.left) c.deref.ensures.value c.in_ok-left.ensures.cheapest in
     let b : IsBestLeft c.args.table.now c.args.factor c.loop-k.pi.items c.loop-k.k c.in_ok-left.left =
-    best_is c.args.table.now c.args.factor c.loop-k.pi.items c.in_ok-lows.lows.items c.loop-k.k c.index-low.result.now c.in_ok-left.left c.loop-k.invariant.some l c.in_ok-lows.ensures c.index-low.ensures s in
+    best_is c.args.table.now c.args.factor c.loop-k.pi.items c.in_ok-lefts.lefts.items c.loop-k.k c.index-low.result.now c.in_ok-left.left c.loop-k.invariant.some l c.in_ok-lefts.ensures low s in
     let e : c.index.result.now + c.size.result ≡ slice_index c.loop-k.pi.items c.in_ok-left.left + size_between c.args.table.now c.in_ok-left.left c.loop-k.k =
     omega (arith, c.index.ensures, get_or_default_zero c.loop-k.pi.items c.in_ok-left.left c.index.result.now (omega (arith, b.before, c.loop-k.invariant.settled.pi_long)), c.size.ensures.value) in
     record {
       some = omega arith;
-      settled = subst (λ (l : List ℕ). AreSettled c.args.table.now c.args.factor l c.push-in-loop-k-2.new.self.items (c.loop-k.k + 1)) (sym c.in_ok-push-3.ensures.items)
-          (subst (λ (l : List ℕ). AreSettled c.args.table.now c.args.factor (c.loop-k.pi.items ++ (c.index.result.now + c.size.result) ∷ []) l (c.loop-k.k + 1)) (sym c.in_ok-push-4.ensures.items)
-          (settled_more c.args.table.now c.args.factor c.loop-k.pi.items c.loop-k.lefts.items c.loop-k.k c.in_ok-left.left (c.index.result.now + c.size.result) c.loop-k.invariant.some c.loop-k.invariant.settled b e (omega (arith, c.size.ensures.value, c.size.ensures.bound))));
-      costs = subst (λ n. AreValues (cost_to_end c.args.table.now c.push-in-loop-k.new.self.items) c.cheapest_left.new.window.values n) here
-          (costs_kept c.args.table.now c.loop-k.pi.items c.push-in-loop-k.new.self.items c.cheapest_left.new.window.values c.loop-k.k (c.index.result.now + c.size.result) c.loop-k.invariant.settled.pi_long c.in_ok-push-3.ensures.items
-          (subst (λ (p : List ℕ). AreValues (cost_to_end c.args.table.now p) c.cheapest_left.new.window.values c.loop-k.k) c.deref.ensures.value c.in_ok-left.ensures.costs));
-      from = subst (λ n. c.cheapest_left.new.window.from ≡ slice_index c.in_ok-lows.lows.items n) here
-          (c.in_ok-left.ensures.from ∙ (c.index-low.ensures ∙ get_or_default_zero c.in_ok-lows.lows.items c.loop-k.k c.index-low.result.now (omega (arith, l, c.in_ok-lows.ensures.long))));
+      long = omega (arith, length-set c.loop-k.lefts.items c.loop-k.k c.in_ok-left.left, c.loop-k.invariant.long);
+      lows = λ n a. get_or-set_other c.loop-k.lefts.items c.loop-k.k n c.in_ok-left.left 0 (omega arith) ∙ c.loop-k.invariant.lows n (omega arith);
+      settled = subst (λ (p : List ℕ). AreSettled c.args.table.now c.args.factor p (take (c.loop-k.k + 1) (set c.loop-k.lefts.items c.loop-k.k c.in_ok-left.left)) (c.loop-k.k + 1)) (sym c.in_ok-push-2.ensures.items)
+          (subst (λ (p : List ℕ). AreSettled c.args.table.now c.args.factor (c.loop-k.pi.items ++ (c.index.result.now + c.size.result) ∷ []) p (c.loop-k.k + 1)) (sym (take_more_set c.loop-k.lefts.items c.loop-k.k c.in_ok-left.left m))
+          (settled_more c.args.table.now c.args.factor c.loop-k.pi.items (take c.loop-k.k c.loop-k.lefts.items) c.loop-k.k c.in_ok-left.left (c.index.result.now + c.size.result) c.loop-k.invariant.some c.loop-k.invariant.settled b e (omega (arith, c.size.ensures.value, c.size.ensures.bound))));
+      costs = costs_kept c.args.table.now c.loop-k.pi.items c.push-in-loop-k.new.self.items c.cheapest_left.new.window c.loop-k.k (c.index.result.now + c.size.result) c.loop-k.invariant.settled.pi_long c.in_ok-left.ensures.next c.in_ok-push-2.ensures.items
+          (subst (λ (p : List ℕ). IsOver (cost_to_end c.args.table.now p) c.cheapest_left.new.window) c.deref.ensures.value c.in_ok-left.ensures.costs);
+      next = omega (arith, c.in_ok-left.ensures.next);
+      from = subst (λ n. c.cheapest_left.new.window.from ≡ slice_index c.in_ok-lefts.lefts.items n) here (c.in_ok-left.ensures.from ∙ low);
     }
 
 pub returns : goal.returns
-returns c = subst (λ n. AreSettled c.args.table.now c.args.factor c.loop-k.pi.items c.loop-k.lefts.items n) (omega (arith, c.loop-k-test.false, c.loop-k.auto.k-end, c.boundaries-boundaries.ensures.many, ap length c.boundaries-boundaries.ensures.value)) c.loop-k.invariant.settled
+returns c =
+    let n : c.loop-k.k ≡ length c.args.table.now.boundaries = omega (arith, c.loop-k-test.false, c.loop-k.auto.k-end, c.boundaries-boundaries.ensures.many, ap length c.boundaries-boundaries.ensures.value) in
+    subst (λ (p : List ℕ). AreSettled c.args.table.now c.args.factor c.loop-k.pi.items p (length c.args.table.now.boundaries)) (take_all c.loop-k.k c.loop-k.lefts.items (omega (arith, n, c.loop-k.invariant.long, c.in_ok-lefts.ensures.long)))
+    (subst (λ n. AreSettled c.args.table.now c.args.factor c.loop-k.pi.items (take c.loop-k.k c.loop-k.lefts.items) n) n c.loop-k.invariant.settled)
