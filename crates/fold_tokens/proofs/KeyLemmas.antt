@@ -41,6 +41,10 @@ pub term_of-made_ok : {E : Type 0} (run bytes : List ℕ) (made : Result (Option
 term_of-made_ok run bytes (Ok k) e valid value = term_of-made run bytes k e valid value
 term_of-made_ok run bytes (Err why) e valid value = tt
 
+-- a word that is the lower case of a run of ASCII is the run's term
+pub term_of-lower : (run word : List ℕ) → IsAscii run → word ≡ map to_ascii_lowercase run → 1 ≤ length word → length word ≤ 255 → term_of (chars run) ≡ Some word
+term_of-lower run word ascii e some short = sym (term_of-made (chars run) word (Some word) (e ∙ sym (key-ascii run ascii)) (λ _. (some, short), λ _. refl) refl)
+
 some_term : (run : List ℕ) → is_key (key run) ≡ true → term_of run ≡ Some (key run)
 some_term run h = ap (λ b. if b then Some (key run) else None) h
 

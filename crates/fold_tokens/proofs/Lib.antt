@@ -6,5 +6,6 @@ pub mod WordLemmas
 pub mod NumberingLemmas
 pub mod CutLemmas
 pub mod WeighLemmas
+pub mod TallyLemmas
 pub mod NewLemmas
 pub mod WeightLemmas

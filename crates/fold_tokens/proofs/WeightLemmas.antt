@@ -28,7 +28,7 @@ place_of (x ∷ words) h (suc n) w e =
     let rest = place_of words (IsDistinct-tail bytes_eq x words h) n w e in
     ap (λ b. cond (not b) (1 + position_or_len (bytes_eq w) words) 0) apart ∙ omega (arith, rest)
 
-number_at : (words : List (List ℕ)) → IsDistinct bytes_eq words → (n : ℕ) (w : List ℕ) → n < length words → slice_get words n ≡ Some w → number_of w words ≡ Some n
+pub number_at : (words : List (List ℕ)) → IsDistinct bytes_eq words → (n : ℕ) (w : List ℕ) → n < length words → slice_get words n ≡ Some w → number_of w words ≡ Some n
 number_at words h n w l e =
     let p = place_of words h n w e in
     ap (λ m. cond (nat_lt m (length words)) (Some m) None) p ∙ ap (λ b. cond b (Some n) None) (lt-ltb _ _ l)

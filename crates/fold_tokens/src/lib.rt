@@ -13,6 +13,7 @@
 mod counts;
 mod cuts;
 mod frequency;
+mod guesses;
 mod laws;
 mod runs;
 mod vocabulary;

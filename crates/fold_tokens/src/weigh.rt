@@ -8,6 +8,7 @@ ghost use Rattle.fold_tokens.specs.Weighing.{IsTallied};
 
 use crate::counts::count;
 use crate::cuts::first_run;
+use crate::guesses::Guesses;
 use crate::runs::key_of;
 use crate::vocabulary::Vocabulary;
 use indexmap::IndexMap;
@@ -18,6 +19,7 @@ use time_base::Key;
 #[derive(Drop)]
 pub struct Places {
     by_number: Vec<u32>,
+    guesses: Guesses,
 }
 
 impl Places {
@@ -25,6 +27,7 @@ impl Places {
     pub fn new(alloc: Global) -> Places {
         Places {
             by_number: Vec::new(alloc),
+            guesses: Guesses::new(alloc),
         }
     }
 }
@@ -69,11 +72,12 @@ fn count_known(
     Ok(())
 }
 
-/// Counts a run, if it is a term.
-fn weigh_run(
+/// Counts a run by its key, if it is a term. The number that is found is the next guess for it.
+fn weigh_key(
     alloc: Global,
     vocabulary: &Vocabulary,
     places: &mut [u32],
+    guesses: &mut Guesses,
     tally: &mut Tally,
     run: &str,
 ) -> Result<(), AllocError>
@@ -87,6 +91,7 @@ fn weigh_run(
     };
     match vocabulary.find(&key) {
         Some(id) => {
+            guesses.put(run, id.number());
             count_known(places, &mut tally.known, id.number())?;
             tally.spare = key.into_text();
             Ok(())
@@ -95,11 +100,32 @@ fn weigh_run(
     }
 }
 
+/// Counts a run, if it is a term.
+fn weigh_run(
+    alloc: Global,
+    vocabulary: &Vocabulary,
+    places: &mut [u32],
+    guesses: &mut Guesses,
+    tally: &mut Tally,
+    run: &str,
+) -> Result<(), AllocError>
+    requires numbered { length vocabulary.now.words ≤ length places.old }
+    requires some { (done : List (List ℕ)) × IsTallied vocabulary.now.words places.old tally.old done × (length done + 1 < 2 ^ 32) }
+    ensures { OnOk result ((done : List (List ℕ)) → IsTallied vocabulary.now.words places.old tally.old done
+        → IsTallied vocabulary.now.words places.new tally.new (done ++ closed (chars run.now))) }
+{
+    match guesses.find(vocabulary, run) {
+        Some(number) => count_known(places, &mut tally.known, number),
+        None => weigh_key(alloc, vocabulary, places, guesses, tally, run),
+    }
+}
+
 /// Counts the words of a text.
 fn tally_of(
     alloc: Global,
     vocabulary: &Vocabulary,
     places: &mut [u32],
+    guesses: &mut Guesses,
     text: &str,
 ) -> Result<Tally, AllocError>
     requires numbered { length vocabulary.now.words ≤ length places.old }
@@ -115,7 +141,7 @@ fn tally_of(
     let mut rest = text;
     while !rest.is_empty() {
         let (run, after) = first_run(rest);
-        weigh_run(alloc, vocabulary, places, &mut tally, run)?;
+        weigh_run(alloc, vocabulary, places, guesses, &mut tally, run)?;
         rest = after;
     }
     Ok(tally)
@@ -123,9 +149,10 @@ fn tally_of(
 
 impl Vocabulary {
     /// The distinct words of a text with their counts, those with a number apart from those
-    /// without. The text is read once; a run costs a look-up, or two where its word has no number,
-    /// and, where it isn't ASCII, its normal forms. A run of ASCII takes no memory where its word
-    /// has a number or was counted before.
+    /// without. The text is read once. A run of ASCII whose number was guessed costs its length;
+    /// another run a look-up, or two where its word has no number, and, where it isn't ASCII, its
+    /// normal forms. A run of ASCII takes no memory where its word has a number or was counted
+    /// before.
     pub fn weigh(
         &self,
         alloc: Global,
@@ -140,7 +167,14 @@ impl Vocabulary {
         if places.by_number.len() < words {
             places.by_number.resize(words, 0)?;
         }
-        let tally = tally_of(alloc, self, &mut places.by_number, text)?;
+        places.guesses.reserve()?;
+        let tally = tally_of(
+            alloc,
+            self,
+            &mut places.by_number,
+            &mut places.guesses,
+            text,
+        )?;
         let fresh = tally.fresh.into_iter().collect(alloc)?;
         Ok(Weighed {
             known: tally.known,

@@ -1,65 +1,30 @@
-use Rattle.std.proofs.Common.{◌≡◌, ◌∙◌, ◌+◌, ◌<◌, ◌++◌, ℕ, List, Result, Ok, Err, OnOk, Some, None, is_some, nat_eq, sym, ap, subst, length, chars, arith}
-use Rattle.std.specs.Str.{bytes_eq}
-use Rattle.fold_tokens.specs.Terms.{term_of, closed, keys_of}
-use Rattle.fold_tokens.specs.Words.{bump, counted, number_of, known_of, fresh_of}
-use Rattle.fold_tokens.proofs.CountLemmas.{counted-bump, keys_of-closed, length-keys_of}
-use Rattle.fold_tokens.proofs.WordLemmas.{is_some-number_of, absent-none}
-use Rattle.fold_tokens.proofs.WeighLemmas.{at, known-bump, known-skip, fresh-bump, fresh-skip, counted_small, known_small, fresh_small, known_counted_few}
+use Rattle.std.proofs.Common.{◌∙◌, ℕ, List, Result, Ok, Err, OnOk, nat_eq, sym, ap, chars}
+use Rattle.fold_tokens.specs.Words.{bump}
+use Rattle.fold_tokens.proofs.TallyLemmas.{few, small, known_after, fresh_after}
 use Rattle.fold_tokens.proofs.weigh.weigh_run.Goals as goal
 
-on_ok : {T E : Type 0} (r : Result T E) (P Q : Type 0) → (P → Q) → OnOk r P → OnOk r Q
-on_ok (Ok x) P Q f h = f h
-on_ok (Err e) P Q f h = tt
-
--- the counts after the run of a key
-after : (done : List (List ℕ)) (run k : List ℕ) → Some k ≡ term_of run → bump bytes_eq (counted (keys_of done)) k ≡ counted (keys_of (done ++ closed run))
-after done run k e = counted-bump (keys_of done) k ∙ ap counted (sym (keys_of-closed done run (Some k) e))
+both_ok : {T E : Type 0} (r : Result T E) (P Q R : Type 0) → (P → Q → R) → OnOk r P → OnOk r Q → OnOk r R
+both_ok (Ok x) P Q R f p q = f p q
+both_ok (Err e) P Q R f p q = tt
 
 pub count_known-requires-clause-few : goal.count_known-requires-clause-few
-count_known-requires-clause-few c =
-    let done = c.requires.some.0 in
-    let h = c.requires.some.1 in
-    omega (arith, c.requires.some.2, ap length h.known, known_counted_few c.args.vocabulary.now.words (keys_of done), length-keys_of done)
+count_known-requires-clause-few c = few c.args.vocabulary.now.words c.requires.some.0 c.args.tally.now.known.items c.requires.some.1.known c.requires.some.2
 
 pub count_known-requires-clause-small : goal.count_known-requires-clause-small
-count_known-requires-clause-small c =
-    let done = c.requires.some.0 in
-    let h = c.requires.some.1 in
-    let words = c.args.vocabulary.now.words in
-    subst (λ (l : List (ℕ × ℕ)). (p : ℕ) → p < length l → (at l p).1 + 1 < 4294967296) (sym h.known)
-    (λ p l. omega (arith, c.requires.some.2, known_small (length (keys_of done)) words (counted (keys_of done)) (counted_small (keys_of done)) p l, length-keys_of done))
+count_known-requires-clause-small c = small c.args.vocabulary.now.words c.requires.some.0 c.args.tally.now.known.items c.requires.some.1.known c.requires.some.2
 
-pub count-requires : goal.count-requires
-count-requires c = λ n e.
-    let done = c.requires.some.0 in
-    let h = c.requires.some.1 in
-    omega (arith, c.requires.some.2, fresh_small (length (keys_of done)) c.args.vocabulary.now.words (counted (keys_of done)) (counted_small (keys_of done)) c.in-Some.key n (rw h.fresh at e), length-keys_of done)
-
-pub returns-in_ok-count_known-in-Some-find : goal.returns-in_ok-count_known-in-Some-find
-returns-in_ok-count_known-in-Some-find c = λ done h.
+pub returns-in-Some : goal.returns-in-Some
+returns-in-Some c =
     let words = c.args.vocabulary.now.words in
-    let k = c.in-Some.key in
-    let key : Some k ≡ term_of (chars c.args.run.now) = (let e = c.in_ok-key.ensures in let i = c.in-Some.is in cc) in
-    let n = c.in-Some-find.id.number in
-    let number : number_of k words ≡ Some n = sym c.in-Some-find.ensures in
-    let step = after done (chars c.args.run.now) k key in
-    record {
-      known = c.in_ok-count_known-in-Some-find.ensures.counted ∙ ap (λ m. bump nat_eq c.args.tally.now.known.items m) c.number.ensures.value ∙ ap (λ (l : List (ℕ × ℕ)). bump nat_eq l n) h.known
-          ∙ sym (known-bump words (counted (keys_of done)) k n number) ∙ ap (known_of words) step;
-      fresh = h.fresh ∙ sym (fresh-skip words (counted (keys_of done)) k (sym (is_some-number_of k words) ∙ ap is_some number)) ∙ ap (fresh_of words) step;
-      placed = c.in_ok-count_known-in-Some-find.ensures.placed;
-    }
-
-pub returns-in-None : goal.returns-in-None
-returns-in-None c =
-    let words = c.args.vocabulary.now.words in
-    let k = c.in-Some.key in
-    let key : Some k ≡ term_of (chars c.args.run.now) = (let e = c.in_ok-key.ensures in let i = c.in-Some.is in cc) in
-    let number : number_of k words ≡ None = sym c.in-None.ensures in
-    on_ok c.count.result _ _
-    (λ e done h. let step = after done (chars c.args.run.now) k key in record {
-      known = h.known ∙ sym (known-skip words (counted (keys_of done)) k number) ∙ ap (known_of words) step;
-      fresh = e ∙ ap (λ (l : List (List ℕ × ℕ)). bump bytes_eq l k) h.fresh ∙ sym (fresh-bump words (counted (keys_of done)) k (absent-none k words number)) ∙ ap (fresh_of words) step;
-      placed = h.placed;
+    let run = chars c.args.run.now in
+    let n = c.in-Some.number in
+    let word = c.in-Some.ensures.0 in
+    let key = sym c.in-Some.ensures.1 in
+    let number = c.in-Some.ensures.2 in
+    both_ok c.count_known.result _ _ _
+    (λ counted placed done h. record {
+      known = counted ∙ ap (λ (l : List (ℕ × ℕ)). bump nat_eq l n) h.known ∙ known_after words done run word n key number;
+      fresh = h.fresh ∙ fresh_after words done run word n key number;
+      placed = placed;
     })
-    c.count.ensures
+    c.count_known.ensures.counted c.count_known.ensures.placed
