@@ -55,17 +55,19 @@ impl Guesses {
         }
     }
 
-    /// Keeps the number of the run's word as the guess for runs of its slot. It costs the run's
-    /// length.
+    /// Keeps the number of the word of a run of ASCII as the guess for runs of its slot. It costs
+    /// the run's length.
     pub(crate) fn put(&mut self, run: &str, number: u32) {
-        if let Some(slot) = self.slots.get_mut(slot_of(run.as_bytes())) {
-            *slot = number;
+        if run.is_ascii() {
+            if let Some(slot) = self.slots.get_mut(slot_of(run.as_bytes())) {
+                *slot = number;
+            }
         }
     }
 }
 
 /// The slot of a run.
-fn slot_of(run: &[u8]) -> usize {
+pub(crate) fn slot_of(run: &[u8]) -> usize {
     let mut hash = 0u32;
     for byte in run {
         hash = (hash ^ u32::from(*byte)).wrapping_mul(0x9e37_79b1);

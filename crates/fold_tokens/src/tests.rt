@@ -1,6 +1,7 @@
 ghost use Rattle.std.specs.Prelude.{◌≡◌, ◌∷◌, [], IfOk};
 
 use super::*;
+use crate::guesses::slot_of;
 use std::alloc::{AllocError, Global};
 use std::process::Abort;
 use std::test::Fail;
@@ -223,32 +224,105 @@ fn words_are_numbered_in_the_order_in_which_they_come(rt: HostRuntime) -> Result
     Ok(())
 }
 
+/// A vocabulary of these terms, in order.
+fn numbered(rt: &impl Abort, alloc: Global, terms: &[&str]) -> Result<Vocabulary, AllocError> {
+    let mut vocabulary = Vocabulary::new(alloc)?;
+    for term in terms {
+        let _ = number(alloc, &mut vocabulary, term).expect(rt, "room");
+    }
+    Ok(vocabulary)
+}
+
+/// What is weighed as a text: the words that have a number by it, and then the others.
+fn shown_weights(alloc: Global, found: &Weighed) -> Result<String, AllocError> {
+    let mut out = String::new(alloc);
+    for (number, count) in &found.known {
+        let term = format!(in alloc; "{} {}, ", *number, *count)?;
+        out.push_str(term.as_str())?;
+    }
+    for (key, count) in &found.fresh {
+        let term = format!(in alloc; "{} {}, ", key.as_str(), *count)?;
+        out.push_str(term.as_str())?;
+    }
+    Ok(out)
+}
+
+/// Asserts of each row that its first text is weighed as the second.
+fn assert_weights(
+    rt: &impl Abort,
+    alloc: Global,
+    vocabulary: &Vocabulary,
+    places: &mut Places,
+    rows: &[(&str, &str)],
+) -> Result<(), AllocError> {
+    for (text, wanted) in rows {
+        assert!(rt; text.len() < 4294967296);
+        let found = vocabulary.weigh(alloc, places, text)?;
+        let out = shown_weights(alloc, &found)?;
+        assert_eq!(rt; out.as_str(), *wanted, "in {text}");
+    }
+    Ok(())
+}
+
 #[test]
 fn words_are_weighed_by_number_or_by_key(rt: HostRuntime) -> Result<(), Fail> {
     let alloc = rt.alloc();
-    let mut vocabulary = Vocabulary::new(alloc)?;
-    for text in ["be", "or", "\u{e9}"] {
-        let _ = number(alloc, &mut vocabulary, text).expect(&rt, "room");
-    }
+    let vocabulary = numbered(&rt, alloc, &["be", "or", "\u{e9}"])?;
     let mut places = Places::new(alloc);
-    for (text, wanted) in [
+    let rows = [
         ("", ""),
         ("To be, or not to be", "0 2, 1 1, to 2, not 1, "),
         ("E\u{301} Be \u{c9} NOT bE", "2 2, 0 2, not 1, "),
         ("or", "1 1, "),
-    ] {
-        assert!(rt; text.len() < 4294967296);
-        let found = vocabulary.weigh(alloc, &mut places, text)?;
-        let mut out = String::new(alloc);
-        for (number, count) in &found.known {
-            let term = format!(in alloc; "{} {}, ", *number, *count)?;
-            out.push_str(term.as_str())?;
-        }
-        for (key, count) in &found.fresh {
-            let term = format!(in alloc; "{} {}, ", key.as_str(), *count)?;
-            out.push_str(term.as_str())?;
-        }
-        assert_eq!(rt; out.as_str(), wanted, "in {text}");
-    }
-    Ok(())
+    ];
+    Ok(assert_weights(&rt, alloc, &vocabulary, &mut places, &rows)?)
+}
+
+#[test]
+fn a_guess_is_believed_where_it_is_right(rt: HostRuntime) -> Result<(), Fail> {
+    let alloc = rt.alloc();
+    assert_eq!(rt; slot_of(b"ferry"), slot_of(b"place"));
+    let vocabulary = numbered(&rt, alloc, &["ferry", "place", "strasse"])?;
+    let mut places = Places::new(alloc);
+    let rows = [
+        ("ferry ferry place ferry place place", "0 3, 1 3, "),
+        ("Place FERRY place Ferry PLACE ferry", "1 3, 0 3, "),
+        ("STRASSE Straße strasse STRASSE", "2 4, "),
+        ("ferry\u{301} ferry", "0 1, ferry\u{301} 1, "),
+    ];
+    Ok(assert_weights(&rt, alloc, &vocabulary, &mut places, &rows)?)
+}
+
+#[test]
+fn guesses_outlive_their_vocabulary(rt: HostRuntime) -> Result<(), Fail> {
+    let alloc = rt.alloc();
+    let mut places = Places::new(alloc);
+    let mut vocabulary = numbered(&rt, alloc, &["ferry", "toll"])?;
+    let rows = [("toll ferry Toll bridge", "1 2, 0 1, bridge 1, ")];
+    assert_weights(&rt, alloc, &vocabulary, &mut places, &rows)?;
+    let _ = number(alloc, &mut vocabulary, "bridge").expect(&rt, "room");
+    let rows = [("bridge Toll bridge ferry", "2 2, 1 1, 0 1, ")];
+    assert_weights(&rt, alloc, &vocabulary, &mut places, &rows)?;
+    let fewer = numbered(&rt, alloc, &["toll"])?;
+    let rows = [("toll ferry toll bridge", "0 2, ferry 1, bridge 1, ")];
+    assert_weights(&rt, alloc, &fewer, &mut places, &rows)?;
+    let others = numbered(&rt, alloc, &["bridge", "ferry", "toll"])?;
+    let rows = [("toll ferry bridge", "2 1, 1 1, 0 1, ")];
+    Ok(assert_weights(&rt, alloc, &others, &mut places, &rows)?)
+}
+
+#[test]
+fn long_runs_are_weighed_as_none(rt: HostRuntime) -> Result<(), Fail> {
+    let alloc = rt.alloc();
+    let longest = repeated(alloc, "a", 255)?;
+    let vocabulary = numbered(&rt, alloc, &[longest.as_str()])?;
+    let mut places = Places::new(alloc);
+    let text = format!(in alloc;
+        "{} {}a {}",
+        longest.as_str(),
+        longest.as_str(),
+        longest.as_str()
+    )?;
+    let rows = [(text.as_str(), "0 2, "), (text.as_str(), "0 2, ")];
+    Ok(assert_weights(&rt, alloc, &vocabulary, &mut places, &rows)?)
 }
