@@ -16,13 +16,15 @@ use std::alloc::{AllocError, Global};
 impl Tails {
     /// The tails after all turns of a history, which are given in the order of time. The turns are
     /// sorted by document, once; then each one goes to the end of its tails, without a move. For n
-    /// weights in all the cost is n log n. The turns stay with the caller, sorted by document.
+    /// weights in all the cost is n log n. The turns stay with the caller, after Ok sorted by
+    /// document.
     pub fn gather(alloc: Global, turns: &mut Vec<Turn>) -> Result<Tails, AllocError>
         requires in_order { AreInOrder (acts_of turns.old.items) }
         requires ascending { All (λ x. AreWeights x.weights.items) turns.old.items }
         ensures tails { IfOk result (λ tails. AreTails (frequency_after (acts_of turns.old.items)) (λ w. 0) (tail_of tails)) }
         ensures short { IfOk result (λ tails. (w : ℕ) → length (tail_of tails w) ≤ length turns.old.items) }
         ensures permutation { IsPermutation turns.old.items turns.new.items }
+        ensures sorted { OnOk result (IsNonDecreasingBy (λ x. x.doc.0) turns.new.items) }
         ensures open { (w d : ℕ) → open_after (acts_of turns.new.items) w d ≡ open_after (acts_of turns.old.items) w d }
     {
         sort_by_doc(turns)?;
