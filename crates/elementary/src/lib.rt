@@ -4,7 +4,8 @@
 //! neighbours are an elementary interval, in which nothing changes. A `Table` counts a list once, and
 //! then tells the size of each sublist between boundaries in constant time. A `Partition` cuts the
 //! time line into segments. The definitions of admissible and least partitions, which the planners
-//! and the checker meet, stand here too. `Table::new` alone takes memory.
+//! and the checker meet, stand here too. `Table::new`, `reaches` and `Partition::sizes` alone take
+//! memory.
 #![tactic(auto)]
 
 mod laws;
