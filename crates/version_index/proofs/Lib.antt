@@ -1,4 +1,6 @@
 pub mod WordSteps
+pub mod HorizonSteps
+pub mod Trimming
 pub mod Steps
 pub mod Keeping
 pub mod Measures

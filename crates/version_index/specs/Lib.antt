@@ -1,4 +1,5 @@
 pub mod Words
+pub mod Horizons
 pub mod Indexing
 pub mod Newest
 pub mod Turned

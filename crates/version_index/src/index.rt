@@ -2,9 +2,11 @@
 ghost use Rattle.std.specs.Prelude.{◌≡◌, ℕ, ◌<◌, ◌≤◌, ◌^◌, ◌↔◌, List, [], ◌∷◌, ◌++◌, length, Option, option_map, Contains, Err, IfOk, OnOk, IfSome, IsSome, IsTrue};
 ghost use Rattle.fold_tokens.specs.Words.{with_all};
 ghost use Rattle.version_store.specs.declared.change.Change.{Change};
-ghost use Rattle.version_index.specs.Words.{words_in, IsWordList, IsPartIn};
+ghost use Rattle.version_index.specs.Words.{words_in, IsListFrom, IsPartFrom};
+ghost use Rattle.version_index.specs.Horizons.{trimmed};
 ghost use Rattle.version_index.specs.Indexing.{ComesLater};
-ghost use Rattle.version_index.specs.Indexes.{state_of, seen, Indexes, HasRoom, IsPreparedFor};
+ghost use Rattle.version_index.specs.declared.prepared.Prepared.{Prepared};
+ghost use Rattle.version_index.specs.Indexes.{state_of, seen, Indexes, IndexesFrom, HasRoom, IsPreparedFor};
 
 use crate::measure::{Measured, measure};
 use crate::newest::Newest;
@@ -17,9 +19,11 @@ use std::alloc::{AllocError, Global};
 use time_base::{DocId, Key, Posting, Span, Time};
 use version_store::held_as_changes_come;
 
-/// For each word of all versions so far, the list of how often each document has it at each time.
+/// For each word of all versions so far, the list of how often each document has it at each time
+/// from the word's horizon on. A word's horizon is 0 until its list is trimmed.
 ///
-/// Contracts speak of it by `Indexes`: it is the index of a list of changes.
+/// Contracts speak of it by `IndexesFrom`: it is the index of a list of changes, from these
+/// horizons on; and by `Indexes` where each horizon is 0.
 #[derive(Drop)]
 pub struct Index {
     pub(crate) vocabulary: Vocabulary,
@@ -29,7 +33,7 @@ pub struct Index {
 }
 
 impl Index {
-    /// The index of no changes. Constant cost.
+    /// The index of no changes, with whole lists. Constant cost.
     pub fn new(alloc: Global) -> Result<Index, AllocError>
         ensures { IfOk result (λ index. Indexes (state_of index) []) }
     {
@@ -41,10 +45,10 @@ impl Index {
         })
     }
 
-    /// The word's list; empty for a word that no text has. It costs one look-up and a copy of the
-    /// list; an `Err` means that memory ran out.
+    /// The word's list from its horizon on; empty for a word that no text has. It costs one look-up
+    /// and a copy of the list; an `Err` means that memory ran out.
     pub fn list(&self, alloc: Global, word: &Key) -> Result<Vec<Posting>, AllocError>
-        ensures list { (changes : List (Change (List ℕ))) → Indexes (state_of self.now) changes → IfOk result (λ list. IsWordList changes word.now list.items) }
+        ensures list { (horizon : List ℕ → ℕ) (changes : List (Change (List ℕ))) → IndexesFrom horizon (state_of self.now) changes → IfOk result (λ list. IsListFrom changes word.now (horizon word.now) list.items) }
         ensures short { IfOk result (λ list. length list.items ≤ 2 ^ 40) }
     {
         match self.vocabulary.find(word) {
@@ -53,10 +57,11 @@ impl Index {
         }
     }
 
-    /// What the word's list has in the span, and how long the list is. It costs one look-up and one
-    /// pass over the list, and copies what it gives; an `Err` means that memory ran out.
+    /// What the word's list from its horizon on has in the span, and how long that list is. It costs
+    /// one look-up and one pass over the list, and copies what it gives; an `Err` means that memory
+    /// ran out.
     pub fn part_in(&self, alloc: Global, word: &Key, span: Span) -> Result<ListPart, AllocError>
-        ensures { (changes : List (Change (List ℕ))) → Indexes (state_of self.now) changes → IfOk result (λ part. IsPartIn changes word.now span.from span.to part.rows.items part.whole) }
+        ensures { (horizon : List ℕ → ℕ) (changes : List (Change (List ℕ))) → IndexesFrom horizon (state_of self.now) changes → IfOk result (λ part. IsPartFrom changes word.now (horizon word.now) span.from span.to part.rows.items part.whole) }
     {
         match self.vocabulary.find(word) {
             Some(id) => self.tails.part_in(alloc, id, span),
@@ -67,9 +72,9 @@ impl Index {
         }
     }
 
-    /// Whether some text has the word. It costs one look-up.
+    /// Whether some text has the word, whatever its horizon. It costs one look-up.
     pub fn knows(&self, word: &Key) -> bool
-        ensures { (changes : List (Change (List ℕ))) → Indexes (state_of self.now) changes → (IsTrue result ↔ Contains (words_in changes) word.now) }
+        ensures { (horizon : List ℕ → ℕ) (changes : List (Change (List ℕ))) → IndexesFrom horizon (state_of self.now) changes → (IsTrue result ↔ Contains (words_in changes) word.now) }
     {
         self.vocabulary.find(word).is_some()
     }
@@ -86,9 +91,9 @@ impl Index {
         requires { IfSome text (λ t. length t.now < 2 ^ 32) }
         ensures prepared { IfOk result (λ change. IsPreparedFor (state_of self.old) doc (option_map (λ t. t.now) text.entry) change) }
         ensures same { state_of self.new ≡ state_of self.old }
-        ensures fits { OnOk result ((changes : List (Change (List ℕ))) (c : Change (List ℕ)) → Indexes (state_of self.old) changes
+        ensures fits { OnOk result ((horizon : List ℕ → ℕ) (changes : List (Change (List ℕ))) (c : Change (List ℕ)) → IndexesFrom horizon (state_of self.old) changes
             → c.held ≡ option_map (λ t. t.now) text.entry → length (words_in (changes ++ c ∷ [])) ≤ 2 ^ 20) }
-        ensures full { result ≡ Err NumberError.Full → (changes : List (Change (List ℕ))) (c : Change (List ℕ)) → Indexes (state_of self.old) changes
+        ensures full { result ≡ Err NumberError.Full → (horizon : List ℕ → ℕ) (changes : List (Change (List ℕ))) (c : Change (List ℕ)) → IndexesFrom horizon (state_of self.old) changes
             → c.held ≡ option_map (λ t. t.now) text.entry → 2 ^ 20 < length (words_in (changes ++ c ∷ [])) }
         ensures some { result ≡ Err NumberError.Full → IsSome text.entry }
     {
@@ -119,15 +124,17 @@ impl Index {
         Ok(())
     }
 
-    /// Makes the prepared change, at a time behind the document's earlier ones. It takes no memory
-    /// and can't fail. It costs two look-ups, and for each word whose frequency changes the
+    /// Makes the prepared change, at a time behind the document's earlier ones and not before any
+    /// word's horizon. Each word's list is then kept from the same horizon on. It takes no memory and
+    /// can't fail. It costs two look-ups, and for each word whose frequency changes the
     /// logarithm of its list's length, and a move of postings within one block of it.
     pub fn commit(&mut self, change: Prepared, at: Time)
         requires { HasRoom (state_of self.old) change }
-        ensures { (changes : List (Change (List ℕ))) (doc : DocId) (held : Option (List ℕ)) → Indexes (state_of self.old) changes
+        ensures { (horizon : List ℕ → ℕ) → ((word : List ℕ) → horizon word ≤ at.seconds)
+            → (changes : List (Change (List ℕ))) (doc : DocId) (held : Option (List ℕ)) → IndexesFrom horizon (state_of self.old) changes
             → IsPreparedFor (state_of self.old) doc held change
             → ComesLater changes (record { doc = doc; at = at; held = held })
-            → Indexes (state_of self.new) (changes ++ record { doc = doc; at = at; held = held } ∷ []) }
+            → IndexesFrom horizon (state_of self.new) (changes ++ record { doc = doc; at = at; held = held } ∷ []) }
     {
         held_as_changes_come::<Key>();
         let Prepared {
@@ -139,5 +146,22 @@ impl Index {
         self.tails
             .turn(doc, at, self.newest.weights(doc), weights.as_slice());
         self.newest.put(doc, weights);
+    }
+
+    /// Keeps of the word's list what it has from `h` on, and the lists of other words as they are.
+    /// Words keep their numbers, and documents the weights of their newest versions; a change that
+    /// was prepared stays so, and one that had room still has it. No memory. One pass over the list.
+    pub fn trim(&mut self, word: &Key, h: Time)
+        ensures trimmed { (horizon : List ℕ → ℕ) (changes : List (Change (List ℕ))) → IndexesFrom horizon (state_of self.old) changes
+            → IndexesFrom (trimmed horizon word.now h.seconds) (state_of self.new) changes }
+        ensures words { (state_of self.new).words ≡ (state_of self.old).words }
+        ensures newest { (state_of self.new).newest ≡ (state_of self.old).newest }
+        ensures prepared { (doc : DocId) (held : Option (List ℕ)) (change : Prepared) → IsPreparedFor (state_of self.old) doc held change → IsPreparedFor (state_of self.new) doc held change }
+        ensures room { (change : Prepared) → HasRoom (state_of self.old) change → HasRoom (state_of self.new) change }
+    {
+        match self.vocabulary.find(word) {
+            Some(id) => self.tails.trim(id, h),
+            None => (),
+        }
     }
 }

@@ -3,6 +3,8 @@ ghost use Rattle.version_store.specs.declared.change.Change.{Change};
 ghost use Rattle.version_index.specs.Indexing.{ComesLater};
 ghost use Rattle.version_index.specs.Loads.{Loads};
 
+mod trims;
+
 use super::*;
 use fold_tokens::NumberError;
 use std::alloc::{AllocError, Global};

@@ -1,11 +1,11 @@
 //! The lists of all words, and how many turns they took.
-ghost use Rattle.std.specs.Prelude.{◌≡◌, ℕ, ◌+◌, ◌<◌, ◌≤◌, ◌^◌, ◌↔◌, [], length, All, IfOk, OnOk, IsTrue};
+ghost use Rattle.std.specs.Prelude.{◌≡◌, ◌≢◌, ℕ, ◌+◌, ◌<◌, ◌≤◌, ◌^◌, ◌↔◌, [], length, All, IfOk, OnOk, IsTrue};
 ghost use Rattle.std.specs.List.Sorted.{IsPermutation};
 ghost use Rattle.postings.specs.Lists.{sublist};
 ghost use Rattle.tail_lists.specs.Acts.{frequency_after, open_after, AreInOrder};
 ghost use Rattle.tail_lists.specs.Gathered.{acts_of};
-ghost use Rattle.tail_lists.specs.Tails.{tail_of, HaveRoom};
-ghost use Rattle.tail_lists.specs.Turns.{AreTails, IsTurned};
+ghost use Rattle.tail_lists.specs.Tails.{tail_of, room_of, HaveRoom};
+ghost use Rattle.tail_lists.specs.Turns.{AreTails, IsTurned, IsTrimmed};
 ghost use Rattle.tail_lists.specs.Weights.{AreWeights, weight_of};
 
 use crate::part::ListPart;
@@ -17,7 +17,7 @@ use time_base::{DocId, Posting, Span, Time, WordId};
 /// The most turns. Lists of so many postings have no memory.
 pub(crate) const MOST_TURNS: u64 = 1 << 40;
 
-/// The lists of all words from time 0 on, and how many turns of documents they took: no list has
+/// The list of each word from a time on, and how many turns of documents they took: no list has
 /// more postings.
 #[derive(Drop)]
 pub(crate) struct WordTails {
@@ -115,5 +115,15 @@ impl WordTails {
     {
         self.tails.turn(doc, at, old, new);
         self.turns += 1;
+    }
+
+    /// Cuts the word's list to the times from `h` on. It takes no memory.
+    pub(crate) fn trim(&mut self, word: WordId, h: Time)
+        ensures trimmed { IsTrimmed h.seconds (tail_of self.old.tails word.number) (tail_of self.new.tails word.number) }
+        ensures others { (w : ℕ) → w ≢ word.number → tail_of self.new.tails w ≡ tail_of self.old.tails w }
+        ensures room { (w : ℕ) → room_of self.old.tails w ≤ room_of self.new.tails w }
+        ensures turns { self.new.turns ≡ self.old.turns }
+    {
+        self.tails.trim(word, h);
     }
 }
