@@ -103,7 +103,7 @@ is_more inside a b mid x p body frame words early place is same end length_is at
           ∙ ap (λ (t : Time). inside.changes ++ record { doc = x.doc; at = t; held = p.held } ∷ []) time;
       shelf_is = shelf;
       indexed = λ texts doc text stands prepared later.
-          let V : IndexValue → Type 0 = λ v. AreIndexed v texts in
+          let V : IndexValue → Type 0 = λ v. AreIndexed (λ word. 0) v texts in
           let M : List (List ℕ) → Type 0 = λ ws. IsMeasured ws text words.fresh.items words.weights in
           indexed texts doc text (subst V (sym index) stands) (record { doc_is = prepared.doc_is; measured = subst M (sym (ap (λ (v : IndexValue). v.words) index)) prepared.measured }) later;
     })

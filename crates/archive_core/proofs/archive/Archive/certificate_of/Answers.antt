@@ -11,18 +11,18 @@ use Rattle.archive_core.proofs.archive.Archive.certificate_of.Goals as goal
 pub returns-then-not-knows-clause-refused : goal.returns-then-not-knows-clause-refused
 returns-then-not-knows-clause-refused c = λ h stands why e.
     let I : IndexState → Type 0 = λ i. Indexes i (changes h) in
-    let knows = c.knows.ensures (changes h) (subst I (sym c.index.ensures) stands.index_is) in
+    let knows = c.knows.ensures (λ word. 0) (changes h) (subst I (sym c.index.ensures) stands.index_is) in
     no_word h c.args.word.now c.in-Some.key (Refused why) (ap one_term (sym c.as_str.ensures.value) ∙ sym c.in_ok-key.ensures ∙ c.in-Some.is)
     (λ known. not_both c.knows.result c.if-not-knows.true (knows.1 (known_there h c.in-Some.key known))) (ap Refused (one_why refusals.UnknownWord why e))
 
 pub returns-clause-refused : goal.returns-clause-refused
 returns-clause-refused c = λ h stands why e.
     let I : IndexState → Type 0 = λ i. Indexes i (changes h) in
-    let known = known_is h c.in-Some.key ((c.knows.ensures (changes h) (subst I (sym c.index.ensures) stands.index_is)).0 c.if-not-knows.false) in
+    let known = known_is h c.in-Some.key ((c.knows.ensures (λ word. 0) (changes h) (subst I (sym c.index.ensures) stands.index_is)).0 c.if-not-knows.false) in
     live_certifies h c.args.word.now c.in-Some.key (Refused why) (ap one_term (sym c.as_str.ensures.value) ∙ sym c.in_ok-key.ensures ∙ c.in-Some.is) known (c.shown_of.ensures.refused h stands why e)
 
 pub returns-clause-shows : goal.returns-clause-shows
 returns-clause-shows c = λ h stands legal.
     let I : IndexState → Type 0 = λ i. Indexes i (changes h) in
-    let known = known_is h c.in-Some.key ((c.knows.ensures (changes h) (subst I (sym c.index.ensures) stands.index_is)).0 c.if-not-knows.false) in
+    let known = known_is h c.in-Some.key ((c.knows.ensures (λ word. 0) (changes h) (subst I (sym c.index.ensures) stands.index_is)).0 c.if-not-knows.false) in
     ok_certifies h c.args.word.now c.in-Some.key c.shown_of.result (ap one_term (sym c.as_str.ensures.value) ∙ sym c.in_ok-key.ensures ∙ c.in-Some.is) known (c.shown_of.ensures.shows h stands legal)

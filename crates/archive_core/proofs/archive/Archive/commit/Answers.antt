@@ -51,7 +51,7 @@ invariant_of-self-in-Ok g c =
     let S : ArchiveState → Type 0 = λ a. (h : History) × StandsFor a h in
     let now : ArchiveState = record { end = c.append.new.self.end; live = true; length = c.self.inside.entries + 1; changes = c.note.new.directory.changes; index = state_of c.commit.new.self; shelf = c.self.inside.shelf } in
     let more = is_more _ c.args.self.now now (state_of c.make_room.new.self) c.args.prepared.change c.placed.result c.args.prepared.body.items c.in_ok-frame.frame c.args.prepared.words c.reserve.new.self.changes c.in-Ok.place c.self.view_is
-    (c.in_ok-frame.ensures.body ∙ c.deref.ensures.value) c.in-Ok.ensures.end refl c.in-Ok.ensures.place c.placed.ensures.held c.placed.ensures.doc c.placed.ensures.at c.reserve.ensures.same c.note.ensures refl c.make_room.ensures.same c.commit.ensures in (
+    (c.in_ok-frame.ensures.body ∙ c.deref.ensures.value) c.in-Ok.ensures.end refl c.in-Ok.ensures.place c.placed.ensures.held c.placed.ensures.doc c.placed.ensures.at c.reserve.ensures.same c.note.ensures refl c.make_room.ensures.same (c.commit.ensures (λ word. 0) (λ word. omega arith)) in (
       λ live. search rules,
       omega (arith, c.self.invariant.1, c.in-Ok.ensures.end),
       stands_on c.args.self.now now c.args.prepared.change c.args.prepared.body.items c.args.prepared.words c.requires.next (subst S c.self.view_is c.self.invariant.2) more,
@@ -61,7 +61,7 @@ pub returns-in-Ok-clause-more : goal.returns-in-Ok-clause-more
 returns-in-Ok-clause-more g c =
     let now : ArchiveState = record { end = c.append.new.self.end; live = true; length = c.self.inside.entries + 1; changes = c.note.new.directory.changes; index = state_of c.commit.new.self; shelf = c.self.inside.shelf } in (
       is_more _ c.args.self.now now (state_of c.make_room.new.self) c.args.prepared.change c.placed.result c.args.prepared.body.items c.in_ok-frame.frame c.args.prepared.words c.reserve.new.self.changes c.in-Ok.place c.self.view_is
-          (c.in_ok-frame.ensures.body ∙ c.deref.ensures.value) c.in-Ok.ensures.end refl c.in-Ok.ensures.place c.placed.ensures.held c.placed.ensures.doc c.placed.ensures.at c.reserve.ensures.same c.note.ensures refl c.make_room.ensures.same c.commit.ensures,
+          (c.in_ok-frame.ensures.body ∙ c.deref.ensures.value) c.in-Ok.ensures.end refl c.in-Ok.ensures.place c.placed.ensures.held c.placed.ensures.doc c.placed.ensures.at c.reserve.ensures.same c.note.ensures refl c.make_room.ensures.same (c.commit.ensures (λ word. 0) (λ word. omega arith)),
       refl,
     )
 
