@@ -3,7 +3,7 @@ use Rattle.std.proofs.Common.{◌≡◌, ℕ, ◌+◌, ◌≤◌, List, [], ◌�
 use Rattle.std.specs.Int.{w32, w64, to_be_bytes}
 use Rattle.std.specs.Option.{option_map}
 use Rattle.std.proofs.Math.Seq.{drop-append_seam, take-append_seam}
-use Rattle.std.proofs.lemmas.List.Elements.{All-nil, All-cons}
+use Rattle.std.proofs.lemmas.List.Elements.{All-nil, All-cons, All-head, All-tail, All-append}
 use Rattle.std.proofs.lemmas.List.Sums.{sum_by-cons}
 use Rattle.machine_model.specs.States.{DiskState}
 use Rattle.machine_model.specs.Images.{MayLeave}
@@ -25,7 +25,7 @@ use Rattle.archive_state.specs.Histories.{History, changes, text_at}
 use Rattle.archive_state.specs.Stands.{bodies_of}
 use Rattle.archive_state.proofs.HistoryLemmas.{length_record}
 use Rattle.archive_core.specs.States.{ArchiveState, StandsFor, IsKept}
-use Rattle.archive_replay.specs.Places.{IsPlace, BeginWith, ArePlaced}
+use Rattle.archive_replay.specs.Places.{pair_of, placed_by, places, ArePlaced}
 use Rattle.archive_replay.specs.Texts.{text_in, LiesIn}
 
 -- what stands in the record of an arrival before its text
@@ -47,11 +47,17 @@ in_middle pre text more at n place size =
     ∙ ap (λ (k : ℕ). take k (text ++ more)) size
     ∙ take-append_seam text more
 
--- what is held of a text at its place
-held_text : (journal text : List ℕ) (at n : ℕ) (held : Option TextPlace) → IsPlace at n held → take n (drop at journal) ≡ text → option_map (text_in journal) held ≡ Some text
-held_text journal text at n None placed is = absurd placed
-held_text journal text at n (Some place) placed is =
-    ap Some (ap (λ (k : ℕ). take place.bytes (drop k journal)) placed.0 ∙ ap (λ (k : ℕ). take k (drop at journal)) placed.1 ∙ is)
+-- the bytes of the journal at a place that two numbers tell
+abbrev bytes_by : List ℕ → ℕ × ℕ → List ℕ
+bytes_by journal place = take place.1 (drop place.0 journal)
+
+held_by : (journal : List ℕ) (held : Option TextPlace) → option_map (bytes_by journal) (option_map pair_of held) ≡ option_map (text_in journal) held
+held_by journal None = refl
+held_by journal (Some place) = refl
+
+pairs_texts : (journal : List ℕ) (cs : List (Change TextPlace)) → map (mapped (bytes_by journal)) (map (mapped pair_of) cs) ≡ map (mapped (text_in journal)) cs
+pairs_texts journal [] = refl
+pairs_texts journal (c ∷ cs) = let held = held_by journal c.held in let rest = pairs_texts journal cs in cc
 
 -- a record more before what is left
 behind_record : (pre body : List ℕ) (bodies : List (List ℕ)) (rest : List ℕ)
@@ -70,52 +76,38 @@ arrival_text pre gate doc t text bodies rest at =
     ∙ in_middle (pre ++ b) text (records bodies ++ rest) (gate + 18) (length text) (omega (arith, at, length-append pre b, length-before_text doc t text)) refl
 
 -- the changes of an entry are those with the places, where those of the entries behind it are
-begin_texts : (journal : List ℕ) (gate : ℕ) (e : Entry) (h : History) (cs : List (Change TextPlace)) (Rest : List (Change TextPlace) → Type 0)
-    → ((ds : List (Change TextPlace)) → Rest ds → map (mapped (text_in journal)) ds ≡ changes h)
+entry_texts : (journal : List ℕ) (gate : ℕ) (e : Entry) (h : History)
     → ((doc : DocId) (t : Time) (text : List ℕ) → e ≡ Arrive doc t text → take (length text) (drop (gate + 18) journal) ≡ text)
-    → BeginWith gate e cs Rest → map (mapped (text_in journal)) cs ≡ changes (e ∷ h)
-begin_texts journal gate (Arrive doc t text) h [] Rest more there begins = absurd begins
-begin_texts journal gate (Arrive doc t text) h (c ∷ cs) Rest more there begins =
-    let one = begins.0.0 in
-    let two = begins.0.1 in
-    let held = held_text journal text (gate + 18) (length text) c.held begins.0.2 (there doc t text refl) in
-    let rest = more cs begins.1 in
-    cc
-begin_texts journal gate (Delete doc t) h [] Rest more there begins = absurd begins
-begin_texts journal gate (Delete doc t) h (c ∷ cs) Rest more there begins =
-    let one = begins.0.0 in
-    let two = begins.0.1 in
-    let held = ap (option_map (text_in journal)) begins.0.2 in
-    let rest = more cs begins.1 in
-    cc
-begin_texts journal gate (Planned plan) h cs Rest more there begins = more cs begins
+    → map (mapped (bytes_by journal)) (places (gate + 5 + length (spelling e)) h) ≡ changes h → map (mapped (bytes_by journal)) (places gate (e ∷ h)) ≡ changes (e ∷ h)
+entry_texts journal gate (Arrive doc t text) h there behind = let is = there doc t text refl in cc
+entry_texts journal gate (Delete doc t) h there behind = ap (λ (cs : List (Change (List ℕ))). record { doc = doc; at = t; held = None } ∷ cs) behind
+entry_texts journal gate (Planned plan) h there behind = behind
 
 -- so it is of all entries, wherever their records stand in the journal
-texts_behind : (pre : List ℕ) (gate : ℕ) (h : History) (cs : List (Change TextPlace)) (rest : List ℕ) → gate ≡ length pre → ArePlaced gate h cs
-    → map (mapped (text_in (pre ++ (records (bodies_of h) ++ rest)))) cs ≡ changes h
-texts_behind pre gate [] [] rest at placed = refl
-texts_behind pre gate [] (c ∷ cs) rest at placed = absurd placed
-texts_behind pre gate (e ∷ h) cs rest at placed =
+places_texts : (pre : List ℕ) (gate : ℕ) (h : History) (rest : List ℕ) → gate ≡ length pre → map (mapped (bytes_by (pre ++ (records (bodies_of h) ++ rest)))) (places gate h) ≡ changes h
+places_texts pre gate [] rest at = refl
+places_texts pre gate (e ∷ h) rest at =
     let then = gate + 5 + length (spelling e) in
-    begin_texts (pre ++ (records (bodies_of (e ∷ h)) ++ rest)) gate e h cs (ArePlaced then h)
-    (λ ds behind.
-    let T : List ℕ → Type 0 = λ journal. map (mapped (text_in journal)) ds ≡ changes h in
-    subst T (behind_record pre (spelling e) (bodies_of h) rest)
-    (texts_behind (pre ++ record_bytes (spelling e)) then h ds rest (omega (arith, at, length-append pre (record_bytes (spelling e)), length_record (spelling e))) behind))
+    let T : List ℕ → Type 0 = λ journal. map (mapped (bytes_by journal)) (places then h) ≡ changes h in
+    entry_texts (pre ++ (records (bodies_of (e ∷ h)) ++ rest)) gate e h
     (λ doc t text is.
     let A : Entry → Type 0 = λ x. take (length text) (drop (gate + 18) (pre ++ (records (bodies_of (x ∷ h)) ++ rest))) ≡ text in
     subst A (sym is) (arrival_text pre gate doc t text (bodies_of h) rest at))
-    placed
+    (subst T (behind_record pre (spelling e) (bodies_of h) rest)
+    (places_texts (pre ++ record_bytes (spelling e)) then h rest (omega (arith, at, length-append pre (record_bytes (spelling e)), length_record (spelling e)))))
 
 -- so it is in a journal that spells the history's bodies
-pub texts_are : (journal : List ℕ) (h : History) (cs : List (Change TextPlace)) → Spells journal (bodies_of h) → ArePlaced 16 h cs → map (mapped (text_in journal)) cs ≡ changes h
-texts_are journal [] [] spelled placed = refl
-texts_are journal [] (c ∷ cs) spelled placed = absurd placed
-texts_are journal (e ∷ h) cs (inl short) placed = absurd (omega (arith, ap length short.1))
-texts_are journal (e ∷ h) cs (inr long) placed =
-    let T : List ℕ → Type 0 = λ l. map (mapped (text_in l)) cs ≡ changes (e ∷ h) in
+spelled_texts : (journal : List ℕ) (h : History) → Spells journal (bodies_of h) → map (mapped (bytes_by journal)) (places 16 h) ≡ changes h
+spelled_texts journal [] spelled = refl
+spelled_texts journal (e ∷ h) (inl short) = absurd (omega (arith, ap length short.1))
+spelled_texts journal (e ∷ h) (inr long) =
+    let T : List ℕ → Type 0 = λ l. map (mapped (bytes_by l)) (places 16 (e ∷ h)) ≡ changes (e ∷ h) in
     let is : journal ≡ header ++ (records (bodies_of (e ∷ h)) ++ long.gate ∷ long.rest) = long.whole ∙ append_assoc header (records (bodies_of (e ∷ h))) (long.gate ∷ long.rest) in
-    subst T (sym is) (texts_behind header 16 (e ∷ h) cs (long.gate ∷ long.rest) (sym length-header) placed)
+    subst T (sym is) (places_texts header 16 (e ∷ h) (long.gate ∷ long.rest) (sym length-header))
+
+pub texts_are : (journal : List ℕ) (h : History) (cs : List (Change TextPlace)) → Spells journal (bodies_of h) → ArePlaced 16 h cs → map (mapped (text_in journal)) cs ≡ changes h
+texts_are journal h cs spelled placed =
+    sym (pairs_texts journal cs) ∙ ap (λ (l : List (Change (ℕ × ℕ))). map (mapped (bytes_by journal)) l) placed ∙ spelled_texts journal h spelled
 
 -- what reads give spells the bodies of a history that is kept
 pub kept_spelled : (d : DiskState) (a : ArchiveState) (h : History) → MayLeave d.now d.holds → IsKept d a h → Spells d.holds.journal (bodies_of h)
@@ -131,29 +123,37 @@ text_is d a h doc t allowed kept =
     ∙ ap (held_at doc t) (texts_are d.holds.journal h a.changes (kept_spelled d a h allowed kept) kept.stands.changes_are)
 
 -- each place lies in front of the end
-lies_held : (end at n : ℕ) (held : Option TextPlace) → IsPlace at n held → at + n ≤ end → LiesIn end held
-lies_held end at n None placed within = absurd placed
-lies_held end at n (Some place) placed within = omega (arith, placed.0, placed.1, within)
+abbrev LiesBy : ℕ → Option (ℕ × ℕ) → Type 0
+LiesBy end None = Unit {0}
+LiesBy end (Some place) = place.0 + place.1 ≤ end
 
-begin_lies : (end gate : ℕ) (e : Entry) (cs : List (Change TextPlace)) (Rest : List (Change TextPlace) → Type 0) → ((ds : List (Change TextPlace)) → Rest ds → All (λ c. LiesIn end c.held) ds)
-    → gate + 5 + length (spelling e) ≤ end → BeginWith gate e cs Rest → All (λ c. LiesIn end c.held) cs
-begin_lies end gate (Arrive doc t text) [] Rest more within begins = absurd begins
-begin_lies end gate (Arrive doc t text) (c ∷ cs) Rest more within begins =
-    All-cons (λ c. LiesIn end c.held) c cs (lies_held end (gate + 18) (length text) c.held begins.0.2 (omega (arith, within))) (more cs begins.1)
-begin_lies end gate (Delete doc t) [] Rest more within begins = absurd begins
-begin_lies end gate (Delete doc t) (c ∷ cs) Rest more within begins = All-cons (λ c. LiesIn end c.held) c cs (subst (LiesIn end) (sym begins.0.2) tt) (more cs begins.1)
-begin_lies end gate (Planned plan) cs Rest more within begins = more cs begins
+lies_held : (end : ℕ) (held : Option TextPlace) → LiesBy end (option_map pair_of held) → LiesIn end held
+lies_held end None lies = tt
+lies_held end (Some place) lies = lies
 
-lies_behind : (end gate : ℕ) (h : History) (cs : List (Change TextPlace)) → gate + sum_by (λ (x : Entry). length (spelling x) + 5) h ≤ end → ArePlaced gate h cs
-    → All (λ c. LiesIn end c.held) cs
-lies_behind end gate [] [] within placed = All-nil (λ c. LiesIn end c.held)
-lies_behind end gate [] (c ∷ cs) within placed = absurd placed
-lies_behind end gate (e ∷ h) cs within placed =
+pairs_lie : (end : ℕ) (cs : List (Change TextPlace)) → All (λ c. LiesBy end c.held) (map (mapped pair_of) cs) → All (λ c. LiesIn end c.held) cs
+pairs_lie end [] lie = All-nil (λ c. LiesIn end c.held)
+pairs_lie end (c ∷ cs) lie =
+    let B : Change (ℕ × ℕ) → Type 0 = λ d. LiesBy end d.held in
+    All-cons (λ d. LiesIn end d.held) c cs (lies_held end c.held (All-head B (mapped pair_of c) (map (mapped pair_of) cs) lie)) (pairs_lie end cs (All-tail B (mapped pair_of c) (map (mapped pair_of) cs) lie))
+
+places_lie : (end gate : ℕ) (h : History) → gate + sum_by (λ (x : Entry). length (spelling x) + 5) h ≤ end → All (λ c. LiesBy end c.held) (places gate h)
+places_lie end gate [] within = All-nil (λ c. LiesBy end c.held)
+places_lie end gate (e ∷ h) within =
+    let then = gate + 5 + length (spelling e) in
     let more = sum_by-cons (λ (x : Entry). length (spelling x) + 5) e h in
-    begin_lies end gate e cs (ArePlaced (gate + 5 + length (spelling e)) h) (λ ds behind. lies_behind end (gate + 5 + length (spelling e)) h ds (omega (arith, within, more)) behind) (omega (arith, within, more)) placed
+    let B : Change (ℕ × ℕ) → Type 0 = λ c. LiesBy end c.held in
+    All-append B (placed_by gate e) (places then h) (one_lies end gate e (omega (arith, within, more))) (places_lie end then h (omega (arith, within, more)))
+  where
+    one_lies : (end gate : ℕ) (e : Entry) → gate + 5 + length (spelling e) ≤ end → All (λ c. LiesBy end c.held) (placed_by gate e)
+    one_lies end gate (Arrive doc t text) within = All-cons (λ c. LiesBy end c.held) _ [] (omega (arith, within)) (All-nil (λ c. LiesBy end c.held))
+    one_lies end gate (Delete doc t) within = All-cons (λ c. LiesBy end c.held) _ [] tt (All-nil (λ c. LiesBy end c.held))
+    one_lies end gate (Planned plan) within = All-nil (λ c. LiesBy end c.held)
 
 pub all_lie : (a : ArchiveState) (h : History) → StandsFor a h → All (λ c. LiesIn a.end c.held) a.changes
-all_lie a h stands = lies_behind a.end 16 h a.changes (omega (arith, stands.end_is)) stands.changes_are
+all_lie a h stands =
+    let P : List (Change (ℕ × ℕ)) → Type 0 = λ cs. All (λ c. LiesBy a.end c.held) cs in
+    pairs_lie a.end a.changes (subst P (sym stands.changes_are) (places_lie a.end 16 h (omega (arith, stands.end_is))))
 
 -- a place that is found lies in front of the end
 pub found_lies : (a : ArchiveState) (h : History) (doc : DocId) (t : ℕ) (place : TextPlace) → StandsFor a h → held_at doc t a.changes ≡ Some place → place.at + place.bytes ≤ a.end

@@ -1,5 +1,5 @@
 -- An entry, the change that it makes, and why that may not come next.
-use Rattle.std.specs.Prelude.{◌≡◌, ℕ, List, [], ◌∷◌, length, Option, Some, None, Result, Ok, Err}
+use Rattle.std.specs.Prelude.{◌≡◌, ℕ, List, [], ◌∷◌, length, Option, Some, None, option_map, Result, Ok, Err}
 use Rattle.time_base.specs.declared.ids.DocId.{DocId}
 use Rattle.time_base.specs.declared.time.Time.{Time}
 use Rattle.time_base.specs.declared.text_place.TextPlace.{TextPlace}
@@ -15,7 +15,7 @@ use Rattle.archive_state.specs.Histories.{History}
 use Rattle.archive_state.specs.Legal.{IsLegalEntry}
 use Rattle.archive_state.specs.Steps.{full_journal}
 use Rattle.version_index.specs.Indexes.{IndexState, IsPreparedFor}
-use Rattle.archive_replay.specs.Places.{IsPlace}
+use Rattle.archive_replay.specs.Places.{pair_of}
 use Rattle.archive_replay.specs.declared.preparing.Prepared.{Prepared}
 use Rattle.archive_replay.specs.declared.preparing.Unprepared.{Unprepared}
 use Rattle.archive_replay.specs.declared.preparing.Unprepared.TheVariants as unprepared
@@ -44,8 +44,7 @@ text_of (Planned plan) = None
 
 -- what is held of a text of so many bytes that lies at this place, or of none
 abbrev pub IsHeld : ℕ → Option ℕ → Option TextPlace → Type 0
-IsHeld at (Some bytes) held = IsPlace at bytes held
-IsHeld at None held = held ≡ None
+IsHeld at bytes held = option_map pair_of held ≡ option_map (λ n. (at, n)) bytes
 
 -- why a change may not come after others: an arrival, of whose text something is held, or a deletion
 abbrev pub refusal_by : {A B : Type 0} → Option A → DocId → Time → List (Change B) → Option VersionRefusal
