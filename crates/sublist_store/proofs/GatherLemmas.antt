@@ -1,11 +1,9 @@
 -- One segment more of those that overlap a window.
-use Rattle.std.proofs.Common.{◌≡◌, ℕ, ◌+◌, ◌<◌, ◌≤◌, ◌==◌, zero, suc, add-one, add-zero, zero-add, add_assoc, All, Bool, true, false, ◌&&◌, if◌then◌else◌, nat_lt, List, [], ◌∷◌, ◌++◌, length, drop, get_or, Ok, Err, inl, inr, refl, ap, sym, subst, ◌∙◌, arith, sum_by}
+use Rattle.std.proofs.Common.{◌≡◌, ℕ, ◌+◌, ◌<◌, ◌≤◌, ◌==◌, zero, suc, add-one, add-zero, zero-add, add_assoc, All, Bool, true, false, ◌&&◌, if◌then◌else◌, nat_lt, List, [], ◌∷◌, ◌++◌, length, drop, get_or, refl, ap, sym, subst, ◌∙◌, arith, sum_by}
 use Rattle.std.proofs.Math.Seq.{drop-cons}
 use Rattle.std.proofs.lemmas.List.{drop_all}
 use Rattle.std.proofs.lemmas.List.Sums.{sum_by-cons}
-use Rattle.time_base.specs.declared.posting.Posting.{Posting}
 use Rattle.time_base.specs.declared.time.Time.{Time}
-use Rattle.record_codec.specs.declared.place.Layout.{Layout}
 use Rattle.record_codec.specs.declared.place.Place.{Place}
 use Rattle.std.proofs.lemmas.List.Elements.{All-tail}
 use Rattle.machine_model.specs.Areas.{Both, replaced}
@@ -16,8 +14,7 @@ use Rattle.sublist_store.specs.Fetching.{IfDamaged}
 use Rattle.sublist_store.specs.declared.why.FetchError.{FetchError}
 use Rattle.sublist_store.specs.declared.why.FetchError.TheVariants.{Failed, Damaged, Memory}
 use Rattle.sublist_store.specs.Segments.{seconds, next_cut}
-use Rattle.sublist_store.specs.Gathering.{Chosen, chosen, overlapping, bytes_of_all, Joins, Refuses, Gathers, Outcome}
-use Rattle.sublist_store.specs.declared.why.Why.{Why}
+use Rattle.sublist_store.specs.Gathering.{Chosen, chosen, overlapping, bytes_of_all}
 use Rattle.sublist_store.specs.declared.why.Damage.{Damage}
 
 -- the segments that overlap the window, from segment k on
@@ -66,35 +63,6 @@ chosen_ends a b h cuts places k all = ends (k == 0) (drop k cuts) (drop k places
     ends : (first : Bool) (cs : List Time) (ps : List Place) → cs ≡ [] → [] ≡ chosen a b h first (seconds cs) ps
     ends first [] ps none = refl
     ends first (c ∷ cs) ps none = absurd (omega (arith, ap (λ (l : List Time). length l) none))
-
--- What comes of the segments from one on, with the union and the number so far, comes of all.
-pub LeadTo : Layout → (h : ℕ) → List ℕ → List Chosen → List Chosen → List Posting → ℕ → Type 0
-LeadTo layout h pages all rest union read = (outcome : Outcome) → Gathers layout h pages rest union read outcome → Gathers layout h pages all [] 0 outcome
-
-pub leads_itself : (layout : Layout) (h : ℕ) (pages : List ℕ) (all : List Chosen) → LeadTo layout h pages all all [] 0
-unfolding LeadTo
-leads_itself layout h pages all = λ outcome gathers. gathers
-
-pub leads_same : (layout : Layout) (h : ℕ) (pages : List ℕ) (all rest new : List Chosen) (union : List Posting) (read : ℕ) → new ≡ rest
-    → LeadTo layout h pages all rest union read → LeadTo layout h pages all new union read
-leads_same layout h pages all rest new union read same leads = subst (λ (r : List Chosen). LeadTo layout h pages all r union read) (sym same) leads
-
-pub leads_joined : (layout : Layout) (h : ℕ) (pages : List ℕ) (all rest new : List Chosen) (c : Chosen) (union both : List Posting) (read n : ℕ) → rest ≡ c ∷ new
-    → Joins layout h pages c union both n → LeadTo layout h pages all rest union read → LeadTo layout h pages all new both (read + n)
-unfolding LeadTo
-leads_joined layout h pages all rest new c union both read n is joins leads = λ outcome gathers.
-    leads outcome (subst (λ (r : List Chosen). Gathers layout h pages r union read outcome) (sym is) (inr (both, (n, (joins, gathers)))))
-
-pub leads_refused : (layout : Layout) (h : ℕ) (pages : List ℕ) (all rest new : List Chosen) (c : Chosen) (union : List Posting) (read : ℕ) (d : Damage) → rest ≡ c ∷ new
-    → (d.page ≡ c.place.extent.first) × Refuses layout h pages c union d.why → LeadTo layout h pages all rest union read → Gathers layout h pages all [] 0 (Err d)
-unfolding LeadTo
-leads_refused layout h pages all rest new c union read d is refused leads =
-    leads (Err d) (subst (λ (r : List Chosen). Gathers layout h pages r union read (Err d)) (sym is) (inl (d.why, (refused.1, ap (λ (page : ℕ). Err (record { page = page; why = d.why })) refused.0))))
-
-pub leads_end : (layout : Layout) (h : ℕ) (pages : List ℕ) (all rest : List Chosen) (union : List Posting) (read : ℕ) → [] ≡ rest
-    → LeadTo layout h pages all rest union read → Gathers layout h pages all [] 0 (Ok (union, read))
-unfolding LeadTo
-leads_end layout h pages all rest union read none leads = leads (Ok (union, read)) (subst (λ (r : List Chosen). Gathers layout h pages r union read (Ok (union, read))) none refl)
 
 -- ---- bytes read
 
@@ -147,19 +115,3 @@ pub if_damaged : (P Q : Damage → Type 0) → ((d : Damage) → P d → Q d) �
 if_damaged P Q more Failed is = tt
 if_damaged P Q more (Damaged d) is = more d is
 if_damaged P Q more Memory is = tt
-
-pub refused_same : (layout : Layout) (h g : ℕ) (pages were : List ℕ) (c : Chosen) (union given : List Posting) (why : Why) → g ≡ h → were ≡ pages → given ≡ union
-    → Refuses layout g were c given why → Refuses layout h pages c union why
-refused_same layout h g pages were c union given why one two three refused =
-    let P : ℕ → Type 0 = λ x. Refuses layout x were c given why in
-    let Q : List ℕ → Type 0 = λ x. Refuses layout h x c given why in
-    let R : List Posting → Type 0 = λ x. Refuses layout h pages c x why in
-    subst R three (subst Q two (subst P one refused))
-
-pub joins_same : (layout : Layout) (h g : ℕ) (pages were : List ℕ) (c : Chosen) (union given both : List Posting) (n : ℕ) → g ≡ h → were ≡ pages → given ≡ union
-    → Joins layout g were c given both n → Joins layout h pages c union both n
-joins_same layout h g pages were c union given both n one two three joins =
-    let P : ℕ → Type 0 = λ x. Joins layout x were c given both n in
-    let Q : List ℕ → Type 0 = λ x. Joins layout h x c given both n in
-    let R : List Posting → Type 0 = λ x. Joins layout h pages c x both n in
-    subst R three (subst Q two (subst P one joins))

@@ -4,6 +4,8 @@ pub mod PlaceLemmas
 pub mod WriteLemmas
 pub mod HoldLemmas
 pub mod UnionLemmas
+pub mod JoinLemmas
+pub mod FetchLemmas
 pub mod OutcomeLemmas
 pub mod HeldLemmas
 pub mod SpellLemmas

@@ -6,7 +6,7 @@ use Rattle.postings.specs.Unions.{IsUnion, IsClash}
 use Rattle.postings.proofs.Order.{before-trans, next-tail, next-later, next-pairs}
 
 -- a posting comes before no other one that comes before it
-one_way : (p q : Posting) → ComesBefore p q → ComesBefore q p → ⊥
+pub one_way : (p q : Posting) → ComesBefore p q → ComesBefore q p → ⊥
 one_way p q (inl a) (inl b) = omega (arith, a, b)
 one_way p q (inl a) (inr b) = omega (arith, a, b.0)
 one_way p q (inr a) (inl b) = omega (arith, a.0, b)
@@ -22,11 +22,10 @@ pub cases : (x y : Posting) (xs : List Posting) → Contains (x ∷ xs) y → (x
 cases x y xs (zero, l, e) = inl e
 cases x y xs (suc k, l, e) = inr (k, omega (arith, l), e)
 
-SamePostings : List Posting → List Posting → Type 0
+abbrev pub SamePostings : List Posting → List Posting → Type 0
 SamePostings a b = (p : Posting) → (Contains a p → Contains b p) × (Contains b p → Contains a p)
 
 same_head : (x y : Posting) (xs ys : List Posting) → IsList (x ∷ xs) → IsList (y ∷ ys) → SamePostings (x ∷ xs) (y ∷ ys) → x ≡ y
-unfolding SamePostings
 same_head x y xs ys a b same = elim (cases y x ys ((same x).0 (here x xs))) [
   | inl e ↦ sym e
   | inr later ↦ elim (cases x y xs ((same y).1 (here y ys))) [
@@ -35,15 +34,14 @@ same_head x y xs ys a b same = elim (cases y x ys ((same x).0 (here x xs))) [
   ]
 ]
 
-rest_in : (x : Posting) (xs ys : List Posting) → IsList (x ∷ xs) → (p : Posting) → (Contains (x ∷ xs) p → Contains (x ∷ ys) p) → Contains xs p → Contains ys p
+pub rest_in : (x : Posting) (xs ys : List Posting) → IsList (x ∷ xs) → (p : Posting) → (Contains (x ∷ xs) p → Contains (x ∷ ys) p) → Contains xs p → Contains ys p
 rest_in x xs ys a p into is = elim (cases x p ys (into (behind x p xs is))) [
   | inl e ↦ absurd (let q : ComesBefore p p = subst (λ (z : Posting). ComesBefore z p) e (next-later ComesBefore before-trans x p xs a is) in one_way p p q q)
   | inr more ↦ more
 ]
 
 -- lists with the same postings are one
-one_list : (a b : List Posting) → IsList a → IsList b → SamePostings a b → a ≡ b
-unfolding SamePostings
+pub one_list : (a b : List Posting) → IsList a → IsList b → SamePostings a b → a ≡ b
 one_list [] [] la lb same = refl
 one_list [] (y ∷ ys) la lb same = let (k, l, e) = (same y).1 (here y ys) in absurd (omega (arith, l))
 one_list (x ∷ xs) [] la lb same = let (k, l, e) = (same x).0 (here x xs) in absurd (omega (arith, l))
@@ -57,7 +55,6 @@ one_list (x ∷ xs) (y ∷ ys) la lb same =
     ap (λ (z : Posting). z ∷ xs) head ∙ ap (λ (l : List Posting). y ∷ l) (one_list xs ys (next-tail ComesBefore x xs la) (next-tail ComesBefore y ys lb) rest)
 
 pub one_union : (one other a b : List Posting) → IsUnion one other a → IsUnion one other b → a ≡ b
-unfolding SamePostings
 one_union one other a b first second =
     one_list a b first.ordered second.ordered (λ p. ((λ is. (second.each p).1 ((first.each p).0 is)), (λ is. (first.each p).1 ((second.each p).0 is))))
 

@@ -4,19 +4,19 @@ ghost use Rattle.record_codec.specs.declared.place.Place.{Place as PlainPlace};
 ghost use Rattle.machine_model.specs.Areas.{replaced};
 ghost use Rattle.machine_model.specs.Causes.{Rose};
 ghost use Rattle.postings.specs.Lists.{IsList};
-ghost use Rattle.postings.specs.Unions.{IsUnion};
 ghost use Rattle.page_store.specs.Live.{IsInside};
 ghost use Rattle.sublist_store.specs.Segments.{seconds, next_cut};
 ghost use Rattle.sublist_store.specs.Fetching.{IfDamaged, IfFailed};
-ghost use Rattle.sublist_store.specs.Gathering.{chosen, bytes_of_all, Joins, Refuses, Parts, IsBare, Gathers};
+ghost use Rattle.sublist_store.specs.Gathering.{Chosen, chosen, bytes_of_all, IsBare, Gathers};
+ghost use Rattle.sublist_store.specs.Joining.{Paged, size_of_all, IsFound, AreFetched, RefusesAlone, StopsAt};
 
 use crate::checker::Checker;
 use crate::fetching::{Bounds, lend};
+use crate::joining::{Sublist, join_all};
 use crate::store::Sublists;
 use crate::why::{Damage, FetchError, Why};
 use machine_model::{Area, Disk};
 use page_store::Pages;
-use postings::{MergeError, merge_distinct};
 use record_codec::{Layout, Place};
 use std::alloc::Global;
 use time_base::{Posting, Span, Time};
@@ -40,8 +40,8 @@ pub(crate) struct Segment {
 impl Sublists {
     /// The union of the sublists of the segments that overlap the window, each read from its place.
     /// The cuts are the left ends of the segments, the horizon is the end of the last, and places are
-    /// theirs. It costs a pass over the cuts, what the fetches do, and for each segment a pass over
-    /// the union so far.
+    /// theirs. It costs a pass over the cuts, what the fetches do, and n log k for n postings in k
+    /// segments that are read; where two clash, for each segment a pass over the union so far.
     pub fn gather<D: Disk>(
         &mut self,
         alloc: Global,
@@ -106,27 +106,71 @@ fn gather_all<D: Disk>(
     ensures gathered { D.disk_tells → IfOk result (λ g. Gathers layout horizon.seconds (D.disk disk.old).holds.pages (chosen span.from span.to horizon.seconds true (seconds cuts.now) places.now) [] 0 (Ok (g.list.items, g.read))) }
     ensures damaged { D.disk_tells → IfErr result (IfDamaged (λ d. Gathers layout horizon.seconds (D.disk disk.old).holds.pages (chosen span.from span.to horizon.seconds true (seconds cuts.now) places.now) [] 0 (Err d))) }
 {
-    let mut list = Vec::new(alloc);
+    let mut lists = Vec::new(alloc);
+    let fetched = fetch_all(
+        pages, checker, alloc, disk, layout, cuts, horizon, places, span, &mut lists,
+    );
+    // A clash among the lists in front of a segment that is refused is the first damage.
+    let list = match join_all(alloc, lists) {
+        Ok(list) => list,
+        Err(error) => return Err(error),
+    };
+    match fetched {
+        Ok(read) => Ok(Gathered { list, read }),
+        Err(error) => Err(error),
+    }
+}
+
+/// Fetches the sublists of the segments that overlap the window, in order, up to the first one that is
+/// refused, and counts their postings.
+fn fetch_all<D: Disk>(
+    pages: &Pages,
+    checker: &mut Checker,
+    alloc: Global,
+    disk: &mut D,
+    layout: Layout,
+    cuts: &[Time],
+    horizon: Time,
+    places: &[Place],
+    span: Span,
+    lists: &mut Vec<Sublist>,
+) -> Result<u64, FetchError>
+    requires none { lists.old.items ≡ [] }
+    requires as_many { length places.now ≡ length cuts.now }
+    requires inside { All (λ (p : PlainPlace). IsInside (D.disk disk.old).reach.pages p.extent) places.now }
+    requires few { sum_by (λ (p : PlainPlace). p.extent.bytes) places.now ≤ 2 ^ 60 }
+    ensures only { D.Disk.only disk.old disk.new }
+    ensures failed { IfErr result (IfFailed (Rose (D.disk disk.old).faults (D.disk disk.new).faults)) }
+    ensures same { D.disk disk.new ≡ record (D.disk disk.old) { faults = (D.disk disk.new).faults; bytes_read = (D.disk disk.new).bytes_read } }
+    ensures count { D.disk_tells → OnOk result ((D.disk disk.new).bytes_read ≡ replaced (D.disk disk.old).bytes_read Area.Pages ((D.disk disk.old).bytes_read.pages
+        + bytes_of_all (chosen span.from span.to horizon.seconds true (seconds cuts.now) places.now))) }
+    ensures lists { All (λ (l : Paged). IsList l.1) lists.new.items }
+    ensures read { IfOk result (λ n. n ≡ size_of_all lists.new.items) }
+    ensures fetched { D.disk_tells → OnOk result (AreFetched layout horizon.seconds (D.disk disk.old).holds.pages (chosen span.from span.to horizon.seconds true (seconds cuts.now) places.now) lists.new.items []) }
+    ensures stopped { D.disk_tells → IfErr result (λ e. (rest : List Chosen) × (AreFetched layout horizon.seconds (D.disk disk.old).holds.pages (chosen span.from span.to horizon.seconds true (seconds cuts.now) places.now) lists.new.items rest
+        × IfDamaged (StopsAt layout horizon.seconds (D.disk disk.old).holds.pages rest) e)) }
+{
     let mut read = 0;
     for k in 0..cuts.len() {
         let segment = segment_at(cuts, horizon, k);
         if !overlaps(segment, span) {
             continue;
         }
-        let joined = match join(
-            pages, checker, alloc, disk, layout, &places[k], segment, &list,
-        ) {
-            Ok(joined) => joined,
+        let found = match fetch_one(pages, checker, alloc, disk, layout, &places[k], segment) {
+            Ok(found) => found,
             Err(error) => return Err(error),
         };
-        list = joined.list;
-        read += joined.read;
+        read += found.postings().len() as u64;
+        match lists.push(found) {
+            Ok(()) => {}
+            Err(_) => return Err(FetchError::Memory),
+        }
     }
-    Ok(Gathered { list, read })
+    Ok(read)
 }
 
-/// Reads a segment, and joins its sublist to the union so far.
-fn join<D: Disk>(
+/// Fetches the sublist of a segment.
+fn fetch_one<D: Disk>(
     pages: &Pages,
     checker: &mut Checker,
     alloc: Global,
@@ -134,58 +178,31 @@ fn join<D: Disk>(
     layout: Layout,
     place: &Place,
     segment: Segment,
-    union: &[Posting],
-) -> Result<Gathered, FetchError>
+) -> Result<Sublist, FetchError>
     requires inside { IsInside (D.disk disk.old).reach.pages place.now.extent }
-    requires list { IsList union.now }
     ensures only { D.Disk.only disk.old disk.new }
     ensures failed { IfErr result (IfFailed (Rose (D.disk disk.old).faults (D.disk disk.new).faults)) }
     ensures same { D.disk disk.new ≡ record (D.disk disk.old) { faults = (D.disk disk.new).faults; bytes_read = (D.disk disk.new).bytes_read } }
     ensures count { D.disk_tells → OnOk result ((D.disk disk.new).bytes_read ≡ replaced (D.disk disk.old).bytes_read Area.Pages ((D.disk disk.old).bytes_read.pages + place.now.extent.bytes)) }
-    ensures list { IfOk result (λ g. IsList g.list.items) }
-    ensures short { IfOk result (λ g. g.read ≤ place.now.extent.bytes) }
-    ensures joins { D.disk_tells → IfOk result (λ g. Joins layout segment.bounds.horizon (D.disk disk.old).holds.pages
-        (record { from = segment.bounds.from; to = segment.bounds.to; place = place.now; first = segment.first }) union.now g.list.items g.read) }
-    ensures damaged { D.disk_tells → IfErr result (IfDamaged (λ d. (d.page ≡ place.now.extent.first) × Refuses layout segment.bounds.horizon (D.disk disk.old).holds.pages
-        (record { from = segment.bounds.from; to = segment.bounds.to; place = place.now; first = segment.first }) union.now d.why)) }
+    ensures list { IfOk result (λ s. IsList s.1) }
+    ensures short { IfOk result (λ s. length s.1 ≤ place.now.extent.bytes) }
+    ensures found { D.disk_tells → IfOk result (λ s. IsFound layout segment.bounds.horizon (D.disk disk.old).holds.pages
+        (record { from = segment.bounds.from; to = segment.bounds.to; place = place.now; first = segment.first }) s) }
+    ensures damaged { D.disk_tells → IfErr result (IfDamaged (λ d. (d.page ≡ place.now.extent.first) × RefusesAlone layout segment.bounds.horizon (D.disk disk.old).holds.pages
+        (record { from = segment.bounds.from; to = segment.bounds.to; place = place.now; first = segment.first }) d.why)) }
 {
+    let page = place.extent.first;
     let found = match lend(pages, checker, alloc, disk, layout, place, segment.bounds) {
         Ok(found) => found,
         Err(error) => return Err(error),
     };
-    let read = found.len() as u64;
-    match union_of(alloc, place.extent.first, segment.first, union, found) {
-        Ok(list) => Ok(Gathered { list, read }),
-        Err(error) => Err(error),
-    }
-}
-
-/// The union so far with a sublist that was fetched.
-fn union_of(
-    alloc: Global,
-    page: u32,
-    first: bool,
-    union: &[Posting],
-    list: &[Posting],
-) -> Result<Vec<Posting>, FetchError>
-    requires union { IsList union.now }
-    requires list { IsList list.now }
-    ensures some { IfOk result (λ v. ¬ (IsBare first list.now)) }
-    ensures joined { IfOk result (λ v. IsUnion union.now list.now v.items) }
-    ensures failed { IfErr result (IfFailed ⊥) }
-    ensures damaged { IfErr result (IfDamaged (λ d. (d.page ≡ page) × Parts first union.now list.now d.why)) }
-{
-    if is_bare(first, list) {
+    if is_bare(segment.first, found) {
         let why = Why::Bare;
         return Err(FetchError::Damaged(Damage { page, why }));
     }
-    match merge_distinct(alloc, union, list) {
-        Ok(both) => Ok(both),
-        Err(MergeError::Clash { one, other }) => {
-            let why = Why::Clash { one, other };
-            Err(FetchError::Damaged(Damage { page, why }))
-        }
-        Err(MergeError::Memory) => Err(FetchError::Memory),
+    match Vec::from_slice(alloc, found) {
+        Ok(postings) => Ok(Sublist::new(page, postings)),
+        Err(_) => Err(FetchError::Memory),
     }
 }
 

@@ -10,6 +10,7 @@
 mod checker;
 mod fetching;
 mod gathering;
+mod joining;
 mod laws;
 mod placing;
 mod prepared;

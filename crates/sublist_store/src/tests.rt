@@ -306,6 +306,7 @@ fn each_refusal_of_a_segment_names_its_place(rt: HostRuntime) -> Result<(), Fail
     let longer = "010003000000010000000100000001010a28";
     let shorter = "010003000000010000000100000001010a14";
     let no_frequency = "010003000000010000000100000001000a1e";
+    let later = "010003000000010000000100000001010b1d";
     for (pieces, window, page, why) in [
         // A frequency of 0 in the second segment.
         (
@@ -343,6 +344,41 @@ fn each_refusal_of_a_segment_names_its_place(rt: HostRuntime) -> Result<(), Fail
         ),
         // No posting in the first segment.
         (["", BOTH, FIRST], (10, 11), 0, Why::Bare),
+        // Two clashes: the earlier one is told, although the other one is between the later two.
+        (
+            [FIRST, shorter, later],
+            (15, 35),
+            1,
+            Why::Clash {
+                one: posting(1, 10, 40)?,
+                other: posting(1, 10, 30)?,
+            },
+        ),
+        (
+            [FIRST, FIRST, later],
+            (15, 35),
+            2,
+            Why::Clash {
+                one: posting(1, 10, 40)?,
+                other: posting(1, 11, 40)?,
+            },
+        ),
+        // A clash in front of bytes that spell no list, and one behind such.
+        (
+            [FIRST, shorter, no_frequency],
+            (15, 35),
+            1,
+            Why::Clash {
+                one: posting(1, 10, 40)?,
+                other: posting(1, 10, 30)?,
+            },
+        ),
+        (
+            [no_frequency, shorter, later],
+            (15, 35),
+            0,
+            Why::Form { at: 15 },
+        ),
     ] {
         assert_eq!(rt;
             refused(&rt, alloc, &pieces, window)?,

@@ -1,4 +1,4 @@
-use Rattle.std.proofs.Common.{List, take, subst, arith}
+use Rattle.std.proofs.Common.{List, subst, arith}
 use Rattle.std.proofs.lemmas.List.{take_all}
 use Rattle.time_base.specs.declared.time.Time.{Time}
 use Rattle.sublist_store.proofs.SpellLemmas.{AreWithin, within_more}

@@ -2,18 +2,20 @@ use Rattle.std.specs.Prelude.{◌≡◌, ◌+◌, ◌^◌, ◌≤◌, All, drop,
 use Rattle.postings.specs.Lists.{IsList}
 use Rattle.page_store.specs.Live.{IsInside}
 use Rattle.record_codec.specs.declared.place.Place.{Place}
-use Rattle.sublist_store.proofs.GatherLemmas.{chosen_from, LeadTo, HasRead}
-use Rattle.sublist_store.proofs.gathering.gather_all.Given as goal
+use Rattle.sublist_store.specs.Joining.{Paged, size_of_all, AreFetched}
+use Rattle.sublist_store.proofs.GatherLemmas.{chosen_from, HasRead}
+use Rattle.sublist_store.proofs.gathering.fetch_all.Given as goal
 
 abbrev pub invariant-loop-k : goal.invariant-loop-k
 invariant-loop-k g l = record {
   only : g.D.Disk.only l.fn.disk l.disk;
   same : g.D.Disk.disk l.disk ≡ record (g.D.Disk.disk l.fn.disk) { faults = (g.D.Disk.disk l.disk).faults; bytes_read = (g.D.Disk.disk l.disk).bytes_read };
-  list : IsList l.list.items;
+  lists : All (λ (x : Paged). IsList x.1) l.lists.items;
+  read : l.read ≡ size_of_all l.lists.items;
   few : l.read + sum_by (λ (p : Place). p.extent.bytes) (drop l.k l.places) ≤ 2 ^ 60;
   inside : All (λ (p : Place). IsInside (g.D.Disk.disk l.fn.disk).reach.pages p.extent) (drop l.k l.places);
-  leads : g.D.Disk.disk_tells → LeadTo l.layout l.horizon.seconds (g.D.Disk.disk l.fn.disk).holds.pages
-      (chosen_from l.span.from l.span.to l.horizon.seconds l.cuts l.places 0) (chosen_from l.span.from l.span.to l.horizon.seconds l.cuts l.places l.k) l.list.items l.read;
+  fetched : g.D.Disk.disk_tells → AreFetched l.layout l.horizon.seconds (g.D.Disk.disk l.fn.disk).holds.pages
+      (chosen_from l.span.from l.span.to l.horizon.seconds l.cuts l.places 0) l.lists.items (chosen_from l.span.from l.span.to l.horizon.seconds l.cuts l.places l.k);
   count : g.D.Disk.disk_tells → HasRead (g.D.Disk.disk l.fn.disk).bytes_read (g.D.Disk.disk l.disk).bytes_read
       (chosen_from l.span.from l.span.to l.horizon.seconds l.cuts l.places l.k) (chosen_from l.span.from l.span.to l.horizon.seconds l.cuts l.places 0);
 }
