@@ -76,13 +76,23 @@ fn store_all(
     machine: &mut MemMachine,
     layout: Layout,
 ) -> Result<Result<Vec<Place>, Failed>, Fail> {
-    let list = two_documents(alloc)?;
     let cuts = cuts()?;
+    store_between(alloc, machine, layout, &cuts)
+}
+
+/// The same between other cuts and 40.
+fn store_between(
+    alloc: Global,
+    machine: &mut MemMachine,
+    layout: Layout,
+    cuts: &[Time],
+) -> Result<Result<Vec<Place>, Failed>, Fail> {
+    let list = two_documents(alloc)?;
     let horizon = time(40)?;
     match Sublists::from_live(alloc, &[], 0) {
         Ok(sublists) => {
             let mut sublists = sublists;
-            match sublists.prepare(alloc, layout, &list, &cuts, horizon) {
+            match sublists.prepare(alloc, layout, &list, cuts, horizon) {
                 Ok(prepared) => match sublists.write(machine, &prepared) {
                     Ok(()) => {
                         let places = Vec::from_slice(alloc, prepared.places())?;
@@ -128,12 +138,26 @@ fn gather_on(
     window: (u64, u64),
 ) -> Result<Result<Gathered, FetchError>, Fail> {
     let cuts = cuts()?;
+    gather_between(rt, alloc, sublists, machine, layout, &cuts, places, window)
+}
+
+/// The same between other cuts and 40.
+fn gather_between(
+    rt: &impl Abort,
+    alloc: Global,
+    sublists: &mut Sublists,
+    machine: &mut MemMachine,
+    layout: Layout,
+    cuts: &[Time],
+    places: &[Place],
+    window: (u64, u64),
+) -> Result<Result<Gathered, FetchError>, Fail> {
     let horizon = time(40)?;
     let span = Span::new(window.0, window.1).ok_or("a window")?;
     let reach = machine.length(Area::Pages)?;
-    assert!(rt; places.len() == 3);
+    assert!(rt; places.len() == cuts.len());
     assert!(rt; fit(places, reach));
-    Ok(sublists.gather(alloc, machine, layout, &cuts, horizon, places, span))
+    Ok(sublists.gather(alloc, machine, layout, cuts, horizon, places, span))
 }
 
 /// A store that has taken no page.
@@ -253,6 +277,51 @@ fn a_window_reads_the_segments_that_it_overlaps(rt: HostRuntime) -> Result<(), F
             };
             assert_eq!(rt; machine.read_of(Area::Pages).saturating_sub(before), bytes);
         }
+    }
+    Ok(())
+}
+
+/// Windows over 1, 2, 3 and 7 of seven segments: their ends, the documents that are found, and the
+/// postings that are read.
+const JOINED: [((u64, u64), &[u32], u64); 4] = [
+    ((11, 12), &[1], 1),
+    ((11, 16), &[1], 2),
+    ((11, 21), &[1, 2], 4),
+    ((11, 39), &[1, 2], 9),
+];
+
+#[test]
+fn the_lists_of_any_number_of_segments_are_joined(rt: HostRuntime) -> Result<(), Fail> {
+    let alloc = rt.alloc();
+    let mut machine = machine_with(&rt, alloc, &[], &[])?;
+    let mut cuts = Vec::new(alloc);
+    for seconds in [10, 15, 20, 25, 30, 35, 38] {
+        cuts.push(time(seconds)?)?;
+    }
+    let places = store_between(alloc, &mut machine, Layout::Flat, &cuts)?
+        .ok()
+        .ok_or("they are written")?;
+    let mut sublists = no_sublists(alloc)?;
+    for (window, docs, read) in JOINED {
+        let gathered = match gather_between(
+            &rt,
+            alloc,
+            &mut sublists,
+            &mut machine,
+            Layout::Flat,
+            &cuts,
+            &places,
+            window,
+        )? {
+            Ok(gathered) => gathered,
+            Err(_) => Err("they are read")?,
+        };
+        let mut found = Vec::new(alloc);
+        for posting in &gathered.list {
+            found.push(posting.doc.0)?;
+        }
+        assert_eq!(rt; found.as_slice(), docs);
+        assert_eq!(rt; gathered.read, read);
     }
     Ok(())
 }
