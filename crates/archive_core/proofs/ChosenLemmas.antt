@@ -1,5 +1,5 @@
 -- What is chosen of words' lists, by the plans in hand.
-use Rattle.std.proofs.Common.{◌≡◌, ℕ, zero, suc, ◌+◌, ◌*◌, ◌<◌, ◌≤◌, ◌^◌, Bool, true, false, nat_lt, List, [], ◌∷◌, ◌++◌, length, get_or, filter, map, cond, sum_by, All, Option, Some, None, Result, Ok, Err, refl, ap, sym, subst, ◌∙◌, arith}
+use Rattle.std.proofs.Common.{◌≡◌, ℕ, zero, suc, ◌+◌, ◌*◌, ◌<◌, ◌≤◌, ◌^◌, Bool, true, false, nat_lt, List, [], ◌∷◌, ◌++◌, length, get_or, filter, map, cond, sum_by, All, Option, Some, None, Result, Ok, Err, refl, ap, sym, subst, ◌∙◌, lt-ltb, arith}
 use Rattle.std.proofs.lemmas.List.Elements.{All-nil, All-cons, All-head, All-tail, All-append, All-filter}
 use Rattle.std.proofs.lemmas.List.Sums.{sum_by-cons, sum_by-append}
 use Rattle.machine_model.specs.Areas.{Both, replaced}
@@ -107,6 +107,10 @@ no_tail b h list early = go (nat_lt h b) refl
     go : (c : Bool) → nat_lt h b ≡ c → tail_for b h list ≡ []
     go true e = absurd (grind (arith, e, early))
     go false e = ap (λ (c : Bool). cond c (sublist h (2 ^ 40) list) []) e
+
+-- and all from the horizon on is where it ends behind
+pub some_tail : (b h : ℕ) (list : List Posting) → h < b → tail_for b h list ≡ sublist h (2 ^ 40) list
+some_tail b h list late = ap (λ (c : Bool). cond c (sublist h (2 ^ 40) list) []) (lt-ltb h b late)
 
 -- the plan that stands there is the word's
 pub planned_is : (a : ArchiveState) (h : History) (word : List ℕ) (at : ℕ) (s : StoredPlan) → StandsFor a h → IsPlanAt a.shelf.plans word at → s ≡ get_or a.shelf.plans at s → plan_of h word ≡ Some s.plan

@@ -6,7 +6,6 @@ use Rattle.std.proofs.lemmas.List.Elements.{All-head, All-tail, All-append}
 use Rattle.std.proofs.lemmas.Slice.Eq.{bytes_eq-Decides}
 use Rattle.time_base.specs.declared.extent.Extent.{Extent}
 use Rattle.page_store.specs.Live.{IsInside}
-use Rattle.sublist_store.specs.Preparing.{extents}
 use Rattle.archive_state.specs.declared.stored.StoredPlan.{StoredPlan}
 use Rattle.archive_state.specs.Histories.{History}
 use Rattle.archive_state.specs.Plans.{is_another, with_plan, live_plans, first_plan, plan_of, extents_of}

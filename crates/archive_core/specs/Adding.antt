@@ -7,7 +7,6 @@ use Rattle.archive_state.specs.declared.refusal.Refusal.{Refusal}
 use Rattle.archive_replay.specs.Entries.{IsHeld}
 use Rattle.archive_replay.specs.declared.preparing.Unprepared.{Unprepared}
 use Rattle.archive_replay.specs.declared.preparing.Unprepared.TheVariants as unprepared
-use Rattle.record_codec.specs.Spelling.{spelling}
 use Rattle.record_codec.specs.declared.entry.Entry.{Entry}
 use Rattle.time_base.specs.declared.extent.Extent.{Extent}
 use Rattle.page_store.specs.Taken.{HasTaken}

@@ -1,5 +1,5 @@
 -- How a plan is stored.
-use Rattle.std.specs.Prelude.{◌≡◌, ℕ, ◌+◌, ◌-◌, ◌<◌, ◌≤◌, List, [], ◌∷◌, ◌++◌, length, Result, Err, false}
+use Rattle.std.specs.Prelude.{◌≡◌, ℕ, ◌<◌, ◌≤◌, List, [], ◌∷◌, ◌++◌, length, Result, Err, false}
 use Rattle.std.specs.List.{AllZip}
 use Rattle.time_base.specs.Limits.{limit_of}
 use Rattle.time_base.specs.declared.posting.Posting.{Posting}
