@@ -5,12 +5,31 @@ use crate::Index;
 use std::alloc::Global;
 use std::process::Abort;
 use std::test::Fail;
-use time_base::{DocId, Key, NOW, Time};
+use time_base::{DocId, Key, NOW, Posting, Time};
 
-/// Cuts the word's list to the times from so many seconds on.
-fn trim(index: &mut Index, word: &Key, seconds: u64) -> Result<(), Fail> {
+/// Cut to the times from so many seconds on, the word's list is this.
+fn expect_trimmed(
+    rt: &impl Abort,
+    alloc: Global,
+    index: &mut Index,
+    word: &Key,
+    seconds: u64,
+    wanted: &[Posting],
+) -> Result<(), Fail> {
     let h = Time::new(seconds).ok_or("a time")?;
     index.trim(word, h);
+    expect_list(rt, alloc, index, word, wanted)
+}
+
+/// The word's list is this.
+fn expect_list(
+    rt: &impl Abort,
+    alloc: Global,
+    index: &Index,
+    word: &Key,
+    wanted: &[Posting],
+) -> Result<(), Fail> {
+    assert_eq!(rt; index.list(alloc, word)?.as_slice(), wanted);
     Ok(())
 }
 
@@ -22,83 +41,75 @@ const RED_AND_BLUE: [(u32, Option<&str>); 4] = [
     (9, Some("red blue")),
 ];
 
-#[test]
-fn a_trimmed_list_has_what_it_had_from_that_time_on(rt: HostRuntime) -> Result<(), Fail> {
-    let alloc = rt.alloc();
-    let red = key(&rt, alloc, "red")?;
-    let green = key(&rt, alloc, "green")?;
+/// Red is trimmed at 0, before an end, at it, behind it, and no further by an earlier time.
+fn expect_trims(rt: &impl Abort, alloc: Global, index: &mut Index) -> Result<(), Fail> {
+    let red = key(rt, alloc, "red")?;
     let late = posting(9, 40, NOW, 1);
-    for mut index in [
-        committed(&rt, alloc, &RED_AND_BLUE)?,
-        loaded(&rt, alloc, &RED_AND_BLUE)?,
-    ] {
-        let whole = [posting(3, 20, NOW, 2), posting(9, 10, 30, 1), late];
-        trim(&mut index, &red, 0)?;
-        trim(&mut index, &green, 25)?;
-        assert_eq!(rt; index.list(alloc, &red)?.as_slice(), whole.as_slice());
-        assert!(rt; index.list(alloc, &green)?.is_empty());
-        let last_second = [posting(3, 29, NOW, 2), posting(9, 29, 30, 1), late];
-        trim(&mut index, &red, 29)?;
-        assert_eq!(rt; index.list(alloc, &red)?.as_slice(), last_second.as_slice());
-        let at_an_end = [posting(3, 30, NOW, 2), late];
-        trim(&mut index, &red, 30)?;
-        assert_eq!(rt; index.list(alloc, &red)?.as_slice(), at_an_end.as_slice());
-        let between = [posting(3, 35, NOW, 2), late];
-        trim(&mut index, &red, 35)?;
-        trim(&mut index, &red, 20)?;
-        assert_eq!(rt; index.list(alloc, &red)?.as_slice(), between.as_slice());
-        expect_part(&rt, alloc, &index, &red, (5, 35), &between[..0], 2)?;
-        expect_part(&rt, alloc, &index, &red, (5, 36), &between[..1], 2)?;
-        expect_part(&rt, alloc, &index, &red, (40, 41), &between, 2)?;
-        let blue = key(&rt, alloc, "blue")?;
-        let others = [posting(3, 20, NOW, 1), late];
-        expect_part(&rt, alloc, &index, &blue, (5, 50), &others, 2)?;
-    }
-    Ok(())
+    let whole = [posting(3, 20, NOW, 2), posting(9, 10, 30, 1), late];
+    expect_trimmed(rt, alloc, index, &red, 0, &whole)?;
+    let last_second = [posting(3, 29, NOW, 2), posting(9, 29, 30, 1), late];
+    expect_trimmed(rt, alloc, index, &red, 29, &last_second)?;
+    expect_trimmed(rt, alloc, index, &red, 30, &[posting(3, 30, NOW, 2), late])?;
+    let between = [posting(3, 35, NOW, 2), late];
+    expect_trimmed(rt, alloc, index, &red, 35, &between)?;
+    expect_trimmed(rt, alloc, index, &red, 20, &between)
 }
 
+/// Red has these parts once it is trimmed at 35, blue has its whole list, and a word that no text has none.
+fn expect_parts(rt: &impl Abort, alloc: Global, index: &mut Index) -> Result<(), Fail> {
+    let red = key(rt, alloc, "red")?;
+    let late = posting(9, 40, NOW, 1);
+    let kept = [posting(3, 35, NOW, 2), late];
+    expect_part(rt, alloc, index, &red, (5, 35), &kept[..0], 2)?;
+    expect_part(rt, alloc, index, &red, (5, 36), &kept[..1], 2)?;
+    expect_part(rt, alloc, index, &red, (40, 41), &kept, 2)?;
+    expect_trimmed(rt, alloc, index, &key(rt, alloc, "green")?, 25, &[])?;
+    let blue = key(rt, alloc, "blue")?;
+    expect_part(
+        rt,
+        alloc,
+        index,
+        &blue,
+        (5, 50),
+        &[posting(3, 20, NOW, 1), late],
+        2,
+    )
+}
+
+#[test]
+fn a_trimmed_list_has_what_it_had_from_that_time_on(rt: HostRuntime) -> Result<(), Fail> {
+    let mut index = committed(&rt, rt.alloc(), &RED_AND_BLUE)?;
+    expect_trims(&rt, rt.alloc(), &mut index)?;
+    expect_parts(&rt, rt.alloc(), &mut index)
+}
+
+#[test]
+fn a_loaded_list_is_trimmed_alike(rt: HostRuntime) -> Result<(), Fail> {
+    let mut index = loaded(&rt, rt.alloc(), &RED_AND_BLUE)?;
+    expect_trims(&rt, rt.alloc(), &mut index)?;
+    expect_parts(&rt, rt.alloc(), &mut index)
+}
+
+/// Document 9 changes at the very time at which red was trimmed, and ten seconds later.
 #[test]
 fn a_trimmed_list_goes_on_at_that_time_and_later(rt: HostRuntime) -> Result<(), Fail> {
     let alloc = rt.alloc();
     let red = key(&rt, alloc, "red")?;
-    let blue = key(&rt, alloc, "blue")?;
-    let green = key(&rt, alloc, "green")?;
     let twice = posting(3, 50, NOW, 2);
-    for mut index in [
-        committed(&rt, alloc, &RED_AND_BLUE)?,
-        loaded(&rt, alloc, &RED_AND_BLUE)?,
-    ] {
-        trim(&mut index, &red, 50)?;
-        trim(&mut index, &green, 50)?;
-        commit(
-            &rt,
-            alloc,
-            &mut index,
-            DocId(9),
-            time_at(4),
-            Some("blue green"),
-        );
-        assert_eq!(rt; index.list(alloc, &red)?.as_slice(), [twice].as_slice());
-        assert_eq!(rt;
-            index.list(alloc, &green)?.as_slice(),
-            [posting(9, 50, NOW, 1)].as_slice()
-        );
-        commit(
-            &rt,
-            alloc,
-            &mut index,
-            DocId(9),
-            time_at(5),
-            Some("red red red"),
-        );
-        assert_eq!(rt;
-            index.list(alloc, &red)?.as_slice(),
-            [twice, posting(9, 60, NOW, 3)].as_slice()
-        );
-        let others = [posting(3, 20, NOW, 1), posting(9, 40, 60, 1)];
-        assert_eq!(rt; index.list(alloc, &blue)?.as_slice(), others.as_slice());
-    }
-    Ok(())
+    let mut index = loaded(&rt, alloc, &RED_AND_BLUE)?;
+    let at_first = [twice, posting(9, 50, NOW, 1)];
+    expect_trimmed(&rt, alloc, &mut index, &red, 50, &at_first)?;
+    commit(&rt, alloc, &mut index, DocId(9), time_at(4), Some("blue"));
+    expect_list(&rt, alloc, &index, &red, &[twice])?;
+    commit(
+        &rt,
+        alloc,
+        &mut index,
+        DocId(9),
+        time_at(5),
+        Some("red red"),
+    );
+    expect_list(&rt, alloc, &index, &red, &[twice, posting(9, 60, NOW, 2)])
 }
 
 /// Trims a word's list while a change is on its way.
