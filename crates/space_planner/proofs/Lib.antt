@@ -6,8 +6,10 @@ pub mod CostLemmas
 pub mod CourseLemmas
 pub mod CutLemmas
 pub mod FrontLemmas
+pub mod FunctionLemmas
 pub mod LegLemmas
 pub mod PlanLemmas
+pub mod ShortLemmas
 pub mod StopLemmas
 pub mod ThereIsABest
 pub mod WeightLemmas

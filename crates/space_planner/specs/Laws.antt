@@ -1,9 +1,12 @@
 -- What follows from the definitions of plans under a space bound.
-use Rattle.std.specs.Prelude.{ℕ, ◌<◌, ◌≤◌, List, length}
+use Rattle.std.specs.Prelude.{◌≡◌, ℕ, ◌<◌, ◌≤◌, List, length, slice_index}
+use Rattle.std.specs.List.Sorted.{IsStrictlyIncreasing}
 use Rattle.time_base.specs.declared.posting.Posting.{Posting}
 use Rattle.time_base.specs.declared.fraction.Fraction.{Fraction}
+use Rattle.time_base.specs.declared.time.Span.{Span}
 use Rattle.elementary.specs.Partitions.{space}
 use Rattle.space_planner.specs.Caps.{cap}
+use Rattle.space_planner.specs.Loads.{AreWeights, weights_by}
 use Rattle.space_planner.specs.Plans.{IsEligible, IsBestUnder}
 
 -- A partition that may be chosen takes at most the cap.
@@ -17,3 +20,15 @@ abbrev pub EachListHasABest : Type 0
 EachListHasABest =
     (list : List Posting) (times weights : List ℕ) (factor : Fraction) (f horizon : ℕ) → f < horizon
     → (cuts : List ℕ) × IsBestUnder list times weights factor f horizon cuts
+
+-- A partition of boundaries' times that may be chosen has at most 127 segments.
+abbrev pub EligibleIsShort : Type 0
+EligibleIsShort =
+    (list : List Posting) (times : List ℕ) (factor : Fraction) (f horizon : ℕ) (cuts : List ℕ) → IsStrictlyIncreasing times → slice_index times 0 ≡ f
+    → IsEligible list times factor f horizon cuts → length cuts ≤ 127
+
+-- Where a load answers by a function of a span's two ends, the weights are that function's.
+abbrev pub WeightsOfAFunction : (Span → ℕ → Type 0) → Type 0
+WeightsOfAFunction Answers =
+    (weight : ℕ → ℕ → ℕ) (times weights : List ℕ) → ((span : Span) (n : ℕ) → Answers span n → n ≡ weight span.from span.to)
+    → AreWeights Answers times weights → weights ≡ weights_by weight times

@@ -19,7 +19,9 @@ mod stops;
 mod surveying;
 mod weights;
 
-pub use laws::{each_list_has_a_best, eligible_is_capped};
+pub use laws::{
+    each_list_has_a_best, eligible_is_capped, eligible_is_short, weights_of_a_function,
+};
 pub use load::Load;
 pub use planning::{front, plan};
 pub use point::Point;

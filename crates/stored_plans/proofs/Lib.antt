@@ -1,1 +1,3 @@
+pub mod CapLemmas
+pub mod GoodLemmas
 pub mod PlanLemmas

@@ -16,14 +16,14 @@ use Rattle.elementary.proofs.Bests.{each_has_a_least_plan}
 use Rattle.elementary.proofs.Narrow.{narrow}
 use Rattle.elementary.proofs.Ordering.{each_has_boundaries, one_list_of_boundaries}
 use Rattle.elementary.proofs.Tables.{some_time, first_le, last_is_horizon}
-use Rattle.stored_plans.specs.Plans.{later, IsNarrow, IsFit, IsFitPlan}
-use Rattle.stored_plans.specs.Laws.{LeastPlansAreFit, EachListHasALeastPlanOfCuts, FitPlansAreWellCut}
+use Rattle.stored_plans.specs.Plans.{later, IsNarrow, IsLeastPlan, IsFit, IsFitPlan}
+use Rattle.stored_plans.specs.Laws.{BeginsFirst}
 
-pub least_is_fit : LeastPlansAreFit
+pub least_is_fit : (list : List Posting) (factor : Fraction) (cuts : List Time) (h : ℕ) → IsLeastPlan list factor cuts h → IsFitPlan list factor cuts h
 least_is_fit list factor [] h least = absurd least
 least_is_fit list factor (f ∷ cuts) h least = record { first = least.first; at_boundaries = least.at_boundaries; covers = least.covers }
 
-pub each_has_a_plan : EachListHasALeastPlanOfCuts
+pub each_has_a_plan : (list : List Posting) (factor : Fraction) (horizon : Time) → 0 < length list → All (λ p. p.span.to ≤ horizon.seconds) list → (cuts : List Time) × IsLeastPlan list factor cuts horizon.seconds
 each_has_a_plan list factor horizon some early =
     let (first, (cuts, least)) = each_has_a_least_plan list factor horizon some early in (first ∷ cuts, least)
 
@@ -31,25 +31,31 @@ each_has_a_plan list factor horizon some early =
 pub seconds_are : (f : Time) (cuts : List Time) (horizon : Time) → f.seconds ∷ later cuts horizon.seconds ≡ map (λ (t : Time). t.seconds) (f ∷ cuts ++ horizon ∷ [])
 seconds_are f cuts horizon = ap (λ (xs : List ℕ). f.seconds ∷ xs) (sym (map-append (λ (t : Time). t.seconds) cuts (horizon ∷ [])))
 
-later_long : (cuts : List Time) (h : ℕ) → length (later cuts h) ≡ length cuts + 1
+pub later_long : (cuts : List Time) (h : ℕ) → length (later cuts h) ≡ length cuts + 1
 later_long cuts h = omega (arith, length-append (map (λ (t : Time). t.seconds) cuts) (h ∷ []), length-map cuts (λ (t : Time). t.seconds))
 
-pub well_cut : FitPlansAreWellCut
-well_cut list factor [] horizon (times, b, few) fit = absurd fit
-well_cut list factor (f ∷ cuts) horizon (times, b, few) fit =
-    let ends = narrow list factor horizon.seconds times f.seconds (later cuts horizon.seconds) horizon.seconds b fit.first.is fit.at_boundaries fit.covers in (
-      omega arith,
-      omega (arith, few, ends.1, later_long cuts horizon.seconds),
-      subst (λ (xs : List ℕ). IsStrictlyIncreasing xs) (seconds_are f cuts horizon) ends.0,
-    )
+-- a fit plan has a cut, and its cuts ascend
+pub well_cut : (list : List Posting) (factor : Fraction) (cuts : List Time) (horizon : Time) → IsFitPlan list factor cuts horizon.seconds
+    → (1 ≤ length cuts) × BeginsFirst list cuts horizon.seconds × IsStrictlyIncreasing (map (λ (t : Time). t.seconds) (cuts ++ horizon ∷ []))
+well_cut list factor [] horizon fit = absurd fit
+well_cut list factor (f ∷ cuts) horizon fit =
+    let (times, b) = each_has_boundaries list horizon.seconds in
+    let ends = narrow list factor horizon.seconds times f.seconds (later cuts horizon.seconds) horizon.seconds b fit.first.is fit.at_boundaries fit.covers in
+    (omega arith, fit.first, subst (λ (xs : List ℕ). IsStrictlyIncreasing xs) (seconds_are f cuts horizon) ends.0)
+
+-- one of a narrow list has fewer cuts than the list may have boundaries
+pub narrow_cuts : (list : List Posting) (factor : Fraction) (cuts : List Time) (h : ℕ) → IsNarrow list h → IsFitPlan list factor cuts h → length cuts ≤ 1048575
+narrow_cuts list factor [] h n fit = absurd fit
+narrow_cuts list factor (f ∷ cuts) h (times, b, few) fit =
+    let ends = narrow list factor h times f.seconds (later cuts h) h b fit.first.is fit.at_boundaries fit.covers in
+    omega (arith, few, ends.1, later_long cuts h)
 
 -- a fit plan is a partition
 pub is_partition : (list : List Posting) (factor : Fraction) (cuts : List Time) (horizon : Time) → IsFitPlan list factor cuts horizon.seconds → IsPartition (map (λ (t : Time). t.seconds) (cuts ++ horizon ∷ []))
 is_partition list factor [] horizon fit = absurd fit
 is_partition list factor (f ∷ cuts) horizon fit =
-    let (times, b) = each_has_boundaries list horizon.seconds in
-    let ends = narrow list factor horizon.seconds times f.seconds (later cuts horizon.seconds) horizon.seconds b fit.first.is fit.at_boundaries fit.covers in
-    subst (λ (xs : List ℕ). IsPartition xs) (seconds_are f cuts horizon) (record { many = omega (arith, later_long cuts horizon.seconds); ascending = ends.0 })
+    let w = well_cut list factor (f ∷ cuts) horizon fit in
+    record { many = omega (arith, ap length (seconds_are f cuts horizon), later_long cuts horizon.seconds); ascending = w.2 }
 
 -- an admissible partition that fits a table, and back
 fit_of : (list : List Posting) (factor : Fraction) (h : ℕ) (times : List ℕ) (f : ℕ) (cuts : List ℕ) → AreBoundaries list h times → IsFitting times (f ∷ cuts) → Covers list factor f cuts h → IsFit list factor f cuts h

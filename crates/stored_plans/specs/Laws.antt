@@ -1,23 +1,50 @@
 -- What holds of stored plans by their definitions.
-use Rattle.std.specs.Prelude.{ℕ, ◌<◌, ◌≤◌, List, [], ◌∷◌, ◌++◌, map, length, All}
+use Rattle.std.specs.Prelude.{◌≡◌, ℕ, ◌<◌, ◌≤◌, List, [], ◌∷◌, ◌++◌, map, length, All, Option}
 use Rattle.std.specs.List.Sorted.{IsStrictlyIncreasing}
 use Rattle.time_base.specs.declared.time.Time.{Time}
 use Rattle.time_base.specs.declared.posting.Posting.{Posting}
 use Rattle.time_base.specs.declared.fraction.Fraction.{Fraction}
-use Rattle.stored_plans.specs.Plans.{IsNarrow, IsLeastPlan, IsFitPlan}
+use Rattle.commands.specs.declared.command.Kind.{Kind}
+use Rattle.commands.specs.declared.command.Kind.TheVariants.{Guarantee}
+use Rattle.elementary.specs.Boundaries.{IsFirst}
+use Rattle.stored_plans.specs.Plans.{IsNarrow, IsGoodPlan, IsFitFor, IsCostOf}
 
--- A least plan is fit.
-abbrev pub LeastPlansAreFit : Type 0
-LeastPlansAreFit = (list : List Posting) (factor : Fraction) (cuts : List Time) (h : ℕ) → IsLeastPlan list factor cuts h → IsFitPlan list factor cuts h
+-- A plan that is what its kind promises may be loaded.
+abbrev pub GoodPlansAreFit : Type 0
+GoodPlansAreFit = (kind : Kind) (list : List Posting) (factor : Fraction) (cuts : List Time) (horizon : Time) → IsGoodPlan kind list factor cuts horizon.seconds → IsFitFor kind list factor cuts horizon.seconds
 
--- A list that isn't empty, and whose spans end at or before the horizon, has a least plan, for each factor.
-abbrev pub EachListHasALeastPlanOfCuts : Type 0
-EachListHasALeastPlanOfCuts =
-    (list : List Posting) (factor : Fraction) (horizon : Time) → 0 < length list → All (λ p. p.span.to ≤ horizon.seconds) list
-    → (cuts : List Time) × IsLeastPlan list factor cuts horizon.seconds
+-- A list that isn't empty, and whose spans end at or before the horizon, has a plan that is what its kind promises, for each factor. (For a guarantee
+-- it has to have few enough boundaries.)
+abbrev pub EachListHasAGoodPlan : Type 0
+EachListHasAGoodPlan =
+    (kind : Kind) (list : List Posting) (factor : Fraction) (horizon : Time) → 0 < length list → All (λ p. p.span.to ≤ horizon.seconds) list
+    → (kind ≡ Guarantee → IsNarrow list horizon.seconds) → (cuts : List Time) × IsGoodPlan kind list factor cuts horizon.seconds
 
--- A fit plan of a narrow list has a cut, and fewer cuts than a plan may have boundaries; they ascend, up to the horizon.
+-- A plan that is what its kind promises has an expected cost, where its kind has one.
+abbrev pub EachGoodPlanHasACost : Type 0
+EachGoodPlanHasACost =
+    (kind : Kind) (list : List Posting) (factor : Fraction) (cuts : List Time) (horizon : Time) → IsGoodPlan kind list factor cuts horizon.seconds
+    → (cost : Option ℕ) × IsCostOf kind list cuts horizon.seconds cost
+
+-- Two plans of a list that are both what their kind promises have the same expected cost, where their kind has one.
+abbrev pub GoodPlansCostTheSame : Type 0
+GoodPlansCostTheSame =
+    (kind : Kind) (list : List Posting) (factor : Fraction) (one other : List Time) (horizon : Time) (cost price : Option ℕ)
+    → IsGoodPlan kind list factor one horizon.seconds → IsGoodPlan kind list factor other horizon.seconds
+    → IsCostOf kind list one horizon.seconds cost → IsCostOf kind list other horizon.seconds price → cost ≡ price
+
+-- A plan that is what its kind promises has at most 1,048,575 cuts.
+abbrev pub GoodPlansAreShort : Type 0
+GoodPlansAreShort =
+    (kind : Kind) (list : List Posting) (factor : Fraction) (cuts : List Time) (horizon : Time) → IsGoodPlan kind list factor cuts horizon.seconds → length cuts ≤ 1048575
+
+-- The first cut is the first boundary of the list.
+abbrev pub BeginsFirst : List Posting → List Time → ℕ → Type 0
+BeginsFirst list [] h = ⊥
+BeginsFirst list (f ∷ cuts) h = IsFirst list h f.seconds
+
+-- A plan that may be loaded has a first cut, at the first boundary; the cuts ascend, up to the horizon.
 abbrev pub FitPlansAreWellCut : Type 0
 FitPlansAreWellCut =
-    (list : List Posting) (factor : Fraction) (cuts : List Time) (horizon : Time) → IsNarrow list horizon.seconds → IsFitPlan list factor cuts horizon.seconds
-    → (1 ≤ length cuts) × (length cuts ≤ 1048575) × IsStrictlyIncreasing (map (λ (t : Time). t.seconds) (cuts ++ horizon ∷ []))
+    (kind : Kind) (list : List Posting) (factor : Fraction) (cuts : List Time) (horizon : Time) → IsFitFor kind list factor cuts horizon.seconds
+    → (1 ≤ length cuts) × BeginsFirst list cuts horizon.seconds × IsStrictlyIncreasing (map (λ (t : Time). t.seconds) (cuts ++ horizon ∷ []))

@@ -1,16 +1,18 @@
 //! The test of a stored plan.
-ghost use Rattle.std.specs.Prelude.{◌≡◌, ℕ, ◌<◌, ◌≤◌, ◌^◌, ◌↔◌, List, [], ◌∷◌, ◌++◌, map, drop, length, slice_index, All, IsTrue, IsSome, IfSome, IfOk};
+ghost use Rattle.std.specs.Prelude.{◌≡◌, ℕ, ◌-◌, ◌<◌, ◌≤◌, ◌^◌, ◌↔◌, List, [], ◌∷◌, ◌++◌, map, drop, length, slice_index, All, IsTrue, IsSome, IfSome, IfOk};
 ghost use Rattle.time_base.specs.declared.time.Time.{Time};
 ghost use Rattle.time_base.specs.declared.posting.Posting.{Posting};
 ghost use Rattle.elementary.specs.Counts.{Tabulates};
 ghost use Rattle.elementary.specs.Partitions.{IsPartition, IsFitting, Covers};
-ghost use Rattle.stored_plans.specs.Plans.{IsNarrow, IsFitPlan};
+ghost use Rattle.stored_plans.specs.Plans.{IsNarrow, IsFitPlan, IsCappedPlan, IsFitFor};
 
+use crate::capping::keeps_cap;
+use commands::Kind;
 use elementary::{Partition, Table};
 use std::alloc::{AllocError, Global};
 use time_base::{Fraction, Posting, Time};
 
-/// The most boundaries that a plan may have.
+/// The most boundaries of a list whose plan keeps to a guarantee.
 const WIDEST: usize = 1_048_576;
 
 /// The cuts in seconds, and then the horizon.
@@ -61,10 +63,9 @@ fn is_fit_plan(
     }
 }
 
-/// Whether a plan of a list may be loaded: the list has at most 1,048,576 boundaries, and the cuts with
-/// the horizon are an admissible partition at boundaries, from the first one on. Costs time in
-/// `n log n` for `n` postings, and in the cuts; memory in both.
-pub fn is_fit(
+/// Whether the list has at most 1,048,576 boundaries, and the cuts with the horizon are an admissible
+/// partition at boundaries, from the first one on.
+fn is_fit_guarantee(
     alloc: Global,
     list: &[Posting],
     factor: Fraction,
@@ -81,4 +82,68 @@ pub fn is_fit(
         return Ok(false);
     }
     is_fit_plan(alloc, &table, factor, cuts, horizon)
+}
+
+/// Whether the cuts with the horizon are a partition from the table's first boundary that keeps the
+/// bound on space. Costs time in the cuts and the logarithm of the boundaries for each, and memory in
+/// the cuts.
+fn is_capped_plan(
+    alloc: Global,
+    table: &Table,
+    factor: Fraction,
+    cuts: &[Time],
+    horizon: Time,
+) -> Result<bool, AllocError>
+    requires last { slice_index table.now.boundaries (length table.now.boundaries - 1) ≡ horizon.seconds }
+    ensures { IfOk result (λ b. (list : List Posting) → Tabulates list horizon.seconds table.now → (IsTrue b ↔ IsCappedPlan list factor cuts.now horizon.seconds)) }
+{
+    let Some(partition) = partition_of(alloc, cuts, horizon)? else {
+        return Ok(false);
+    };
+    Ok(keeps_cap(table, &partition, factor))
+}
+
+/// Whether the cuts with the horizon are a partition from the list's first boundary that keeps the bound
+/// on space.
+fn is_fit_space(
+    alloc: Global,
+    list: &[Posting],
+    factor: Fraction,
+    cuts: &[Time],
+    horizon: Time,
+) -> Result<bool, AllocError>
+    requires some { 0 < length list.now }
+    requires few { length list.now < 2 ^ 38 }
+    requires early { All (λ p. p.span.to ≤ horizon.seconds) list.now }
+    ensures { IfOk result (λ b. IsTrue b ↔ IsCappedPlan list.now factor cuts.now horizon.seconds) }
+{
+    let table = Table::new(alloc, list, horizon)?;
+    let fit = is_capped_plan(alloc, &table, factor, cuts, horizon)?;
+    Ok(fit)
+}
+
+/// Whether a plan of a list may be loaded. One that keeps to a guarantee: the list has at most 1,048,576
+/// boundaries, and the cuts with the horizon are an admissible partition at boundaries, from the first
+/// one on. One under a space bound: the cuts with the horizon are a partition from the first boundary
+/// on, cut anywhere, of which the segments together have at most the factor times the list's postings.
+/// Costs time in `n log n` for `n` postings, and in the cuts, for a space bound with the logarithm of
+/// `n` for each; memory in both.
+pub fn is_fit(
+    alloc: Global,
+    list: &[Posting],
+    kind: Kind,
+    factor: Fraction,
+    cuts: &[Time],
+    horizon: Time,
+) -> Result<bool, AllocError>
+    requires some { 0 < length list.now }
+    requires few { length list.now < 2 ^ 38 }
+    requires early { All (λ p. p.span.to ≤ horizon.seconds) list.now }
+    ensures { IfOk result (λ b. IsTrue b ↔ IsFitFor kind list.now factor cuts.now horizon.seconds) }
+{
+    match kind {
+        Kind::Guarantee => is_fit_guarantee(alloc, list, factor, cuts, horizon),
+        Kind::Uniform => is_fit_space(alloc, list, factor, cuts, horizon),
+        Kind::Since { .. } => is_fit_space(alloc, list, factor, cuts, horizon),
+    }
 }
