@@ -1,0 +1,104 @@
+-- Partitions as plans.
+use Rattle.std.proofs.Common.{◌≡◌, ℕ, ◌+◌, ◌-◌, ◌^◌, ◌<◌, ◌≤◌, List, [], ◌∷◌, ◌++◌, length, map, take, drop, ap, sym, subst, ◌∙◌, arith}
+use Rattle.std.specs.Prelude.{slice_index}
+use Rattle.std.specs.List.Sorted.{IsStrictlyIncreasing}
+use Rattle.std.proofs.lemmas.List.{get_or-take, length-take, length-drop}
+use Rattle.std.proofs.lemmas.List.Elements.{Contains-get_or}
+use Rattle.time_base.specs.declared.fraction.Fraction.{Fraction}
+use Rattle.time_base.specs.declared.posting.Posting.{Posting}
+use Rattle.time_base.specs.declared.time.Span.{Span}
+use Rattle.time_base.specs.declared.time.Time.{Time}
+use Rattle.elementary.specs.Boundaries.{IsBoundary}
+use Rattle.elementary.specs.Counts.{Counts, Tabulates}
+use Rattle.elementary.specs.Partitions.{widest, IsFitting, IsLeast, space}
+use Rattle.elementary.proofs.Narrow.{narrow}
+use Rattle.elementary.proofs.Places.{rises}
+use Rattle.elementary.proofs.Tables.{some_time, first_le, last_is_horizon}
+use Rattle.space_planner.specs.Costs.{expected_cost}
+use Rattle.space_planner.specs.Loads.{AreWeights}
+use Rattle.space_planner.specs.Plans.{IsBestUnder}
+use Rattle.space_planner.proofs.FunctionLemmas.{by_function}
+use Rattle.space_planner.proofs.ShortLemmas.{short}
+use Rattle.stored_plans.specs.Plans.{IsLeastPlan, IsBestPlan, IsPlanCost, each_second, each_second_since, plan_space}
+use Rattle.plan_choice.specs.Bests.{IsBestFor}
+
+-- ---- cuts as times
+
+-- each cut but the last lies before the last
+pub early_cut : (cuts : List ℕ) (horizon k : ℕ) → IsStrictlyIncreasing cuts → slice_index cuts (length cuts - 1) ≡ horizon → k < length (take (length cuts - 1) cuts) → slice_index (take (length cuts - 1) cuts) k < horizon
+early_cut cuts horizon k up last below =
+    let inside : k < length cuts - 1 = omega (arith, length-take (length cuts - 1) cuts) in
+    omega (arith, rises cuts up k (length cuts - 1) inside (omega arith), last, get_or-take (length cuts - 1) cuts k 0 inside)
+
+-- the last cut is the horizon
+pub last_cut : (list : List Posting) (horizon : ℕ) (table : Counts) (cuts : List ℕ) → Tabulates list horizon table → IsFitting table.boundaries cuts → slice_index cuts (length cuts - 1) ≡ horizon
+last_cut list horizon table cuts t fits = fits.last ∙ last_is_horizon list horizon table.boundaries t.boundaries t.early
+
+pub some_cut : (p : List ℕ) (cuts : List Time) (h : ℕ) → 2 ≤ length p → map (λ (t : Time). t.seconds) cuts ++ h ∷ [] ≡ p → 0 < length cuts
+some_cut p [] h many same = absurd (omega (arith, many, ap length same))
+some_cut p (f ∷ cuts) h many same = omega arith
+
+-- the space of a partition is that of the plan
+pub space_of : (list : List Posting) (p : List ℕ) (cuts : List Time) (h n : ℕ) → 0 < length cuts → map (λ (t : Time). t.seconds) cuts ++ h ∷ [] ≡ p
+    → n ≡ space list (slice_index p 0) (drop 1 p) → n ≡ plan_space list cuts h
+space_of list p [] h n some same is = absurd (omega (arith, some))
+space_of list p (f ∷ cuts) h n some same is = is ∙ ap (λ (p : List ℕ). space list (slice_index p 0) (drop 1 p)) (sym same)
+
+-- ---- least ones
+
+-- a least partition of a list with few enough boundaries has few cuts
+pub few_cuts : (list : List Posting) (factor : Fraction) (horizon : ℕ) (table : Counts) (cuts : List ℕ) → Tabulates list horizon table → 2 ≤ length cuts → length table.boundaries ≤ widest
+    → IsLeast list factor (slice_index cuts 0) (drop 1 cuts) horizon → length cuts ≤ 2 ^ 24 + 1
+few_cuts list factor horizon table cuts t many within least =
+    let few = narrow list factor horizon table.boundaries (slice_index cuts 0) (drop 1 cuts) horizon t.boundaries least.first.is least.at_boundaries least.covers in
+    omega (arith, few.1, within, length-drop 1 cuts)
+
+-- cuts that are a least partition are a least plan
+pub least_plan_of : (list : List Posting) (factor : Fraction) (p : List ℕ) (cuts : List Time) (h : ℕ) → 0 < length cuts → map (λ (t : Time). t.seconds) cuts ++ h ∷ [] ≡ p
+    → IsLeast list factor (slice_index p 0) (drop 1 p) h → IsLeastPlan list factor cuts h
+least_plan_of list factor p [] h some same least = absurd (omega (arith, some))
+least_plan_of list factor p (f ∷ cuts) h some same least = subst (λ (p : List ℕ). IsLeast list factor (slice_index p 0) (drop 1 p) h) (sym same) least
+
+-- ---- best ones
+
+-- a best partition by the answers of a load that answers by a function
+pub best_by_function : (Answers : Span → ℕ → Type 0) (weight : ℕ → ℕ → ℕ) (table : Counts) (factor : Fraction) (cuts weights : List ℕ) (cost : ℕ) → ((span : Span) (n : ℕ) → Answers span n → n ≡ weight span.from span.to)
+    → AreWeights Answers table.boundaries weights
+    → ((list : List Posting) (horizon : ℕ) → Tabulates list horizon table → IsBestUnder list table.boundaries weights factor (slice_index cuts 0) horizon (drop 1 cuts)
+    × (cost ≡ expected_cost list (slice_index cuts 0) (drop 1 cuts) table.boundaries weights)) → IsBestFor weight table factor cuts cost
+best_by_function Answers weight table factor cuts weights cost answers are best =
+    subst (λ (ws : List ℕ). (list : List Posting) (horizon : ℕ) → Tabulates list horizon table → IsBestUnder list table.boundaries ws factor (slice_index cuts 0) horizon (drop 1 cuts)
+    × (cost ≡ expected_cost list (slice_index cuts 0) (drop 1 cuts) table.boundaries ws))
+    (by_function Answers weight table.boundaries weights answers are) best
+
+-- it has few cuts
+pub few_best : (load : ℕ → ℕ → ℕ) (list : List Posting) (factor : Fraction) (horizon : ℕ) (table : Counts) (cuts : List ℕ) (cost : ℕ) → Tabulates list horizon table → IsFitting table.boundaries cuts
+    → IsBestFor load table factor cuts cost → length cuts ≤ 2 ^ 24 + 1
+few_best load list factor horizon table cuts cost t fits best =
+    omega (arith, short list table.boundaries factor (slice_index cuts 0) horizon (drop 1 cuts) t.boundaries.ascending (sym fits.first) (best list horizon t).0.eligible, length-drop 1 cuts)
+
+-- and its cuts are a best plan with its cost
+pub best_plan_of : (load : ℕ → ℕ → ℕ) (list : List Posting) (factor : Fraction) (h : ℕ) (table : Counts) (p : List ℕ) (cuts : List Time) (cost : ℕ) → Tabulates list h table → IsFitting table.boundaries p → 0 < length cuts
+    → map (λ (t : Time). t.seconds) cuts ++ h ∷ [] ≡ p → IsBestFor load table factor p cost → IsBestPlan load list factor cuts h × IsPlanCost load list cuts h cost
+best_plan_of load list factor h table p [] cost t fits some same best = absurd (omega (arith, some))
+best_plan_of load list factor h table p (f ∷ cuts) cost t fits some same best =
+    let here = subst (λ (p : List ℕ). IsBestFor load table factor p cost) (sym same) best list h t in
+    let first : f.seconds ≡ slice_index table.boundaries 0 = ap (λ (p : List ℕ). slice_index p 0) same ∙ fits.first in (
+      record {
+        first = record {
+          is = subst (λ x. IsBoundary list h x) (sym first) ((t.boundaries.each _).0 (Contains-get_or table.boundaries 0 0 (some_time list h table.boundaries t.boundaries)));
+          none_before = λ x c. omega (arith, first, first_le table.boundaries t.boundaries.ascending x ((t.boundaries.each x).1 c));
+        };
+        times = table.boundaries;
+        times_are = t.boundaries;
+        best = here.0;
+      },
+      (table.boundaries, t.boundaries, here.1),
+    )
+
+-- each second from the first on is each second
+pub since_first : each_second_since 0 ≡ each_second
+since_first = λ i f g. since_nought f g i
+  where
+    since_nought : (f g : ℕ) → each_second_since 0 f g ≡ each_second f g
+    since_nought f g = ap (λ n. g - n) (omega arith)

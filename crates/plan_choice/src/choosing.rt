@@ -1,0 +1,103 @@
+//! Plans by their kind.
+ghost use Rattle.std.specs.Prelude.{◌≡◌, ◌<◌, ◌≤◌, ◌^◌, ℕ, List, length, drop, slice_index, All, IfOk, IsErrOf, Some, None};
+ghost use Rattle.time_base.specs.declared.posting.Posting.{Posting as PlainPosting};
+ghost use Rattle.elementary.specs.Boundaries.{AreBoundaries};
+ghost use Rattle.elementary.specs.Counts.{Tabulates};
+ghost use Rattle.elementary.specs.Partitions.{IsFitting, IsLeast, widest};
+ghost use Rattle.stored_plans.specs.Plans.{IsNarrow, IsLeastPlan, IsBestPlan, IsPlanCost, IsGoodPlan, IsCostOf, each_second_since, plan_space};
+
+use crate::choice::{Choice, ChoiceError};
+use crate::loads::best_since;
+use crate::parts::choice_of;
+use commands::Kind;
+use elementary::{Partition, Table};
+use guarantee_planner::{PlanError, plan};
+use std::alloc::Global;
+use time_base::{Fraction, Posting, Time};
+
+/// A plan of a list up to the horizon that is what its kind promises: a least one of those that keep to
+/// a guarantee; or, of those that may be chosen under a bound on space, one whose reads are expected to
+/// cost least.
+///
+/// `TooWide`: the plan is to keep to a guarantee, and the list has more than 1,048,576 boundaries. Costs
+/// time in `n log n` for `n` postings, and in what the planner of its kind needs; memory in both.
+pub fn choose(
+    alloc: Global,
+    list: &[Posting],
+    kind: Kind,
+    factor: Fraction,
+    horizon: Time,
+) -> Result<Choice, ChoiceError>
+    requires some { 0 < length list.now }
+    requires few { length list.now < 2 ^ 38 }
+    requires early { All (λ p. p.span.to ≤ horizon.seconds) list.now }
+    ensures good { IfOk result (λ c. IsGoodPlan kind list.now factor c.cuts.items horizon.seconds) }
+    ensures space { IfOk result (λ c. c.space ≡ plan_space list.now c.cuts.items horizon.seconds) }
+    ensures cost { IfOk result (λ c. IsCostOf kind list.now c.cuts.items horizon.seconds c.cost) }
+    ensures wide { (n : ℕ) → IsErrOf result (ChoiceError.TooWide n) → (kind ≡ Kind.Guarantee) × ((times : List ℕ) × AreBoundaries list.now horizon.seconds times × (widest < length times) × (n ≡ length times)) }
+{
+    match kind {
+        Kind::Guarantee => least(alloc, list, factor, horizon),
+        Kind::Uniform => best(alloc, list, factor, 0, horizon),
+        Kind::Since { at } => best(alloc, list, factor, at.seconds(), horizon),
+    }
+}
+
+/// A least plan of a list that keeps to a guarantee.
+fn least(
+    alloc: Global,
+    list: &[Posting],
+    factor: Fraction,
+    horizon: Time,
+) -> Result<Choice, ChoiceError>
+    requires some { 0 < length list.now }
+    requires few { length list.now < 2 ^ 38 }
+    requires early { All (λ p. p.span.to ≤ horizon.seconds) list.now }
+    ensures narrow { IfOk result (λ _. IsNarrow list.now horizon.seconds) }
+    ensures least { IfOk result (λ c. IsLeastPlan list.now factor c.cuts.items horizon.seconds) }
+    ensures space { IfOk result (λ c. c.space ≡ plan_space list.now c.cuts.items horizon.seconds) }
+    ensures cost { IfOk result (λ c. c.cost ≡ None) }
+    ensures wide { (n : ℕ) → IsErrOf result (ChoiceError.TooWide n) → (times : List ℕ) × AreBoundaries list.now horizon.seconds times × (widest < length times) × (n ≡ length times) }
+{
+    let table = Table::new(alloc, list, horizon)?;
+    let partition = planned(alloc, &table, factor)?;
+    let choice = choice_of(alloc, &table, &partition, None, horizon)?;
+    Ok(choice)
+}
+
+/// A least partition, or that there are too many boundaries.
+fn planned(alloc: Global, table: &Table, factor: Fraction) -> Result<Partition, ChoiceError>
+    ensures within { IfOk result (λ _. length table.now.boundaries ≤ widest) }
+    ensures wide { (n : ℕ) → IsErrOf result (ChoiceError.TooWide n) → (widest < length table.now.boundaries) × (n ≡ length table.now.boundaries) }
+    ensures fits { IfOk result (λ p. IsFitting table.now.boundaries p) }
+    ensures least { IfOk result (λ p. (list : List PlainPosting) (horizon : ℕ) → Tabulates list horizon table.now → IsLeast list factor (slice_index p 0) (drop 1 p) horizon) }
+{
+    match plan(alloc, table, factor) {
+        Ok((partition, _)) => Ok(partition),
+        Err(PlanError::TooWide { boundaries }) => Err(ChoiceError::TooWide { boundaries }),
+        Err(PlanError::Memory) => Err(ChoiceError::Memory),
+    }
+}
+
+/// A best plan of a list under a bound on space, where each second from a time on is as likely to be
+/// asked for.
+fn best(
+    alloc: Global,
+    list: &[Posting],
+    factor: Fraction,
+    since: u64,
+    horizon: Time,
+) -> Result<Choice, ChoiceError>
+    requires some { 0 < length list.now }
+    requires few { length list.now < 2 ^ 38 }
+    requires early { All (λ p. p.span.to ≤ horizon.seconds) list.now }
+    ensures best { IfOk result (λ c. IsBestPlan (each_second_since since) list.now factor c.cuts.items horizon.seconds) }
+    ensures space { IfOk result (λ c. c.space ≡ plan_space list.now c.cuts.items horizon.seconds) }
+    ensures cost { IfOk result (λ c. (n : ℕ) × IsPlanCost (each_second_since since) list.now c.cuts.items horizon.seconds n × (c.cost ≡ Some n)) }
+    ensures narrow { (n : ℕ) → IsErrOf result (ChoiceError.TooWide n) → ⊥ }
+{
+    let table = Table::new(alloc, list, horizon)?;
+    let (partition, cost) = best_since(alloc, &table, factor, since)?;
+    let choice = choice_of(alloc, &table, &partition, Some(cost), horizon)?;
+    Ok(choice)
+}

@@ -1,0 +1,18 @@
+//! A plan of a list, chosen by its kind: a least one that keeps to a guarantee, or one under a bound on
+//! space whose reads are expected to cost least, where each second is as likely to be asked for, or
+//! each second from a time on.
+//!
+//! What is chosen is what its kind promises (`IsGoodPlan` of `stored_plans`), with the space that it
+//! takes and, under a bound on space, what its reads are expected to cost.
+#![tactic(auto)]
+
+mod choice;
+mod choosing;
+mod loads;
+mod parts;
+
+pub use choice::{Choice, ChoiceError};
+pub use choosing::choose;
+
+#[cfg(test)]
+mod tests;
