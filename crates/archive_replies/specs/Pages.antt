@@ -8,4 +8,4 @@ pub record Page : Type 0 where
 
 -- the room of an empty page is at least this: enough for any reply that takes no memory
 abbrev pub reply_room : ℕ
-reply_room = 160
+reply_room = 192

@@ -1,7 +1,7 @@
 //! A page on which replies are written.
 ghost use Rattle.std.specs.Prelude.{◌≡◌, ◌+◌, ◌≤◌, [], ◌++◌, length, codes, decimal, Some, None, IfOk, OnOk, OnErr};
 ghost use Rattle.archive_replies.specs.Pages.{reply_room};
-ghost use Rattle.archive_state.specs.Replies.{detail_text, end_text, node_text, reply_text, row_text, segment_text, space_text, span_text, which_text};
+ghost use Rattle.archive_state.specs.Replies.{cost_text, detail_text, end_text, node_text, reply_text, row_text, segment_text, space_text, span_text, which_text};
 ghost use Rattle.archive_state.specs.Steps.{Accepted, Refused, Found, Spanned, Shown, Proposed, Planned};
 
 use archive_state::Refusal;
@@ -14,7 +14,7 @@ use time_base::{Span, Which};
 
 /// The bytes that a page has room for at least: more than the longest reply that takes no memory,
 /// and than any line of an answer.
-pub const REPLY_ROOM: usize = 160;
+pub const REPLY_ROOM: usize = 192;
 
 /// What is told of a plan that was stored.
 #[derive(Clone, Copy, Debug, PartialEq, Eq)]
@@ -29,6 +29,8 @@ pub struct Summary {
     pub full: u64,
     /// The horizon, in seconds since 1970-01-01 UTC.
     pub horizon: u64,
+    /// What its reads are expected to cost, in postings read, of a plan under a space bound.
+    pub cost: Option<u128>,
 }
 
 /// A page on which one reply at a time is written. The memory for replies of one short line is taken
@@ -145,6 +147,7 @@ impl ReplyPage {
           space = summary.space;
           full = summary.full;
           horizon = summary.horizon;
+          cost = summary.cost;
         })) }
     {
         self.clear();
@@ -153,6 +156,7 @@ impl ReplyPage {
         self.put_named(b" space ", summary.space);
         self.put_named(b" full ", summary.full);
         self.put_named(b" horizon ", summary.horizon);
+        self.put_cost(summary.cost);
         self.put(b"\n");
     }
 
@@ -290,6 +294,21 @@ impl ReplyPage {
     {
         let mut buffer = Buffer::new();
         self.put(buffer.format(n).as_bytes());
+    }
+
+    /// Adds what reads are expected to cost, if that is known, in decimal. It takes no memory. Constant
+    /// cost.
+    fn put_cost(&mut self, cost: Option<u128>)
+        requires { 45 ≤ self.old.room }
+        ensures bytes { self.new.bytes ≡ self.old.bytes ++ cost_text cost }
+        ensures room { self.old.room ≤ self.new.room + 45 }
+    {
+        let Some(cost) = cost else {
+            return;
+        };
+        let mut buffer = Buffer::new();
+        self.put(b" cost ");
+        self.put(buffer.format(cost).as_bytes());
     }
 
     /// Adds a name and a number behind it. It takes no memory. Constant cost.

@@ -140,11 +140,36 @@ fn stored_plans_are_answered_by_one_line(rt: HostRuntime) -> Result<(), Fail> {
         space: 4,
         full: 2,
         horizon: 40,
+        cost: None,
     });
     assert_eq!(rt;
         page.as_bytes(),
         "plan 5 segments 3 space 4 full 2 horizon 40\n".as_bytes()
     );
+    Ok(())
+}
+
+#[test]
+fn a_plan_under_a_space_bound_is_answered_with_its_cost(rt: HostRuntime) -> Result<(), Fail> {
+    let mut page = ReplyPage::new(rt.alloc())?;
+    for (cost, text) in [
+        (60, "plan 5 segments 1 space 2 full 2 horizon 40 cost 60\n"),
+        (0, "plan 5 segments 1 space 2 full 2 horizon 40 cost 0\n"),
+        (
+            18446744073709551616,
+            "plan 5 segments 1 space 2 full 2 horizon 40 cost 18446744073709551616\n",
+        ),
+    ] {
+        page.planned(Summary {
+            length: 5,
+            segments: 1,
+            space: 2,
+            full: 2,
+            horizon: 40,
+            cost: Some(cost),
+        });
+        assert_eq!(rt; page.as_bytes(), text.as_bytes());
+    }
     Ok(())
 }
 
@@ -157,11 +182,13 @@ fn a_new_page_has_room_for_the_greatest_numbers(rt: HostRuntime) -> Result<(), F
         space: u64::MAX,
         full: u64::MAX,
         horizon: u64::MAX,
+        cost: Some(u128::MAX),
     });
     assert_eq!(rt;
         page.as_bytes(),
-        "plan 18446744073709551615 segments 18446744073709551615 space 18446744073709551615 full 18446744073709551615 horizon 18446744073709551615\n".as_bytes()
+        "plan 18446744073709551615 segments 18446744073709551615 space 18446744073709551615 full 18446744073709551615 horizon 18446744073709551615 cost 340282366920938463463374607431768211455\n".as_bytes()
     );
+    assert_eq!(rt; page.as_bytes().len(), 183);
     Ok(())
 }
 

@@ -23,14 +23,16 @@ use Rattle.postings.proofs.Clipping.{clip_of_list_of, one_list_of}
 use Rattle.record_codec.specs.declared.plan.PlanEntry.{PlanEntry}
 use Rattle.sublist_store.specs.Segments.{next_cut, seconds, AreCutsOf}
 use Rattle.sublist_store.specs.Gathering.{stored_size}
-use Rattle.stored_plans.specs.Plans.{IsNarrow, IsFitPlan}
-use Rattle.stored_plans.proofs.PlanLemmas.{well_cut}
+use Rattle.space_planner.specs.Caps.{cap}
+use Rattle.stored_plans.specs.Laws.{BeginsFirst}
+use Rattle.stored_plans.specs.Plans.{IsFitFor, IsFitPlan, IsCappedPlan, plan_space}
+use Rattle.stored_plans.proofs.GoodLemmas.{fit_well_cut}
 use Rattle.archive_state.specs.declared.stored.StoredPlan.{StoredPlan}
 use Rattle.archive_state.specs.Histories.{History}
 use Rattle.archive_state.specs.Answers.{frequency_at, IsWordList}
-use Rattle.archive_state.specs.Bounds.{PlannedReadsAreBounded}
+use Rattle.archive_state.specs.Bounds.{PlannedReadsAreBounded, PlannedSpaceIsCapped}
 use Rattle.archive_state.specs.Chosen.{tail_for}
-use Rattle.archive_state.specs.Legal.{Suits, MayBePlanned, IsLoadable}
+use Rattle.archive_state.specs.Legal.{MayBePlanned, IsLoadable}
 use Rattle.archive_state.specs.Planning.{IsListUpTo}
 use Rattle.archive_state.specs.Plans.{first_plan, live_plans, plan_of}
 use Rattle.archive_state.proofs.CertifyingLemmas.{live_has}
@@ -52,25 +54,18 @@ of_word h word plan live =
 pub word_has : (P : PlanEntry → Type 0) (h : History) (word : List ℕ) (plan : PlanEntry) → All (λ stored. P stored.plan) (live_plans h) → plan_of h word ≡ Some plan → P plan
 word_has P h word plan all live = live_has P (λ stored. bytes_eq stored.plan.word word) (live_plans h) plan all live
 
--- its list, and that it suits the list
+-- its list, and that it is fit for the list
 pub record IsPlanned (h : History) (word : List ℕ) (plan : PlanEntry) : Type 0 where
   pub list : List Posting
   pub list_is : IsListUpTo h word plan.horizon.seconds list
   pub some : 0 < length list
-  pub narrow : IsNarrow list plan.horizon.seconds
-  pub fit : IsFitPlan list plan.fraction plan.cuts plan.horizon.seconds
-
-guaranteed : (list : List Posting) (plan : PlanEntry) (kind : Kind) → Suits IsFitPlan list plan kind → IsNarrow list plan.horizon.seconds × IsFitPlan list plan.fraction plan.cuts plan.horizon.seconds
-guaranteed list plan Guarantee suits = suits
-guaranteed list plan Uniform suits = absurd suits
-guaranteed list plan (Since at) suits = absurd suits
+  pub fit : IsFitFor plan.kind list plan.fraction plan.cuts plan.horizon.seconds
 
 pub word_planned : (h : History) (word : List ℕ) (plan : PlanEntry) → IsLoadable h → plan_of h word ≡ Some plan → IsPlanned h word plan
 word_planned h word plan loads live =
-    let may = word_has (λ p. MayBePlanned IsFitPlan h p) h word plan (live_planned IsFitPlan h loads) live in
-    let suits = guaranteed may.list plan plan.kind may.suits in
+    let may = word_has (λ p. MayBePlanned IsFitFor h p) h word plan (live_planned IsFitFor h loads) live in
     let L : List ℕ → Type 0 = λ w. IsListUpTo h w plan.horizon.seconds may.list in
-    record { list = may.list; list_is = subst L (of_word h word plan live) may.list_is; some = may.some; narrow = suits.0; fit = suits.1 }
+    record { list = may.list; list_is = subst L (of_word h word plan live) may.list_is; some = may.some; fit = may.suits }
 
 -- ---- its cuts
 
@@ -113,19 +108,23 @@ module _ (list : List Posting) (h f : ℕ) (some : 0 < length list) (inside : Al
       ]
 
 -- the cuts of a fit plan are those of its list
-pub are_cuts : (list : List Posting) (factor : Fraction) (cuts : List Time) (horizon : Time) → IsList list → 0 < length list → All (λ p. (0 ≤ p.span.from) × (p.span.to ≤ horizon.seconds)) list
-    → IsNarrow list horizon.seconds → IsFitPlan list factor cuts horizon.seconds → AreCutsOf list (seconds cuts) horizon.seconds
-are_cuts list factor [] horizon ordered some inside narrow fit = absurd fit
-are_cuts list factor (f ∷ cuts) horizon ordered some inside narrow fit =
-    let (p, there, begins) = first_begins list horizon.seconds f.seconds some inside fit.first in
-    record {
-      ordered = ordered;
-      ascending = subst (λ (xs : List ℕ). IsStrictlyIncreasing xs) (map-append (λ (t : Time). t.seconds) (f ∷ cuts) (horizon ∷ [])) (well_cut list factor (f ∷ cuts) horizon narrow fit).2;
-      first = p;
-      among = there;
-      begins = begins;
-      inside = λ k d within. (lowest list horizon.seconds f.seconds some inside fit.first k d within, (inside k d within).1);
-    }
+pub are_cuts : (kind : Kind) (list : List Posting) (factor : Fraction) (cuts : List Time) (horizon : Time) → IsList list → 0 < length list → All (λ p. (0 ≤ p.span.from) × (p.span.to ≤ horizon.seconds)) list
+    → IsFitFor kind list factor cuts horizon.seconds → AreCutsOf list (seconds cuts) horizon.seconds
+are_cuts kind list factor cuts horizon ordered some inside fit = let cut = fit_well_cut kind list factor cuts horizon fit in cut_list_of list cuts horizon ordered some inside cut.1 cut.2
+  where
+    cut_list_of : (list : List Posting) (cuts : List Time) (horizon : Time) → IsList list → 0 < length list → All (λ p. (0 ≤ p.span.from) × (p.span.to ≤ horizon.seconds)) list
+        → BeginsFirst list cuts horizon.seconds → IsStrictlyIncreasing (map (λ (t : Time). t.seconds) (cuts ++ horizon ∷ [])) → AreCutsOf list (seconds cuts) horizon.seconds
+    cut_list_of list [] horizon ordered some inside begins ascending = absurd begins
+    cut_list_of list (f ∷ cuts) horizon ordered some inside at ascending =
+        let (p, there, begins) = first_begins list horizon.seconds f.seconds some inside at in
+        record {
+          ordered = ordered;
+          ascending = subst (λ (xs : List ℕ). IsStrictlyIncreasing xs) (map-append (λ (t : Time). t.seconds) (f ∷ cuts) (horizon ∷ [])) ascending;
+          first = p;
+          among = there;
+          begins = begins;
+          inside = λ k d within. (lowest list horizon.seconds f.seconds some inside at k d within, (inside k d within).1);
+        }
 
 -- ---- the segment that holds a time
 
@@ -239,15 +238,39 @@ no_tail b h list within = go (nat_lt h b) refl
     go true past = absurd (grind (arith, nat_tests))
     go false past = refl
 
+-- a plan of this kind keeps to a guarantee
+guaranteed : (list : List Posting) (factor : Fraction) (cuts : List Time) (h : ℕ) (kind : Kind) → kind ≡ Guarantee → IsFitFor kind list factor cuts h → IsFitPlan list factor cuts h
+guaranteed list factor cuts h Guarantee is fit = fit.1
+guaranteed list factor cuts h Uniform is fit = absurd cc
+guaranteed list factor cuts h (Since at) is fit = absurd cc
+
 pub planned_bounded : PlannedReadsAreBounded
-planned_bounded h word plan list t read loads live whole from to (sealed, those, up_to, them, is) =
+planned_bounded h word plan list t read loads live kind whole from to (sealed, those, up_to, them, is) =
     let horizon = plan.horizon.seconds in
     let f : ℕ → ℕ → ℕ = λ doc t. frequency_at h word (record { 0 = doc }) t in
     let planned = word_planned h word plan loads live in
     let same = one_list_of f 0 horizon planned.list sealed planned.list_is up_to in
-    let one = read_is sealed plan.fraction plan.cuts horizon t (subst (λ (l : List Posting). IsFitPlan l plan.fraction plan.cuts horizon) same planned.fit) from to in
+    let one = read_is sealed plan.fraction plan.cuts horizon t (subst (λ (l : List Posting). IsFitPlan l plan.fraction plan.cuts horizon) same (guaranteed planned.list plan.fraction plan.cuts horizon plan.kind kind planned.fit)) from to in
     let all : read ≡ size one.from one.to sealed = omega (arith, is, no_tail (t + 1) horizon those (omega (arith, to)), one.is) in
     let now : horizon < 2 ^ 40 = plan.horizon.before_now in
     let B : ℕ → ℕ → Type 0 = λ n alive. n * plan.fraction.under ≤ plan.fraction.over * alive in
     subst (λ (alive : ℕ). B read alive) (same_alive h word horizon t sealed list (omega (arith, now)) to up_to whole)
     (subst (λ (n : ℕ). B n (alive_count t sealed)) (sym all) (one.admissible t one.begun one.over))
+
+-- a plan of another kind keeps its bound on space
+within : (list : List Posting) (factor : Fraction) (cuts : List Time) (h : ℕ) → IsCappedPlan list factor cuts h → plan_space list cuts h ≤ cap factor (length list)
+within list factor [] h fit = absurd fit
+within list factor (f ∷ cuts) h fit = fit.capped
+
+capped : (list : List Posting) (factor : Fraction) (cuts : List Time) (h : ℕ) (kind : Kind) → (kind ≡ Guarantee → ⊥) → IsFitFor kind list factor cuts h → plan_space list cuts h ≤ cap factor (length list)
+capped list factor cuts h Guarantee other fit = absurd (other refl)
+capped list factor cuts h Uniform other fit = within list factor cuts h fit
+capped list factor cuts h (Since at) other fit = within list factor cuts h fit
+
+pub planned_capped : PlannedSpaceIsCapped
+planned_capped h word plan list loads live other up_to =
+    let horizon = plan.horizon.seconds in
+    let planned = word_planned h word plan loads live in
+    let same = one_list_of (λ doc t. frequency_at h word (record { 0 = doc }) t) 0 horizon planned.list list planned.list_is up_to in
+    let C : List Posting → Type 0 = λ l. plan_space l plan.cuts horizon ≤ cap plan.fraction (length l) in
+    subst C same (capped planned.list plan.fraction plan.cuts horizon plan.kind other planned.fit)

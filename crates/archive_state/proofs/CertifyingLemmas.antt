@@ -15,12 +15,12 @@ use Rattle.proposals.proofs.Pieces.{differ_in_segments}
 use Rattle.proposals.proofs.Begins.{each_least_is_shown, begin_once}
 use Rattle.record_codec.specs.declared.plan.PlanEntry.{PlanEntry}
 use Rattle.sublist_store.specs.Segments.{seconds}
-use Rattle.stored_plans.specs.Plans.{IsLeastPlan, later}
+use Rattle.stored_plans.specs.Plans.{IsLeastPlan, IsGoodPlan, later}
 use Rattle.archive_state.specs.declared.refusal.Refusal.TheVariants as refusals
 use Rattle.archive_state.specs.declared.stored.StoredPlan.{StoredPlan}
 use Rattle.archive_state.specs.Histories.{History, vocabulary}
 use Rattle.archive_state.specs.Answers.{frequency_at}
-use Rattle.archive_state.specs.Legal.{Suits, MayBePlanned, IsLegal}
+use Rattle.archive_state.specs.Legal.{MayBePlanned, IsLegal}
 use Rattle.archive_state.specs.Planning.{OfTerm}
 use Rattle.archive_state.specs.Plans.{first_plan, live_plans, plan_of}
 use Rattle.archive_state.specs.Steps.{Reply, Refused, Proposed, IsCertificate, ShowsPlan, ShowsLive, Certifies}
@@ -57,7 +57,8 @@ shown list factor (f ∷ cuts) horizon early least =
     let (segments, (nodes, (total, (proposal, begins, space)))) = each_least_is_shown list factor horizon.seconds f.seconds (later cuts horizon.seconds) (omega (arith, now)) early least in
     (segments, (nodes, (total, (proposal, last_cancels (map (λ (s : Segment). s.span.from) segments) (seconds (f ∷ cuts)) horizon.seconds begins))))
 
-plan_shown : (h : History) (plan : PlanEntry) (kind : Kind) → MayBePlanned IsLeastPlan h plan → ((list : List Posting) → Suits IsLeastPlan list plan plan.kind → Suits IsLeastPlan list plan kind) → (reply : Reply) × ShowsPlan h plan kind reply
+plan_shown : (h : History) (plan : PlanEntry) (kind : Kind) → MayBePlanned IsGoodPlan h plan
+    → ((list : List Posting) → IsGoodPlan plan.kind list plan.fraction plan.cuts plan.horizon.seconds → IsGoodPlan kind list plan.fraction plan.cuts plan.horizon.seconds) → (reply : Reply) × ShowsPlan h plan kind reply
 plan_shown h plan Guarantee may suits =
     let (narrow, least) = suits may.list may.suits in
     let early = All-weaker (λ (p : Posting). (0 ≤ p.span.from) × (p.span.to ≤ plan.horizon.seconds)) (λ (p : Posting). p.span.to ≤ plan.horizon.seconds) (λ p in_it. in_it.1) may.list may.list_is.inside in
@@ -66,7 +67,7 @@ plan_shown h plan Guarantee may suits =
 plan_shown h plan Uniform may suits = (Refused refusals.NoPlan, refl)
 plan_shown h plan (Since at) may suits = (Refused refusals.NoPlan, refl)
 
-live_shown : (h : History) (o : Option PlanEntry) → ((plan : PlanEntry) → o ≡ Some plan → MayBePlanned IsLeastPlan h plan) → (reply : Reply) × ShowsLive h o reply
+live_shown : (h : History) (o : Option PlanEntry) → ((plan : PlanEntry) → o ≡ Some plan → MayBePlanned IsGoodPlan h plan) → (reply : Reply) × ShowsLive h o reply
 live_shown h None may = (Refused refusals.NoPlan, refl)
 live_shown h (Some plan) may = plan_shown h plan plan.kind (may plan refl) (λ list suits. suits)
 
@@ -78,7 +79,7 @@ each_certifies h phrase legal = go (one_term phrase)
     go (Some word) = elim (known_or_not (vocabulary h) word) [
       | inr unknown ↦ (Refused refusals.UnknownWord, inl (unknown, refl))
       | inl known ↦
-          let (reply, shows) = live_shown h (plan_of h word) (λ plan is. live_has (λ p. MayBePlanned IsLeastPlan h p) (λ stored. bytes_eq stored.plan.word word) (live_plans h) plan (live_planned IsLeastPlan h legal) is) in
+          let (reply, shows) = live_shown h (plan_of h word) (λ plan is. live_has (λ p. MayBePlanned IsGoodPlan h p) (λ stored. bytes_eq stored.plan.word word) (live_plans h) plan (live_planned IsGoodPlan h legal) is) in
           (reply, inr (known, shows))
     ]
 

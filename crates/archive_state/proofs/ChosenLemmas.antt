@@ -105,7 +105,7 @@ held_for h pages word plan loads held_all live =
     record {
       list = planned.list;
       list_is = planned.list_is;
-      cuts = are_cuts planned.list plan.fraction plan.cuts plan.horizon planned.list_is.ordered planned.some planned.list_is.inside planned.narrow planned.fit;
+      cuts = are_cuts plan.kind planned.list plan.fraction plan.cuts plan.horizon planned.list_is.ordered planned.some planned.list_is.inside planned.fit;
       each = subst H same held.each;
     }
 

@@ -12,13 +12,10 @@ use Rattle.record_codec.specs.declared.entry.Entry.{Entry}
 use Rattle.record_codec.proofs.EntryLemmas.{one_entry}
 use Rattle.record_codec.specs.declared.entry.Entry.TheVariants.{Arrive, Delete, Planned}
 use Rattle.record_codec.specs.declared.plan.PlanEntry.{PlanEntry}
-use Rattle.commands.specs.declared.command.Kind.{Kind}
-use Rattle.commands.specs.declared.command.Kind.TheVariants.{Guarantee, Uniform, Since}
-use Rattle.time_base.specs.declared.posting.Posting.{Posting}
-use Rattle.stored_plans.specs.Plans.{Asks, IsLeastPlan, IsFitPlan}
-use Rattle.stored_plans.proofs.PlanLemmas.{least_is_fit}
+use Rattle.stored_plans.specs.Plans.{Asks, IsGoodPlan, IsFitFor}
+use Rattle.stored_plans.proofs.GoodLemmas.{good_is_fit}
 use Rattle.archive_state.specs.Histories.{History, changes, acts, end_of}
-use Rattle.archive_state.specs.Legal.{Suits, MayCome, EachMayCome, IsLegalEntry, IsLegal, IsLoadableEntry, IsLoadable}
+use Rattle.archive_state.specs.Legal.{MayCome, EachMayCome, IsLegalEntry, IsLegal, IsLoadableEntry, IsLoadable}
 use Rattle.archive_state.specs.Stands.{bodies_of}
 
 pub bodies_of-push : (h : History) (e : Entry) → bodies_of (h ++ e ∷ []) ≡ bodies_of h ++ spelling e ∷ []
@@ -74,23 +71,18 @@ module _ (Good : Asks) where
   come-middle h e rest each = come_after_middle [] h e rest each
 
 pub legal-push : (h : History) (e : Entry) → IsLegal h → IsLegalEntry h e → IsLegal (h ++ e ∷ [])
-legal-push h e legal next = come-push IsLeastPlan h e legal next
+legal-push h e legal next = come-push IsGoodPlan h e legal next
 
 pub legal-middle : (h : History) (e : Entry) (rest : History) → IsLegal (h ++ e ∷ rest) → IsLegal h × IsLegalEntry h e
-legal-middle h e rest legal = come-middle IsLeastPlan h e rest legal
+legal-middle h e rest legal = come-middle IsGoodPlan h e rest legal
 
 pub loadable-push : (h : History) (e : Entry) → IsLoadable h → IsLoadableEntry h e → IsLoadable (h ++ e ∷ [])
-loadable-push h e loads next = come-push IsFitPlan h e loads next
+loadable-push h e loads next = come-push IsFitFor h e loads next
 
 pub loadable-middle : (h : History) (e : Entry) (rest : History) → IsLoadable (h ++ e ∷ rest) → IsLoadable h × IsLoadableEntry h e
-loadable-middle h e rest loads = come-middle IsFitPlan h e rest loads
+loadable-middle h e rest loads = come-middle IsFitFor h e rest loads
 
 -- a legal history loads
-suits_load : (list : List Posting) (plan : PlanEntry) (kind : Kind) → Suits IsLeastPlan list plan kind → Suits IsFitPlan list plan kind
-suits_load list plan Guarantee suits = (suits.0, least_is_fit list plan.fraction plan.cuts plan.horizon.seconds suits.1)
-suits_load list plan Uniform suits = suits
-suits_load list plan (Since at) suits = suits
-
 pub entry_loads : (before : History) (e : Entry) → IsLegalEntry before e → IsLoadableEntry before e
 entry_loads before (Arrive doc at text) legal = record { ranges = legal.ranges; allowed = legal.allowed; planned = tt }
 entry_loads before (Delete doc at) legal = record { ranges = legal.ranges; allowed = legal.allowed; planned = tt }
@@ -102,11 +94,11 @@ entry_loads before (Planned plan) legal = record {
     list = legal.planned.list;
     list_is = legal.planned.list_is;
     some = legal.planned.some;
-    suits = suits_load legal.planned.list plan plan.kind legal.planned.suits;
+    suits = good_is_fit plan.kind legal.planned.list plan.fraction plan.cuts plan.horizon legal.planned.suits;
   };
 }
 
-each_loads : (before h : History) → EachMayCome IsLeastPlan before h → EachMayCome IsFitPlan before h
+each_loads : (before h : History) → EachMayCome IsGoodPlan before h → EachMayCome IsFitFor before h
 each_loads before [] legal = tt
 each_loads before (e ∷ h) legal = (entry_loads before e legal.0, each_loads (before ++ e ∷ []) h legal.1)
 
@@ -114,7 +106,7 @@ pub legal_loads : (h : History) → IsLegal h → IsLoadable h
 legal_loads h legal = each_loads [] h legal
 
 -- two histories that load with one list of bodies are one
-same_entries : (a b one other : History) → EachMayCome IsFitPlan one a → EachMayCome IsFitPlan other b → bodies_of a ≡ bodies_of b → a ≡ b
+same_entries : (a b one other : History) → EachMayCome IsFitFor one a → EachMayCome IsFitFor other b → bodies_of a ≡ bodies_of b → a ≡ b
 same_entries [] [] one other p q same = refl
 same_entries [] (y ∷ b) one other p q same = absurd (omega (arith, ap length same))
 same_entries (x ∷ a) [] one other p q same = absurd (omega (arith, ap length same))

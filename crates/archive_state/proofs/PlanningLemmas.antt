@@ -6,6 +6,8 @@ use Rattle.std.proofs.lemmas.Bool.{cases_lt}
 use Rattle.std.proofs.lemmas.Map.Made.{Contains-tail}
 use Rattle.time_base.specs.declared.time.Time.{Time}
 use Rattle.time_base.specs.declared.posting.Posting.{Posting}
+use Rattle.commands.specs.declared.command.Kind.{Kind}
+use Rattle.commands.specs.declared.command.Kind.TheVariants.{Guarantee, Uniform, Since}
 use Rattle.postings.proofs.Clipping.{one_list_of}
 use Rattle.elementary.specs.Partitions.{widest}
 use Rattle.elementary.proofs.Ordering.{each_has_boundaries, one_list_of_boundaries}
@@ -15,7 +17,7 @@ use Rattle.archive_state.specs.declared.refusal.Refusal.{Refusal}
 use Rattle.archive_state.specs.declared.refusal.Refusal.TheVariants as refusals
 use Rattle.archive_state.specs.Histories.{History, changes, vocabulary}
 use Rattle.archive_state.specs.Answers.{frequency_at}
-use Rattle.archive_state.specs.Planning.{last_second, IsListUpTo, OfBoundaries, OfList, OfPhrase}
+use Rattle.archive_state.specs.Planning.{last_second, IsListUpTo, OfBoundaries, OfWidth, OfList, OfPhrase}
 
 pub known_or_not : (words : List (List ℕ)) (word : List ℕ) → Contains words word ⊎ (Contains words word → ⊥)
 known_or_not [] word = inr (λ c. omega (arith, c.1))
@@ -36,29 +38,34 @@ last_in_time history = go (last_time (changes history))
 
 -- whatever is refused has a result, and so has what goes on, whatever they are: then the tests have one
 module _ (h : ℕ) {R : Type 0} (Refuses : R → Refusal → Type 0) (refused : (why : Refusal) → (r : R) × Refuses r why) where
-  each_bounded : (list : List Posting) (GoesOn : R → Type 0) → ((r : R) × GoesOn r) → (r : R) × OfBoundaries h list (Refuses r) (GoesOn r)
+  each_bounded : (list : List Posting) (GoesOn : R → Type 0) → (IsNarrow list h → (r : R) × GoesOn r) → (r : R) × OfBoundaries h list (Refuses r) (GoesOn r)
   each_bounded list GoesOn goes =
       let (times, are) = each_has_boundaries list h in
       elim (cases_lt widest (length times)) [
         | inl wide ↦ let (r, why) = refused (refusals.TooWide (length times)) in (r, (times, are, inl (wide, why)))
-        | inr narrow ↦ (goes.0, (times, are, inr (narrow, goes.1)))
+        | inr narrow ↦ let (r, on) = goes (times, are, narrow) in (r, (times, are, inr (narrow, on)))
       ]
 
-  each_list : (list : List Posting) (GoesOn : R → Type 0) → (0 < length list → (r : R) × GoesOn r) → (r : R) × OfList h list (Refuses r) (GoesOn r)
-  each_list [] GoesOn goes = refused refusals.NothingSealed
-  each_list (p ∷ list) GoesOn goes = each_bounded (p ∷ list) GoesOn (goes (omega arith))
+  each_width : (kind : Kind) (list : List Posting) (GoesOn : R → Type 0) → ((kind ≡ Guarantee → IsNarrow list h) → (r : R) × GoesOn r) → (r : R) × OfWidth kind h list (Refuses r) (GoesOn r)
+  each_width Guarantee list GoesOn goes = each_bounded list GoesOn (λ narrow. goes (λ e. narrow))
+  each_width Uniform list GoesOn goes = goes (λ e. absurd cc)
+  each_width (Since at) list GoesOn goes = goes (λ e. absurd cc)
 
-pub each_phrase : (history : History) {R : Type 0} (Refuses : R → Refusal → Type 0) (GoesOn : R → List ℕ → List Posting → Type 0)
+  each_list : (kind : Kind) (list : List Posting) (GoesOn : R → Type 0) → (0 < length list → (kind ≡ Guarantee → IsNarrow list h) → (r : R) × GoesOn r) → (r : R) × OfList kind h list (Refuses r) (GoesOn r)
+  each_list kind [] GoesOn goes = refused refusals.NothingSealed
+  each_list kind (p ∷ list) GoesOn goes = each_width kind (p ∷ list) GoesOn (goes (omega arith))
+
+pub each_phrase : (kind : Kind) (history : History) {R : Type 0} (Refuses : R → Refusal → Type 0) (GoesOn : R → List ℕ → List Posting → Type 0)
     → ((why : Refusal) → (r : R) × Refuses r why)
     → ((word : List ℕ) → (list : List Posting) × IsListUpTo history word (last_second history) list)
-    → ((word : List ℕ) (list : List Posting) → IsListUpTo history word (last_second history) list → 0 < length list → (r : R) × GoesOn r word list)
-    → (key : Option (List ℕ)) → (r : R) × OfPhrase history key (Refuses r) (GoesOn r)
-each_phrase history Refuses GoesOn refused lists goes None = refused refusals.NotOneTerm
-each_phrase history Refuses GoesOn refused lists goes (Some word) = elim (known_or_not (vocabulary history) word) [
+    → ((word : List ℕ) (list : List Posting) → IsListUpTo history word (last_second history) list → 0 < length list → (kind ≡ Guarantee → IsNarrow list (last_second history)) → (r : R) × GoesOn r word list)
+    → (key : Option (List ℕ)) → (r : R) × OfPhrase kind history key (Refuses r) (GoesOn r)
+each_phrase kind history Refuses GoesOn refused lists goes None = refused refusals.NotOneTerm
+each_phrase kind history Refuses GoesOn refused lists goes (Some word) = elim (known_or_not (vocabulary history) word) [
   | inr unknown ↦ let (r, why) = refused refusals.UnknownWord in (r, inl (unknown, why))
   | inl known ↦
       let (list, is) = lists word in
-      let (r, of) = each_list (last_second history) Refuses refused list (λ r. GoesOn r word list) (goes word list is) in
+      let (r, of) = each_list (last_second history) Refuses refused kind list (λ r. GoesOn r word list) (goes word list is) in
       (r, inr (known, (list, is, of)))
 ]
 
@@ -77,29 +84,38 @@ module _ (h : ℕ) (P : Type 0) (One Other : Refusal → Type 0) (refused : (why
       go e (inr x) (inl y) = absurd (omega (arith, e, x.0, y.0))
       go e (inr x) (inr y) = goes x.1 y.1
 
-  one_list : (list : List Posting) (A B : Type 0) → (A → B → P) → OfList h list One A → OfList h list Other B → P
-  one_list [] A B goes a b = refused refusals.NothingSealed a b
-  one_list (p ∷ list) A B goes a b = one_bounded (p ∷ list) A B goes a b
+  one_width : (kind : Kind) (list : List Posting) (A B : Type 0) → (A → B → P) → OfWidth kind h list One A → OfWidth kind h list Other B → P
+  one_width Guarantee list A B goes a b = one_bounded list A B goes a b
+  one_width Uniform list A B goes a b = goes a b
+  one_width (Since at) list A B goes a b = goes a b
 
-pub one_phrase : (history : History) (P : Type 0) (One Other : Refusal → Type 0) (A B : List ℕ → List Posting → Type 0)
+  one_list : (kind : Kind) (list : List Posting) (A B : Type 0) → (A → B → P) → OfList kind h list One A → OfList kind h list Other B → P
+  one_list kind [] A B goes a b = refused refusals.NothingSealed a b
+  one_list kind (p ∷ list) A B goes a b = one_width kind (p ∷ list) A B goes a b
+
+pub one_phrase : (kind : Kind) (history : History) (P : Type 0) (One Other : Refusal → Type 0) (A B : List ℕ → List Posting → Type 0)
     → ((why : Refusal) → One why → Other why → P) → ((word : List ℕ) (list : List Posting) → A word list → B word list → P)
-    → (key : Option (List ℕ)) → OfPhrase history key One A → OfPhrase history key Other B → P
-one_phrase history P One Other A B refused goes None a b = refused refusals.NotOneTerm a b
-one_phrase history P One Other A B refused goes (Some word) (inl x) (inl y) = refused refusals.UnknownWord x.1 y.1
-one_phrase history P One Other A B refused goes (Some word) (inl x) (inr y) = absurd (x.0 y.0)
-one_phrase history P One Other A B refused goes (Some word) (inr x) (inl y) = absurd (y.0 x.0)
-one_phrase history P One Other A B refused goes (Some word) (inr (known, (list, is, a))) (inr (too, (other, has, b))) =
+    → (key : Option (List ℕ)) → OfPhrase kind history key One A → OfPhrase kind history key Other B → P
+one_phrase kind history P One Other A B refused goes None a b = refused refusals.NotOneTerm a b
+one_phrase kind history P One Other A B refused goes (Some word) (inl x) (inl y) = refused refusals.UnknownWord x.1 y.1
+one_phrase kind history P One Other A B refused goes (Some word) (inl x) (inr y) = absurd (x.0 y.0)
+one_phrase kind history P One Other A B refused goes (Some word) (inr x) (inl y) = absurd (y.0 x.0)
+one_phrase kind history P One Other A B refused goes (Some word) (inr (known, (list, is, a))) (inr (too, (other, has, b))) =
     let same = one_list_of (λ d t. frequency_at history word (record { 0 = d }) t) 0 (last_second history) list other is has in
-    let Of : List Posting → Type 0 = λ l. OfList (last_second history) l One (A word l) in
-    one_list (last_second history) P One Other refused other (A word other) (B word other) (goes word other) (subst Of same a) b
+    let Of : List Posting → Type 0 = λ l. OfList kind (last_second history) l One (A word l) in
+    one_list (last_second history) P One Other refused kind other (A word other) (B word other) (goes word other) (subst Of same a) b
 
 -- what follows from each refusal, and from what goes on, follows from the tests
-pub of_phrase : (history : History) (Q : Type 0) (Refuses : Refusal → Type 0) (GoesOn : List ℕ → List Posting → Type 0) (key : Option (List ℕ)) → ((why : Refusal) → Refuses why → Q)
-    → ((word : List ℕ) (list : List Posting) → key ≡ Some word → IsListUpTo history word (last_second history) list → 0 < length list → IsNarrow list (last_second history) → GoesOn word list → Q)
-    → OfPhrase history key Refuses GoesOn → Q
-of_phrase history Q Refuses GoesOn None refused goes of = refused refusals.NotOneTerm of
-of_phrase history Q Refuses GoesOn (Some word) refused goes (inl unknown) = refused refusals.UnknownWord unknown.1
-of_phrase history Q Refuses GoesOn (Some word) refused goes (inr (known, ([], is, why))) = refused refusals.NothingSealed why
-of_phrase history Q Refuses GoesOn (Some word) refused goes (inr (known, (p ∷ list, is, (times, are, inl wide)))) = refused (refusals.TooWide (length times)) wide.1
-of_phrase history Q Refuses GoesOn (Some word) refused goes (inr (known, (p ∷ list, is, (times, are, inr narrow)))) =
-    goes word (p ∷ list) refl is (omega arith) (times, are, narrow.0) narrow.1
+pub of_phrase : (kind : Kind) (history : History) (Q : Type 0) (Refuses : Refusal → Type 0) (GoesOn : List ℕ → List Posting → Type 0) (key : Option (List ℕ)) → ((why : Refusal) → Refuses why → Q)
+    → ((word : List ℕ) (list : List Posting) → key ≡ Some word → IsListUpTo history word (last_second history) list → 0 < length list → GoesOn word list → Q)
+    → OfPhrase kind history key Refuses GoesOn → Q
+of_phrase kind history Q Refuses GoesOn None refused goes of = refused refusals.NotOneTerm of
+of_phrase kind history Q Refuses GoesOn (Some word) refused goes (inl unknown) = refused refusals.UnknownWord unknown.1
+of_phrase kind history Q Refuses GoesOn (Some word) refused goes (inr (known, ([], is, why))) = refused refusals.NothingSealed why
+of_phrase kind history Q Refuses GoesOn (Some word) refused goes (inr (known, (p ∷ list, is, of))) = go kind of
+  where
+    go : (k : Kind) → OfWidth k (last_second history) (p ∷ list) Refuses (GoesOn word (p ∷ list)) → Q
+    go Guarantee (times, are, inl wide) = refused (refusals.TooWide (length times)) wide.1
+    go Guarantee (times, are, inr narrow) = goes word (p ∷ list) refl is (omega arith) narrow.1
+    go Uniform on = goes word (p ∷ list) refl is (omega arith) on
+    go (Since at) on = goes word (p ∷ list) refl is (omega arith) on

@@ -30,8 +30,10 @@ use Rattle.sublist_store.specs.Preparing.{IsFor, extents, sizes, spellings}
 use Rattle.sublist_store.specs.Segments.{seconds}
 use Rattle.sublist_store.proofs.PlaceLemmas.{lowest_none}
 use Rattle.sublist_store.proofs.WriteLemmas.{as_many}
-use Rattle.stored_plans.specs.Plans.{IsNarrow, IsLeastPlan, plan_space}
-use Rattle.stored_plans.proofs.PlanLemmas.{least_is_fit, each_has_a_plan, well_cut}
+use Rattle.commands.specs.declared.command.Kind.{Kind}
+use Rattle.commands.specs.declared.command.Kind.TheVariants.{Guarantee}
+use Rattle.stored_plans.specs.Plans.{IsNarrow, IsGoodPlan, IsCostOf, plan_space}
+use Rattle.stored_plans.proofs.GoodLemmas.{good_is_fit, each_has_a_good_plan, each_has_a_cost, good_are_short, fit_well_cut}
 use Rattle.version_store.specs.Changes.{last_time}
 use Rattle.archive_state.specs.declared.refusal.Refusal.{Refusal}
 use Rattle.archive_state.specs.declared.refusal.Refusal.TheVariants as refusals
@@ -39,7 +41,7 @@ use Rattle.archive_state.specs.Histories.{History, changes}
 use Rattle.archive_state.specs.Legal.{IsLegal, IsLegalEntry}
 use Rattle.archive_state.specs.Planning.{last_second, IsListUpTo}
 use Rattle.archive_state.specs.Plans.{live_extents}
-use Rattle.archive_state.specs.Steps.{Reply, Refused, Planned, Declines, AddsPlan, StoresCuts, StoresPlan, Plans, guarantee, spelled_key, full_journal}
+use Rattle.archive_state.specs.Steps.{Reply, Refused, Planned, Declines, AddsPlan, StoresCuts, StoresPlan, Plans, in_blocks, spelled_key, full_journal}
 use Rattle.archive_state.specs.Runs.{Turn}
 use Rattle.archive_state.proofs.HistoryLemmas.{legal-push}
 use Rattle.archive_state.proofs.PlanningLemmas.{of_phrase}
@@ -105,20 +107,18 @@ spelled_word phrase word is =
 
 -- ---- an entry of a plan
 
-pub plan_legal : (h : History) (word : List ℕ) (factor : Fraction) (horizon : Time) (cuts : List Time) (places : List Place) (list : List Posting) → IsWord word → horizon.seconds ≡ last_second h
-    → IsListUpTo h word (last_second h) list → 0 < length list → IsNarrow list (last_second h) → IsLeastPlan list factor cuts horizon.seconds
-    → AllZip IsFor places (spellings Blocks list (seconds cuts) horizon.seconds) → IsLegalEntry h (entries.Planned (guarantee word factor horizon cuts places))
-plan_legal h word factor horizon cuts places list is_word last is some narrow least zip =
+pub plan_legal : (h : History) (word : List ℕ) (kind : Kind) (factor : Fraction) (horizon : Time) (cuts : List Time) (places : List Place) (list : List Posting) → IsWord word → horizon.seconds ≡ last_second h
+    → IsListUpTo h word (last_second h) list → 0 < length list → IsGoodPlan kind list factor cuts horizon.seconds
+    → AllZip IsFor places (spellings Blocks list (seconds cuts) horizon.seconds) → IsLegalEntry h (entries.Planned (in_blocks word kind factor horizon cuts places))
+plan_legal h word kind factor horizon cuts places list is_word last is some good zip =
     let all = spellings Blocks list (seconds cuts) horizon.seconds in
-    let N : ℕ → Type 0 = λ n. IsNarrow list n in
     let U : ℕ → Type 0 = λ n. IsListUpTo h word n list in
-    let here = subst N (sym last) narrow in
-    let cut = well_cut list factor cuts horizon here (least_is_fit list factor cuts horizon.seconds least) in
+    let cut = fit_well_cut kind list factor cuts horizon (good_is_fit kind list factor cuts horizon good) in
     record {
       ranges = record {
         well_cut = record {
           some = cut.0;
-          most = cut.1;
+          most = good_are_short kind list factor cuts horizon good;
           places = omega (arith, as_many places all zip, spellings_long Blocks list (seconds cuts) horizon.seconds, length-map cuts (λ (t : Time). t.seconds));
           ascend = cut.2;
         };
@@ -126,7 +126,7 @@ plan_legal h word factor horizon cuts places list is_word last is some narrow le
         digests = for_digests places all zip;
       };
       allowed = refl;
-      planned = record { past = omega (arith, last); list = list; list_is = subst U (sym last) is; some = some; suits = (here, least) };
+      planned = record { past = omega (arith, last); list = list; list_is = subst U (sym last) is; some = some; suits = good };
     }
 
 -- ---- what is stored, or not
@@ -142,8 +142,9 @@ digested taken (bytes ∷ all) (e ∷ es) p =
       (ap (λ (l : List Extent). e ∷ l) same, (record { size = p.0; digest = refl; empty = λ none. lowest_none taken (length bytes) e.first (omega (arith, none, p.0)) p.1 }, zip)),
     )
 
-adds_plan_turn : (h : History) (plan : PlanEntry) (refusal : Option Refusal) (list : List Posting) → (turn : Turn Reply History) × AddsPlan h plan refusal list turn.reply turn.next
-adds_plan_turn h plan None list = (
+adds_plan_turn : (h : History) (plan : PlanEntry) (refusal : Option Refusal) (list : List Posting) (cost : Option ℕ) → IsCostOf plan.kind list plan.cuts plan.horizon.seconds cost
+    → (turn : Turn Reply History) × AddsPlan h plan refusal list turn.reply turn.next
+adds_plan_turn h plan None list cost costs = (
   record {
     reply = Planned (record {
       length = length (h ++ entries.Planned plan ∷ []);
@@ -151,25 +152,27 @@ adds_plan_turn h plan None list = (
       space = plan_space list plan.cuts plan.horizon.seconds;
       full = length list;
       horizon = plan.horizon.seconds;
+      cost = cost;
     });
     next = h ++ entries.Planned plan ∷ [];
   },
-  (refl, refl),
+  (refl, (cost, costs, refl)),
 )
-adds_plan_turn h plan (Some why) list = (record { reply = Refused why; next = h }, (refl, refl))
+adds_plan_turn h plan (Some why) list cost costs = (record { reply = Refused why; next = h }, (refl, refl))
 
-cuts_turn : (h : History) (word : List ℕ) (factor : Fraction) (horizon : Time) (cuts : List Time) (list : List Posting) → (turn : Turn Reply History) × StoresCuts h word factor horizon cuts list turn.reply turn.next
-cuts_turn h word factor horizon cuts list = go (placed_or_not (live_extents h) (sizes all))
+cuts_turn : (h : History) (word : List ℕ) (kind : Kind) (factor : Fraction) (horizon : Time) (cuts : List Time) (list : List Posting) (cost : Option ℕ) → IsCostOf kind list cuts horizon.seconds cost
+    → (turn : Turn Reply History) × StoresCuts h word kind factor horizon cuts list turn.reply turn.next
+cuts_turn h word kind factor horizon cuts list cost costs = go (placed_or_not (live_extents h) (sizes all))
   where
     all : List (List ℕ)
     all = spellings Blocks list (seconds cuts) horizon.seconds
 
-    go : ((es : List Extent) × ArePlaced (live_extents h) (sizes all) es) ⊎ HaveNoRoom (live_extents h) (sizes all) → (turn : Turn Reply History) × StoresCuts h word factor horizon cuts list turn.reply turn.next
+    go : ((es : List Extent) × ArePlaced (live_extents h) (sizes all) es) ⊎ HaveNoRoom (live_extents h) (sizes all) → (turn : Turn Reply History) × StoresCuts h word kind factor horizon cuts list turn.reply turn.next
     go (inr none) = (record { reply = Refused (refusals.Full Pages (limit_of Pages)); next = h }, inl (none, (refl, refl)))
     go (inl (es, placed)) =
         let (places, (same, zip)) = digested (live_extents h) all es placed in
-        let plan = guarantee word factor horizon cuts places in
-        let (turn, adds) = adds_plan_turn h plan (full_journal h (entries.Planned plan)) list in
+        let plan = in_blocks word kind factor horizon cuts places in
+        let (turn, adds) = adds_plan_turn h plan (full_journal h (entries.Planned plan)) list cost costs in
         let A : List Extent → Type 0 = λ l. ArePlaced (live_extents h) (sizes all) l in
         (turn, inr (places, subst A (sym same) placed, zip, adds))
 
@@ -189,36 +192,38 @@ list_behind (p ∷ list) h some inside =
     let order : p.span.from < p.span.to = p.span.ordered in
     omega (arith, here.1, order)
 
-pub plan_turn : (h : History) (factor : Fraction) (word : List ℕ) (list : List Posting) → IsListUpTo h word (last_second h) list → 0 < length list
-    → (turn : Turn Reply History) × StoresPlan h factor word list turn.reply turn.next
-plan_turn h factor word list is some =
+pub plan_turn : (h : History) (kind : Kind) (factor : Fraction) (word : List ℕ) (list : List Posting) → IsListUpTo h word (last_second h) list → 0 < length list
+    → (kind ≡ Guarantee → IsNarrow list (last_second h)) → (turn : Turn Reply History) × StoresPlan h kind factor word list turn.reply turn.next
+plan_turn h kind factor word list is some narrow =
     let (horizon, last) = last_is h (list_behind list (last_second h) some is.inside) in
     let early : All (λ (p : Posting). p.span.to ≤ horizon.seconds) list =
     All-weaker (λ (p : Posting). (0 ≤ p.span.from) × (p.span.to ≤ last_second h)) (λ (p : Posting). p.span.to ≤ horizon.seconds) (λ p in_it. omega (arith, in_it.1, last)) list is.inside in
-    let (cuts, least) = each_has_a_plan list factor horizon some early in
-    let (turn, stores) = cuts_turn h word factor horizon cuts list in
-    (turn, record { horizon = horizon; horizon_is = last; cuts = cuts; least = least; stores = stores })
+    let N : ℕ → Type 0 = λ n. IsNarrow list n in
+    let (cuts, good) = each_has_a_good_plan kind list factor horizon some early (λ e. subst N (sym last) (narrow e)) in
+    let (cost, costs) = each_has_a_cost kind list factor cuts horizon good in
+    let (turn, stores) = cuts_turn h word kind factor horizon cuts list cost costs in
+    (turn, record { horizon = horizon; horizon_is = last; cuts = cuts; good = good; stores = stores })
 
 -- ---- what is stored is legal
 
 unchanged : (old new : History) → new ≡ old → IsLegal old → IsLegal new
 unchanged old new same legal = subst IsLegal (sym same) legal
 
-pub plans_legal : (h : History) (phrase : List ℕ) (factor : Fraction) (reply : Reply) (next : History) → IsLegal h → Plans h phrase factor reply next → IsLegal next
-plans_legal h phrase factor reply next legal =
-    of_phrase h (IsLegal next) (λ why. Declines h why reply next) (λ word list. StoresPlan h factor word list reply next) (spelled_key (one_term phrase))
+pub plans_legal : (h : History) (phrase : List ℕ) (kind : Kind) (factor : Fraction) (reply : Reply) (next : History) → IsLegal h → Plans h phrase kind factor reply next → IsLegal next
+plans_legal h phrase kind factor reply next legal =
+    of_phrase kind h (IsLegal next) (λ why. Declines h why reply next) (λ word list. StoresPlan h kind factor word list reply next) (spelled_key (one_term phrase))
     (λ why declines. unchanged h next declines.0 legal)
-    (λ word list term is some narrow stores. stored word list term is some narrow stores)
+    (λ word list term is some stores. stored word list term is some stores)
   where
     added : (plan : PlanEntry) (refusal : Option Refusal) (list : List Posting) → IsLegalEntry h (entries.Planned plan) → AddsPlan h plan refusal list reply next → IsLegal next
     added plan None list entry adds = subst IsLegal (sym adds.0) (legal-push h (entries.Planned plan) legal entry)
     added plan (Some why) list entry adds = unchanged h next adds.0 legal
 
-    stored : (word : List ℕ) (list : List Posting) → spelled_key (one_term phrase) ≡ Some word → IsListUpTo h word (last_second h) list → 0 < length list → IsNarrow list (last_second h) → StoresPlan h factor word list reply next → IsLegal next
-    stored word list term is some narrow s = elim s.stores [
+    stored : (word : List ℕ) (list : List Posting) → spelled_key (one_term phrase) ≡ Some word → IsListUpTo h word (last_second h) list → 0 < length list → StoresPlan h kind factor word list reply next → IsLegal next
+    stored word list term is some s = elim s.stores [
       | inl full ↦ unchanged h next full.1.0 legal
       | inr fits ↦
           let (places, placed, zip, adds) = fits in
-          let plan = guarantee word factor s.horizon s.cuts places in
-          added plan (full_journal h (entries.Planned plan)) list (plan_legal h word factor s.horizon s.cuts places list (spelled_word phrase word term) s.horizon_is is some narrow s.least zip) adds
+          let plan = in_blocks word kind factor s.horizon s.cuts places in
+          added plan (full_journal h (entries.Planned plan)) list (plan_legal h word kind factor s.horizon s.cuts places list (spelled_word phrase word term) s.horizon_is is some s.good zip) adds
     ]

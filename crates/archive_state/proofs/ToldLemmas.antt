@@ -8,11 +8,14 @@ use Rattle.elementary.specs.Partitions.{Covers, IsLeast, space}
 use Rattle.fold_tokens.specs.Terms.{one_term}
 use Rattle.record_codec.specs.declared.entry.Entry.TheVariants as entries
 use Rattle.record_codec.specs.declared.plan.PlanEntry.{PlanEntry}
-use Rattle.stored_plans.specs.Plans.{IsLeastPlan, later, plan_space}
+use Rattle.commands.specs.declared.command.Kind.{Kind}
+use Rattle.commands.specs.declared.command.Kind.TheVariants.{Guarantee, Uniform, Since}
+use Rattle.stored_plans.specs.Plans.{IsLeastPlan, IsGoodPlan, IsCostOf, later, plan_space}
+use Rattle.stored_plans.proofs.GoodLemmas.{cost_the_same}
 use Rattle.archive_state.specs.declared.refusal.Refusal.{Refusal}
 use Rattle.archive_state.specs.Histories.{History}
 use Rattle.archive_state.specs.Choices.{SamePlanned}
-use Rattle.archive_state.specs.Steps.{Refused, Planned, Summary, Declines, AddsPlan, StoresPlan, Plans, guarantee, spelled_key, full_journal}
+use Rattle.archive_state.specs.Steps.{Refused, Planned, Summary, Declines, AddsPlan, StoresPlan, Plans, in_blocks, spelled_key, full_journal}
 use Rattle.archive_state.proofs.PlanningLemmas.{one_phrase}
 
 -- two least partitions take the same space
@@ -33,55 +36,67 @@ same_plan_space list factor (f ∷ cuts) (g ∷ others) h a b = same_space list 
 none_told : (h : History) (why : Refusal) (one : Summary) (next : History) → Declines h why (Planned one) next → ⊥
 none_told h why one next declines = let other : Planned one ≡ Refused why = declines.1 in absurd cc
 
+-- so do two good plans whose kind has no cost
+same_good_space : (kind : Kind) (list : List Posting) (factor : Fraction) (cuts others : List Time) (h : ℕ) (cost : Option ℕ) → IsGoodPlan kind list factor cuts h → IsGoodPlan kind list factor others h
+    → IsCostOf kind list cuts h cost → cost ≡ None → plan_space list cuts h ≡ plan_space list others h
+same_good_space Guarantee list factor cuts others h cost a b costs none = same_plan_space list factor cuts others h a.1 b.1
+same_good_space Uniform list factor cuts others h cost a b (n, is, same) none = absurd cc
+same_good_space (Since at) list factor cuts others h cost a b (n, is, same) none = absurd cc
+
 -- what is told of a plan with these cuts
-record IsTold (h : History) (list : List Posting) (cuts : List Time) (horizon : Time) (one : Summary) : Type 0 where
+record IsTold (h : History) (kind : Kind) (list : List Posting) (cuts : List Time) (horizon : Time) (one : Summary) : Type 0 where
   long : one.length ≡ length h + 1
   takes : one.space ≡ plan_space list cuts horizon.seconds
   whole : one.full ≡ length list
   until : one.horizon ≡ horizon.seconds
+  costs : IsCostOf kind list cuts horizon.seconds one.cost
 
-told : (h : History) (plan : PlanEntry) (refusal : Option Refusal) (list : List Posting) (one : Summary) (next : History) → AddsPlan h plan refusal list (Planned one) next → IsTold h list plan.cuts plan.horizon one
+told : (h : History) (plan : PlanEntry) (refusal : Option Refusal) (list : List Posting) (one : Summary) (next : History) → AddsPlan h plan refusal list (Planned one) next → IsTold h plan.kind list plan.cuts plan.horizon one
 told h plan (Some why) list one next adds = absurd (none_told h why one next adds)
 told h plan None list one next adds =
-    let is : Summary = record { length = length next; segments = length plan.cuts; space = plan_space list plan.cuts plan.horizon.seconds; full = length list; horizon = plan.horizon.seconds } in
-    let same : Planned one ≡ Planned is = adds.1 in
+    let (on, (cost, costs, reply)) = adds in
+    let is : Summary = record { length = length next; segments = length plan.cuts; space = plan_space list plan.cuts plan.horizon.seconds; full = length list; horizon = plan.horizon.seconds; cost = cost } in
+    let same : Planned one ≡ Planned is = reply in
     let here : one ≡ is = cc in
     record {
-      long = ap (λ (s : Summary). s.length) here ∙ ap length adds.0 ∙ length-append h (entries.Planned plan ∷ []);
+      long = ap (λ (s : Summary). s.length) here ∙ ap length on ∙ length-append h (entries.Planned plan ∷ []);
       takes = ap (λ (s : Summary). s.space) here;
       whole = ap (λ (s : Summary). s.full) here;
       until = ap (λ (s : Summary). s.horizon) here;
+      costs = (let C : Option ℕ → Type 0 = λ c. IsCostOf plan.kind list plan.cuts plan.horizon.seconds c in subst C (sym (ap (λ (s : Summary). s.cost) here)) costs);
     }
 
-plan_told : (h : History) (factor : Fraction) (word : List ℕ) (list : List Posting) (one : Summary) (next : History) → (s : StoresPlan h factor word list (Planned one) next) → IsTold h list s.cuts s.horizon one
-plan_told h factor word list one next s = elim s.stores [
+plan_told : (h : History) (kind : Kind) (factor : Fraction) (word : List ℕ) (list : List Posting) (one : Summary) (next : History) → (s : StoresPlan h kind factor word list (Planned one) next) → IsTold h kind list s.cuts s.horizon one
+plan_told h kind factor word list one next s = elim s.stores [
   | inl full ↦ absurd (none_told h _ one next full.1)
   | inr fits ↦
       let (places, placed, zip, adds) = fits in
-      let plan = guarantee word factor s.horizon s.cuts places in
+      let plan = in_blocks word kind factor s.horizon s.cuts places in
       told h plan (full_journal h (entries.Planned plan)) list one next adds
 ]
 
-told_alike : (h : History) (factor : Fraction) (word : List ℕ) (list : List Posting) (one other : Summary) (next then : History)
-    → StoresPlan h factor word list (Planned one) next → StoresPlan h factor word list (Planned other) then → SamePlanned one other
-told_alike h factor word list one other next then a b =
-    let mine = plan_told h factor word list one next a in
-    let its = plan_told h factor word list other then b in
-    let L : ℕ → Type 0 = λ n. IsLeastPlan list factor b.cuts n in
+told_alike : (h : History) (kind : Kind) (factor : Fraction) (word : List ℕ) (list : List Posting) (one other : Summary) (next then : History)
+    → StoresPlan h kind factor word list (Planned one) next → StoresPlan h kind factor word list (Planned other) then → SamePlanned one other
+told_alike h kind factor word list one other next then a b =
+    let mine = plan_told h kind factor word list one next a in
+    let its = plan_told h kind factor word list other then b in
     let until : b.horizon.seconds ≡ a.horizon.seconds = b.horizon_is ∙ sym a.horizon_is in
-    let least = same_plan_space list factor a.cuts b.cuts a.horizon.seconds a.least (subst L until b.least) in
+    let G : ℕ → Type 0 = λ n. IsGoodPlan kind list factor b.cuts n in
+    let C : ℕ → Type 0 = λ n. IsCostOf kind list b.cuts n other.cost in
+    let good = subst G until b.good in
     record {
       length = mine.long ∙ sym its.long;
-      space = mine.takes ∙ least ∙ ap (λ (n : ℕ). plan_space list b.cuts n) (sym until) ∙ sym its.takes;
       full = mine.whole ∙ sym its.whole;
       horizon = mine.until ∙ sym until ∙ sym its.until;
+      cost = cost_the_same kind list factor a.cuts b.cuts a.horizon one.cost other.cost a.good good mine.costs (subst C until its.costs);
+      space = λ none. mine.takes ∙ same_good_space kind list factor a.cuts b.cuts a.horizon.seconds one.cost a.good good mine.costs none ∙ ap (λ (n : ℕ). plan_space list b.cuts n) (sym until) ∙ sym its.takes;
     }
 
-pub plans_alike : (h : History) (phrase : List ℕ) (factor : Fraction) (one other : Summary) (next then : History)
-    → Plans h phrase factor (Planned one) next → Plans h phrase factor (Planned other) then → SamePlanned one other
-plans_alike h phrase factor one other next then =
-    one_phrase h (SamePlanned one other) (λ why. Declines h why (Planned one) next) (λ why. Declines h why (Planned other) then)
-    (λ word list. StoresPlan h factor word list (Planned one) next) (λ word list. StoresPlan h factor word list (Planned other) then)
+pub plans_alike : (h : History) (phrase : List ℕ) (kind : Kind) (factor : Fraction) (one other : Summary) (next then : History)
+    → Plans h phrase kind factor (Planned one) next → Plans h phrase kind factor (Planned other) then → SamePlanned one other
+plans_alike h phrase kind factor one other next then =
+    one_phrase kind h (SamePlanned one other) (λ why. Declines h why (Planned one) next) (λ why. Declines h why (Planned other) then)
+    (λ word list. StoresPlan h kind factor word list (Planned one) next) (λ word list. StoresPlan h kind factor word list (Planned other) then)
     (λ why a b. absurd (none_told h why one next a))
-    (λ word list a b. told_alike h factor word list one other next then a b)
+    (λ word list a b. told_alike h kind factor word list one other next then a b)
     (spelled_key (one_term phrase))

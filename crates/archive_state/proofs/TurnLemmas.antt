@@ -40,7 +40,7 @@ use Rattle.query_eval.proofs.SpanRows.{each-window, plain-rows}
 use Rattle.stretches.proofs.Longest as longest
 use Rattle.archive_state.specs.declared.refusal.Refusal.{Refusal}
 use Rattle.archive_state.specs.declared.refusal.Refusal.TheVariants as refusals
-use Rattle.stored_plans.specs.Plans.{IsFitPlan}
+use Rattle.stored_plans.specs.Plans.{IsFitFor}
 use Rattle.archive_state.specs.Histories.{History, changes, text_at, entry_refusal}
 use Rattle.archive_state.specs.Legal.{EachMayCome, IsLegal, IsLegalEntry, IsLoadable}
 use Rattle.record_codec.specs.declared.plan.PlanEntry.{PlanEntry}
@@ -54,7 +54,8 @@ use Rattle.commands.specs.declared.command.Command.{Command}
 use Rattle.commands.specs.declared.command.Command.TheVariants as commands
 use Rattle.commands.specs.declared.command.Item.{Item}
 use Rattle.commands.specs.declared.command.Item.TheVariants as items
-use Rattle.commands.specs.declared.command.Kind.TheVariants.{Guarantee, Uniform, Since}
+use Rattle.commands.specs.declared.command.Kind.{Kind}
+use Rattle.commands.specs.declared.command.Kind.TheVariants.{Guarantee}
 use Rattle.commands.specs.declared.text.Text.TheVariants as texts
 use Rattle.archive_state.specs.Steps.{Reply, Accepted, Refused, Found, Spanned, Shown, Proposed, Planned, Summary, Adds, Declines, IsRepliedBy, IsReplied, Finds, FindsBy, Spans, SpansBy, Proposes, ProposesPlan, Plans, StoresPlan, spelled_key, CarriesOut, Step, too_long, bad_text, full_journal, arrival_refusal, deletion_refusal}
 use Rattle.archive_state.specs.Runs.{Turn}
@@ -111,7 +112,7 @@ record IsModest (word : List ℕ) (c : Change (List ℕ)) : Type 0 where
   numbered : c.doc.0 < 2 ^ 32
   few : unwrap_or (option_map (occurrences word) c.held) 0 < 2 ^ 32
 
-modest : (word : List ℕ) (before h : History) → EachMayCome IsFitPlan before h → All (IsModest word) (changes h)
+modest : (word : List ℕ) (before h : History) → EachMayCome IsFitFor before h → All (IsModest word) (changes h)
 modest word before [] legal = All-nil (IsModest word)
 modest word before (entries.Arrive doc at text ∷ h) legal =
     let ranges = legal.0.ranges in
@@ -198,20 +199,20 @@ each_spans h span text legal = each_text (SpansBy h span) (each_spanned h span l
 -- each proposal is answered
 pub each_proposes : (h : History) (phrase : List ℕ) (factor : Fraction) → IsLegal h → (reply : Reply) × Proposes h phrase factor reply
 each_proposes h phrase factor legal =
-    each_phrase h (λ (r : Reply) why. r ≡ Refused why) (λ (r : Reply) word list. ProposesPlan factor (last_second h) list r) (λ why. (Refused why, refl))
+    each_phrase Guarantee h (λ (r : Reply) why. r ≡ Refused why) (λ (r : Reply) word list. ProposesPlan factor (last_second h) list r) (λ why. (Refused why, refl))
     (λ word. each_list_up_to h word (last_second h) (last_in_time h) (legal_loads h legal))
-    (λ word list is some.
+    (λ word list is some narrow.
     let early = All-weaker (λ (p : Posting). (0 ≤ p.span.from) × (p.span.to ≤ last_second h)) (λ (p : Posting). p.span.to ≤ last_second h) (λ p in_it. in_it.1) list is.inside in
     let (segments, (nodes, (total, proposal))) = each_has_a_proposal list factor (last_second h) (last_in_time h) early in
     (Proposed segments nodes total, (segments, nodes, total, proposal, refl)))
     (one_term phrase)
 
-pub each_plans : (h : History) (phrase : List ℕ) (factor : Fraction) → IsLegal h → (turn : Turn Reply History) × Plans h phrase factor turn.reply turn.next
-each_plans h phrase factor legal =
-    each_phrase h (λ (r : Turn Reply History) why. Declines h why r.reply r.next) (λ (r : Turn Reply History) word list. StoresPlan h factor word list r.reply r.next)
+pub each_plans : (h : History) (phrase : List ℕ) (kind : Kind) (factor : Fraction) → IsLegal h → (turn : Turn Reply History) × Plans h phrase kind factor turn.reply turn.next
+each_plans h phrase kind factor legal =
+    each_phrase kind h (λ (r : Turn Reply History) why. Declines h why r.reply r.next) (λ (r : Turn Reply History) word list. StoresPlan h kind factor word list r.reply r.next)
     (λ why. (record { reply = Refused why; next = h }, (refl, refl)))
     (λ word. each_list_up_to h word (last_second h) (last_in_time h) (legal_loads h legal))
-    (λ word list is some. plan_turn h factor word list is some)
+    (λ word list is some narrow. plan_turn h kind factor word list is some narrow)
     (spelled_key (one_term phrase))
 
 declines_turn : (h : History) (why : Refusal) → (turn : Turn Reply History) × Declines h why turn.reply turn.next
@@ -225,9 +226,7 @@ each_command h (commands.Find at expr) legal =
     let found = each_finds h at expr legal in
     (record { reply = found.0; next = h }, (refl, found.1))
 each_command h (commands.Show doc at) legal = (record { reply = Shown (text_at h doc at.seconds); next = h }, (refl, refl))
-each_command h (commands.Plan word Guarantee fraction) legal = each_plans h word fraction legal
-each_command h (commands.Plan word Uniform fraction) legal = declines_turn h refusals.Line
-each_command h (commands.Plan word (Since at) fraction) legal = declines_turn h refusals.Line
+each_command h (commands.Plan word kind fraction) legal = each_plans h word kind fraction legal
 each_command h (commands.Propose word fraction) legal =
     let proposed = each_proposes h word fraction legal in
     (record { reply = proposed.0; next = h }, (refl, proposed.1))
@@ -257,9 +256,7 @@ command_legal h (commands.Arrive doc at (texts.TooLong bytes)) reply next legal 
 command_legal h (commands.Delete doc at) reply next legal range step = adds_legal h (entries.Delete doc at) (deletion_refusal h doc at) reply next legal (deletion_legal h doc at range) step
 command_legal h (commands.Find at expr) reply next legal range step = stays_legal h next legal step.0
 command_legal h (commands.Show doc at) reply next legal range step = stays_legal h next legal step.0
-command_legal h (commands.Plan word Guarantee fraction) reply next legal range step = plans_legal h word fraction reply next legal step
-command_legal h (commands.Plan word Uniform fraction) reply next legal range step = stays_legal h next legal step.0
-command_legal h (commands.Plan word (Since at) fraction) reply next legal range step = stays_legal h next legal step.0
+command_legal h (commands.Plan word kind fraction) reply next legal range step = plans_legal h word kind fraction reply next legal step
 command_legal h (commands.Propose word fraction) reply next legal range step = stays_legal h next legal step.0
 command_legal h (commands.Between span expr) reply next legal range step = stays_legal h next legal step.0
 command_legal h (commands.Certificate word) reply next legal range step = stays_legal h next legal step.0
@@ -331,7 +328,7 @@ one_spans h span text = one_text (SpansBy h span) (one_spanned h span) text
 
 one_proposes : (h : History) (phrase : List ℕ) (factor : Fraction) (reply other : Reply) → Proposes h phrase factor reply → Proposes h phrase factor other → SameButSegments reply other
 one_proposes h phrase factor reply other =
-    one_phrase h (SameButSegments reply other) (λ why. reply ≡ Refused why) (λ why. other ≡ Refused why) (λ word list. ProposesPlan factor (last_second h) list reply) (λ word list. ProposesPlan factor (last_second h) list other)
+    one_phrase Guarantee h (SameButSegments reply other) (λ why. reply ≡ Refused why) (λ why. other ≡ Refused why) (λ word list. ProposesPlan factor (last_second h) list reply) (λ word list. ProposesPlan factor (last_second h) list other)
     (λ why a b. inl (a ∙ sym b))
     (λ word list a b.
     let same = differ_in_segments list factor (last_second h) a.0 b.0 a.1 b.1 a.2 b.2 a.3 b.3 in
@@ -353,9 +350,7 @@ one_command h (commands.Arrive doc at (texts.TooLong bytes)) reply other next th
 one_command h (commands.Delete doc at) reply other next then free a b = one_adds h (entries.Delete doc at) (deletion_refusal h doc at) reply other next then a b
 one_command h (commands.Find at expr) reply other next then free a b = one_stays h reply other next then a.0 b.0 (one_finds h at expr reply other a.1 b.1)
 one_command h (commands.Show doc at) reply other next then free a b = one_stays h reply other next then a.0 b.0 (a.1 ∙ sym b.1)
-one_command h (commands.Plan word Guarantee fraction) reply other next then free a b = absurd (free tt)
-one_command h (commands.Plan word Uniform fraction) reply other next then free a b = one_declines h refusals.Line reply other next then a b
-one_command h (commands.Plan word (Since at) fraction) reply other next then free a b = one_declines h refusals.Line reply other next then a b
+one_command h (commands.Plan word kind fraction) reply other next then free a b = absurd (free tt)
 one_command h (commands.Propose word fraction) reply other next then free a b = absurd (free tt)
 one_command h (commands.Between span expr) reply other next then free a b = one_stays h reply other next then a.0 b.0 (one_spans h span expr reply other a.1 b.1)
 one_command h (commands.Certificate word) reply other next then free a b = one_stays h reply other next then a.0 b.0 (one_certifies h word reply other a.1 b.1)
@@ -372,9 +367,7 @@ one_but_segments h (items.Command (commands.Arrive doc at text)) reply other nex
 one_but_segments h (items.Command (commands.Delete doc at)) reply other next then free a b = same_turn (one_command h (commands.Delete doc at) reply other next then (λ x. x) a b)
 one_but_segments h (items.Command (commands.Find at expr)) reply other next then free a b = same_turn (one_command h (commands.Find at expr) reply other next then (λ x. x) a b)
 one_but_segments h (items.Command (commands.Show doc at)) reply other next then free a b = same_turn (one_command h (commands.Show doc at) reply other next then (λ x. x) a b)
-one_but_segments h (items.Command (commands.Plan word Guarantee fraction)) reply other next then free a b = absurd (free tt)
-one_but_segments h (items.Command (commands.Plan word Uniform fraction)) reply other next then free a b = same_turn (one_command h (commands.Plan word Uniform fraction) reply other next then (λ x. x) a b)
-one_but_segments h (items.Command (commands.Plan word (Since at) fraction)) reply other next then free a b = same_turn (one_command h (commands.Plan word (Since at) fraction) reply other next then (λ x. x) a b)
+one_but_segments h (items.Command (commands.Plan word kind fraction)) reply other next then free a b = absurd (free tt)
 one_but_segments h (items.Command (commands.Between span expr)) reply other next then free a b = same_turn (one_command h (commands.Between span expr) reply other next then (λ x. x) a b)
 one_but_segments h (items.Command (commands.Certificate word)) reply other next then free a b = same_turn (one_command h (commands.Certificate word) reply other next then (λ x. x) a b)
 one_but_segments h (items.Command commands.Verify) reply other next then free a b = same_turn (one_command h commands.Verify reply other next then (λ x. x) a b)
@@ -384,18 +377,22 @@ one_but_segments h items.Line reply other next then free a b = same_turn (one_de
 told_same : {one other : Summary} {next then : History} → SameButSegments (Planned one) (Planned other) × (next ≡ then) → SamePlanned one other
 told_same {one = one} {other = other} (inl same, on) =
     let here : one ≡ other = cc in
-    record { length = ap (λ (s : Summary). s.length) here; space = ap (λ (s : Summary). s.space) here; full = ap (λ (s : Summary). s.full) here; horizon = ap (λ (s : Summary). s.horizon) here }
+    record {
+      length = ap (λ (s : Summary). s.length) here;
+      full = ap (λ (s : Summary). s.full) here;
+      horizon = ap (λ (s : Summary). s.horizon) here;
+      cost = ap (λ (s : Summary). s.cost) here;
+      space = λ none. ap (λ (s : Summary). s.space) here;
+    }
 told_same {one = one} (inr (segments, others, nodes, total, is, are), on) = absurd cc
 
 pub planned_alike : (h : History) (item : Item) (one other : Summary) (next then : History) → Step h item (Planned one) next → Step h item (Planned other) then → SamePlanned one other
-planned_alike h (items.Command (commands.Plan word Guarantee fraction)) one other next then a b = plans_alike h word fraction one other next then a b
+planned_alike h (items.Command (commands.Plan word kind fraction)) one other next then a b = plans_alike h word kind fraction one other next then a b
 planned_alike h (items.Command (commands.Arrive doc at text)) one other next then a b = told_same (one_but_segments h (items.Command (commands.Arrive doc at text)) (Planned one) (Planned other) next then (λ x. x) a b)
 planned_alike h (items.Command (commands.Delete doc at)) one other next then a b = told_same (one_but_segments h (items.Command (commands.Delete doc at)) (Planned one) (Planned other) next then (λ x. x) a b)
 planned_alike h (items.Command (commands.Find at expr)) one other next then a b = told_same (one_but_segments h (items.Command (commands.Find at expr)) (Planned one) (Planned other) next then (λ x. x) a b)
 planned_alike h (items.Command (commands.Show doc at)) one other next then a b = told_same (one_but_segments h (items.Command (commands.Show doc at)) (Planned one) (Planned other) next then (λ x. x) a b)
 planned_alike h (items.Command (commands.Propose word fraction)) one other next then a b = told_same (one_but_segments h (items.Command (commands.Propose word fraction)) (Planned one) (Planned other) next then (λ x. x) a b)
-planned_alike h (items.Command (commands.Plan word Uniform fraction)) one other next then a b = told_same (one_but_segments h (items.Command (commands.Plan word Uniform fraction)) (Planned one) (Planned other) next then (λ x. x) a b)
-planned_alike h (items.Command (commands.Plan word (Since at) fraction)) one other next then a b = told_same (one_but_segments h (items.Command (commands.Plan word (Since at) fraction)) (Planned one) (Planned other) next then (λ x. x) a b)
 planned_alike h (items.Command (commands.Between span expr)) one other next then a b = told_same (one_but_segments h (items.Command (commands.Between span expr)) (Planned one) (Planned other) next then (λ x. x) a b)
 planned_alike h (items.Command (commands.Certificate word)) one other next then a b = told_same (one_but_segments h (items.Command (commands.Certificate word)) (Planned one) (Planned other) next then (λ x. x) a b)
 planned_alike h (items.Command commands.Verify) one other next then a b = told_same (one_but_segments h (items.Command commands.Verify) (Planned one) (Planned other) next then (λ x. x) a b)

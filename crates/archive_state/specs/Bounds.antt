@@ -1,8 +1,11 @@
 -- What follows from the definitions: a planned question is bounded, and what is chosen from pages that hold the live plans is the history's.
-use Rattle.std.specs.Prelude.{◌≡◌, ℕ, ◌+◌, ◌*◌, ◌^◌, ◌<◌, ◌≤◌, List, Some, None, All, IsSome}
+use Rattle.std.specs.Prelude.{◌≡◌, ℕ, ◌+◌, ◌*◌, ◌^◌, ◌<◌, ◌≤◌, List, length, Some, None, All, IsSome}
 use Rattle.time_base.specs.declared.ids.DocId.{DocId}
 use Rattle.time_base.specs.declared.posting.Posting.{Posting}
 use Rattle.postings.specs.Sizes.{alive_count}
+use Rattle.commands.specs.declared.command.Kind.TheVariants.{Guarantee}
+use Rattle.space_planner.specs.Caps.{cap}
+use Rattle.stored_plans.specs.Plans.{plan_space}
 use Rattle.record_codec.specs.declared.plan.PlanEntry.{PlanEntry}
 use Rattle.sublist_store.specs.Segments.{next_cut, seconds}
 use Rattle.sublist_store.specs.declared.why.Damage.{Damage}
@@ -17,15 +20,23 @@ use Rattle.archive_state.specs.Answers.{IsAnswerAt, IsSpanAnswerAt, IsWordList}
 use Rattle.archive_state.specs.Chosen.{AreChosen, IsReadOf, IsReadFor, IsMadeAt, IsMadeOver, IsDamagedFor}
 use Rattle.archive_state.specs.Holding.{HoldsPlans}
 use Rattle.archive_state.specs.Legal.{IsLoadable}
+use Rattle.archive_state.specs.Planning.{IsListUpTo}
 use Rattle.archive_state.specs.Plans.{plan_of}
 
--- From the first cut of a word's plan on, and before its horizon, a question for the word reads at most the plan's factor times as many postings
--- as hold the time: one for each document alive that has the word.
+-- From the first cut of a word's plan on that keeps to a guarantee, and before its horizon, a question for the word reads at most the plan's factor
+-- times as many postings as hold the time: one for each document alive that has the word.
 abbrev pub PlannedReadsAreBounded : Type 0
 PlannedReadsAreBounded =
-    (h : History) (word : List ℕ) (plan : PlanEntry) (list : List Posting) (t read : ℕ) → IsLoadable h → plan_of h word ≡ Some plan → IsWordList h word list
+    (h : History) (word : List ℕ) (plan : PlanEntry) (list : List Posting) (t read : ℕ) → IsLoadable h → plan_of h word ≡ Some plan → plan.kind ≡ Guarantee → IsWordList h word list
     → next_cut (seconds plan.cuts) plan.horizon.seconds ≤ t → t < plan.horizon.seconds → IsReadOf h word (Some plan) t (t + 1) read
     → read * plan.fraction.under ≤ plan.fraction.over * alive_count t list
+
+-- The sublists of a word's plan under a space bound have together at most the plan's factor times as many postings as the word's list up to the
+-- horizon, rounded down.
+abbrev pub PlannedSpaceIsCapped : Type 0
+PlannedSpaceIsCapped =
+    (h : History) (word : List ℕ) (plan : PlanEntry) (list : List Posting) → IsLoadable h → plan_of h word ≡ Some plan → (plan.kind ≡ Guarantee → ⊥)
+    → IsListUpTo h word plan.horizon.seconds list → plan_space list plan.cuts plan.horizon.seconds ≤ cap plan.fraction (length list)
 
 -- What is made from pages that hold the live plans is the answer, and costs what it should.
 abbrev pub MadeAtStands : Type 0

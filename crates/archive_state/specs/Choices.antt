@@ -1,33 +1,28 @@
--- What the abstract machine is free to choose: which least plan it shows or stores.
-use Rattle.std.specs.Prelude.{◌≡◌, ◌⊎◌, ℕ, List}
+-- What the abstract machine is free to choose: which least plan it shows, and which least or best plan it stores.
+use Rattle.std.specs.Prelude.{◌≡◌, ◌⊎◌, ℕ, List, None}
 use Rattle.commands.specs.declared.command.Command.TheVariants as commands
 use Rattle.commands.specs.declared.command.Item.{Item}
-use Rattle.commands.specs.declared.command.Kind.TheVariants.{Guarantee, Uniform, Since}
 use Rattle.commands.specs.declared.command.Item.TheVariants as items
 use Rattle.proposals.specs.declared.proposal.Node.{Node}
 use Rattle.proposals.specs.declared.proposal.Segment.{Segment}
 use Rattle.archive_state.specs.Steps.{Reply, Proposed, Summary}
 
--- the item asks for a least plan, to be shown or to be stored: only such an item may have several turns
+-- the item asks for a plan, to be shown or to be stored: only such an item may have several turns
 abbrev pub IsChoice : Item → Type 0
 IsChoice (items.Command (commands.Propose word fraction)) = Unit {0}
 IsChoice (items.Command (commands.Arrive doc at text)) = ⊥
 IsChoice (items.Command (commands.Delete doc at)) = ⊥
 IsChoice (items.Command (commands.Find at expr)) = ⊥
 IsChoice (items.Command (commands.Show doc at)) = ⊥
-IsChoice (items.Command (commands.Plan word Guarantee fraction)) = Unit {0}
-IsChoice (items.Command (commands.Plan word Uniform fraction)) = ⊥
-IsChoice (items.Command (commands.Plan word (Since at) fraction)) = ⊥
+IsChoice (items.Command (commands.Plan word kind fraction)) = Unit {0}
 IsChoice (items.Command (commands.Between span expr)) = ⊥
 IsChoice (items.Command (commands.Certificate word)) = ⊥
 IsChoice (items.Command commands.Verify) = ⊥
 IsChoice items.Line = ⊥
 
--- the item asks for a plan to be stored that keeps to a guarantee (plans of other kinds aren't built yet)
+-- the item asks for a plan to be stored
 abbrev pub IsStoring : Item → Type 0
-IsStoring (items.Command (commands.Plan word Guarantee fraction)) = Unit {0}
-IsStoring (items.Command (commands.Plan word Uniform fraction)) = ⊥
-IsStoring (items.Command (commands.Plan word (Since at) fraction)) = ⊥
+IsStoring (items.Command (commands.Plan word kind fraction)) = Unit {0}
 IsStoring (items.Command (commands.Propose word fraction)) = ⊥
 IsStoring (items.Command (commands.Arrive doc at text)) = ⊥
 IsStoring (items.Command (commands.Delete doc at)) = ⊥
@@ -43,9 +38,10 @@ abbrev pub SameButSegments : Reply → Reply → Type 0
 SameButSegments reply other = (reply ≡ other)
     ⊎ ((segments others : List Segment) × (nodes : List Node) × (total : ℕ) × (reply ≡ Proposed segments nodes total) × (other ≡ Proposed others nodes total))
 
--- what is told of two plans that are stored is the same, but for the number of their segments
+-- what is told of two plans that are stored is the same, but for the number of their segments; and plans under a space bound may differ in space
 pub record SamePlanned (one other : Summary) : Type 0 where
   pub length : one.length ≡ other.length
-  pub space : one.space ≡ other.space
   pub full : one.full ≡ other.full
   pub horizon : one.horizon ≡ other.horizon
+  pub cost : one.cost ≡ other.cost
+  pub space : one.cost ≡ None → one.space ≡ other.space

@@ -1,10 +1,8 @@
--- Which histories are legal, and which a load accepts. They differ in what is asked of a stored plan's partition: a legal history has
--- least ones; a load tests that they are admissible and have their cuts at boundaries.
+-- Which histories are legal, and which a load accepts. They differ in what is asked of a stored plan: in a legal history each is what its kind
+-- promises, a least one or a best one; a load tests that it keeps its bound.
 use Rattle.std.specs.Prelude.{◌≡◌, ◌≤◌, ◌<◌, List, [], ◌∷◌, ◌++◌, length, None}
 use Rattle.time_base.specs.declared.posting.Posting.{Posting}
-use Rattle.commands.specs.declared.command.Kind.{Kind}
-use Rattle.commands.specs.declared.command.Kind.TheVariants.{Guarantee, Uniform, Since}
-use Rattle.stored_plans.specs.Plans.{Asks, IsNarrow, IsLeastPlan, IsFitPlan}
+use Rattle.stored_plans.specs.Plans.{Asks, IsGoodPlan, IsFitFor}
 use Rattle.record_codec.specs.Spelling.{IsEntry}
 use Rattle.record_codec.specs.declared.entry.Entry.{Entry}
 use Rattle.record_codec.specs.declared.entry.Entry.TheVariants.{Arrive, Delete, Planned}
@@ -12,21 +10,14 @@ use Rattle.record_codec.specs.declared.plan.PlanEntry.{PlanEntry}
 use Rattle.archive_state.specs.Histories.{History, entry_refusal}
 use Rattle.archive_state.specs.Planning.{IsListUpTo, last_second}
 
--- What is asked of a plan by its kind. One that keeps to a guarantee: its list has few enough boundaries, and its partition is Good, which
--- stands for what is asked of partitions. Plans of other kinds aren't built yet, and none may come.
-abbrev pub Suits : Asks → List Posting → PlanEntry → Kind → Type 0
-Suits Good list plan Guarantee = IsNarrow list plan.horizon.seconds × Good list plan.fraction plan.cuts plan.horizon.seconds
-Suits Good list plan Uniform = ⊥
-Suits Good list plan (Since at) = ⊥
-
 -- A plan may come after a history: its horizon isn't later than the last time, its word has postings before the horizon (so some text has the
--- word), and it suits the list of these.
+-- word), and it is Good for the list of these, which stands for what is asked of plans by their kind.
 pub record MayBePlanned (Good : Asks) (before : History) (plan : PlanEntry) : Type 0 where
   pub past : plan.horizon.seconds ≤ last_second before
   pub list : List Posting
   pub list_is : IsListUpTo before plan.word plan.horizon.seconds list
   pub some : 0 < length list
-  pub suits : Suits Good list plan plan.kind
+  pub suits : Good plan.kind list plan.fraction plan.cuts plan.horizon.seconds
 
 -- where the entry is a plan, it may come; nothing is asked of a change here
 abbrev pub IfPlanned : Asks → History → Entry → Type 0
@@ -45,18 +36,18 @@ abbrev pub EachMayCome : Asks → History → List Entry → Type 0
 EachMayCome Good before [] = Unit {0}
 EachMayCome Good before (entry ∷ entries) = MayCome Good before entry × EachMayCome Good (before ++ entry ∷ []) entries
 
--- an entry is legal after a history: a plan is a least one
+-- an entry is legal after a history: a plan is what its kind promises
 abbrev pub IsLegalEntry : History → Entry → Type 0
-IsLegalEntry before entry = MayCome IsLeastPlan before entry
+IsLegalEntry before entry = MayCome IsGoodPlan before entry
 
--- an entry passes the tests of a load after a history: a plan need not be a least one
+-- an entry passes the tests of a load after a history: a plan keeps its bound
 abbrev pub IsLoadableEntry : History → Entry → Type 0
-IsLoadableEntry before entry = MayCome IsFitPlan before entry
+IsLoadableEntry before entry = MayCome IsFitFor before entry
 
 -- a history is legal
 abbrev pub IsLegal : History → Type 0
-IsLegal history = EachMayCome IsLeastPlan [] history
+IsLegal history = EachMayCome IsGoodPlan [] history
 
 -- a load accepts a history
 abbrev pub IsLoadable : History → Type 0
-IsLoadable history = EachMayCome IsFitPlan [] history
+IsLoadable history = EachMayCome IsFitFor [] history

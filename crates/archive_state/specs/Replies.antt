@@ -83,10 +83,15 @@ space_text segments total = codes "end " ++ decimal segments ++ codes " space " 
 abbrev pub proposal_text : List Segment → List Node → ℕ → List ℕ
 proposal_text segments nodes total = (flat_map segment_text segments ++ flat_map node_text nodes) ++ space_text (length segments) total
 
+-- what is told of a plan's expected cost, if it has one
+abbrev pub cost_text : Option ℕ → List ℕ
+cost_text None = []
+cost_text (Some cost) = codes " cost " ++ decimal cost
+
 -- the line of a plan that was stored
 abbrev pub summary_text : Summary → List ℕ
 summary_text s = codes "plan " ++ decimal s.length ++ codes " segments " ++ decimal s.segments ++ codes " space " ++ decimal s.space ++ codes " full " ++ decimal s.full
-    ++ codes " horizon " ++ decimal s.horizon ++ 10 ∷ []
+    ++ codes " horizon " ++ decimal s.horizon ++ cost_text s.cost ++ 10 ∷ []
 
 -- the text of a reply
 abbrev pub reply_text : Reply → List ℕ

@@ -1,5 +1,5 @@
 -- Worked rows, which hold by computation: what the definitions say of small histories.
-use Rattle.std.specs.Prelude.{◌≡◌, ℕ, List, [], ◌∷◌, ◌++◌, replicate, codes, refl}
+use Rattle.std.specs.Prelude.{◌≡◌, ℕ, List, [], ◌∷◌, ◌++◌, Some, None, replicate, codes, refl}
 use Rattle.std.specs.Fmt.{digits}
 use Rattle.std.specs.Str.{is_utf8, chars}
 use Rattle.std.specs.Str.Lossy.{utf8_valid_len}
@@ -116,7 +116,8 @@ unfolding plan_spelling
 gates = (refl, refl)
 
 -- the reply to a plan that is stored, and to a word that has none
-plan_texts : (reply_text (Planned (record { length = 5; segments = 3; space = 4; full = 2; horizon = 40 })) ≡ codes "plan 5 segments 3 space 4 full 2 horizon 40" ++ 10 ∷ [])
+plan_texts : (reply_text (Planned (record { length = 5; segments = 3; space = 4; full = 2; horizon = 40; cost = None })) ≡ codes "plan 5 segments 3 space 4 full 2 horizon 40" ++ 10 ∷ [])
+    × (reply_text (Planned (record { length = 5; segments = 1; space = 2; full = 2; horizon = 40; cost = Some 60 })) ≡ codes "plan 5 segments 1 space 2 full 2 horizon 40 cost 60" ++ 10 ∷ [])
     × (reply_text (Refused refusals.NoPlan) ≡ codes "no 14 NoPlan" ++ 10 ∷ [])
 unfolding digits
-plan_texts = (refl, refl)
+plan_texts = (refl, refl, refl)

@@ -28,7 +28,7 @@ use Rattle.record_codec.specs.declared.plan.PlanEntry.{PlanEntry}
 use Rattle.page_store.specs.Placing.{ArePlaced, HaveNoRoom}
 use Rattle.sublist_store.specs.Preparing.{IsFor, extents, sizes, spellings}
 use Rattle.sublist_store.specs.Segments.{seconds}
-use Rattle.stored_plans.specs.Plans.{IsLeastPlan, plan_space}
+use Rattle.stored_plans.specs.Plans.{IsGoodPlan, IsCostOf, plan_space}
 use Rattle.fold_tokens.specs.Terms.{one_term}
 use Rattle.proposals.specs.Proposals.{IsProposal}
 use Rattle.proposals.specs.declared.proposal.Node.{Node}
@@ -47,13 +47,15 @@ use Rattle.archive_state.specs.Planning.{OfPhrase, OfTerm, IsListUpTo, last_seco
 use Rattle.archive_state.specs.Plans.{live_extents, plan_of}
 
 -- what is told of a plan that is stored: how many entries the history has now, how many segments the plan has, how many postings their sublists
--- have together, how many postings the word's list has up to the horizon, and the horizon in seconds
+-- have together, how many postings the word's list has up to the horizon, and the horizon in seconds; and of a plan under a space bound, what its
+-- reads are expected to cost, in postings read if the times are asked for as its load says
 pub record Summary : Type 0 where
   pub length : ℕ
   pub segments : ℕ
   pub space : ℕ
   pub full : ℕ
   pub horizon : ℕ
+  pub cost : Option ℕ
 
 -- what an item is answered
 pub data Reply : Type 0 where
@@ -134,7 +136,7 @@ ProposesPlan factor horizon list reply =
 -- what is proposed for a phrase: it is refused, or a least plan of its word's list up to the last time is shown
 abbrev pub Proposes : History → List ℕ → Fraction → Reply → Type 0
 Proposes history phrase factor reply =
-    OfPhrase history (one_term phrase) (λ why. reply ≡ Refused why) (λ word list. ProposesPlan factor (last_second history) list reply)
+    OfPhrase Guarantee history (one_term phrase) (λ why. reply ≡ Refused why) (λ word list. ProposesPlan factor (last_second history) list reply)
 
 -- the stored plan of a word's list, as it is shown: a proposal whose segments begin at the plan's cuts
 pub record IsCertificate (plan : PlanEntry) (list : List Posting) (segments : List Segment) (nodes : List Node) (total : ℕ) : Type 0 where
@@ -161,37 +163,39 @@ Certifies history phrase reply = OfTerm history (one_term phrase) (λ why. reply
 abbrev pub Declines : History → Refusal → Reply → History → Type 0
 Declines old why reply new = (new ≡ old) × (reply ≡ Refused why)
 
--- the entry of a plan that is stored and keeps to a guarantee: its sublists are in blocks
-abbrev pub guarantee : List ℕ → Fraction → Time → List Time → List Place → PlanEntry
-guarantee word factor horizon cuts places =
-    record { word = word; layout = Blocks; kind = Guarantee; fraction = factor; horizon = horizon; cuts = cuts; places = places }
+-- the entry of a plan that is stored: its sublists are in blocks
+abbrev pub in_blocks : List ℕ → Kind → Fraction → Time → List Time → List Place → PlanEntry
+in_blocks word kind factor horizon cuts places =
+    record { word = word; layout = Blocks; kind = kind; fraction = factor; horizon = horizon; cuts = cuts; places = places }
 
 -- a plan's entry comes behind the history; or it is refused, as with it the journal would pass its limit
 abbrev pub AddsPlan : History → PlanEntry → Option Refusal → List Posting → Reply → History → Type 0
-AddsPlan old plan None list reply new = (new ≡ old ++ entries.Planned plan ∷ []) × (reply ≡ Planned (record {
-  length = length new;
-  segments = length plan.cuts;
-  space = plan_space list plan.cuts plan.horizon.seconds;
-  full = length list;
-  horizon = plan.horizon.seconds;
-}))
+AddsPlan old plan None list reply new =
+    (new ≡ old ++ entries.Planned plan ∷ []) × ((cost : Option ℕ) × IsCostOf plan.kind list plan.cuts plan.horizon.seconds cost × (reply ≡ Planned (record {
+      length = length new;
+      segments = length plan.cuts;
+      space = plan_space list plan.cuts plan.horizon.seconds;
+      full = length list;
+      horizon = plan.horizon.seconds;
+      cost = cost;
+    })))
 AddsPlan old plan (Some why) list reply new = Declines old why reply new
 
 -- A plan with these cuts is stored: each segment's sublist takes the lowest run of pages that no live place and no earlier segment has. Where
 -- there is no such run, it is refused.
-abbrev pub StoresCuts : History → List ℕ → Fraction → Time → List Time → List Posting → Reply → History → Type 0
-StoresCuts old word factor horizon cuts list reply new = let bytes = spellings Blocks list (seconds cuts) horizon.seconds in
+abbrev pub StoresCuts : History → List ℕ → Kind → Fraction → Time → List Time → List Posting → Reply → History → Type 0
+StoresCuts old word kind factor horizon cuts list reply new = let bytes = spellings Blocks list (seconds cuts) horizon.seconds in
     (HaveNoRoom (live_extents old) (sizes bytes) × Declines old (refusals.Full Pages (limit_of Pages)) reply new)
     ⊎ ((places : List Place) × ArePlaced (live_extents old) (sizes bytes) (extents places) × AllZip IsFor places bytes
-    × (let plan = guarantee word factor horizon cuts places in AddsPlan old plan (full_journal old (entries.Planned plan)) list reply new))
+    × (let plan = in_blocks word kind factor horizon cuts places in AddsPlan old plan (full_journal old (entries.Planned plan)) list reply new))
 
--- any least plan of a word's list up to the last time is stored, if there is room for it
-pub record StoresPlan (old : History) (factor : Fraction) (word : List ℕ) (list : List Posting) (reply : Reply) (new : History) : Type 0 where
+-- any plan of a word's list up to the last time that is what its kind promises is stored, if there is room for it
+pub record StoresPlan (old : History) (kind : Kind) (factor : Fraction) (word : List ℕ) (list : List Posting) (reply : Reply) (new : History) : Type 0 where
   pub horizon : Time
   pub horizon_is : horizon.seconds ≡ last_second old
   pub cuts : List Time
-  pub least : IsLeastPlan list factor cuts horizon.seconds
-  pub stores : StoresCuts old word factor horizon cuts list reply new
+  pub good : IsGoodPlan kind list factor cuts horizon.seconds
+  pub stores : StoresCuts old word kind factor horizon cuts list reply new
 
 -- A term's key, if it is UTF-8, as an entry's word has to be. (A key encodes what Unicode's tables give, so each should be. That isn't proved of
 -- the tables, so it is asked here; a phrase whose key weren't UTF-8 would be refused as NotOneTerm.)
@@ -199,10 +203,10 @@ abbrev pub spelled_key : Option (List ℕ) → Option (List ℕ)
 spelled_key None = None
 spelled_key (Some key) = if is_utf8 key then Some key else None
 
--- what becomes of a phrase that is to be planned: it is refused, or a least plan of its word's list is stored
-abbrev pub Plans : History → List ℕ → Fraction → Reply → History → Type 0
-Plans old phrase factor reply new =
-    OfPhrase old (spelled_key (one_term phrase)) (λ why. Declines old why reply new) (λ word list. StoresPlan old factor word list reply new)
+-- what becomes of a phrase that is to be planned: it is refused, or a plan of its word's list is stored that is what its kind promises
+abbrev pub Plans : History → List ℕ → Kind → Fraction → Reply → History → Type 0
+Plans old phrase kind factor reply new =
+    OfPhrase kind old (spelled_key (one_term phrase)) (λ why. Declines old why reply new) (λ word list. StoresPlan old kind factor word list reply new)
 
 -- a version arrives, with a text that was kept, or with one that is too long to be
 abbrev pub Arrives : History → DocId → Time → Text → Reply → History → Type 0
@@ -216,9 +220,7 @@ CarriesOut old (commands.Arrive doc at text) reply new = Arrives old doc at text
 CarriesOut old (commands.Delete doc at) reply new = Adds old (entries.Delete doc at) (deletion_refusal old doc at) reply new
 CarriesOut old (commands.Find at expr) reply new = (new ≡ old) × Finds old at expr reply
 CarriesOut old (commands.Show doc at) reply new = (new ≡ old) × (reply ≡ Shown (text_at old doc at.seconds))
-CarriesOut old (commands.Plan word Guarantee fraction) reply new = Plans old word fraction reply new
-CarriesOut old (commands.Plan word Uniform fraction) reply new = Declines old refusals.Line reply new
-CarriesOut old (commands.Plan word (Since at) fraction) reply new = Declines old refusals.Line reply new
+CarriesOut old (commands.Plan word kind fraction) reply new = Plans old word kind fraction reply new
 CarriesOut old (commands.Propose word fraction) reply new = (new ≡ old) × Proposes old word fraction reply
 CarriesOut old (commands.Between span expr) reply new = (new ≡ old) × Spans old span expr reply
 CarriesOut old (commands.Certificate word) reply new = (new ≡ old) × Certifies old word reply

@@ -11,7 +11,7 @@ ghost use Rattle.archive_state.specs.Choices.{IsChoice, IsStoring, SameButSegmen
 ghost use Rattle.archive_state.specs.Steps.{Reply, Planned, Summary, Step};
 ghost use Rattle.archive_state.specs.Runs.{Turn};
 ghost use Rattle.archive_state.specs.Stands.{Stands, IsNotArchive, bodies_of};
-ghost use Rattle.archive_state.specs.Bounds.{PlannedReadsAreBounded, MadeAtStands, MadeOverStands, HeldIsUndamaged, UnplannedHitsAreAlive};
+ghost use Rattle.archive_state.specs.Bounds.{PlannedReadsAreBounded, PlannedSpaceIsCapped, MadeAtStands, MadeOverStands, HeldIsUndamaged, UnplannedHitsAreAlive};
 
 /// A history is legal exactly where each of its entries is legal after those before it, and a load
 /// accepts each legal history. A history's journal ends with one byte behind its records, the closed
@@ -23,12 +23,12 @@ pub fn a_history_is_legal_entry_by_entry()
     ensures end { (h : History) → end_of h ≡ length (front (bodies_of h)) + 1 }
 {}
 
-/// The abstract machine never gets stuck, and chooses nothing but which least plan it proposes or
-/// stores. From a legal history each item has a turn. It is the only one where no plan is asked for;
-/// two turns that propose a plan differ in its segments alone; and where two turns of one item each
-/// store a plan, their replies are the same but for the number of segments. (By its choice the one
-/// may find room in Pages where the other is refused.) Where the item's document is in range, a turn
-/// leads to a legal history. Does nothing.
+/// The abstract machine never gets stuck, and chooses nothing but which least plan it proposes, and
+/// which least or best plan it stores. From a legal history each item has a turn. It is the only one
+/// where no plan is asked for; two turns that propose a plan differ in its segments alone; and where
+/// two turns of one item each store a plan, their replies are the same but for the number of segments
+/// and, under a space bound, the space. (By its choice the one may find room in Pages where the other
+/// is refused.) Where the item's document is in range, a turn leads to a legal history. Does nothing.
 pub fn each_item_has_one_turn()
     ensures turn { (h : History) (item : Item) → IsLegal h → (turn : Turn Reply History) × Step h item turn.reply turn.next }
     ensures one { (h : History) (item : Item) (reply other : Reply) (next then : History) → (IsChoice item → ⊥) → Step h item reply next → Step h item other then → (reply ≡ other) × (next ≡ then) }
@@ -49,11 +49,17 @@ pub fn an_archive_is_refused_at_one_place()
     ensures one_place { (image : Bytes) (one other : ℕ) → IsNotArchive image one → IsNotArchive image other → one ≡ other }
 {}
 
-/// A question for a planned word, for a time from the plan's first cut on and before its horizon,
-/// reads at most the plan's factor times as many postings as documents alive have the word. Does
-/// nothing.
+/// A question for a word whose plan keeps to a guarantee, for a time from the plan's first cut on and
+/// before its horizon, reads at most the plan's factor times as many postings as documents alive have
+/// the word. Does nothing.
 pub fn planned_reads_are_bounded()
     ensures { PlannedReadsAreBounded }
+{}
+
+/// A plan under a space bound takes at most its factor times as many postings as the word's list up to
+/// its horizon, rounded down. Does nothing.
+pub fn planned_space_is_capped()
+    ensures { PlannedSpaceIsCapped }
 {}
 
 /// In pages that hold the live plans nothing is damaged, and what is made from them is the answer

@@ -17,7 +17,7 @@ mod stored;
 pub use laws::{
     a_history_is_legal_entry_by_entry, an_archive_is_refused_at_one_place,
     an_image_stands_for_one_history, each_item_has_one_turn, planned_reads_are_bounded,
-    what_is_made_of_held_pages_stands,
+    planned_space_is_capped, what_is_made_of_held_pages_stands,
 };
 pub use refusal::Refusal;
 pub use stored::StoredPlan;
