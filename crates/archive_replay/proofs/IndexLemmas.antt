@@ -21,7 +21,7 @@ use Rattle.archive_state.specs.Histories.{History, changes, acts, entry_keys, vo
 use Rattle.archive_state.specs.Plans.{IsChange}
 use Rattle.archive_state.specs.Legal.{IsLoadable}
 use Rattle.archive_state.proofs.LiveLemmas.{EachAllowed, allowed_push, come_allowed}
-use Rattle.stored_plans.specs.Plans.{IsFitPlan}
+use Rattle.stored_plans.specs.Plans.{IsFitFor}
 use Rattle.archive_state.specs.Answers.{IsWordList}
 use Rattle.archive_state.proofs.HistoryLemmas.{changes-push}
 use Rattle.archive_state.proofs.RefusalLemmas.{too_many_words, words_fit}
@@ -114,7 +114,7 @@ change_comes h e x loads next makes =
     let L : Change (List ℕ) → Type 0 = λ c. ComesLater (changes h) c in (
       change,
       changes_more h e change ∙ ap (λ (c : Change (List ℕ)). changes h ++ c ∷ []) is,
-      subst L is (comes_later h e change (come_allowed IsFitPlan [] h loads) next),
+      subst L is (comes_later h e change (come_allowed IsFitFor [] h loads) next),
     )
 
 -- a word's list

@@ -10,7 +10,6 @@ use Rattle.postings.specs.Lists.{sublist}
 use Rattle.postings.specs.Clips.{IsCut, IsClip}
 use Rattle.postings.specs.ListsOf.{IsListOf}
 use Rattle.postings.proofs.Clipping.{clip_of_list_of}
-use Rattle.commands.specs.declared.command.Item.TheVariants as items
 
 -- a clip ends in time
 pub clip_early : (f g : ℕ) (list clip : List Posting) → AllZip (IsCut f g) list clip → All (λ p. p.span.to ≤ g) clip

@@ -1,5 +1,5 @@
 -- Live plans, each of another word: a plan that takes the place of the one that its word had.
-use Rattle.std.proofs.Common.{◌≡◌, ℕ, zero, suc, ◌+◌, ◌<◌, Bool, true, false, not, bytes_eq, cond, List, [], ◌∷◌, ◌++◌, length, filter, take, drop, get_or, All, refl, ap, sym, subst, ◌∙◌, arith}
+use Rattle.std.proofs.Common.{◌≡◌, ℕ, zero, suc, ◌<◌, Bool, true, false, not, bytes_eq, cond, List, [], ◌∷◌, ◌++◌, length, filter, take, drop, get_or, All, refl, ap, sym, subst, ◌∙◌, arith}
 use Rattle.std.proofs.lemmas.List.Elements.{All-nil, All-head, All-tail, All-push, All-filter, filter_passes}
 use Rattle.std.proofs.lemmas.Slice.Eq.{bytes_eq-Decides}
 use Rattle.fold_tokens.proofs.CountLemmas.{flipped}

@@ -26,15 +26,12 @@ use Rattle.version_index.specs.Loads.{Loaded, AreLoaded}
 use Rattle.archive_state.specs.declared.refusal.Refusal.{Refusal}
 use Rattle.archive_state.specs.declared.stored.StoredPlan.{StoredPlan}
 use Rattle.archive_state.specs.Histories.{History, changes, end_of, entry_refusal}
-use Rattle.archive_state.specs.Legal.{Suits, MayBePlanned}
+use Rattle.archive_state.specs.Legal.{MayBePlanned}
 use Rattle.archive_state.specs.Plans.{IsChange}
 use Rattle.archive_state.proofs.LiveLemmas.{EachAllowed}
 use Rattle.archive_state.proofs.StoringLemmas.{list_behind}
 use Rattle.archive_replay.specs.Texts.{nothing}
-use Rattle.commands.specs.declared.command.Kind.{Kind}
-use Rattle.commands.specs.declared.command.Kind.TheVariants.{Guarantee, Uniform, Since}
-use Rattle.time_base.specs.declared.posting.Posting.{Posting}
-use Rattle.stored_plans.specs.Plans.{Asks, IsFitPlan}
+use Rattle.stored_plans.specs.Plans.{IsFitFor}
 use Rattle.record_codec.specs.declared.plan.PlanEntry.{PlanEntry}
 use Rattle.version_store.specs.Changes.{last_time}
 use Rattle.version_store.proofs.Mapped.{last_time-mapped}
@@ -181,34 +178,25 @@ placed_last h cs placed =
     sym (last_time-mapped (nothing {A = TextPlace}) cs) ∙ ap last_time (bare_changes 16 h cs placed) ∙ last_time-mapped (nothing {A = List ℕ}) (changes h)
 
 timely_same : (h : History) (cs : List (Change TextPlace)) (plan : PlanEntry) → ArePlaced 16 h cs → IsTimely cs plan → IsTimely (changes h) plan
-timely_same h cs plan placed timely = (timely.0, (timely.1.0, (sym (placed_last h cs placed) ∙ timely.1.1.0, timely.1.1.1)))
+timely_same h cs plan placed timely = (timely.0, (sym (placed_last h cs placed) ∙ timely.1.0, timely.1.1))
 
 timely_back : (h : History) (cs : List (Change TextPlace)) (plan : PlanEntry) → ArePlaced 16 h cs → IsTimely (changes h) plan → IsTimely cs plan
-timely_back h cs plan placed timely = (timely.0, (timely.1.0, (placed_last h cs placed ∙ timely.1.1.0, timely.1.1.1)))
+timely_back h cs plan placed timely = (timely.0, (placed_last h cs placed ∙ timely.1.0, timely.1.1))
 
 -- the test of it
-pub timely_at : (cs : List (Change TextPlace)) (plan : PlanEntry) (last : Time) (b : Bool) → last_time cs ≡ Some last → plan.kind ≡ Guarantee → (IsTrue b ↔ (plan.horizon.seconds ≤ last.seconds)) → IsTrue b ↔ IsTimely cs plan
-timely_at cs plan last b is kind by = (
-  (λ holds. (kind, (last, (is, by.0 holds)))),
-  (λ timely. by.1 (let T : Time → Type 0 = λ t. plan.horizon.seconds ≤ t.seconds in let same : timely.1.0 ≡ last = (let there = timely.1.1.0 in cc) in subst T same timely.1.1.1)),
+pub timely_at : (cs : List (Change TextPlace)) (plan : PlanEntry) (last : Time) (b : Bool) → last_time cs ≡ Some last → (IsTrue b ↔ (plan.horizon.seconds ≤ last.seconds)) → IsTrue b ↔ IsTimely cs plan
+timely_at cs plan last b is by = (
+  (λ holds. (last, (is, by.0 holds))),
+  (λ timely. by.1 (let T : Time → Type 0 = λ t. plan.horizon.seconds ≤ t.seconds in let same : timely.0 ≡ last = (let there = timely.1.0 in cc) in subst T same timely.1.1)),
 )
 
-pub timely_never : (cs : List (Change TextPlace)) (plan : PlanEntry) → last_time cs ≡ None → IsTimely cs plan → ⊥
-timely_never cs plan none timely = let some = timely.1.1.0 in cc
-
 -- what may be planned is timely
-suits_kind : (Good : Asks) (list : List Posting) (plan : PlanEntry) (kind : Kind) → Suits Good list plan kind → kind ≡ Guarantee
-suits_kind Good list plan Guarantee suits = refl
-suits_kind Good list plan Uniform suits = absurd suits
-suits_kind Good list plan (Since at) suits = absurd suits
-
 some_last : (o : Option Time) (n : ℕ) → 0 < n → n ≤ unwrap_or (option_map (λ (t : Time). t.seconds) o) 0 → (t : Time) × ((o ≡ Some t) × (n ≤ t.seconds))
 some_last None n some within = absurd (omega (arith, some, within))
 some_last (Some t) n some within = (t, (refl, within))
 
-pub planned_timely : (h : History) (plan : PlanEntry) → MayBePlanned IsFitPlan h plan → IsTimely (changes h) plan
-planned_timely h plan may =
-    (suits_kind IsFitPlan may.list plan plan.kind may.suits, some_last (last_time (changes h)) plan.horizon.seconds (list_behind may.list plan.horizon.seconds may.some may.list_is.inside) may.past)
+pub planned_timely : (h : History) (plan : PlanEntry) → MayBePlanned IsFitFor h plan → IsTimely (changes h) plan
+planned_timely h plan may = some_last (last_time (changes h)) plan.horizon.seconds (list_behind may.list plan.horizon.seconds may.some may.list_is.inside) may.past
 
 pub plan_over : (gate : ℕ) (h : History) (plan : PlanEntry) (cs : List (Change TextPlace)) (plans : List StoredPlan) (loader : Loaded)
     → IsReached gate h cs plans → IsEntry (Planned plan) → IsTimely cs plan → AreLoaded loader (changes h) → IsGoneOver gate h (spelling (Planned plan)) cs (plans ++ record { gate = gate; plan = plan } ∷ []) loader

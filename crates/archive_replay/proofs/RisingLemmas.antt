@@ -17,7 +17,7 @@ use Rattle.version_store.proofs.Indexed.{same-is}
 use Rattle.version_store.proofs.Law.{last_of-cons}
 use Rattle.record_codec.specs.declared.entry.Entry.{Entry}
 use Rattle.record_codec.specs.declared.entry.Entry.TheVariants.{Arrive, Delete, Planned}
-use Rattle.stored_plans.specs.Plans.{IsFitPlan}
+use Rattle.stored_plans.specs.Plans.{IsFitFor}
 use Rattle.archive_state.specs.Histories.{History, changes, acts, entry_refusal}
 use Rattle.archive_state.specs.Legal.{IsLoadable}
 use Rattle.archive_state.proofs.LiveLemmas.{EachAllowed, come_allowed}
@@ -123,4 +123,4 @@ pub allowed_rises : (h : History) → EachAllowed [] h → RiseByDocument (chang
 allowed_rises h allowed = (rising_more [] h allowed (record { last = 0; all = All-nil (λ c. c.at.seconds ≤ 0); back = λ at none. omega arith; rise = λ doc. tt })).rise
 
 pub loadable_rises : (h : History) → IsLoadable h → RiseByDocument (changes h)
-loadable_rises h loads = allowed_rises h (come_allowed IsFitPlan [] h loads)
+loadable_rises h loads = allowed_rises h (come_allowed IsFitFor [] h loads)

@@ -11,9 +11,7 @@ use Rattle.gate_journal.specs.declared.head.Head.{Head}
 use Rattle.gate_journal.specs.Heads.{AreInRow}
 use Rattle.time_base.specs.declared.text_place.TextPlace.{TextPlace}
 use Rattle.version_store.specs.declared.change.Change.{Change}
-use Rattle.commands.specs.declared.command.Kind.{Kind}
-use Rattle.commands.specs.declared.command.Kind.TheVariants.{Guarantee, Uniform, Since}
-use Rattle.stored_plans.specs.Plans.{Asks, IsNarrow, IsFitPlan}
+use Rattle.stored_plans.specs.Plans.{IsFitFor}
 use Rattle.record_codec.specs.Spelling.{spelling, IsEntry}
 use Rattle.record_codec.specs.declared.entry.Entry.{Entry}
 use Rattle.record_codec.specs.declared.entry.Entry.TheVariants.{Arrive, Delete, Planned}
@@ -21,7 +19,7 @@ use Rattle.record_codec.specs.declared.plan.PlanEntry.{PlanEntry}
 use Rattle.version_store.specs.Changes.{last_time}
 use Rattle.archive_state.specs.declared.stored.StoredPlan.{StoredPlan}
 use Rattle.archive_state.specs.Histories.{History, changes, end_of}
-use Rattle.archive_state.specs.Legal.{Suits, MayCome, EachMayCome, IsLoadable, IsLoadableEntry}
+use Rattle.archive_state.specs.Legal.{MayCome, EachMayCome, IsLoadable, IsLoadableEntry}
 use Rattle.postings.proofs.Clipping.{one_list_of}
 use Rattle.archive_state.specs.Answers.{frequency_at}
 use Rattle.archive_state.specs.Planning.{IsListUpTo, last_second}
@@ -39,19 +37,13 @@ timely_past : (o : Option Time) (n : ℕ) (last : Time) → o ≡ Some last → 
 timely_past o n last is within = let P : Option Time → Type 0 = λ x. n ≤ unwrap_or (option_map (λ (t : Time). t.seconds) x) 0 in subst P (sym is) within
 
 past_of : (before : History) (plan : PlanEntry) → IsTimely (changes before) plan → plan.horizon.seconds ≤ last_second before
-past_of before plan timely = timely_past (last_time (changes before)) plan.horizon.seconds timely.1.0 timely.1.1.0 timely.1.1.1
-
-suits_parts : (Good : Asks) (list : List Posting) (plan : PlanEntry) (kind : Kind) → Suits Good list plan kind → IsNarrow list plan.horizon.seconds × Good list plan.fraction plan.cuts plan.horizon.seconds
-suits_parts Good list plan Guarantee suits = suits
-suits_parts Good list plan Uniform suits = absurd suits
-suits_parts Good list plan (Since at) suits = absurd suits
+past_of before plan timely = timely_past (last_time (changes before)) plan.horizon.seconds timely.0 timely.1.0 timely.1.1
 
 -- among all entries it is fit as it is after those before it
-fit_may : (whole before h : History) (gate : ℕ) (plan : PlanEntry) → whole ≡ before ++ Planned plan ∷ h → AreOpen before (Planned plan ∷ h) → IsFitIn whole (record { gate = gate; plan = plan }) → MayCome IsFitPlan before (Planned plan)
-fit_may whole before h gate plan is opens (list, (list_is, some, narrow, fit)) =
+fit_may : (whole before h : History) (gate : ℕ) (plan : PlanEntry) → whole ≡ before ++ Planned plan ∷ h → AreOpen before (Planned plan ∷ h) → IsFitIn whole (record { gate = gate; plan = plan }) → MayCome IsFitFor before (Planned plan)
+fit_may whole before h gate plan is opens (list, (list_is, some, fit)) =
     let past = past_of before plan opens.0.timely in
     let W : History → Type 0 = λ g. IsListUpTo g plan.word plan.horizon.seconds list in
-    let K : Kind → Type 0 = λ k. Suits IsFitPlan list plan k in
     record {
       ranges = opens.0.ranges;
       allowed = opens.0.allowed;
@@ -60,16 +52,15 @@ fit_may whole before h gate plan is opens (list, (list_is, some, narrow, fit)) =
         list = list;
         list_is = list_was before (Planned plan ∷ h) plan.word plan.horizon.seconds list (open_allowed before (Planned plan ∷ h) opens) past (subst W is list_is);
         some = some;
-        suits = subst K (sym opens.0.timely.0) (narrow, fit);
+        suits = fit;
       };
     }
 
-may_fit : (whole before h : History) (gate : ℕ) (plan : PlanEntry) → whole ≡ before ++ Planned plan ∷ h → AreOpen before (Planned plan ∷ h) → MayCome IsFitPlan before (Planned plan) → IsFitIn whole (record { gate = gate; plan = plan })
+may_fit : (whole before h : History) (gate : ℕ) (plan : PlanEntry) → whole ≡ before ++ Planned plan ∷ h → AreOpen before (Planned plan ∷ h) → MayCome IsFitFor before (Planned plan) → IsFitIn whole (record { gate = gate; plan = plan })
 may_fit whole before h gate plan is opens may =
-    let W : History → Type 0 = λ g. IsListUpTo g plan.word plan.horizon.seconds may.planned.list in
-    let parts = suits_parts IsFitPlan may.planned.list plan plan.kind may.planned.suits in (
+    let W : History → Type 0 = λ g. IsListUpTo g plan.word plan.horizon.seconds may.planned.list in (
       may.planned.list,
-      (subst W (sym is) (list_stays before (Planned plan ∷ h) plan.word plan.horizon.seconds may.planned.list (open_allowed before (Planned plan ∷ h) opens) may.planned.past may.planned.list_is), may.planned.some, parts.0, parts.1),
+      (subst W (sym is) (list_stays before (Planned plan ∷ h) plan.word plan.horizon.seconds may.planned.list (open_allowed before (Planned plan ∷ h) opens) may.planned.past may.planned.list_is), may.planned.some, may.planned.suits),
     )
 
 further : (whole before h : History) (e : Entry) → whole ≡ before ++ e ∷ h → whole ≡ (before ++ e ∷ []) ++ h
@@ -77,7 +68,7 @@ further whole before h e is = is ∙ sym (append_assoc before (e ∷ []) h)
 
 -- ---- all of them
 
-settle_all : (whole before h : History) (gate : ℕ) → whole ≡ before ++ h → AreOpen before h → All (IsFitIn whole) (plans_from gate h) → EachMayCome IsFitPlan before h
+settle_all : (whole before h : History) (gate : ℕ) → whole ≡ before ++ h → AreOpen before h → All (IsFitIn whole) (plans_from gate h) → EachMayCome IsFitFor before h
 settle_all whole before [] gate is opens fit = tt
 settle_all whole before (Arrive doc at text ∷ h) gate is opens fit = (
   record { ranges = opens.0.ranges; allowed = opens.0.allowed; planned = tt },
@@ -139,15 +130,15 @@ settle_first whole before [] gate at is opens loads here unfit = absurd (none un
 settle_first whole before (Arrive doc at_ text ∷ h) gate at is opens loads here unfit =
     let e = Arrive doc at_ text in
     settle_first whole (before ++ e ∷ []) h (gate + 5 + length (spelling e)) at (further whole before h e is) opens.1
-    (come-push IsFitPlan before e loads (record { ranges = opens.0.ranges; allowed = opens.0.allowed; planned = tt })) (next_gate before e gate here) unfit
+    (come-push IsFitFor before e loads (record { ranges = opens.0.ranges; allowed = opens.0.allowed; planned = tt })) (next_gate before e gate here) unfit
 settle_first whole before (Delete doc at_ ∷ h) gate at is opens loads here unfit =
     let e = Delete doc at_ in
     settle_first whole (before ++ e ∷ []) h (gate + 5 + length (spelling e)) at (further whole before h e is) opens.1
-    (come-push IsFitPlan before e loads (record { ranges = opens.0.ranges; allowed = opens.0.allowed; planned = tt })) (next_gate before e gate here) unfit
+    (come-push IsFitFor before e loads (record { ranges = opens.0.ranges; allowed = opens.0.allowed; planned = tt })) (next_gate before e gate here) unfit
 settle_first whole before (Planned plan ∷ h) gate at is opens loads here unfit =
     elim (unfit_further whole (record { gate = gate; plan = plan }) (plans_from (gate + 5 + length (spelling (Planned plan))) h) at unfit) [
       | inl on ↦ settle_first whole (before ++ Planned plan ∷ []) h (gate + 5 + length (spelling (Planned plan))) at (further whole before h (Planned plan) is) opens.1
-          (come-push IsFitPlan before (Planned plan) loads (fit_may whole before h gate plan is opens on.0)) (next_gate before (Planned plan) gate here) on.1
+          (come-push IsFitFor before (Planned plan) loads (fit_may whole before h gate plan is opens on.0)) (next_gate before (Planned plan) gate here) on.1
       | inr first ↦ record {
         early = before;
         plan = plan;
@@ -205,12 +196,12 @@ pub none_fit : (h : History) (s : StoredPlan) (list : List Posting) → IsListUp
 none_fit h s list is none fit = omega (arith, none, fit.1.1, ap length (one_up_to h s fit.0 list fit.1.0 is))
 
 pub some_fit : (h : History) (s : StoredPlan) (list : List Posting) (b : Bool) → IsListUpTo h s.plan.word s.plan.horizon.seconds list → 0 < length list
-    → (IsTrue b ↔ (IsNarrow list s.plan.horizon.seconds × IsFitPlan list s.plan.fraction s.plan.cuts s.plan.horizon.seconds)) → IsTrue b ↔ IsFitIn h s
+    → (IsTrue b ↔ IsFitFor s.plan.kind list s.plan.fraction s.plan.cuts s.plan.horizon.seconds) → IsTrue b ↔ IsFitIn h s
 some_fit h s list b is some test = (
-  (λ holds. let t = test.0 holds in (list, (is, some, t.0, t.1))),
+  (λ holds. (list, (is, some, test.0 holds))),
   (λ fit.
-      let L : List Posting → Type 0 = λ l. IsNarrow l s.plan.horizon.seconds × IsFitPlan l s.plan.fraction s.plan.cuts s.plan.horizon.seconds in
-      test.1 (subst L (one_up_to h s fit.0 list fit.1.0 is) (fit.1.2, fit.1.3))),
+      let L : List Posting → Type 0 = λ l. IsFitFor s.plan.kind l s.plan.fraction s.plan.cuts s.plan.horizon.seconds in
+      test.1 (subst L (one_up_to h s fit.0 list fit.1.0 is) fit.1.2)),
 )
 
 -- the plans up to one are fit, and it isn't

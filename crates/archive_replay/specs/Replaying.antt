@@ -10,8 +10,7 @@ use Rattle.record_codec.specs.Spelling.{spelling}
 use Rattle.version_store.specs.Changes.{last_time}
 use Rattle.time_base.specs.declared.posting.Posting.{Posting}
 use Rattle.time_base.specs.declared.time.Time.{Time}
-use Rattle.commands.specs.declared.command.Kind.TheVariants.{Guarantee}
-use Rattle.stored_plans.specs.Plans.{IsNarrow, IsFitPlan}
+use Rattle.stored_plans.specs.Plans.{IsFitFor}
 use Rattle.record_codec.specs.Spelling.{IsEntry}
 use Rattle.record_codec.specs.declared.entry.Entry.{Entry}
 use Rattle.record_codec.specs.declared.entry.Entry.TheVariants.{Arrive, Delete, Planned}
@@ -33,9 +32,9 @@ pub record Covers (from count at bytes : ℕ) : Type 0 where
 
 -- ---- entries that are gone over, before the lists are there with which plans are tested
 
--- a plan keeps to a guarantee, and its horizon isn't later than the last time, which is that of these changes
+-- a plan's horizon isn't later than the last time, which is that of these changes
 abbrev pub IsTimely : {A : Type 0} → List (Change A) → PlanEntry → Type 0
-IsTimely changes plan = (plan.kind ≡ Guarantee) × ((last : Time) × ((last_time changes ≡ Some last) × (plan.horizon.seconds ≤ last.seconds)))
+IsTimely changes plan = (last : Time) × ((last_time changes ≡ Some last) × (plan.horizon.seconds ≤ last.seconds))
 
 -- what is asked of a plan at once
 abbrev pub IfTimely : History → Entry → Type 0
@@ -65,10 +64,10 @@ abbrev pub plans_from : ℕ → History → List StoredPlan
 plans_from gate [] = []
 plans_from gate (entry ∷ entries) = plans_in gate entry ++ plans_from (gate + 5 + length (spelling entry)) entries
 
--- what is asked of a plan when the lists are there: its word has postings before the horizon, and few enough boundaries, and the plan is fit for them
+-- what is asked of a plan when the lists are there: its word has postings before the horizon, and the plan keeps the bound of its kind for them
 abbrev pub IsFitIn : History → StoredPlan → Type 0
 IsFitIn history stored = (list : List Posting) × (IsListUpTo history stored.plan.word stored.plan.horizon.seconds list × (0 < length list)
-    × IsNarrow list stored.plan.horizon.seconds × IsFitPlan list stored.plan.fraction stored.plan.cuts stored.plan.horizon.seconds)
+    × IsFitFor stored.plan.kind list stored.plan.fraction stored.plan.cuts stored.plan.horizon.seconds)
 
 -- the gate of the first plan that isn't fit
 pub record IsFirstUnfit (history : History) (plans : List StoredPlan) (at : ℕ) : Type 0 where

@@ -21,7 +21,6 @@ use crate::lists::{MANY_POSTINGS, list_up_to};
 use crate::live::live_of;
 use crate::window::Window;
 use archive_state::StoredPlan;
-use commands::Kind;
 use fold_tokens::NumberError;
 use gate_journal::{Head, Journal};
 use machine_model::Disk;
@@ -261,12 +260,12 @@ fn apply_plan(met: &mut Met, head: &Head, plan: PlanEntry) -> Result<(), LoadErr
     Ok(())
 }
 
-/// Whether a plan keeps to a guarantee, and its horizon isn't later than the last time. Constant cost.
+/// Whether a plan's horizon isn't later than the last time. Constant cost.
 fn is_timely(directory: &Directory, plan: &PlanEntry) -> bool
     ensures { IsTrue result ↔ IsTimely directory.now.changes plan.now }
 {
     match directory.last() {
-        Some(last) => is_guarantee(plan.kind) && is_by(plan.horizon, last),
+        Some(last) => is_by(plan.horizon, last),
         None => false,
     }
 }
@@ -278,19 +277,8 @@ fn is_by(at: Time, last: Time) -> bool
     at.seconds() <= last.seconds()
 }
 
-/// Whether a plan of this kind keeps to a guarantee.
-fn is_guarantee(kind: Kind) -> bool
-    ensures { IsTrue result ↔ (kind ≡ Kind.Guarantee) }
-{
-    match kind {
-        Kind::Guarantee => true,
-        Kind::Uniform => false,
-        Kind::Since { .. } => false,
-    }
-}
-
-/// The gate of the first plan that isn't fit for its word's list. It costs `n log n` in the postings of
-/// each plan's word.
+/// The gate of the first plan that doesn't keep the bound of its kind for its word's list. It costs
+/// `n log n` in the postings of each plan's word, and the plan's cuts.
 fn first_unfit(alloc: Global, index: &Index, plans: &[StoredPlan]) -> Result<Option<u64>, LoadError>
     ensures fair { IsErrOf result LoadError.Failed → ⊥ }
     ensures only_memory { (at : ℕ) → IsErrOf result (LoadError.NotArchive at) → ⊥ }
@@ -305,7 +293,7 @@ fn first_unfit(alloc: Global, index: &Index, plans: &[StoredPlan]) -> Result<Opt
     Ok(None)
 }
 
-/// Whether a plan is fit for its word's list up to its horizon.
+/// Whether a plan keeps the bound of its kind, for its word's list up to its horizon.
 fn fits(alloc: Global, index: &Index, stored: &StoredPlan) -> Result<bool, LoadError>
     ensures fair { IsErrOf result LoadError.Failed → ⊥ }
     ensures only_memory { (at : ℕ) → IsErrOf result (LoadError.NotArchive at) → ⊥ }
@@ -323,6 +311,7 @@ fn fits(alloc: Global, index: &Index, stored: &StoredPlan) -> Result<bool, LoadE
     let fit = is_fit(
         alloc,
         &list,
+        plan.kind,
         plan.fraction,
         plan.cuts.as_slice(),
         plan.horizon,

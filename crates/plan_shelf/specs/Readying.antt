@@ -14,14 +14,14 @@ use Rattle.sublist_store.specs.Segments.{seconds}
 use Rattle.stored_plans.specs.Plans.{plan_space}
 use Rattle.archive_state.specs.declared.refusal.Refusal.{Refusal}
 use Rattle.archive_state.specs.declared.refusal.Refusal.TheVariants as refusals
-use Rattle.archive_state.specs.Steps.{Summary, guarantee}
+use Rattle.archive_state.specs.Steps.{Summary, in_blocks}
 use Rattle.plan_shelf.specs.declared.readying.Draft.{Draft}
 use Rattle.plan_shelf.specs.declared.readying.PlanReport.{PlanReport}
 use Rattle.plan_shelf.specs.declared.readying.Ready.{Ready}
 
 -- the plan of a draft, with these places
 abbrev pub plan_with : Draft → List Place → PlanEntry
-plan_with draft places = guarantee draft.word draft.factor draft.horizon draft.cuts.items places
+plan_with draft places = in_blocks draft.word draft.kind draft.factor draft.horizon draft.cuts.items places
 
 -- the bytes of a draft's sublists
 abbrev pub bytes_of : Draft → List (List ℕ)
@@ -40,11 +40,12 @@ tells_of draft length_now = record {
   space = plan_space draft.list.items draft.cuts.items draft.horizon.seconds;
   full = length draft.list.items;
   horizon = draft.horizon.seconds;
+  cost = draft.cost;
 }
 
 -- what a report tells
 abbrev pub summary_of : PlanReport → Summary
-summary_of r = record { length = r.length; segments = r.segments; space = r.space; full = r.full; horizon = r.horizon.seconds }
+summary_of r = record { length = r.length; segments = r.segments; space = r.space; full = r.full; horizon = r.horizon.seconds; cost = r.cost }
 
 -- What is ready to be stored of a draft: its entry, spelled, for which the journal of this end has room; and the sublists with their places.
 pub record IsReady (draft : Draft) (end count : ℕ) (ready : Ready) : Type 0 where

@@ -4,7 +4,7 @@ ghost use Rattle.time_base.specs.Limits.{limit_of};
 ghost use Rattle.time_base.specs.declared.extent.Extent.{Extent as PlainExtent};
 ghost use Rattle.page_store.specs.Taken.{HasTaken};
 ghost use Rattle.postings.specs.Lists.{IsList};
-ghost use Rattle.stored_plans.specs.Plans.{IsLeastPlan, IsNarrow, plan_space};
+ghost use Rattle.stored_plans.specs.Plans.{IsGoodPlan, plan_space};
 ghost use Rattle.sublist_store.specs.Preparing.{extents};
 ghost use Rattle.record_codec.specs.PlanSpelling.{plan_spelling};
 ghost use Rattle.plan_shelf.specs.Readying.{IsReady, IsFull, HasPlaces, plan_with, summary_of, tells_of};
@@ -33,14 +33,19 @@ pub struct PlanReport {
     pub full: u64,
     /// The horizon, which is the last time.
     pub horizon: Time,
+    /// What its reads are expected to cost, of a plan under a space bound: the postings read if its times are
+    /// asked for as its load says. None of a plan that keeps to a guarantee.
+    pub cost: Option<u128>,
 }
 
-/// A least plan of a word's list up to the last time, of which nothing is stored yet.
+/// A plan of a word's list up to the last time that is what its kind promises, of which nothing is stored yet.
 #[derive(Drop)]
 pub struct Draft {
     /// The word.
     pub word: Key,
-    /// The factor that each of its segments keeps.
+    /// What it keeps to.
+    pub kind: Kind,
+    /// The factor of its bound: on each read, or on the space.
     pub factor: Fraction,
     /// The word's list up to the horizon.
     pub list: Vec<Posting>,
@@ -50,6 +55,8 @@ pub struct Draft {
     pub cuts: Vec<Time>,
     /// The sizes of the segments' sublists added up, in postings.
     pub space: u64,
+    /// What its reads are expected to cost, as a report tells it.
+    pub cost: Option<u128>,
 }
 
 /// A plan whose sublists and whose entry are ready to be written.
@@ -79,8 +86,7 @@ pub fn make_ready(
 ) -> Result<Ready, Unprepared>
     requires list { IsList draft.list.items }
     requires taken { (taken : List PlainExtent) × HasTaken shelf.old.pages taken }
-    requires least { IsLeastPlan draft.list.items draft.factor draft.cuts.items draft.horizon.seconds }
-    requires narrow { IsNarrow draft.list.items draft.horizon.seconds }
+    requires good { IsGoodPlan draft.kind draft.list.items draft.factor draft.cuts.items draft.horizon.seconds }
     requires space { draft.space ≡ plan_space draft.list.items draft.cuts.items draft.horizon.seconds }
     requires low { 17 ≤ end }
     requires high { end ≤ 2 ^ 40 }
@@ -129,6 +135,7 @@ fn report_of(draft: &Draft, count: u64) -> PlanReport
         space: draft.space,
         full: draft.list.len() as u64,
         horizon: draft.horizon,
+        cost: draft.cost,
     }
 }
 
@@ -156,8 +163,7 @@ fn spell_entry(
     draft: Draft,
     places: &[Place],
 ) -> Result<Spelled, Unprepared>
-    requires least { IsLeastPlan draft.list.items draft.factor draft.cuts.items draft.horizon.seconds }
-    requires narrow { IsNarrow draft.list.items draft.horizon.seconds }
+    requires good { IsGoodPlan draft.kind draft.list.items draft.factor draft.cuts.items draft.horizon.seconds }
     requires many { length places.now ≡ length draft.cuts.items }
     requires high { end ≤ 2 ^ 40 }
     ensures plan { IfOk result (λ s. s.plan ≡ plan_with draft places.now) }
@@ -169,7 +175,7 @@ fn spell_entry(
     let plan = PlanEntry {
         word: draft.word,
         layout: Layout::Blocks,
-        kind: Kind::Guarantee,
+        kind: draft.kind,
         fraction: draft.factor,
         horizon: draft.horizon,
         cuts: Cuts::new(draft.cuts),

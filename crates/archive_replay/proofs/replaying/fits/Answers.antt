@@ -3,7 +3,7 @@ use Rattle.std.specs.Vec.{vec_len}
 use Rattle.time_base.specs.declared.posting.Posting.{Posting}
 use Rattle.time_base.specs.declared.time.Time.{Time}
 use Rattle.postings.specs.ListsOf.{IsListOf}
-use Rattle.stored_plans.specs.Plans.{IsNarrow, IsFitPlan}
+use Rattle.stored_plans.specs.Plans.{IsFitFor}
 use Rattle.archive_state.specs.Histories.{changes}
 use Rattle.archive_state.specs.Answers.{frequency_at}
 use Rattle.archive_replay.proofs.IndexLemmas.{word_list}
@@ -27,6 +27,6 @@ returns-clause-fits c = λ h indexes.
     let b = c.in_ok-fit.fit in
     let plan = c.args.stored.now.plan in
     let here = subst (λ (l : List Posting). IsListOf f 0 (2 ^ 40) l) (sym c.deref.ensures.value) (word_list h word c.in_ok-whole.whole.items (c.in_ok-whole.ensures.list (λ word. 0) (changes h) indexes)) in
-    let T : List Posting → Type 0 = λ l. IsTrue b ↔ (IsNarrow l plan.horizon.seconds × IsFitPlan l plan.fraction c.as_slice.result.now plan.horizon.seconds) in
-    let U : List Time → Type 0 = λ l. IsTrue b ↔ (IsNarrow c.in_ok-list.list.items plan.horizon.seconds × IsFitPlan c.in_ok-list.list.items plan.fraction l plan.horizon.seconds) in
+    let T : List Posting → Type 0 = λ l. IsTrue b ↔ IsFitFor plan.kind l plan.fraction c.as_slice.result.now plan.horizon.seconds in
+    let U : List Time → Type 0 = λ l. IsTrue b ↔ IsFitFor plan.kind c.in_ok-list.list.items plan.fraction l plan.horizon.seconds in
     some_fit h c.args.stored.now c.in_ok-list.list.items b (c.in_ok-list.ensures.list f here) (search rules) (subst U c.as_slice.ensures (subst T c.deref-2.ensures.value c.in_ok-fit.ensures))
