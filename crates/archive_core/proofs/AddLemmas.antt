@@ -21,7 +21,7 @@ use Rattle.record_codec.specs.declared.entry.Entry.{Entry}
 use Rattle.record_codec.specs.declared.entry.Entry.TheVariants.{Arrive, Delete, Planned}
 use Rattle.machine_model.specs.States.{moment}
 use Rattle.page_store.specs.Taken.{HasTaken}
-use Rattle.stored_plans.specs.Plans.{IsLeastPlan}
+use Rattle.stored_plans.specs.Plans.{IsGoodPlan}
 use Rattle.archive_state.specs.declared.stored.StoredPlan.{StoredPlan}
 use Rattle.archive_state.specs.Histories.{History, changes, end_of}
 use Rattle.archive_state.specs.Legal.{IsLegal, IsLegalEntry}
@@ -128,7 +128,7 @@ holds_kept h old new held pages = λ image allowed.
 
 -- and for a history with a change more they hold what they held for it
 pub held_change : (h : History) (e : Entry) (d : DiskState) → IsChange e → IsLegal h → IsLegalEntry h e → EachHolds d h → EachHolds d (h ++ e ∷ [])
-held_change h e d change legal next held = λ image allowed. held_push IsLeastPlan h e image.pages change legal next.allowed (held image allowed)
+held_change h e d change legal next held = λ image allowed. held_push IsGoodPlan h e image.pages change legal next.allowed (held image allowed)
 
 -- where the journal has an entry more, for which the pages hold already what they must, each image stands for the history or for that with the entry
 pub leads_more : (h : History) (e : Entry) (body : List ℕ) (old new : DiskState) → IsLegal h → IsLegalEntry h e → body ≡ spelling e → EachHolds old h → EachHolds old (h ++ e ∷ [])

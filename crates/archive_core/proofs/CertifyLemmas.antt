@@ -17,7 +17,7 @@ use Rattle.proposals.specs.declared.proposal.Segment.{Segment}
 use Rattle.proposals.specs.declared.proposal.Proposal.{Proposal}
 use Rattle.record_codec.specs.declared.plan.PlanEntry.{PlanEntry}
 use Rattle.sublist_store.specs.Segments.{seconds}
-use Rattle.stored_plans.specs.Plans.{later, IsLeastPlan}
+use Rattle.stored_plans.specs.Plans.{later, IsLeastPlan, IsGoodPlan}
 use Rattle.stored_plans.proofs.PlanLemmas.{seconds_are}
 use Rattle.fold_tokens.specs.Terms.{one_term}
 use Rattle.commands.specs.declared.command.Command.TheVariants as commands
@@ -28,7 +28,7 @@ use Rattle.archive_state.specs.declared.refusal.Refusal.{Refusal}
 use Rattle.archive_state.specs.declared.refusal.Refusal.TheVariants as refusals
 use Rattle.archive_state.specs.Histories.{History}
 use Rattle.archive_state.specs.Answers.{frequency_at}
-use Rattle.archive_state.specs.Legal.{Suits, MayBePlanned, IsLegal}
+use Rattle.archive_state.specs.Legal.{MayBePlanned, IsLegal}
 use Rattle.archive_state.specs.Planning.{IsKnown, IsListUpTo, OfTerm}
 use Rattle.archive_state.specs.declared.stored.StoredPlan.{StoredPlan}
 use Rattle.archive_state.specs.Plans.{is_another, plan_of, live_plans}
@@ -115,8 +115,8 @@ is_certificate list plan table part numbers p same best segments nodes total lea
 live_least : (h : History) (plan : PlanEntry) (list : List Posting) → IsLegal h → plan_of h plan.word ≡ Some plan → plan.kind ≡ Guarantee → IsListUpTo h plan.word plan.horizon.seconds list
     → IsLeastPlan list plan.fraction plan.cuts plan.horizon.seconds
 live_least h plan list legal live kind is =
-    let may = live_has (λ p. MayBePlanned IsLeastPlan h p) (λ stored. bytes_eq stored.plan.word plan.word) (live_plans h) plan (live_planned IsLeastPlan h legal) live in
-    let suits = subst (λ (k : Kind). Suits IsLeastPlan may.list plan k) kind may.suits in
+    let may = live_has (λ p. MayBePlanned IsGoodPlan h p) (λ stored. bytes_eq stored.plan.word plan.word) (live_plans h) plan (live_planned IsGoodPlan h legal) live in
+    let suits = subst (λ (k : Kind). IsGoodPlan k may.list plan.fraction plan.cuts plan.horizon.seconds) kind may.suits in
     let one = one_list_of (λ d t. frequency_at h plan.word (record { 0 = d }) t) 0 plan.horizon.seconds may.list list may.list_is is in
     subst (λ (l : List Posting). IsLeastPlan l plan.fraction plan.cuts plan.horizon.seconds) one suits.1
 

@@ -17,7 +17,7 @@ use Rattle.record_codec.specs.declared.entry.Entry.TheVariants.{Arrive, Delete, 
 use Rattle.record_codec.specs.declared.place.Place.{Place}
 use Rattle.record_codec.specs.declared.plan.PlanEntry.{PlanEntry}
 use Rattle.query_eval.specs.declared.part.Part.{Part}
-use Rattle.stored_plans.specs.Plans.{IsFitPlan}
+use Rattle.stored_plans.specs.Plans.{IsFitFor}
 use Rattle.archive_state.specs.declared.stored.StoredPlan.{StoredPlan}
 use Rattle.archive_state.specs.Histories.{History}
 use Rattle.archive_state.specs.Legal.{EachMayCome, IsLoadable}
@@ -42,7 +42,7 @@ use Rattle.sublist_store.specs.declared.why.FetchError.TheVariants as fetches
 abbrev is_entry : StoredPlan → Type 0
 is_entry stored = IsPlanEntry stored.plan
 
-with_one : (before : History) (gate : ℕ) (live : List StoredPlan) (h : History) → EachMayCome IsFitPlan before h → All is_entry live → All is_entry (live_after gate live h)
+with_one : (before : History) (gate : ℕ) (live : List StoredPlan) (h : History) → EachMayCome IsFitFor before h → All is_entry live → All is_entry (live_after gate live h)
 with_one before gate live [] each all = all
 with_one before gate live (Arrive doc at text ∷ h) each all = with_one (before ++ Arrive doc at text ∷ []) (gate + 5 + length (spelling (Arrive doc at text))) live h each.1 all
 with_one before gate live (Delete doc at ∷ h) each all = with_one (before ++ Delete doc at ∷ []) (gate + 5 + length (spelling (Delete doc at))) live h each.1 all

@@ -21,10 +21,12 @@ use Rattle.version_store.proofs.Mapped.{last_time-mapped}
 use Rattle.version_index.specs.Words.{words_in}
 use Rattle.commands.specs.declared.command.Command.TheVariants as commands
 use Rattle.commands.specs.declared.command.Item.TheVariants as items
+use Rattle.commands.specs.declared.command.Kind.{Kind}
+use Rattle.commands.specs.declared.command.Kind.TheVariants.{Guarantee, Uniform, Since}
 use Rattle.archive_state.specs.declared.refusal.Refusal.{Refusal}
 use Rattle.archive_state.specs.declared.refusal.Refusal.TheVariants as refusals
 use Rattle.archive_state.specs.Histories.{History, changes}
-use Rattle.archive_state.specs.Planning.{IsKnown, IsListUpTo, OfBoundaries, OfList, OfWord, OfPhrase, last_second}
+use Rattle.archive_state.specs.Planning.{IsKnown, IsListUpTo, OfBoundaries, OfWidth, OfList, OfWord, OfPhrase, last_second}
 use Rattle.archive_state.specs.Steps.{Refused, Proposed, Proposes, ProposesPlan}
 use Rattle.archive_state.proofs.TurnLemmas.{each_proposes}
 use Rattle.archive_core.specs.States.{ArchiveState, StandsFor, IsKept}
@@ -99,39 +101,44 @@ module _ (h : ℕ) (One Other : Refusal → Type 0) (refused : (why : Refusal) �
   map_bounded list A B goes (times, are, inl wide) = (times, are, inl (wide.0, refused (refusals.TooWide (length times)) wide.1))
   map_bounded list A B goes (times, are, inr narrow) = (times, are, inr (narrow.0, goes narrow.1))
 
-  map_list : (list : List Posting) (A B : Type 0) → (A → B) → OfList h list One A → OfList h list Other B
-  map_list [] A B goes of = refused refusals.NothingSealed of
-  map_list (p ∷ list) A B goes of = map_bounded (p ∷ list) A B goes of
+  map_width : (kind : Kind) (list : List Posting) (A B : Type 0) → (A → B) → OfWidth kind h list One A → OfWidth kind h list Other B
+  map_width Guarantee list A B goes of = map_bounded list A B goes of
+  map_width Uniform list A B goes of = goes of
+  map_width (Since at) list A B goes of = goes of
 
-  some_list : (list : List Posting) (A B : Type 0) → 0 < length list → (A → B) → OfBoundaries h list One A → OfList h list Other B
-  some_list [] A B some goes of = absurd (omega (arith, some))
-  some_list (p ∷ list) A B some goes of = map_bounded (p ∷ list) A B goes of
+  map_list : (kind : Kind) (list : List Posting) (A B : Type 0) → (A → B) → OfList kind h list One A → OfList kind h list Other B
+  map_list kind [] A B goes of = refused refusals.NothingSealed of
+  map_list kind (p ∷ list) A B goes of = map_width kind (p ∷ list) A B goes of
 
-pub map_phrase : (h : History) (key : Option (List ℕ)) (One Other : Refusal → Type 0) (A B : List ℕ → List Posting → Type 0) → ((why : Refusal) → One why → Other why)
-    → ((word : List ℕ) (list : List Posting) → A word list → B word list) → OfPhrase h key One A → OfPhrase h key Other B
-map_phrase h None One Other A B refused goes of = refused refusals.NotOneTerm of
-map_phrase h (Some word) One Other A B refused goes (inl unknown) = inl (unknown.0, refused refusals.UnknownWord unknown.1)
-map_phrase h (Some word) One Other A B refused goes (inr (known, (list, is, of))) =
-    inr (known, (list, is, map_list (last_second h) One Other refused list (A word list) (B word list) (goes word list) of))
+  some_list : (kind : Kind) (list : List Posting) (A B : Type 0) → 0 < length list → (A → B) → OfWidth kind h list One A → OfList kind h list Other B
+  some_list kind [] A B some goes of = absurd (omega (arith, some))
+  some_list kind (p ∷ list) A B some goes of = map_width kind (p ∷ list) A B goes of
 
-sealed_phrase : (h : History) (phrase word : List ℕ) (list : List Posting) (horizon : ℕ) (One Other : Refusal → Type 0) (A : Type 0) (B : List ℕ → List Posting → Type 0) → IsSealed h phrase word list horizon → 0 < length list
-    → ((why : Refusal) → One why → Other why) → (A → B word list) → OfBoundaries horizon list One A → OfPhrase h (one_term phrase) Other B
-sealed_phrase h phrase word list horizon One Other A B sealed some refused goes of =
-    let here = subst (λ (n : ℕ). OfBoundaries n list One A) sealed.horizon_is of in
-    let P : Option (List ℕ) → Type 0 = λ key. OfPhrase h key Other B in
-    subst P (sym sealed.word_is) (inr (sealed.known, (list, sealed.list_is, some_list (last_second h) One Other refused list A (B word list) some goes here)))
+pub map_phrase : (kind : Kind) (h : History) (key : Option (List ℕ)) (One Other : Refusal → Type 0) (A B : List ℕ → List Posting → Type 0) → ((why : Refusal) → One why → Other why)
+    → ((word : List ℕ) (list : List Posting) → A word list → B word list) → OfPhrase kind h key One A → OfPhrase kind h key Other B
+map_phrase kind h None One Other A B refused goes of = refused refusals.NotOneTerm of
+map_phrase kind h (Some word) One Other A B refused goes (inl unknown) = inl (unknown.0, refused refusals.UnknownWord unknown.1)
+map_phrase kind h (Some word) One Other A B refused goes (inr (known, (list, is, of))) =
+    inr (known, (list, is, map_list (last_second h) One Other refused kind list (A word list) (B word list) (goes word list) of))
+
+sealed_phrase : (kind : Kind) (h : History) (phrase word : List ℕ) (list : List Posting) (horizon : ℕ) (One Other : Refusal → Type 0) (A : Type 0) (B : List ℕ → List Posting → Type 0) → IsSealed h phrase word list horizon → 0 < length list
+    → ((why : Refusal) → One why → Other why) → (A → B word list) → OfWidth kind horizon list One A → OfPhrase kind h (one_term phrase) Other B
+sealed_phrase kind h phrase word list horizon One Other A B sealed some refused goes of =
+    let here = subst (λ (n : ℕ). OfWidth kind n list One A) sealed.horizon_is of in
+    let P : Option (List ℕ) → Type 0 = λ key. OfPhrase kind h key Other B in
+    subst P (sym sealed.word_is) (inr (sealed.known, (list, sealed.list_is, some_list (last_second h) One Other refused kind list A (B word list) some goes here)))
 
 -- a plan of a sealed list that is refused, and one that is proposed
 pub wide_refused : (h : History) (phrase word : List ℕ) (factor : Fraction) (list : List Posting) (horizon : ℕ) (why : Refusal) → IsSealed h phrase word list horizon → 0 < length list
     → OfBoundaries horizon list (λ because. why ≡ because) ⊥ → Proposes h phrase factor (Refused why)
 wide_refused h phrase word factor list horizon why sealed some of =
-    sealed_phrase h phrase word list horizon (λ because. why ≡ because) (λ because. Refused why ≡ Refused because) ⊥ (λ word list. ProposesPlan factor (last_second h) list (Refused why)) sealed some
+    sealed_phrase Guarantee h phrase word list horizon (λ because. why ≡ because) (λ because. Refused why ≡ Refused because) ⊥ (λ word list. ProposesPlan factor (last_second h) list (Refused why)) sealed some
     (λ because e. ap Refused e) (λ no_plan. absurd no_plan) of
 
 pub least_proposed : (h : History) (phrase word : List ℕ) (factor : Fraction) (list : List Posting) (horizon : ℕ) (p : Proposal) → IsSealed h phrase word list horizon → 0 < length list
     → OfBoundaries horizon list (λ because. ⊥) (IsProposal list factor horizon p.segments.items p.nodes.items p.space) → Proposes h phrase factor (Proposed p.segments.items p.nodes.items p.space)
 least_proposed h phrase word factor list horizon p sealed some of =
-    sealed_phrase h phrase word list horizon (λ because. ⊥) (λ because. Proposed p.segments.items p.nodes.items p.space ≡ Refused because) (IsProposal list factor horizon p.segments.items p.nodes.items p.space)
+    sealed_phrase Guarantee h phrase word list horizon (λ because. ⊥) (λ because. Proposed p.segments.items p.nodes.items p.space ≡ Refused because) (IsProposal list factor horizon p.segments.items p.nodes.items p.space)
     (λ word list. ProposesPlan factor (last_second h) list (Proposed p.segments.items p.nodes.items p.space)) sealed some
     (λ because none. absurd none)
     (λ proposal.
@@ -146,9 +153,9 @@ ok_proposed h phrase word factor list here horizon (Ok p) sealed some same of =
 ok_proposed h phrase word factor list here horizon (Err e) sealed some same of = tt
 
 -- a phrase that is refused before its list is planned
-pub phrase_refused : (h : History) (phrase : List ℕ) (factor : Fraction) (why : Refusal) → OfPhrase h (one_term phrase) (λ because. why ≡ because) (λ word list. ⊥) → Proposes h phrase factor (Refused why)
+pub phrase_refused : (h : History) (phrase : List ℕ) (factor : Fraction) (why : Refusal) → OfPhrase Guarantee h (one_term phrase) (λ because. why ≡ because) (λ word list. ⊥) → Proposes h phrase factor (Refused why)
 phrase_refused h phrase factor why of =
-    map_phrase h (one_term phrase) (λ because. why ≡ because) (λ because. Refused why ≡ Refused because) (λ word list. ⊥) (λ word list. ProposesPlan factor (last_second h) list (Refused why))
+    map_phrase Guarantee h (one_term phrase) (λ because. why ≡ because) (λ because. Refused why ≡ Refused because) (λ word list. ⊥) (λ word list. ProposesPlan factor (last_second h) list (Refused why))
     (λ because e. ap Refused e) (λ word list no_plan. absurd no_plan) of
 
 -- a proposal that was asked for
@@ -193,10 +200,10 @@ not_both true f t = absurd cc
 not_both false f t = absurd cc
 
 -- a word of which a history has no postings before its last time
-pub nothing_sealed : (h : History) (word : List ℕ) (list : List Posting) (why : Refusal) → IsKnown h word → IsListUpTo h word (last_second h) list → length list ≡ 0 → why ≡ refusals.NothingSealed
-    → OfWord h word (λ because. why ≡ because) (λ list. ⊥)
-nothing_sealed h word [] why known is none e = inr (known, ([], is, e))
-nothing_sealed h word (p ∷ list) why known is none e = absurd (omega (arith, none))
+pub nothing_sealed : (kind : Kind) (h : History) (word : List ℕ) (list : List Posting) (why : Refusal) → IsKnown h word → IsListUpTo h word (last_second h) list → length list ≡ 0 → why ≡ refusals.NothingSealed
+    → OfWord kind h word (λ because. why ≡ because) (λ list. ⊥)
+nothing_sealed kind h word [] why known is none e = inr (known, ([], is, e))
+nothing_sealed kind h word (p ∷ list) why known is none e = absurd (omega (arith, none))
 
 -- nor is there a last time where there is no change
 pub no_second : (a : ArchiveState) (h : History) → StandsFor a h → last_time a.changes ≡ None → last_second h ≡ 0

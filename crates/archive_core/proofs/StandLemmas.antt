@@ -18,7 +18,7 @@ use Rattle.record_codec.specs.declared.place.Place.{Place}
 use Rattle.record_codec.specs.declared.plan.PlanEntry.{PlanEntry}
 use Rattle.sublist_store.specs.Preparing.{IsFor, PreparedState, extents, pieces, pieces_of, spellings}
 use Rattle.sublist_store.specs.Segments.{seconds}
-use Rattle.stored_plans.specs.Plans.{IsLeastPlan}
+use Rattle.stored_plans.specs.Plans.{IsGoodPlan}
 use Rattle.archive_state.specs.Histories.{History}
 use Rattle.archive_state.specs.Legal.{IsLegal}
 use Rattle.archive_state.specs.Plans.{live_extents}
@@ -75,7 +75,7 @@ stored_holds h plan prepared frame old mid ready legal held stored = λ image al
     let V : List (List ℕ) → Type 0 = λ bs. Wrote (pieces_of prepared.places bs) old.holds mid.holds in
     let H : Bytes → Type 0 = λ b. HoldsPlans (h ++ Planned plan ∷ []) b.pages in
     subst H (sym (stored.only image allowed))
-    (held_more IsLeastPlan h plan ready.list old.holds mid.holds legal (subst A (sym ready.places) ready.apart) (subst Z (sym ready.places) (subst Y ready.spelled ready.each))
+    (held_more IsGoodPlan h plan ready.list old.holds mid.holds legal (subst A (sym ready.places) ready.apart) (subst Z (sym ready.places) (subst Y ready.spelled ready.each))
     ready.list_is ready.entry.planned.past held (subst W (sym ready.places) (subst V ready.spelled stored.wrote)))
 
 -- the writes alone

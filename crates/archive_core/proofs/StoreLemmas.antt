@@ -10,12 +10,14 @@ use Rattle.time_base.specs.Limits.{limit_of}
 use Rattle.time_base.specs.declared.extent.Extent.{Extent}
 use Rattle.time_base.specs.declared.fraction.Fraction.{Fraction}
 use Rattle.time_base.specs.declared.posting.Posting.{Posting}
+use Rattle.time_base.specs.declared.time.Time.{Time}
 use Rattle.time_base.specs.declared.which.Which.TheVariants.{Journal}
 use Rattle.commands.specs.declared.command.Command.TheVariants as commands
 use Rattle.commands.specs.declared.command.Item.TheVariants as items
-use Rattle.commands.specs.declared.command.Kind.TheVariants.{Guarantee}
+use Rattle.commands.specs.declared.command.Kind.{Kind}
+use Rattle.commands.specs.declared.command.Kind.TheVariants.{Guarantee, Uniform, Since}
 use Rattle.fold_tokens.specs.Terms.{one_term}
-use Rattle.stored_plans.specs.Plans.{IsNarrow}
+use Rattle.stored_plans.specs.Plans.{IsGoodPlan}
 use Rattle.version_store.specs.declared.change.Change.{Change}
 use Rattle.version_index.specs.Indexes.{Indexes}
 use Rattle.page_store.specs.Live.{IsInside}
@@ -30,7 +32,7 @@ use Rattle.archive_state.specs.declared.refusal.Refusal.TheVariants as refusals
 use Rattle.archive_state.specs.declared.stored.StoredPlan.{StoredPlan}
 use Rattle.archive_state.specs.Histories.{History, end_of}
 use Rattle.archive_state.specs.Legal.{IsLegalEntry}
-use Rattle.archive_state.specs.Planning.{IsKnown, IsListUpTo, OfList, OfPhrase, last_second}
+use Rattle.archive_state.specs.Planning.{IsKnown, IsListUpTo, OfWidth, OfList, OfPhrase, last_second}
 use Rattle.archive_state.specs.Plans.{with_plan, live_plans, live_extents}
 use Rattle.archive_state.specs.Stands.{EachStands}
 use Rattle.archive_state.specs.Steps as steps
@@ -68,7 +70,7 @@ use Rattle.archive_core.proofs.LiveLemmas.{all_inside_with}
 ready_legal : (h : History) (draft : Draft) (end count : ℕ) (r : Ready) → IsDraft h draft → IsReady draft end count r → IsLegalEntry h (Planned r.stored.plan)
 ready_legal h draft end count r is ready =
     subst (λ (p : PlanEntry). IsLegalEntry h (Planned p)) (sym ready.plan_is)
-    (plan_legal h draft.word draft.factor draft.horizon draft.cuts.items r.prepared.places draft.list.items is.word is.horizon_is is.list_is is.some is.narrow is.least ready.each)
+    (plan_legal h draft.word draft.kind draft.factor draft.horizon draft.cuts.items r.prepared.places draft.list.items is.word is.horizon_is is.list_is is.some is.good ready.each)
 
 pub ready_storable : (h : History) (draft : Draft) (end count : ℕ) (r : Ready) (pages : PagesState) → IsDraft h draft → IsReady draft end count r → HasTaken pages (extents r.prepared.places ++ live_extents h)
     → IsStorable h r.stored.plan r.prepared r.frame
@@ -159,26 +161,34 @@ full_refused unprepared.Memory r a b h draft end why not full stands is = let on
 
 -- ---- what becomes of a phrase that is to be planned
 
--- a narrow list with a posting goes on
-narrow_list : (h : ℕ) (list : List Posting) (Refuses : Refusal → Type 0) (GoesOn : Type 0) → 0 < length list → IsNarrow list h → GoesOn → OfList h list Refuses GoesOn
-narrow_list h [] Refuses GoesOn some narrow goes = absurd (omega (arith, some))
-narrow_list h (p ∷ list) Refuses GoesOn some (times, are, few) goes = (times, are, inr (few, goes))
+-- a list with a posting goes on, where it has a plan that is what its kind promises
+wide_or_not : (kind : Kind) (h : ℕ) (list : List Posting) (factor : Fraction) (cuts : List Time) (Refuses : Refusal → Type 0) (GoesOn : Type 0) → IsGoodPlan kind list factor cuts h → GoesOn → OfWidth kind h list Refuses GoesOn
+wide_or_not Guarantee h list factor cuts Refuses GoesOn ((times, are, few), least) goes = (times, are, inr (few, goes))
+wide_or_not Uniform h list factor cuts Refuses GoesOn good goes = goes
+wide_or_not (Since at) h list factor cuts Refuses GoesOn good goes = goes
+
+good_list : (kind : Kind) (h : ℕ) (list : List Posting) (factor : Fraction) (cuts : List Time) (Refuses : Refusal → Type 0) (GoesOn : Type 0) → 0 < length list → IsGoodPlan kind list factor cuts h → GoesOn → OfList kind h list Refuses GoesOn
+good_list kind h [] factor cuts Refuses GoesOn some good goes = absurd (omega (arith, some))
+good_list kind h (p ∷ list) factor cuts Refuses GoesOn some good goes = wide_or_not kind h (p ∷ list) factor cuts Refuses GoesOn good goes
 
 -- a draft is a plan for its phrase, and so is what comes of its cuts
-plans_draft : (h : History) (phrase : List ℕ) (factor : Fraction) (draft : Draft) (reply : Reply) (next : History) → spelled_key (one_term phrase) ≡ Some draft.word → IsKnown h draft.word → draft.factor ≡ factor
-    → IsDraft h draft → StoresCuts h draft.word draft.factor draft.horizon draft.cuts.items draft.list.items reply next → Plans h phrase factor reply next
-plans_draft h phrase factor draft reply next term known same is stores =
+plans_draft : (h : History) (phrase : List ℕ) (kind : Kind) (factor : Fraction) (draft : Draft) (reply : Reply) (next : History) → spelled_key (one_term phrase) ≡ Some draft.word → IsKnown h draft.word
+    → draft.kind ≡ kind → draft.factor ≡ factor → IsDraft h draft → StoresCuts h draft.word draft.kind draft.factor draft.horizon draft.cuts.items draft.list.items reply next → Plans h phrase kind factor reply next
+plans_draft h phrase kind factor draft reply next term known kind_is same is stores =
     let list = draft.list.items in
-    let P : Option (List ℕ) → Type 0 = λ key. OfPhrase h key (λ why. Declines h why reply next) (λ word list. StoresPlan h draft.factor word list reply next) in
-    let goes : StoresPlan h draft.factor draft.word list reply next = record { horizon = draft.horizon; horizon_is = is.horizon_is; cuts = draft.cuts.items; least = is.least; stores = stores } in
-    subst (λ (f : Fraction). Plans h phrase f reply next) same
-    (subst P (sym term) (inr (known, (list, is.list_is, narrow_list (last_second h) list (λ why. Declines h why reply next) (StoresPlan h draft.factor draft.word list reply next) is.some is.narrow goes))))
+    let P : Option (List ℕ) → Type 0 = λ key. OfPhrase draft.kind h key (λ why. Declines h why reply next) (λ word list. StoresPlan h draft.kind draft.factor word list reply next) in
+    let G : ℕ → Type 0 = λ n. IsGoodPlan draft.kind list draft.factor draft.cuts.items n in
+    let goes : StoresPlan h draft.kind draft.factor draft.word list reply next = record { horizon = draft.horizon; horizon_is = is.horizon_is; cuts = draft.cuts.items; good = is.good; stores = stores } in
+    let of =
+    good_list draft.kind (last_second h) list draft.factor draft.cuts.items (λ why. Declines h why reply next) (StoresPlan h draft.kind draft.factor draft.word list reply next) is.some (subst G is.horizon_is is.good) goes in
+    let all : Plans h phrase draft.kind draft.factor reply next = subst P (sym term) (inr (known, (list, is.list_is, of))) in
+    subst (λ (f : Fraction). Plans h phrase kind f reply next) same (subst (λ (k : Kind). Plans h phrase k draft.factor reply next) kind_is all)
 
-pub plans_full : (h : History) (phrase : List ℕ) (factor : Fraction) (draft : Draft) (end : ℕ) (why : Refusal) → spelled_key (one_term phrase) ≡ Some draft.word → IsKnown h draft.word → draft.factor ≡ factor
-    → IsDraft h draft → end ≡ end_of h → IsFull draft (live_extents h) end why → Plans h phrase factor (Refused why) h
-plans_full h phrase factor draft end why term known same is at full = plans_draft h phrase factor draft (Refused why) h term known same is (go full)
+pub plans_full : (h : History) (phrase : List ℕ) (kind : Kind) (factor : Fraction) (draft : Draft) (end : ℕ) (why : Refusal) → spelled_key (one_term phrase) ≡ Some draft.word → IsKnown h draft.word
+    → draft.kind ≡ kind → draft.factor ≡ factor → IsDraft h draft → end ≡ end_of h → IsFull draft (live_extents h) end why → Plans h phrase kind factor (Refused why) h
+plans_full h phrase kind factor draft end why term known kind_is same is at full = plans_draft h phrase kind factor draft (Refused why) h term known kind_is same is (go full)
   where
-    go : IsFull draft (live_extents h) end why → StoresCuts h draft.word draft.factor draft.horizon draft.cuts.items draft.list.items (Refused why) h
+    go : IsFull draft (live_extents h) end why → StoresCuts h draft.word draft.kind draft.factor draft.horizon draft.cuts.items draft.list.items (Refused why) h
     go (inl pages) = inl (pages.0, (refl, ap Refused pages.1))
     go (inr (places, (has, over, because))) =
         let plan = plan_with draft places in
@@ -187,9 +197,9 @@ plans_full h phrase factor draft end why term known same is at full = plans_draf
         let refused : full_journal h (Planned plan) ≡ Some (refusals.Full Journal (limit_of Journal)) = when_true _ (refusals.Full Journal (limit_of Journal)) (lt-ltb (limit_of Journal) (end_of (h ++ Planned plan ∷ [])) passes) in
         inr (places, has.placed, has.each, subst A (sym refused) (refl, ap Refused because))
 
-pub plans_stored : (h : History) (phrase : List ℕ) (factor : Fraction) (draft : Draft) (plan : PlanEntry) → spelled_key (one_term phrase) ≡ Some draft.word → IsKnown h draft.word → draft.factor ≡ factor
-    → IsDraft h draft → IsStoredAs h draft plan → Plans h phrase factor (steps.Planned (tells_of draft (length h + 1))) (h ++ Planned plan ∷ [])
-plans_stored h phrase factor draft plan term known same is stored =
+pub plans_stored : (h : History) (phrase : List ℕ) (kind : Kind) (factor : Fraction) (draft : Draft) (plan : PlanEntry) → spelled_key (one_term phrase) ≡ Some draft.word → IsKnown h draft.word
+    → draft.kind ≡ kind → draft.factor ≡ factor → IsDraft h draft → IsStoredAs h draft plan → Plans h phrase kind factor (steps.Planned (tells_of draft (length h + 1))) (h ++ Planned plan ∷ [])
+plans_stored h phrase kind factor draft plan term known kind_is same is stored =
     let next = h ++ Planned plan ∷ [] in
     let with_places = plan_with draft stored.places in
     let reply = steps.Planned (tells_of draft (length h + 1)) in
@@ -198,23 +208,28 @@ plans_stored h phrase factor draft plan term known same is stored =
     let allowed : full_journal h (Planned with_places) ≡ None =
     when_false _ (refusals.Full Journal (limit_of Journal)) (le-ltb (limit_of Journal) (end_of (h ++ Planned with_places ∷ [])) (subst J stored.plan_is stored.room)) in
     let long : length h + 1 ≡ length next = omega (arith, length_push h (Planned plan)) in
-    plans_draft h phrase factor draft reply next term known same is
-    (inr (stored.places, stored.has.placed, stored.has.each, subst A (sym allowed) (ap (λ (p : PlanEntry). h ++ Planned p ∷ []) stored.plan_is, ap (λ (n : ℕ). steps.Planned (tells_of draft n)) long)))
+    plans_draft h phrase kind factor draft reply next term known kind_is same is
+    (inr (
+      stored.places,
+      stored.has.placed,
+      stored.has.each,
+      subst A (sym allowed) (ap (λ (p : PlanEntry). h ++ Planned p ∷ []) stored.plan_is, (draft.cost, is.cost_is, ap (λ (n : ℕ). steps.Planned (tells_of draft n)) long)),
+    ))
 
 -- a phrase that is refused before its list is planned
-pub plans_refused : (h : History) (phrase : List ℕ) (factor : Fraction) (reason : AskError) (r : Result PlanReport ChangeError) (a b : ArchiveState) (why : Refusal) → NotDrafted reason r a b
-    → ((because : Refusal) → ◌≡◌ {A = Result Draft AskError} (Err reason) (Err (asks.Refused because)) → OfPhrase h (spelled_key (one_term phrase)) (λ other. because ≡ other) (λ word list. ⊥))
-    → StandsFor a h → r ≡ Err (changes.Refused why) → Plans h phrase factor (Refused why) h × StandsFor b h
-plans_refused h phrase factor (asks.Refused because) r a b why not refused stands is =
+pub plans_refused : (h : History) (phrase : List ℕ) (kind : Kind) (factor : Fraction) (reason : AskError) (r : Result PlanReport ChangeError) (a b : ArchiveState) (why : Refusal) → NotDrafted reason r a b
+    → ((because : Refusal) → ◌≡◌ {A = Result Draft AskError} (Err reason) (Err (asks.Refused because)) → OfPhrase kind h (spelled_key (one_term phrase)) (λ other. because ≡ other) (λ word list. ⊥))
+    → StandsFor a h → r ≡ Err (changes.Refused why) → Plans h phrase kind factor (Refused why) h × StandsFor b h
+plans_refused h phrase kind factor (asks.Refused because) r a b why not refused stands is =
     let same : because ≡ why = (let one = not.0 in cc) in
-    let of = subst (λ (w : Refusal). OfPhrase h (spelled_key (one_term phrase)) (λ other. w ≡ other) (λ word list. ⊥)) same (refused because refl) in (
-      map_phrase h (spelled_key (one_term phrase)) (λ other. why ≡ other) (λ other. Declines h other (Refused why) h) (λ word list. ⊥) (λ word list. StoresPlan h factor word list (Refused why) h)
+    let of = subst (λ (w : Refusal). OfPhrase kind h (spelled_key (one_term phrase)) (λ other. w ≡ other) (λ word list. ⊥)) same (refused because refl) in (
+      map_phrase kind h (spelled_key (one_term phrase)) (λ other. why ≡ other) (λ other. Declines h other (Refused why) h) (λ word list. ⊥) (λ word list. StoresPlan h kind factor word list (Refused why) h)
           (λ other e. (refl, ap Refused e)) (λ word list none. absurd none) of,
       subst (λ (s : ArchiveState). StandsFor s h) (sym not.1) stands,
     )
-plans_refused h phrase factor asks.Failed r a b why not refused stands is = let one = not.0 in absurd cc
-plans_refused h phrase factor (asks.Damaged damage) r a b why not refused stands is = let one = not.0 in absurd cc
-plans_refused h phrase factor asks.Memory r a b why not refused stands is = let one = not.0 in absurd cc
+plans_refused h phrase kind factor asks.Failed r a b why not refused stands is = let one = not.0 in absurd cc
+plans_refused h phrase kind factor (asks.Damaged damage) r a b why not refused stands is = let one = not.0 in absurd cc
+plans_refused h phrase kind factor asks.Memory r a b why not refused stands is = let one = not.0 in absurd cc
 
 -- what was not drafted is refused, or there was no memory
 pub drafted_never : (Q : Type 0) (reason : AskError) (r : Result PlanReport ChangeError) (a b : ArchiveState) → NotDrafted reason r a b → IsOk r ⊎ (r ≡ Err changes.Failed) → Q
@@ -228,20 +243,20 @@ drafted_never Q (asks.Damaged damage) r a b not (inr failed) = let one = not.0 i
 drafted_never Q asks.Memory r a b not (inr failed) = let one = not.0 in absurd cc
 
 -- a plan was written, or a part of it: what it is, and what each image left stands for
-pub record IsWritten (h : History) (phrase : List ℕ) (factor : Fraction) (r : Result PlanReport ChangeError) (old new : DiskState) (b : ArchiveState) : Type 0 where
+pub record IsWritten (h : History) (phrase : List ℕ) (kind : Kind) (factor : Fraction) (r : Result PlanReport ChangeError) (old new : DiskState) (b : ArchiveState) : Type 0 where
   pub told : Summary
   pub next : History
-  pub plans : Plans h phrase factor (steps.Planned told) next
+  pub plans : Plans h phrase kind factor (steps.Planned told) next
   pub leads : LeadsTo h next old new
   pub kept : IfOk r (λ report. (summary_of report ≡ told) × IsKept new b next)
 
-pub takes_plan : (h : History) (phrase : List ℕ) (factor : Fraction) (r : Result PlanReport ChangeError) (old new : DiskState) (a b : ArchiveState) → IsKept old a h
-    → ((why : Refusal) → r ≡ Err (changes.Refused why) → Plans h phrase factor (Refused why) h × StandsFor b h) → ((why : Refusal) → r ≡ Err (changes.Refused why) → new ≡ old) → (r ≡ Err changes.Memory → new ≡ old)
-    → (IsOk r ⊎ (r ≡ Err changes.Failed) → IsWritten h phrase factor r old new b) → Takes h (items.Command (commands.Plan phrase Guarantee factor)) (planned r) old new b
-takes_plan h phrase factor (Ok report) old new a b kept refused same memory written =
+pub takes_plan : (h : History) (phrase : List ℕ) (kind : Kind) (factor : Fraction) (r : Result PlanReport ChangeError) (old new : DiskState) (a b : ArchiveState) → IsKept old a h
+    → ((why : Refusal) → r ≡ Err (changes.Refused why) → Plans h phrase kind factor (Refused why) h × StandsFor b h) → ((why : Refusal) → r ≡ Err (changes.Refused why) → new ≡ old) → (r ≡ Err changes.Memory → new ≡ old)
+    → (IsOk r ⊎ (r ≡ Err changes.Failed) → IsWritten h phrase kind factor r old new b) → Takes h (items.Command (commands.Plan phrase kind factor)) (planned r) old new b
+takes_plan h phrase kind factor (Ok report) old new a b kept refused same memory written =
     let is = written (inl refl) in
     record { turn = record { reply = steps.Planned is.told; next = is.next }; step = is.plans; leads = is.leads; ends = (ap steps.Planned (sym is.kept.0), is.kept.1) }
-takes_plan h phrase factor (Err (changes.Refused why)) old new a b kept refused same memory written =
+takes_plan h phrase kind factor (Err (changes.Refused why)) old new a b kept refused same memory written =
     let is = refused why refl in
     let still = same why refl in
     let L : DiskState → Type 0 = λ d. LeadsTo h h old d in
@@ -252,11 +267,11 @@ takes_plan h phrase factor (Err (changes.Refused why)) old new a b kept refused 
       leads = subst L (sym still) (leads_nowhere old a h h kept);
       ends = (refl, subst K (sym still) (record { stands = is.1; in_step = step_at b.end (kept.stands.end_is ∙ sym is.1.end_is) kept.in_step; legal = kept.legal; held = kept.held }));
     }
-takes_plan h phrase factor (Err changes.Failed) old new a b kept refused same memory written =
+takes_plan h phrase kind factor (Err changes.Failed) old new a b kept refused same memory written =
     let is = written (inr refl) in
     record { turn = record { reply = steps.Planned is.told; next = is.next }; step = is.plans; leads = is.leads; ends = tt }
-takes_plan h phrase factor (Err changes.Memory) old new a b kept refused same memory written =
-    let (turn, step) = each_plans h phrase factor kept.legal in
+takes_plan h phrase kind factor (Err changes.Memory) old new a b kept refused same memory written =
+    let (turn, step) = each_plans h phrase kind factor kept.legal in
     let L : DiskState → Type 0 = λ d. LeadsTo h turn.next old d in
     let E : DiskState → Type 0 = λ d. EachStands d h in
     record {

@@ -12,7 +12,7 @@ use Rattle.record_codec.specs.Spelling.{spelling}
 use Rattle.page_store.specs.Taken.{AreApart}
 use Rattle.sublist_store.specs.Preparing.{IsFor, PreparedState, extents, spellings}
 use Rattle.sublist_store.specs.Segments.{seconds}
-use Rattle.stored_plans.specs.Plans.{IsLeastPlan, IsNarrow, plan_space}
+use Rattle.stored_plans.specs.Plans.{IsGoodPlan, IsCostOf, plan_space}
 use Rattle.archive_state.specs.Histories.{History, end_of}
 use Rattle.archive_state.specs.Legal.{IsLegalEntry}
 use Rattle.archive_state.specs.Planning.{IsListUpTo, last_second}
@@ -28,15 +28,15 @@ use Rattle.archive_replay.specs.declared.preparing.Unprepared.{Unprepared}
 use Rattle.archive_replay.specs.declared.preparing.Unprepared.TheVariants as unprepared
 use Rattle.archive_core.specs.States.{ArchiveState}
 
--- A draft of a history: a least plan of a word's list up to the last time, which has few enough boundaries.
+-- A draft of a history: a plan of a word's list up to the last time that is what its kind promises.
 pub record IsDraft (history : History) (draft : Draft) : Type 0 where
   pub word : IsWord draft.word
   pub list_is : IsListUpTo history draft.word (last_second history) draft.list.items
   pub some : 0 < length draft.list.items
   pub horizon_is : draft.horizon.seconds ≡ last_second history
-  pub narrow : IsNarrow draft.list.items (last_second history)
-  pub least : IsLeastPlan draft.list.items draft.factor draft.cuts.items draft.horizon.seconds
+  pub good : IsGoodPlan draft.kind draft.list.items draft.factor draft.cuts.items draft.horizon.seconds
   pub space_is : draft.space ≡ plan_space draft.list.items draft.cuts.items draft.horizon.seconds
+  pub cost_is : IsCostOf draft.kind draft.list.items draft.cuts.items draft.horizon.seconds draft.cost
 
 -- A plan that may come next after a history, with the sublists that were prepared for it, and its entry's spelling.
 pub record IsStorable (history : History) (plan : PlanEntry) (prepared : PreparedState) (frame : List ℕ) : Type 0 where

@@ -15,7 +15,6 @@ ghost use Rattle.archive_state.specs.Plans.{live_extents};
 ghost use Rattle.record_codec.specs.declared.plan.PlanEntry.{PlanEntry};
 ghost use Rattle.archive_core.specs.Storing.{IsDraft, IsStoredAs, NotDrafted, NotReady};
 ghost use Rattle.plan_shelf.specs.Readying.{IsFull, tells_of};
-ghost use Rattle.commands.specs.declared.command.Kind.TheVariants as kinds;
 ghost use Rattle.archive_core.specs.States.{StandsFor, IsKept, Reaches};
 ghost use Rattle.archive_core.specs.Changing.{LeadsTo};
 ghost use Rattle.archive_core.specs.Takes.{Takes, changed, planned};
@@ -35,7 +34,7 @@ use archive_replay::{
     Prepared, TEXT_AT, Unprepared, full_journal, note, placed, prepare_arrival, prepare_deletion,
 };
 use archive_state::Refusal;
-use commands::Phrase;
+use commands::{Kind, Phrase};
 use gate_journal::{Frame, Journal};
 use machine_model::{Area, Disk};
 use plan_shelf::{Draft, PlanReport, Shelf, make_ready};
@@ -252,21 +251,24 @@ impl Archive {
         self.add(alloc, disk, prepared)
     }
 
-    /// Stores a least plan of a word's list up to the last time, in which each read costs at most the
-    /// factor times what is alive, in the place of the word's plan if it has one. At `Ok` it is
-    /// durable: each image that a stop may leave has it, with its sublists. All memory is taken
-    /// before the first write.
+    /// Stores a plan of a word's list up to the last time, in the place of the word's plan if it has one.
+    /// One that keeps to a guarantee takes least space of those in which each read costs at most the
+    /// factor times what is alive. One under a space bound takes at most the factor times the list, and
+    /// its reads are expected to cost least, where each second is as likely to be asked for, or each
+    /// second from a time on. At `Ok` it is durable: each image that a stop may leave has it, with its
+    /// sublists. All memory is taken before the first write.
     ///
     /// `Refused`: for the first cause in order, the phrase isn't one term, no text has the word, it has no
-    /// posting before the last time, its list has too many boundaries, or Pages or the journal
-    /// are full. `Failed`, `Memory`: the archive is spent, and keeps what it had.
-    /// Costs `n log n` in the word's postings; what `Sublists::prepare` does; the sublists' bytes,
-    /// hashed and written once; a sync; and two synced writes of the entry.
+    /// posting before the last time, its list has too many boundaries for a guarantee, or Pages or the
+    /// journal are full. `Failed`, `Memory`: the archive is spent, and keeps what it had.
+    /// Costs `n log n` in the word's postings; what `choose` does; what `Sublists::prepare` does; the
+    /// sublists' bytes, hashed and written once; a sync; and two synced writes of the entry.
     pub fn plan<D: Disk>(
         &mut self,
         alloc: Global,
         disk: &mut D,
         word: &Phrase,
+        kind: Kind,
         factor: Fraction,
     ) -> Result<PlanReport, ChangeError>
         requires live { IsTrue self.old.live }
@@ -278,8 +280,8 @@ impl Archive {
         ensures live { IsTrue self.new.live ↔ (IsOk result ⊎ ((why : Refusal) × IsErrOf result (ChangeError.Refused why))) }
         // On any disk, whatever history it stood for: a refusal has its cause there, and comes wherever there is one (but for want of memory); at Ok
         // the archive stands for a history with a plan that may be stored.
-        ensures refused { (h : History) → StandsFor self.old h → (why : Refusal) → IsErrOf result (ChangeError.Refused why) → Plans h word.now factor (Refused why) h × StandsFor self.new h }
-        ensures stores { (h : History) → StandsFor self.old h → IfOk result (λ r. (next : History) × (Plans h word.now factor (Planned (summary_of r)) next × StandsFor self.new next)) }
+        ensures refused { (h : History) → StandsFor self.old h → (why : Refusal) → IsErrOf result (ChangeError.Refused why) → Plans h word.now kind factor (Refused why) h × StandsFor self.new h }
+        ensures stores { (h : History) → StandsFor self.old h → IfOk result (λ r. (next : History) × (Plans h word.now kind factor (Planned (summary_of r)) next × StandsFor self.new next)) }
         // What it stands for then begins with what it stood for.
         ensures follows { (h : History) → StandsFor self.old h → IsOk result ⊎ ((why : Refusal) × IsErrOf result (ChangeError.Refused why)) → (more : History) × StandsFor self.new (h ++ more) }
         ensures same { (why : Refusal) → IsErrOf result (ChangeError.Refused why) → disk.new ≡ disk.old }
@@ -288,9 +290,9 @@ impl Archive {
         // Where it is spent, it has the entries, the texts and the plans that it had.
         ensures spent { (IsErrOf result ChangeError.Memory ⊎ IsErrOf result ChangeError.Failed) → IsSpent self.old self.new }
         // In step, it is a step of the abstract machine; each image left since stands for the history before it or after it.
-        ensures takes { D.disk_tells → (h : History) → IsKept (D.disk disk.old) self.old h → Takes h (items.Command (commands.Plan word.now kinds.Guarantee factor)) (planned result) (D.disk disk.old) (D.disk disk.new) self.new }
+        ensures takes { D.disk_tells → (h : History) → IsKept (D.disk disk.old) self.old h → Takes h (items.Command (commands.Plan word.now kind factor)) (planned result) (D.disk disk.old) (D.disk disk.new) self.new }
     {
-        match self.draft(alloc, word, factor) {
+        match self.draft(alloc, word, kind, factor) {
             Ok(draft) => self.store(alloc, disk, draft),
             Err(why) => self.not_drafted(why),
         }

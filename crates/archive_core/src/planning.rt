@@ -14,6 +14,7 @@ ghost use Rattle.archive_core.specs.States.{StandsFor, IsKept};
 ghost use Rattle.archive_core.specs.Sealing.{IsSealed};
 ghost use Rattle.archive_core.specs.Takes.{Takes, proposed};
 ghost use Rattle.commands.specs.declared.command.Command.TheVariants as commands;
+ghost use Rattle.commands.specs.declared.command.Kind.{Kind};
 ghost use Rattle.commands.specs.declared.command.Item.TheVariants as items;
 
 use crate::archive::Archive;
@@ -86,8 +87,8 @@ impl Archive {
     pub(crate) fn sealed(&self, alloc: Global, word: &Phrase) -> Result<Sealed, AskError>
         ensures failed { IsErrOf result AskError.Failed → ⊥ }
         ensures undamaged { (d : Damage) → IsErrOf result (AskError.Damaged d) → ⊥ }
-        ensures refused { (h : History) → StandsFor self.now h → (why : Refusal) → IsErrOf result (AskError.Refused why) →
-            OfPhrase h (term_of word.now) (λ because. why ≡ because) (λ word list. ⊥) }
+        ensures refused { (kind : Kind) (h : History) → StandsFor self.now h → (why : Refusal) → IsErrOf result (AskError.Refused why) →
+            OfPhrase kind h (term_of word.now) (λ because. why ≡ because) (λ word list. ⊥) }
         ensures sealed { (h : History) → StandsFor self.now h → IfOk result (λ s. IsSealed h word.now s.word s.list.items s.horizon.seconds) }
         ensures some { IfOk result (λ s. 0 < length s.list.items) }
         ensures few { IfOk result (λ s. length s.list.items < 2 ^ 38) }
@@ -108,8 +109,8 @@ impl Archive {
     fn sealed_list(&self, alloc: Global, key: Key) -> Result<Sealed, AskError>
         ensures failed { IsErrOf result AskError.Failed → ⊥ }
         ensures undamaged { (d : Damage) → IsErrOf result (AskError.Damaged d) → ⊥ }
-        ensures refused { (h : History) → StandsFor self.now h → (why : Refusal) → IsErrOf result (AskError.Refused why) →
-            OfWord h key (λ because. why ≡ because) (λ list. ⊥) }
+        ensures refused { (kind : Kind) (h : History) → StandsFor self.now h → (why : Refusal) → IsErrOf result (AskError.Refused why) →
+            OfWord kind h key (λ because. why ≡ because) (λ list. ⊥) }
         ensures word { IfOk result (λ s. s.word ≡ key) }
         ensures known { (h : History) → StandsFor self.now h → IfOk result (λ s. IsKnown h key) }
         ensures list { (h : History) → StandsFor self.now h → IfOk result (λ s. IsListUpTo h key (last_second h) s.list.items) }

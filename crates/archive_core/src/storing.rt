@@ -12,13 +12,13 @@ ghost use Rattle.record_codec.specs.declared.plan.PlanEntry.{PlanEntry as PlainP
 ghost use Rattle.gate_journal.specs.InStep.{IsInStep};
 ghost use Rattle.page_store.specs.Live.{IsInside};
 ghost use Rattle.page_store.specs.Taken.{HasTaken};
-ghost use Rattle.stored_plans.specs.Plans.{IsLeastPlan, IsNarrow, plan_space};
+ghost use Rattle.stored_plans.specs.Plans.{IsCostOf, IsGoodPlan, plan_space};
 ghost use Rattle.sublist_store.specs.Preparing.{extents};
 ghost use Rattle.fold_tokens.specs.Terms.{one_term as term_of};
 ghost use Rattle.archive_state.specs.Histories.{History};
 ghost use Rattle.archive_state.specs.Legal.{IsLegal};
 ghost use Rattle.archive_state.specs.Holding.{HoldsPlans};
-ghost use Rattle.archive_state.specs.Planning.{OfPhrase, OfBoundaries, IsKnown};
+ghost use Rattle.archive_state.specs.Planning.{OfPhrase, OfWidth, IsKnown};
 ghost use Rattle.archive_state.specs.Plans.{with_plan};
 ghost use Rattle.archive_state.specs.Stands.{bodies_of};
 ghost use Rattle.archive_state.specs.Steps.{spelled_key};
@@ -30,99 +30,82 @@ ghost use Rattle.archive_core.specs.Storing.{IsDraft, IsStorable};
 
 use crate::archive::Archive;
 use crate::error::AskError;
-use crate::planning::{Sealed, planned};
+use crate::planning::Sealed;
 use archive_state::Refusal;
-use commands::Phrase;
-use elementary::Table;
+use commands::{Kind, Phrase};
 use gate_journal::{AppendError, Frame, Journal};
 use machine_model::{Disk, Failed};
+use plan_choice::{Choice, ChoiceError, choose};
 use plan_shelf::{Draft, PlanReport, Ready, Shelf};
-use std::alloc::{AllocError, Global};
+use std::alloc::Global;
 use sublist_store::{Damage, Prepared, Sublists};
-use time_base::{Fraction, Time};
+use time_base::Fraction;
 
 impl Archive {
-    /// A least plan of the list of a phrase's word up to the last time, or why there is none to store.
+    /// A plan of the list of a phrase's word up to the last time that is what its kind promises, or why
+    /// there is none to store.
     pub(crate) fn draft(
         &self,
         alloc: Global,
         word: &Phrase,
+        kind: Kind,
         factor: Fraction,
     ) -> Result<Draft, AskError>
         ensures failed { IsErrOf result AskError.Failed → ⊥ }
         ensures undamaged { (d : Damage) → IsErrOf result (AskError.Damaged d) → ⊥ }
         ensures refused { (h : History) → StandsFor self.now h → (why : Refusal) → IsErrOf result (AskError.Refused why) →
-            OfPhrase h (spelled_key (term_of word.now)) (λ because. why ≡ because) (λ word list. ⊥) }
+            OfPhrase kind h (spelled_key (term_of word.now)) (λ because. why ≡ because) (λ word list. ⊥) }
         ensures known { (h : History) → StandsFor self.now h → IfOk result (λ d. IsKnown h d.word) }
         ensures term { IfOk result (λ d. spelled_key (term_of word.now) ≡ Some d.word) }
+        ensures kind { IfOk result (λ d. d.kind ≡ kind) }
         ensures factor { IfOk result (λ d. d.factor ≡ factor) }
         ensures drafted { (h : History) → StandsFor self.now h → IfOk result (λ d. IsDraft h d) }
     {
         match self.sealed(alloc, word) {
-            Ok(sealed) => draft_of(alloc, sealed, factor),
+            Ok(sealed) => draft_of(alloc, sealed, kind, factor),
             Err(error) => Err(error),
         }
     }
 }
 
-/// A least plan of a word's list up to the last time.
-fn draft_of(alloc: Global, sealed: Sealed, factor: Fraction) -> Result<Draft, AskError>
+/// A plan of a word's list up to the last time that is what its kind promises.
+fn draft_of(alloc: Global, sealed: Sealed, kind: Kind, factor: Fraction) -> Result<Draft, AskError>
     requires some { 0 < length sealed.list.items }
     requires few { length sealed.list.items < 2 ^ 38 }
     requires early { All (λ p. p.span.to ≤ sealed.horizon.seconds) sealed.list.items }
     ensures failed { IsErrOf result AskError.Failed → ⊥ }
     ensures undamaged { (d : Damage) → IsErrOf result (AskError.Damaged d) → ⊥ }
-    ensures refused { (why : Refusal) → IsErrOf result (AskError.Refused why) → OfBoundaries sealed.horizon.seconds sealed.list.items (λ because. why ≡ because) ⊥ }
+    ensures refused { (why : Refusal) → IsErrOf result (AskError.Refused why) → OfWidth kind sealed.horizon.seconds sealed.list.items (λ because. why ≡ because) ⊥ }
     ensures word { IfOk result (λ d. d.word ≡ sealed.word) }
+    ensures kind { IfOk result (λ d. d.kind ≡ kind) }
     ensures factor { IfOk result (λ d. d.factor ≡ factor) }
     ensures list { IfOk result (λ d. d.list.items ≡ sealed.list.items) }
     ensures horizon { IfOk result (λ d. d.horizon ≡ sealed.horizon) }
-    ensures narrow { IfOk result (λ d. IsNarrow sealed.list.items sealed.horizon.seconds) }
-    ensures least { IfOk result (λ d. IsLeastPlan sealed.list.items factor d.cuts.items sealed.horizon.seconds) }
+    ensures good { IfOk result (λ d. IsGoodPlan kind sealed.list.items factor d.cuts.items sealed.horizon.seconds) }
     ensures space { IfOk result (λ d. d.space ≡ plan_space sealed.list.items d.cuts.items sealed.horizon.seconds) }
+    ensures cost { IfOk result (λ d. IsCostOf kind sealed.list.items d.cuts.items sealed.horizon.seconds d.cost) }
 {
     let Sealed {
         word,
         list,
         horizon,
     } = sealed;
-    let table = Table::new(alloc, &list, horizon)?;
-    let (partition, _) = planned(alloc, &table, factor)?;
-    let cuts = times_of(alloc, partition.cuts(), horizon)?;
-    let space = partition.space(&table);
-    Ok(Draft {
-        word,
-        factor,
-        list,
-        horizon,
-        cuts,
-        space,
-    })
-}
-
-/// The times of all cuts but the last, which is the horizon. Costs their number.
-fn times_of(alloc: Global, cuts: &[u64], horizon: Time) -> Result<Vec<Time>, AllocError>
-    requires many { 2 ≤ length cuts.now }
-    requires ascending { IsStrictlyIncreasing cuts.now }
-    requires last { slice_index cuts.now (length cuts.now - 1) ≡ horizon.seconds }
-    ensures { IfOk result (λ v. map (λ (t : PlainTime). t.seconds) v.items ++ horizon.seconds ∷ [] ≡ cuts.now) }
-{
-    let mut times = Vec::with_capacity(alloc, cuts.len() - 1)?;
-    for cut in &cuts[..cuts.len() - 1] {
-        push_time(&mut times, *cut)?;
+    match choose(alloc, &list, kind, factor, horizon) {
+        Ok(Choice { cuts, space, cost }) => Ok(Draft {
+            word,
+            kind,
+            factor,
+            list,
+            horizon,
+            cuts,
+            space,
+            cost,
+        }),
+        Err(ChoiceError::TooWide { boundaries }) => {
+            Err(AskError::Refused(Refusal::TooWide { boundaries }))
+        }
+        Err(ChoiceError::Memory) => Err(AskError::Memory),
     }
-    Ok(times)
-}
-
-/// Adds a time of so many seconds.
-fn push_time(times: &mut Vec<Time>, seconds: u64) -> Result<(), AllocError>
-    requires { seconds < 2 ^ 40 }
-    ensures { OnOk result ((time : PlainTime) × ((time.seconds ≡ seconds) × (times.new.items ≡ times.old.items ++ time ∷ []))) }
-{
-    if let Some(time) = Time::new(seconds) {
-        times.push(time)?;
-    }
-    Ok(())
 }
 
 /// Writes what is ready, first the sublists and then the entry; the plan takes the place of the one that its

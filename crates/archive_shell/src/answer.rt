@@ -18,13 +18,13 @@ use crate::stop::Halt;
 use archive_core::{Archive, AskError, ChangeError, PlanReport};
 use archive_replies::{ReplyPage, Summary};
 use archive_state::Refusal;
-use commands::{Command, Item, Kind, MOST_TEXT_BYTES, Phrase, Text};
+use commands::{Command, Item, MOST_TEXT_BYTES, Text};
 use machine_model::Disk;
 use proposals::Proposal;
 use query_eval::{Answer, SpanAnswer};
 use std::alloc::Global;
 use sublist_store::Damage;
-use time_base::{DocId, Fraction, Time};
+use time_base::{DocId, Time};
 
 /// Carries out an item on the archive and its disk, and writes its reply on the page.
 pub(crate) fn answer<D: Disk>(
@@ -98,7 +98,10 @@ fn carry_out<D: Disk>(
             word,
             kind,
             fraction,
-        } => plan(alloc, disk, archive, page, &word, kind, fraction),
+        } => {
+            let result = archive.plan(alloc, disk, &word, kind, fraction);
+            write_planned(page, result)
+        }
         Command::Certificate { word } => {
             let result = archive.certificate(alloc, &word);
             write_proposed(page, result)
@@ -137,35 +140,6 @@ fn arrive<D: Disk>(
                 limit: MOST_TEXT_BYTES as u64,
             },
         ),
-    }
-}
-
-/// Stores a plan. One of a kind that isn't built yet is refused as a line that is no command.
-fn plan<D: Disk>(
-    alloc: Global,
-    disk: &mut D,
-    archive: &mut Archive,
-    page: &mut ReplyPage,
-    word: &Phrase,
-    kind: Kind,
-    fraction: Fraction,
-) -> Result<(), Halt>
-    requires ready { CanGoOn archive.old (D.disk disk.old).reach }
-    ensures only { D.Disk.only disk.old disk.new }
-    ensures disk_fault { IsErrOf result Halt.Disk → Rose (D.disk disk.old).faults (D.disk disk.new).faults }
-    ensures ready { OnOk result (CanGoOn archive.new (D.disk disk.new).reach) }
-    ensures follows { (h : History) → StandsFor archive.old h → OnOk result (GoesOnFrom h archive.new) }
-    ensures undamaged { (d : Damage) → IsErrOf result (Halt.Damaged d) → ⊥ }
-    ensures turn { D.disk_tells → (h : History) → IsKept (D.disk disk.old) archive.old h →
-        Answers h (items.Command (plain.Plan word.now kind fraction)) result (D.disk disk.old) (D.disk disk.new) archive.new page.new.bytes }
-{
-    match kind {
-        Kind::Guarantee => {
-            let result = archive.plan(alloc, disk, word, fraction);
-            write_planned(page, result)
-        }
-        Kind::Uniform => refuse(page, Refusal::Line),
-        Kind::Since { .. } => refuse(page, Refusal::Line),
     }
 }
 
@@ -209,6 +183,7 @@ fn write_planned(page: &mut ReplyPage, plan: Result<PlanReport, ChangeError>) ->
                 space: report.space,
                 full: report.full,
                 horizon: report.horizon.seconds,
+                cost: report.cost,
             });
             Ok(())
         }

@@ -3,7 +3,7 @@ use Rattle.commands.specs.declared.command.Command.{Command}
 use Rattle.commands.specs.declared.command.Command.TheVariants as plain
 use Rattle.commands.specs.declared.command.Item.TheVariants as items
 use Rattle.archive_state.specs.declared.refusal.Refusal.TheVariants as refusals
-use Rattle.archive_core.specs.Takes.{changed, found, proposed, shown, spanned}
+use Rattle.archive_core.specs.Takes.{changed, found, planned, proposed, shown, spanned}
 use Rattle.archive_shell.specs.Turns.{Answers}
 use Rattle.archive_shell.specs.Asking.{IsOnPage}
 use Rattle.archive_shell.specs.Damages.{Spoils}
@@ -40,6 +40,12 @@ returns-in-Propose-clause-turn g c = λ tells h kept.
     let C : Command → Type 0 = λ d. Answers h (items.Command d) c.write_proposed.result (g.D.Disk.disk c.args.disk.now) (g.D.Disk.disk c.args.disk.now) c.args.archive.now c.write_proposed.new.page.bytes in
     subst C (sym c.in-Propose.is) (answers_by h (items.Command (plain.Propose c.in-Propose.word c.in-Propose.fraction)) (proposed c.propose-result.result) c.write_proposed.result _ _ c.args.archive.now c.write_proposed.new.page.bytes
     (c.propose-result.ensures.takes (g.D.Disk.disk c.args.disk.now) h kept) c.write_proposed.ensures.writes)
+
+pub returns-in-Plan-clause-turn : goal.returns-in-Plan-clause-turn
+returns-in-Plan-clause-turn g c = λ tells h kept.
+    let C : Command → Type 0 = λ d. Answers h (items.Command d) c.write_planned.result (g.D.Disk.disk c.args.disk.now) (g.D.Disk.disk c.plan-result.new.disk) c.plan-result.new.self c.write_planned.new.page.bytes in
+    subst C (sym c.in-Plan.is) (answers_by h (items.Command (plain.Plan c.in-Plan.word c.in-Plan.kind c.in-Plan.fraction)) (planned c.plan-result.result) c.write_planned.result _ _ c.plan-result.new.self c.write_planned.new.page.bytes
+    (c.plan-result.ensures.takes tells h kept) c.write_planned.ensures.writes)
 
 pub returns-in-Certificate-clause-turn : goal.returns-in-Certificate-clause-turn
 returns-in-Certificate-clause-turn g c = λ tells h kept.

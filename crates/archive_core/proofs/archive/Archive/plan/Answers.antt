@@ -17,48 +17,48 @@ pub returns-in-Ok-clause-refused : goal.returns-in-Ok-clause-refused
 returns-in-Ok-clause-refused g c = λ h stands why is.
     let ens = c.in-Ok.ensures in
     let full = c.store.ensures.refused h stands why is in
-    (plans_full h c.args.word.now c.args.factor c.in-Ok.draft c.args.self.now.end why ens.term (ens.known h stands) ens.factor (ens.drafted h stands) stands.end_is full.0, full.1)
+    (plans_full h c.args.word.now c.args.kind c.args.factor c.in-Ok.draft c.args.self.now.end why ens.term (ens.known h stands) ens.kind ens.factor (ens.drafted h stands) stands.end_is full.0, full.1)
 
 pub returns-in-Ok-clause-stores : goal.returns-in-Ok-clause-stores
 returns-in-Ok-clause-stores g c = λ h stands.
     let ens = c.in-Ok.ensures in
-    go h c.store.result (λ plan stored. plans_stored h c.args.word.now c.args.factor c.in-Ok.draft plan ens.term (ens.known h stands) ens.factor (ens.drafted h stands) stored) (c.store.ensures.stores h stands)
+    go h c.store.result (λ plan stored. plans_stored h c.args.word.now c.args.kind c.args.factor c.in-Ok.draft plan ens.term (ens.known h stands) ens.kind ens.factor (ens.drafted h stands) stored) (c.store.ensures.stores h stands)
   where
-    go : (h : History) (r : Result PlanReport ChangeError) → ((plan : PlanEntry) → IsStoredAs h c.in-Ok.draft plan → Plans h c.args.word.now c.args.factor (Planned (tells_of c.in-Ok.draft (length h + 1))) (h ++ entries.Planned plan ∷ []))
+    go : (h : History) (r : Result PlanReport ChangeError) → ((plan : PlanEntry) → IsStoredAs h c.in-Ok.draft plan → Plans h c.args.word.now c.args.kind c.args.factor (Planned (tells_of c.in-Ok.draft (length h + 1))) (h ++ entries.Planned plan ∷ []))
         → IfOk r (λ report. (plan : PlanEntry) × (IsStoredAs h c.in-Ok.draft plan × (summary_of report ≡ tells_of c.in-Ok.draft (length h + 1)) × StandsFor c.store.new.self (h ++ entries.Planned plan ∷ [])))
-        → IfOk r (λ report. (next : History) × (Plans h c.args.word.now c.args.factor (Planned (summary_of report)) next × StandsFor c.store.new.self next))
+        → IfOk r (λ report. (next : History) × (Plans h c.args.word.now c.args.kind c.args.factor (Planned (summary_of report)) next × StandsFor c.store.new.self next))
     go h (Ok report) plans (plan, (stored, told, stands)) =
         let next = h ++ entries.Planned plan ∷ [] in
-        (next, (subst (λ s. Plans h c.args.word.now c.args.factor (Planned s) next) (sym told) (plans plan stored), stands))
+        (next, (subst (λ s. Plans h c.args.word.now c.args.kind c.args.factor (Planned s) next) (sym told) (plans plan stored), stands))
     go h (Err e) plans stores = tt
 
 pub returns-in-Ok-clause-takes : goal.returns-in-Ok-clause-takes
 returns-in-Ok-clause-takes g c = λ tells h kept.
     let ens = c.in-Ok.ensures in
     let stands = kept.stands in
-    takes_plan h c.args.word.now c.args.factor c.store.result _ _ c.args.self.now c.store.new.self kept
+    takes_plan h c.args.word.now c.args.kind c.args.factor c.store.result _ _ c.args.self.now c.store.new.self kept
     (λ why is.
     let full = c.store.ensures.refused h stands why is in
-    (plans_full h c.args.word.now c.args.factor c.in-Ok.draft c.args.self.now.end why ens.term (ens.known h stands) ens.factor (ens.drafted h stands) stands.end_is full.0, full.1))
+    (plans_full h c.args.word.now c.args.kind c.args.factor c.in-Ok.draft c.args.self.now.end why ens.term (ens.known h stands) ens.kind ens.factor (ens.drafted h stands) stands.end_is full.0, full.1))
     (λ why is. ap g.D.Disk.disk (c.store.ensures.same why is)) (λ is. ap g.D.Disk.disk (c.store.ensures.memory is))
     (λ is.
     let (plan, (stored, leads, then)) = c.store.ensures.leads tells h kept is in
     record {
       told = tells_of c.in-Ok.draft (length h + 1);
       next = h ++ entries.Planned plan ∷ [];
-      plans = plans_stored h c.args.word.now c.args.factor c.in-Ok.draft plan ens.term (ens.known h stands) ens.factor (ens.drafted h stands) stored;
+      plans = plans_stored h c.args.word.now c.args.kind c.args.factor c.in-Ok.draft plan ens.term (ens.known h stands) ens.kind ens.factor (ens.drafted h stands) stored;
       leads = leads;
       kept = then;
     })
 
 pub returns-in-Err-clause-refused : goal.returns-in-Err-clause-refused
 returns-in-Err-clause-refused g c = λ h stands why is.
-    plans_refused h c.args.word.now c.args.factor c.in-Err.why c.not_drafted.result c.args.self.now c.not_drafted.new.self why c.not_drafted.ensures (c.in-Err.ensures.refused h stands) stands is
+    plans_refused h c.args.word.now c.args.kind c.args.factor c.in-Err.why c.not_drafted.result c.args.self.now c.not_drafted.new.self why c.not_drafted.ensures (c.in-Err.ensures.refused h stands) stands is
 
 pub returns-in-Err-clause-takes : goal.returns-in-Err-clause-takes
 returns-in-Err-clause-takes g c = λ tells h kept.
-    takes_plan h c.args.word.now c.args.factor c.not_drafted.result _ _ c.args.self.now c.not_drafted.new.self kept
-    (λ why is. plans_refused h c.args.word.now c.args.factor c.in-Err.why c.not_drafted.result c.args.self.now c.not_drafted.new.self why c.not_drafted.ensures (c.in-Err.ensures.refused h kept.stands) kept.stands is)
+    takes_plan h c.args.word.now c.args.kind c.args.factor c.not_drafted.result _ _ c.args.self.now c.not_drafted.new.self kept
+    (λ why is. plans_refused h c.args.word.now c.args.kind c.args.factor c.in-Err.why c.not_drafted.result c.args.self.now c.not_drafted.new.self why c.not_drafted.ensures (c.in-Err.ensures.refused h kept.stands) kept.stands is)
     (λ why is. refl) (λ is. refl) (λ is. drafted_never _ c.in-Err.why c.not_drafted.result c.args.self.now c.not_drafted.new.self c.not_drafted.ensures is)
 
 pub returns-in-Ok-clause-follows : goal.returns-in-Ok-clause-follows

@@ -1,4 +1,5 @@
 use Rattle.std.proofs.Common.{Err, ap, ◌∙◌}
+use Rattle.commands.specs.declared.command.Kind.TheVariants.{Guarantee}
 use Rattle.archive_core.specs.declared.error.AskError.{AskError}
 use Rattle.archive_core.specs.declared.error.AskError.TheVariants.{Refused}
 use Rattle.archive_core.proofs.PlanLemmas.{phrase_refused, one_error, ok_proposed}
@@ -11,4 +12,4 @@ returns-in-Ok-clause-proposes c = λ h stands.
 
 pub returns-in-Err-clause-refused : goal.returns-in-Err-clause-refused
 returns-in-Err-clause-refused c = λ h stands why e.
-    phrase_refused h c.args.word.now c.args.factor why (c.sealed.ensures.refused h stands why (c.in-Err.is ∙ ap (λ (x : AskError). Err x) (one_error c.in-Err.error (Refused why) e)))
+    phrase_refused h c.args.word.now c.args.factor why (c.sealed.ensures.refused Guarantee h stands why (c.in-Err.is ∙ ap (λ (x : AskError). Err x) (one_error c.in-Err.error (Refused why) e)))

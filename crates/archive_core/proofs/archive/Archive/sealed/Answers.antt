@@ -5,9 +5,9 @@ use Rattle.archive_core.proofs.DraftLemmas.{spelled_same, term_kept}
 use Rattle.archive_core.proofs.archive.Archive.sealed.Goals as goal
 
 pub returns-clause-refused : goal.returns-clause-refused
-returns-clause-refused c = λ h stands why e.
-    let P : Option (List ℕ) → Type 0 = λ key. OfPhrase h key (λ because. why ≡ because) (λ word list. ⊥) in
-    subst P (sym (ap one_term (sym c.as_str.ensures.value) ∙ sym c.in_ok-key.ensures ∙ c.in-Some.is)) (c.sealed_list.ensures.refused h stands why e)
+returns-clause-refused c = λ kind h stands why e.
+    let P : Option (List ℕ) → Type 0 = λ key. OfPhrase kind h key (λ because. why ≡ because) (λ word list. ⊥) in
+    subst P (sym (ap one_term (sym c.as_str.ensures.value) ∙ sym c.in_ok-key.ensures ∙ c.in-Some.is)) (c.sealed_list.ensures.refused kind h stands why e)
 
 pub returns-clause-term : goal.returns-clause-term
 returns-clause-term c =

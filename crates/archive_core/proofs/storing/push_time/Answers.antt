@@ -1,4 +1,0 @@
-use Rattle.archive_core.proofs.storing.push_time.Goals as goal
-
-pub returns-in_ok-push : goal.returns-in_ok-push
-returns-in_ok-push c = (c.in-Some.time, (c.in-Some.ensures.value, c.in_ok-push.ensures.items))
