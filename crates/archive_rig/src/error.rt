@@ -43,6 +43,11 @@ pub enum RowError {
         /// The answer.
         answer: Result<u64, ChangeError>,
     },
+    /// Pages don't hold the sublist of a segment.
+    NotHeld {
+        /// The first page of its place.
+        page: u32,
+    },
     /// The archive is spent.
     Spent,
     /// An image that a stop may leave has too few entries, or too many.

@@ -2,21 +2,33 @@
 //! what a stop may leave of one.
 //!
 //! A row is a test of one of the crates above, and says what it wants. The rig tries it: `expect_rows`
-//! runs scripts, `expect_changes` makes changes of an archive in hand, and `expect_entries` and
-//! `expect_shown` load images that a stop may leave. What comes otherwise is a `RowError` that says
-//! where. Each run is held to have had its memory, so a program that always gave up for want of it
-//! would pass no row.
+//! and `expect_on` run scripts, `expect_changes` makes changes of an archive in hand, and
+//! `expect_entries` and `expect_shown` load images that a stop may leave. What comes otherwise is a
+//! `RowError` that says where. Each run is held to have had its memory, so a program that always gave
+//! up for want of it would pass no row. Journals with plans and their sublists are spelled here by the
+//! formats alone (`journals`, `sublists`).
 #![tactic(auto)]
 
 mod changes;
+mod disks;
 mod error;
+mod journals;
 mod machines;
 mod rows;
 mod scripts;
 mod stops;
+mod sublists;
 
 pub use changes::{Change, expect_change, expect_changes, made, refused, three_changes};
+pub use disks::{
+    FIRST_CERTIFICATE, FIRST_PLAN, FOUR_CHANGES, disk_after, disk_after_all, expect_held,
+    expect_on, expect_status, first_disk, new_disk,
+};
 pub use error::RowError;
+pub use journals::{
+    BLOCKS, FLAT, FOUR_END, FOUR_RECORDS, GUARANTEE, Plan, SINCE_30, Segment, UNIFORM,
+    first_segments, journal_of, pages_of, plan_of_v, plan_record, segment_at,
+};
 pub use machines::{
     copy_image, count_on, join, load_image, machine_on, make_machine, read_image, read_journal,
     run_on,
@@ -27,3 +39,7 @@ pub use scripts::{
     NEW_JOURNAL,
 };
 pub use stops::{EXTRAS, FILLS, expect_entries, expect_shown, pick_entries, pick_image};
+pub use sublists::{
+    CLIPPED_LIFE_OF_1, CLIPPED_LIVES, FIRST_LIFE, LIFE_OF_1, LIFE_OF_3, LIVES_OF_1_AND_2, NOTHING,
+    SECOND_LIFE, Sublist,
+};

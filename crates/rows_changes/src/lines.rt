@@ -23,8 +23,8 @@ fn a_line_that_is_no_command_is_refused_and_the_run_goes_on(rt: HostRuntime) -> 
 #[test]
 fn what_is_not_built_yet_is_refused_as_no_command(rt: HostRuntime) -> Result<(), Fail> {
     let rows = [Row {
-        script: b"arrive 7 10 5\nred a\nplan red space 3/2 uniform\nplan red space 3/2 since 10\nverify\n",
-        replies: b"ok 1\nno 1 Line\nno 1 Line\nno 1 Line\n",
+        script: b"arrive 7 10 5\nred a\nverify\n",
+        replies: b"ok 1\nno 1 Line\n",
     }];
     expect_rows(rt.alloc(), b"", &rows)?;
     Ok(())

@@ -1,10 +1,9 @@
 //! Sublists that aren't what the entries of their plans say, and the run's end where one is read.
-use crate::disks::{FIRST_CERTIFICATE, disk_after, expect_on, first_disk};
-use crate::journals::{
-    FOUR_RECORDS, Segment, first_segments, journal_of, pages_of, plan_of_v, plan_record, segment_at,
+use archive_rig::{
+    CLIPPED_LIVES, FIRST_CERTIFICATE, FIRST_LIFE, FOUR_RECORDS, LIFE_OF_1, LIFE_OF_3, NOTHING, Row,
+    Segment, Sublist, copy_image, disk_after, expect_on, first_disk, first_segments, journal_of,
+    machine_on, pages_of, plan_of_v, plan_record, read_image, run_on, segment_at,
 };
-use crate::sublists::{CLIPPED_LIVES, FIRST_LIFE, LIFE_OF_1, LIFE_OF_3, NOTHING, Sublist};
-use archive_rig::{Row, copy_image, machine_on, read_image, run_on};
 use archive_shell::Status;
 use machine_model::Image;
 use std::alloc::{AllocError, Global};
@@ -52,8 +51,8 @@ fn expect_damaged(
 }
 
 /// The disk of the first plan, with another byte 3 of Pages.
-fn changed_disk(rt: &impl Abort, alloc: Global) -> Result<Image, Fail> {
-    let mut disk = first_disk(rt, alloc)?;
+fn changed_disk(alloc: Global) -> Result<Image, Fail> {
+    let mut disk = first_disk(alloc)?;
     match disk.pages.get_mut(3) {
         Some(byte) => *byte = 1,
         None => return Err(Fail::from("Pages have no byte 3")),
@@ -64,7 +63,7 @@ fn changed_disk(rt: &impl Abort, alloc: Global) -> Result<Image, Fail> {
 #[test]
 fn a_byte_that_changed_is_told_by_both_digests(rt: HostRuntime) -> Result<(), Fail> {
     let alloc = rt.alloc();
-    let disk = changed_disk(&rt, alloc)?;
+    let disk = changed_disk(alloc)?;
     let mut machine = machine_on(alloc, b"find 15 v\n", disk, &[])?;
     let status = run_on(alloc, &mut machine)?;
     assert_eq!(rt; machine.shown(), b"".as_slice());
@@ -87,7 +86,7 @@ fn a_byte_that_changed_is_told_by_both_digests(rt: HostRuntime) -> Result<(), Fa
 #[test]
 fn the_run_ends_where_the_changed_sublist_is_read(rt: HostRuntime) -> Result<(), Fail> {
     let alloc = rt.alloc();
-    let disk = changed_disk(&rt, alloc)?;
+    let disk = changed_disk(alloc)?;
     let line = "tt_archive: damaged sublist at page 0: digest";
     for row in [
         Row {
@@ -113,7 +112,7 @@ fn the_run_ends_where_the_changed_sublist_is_read(rt: HostRuntime) -> Result<(),
     ] {
         expect_damaged(&rt, alloc, &disk, &row, line)?;
     }
-    let mut last = first_disk(&rt, alloc)?;
+    let mut last = first_disk(alloc)?;
     match last.pages.get_mut(8209) {
         Some(byte) => *byte = 0,
         None => return Err(Fail::from("Pages have no byte 8209")),
@@ -130,7 +129,7 @@ fn the_run_ends_where_the_changed_sublist_is_read(rt: HostRuntime) -> Result<(),
 #[test]
 fn what_reads_other_sublists_or_none_is_answered(rt: HostRuntime) -> Result<(), Fail> {
     let alloc = rt.alloc();
-    let disk = changed_disk(&rt, alloc)?;
+    let disk = changed_disk(alloc)?;
     let rows = [
         Row {
             script: b"find 9 v\nfind 20 v\nfind 39 v\nfind 40 v\nfind 15 w\nbetween 20 35 v\n",
@@ -145,12 +144,12 @@ fn what_reads_other_sublists_or_none_is_answered(rt: HostRuntime) -> Result<(), 
             replies: b"segment 10 40 2\nnode 10 0\nnode 20 1\nnode 30 2\nnode 40 2\nend 1 space 2\ntext 1\nv\n",
         },
     ];
-    expect_on(&rt, alloc, &disk, &rows)?;
+    expect_on(alloc, &disk, &rows)?;
     let row = Row {
         script: b"plan v guarantee 1/1\nfind 15 v\n",
         replies: b"plan 6 segments 3 space 4 full 2 horizon 40\nhit 1 1\nend 1 read 1\n",
     };
-    disk_after(&rt, alloc, &disk, &row)?;
+    disk_after(alloc, &disk, &row)?;
     Ok(())
 }
 
@@ -240,5 +239,6 @@ fn a_document_that_is_not_alive_is_no_hit(rt: HostRuntime) -> Result<(), Fail> {
         script: b"find 15 v\nbetween 10 20 v\nfind 25 v\n",
         replies: b"end 0 read 1\nend 0 read 1\nhit 1 1\nhit 2 1\nend 2 read 2\n",
     }];
-    expect_on(&rt, alloc, &disk, &rows)
+    expect_on(alloc, &disk, &rows)?;
+    Ok(())
 }

@@ -1,11 +1,10 @@
 //! An archive with a plan whose sublists are flat, 24 bytes a posting: it is read, and new plans are in
 //! blocks. A program that knows the formats alone made its files.
-use crate::disks::{FIRST_CERTIFICATE, disk_after, expect_held, expect_on};
-use crate::journals::{
-    FLAT, FOUR_RECORDS, Plan, Segment, journal_of, pages_of, plan_of_v, plan_record, segment_at,
+use archive_rig::{
+    FIRST_CERTIFICATE, FLAT, FOUR_RECORDS, LIFE_OF_1, LIVES_OF_1_AND_2, Plan, Row, Segment,
+    Sublist, disk_after, expect_held, expect_on, journal_of, pages_of, plan_of_v, plan_record,
+    segment_at,
 };
-use crate::sublists::{LIFE_OF_1, LIVES_OF_1_AND_2, Sublist};
-use archive_rig::Row;
 use machine_model::Image;
 use std::alloc::{AllocError, Global};
 use std::test::Fail;
@@ -74,7 +73,8 @@ fn a_flat_plan_is_read_and_certified(rt: HostRuntime) -> Result<(), Fail> {
             replies: b"segment 10 40 2\nnode 10 0\nnode 20 1\nnode 30 2\nnode 40 2\nend 1 space 2\nok 6\nspan 1 35 40 1\nspan 3 40 45 1\nend 2 read 2\n",
         },
     ];
-    expect_on(&rt, alloc, &disk, &rows)
+    expect_on(alloc, &disk, &rows)?;
+    Ok(())
 }
 
 #[test]
@@ -86,7 +86,7 @@ fn a_new_plan_is_in_blocks_and_then_the_flat_ones_pages_are_free(
         script: b"plan v guarantee 1/1\nplan v guarantee 2/1\ncertificate v\nfind 25 v\n",
         replies: b"plan 6 segments 3 space 4 full 2 horizon 40\nplan 7 segments 1 space 2 full 2 horizon 40\nsegment 10 40 2\nnode 10 0\nnode 20 1\nnode 30 2\nnode 40 2\nend 1 space 2\nhit 1 1\nhit 2 1\nend 2 read 2\n",
     };
-    let disk = disk_after(&rt, alloc, &flat_disk(alloc)?, &row)?;
+    let disk = disk_after(alloc, &flat_disk(alloc)?, &row)?;
     let sixth = [
         segment_at(10, 3, LIFE_OF_1),
         segment_at(20, 4, LIVES_OF_1_AND_2),
@@ -103,8 +103,8 @@ fn a_new_plan_is_in_blocks_and_then_the_flat_ones_pages_are_free(
     let journal = journal_of(alloc, &[FOUR_RECORDS, &flat, &blocks, &last])?;
     assert_eq!(rt; disk.journal.as_slice(), journal.as_slice());
     for held in sixth {
-        expect_held(&rt, &disk.pages, &held);
+        expect_held(&disk.pages, &held)?;
     }
-    expect_held(&rt, &disk.pages, &seventh[0]);
+    expect_held(&disk.pages, &seventh[0])?;
     Ok(())
 }

@@ -7,8 +7,6 @@
 #[cfg(test)]
 mod damaged;
 #[cfg(test)]
-mod disks;
-#[cfg(test)]
 mod flat;
 #[cfg(test)]
 mod foreign;
@@ -24,5 +22,3 @@ mod refusals;
 mod replies;
 #[cfg(test)]
 mod stops;
-#[cfg(test)]
-mod sublists;

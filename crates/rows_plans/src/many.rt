@@ -1,12 +1,15 @@
 //! Plans of thousands of segments.
-use crate::disks::{disk_after, expect_held, expect_on, new_disk};
-use crate::journals::segment_at;
-use crate::sublists::LAST_OF_2048;
-use archive_rig::Row;
+use archive_rig::{Row, Sublist, disk_after, expect_held, expect_on, new_disk, segment_at};
 use machine_model::Image;
 use std::alloc::{AllocError, Global};
-use std::process::Abort;
 use std::test::Fail;
+
+/// Document 1 has the word once in [4096, 4097).
+const LAST_OF_2048: Sublist<'static> = Sublist {
+    bytes: b"\x01\x00\x04\x00\x00\x00\x01\x00\x00\x00\x01\x00\x00\x00\x01\x01\x80\x20\x01",
+    digest: b"\xb7\x51\xd2\x54\x71\x87\x40\x8e\xee\xf2\xd7\x4e\x25\x4f\x2a\x50\
+        \x01\x88\xca\x4a\x82\xee\x11\x01\xf4\x22\xec\x32\x35\xb7\xa4\x01",
+};
 
 /// Document 1 has the word in [2i, 2i + 1) for each i from 1 to so many, and then comes a plan.
 fn lives(alloc: Global, times: u64, reply: &[u8]) -> Result<(Vec<u8>, Vec<u8>), AllocError> {
@@ -31,18 +34,18 @@ fn lives(alloc: Global, times: u64, reply: &[u8]) -> Result<(Vec<u8>, Vec<u8>), 
 }
 
 /// The disk that a plan of so many lives leaves, which has this reply. It is read and answers.
-fn expect_many(rt: &impl Abort, alloc: Global, times: u64, reply: &[u8]) -> Result<Image, Fail> {
+fn expect_many(alloc: Global, times: u64, reply: &[u8]) -> Result<Image, Fail> {
     let (script, replies) = lives(alloc, times, reply)?;
     let row = Row {
         script: &script,
         replies: &replies,
     };
-    let disk = disk_after(rt, alloc, &new_disk(alloc), &row)?;
+    let disk = disk_after(alloc, &new_disk(alloc), &row)?;
     let rows = [Row {
         script: b"find 2 v\nfind 3 v\nfind 4096 v\nbetween 2 7 v\n",
         replies: b"hit 1 1\nend 1 read 1\nend 0 read 0\nhit 1 1\nend 1 read 1\nspan 1 2 3 1\nspan 1 4 5 1\nspan 1 6 7 1\nend 3 read 3\n",
     }];
-    expect_on(rt, alloc, &disk, &rows)?;
+    expect_on(alloc, &disk, &rows)?;
     Ok(disk)
 }
 
@@ -51,14 +54,14 @@ fn expect_many(rt: &impl Abort, alloc: Global, times: u64, reply: &[u8]) -> Resu
 fn a_plan_may_have_4095_segments(rt: HostRuntime) -> Result<(), Fail> {
     let alloc = rt.alloc();
     let reply = b"plan 4097 segments 4095 space 2048 full 2048 horizon 4097\n";
-    let disk = expect_many(&rt, alloc, 2048, reply)?;
-    expect_held(&rt, &disk.pages, &segment_at(4096, 2047, LAST_OF_2048));
+    let disk = expect_many(alloc, 2048, reply)?;
+    expect_held(&disk.pages, &segment_at(4096, 2047, LAST_OF_2048))?;
     Ok(())
 }
 
 #[test]
 fn a_plan_may_have_4097_segments(rt: HostRuntime) -> Result<(), Fail> {
     let reply = b"plan 4099 segments 4097 space 2049 full 2049 horizon 4099\n";
-    expect_many(&rt, rt.alloc(), 2049, reply)?;
+    expect_many(rt.alloc(), 2049, reply)?;
     Ok(())
 }

@@ -1,13 +1,10 @@
 //! What plans leave in the journal and in Pages.
-use crate::disks::{
-    FIRST_PLAN, FOUR_CHANGES, disk_after, disk_after_all, expect_held, first_disk, new_disk,
+use crate::journals::{FOURTH_ARRIVES, THIRD_ARRIVES, THIRD_ENDS, two_words_journal};
+use archive_rig::{
+    FIRST_LIFE, FIRST_PLAN, FOUR_CHANGES, FOUR_RECORDS, LIFE_OF_1, LIFE_OF_3, LIVES_OF_1_AND_2,
+    NOTHING, Plan, Row, SECOND_LIFE, Segment, disk_after, disk_after_all, expect_held, first_disk,
+    first_segments, journal_of, new_disk, plan_of_v, plan_record, segment_at,
 };
-use crate::journals::{
-    FOUR_RECORDS, FOURTH_ARRIVES, Plan, Segment, THIRD_ARRIVES, THIRD_ENDS, first_segments,
-    journal_of, plan_of_v, plan_record, segment_at, two_words_journal,
-};
-use crate::sublists::{FIRST_LIFE, LIFE_OF_1, LIFE_OF_3, LIVES_OF_1_AND_2, NOTHING, SECOND_LIFE};
-use archive_rig::Row;
 use machine_model::Image;
 use std::alloc::Global;
 use std::process::Abort;
@@ -57,7 +54,7 @@ fn expect_left(
     let journal = journal_of(alloc, records)?;
     assert_eq!(rt; disk.journal.as_slice(), journal.as_slice());
     for held in segments {
-        expect_held(rt, &disk.pages, held);
+        expect_held(&disk.pages, held)?;
     }
     Ok(())
 }
@@ -67,7 +64,7 @@ fn a_plan_lies_in_the_lowest_pages_and_its_entry_is_the_journals_last(
     rt: HostRuntime,
 ) -> Result<(), Fail> {
     let alloc = rt.alloc();
-    let disk = first_disk(&rt, alloc)?;
+    let disk = first_disk(alloc)?;
     assert_eq!(rt; disk.journal.len(), 277);
     let plan = plan_record(alloc, &plan_of_v(40, &first_segments()))?;
     expect_left(&rt, alloc, &disk, &[FOUR_RECORDS, &plan], &first_segments())
@@ -80,7 +77,7 @@ fn a_plan_of_one_segment_holds_the_whole_list(rt: HostRuntime) -> Result<(), Fai
         script: b"plan v guarantee 2/1\n",
         replies: b"plan 5 segments 1 space 2 full 2 horizon 40\n",
     };
-    let disk = disk_after_all(&rt, alloc, new_disk(alloc), &[FOUR_CHANGES, row])?;
+    let disk = disk_after_all(alloc, new_disk(alloc), &[FOUR_CHANGES, row])?;
     let segments = [segment_at(10, 0, LIVES_OF_1_AND_2)];
     let plan = Plan {
         over: 2,
@@ -97,7 +94,7 @@ fn an_empty_sublist_has_no_bytes_and_the_digest_of_nothing(rt: HostRuntime) -> R
         script: b"arrive 1 10 1\nv\ndelete 1 20\narrive 1 30 1\nv\ndelete 1 40\nplan v guarantee 100/1\n",
         replies: b"ok 1\nok 2\nok 3\nok 4\nplan 5 segments 3 space 2 full 2 horizon 40\n",
     };
-    let disk = disk_after(&rt, alloc, &new_disk(alloc), &row)?;
+    let disk = disk_after(alloc, &new_disk(alloc), &row)?;
     let segments = [
         segment_at(10, 0, FIRST_LIFE),
         segment_at(20, 0, NOTHING),
@@ -132,13 +129,13 @@ fn a_later_plan_takes_the_lowest_pages_that_are_free(rt: HostRuntime) -> Result<
         FOURTH_ARRIVES,
         &third,
     ];
-    let disk = disk_after(&rt, alloc, &first_disk(&rt, alloc)?, &GOES_ON)?;
+    let disk = disk_after(alloc, &first_disk(alloc)?, &GOES_ON)?;
     expect_left(&rt, alloc, &disk, &eight, &second_segments())?;
     // the first plan's pages are free, and nothing is written there
     for held in first_segments() {
-        expect_held(&rt, &disk.pages, &held);
+        expect_held(&disk.pages, &held)?;
     }
-    let disk = disk_after(&rt, alloc, &disk, &GOES_FURTHER)?;
+    let disk = disk_after(alloc, &disk, &GOES_FURTHER)?;
     expect_left(&rt, alloc, &disk, &ten, &third_segments())?;
     // and in one run
     let mut script = Vec::new(alloc);
@@ -151,7 +148,7 @@ fn a_later_plan_takes_the_lowest_pages_that_are_free(rt: HostRuntime) -> Result<
         script: &script,
         replies: &replies,
     };
-    let disk = disk_after(&rt, alloc, &new_disk(alloc), &row)?;
+    let disk = disk_after(alloc, &new_disk(alloc), &row)?;
     expect_left(&rt, alloc, &disk, &ten, &third_segments())
 }
 
@@ -162,7 +159,7 @@ fn plans_of_two_words_share_no_page(rt: HostRuntime) -> Result<(), Fail> {
         script: b"arrive 1 10 3\nv w\ndelete 1 20\nplan v guarantee 1/1\nplan w guarantee 1/1\nplan v guarantee 1/1\nplan w guarantee 1/1\n",
         replies: b"ok 1\nok 2\nplan 3 segments 1 space 1 full 1 horizon 20\nplan 4 segments 1 space 1 full 1 horizon 20\nplan 5 segments 1 space 1 full 1 horizon 20\nplan 6 segments 1 space 1 full 1 horizon 20\n",
     };
-    let disk = disk_after(&rt, alloc, &new_disk(alloc), &row)?;
+    let disk = disk_after(alloc, &new_disk(alloc), &row)?;
     let plans = [
         (b"v".as_slice(), 0),
         (b"w".as_slice(), 1),
@@ -171,7 +168,7 @@ fn plans_of_two_words_share_no_page(rt: HostRuntime) -> Result<(), Fail> {
     ];
     let journal = two_words_journal(alloc, &plans)?;
     assert_eq!(rt; disk.journal.as_slice(), journal.as_slice());
-    expect_held(&rt, &disk.pages, &segment_at(10, 2, FIRST_LIFE));
-    expect_held(&rt, &disk.pages, &segment_at(10, 0, FIRST_LIFE));
+    expect_held(&disk.pages, &segment_at(10, 2, FIRST_LIFE))?;
+    expect_held(&disk.pages, &segment_at(10, 0, FIRST_LIFE))?;
     Ok(())
 }

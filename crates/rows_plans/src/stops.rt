@@ -1,7 +1,9 @@
 //! What a stop may leave of a run that stores plans: after each device call, and within the load that
 //! follows.
-use crate::disks::{FOUR_CHANGES, disk_after, new_disk};
-use archive_rig::{EXTRAS, FILLS, expect_entries, load_image, machine_on, pick_image, run_on};
+use archive_rig::{
+    EXTRAS, FILLS, FOUR_CHANGES, disk_after, expect_entries, load_image, machine_on, new_disk,
+    pick_image, run_on,
+};
 use archive_shell::Status;
 use machine_mem::{MemMachine, Tail};
 use machine_model::Image;
@@ -169,7 +171,7 @@ fn an_entry_is_there_when_its_gate_is_open_and_its_sublists_stay(
     rt: HostRuntime,
 ) -> Result<(), Fail> {
     let alloc = rt.alloc();
-    let disk = disk_after(&rt, alloc, &new_disk(alloc), &FOUR_CHANGES)?;
+    let disk = disk_after(alloc, &new_disk(alloc), &FOUR_CHANGES)?;
     let mut machine = machine_on(alloc, b"plan v guarantee 1/1\n", disk, &[])?;
     assert_eq!(rt; run_on(alloc, &mut machine)?, Status::Done);
     assert_eq!(rt; machine.moments(), 11);

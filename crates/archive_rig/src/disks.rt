@@ -1,0 +1,96 @@
+//! Disks in memory, and scripts on them, one run for each.
+use crate::journals::Segment;
+use crate::rows::expect_row;
+use crate::{Row, RowError, copy_image, machine_on, read_image, run_on};
+use archive_shell::Status;
+use machine_model::Image;
+use std::alloc::Global;
+
+/// The four changes that most rows of plans begin with: document 1 has the word `v` in [10, 40), and
+/// document 2 in [20, 30).
+pub const FOUR_CHANGES: Row<'static> = Row {
+    script: b"arrive 1 10 1\nv\narrive 2 20 1\nv\ndelete 2 30\ndelete 1 40\n",
+    replies: b"ok 1\nok 2\nok 3\nok 4\n",
+};
+
+/// A plan with the guarantee 1/1 behind them.
+pub const FIRST_PLAN: Row<'static> = Row {
+    script: b"plan v guarantee 1/1\n",
+    replies: b"plan 5 segments 3 space 4 full 2 horizon 40\n",
+};
+
+/// What shows that this plan is least.
+pub const FIRST_CERTIFICATE: &[u8] =
+    b"segment 10 20 1\nsegment 20 30 2\nsegment 30 40 1\nnode 10 0\nnode 20 1\nnode 30 3\nnode 40 4\nend 3 space 4\n";
+
+/// A disk on which nothing was ever written.
+pub fn new_disk(alloc: Global) -> Image {
+    Image {
+        journal: Vec::new(alloc),
+        pages: Vec::new(alloc),
+    }
+}
+
+/// The disk that a script leaves on a copy of this one, which comes to its end with its replies.
+pub fn disk_after(alloc: Global, disk: &Image, row: &Row<'_>) -> Result<Image, RowError> {
+    disk_after_row(alloc, disk, 0, row)
+}
+
+/// The same of a row of a table, counted from 0.
+fn disk_after_row(
+    alloc: Global,
+    disk: &Image,
+    row: usize,
+    wanted: &Row<'_>,
+) -> Result<Image, RowError> {
+    let mut machine = machine_on(alloc, wanted.script, copy_image(alloc, disk)?, &[])?;
+    expect_row(alloc, &mut machine, row, wanted)?;
+    read_image(alloc, &mut machine)
+}
+
+/// The disk that scripts leave, one behind the other, each with its replies.
+pub fn disk_after_all(alloc: Global, disk: Image, rows: &[Row<'_>]) -> Result<Image, RowError> {
+    let mut disk = disk;
+    for (row, wanted) in rows.iter().enumerate() {
+        disk = disk_after_row(alloc, &disk, row, wanted)?;
+    }
+    Ok(disk)
+}
+
+/// Each of these scripts has its replies on the disk, which is the same for each.
+pub fn expect_on(alloc: Global, disk: &Image, rows: &[Row<'_>]) -> Result<(), RowError> {
+    for (row, wanted) in rows.iter().enumerate() {
+        disk_after_row(alloc, disk, row, wanted)?;
+    }
+    Ok(())
+}
+
+/// The disk after the four changes and the first plan.
+pub fn first_disk(alloc: Global) -> Result<Image, RowError> {
+    disk_after_all(alloc, new_disk(alloc), &[FOUR_CHANGES, FIRST_PLAN])
+}
+
+/// The run of an empty script on a disk has this status and shows nothing.
+pub fn expect_status(alloc: Global, disk: Image, wanted: Status) -> Result<(), RowError> {
+    let mut machine = machine_on(alloc, b"", disk, &[])?;
+    let status = run_on(alloc, &mut machine)?;
+    if status != wanted {
+        return Err(RowError::Status { row: 0, status });
+    }
+    if !machine.shown().is_empty() {
+        let shown = Vec::from_slice(alloc, machine.shown())?;
+        return Err(RowError::Replies { row: 0, shown });
+    }
+    Ok(())
+}
+
+/// Pages hold the sublist of a segment.
+pub fn expect_held(pages: &[u8], segment: &Segment<'_>) -> Result<(), RowError> {
+    let start = segment.first as usize * 4096;
+    if start > pages.len() || !pages[start..].starts_with(segment.sublist.bytes) {
+        return Err(RowError::NotHeld {
+            page: segment.first,
+        });
+    }
+    Ok(())
+}

@@ -1,0 +1,199 @@
+//! What plans under a space bound leave in the journal and in Pages.
+use crate::plans::{four_disk, plan_of};
+use archive_rig::{
+    FIRST_LIFE, FOUR_RECORDS, GUARANTEE, LIFE_OF_1, LIVES_OF_1_AND_2, NOTHING, Plan, Row,
+    SECOND_LIFE, SINCE_30, Segment, UNIFORM, disk_after, disk_after_all, expect_held,
+    first_segments, join, journal_of, new_disk, plan_record, segment_at,
+};
+use machine_model::Image;
+use std::alloc::Global;
+use std::process::Abort;
+use std::test::Fail;
+
+/// The disk's journal is these records, and its Pages hold the sublists of these segments.
+fn expect_left(
+    rt: &impl Abort,
+    alloc: Global,
+    disk: &Image,
+    records: &[&[u8]],
+    segments: &[Segment<'_>],
+) -> Result<(), Fail> {
+    let journal = journal_of(alloc, records)?;
+    assert_eq!(rt; disk.journal.as_slice(), journal.as_slice());
+    for held in segments {
+        expect_held(&disk.pages, held)?;
+    }
+    Ok(())
+}
+
+/// A plan behind the four changes has its reply, and leaves this entry and its sublists.
+fn expect_entry(
+    rt: &impl Abort,
+    alloc: Global,
+    row: &Row<'_>,
+    plan: &Plan<'_>,
+) -> Result<(), Fail> {
+    let disk = disk_after(alloc, &four_disk(alloc)?, row)?;
+    let record = plan_record(alloc, plan)?;
+    expect_left(rt, alloc, &disk, &[FOUR_RECORDS, &record], plan.segments)
+}
+
+#[test]
+fn a_plan_is_an_entry_with_its_kind_and_factor(rt: HostRuntime) -> Result<(), Fail> {
+    let alloc = rt.alloc();
+    let one = [segment_at(10, 0, LIVES_OF_1_AND_2)];
+    let two = [
+        segment_at(10, 0, LIVES_OF_1_AND_2),
+        segment_at(30, 1, LIFE_OF_1),
+    ];
+    let three = first_segments();
+    for (row, plan) in [
+        (
+            Row {
+                script: b"plan v space 1/1 uniform\n",
+                replies: b"plan 5 segments 1 space 2 full 2 horizon 40 cost 60\n",
+            },
+            plan_of(UNIFORM, 1, 1, &one),
+        ),
+        (
+            Row {
+                script: b"plan v space 4/3 since 30\n",
+                replies: b"plan 5 segments 1 space 2 full 2 horizon 40 cost 20\n",
+            },
+            plan_of(SINCE_30, 4, 3, &one),
+        ),
+        (
+            Row {
+                script: b"plan v space 3/2 since 30\n",
+                replies: b"plan 5 segments 2 space 3 full 2 horizon 40 cost 10\n",
+            },
+            plan_of(SINCE_30, 3, 2, &two),
+        ),
+        // a factor is kept as it was written
+        (
+            Row {
+                script: b"plan v space 4/2 uniform\n",
+                replies: b"plan 5 segments 3 space 4 full 2 horizon 40 cost 40\n",
+            },
+            plan_of(UNIFORM, 4, 2, &three),
+        ),
+    ] {
+        expect_entry(&rt, alloc, &row, &plan)?;
+    }
+    Ok(())
+}
+
+#[test]
+fn a_gap_has_no_bytes_and_the_digest_of_nothing(rt: HostRuntime) -> Result<(), Fail> {
+    let alloc = rt.alloc();
+    let row = Row {
+        script: b"arrive 1 10 1\nv\ndelete 1 20\narrive 1 30 1\nv\ndelete 1 40\nplan v space 1/1 uniform\n",
+        replies: b"ok 1\nok 2\nok 3\nok 4\nplan 5 segments 3 space 2 full 2 horizon 40 cost 20\n",
+    };
+    let disk = disk_after(alloc, &new_disk(alloc), &row)?;
+    let segments = [
+        segment_at(10, 0, FIRST_LIFE),
+        segment_at(20, 0, NOTHING),
+        segment_at(30, 1, SECOND_LIFE),
+    ];
+    let record = plan_record(alloc, &plan_of(UNIFORM, 1, 1, &segments))?;
+    let changes = b"TIMETRAVELTEXT\x00\x01\
+        \xa5\x00\x00\x00\x0e\x01\x00\x00\x00\x01\x00\x00\x00\x00\x00\x00\x00\x0av\
+        \xa5\x00\x00\x00\x0d\x02\x00\x00\x00\x01\x00\x00\x00\x00\x00\x00\x00\x14\
+        \xa5\x00\x00\x00\x0e\x01\x00\x00\x00\x01\x00\x00\x00\x00\x00\x00\x00\x1ev\
+        \xa5\x00\x00\x00\x0d\x02\x00\x00\x00\x01\x00\x00\x00\x00\x00\x00\x00\x28";
+    expect_left(&rt, alloc, &disk, &[changes, &record], &segments)
+}
+
+/// Plans behind the four changes, each in the place of the one before it.
+const FIVE_PLANS: [Row<'static>; 5] = [
+    Row {
+        script: b"plan v guarantee 1/1\n",
+        replies: b"plan 5 segments 3 space 4 full 2 horizon 40\n",
+    },
+    Row {
+        script: b"plan v space 1/1 uniform\n",
+        replies: b"plan 6 segments 1 space 2 full 2 horizon 40 cost 60\n",
+    },
+    Row {
+        script: b"plan v guarantee 2/1\n",
+        replies: b"plan 7 segments 1 space 2 full 2 horizon 40\n",
+    },
+    Row {
+        script: b"plan v space 2/1 uniform\n",
+        replies: b"plan 8 segments 3 space 4 full 2 horizon 40 cost 40\n",
+    },
+    Row {
+        script: b"plan v guarantee 1/1\n",
+        replies: b"plan 9 segments 3 space 4 full 2 horizon 40\n",
+    },
+];
+
+// A plan lives while the next one is written, and its pages are free behind that one.
+#[test]
+fn the_pages_of_a_plan_of_another_kind_are_free_again(rt: HostRuntime) -> Result<(), Fail> {
+    let alloc = rt.alloc();
+    let fifth = first_segments();
+    let sixth = [segment_at(10, 3, LIVES_OF_1_AND_2)];
+    let seventh = [segment_at(10, 0, LIVES_OF_1_AND_2)];
+    let eighth = [
+        segment_at(10, 1, LIFE_OF_1),
+        segment_at(20, 2, LIVES_OF_1_AND_2),
+        segment_at(30, 3, LIFE_OF_1),
+    ];
+    let ninth = [
+        segment_at(10, 0, LIFE_OF_1),
+        segment_at(20, 4, LIVES_OF_1_AND_2),
+        segment_at(30, 5, LIFE_OF_1),
+    ];
+    let mut disk = four_disk(alloc)?;
+    let mut records = Vec::from_slice(alloc, FOUR_RECORDS)?;
+    for (row, plan) in FIVE_PLANS.into_iter().zip([
+        plan_of(GUARANTEE, 1, 1, &fifth),
+        plan_of(UNIFORM, 1, 1, &sixth),
+        plan_of(GUARANTEE, 2, 1, &seventh),
+        plan_of(UNIFORM, 2, 1, &eighth),
+        plan_of(GUARANTEE, 1, 1, &ninth),
+    ]) {
+        disk = disk_after(alloc, &disk, &row)?;
+        let record = plan_record(alloc, &plan)?;
+        records.extend_from_slice(&record)?;
+        expect_left(&rt, alloc, &disk, &[&records], plan.segments)?;
+    }
+    // and in one run
+    let mut script = Vec::new(alloc);
+    let mut replies = Vec::new(alloc);
+    for row in FIVE_PLANS {
+        script.extend_from_slice(row.script)?;
+        replies.extend_from_slice(row.replies)?;
+    }
+    let row = Row {
+        script: &script,
+        replies: &replies,
+    };
+    let left = disk_after(alloc, &four_disk(alloc)?, &row)?;
+    expect_left(&rt, alloc, &left, &[&records], &ninth)
+}
+
+// What is left can be planned further.
+#[test]
+fn a_plan_in_the_place_of_its_like_takes_turns_with_it(rt: HostRuntime) -> Result<(), Fail> {
+    let alloc = rt.alloc();
+    let rows = [
+        Row {
+            script: b"plan v space 1/1 uniform\n",
+            replies: b"plan 5 segments 1 space 2 full 2 horizon 40 cost 60\n",
+        },
+        Row {
+            script: b"plan v space 1/1 since 30\nplan v space 1/1 uniform\n",
+            replies: b"plan 6 segments 1 space 2 full 2 horizon 40 cost 20\nplan 7 segments 1 space 2 full 2 horizon 40 cost 60\n",
+        },
+    ];
+    let disk = disk_after_all(alloc, four_disk(alloc)?, &rows)?;
+    let even = [segment_at(10, 0, LIVES_OF_1_AND_2)];
+    let odd = [segment_at(10, 1, LIVES_OF_1_AND_2)];
+    let fifth = plan_record(alloc, &plan_of(UNIFORM, 1, 1, &even))?;
+    let sixth = plan_record(alloc, &plan_of(SINCE_30, 1, 1, &odd))?;
+    let records = join(alloc, &[FOUR_RECORDS, &fifth, &sixth, &fifth])?;
+    expect_left(&rt, alloc, &disk, &[&records], &even)
+}
