@@ -1,0 +1,66 @@
+-- What the parts of a check give.
+use Rattle.std.specs.Prelude.{◌≡◌, ℕ, ◌<◌, List, [], ◌∷◌, ◌++◌, length, take, get_or, map, All, Option, IfSome, IsUtf8}
+use Rattle.std.specs.Option.{option_map}
+use Rattle.time_base.specs.declared.text_place.TextPlace.{TextPlace}
+use Rattle.time_base.specs.declared.posting.Posting.{Posting}
+use Rattle.time_base.specs.declared.fraction.Fraction.{Fraction}
+use Rattle.time_base.specs.declared.time.Time.{Time}
+use Rattle.commands.specs.declared.command.Kind.TheVariants.{Guarantee}
+use Rattle.version_store.specs.declared.change.Change.{Change}
+use Rattle.version_store.specs.Changes.{mapped}
+use Rattle.version_index.specs.Indexes.{state_of, Indexes}
+use Rattle.version_index.specs.Loads.{Loaded, AreLoaded}
+use Rattle.record_codec.specs.declared.plan.PlanEntry.{PlanEntry}
+use Rattle.stored_plans.specs.Plans.{IsFitFor, plan_space}
+use Rattle.archive_replay.specs.Texts.{text_in, bare, nothing}
+use Rattle.archive_check.specs.declared.texts.Texts.{Texts}
+use Rattle.archive_check.specs.declared.texts.Texts.TheVariants.{Good, Bad}
+use Rattle.archive_check.specs.declared.verdict.Verdict.{Verdict}
+use Rattle.archive_check.specs.declared.verdict.Verdict.TheVariants.{Sound, Differs, NotLeast, BadText}
+use Rattle.archive_check.specs.Verdicts.{with_texts, IsText, IsFirstBad, IsLeastSpace, HasDifference, TakesMore}
+
+-- ---- texts; on a disk that tells they are those that stand in the journal
+
+-- a change's text was loaded behind others; it is UTF-8
+pub record IsLoadedBehind (tells : Type 0) (journal : List ℕ) (texts : List (Change (List ℕ))) (change : Change TextPlace) (loader : Loaded) : Type 0 where
+  pub text : Option (List ℕ)
+  pub loads : AreLoaded loader (texts ++ record { doc = change.doc; at = change.at; held = text } ∷ [])
+  pub utf8 : IfSome text IsUtf8
+  pub some : option_map nothing text ≡ option_map nothing change.held
+  pub is : tells → text ≡ option_map (text_in journal) change.held
+
+-- the texts of these changes were loaded; they are UTF-8
+pub record AreAllLoaded (tells : Type 0) (journal : List ℕ) (changes : List (Change TextPlace)) (loader : Loaded) : Type 0 where
+  pub texts : List (Change (List ℕ))
+  pub loads : AreLoaded loader texts
+  pub alike : map bare texts ≡ map bare changes
+  pub utf8 : All IsText texts
+  pub are : tells → texts ≡ with_texts journal changes
+
+-- the texts in front of this change are UTF-8, and its own isn't
+pub record IsStopped (tells : Type 0) (journal : List ℕ) (changes : List (Change TextPlace)) (i : ℕ) : Type 0 where
+  pub within : i < length changes
+  pub utf8 : tells → All IsText (with_texts journal (take i changes))
+  pub bad : tells → (change : Change TextPlace) → change ≡ get_or changes i change → ¬ (IsText (mapped (text_in journal) change))
+
+-- all texts were read: they are UTF-8 and this is their index, or this is the first that isn't
+abbrev pub AreRead : Type 0 → List ℕ → List (Change TextPlace) → Texts → Type 0
+AreRead tells journal changes (Good index) =
+    (texts : List (Change (List ℕ))) × Indexes (state_of index) texts × All IsText texts × (tells → texts ≡ with_texts journal changes)
+AreRead tells journal changes (Bad version) = tells → IsFirstBad (with_texts journal changes) version.doc version.at
+
+-- ---- plans
+
+-- a plan of a list that takes more space than it has to
+pub record IsExcess (list : List Posting) (factor : Fraction) (cuts : List Time) (h kept least : ℕ) : Type 0 where
+  pub fit : IsFitFor Guarantee list factor cuts h
+  pub kept_is : kept ≡ plan_space list cuts h
+  pub least_is : IsLeastSpace list factor cuts h least
+  pub more : least < kept
+
+-- the verdict tells a fault of the plan
+abbrev pub IsFaultOf : List (Change (List ℕ)) → List ℕ → PlanEntry → Verdict → Type 0
+IsFaultOf texts pages plan (Sound words segments) = ⊥
+IsFaultOf texts pages plan (Differs word segment place found wanted) = HasDifference word segment place found wanted texts pages plan
+IsFaultOf texts pages plan (NotLeast word kept least) = TakesMore word kept least texts pages plan
+IsFaultOf texts pages plan (BadText doc at) = ⊥

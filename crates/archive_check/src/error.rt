@@ -1,0 +1,70 @@
+//! Why there is no verdict.
+ghost use Rattle.std.specs.Prelude.{◌≡◌};
+
+use fold_tokens::NumberError;
+use guarantee_planner::PlanError;
+use std::alloc::{AllocError, AllocFailed};
+
+/// Why a check gave no verdict. It changed nothing.
+#[derive(Clone, Copy, Debug, PartialEq, Eq)]
+pub enum VerifyError {
+    /// A call of the disk failed.
+    Failed,
+    /// There was no memory; also where the texts that were read have more than 2^20 words.
+    Memory,
+}
+
+impl From<AllocError> for VerifyError {
+    ghost use Rattle.archive_check.specs.declared.error.VerifyError.TheVariants.{Memory};
+    ghost use Rattle.std.specs.Prelude.{◌≡◌};
+
+    ghost from_gives = { λ _ e. e ≡ Memory };
+
+    fn from(_: AllocError) -> Self {
+        VerifyError::Memory
+    }
+}
+
+impl<T: Drop> From<AllocFailed<T>> for VerifyError {
+    ghost use Rattle.archive_check.specs.declared.error.VerifyError.TheVariants.{Memory};
+    ghost use Rattle.std.specs.Prelude.{◌≡◌};
+
+    ghost from_gives = { λ _ e. e ≡ Memory };
+
+    fn from(_: AllocFailed<T>) -> Self {
+        VerifyError::Memory
+    }
+}
+
+impl From<NumberError> for VerifyError {
+    ghost use Rattle.archive_check.specs.declared.error.VerifyError.TheVariants.{Memory};
+    ghost use Rattle.std.specs.Prelude.{◌≡◌};
+
+    ghost from_gives = { λ _ e. e ≡ Memory };
+
+    fn from(_: NumberError) -> Self {
+        VerifyError::Memory
+    }
+}
+
+impl From<PlanError> for VerifyError {
+    ghost use Rattle.archive_check.specs.declared.error.VerifyError.TheVariants.{Memory};
+    ghost use Rattle.std.specs.Prelude.{◌≡◌};
+
+    ghost from_gives = { λ _ e. e ≡ Memory };
+
+    fn from(_: PlanError) -> Self {
+        VerifyError::Memory
+    }
+}
+
+impl From<machine_model::Failed> for VerifyError {
+    ghost use Rattle.archive_check.specs.declared.error.VerifyError.TheVariants.{Failed};
+    ghost use Rattle.std.specs.Prelude.{◌≡◌};
+
+    ghost from_gives = { λ _ e. e ≡ Failed };
+
+    fn from(_: machine_model::Failed) -> Self {
+        VerifyError::Failed
+    }
+}
