@@ -125,7 +125,7 @@ class ArchiveCase(unittest.TestCase):
                     commands.delete(doc, version.time) if version.text is None
                     else commands.arrive(doc, version.time, version.text.encode())
                 )  # fmt: skip
-                collection.send(collection.side_of(doc), line, 1, [version], self._filled)
+                collection.send(collection.side_of(doc), line, [version], self._filled)
             collection.names.keep()
             collection.settle()
 

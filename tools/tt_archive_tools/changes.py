@@ -9,10 +9,10 @@ from __future__ import annotations
 
 import hashlib
 from collections import Counter
-from dataclasses import dataclass, field, replace
+from dataclasses import dataclass, field
 from itertools import groupby
 from operator import attrgetter
-from typing import Callable, Iterable, Iterator
+from typing import Callable, Iterable, Iterator, NamedTuple
 
 from .commands import MOST_TEXT
 
@@ -20,8 +20,7 @@ from .commands import MOST_TEXT
 _TOLD_OF_A_KIND = 10
 
 
-@dataclass(frozen=True)
-class Change:
+class Change(NamedTuple):
     """From `time` on the document has this text (UTF-8), or none."""
 
     time: int
@@ -88,23 +87,23 @@ class Tidier:
         for change in changes:
             if change.time < 0:
                 self._notes.count("versions before 1970, taken at 1970-01-01")
-                change = replace(change, time=0)
+                change = change._replace(time=0)
             yield change
 
     def _new_in(self, change: Change) -> Iterator[Change]:
-        unknown = change.name not in self._texts and self._known(change.name)
-        had_text = self._texts.get(change.name) is not None
+        before = self._texts.get(change.name)
+        unknown = before is None and change.name not in self._texts and self._known(change.name)
         if change.text is not None and len(change.text) > MOST_TEXT:
             # An archive refuses this text. What the document had before isn't its text any more.
             yield change
-            change = replace(change, text=None, place=f"{change.place} (too long: the version before ends)")
+            change = change._replace(text=None, place=f"{change.place} (too long: the version before ends)")
         if change.text is None:
             self._texts[change.name] = None
-            if had_text or unknown:
-                yield replace(change, maybe=unknown)
+            if before or unknown:
+                yield change._replace(maybe=unknown)
             return
         digest = hashlib.blake2b(change.text, digest_size=16).digest()
-        if self._texts.get(change.name) == digest:
+        if before == digest:
             self._notes.count("versions with the text of the one before")
             return
         self._texts[change.name] = digest

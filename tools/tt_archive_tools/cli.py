@@ -4,15 +4,14 @@ from __future__ import annotations
 
 import argparse
 import sys
+from importlib import import_module
 from pathlib import Path
-from typing import Callable, Sequence, TypeAlias
+from typing import Sequence, TypeAlias
 
-from . import asking, importing, pictures
 from .errors import ToolError
 from .program import VARIABLE
 from .wording import one_line
 
-Run = Callable[[argparse.Namespace], None]
 #: The commands of a parser, or the sources of `import`.
 Kinds: TypeAlias = "argparse._SubParsersAction[argparse.ArgumentParser]"
 
@@ -30,7 +29,8 @@ def main(words: Sequence[str] | None = None) -> int:
         stream.reconfigure(errors="surrogateescape")  # type: ignore[union-attr]
     options = _parser().parse_args(words)
     try:
-        options.run(options)
+        module, function = options.run.split(".")  # only what is needed for this command is loaded
+        getattr(import_module(f".{module}", __package__), function)(options)
         sys.stdout.flush()
     except ToolError as error:
         print(f"tt: {one_line(str(error))}", file=sys.stderr)
@@ -60,35 +60,35 @@ def _parser() -> argparse.ArgumentParser:
     return parser
 
 
-def _command(kinds: Kinds, name: str, run: Run, help: str) -> argparse.ArgumentParser:
+def _command(kinds: Kinds, name: str, run: str, help: str) -> argparse.ArgumentParser:
     parser = kinds.add_parser(name, help=help, description=help[0].upper() + help[1:] + ".")
     parser.set_defaults(run=run)
     return parser
 
 
 def _add_filling(kinds: Kinds) -> None:
-    init = _command(kinds, "init", importing.init, "make an empty archive")
+    init = _command(kinds, "init", "importing.init", "make an empty archive")
     init.add_argument("folder", type=Path, metavar="FOLDER")
     _add_sources(kinds.add_parser("import", help="fill the archive from a source"))
-    shard = _command(kinds, "shard", importing.shard, "split the archive by document into N archives below INTO")
+    shard = _command(kinds, "shard", "importing.shard", "split the archive by document into N archives below INTO")
     shard.add_argument("count", type=int, metavar="N")
     shard.add_argument("into", type=Path, metavar="INTO")
     shard.add_argument("--empty", action="store_true", help="make empty archives, to import into")
-    _command(kinds, "status", asking.status, "tell what the archive holds")
+    _command(kinds, "status", "asking.status", "tell what the archive holds")
 
 
 def _add_sources(parser: argparse.ArgumentParser) -> None:
     sources = parser.add_subparsers(required=True, metavar="SOURCE")
-    git = _command(sources, "git", importing.import_git, "import the files of a branch, as each commit left them")
+    git = _command(sources, "git", "importing.import_git", "import the files of a branch, as each commit left them")
     git.add_argument("repositories", type=Path, nargs="+", metavar="REPOSITORY")
     git.add_argument("--branch", default="HEAD", help="the branch whose first parents are followed (HEAD)")
     git.add_argument("--only", nargs="+", default=[], metavar="PATH", help="the files that these paths name for git")
-    wiki = _command(sources, "mediawiki", importing.import_mediawiki, "import a MediaWiki export and its logs")
+    wiki = _command(sources, "mediawiki", "importing.import_mediawiki", "import a MediaWiki export and its logs")
     wiki.add_argument("files", type=Path, nargs="+", metavar="DUMP.xml[.gz|.bz2]")
     wiki.add_argument("--keep-redirects", action="store_true", help="keep redirects as texts")
-    warc = _command(sources, "warc", importing.import_warc, "import web captures")
+    warc = _command(sources, "warc", "importing.import_warc", "import web captures")
     warc.add_argument("files", type=Path, nargs="+", metavar="FILE.warc[.gz]")
-    folder = _command(sources, "folder", importing.import_folder, "import folders with dates, or files by time")
+    folder = _command(sources, "folder", "importing.import_folder", "import folders with dates, or files by time")
     folder.add_argument("trees", type=Path, nargs="+", metavar="TREE")
     for source in (git, wiki, warc, folder):
         source.add_argument("--prefix", default="", help="what the documents' names begin with")
@@ -97,10 +97,10 @@ def _add_sources(parser: argparse.ArgumentParser) -> None:
 
 
 def _add_questions(kinds: Kinds) -> None:
-    find = _command(kinds, "find", asking.find, "find the documents that had these words at a time")
+    find = _command(kinds, "find", "asking.find", "find the documents that had these words at a time")
     find.add_argument("words", metavar="WORDS", help="words, and, or, not, parentheses")
     find.add_argument("--at", default="now", metavar="TIME", help=_TIME)
-    between = _command(kinds, "between", asking.between, "find when documents had these words")
+    between = _command(kinds, "between", "asking.between", "find when documents had these words")
     between.add_argument("words", metavar="WORDS")
     between.add_argument("--from", dest="start", default="1970", metavar="TIME", help=_TIME)
     between.add_argument("--to", dest="end", default="now", metavar="TIME", help="the first time not asked about")
@@ -109,17 +109,17 @@ def _add_questions(kinds: Kinds) -> None:
         question.add_argument("--tsv", action="store_true", help="rows as tab-separated values, and nothing else")
         question.add_argument("--parallel", action="store_true", help="ask the shards by GNU parallel")
         question.add_argument("--sshlogin", metavar="LOGINS", help="the same, on these machines")
-    show = _command(kinds, "show", asking.show, "show a document's text at a time")
+    show = _command(kinds, "show", "asking.show", "show a document's text at a time")
     show.add_argument("name", metavar="NAME", help="the document's name, or #NUMBER")
     show.add_argument("--at", default="now", metavar="TIME", help=_TIME)
-    plan = _command(kinds, "plan", asking.plan, "store a plan of a word's list, which bounds reading or space")
+    plan = _command(kinds, "plan", "asking.plan", "store a plan of a word's list, which bounds reading or space")
     plan.add_argument("word", metavar="WORD")
     plan.add_argument("form", nargs="+", metavar="FORM", help="guarantee A/B, space A/B uniform, space A/B since TIME; 1.5 is 3/2")
 
 
 def _add_pictures(kinds: Kinds) -> None:
-    line = _command(kinds, "timeline", pictures.draw_timeline, "draw a word over time, and what it costs to ask")
-    trade = _command(kinds, "tradeoff", pictures.draw_tradeoff, "draw space against reading, for factors from 1 to 4")
+    line = _command(kinds, "timeline", "pictures.draw_timeline", "draw a word over time, and what it costs to ask")
+    trade = _command(kinds, "tradeoff", "pictures.draw_tradeoff", "draw space against reading, for factors from 1 to 4")
     for picture in (line, trade):
         picture.add_argument("word", metavar="WORD")
         picture.add_argument("-o", "--output", type=Path, metavar="FILE.svg", help="where the picture goes (WORD.svg)")

@@ -12,8 +12,9 @@ import os
 from collections import deque
 from contextlib import ExitStack, contextmanager
 from dataclasses import dataclass
+from itertools import repeat
 from pathlib import Path
-from queue import SimpleQueue
+from selectors import EVENT_READ, PollSelector
 from types import TracebackType
 from typing import Any, Callable, Iterator, Sequence
 
@@ -23,7 +24,7 @@ from .errors import NotBuilt, ProgramFailed, ToolError
 from .ledger import FILE as IMPORTS
 from .names import FILE as NAMES
 from .names import NameTable
-from .program import JOURNAL, Answer, Program, Shard
+from .program import JOURNAL, Program, Shard
 from .replies import Refused, Reply, Rows, merge_rows
 
 SHARDS = "shards.tsv"
@@ -83,7 +84,7 @@ class Collection:
             raise ToolError(f"{folder} has no archive: `tt init {folder}` makes one")
         self._command = command
         self._lock = ExitStack()
-        self._answers: SimpleQueue[Answer] = SimpleQueue()
+        self._printing = PollSelector()
         self._sides: list[_Side] = []
         self._count = 0
 
@@ -111,19 +112,24 @@ class Collection:
         """Which of the archives has the document."""
         return doc % len(self._sides)
 
-    def send(self, side: int, script: bytes, count: int, tokens: Sequence[Any], handle: Handler) -> None:
-        """Sends commands that have one reply each; handles the replies that are there already."""
-        assert count == len(tokens)
-        self._sides[side].under_way.extend((token, handle) for token in tokens)
-        self._count += count
-        self._sides[side].program.send(script)
-        while self._count and (self._count > _MOST_UNDER_WAY or not self._answers.empty()):
-            self._take_one()
+    def send(self, side: int, script: bytes, tokens: Sequence[Any], handle: Handler) -> None:
+        """Sends commands that have one reply each, to be handled with one token each; handles the
+        replies that are there already."""
+        self._sides[side].under_way.extend(zip(tokens, repeat(handle)))
+        self._count += len(tokens)
+        program = self._sides[side].program
+        rest = memoryview(script)
+        while rest := program.write(rest):
+            self._take(0)
+            program.wait_for_room()
+        self._take(0)
+        while self._count > _MOST_UNDER_WAY:
+            self._take(None)
 
     def settle(self) -> None:
         """Handles the replies to everything sent."""
         while self._count:
-            self._take_one()
+            self._take(None)
 
     def ask_side(self, side: int, question: bytes) -> Reply:
         return self._ask([side], question)[0]
@@ -157,7 +163,7 @@ class Collection:
         replies: dict[int, Reply] = {}
         try:
             for side in sides:
-                self.send(side, question, 1, [side], replies.__setitem__)
+                self.send(side, question, [side], replies.__setitem__)
             self.settle()
         except ProgramFailed as failed:
             # An older program takes a line that it doesn't know for a broken script, and ends.
@@ -179,20 +185,16 @@ class Collection:
             raise ToolError(f"what is asked is no query, which shows at its byte {reply.detail}")
         raise ToolError(f"the question was refused: {reply}")
 
-    def _take_one(self) -> None:
-        index, answer = self._answers.get()
-        side = self._sides[index]
-        if answer is None or isinstance(answer, ProgramFailed):
-            side.program.end_input()
-            status, said = side.program.wait()
-            raise ProgramFailed(
-                f"{side.program.shard}: {explained(said, side.program.shard) or answer or 'tt_archive ended with status %d' % status}"
-            )
-        if not side.under_way:
-            raise ProgramFailed(f"{side.program.shard}: a reply to nothing that was asked: {answer}")
-        token, handle = side.under_way.popleft()
-        self._count -= 1
-        handle(token, answer)
+    def _take(self, timeout: float | None) -> None:
+        """Handles the replies that are there, or that come first."""
+        for key, _ in self._printing.select(timeout):
+            side: _Side = key.data
+            for reply in _replies(side.program):
+                if not side.under_way:
+                    raise ProgramFailed(f"{side.program.shard}: a reply to nothing that was asked: {reply}")
+                token, handle = side.under_way.popleft()
+                self._count -= 1
+                handle(token, reply)
 
     def _check_journals(self) -> None:
         """A program makes a new archive where there is none. Where documents have names, it was lost."""
@@ -201,10 +203,11 @@ class Collection:
                 raise ToolError(f"{shard.folder / JOURNAL} is gone, and {self.folder / NAMES} names documents of it")
 
     def _start(self) -> None:
-        self._answers = SimpleQueue()
+        self._printing = PollSelector()
         self._count = 0
-        for index, shard in enumerate(self.shards):
-            self._sides.append(_Side(Program(self._command, shard, index, self._answers), deque()))
+        for shard in self.shards:
+            self._sides.append(_Side(Program(self._command, shard), deque()))
+            self._printing.register(self._sides[-1].program, EVENT_READ, self._sides[-1])
 
     def _end(self) -> list[tuple[int, str]]:
         """Ends the programs, whose last replies nobody takes."""
@@ -220,6 +223,20 @@ class Collection:
             return self._end()
         finally:
             self._lock.close()
+
+
+def _replies(program: Program) -> Iterator[Reply]:
+    """The replies that are there. An error where the program ended, or what it prints is none."""
+    wrong = ""
+    try:
+        yield from program.replies()
+    except ProgramFailed as failed:
+        wrong = str(failed)
+    if wrong or program.ended:
+        program.end_input()
+        status, said = program.wait()
+        why = explained(said, program.shard) or wrong or f"tt_archive ended with status {status}"
+        raise ProgramFailed(f"{program.shard}: {why}")
 
 
 def make_archive(folder: Path, command: Sequence[str]) -> None:

@@ -151,19 +151,19 @@ class _Feeder:
         """Makes the names of the batch durable, and then sends it."""
         if not self._batch:
             return
-        names = self._collection.names
-        docs = [names.give(change.name) for change in self._batch]
-        names.keep()
+        names, side_of = self._collection.names, self._collection.side_of
         scripts: dict[int, tuple[list[bytes], list[_Sent]]] = {}
-        for doc, change in zip(docs, self._batch):
-            lines, sent = scripts.setdefault(self._collection.side_of(doc), ([], []))
+        for change in self._batch:
+            doc = names.give(change.name)
+            lines, sent = scripts.setdefault(side_of(doc), ([], []))
             if change.text is None:
                 lines.append(commands.delete(doc, change.time))
             else:
                 lines.append(commands.arrive(doc, change.time, change.text))
             sent.append(_sent(change, self._done is not None and change.time <= self._done.end))
+        names.keep()
         for side, (lines, sent) in scripts.items():
-            self._collection.send(side, b"".join(lines), len(sent), sent, self._answered)
+            self._collection.send(side, b"".join(lines), sent, self._answered)
         self._progress.step(len(self._batch), self._batch[-1].time)
         self._batch.clear()
         self._bytes = 0

@@ -1,4 +1,4 @@
-"""The commands that fill an archive: init, import and shard."""
+"""The commands that fill an archive: init, import and shard. Each loads what it alone needs."""
 
 from __future__ import annotations
 
@@ -11,12 +11,7 @@ from .collection import Collection, make_archive
 from .errors import ToolError
 from .feeding import Progress, Tally, import_source
 from .program import find_program
-from .shards import make_shards, split
 from .sources import Source, Together
-from .sources.folder import FolderSource
-from .sources.git import GitSource
-from .sources.mediawiki import MediaWikiSource
-from .sources.warc import WarcSource
 from .texts import Reading
 from .times import show_time
 from .wording import counted, one_line
@@ -28,6 +23,8 @@ def init(options: argparse.Namespace) -> None:
 
 
 def import_git(options: argparse.Namespace) -> None:
+    from .sources.git import GitSource
+
     _import(options, _together([
         GitSource(repository, options.branch, tuple(options.only), prefix)
         for repository, prefix in _prefixed(options.repositories, options.prefix)
@@ -35,18 +32,26 @@ def import_git(options: argparse.Namespace) -> None:
 
 
 def import_mediawiki(options: argparse.Namespace) -> None:
+    from .sources.mediawiki import MediaWikiSource
+
     _import(options, MediaWikiSource(tuple(options.files), options.keep_redirects, options.prefix))
 
 
 def import_warc(options: argparse.Namespace) -> None:
+    from .sources.warc import WarcSource
+
     _import(options, WarcSource(tuple(options.files), options.prefix))
 
 
 def import_folder(options: argparse.Namespace) -> None:
+    from .sources.folder import FolderSource
+
     _import(options, _together([FolderSource(*each) for each in _prefixed(options.trees, options.prefix)]))
 
 
 def shard(options: argparse.Namespace) -> None:
+    from .shards import make_shards, split
+
     command = find_program(options.program)
     if options.empty:
         make_shards(options.into, options.count)

@@ -3,25 +3,26 @@
 from __future__ import annotations
 
 import os
+import select
 import shlex
 import shutil
 import subprocess
-import threading
 from dataclasses import dataclass
 from pathlib import Path
-from queue import SimpleQueue
-from typing import Sequence
+from typing import Iterator, Sequence
 
-from .errors import ProgramFailed, ToolError
-from .replies import Reply, read_reply
+from .errors import ToolError
+from .replies import Reply, ReplyReader
 
 VARIABLE = "TT_ARCHIVE"
 #: The files of an archive.
 JOURNAL, PAGES = "archive.journal", "archive.pages"
 _BUILT = Path(__file__).resolve().parents[2] / "crates" / "tt_archive" / "out" / "tt_archive"
 
-#: What a program's reader puts into the queue: who, and a reply or what ended the replies.
-Answer = tuple[int, "Reply | ProgramFailed | None"]
+#: So much of what is printed is read at once, which is what a pipe holds.
+_PIECE = 1 << 16
+#: In so many milliseconds a program prints less than that of replies to changes.
+_PATIENCE = 10
 
 
 def find_program(named: str | None) -> list[str]:
@@ -55,21 +56,20 @@ class Shard:
 
 
 class Program:
-    """A tt_archive in its folder, run through ssh where that is on another machine. Each reply goes
-    into the queue with this program's index; after the last one None, or what was wrong with it."""
+    """A tt_archive in its folder, run through ssh where that is on another machine. Writing to it and
+    reading from it don't wait, so that it works while the tool does."""
 
-    def __init__(
-        self, command: Sequence[str], shard: Shard, index: int, answers: SimpleQueue[Answer]
-    ) -> None:
+    def __init__(self, command: Sequence[str], shard: Shard) -> None:
         self.shard = shard
-        self._index = index
-        self._answers = answers
+        self.ended = False
+        self._reader = ReplyReader()
         self._end: tuple[int, str] | None = None
         if shard.login:
             command = ["ssh", shard.login, f"cd {shlex.quote(str(shard.folder))} && exec {shlex.join(command)}"]
         try:
-            self._process = subprocess.Popen(
+            process = subprocess.Popen(
                 command,
+                bufsize=0,
                 cwd=None if shard.login else shard.folder,
                 stdin=subprocess.PIPE,
                 stdout=subprocess.PIPE,
@@ -78,42 +78,49 @@ class Program:
             )
         except OSError as error:
             raise ToolError(f"{command[0]} can't be started in {shard}: {error.strerror}") from None
-        self._reader = threading.Thread(target=self._read, daemon=True)
-        self._reader.start()
+        assert process.stdin and process.stdout and process.stderr
+        self._process = process
+        self._input, self._output, self._errors = process.stdin, process.stdout, process.stderr
+        os.set_blocking(self._input.fileno(), False)
+        os.set_blocking(self._output.fileno(), False)
+        self._room = select.poll()
+        self._room.register(self._input, select.POLLOUT)
 
-    def send(self, script: bytes) -> None:
-        """Writes commands. May wait until the program has taken them; replies are read meanwhile."""
-        assert self._process.stdin
+    def fileno(self) -> int:
+        """Where replies can be waited for."""
+        return self._output.fileno()
+
+    def write(self, script: memoryview) -> memoryview:
+        """Writes commands as far as there is room for them now, and gives the rest."""
         try:
-            self._process.stdin.write(script)
-            self._process.stdin.flush()
+            return script[self._input.write(script) or 0 :]
         except (BrokenPipeError, ValueError):
-            pass  # the end of the replies says why
+            return script[:0]  # the end of the replies says why
+
+    def wait_for_room(self) -> None:
+        """Waits until commands can be written, but not so long that replies fill their pipe."""
+        self._room.poll(_PATIENCE)
+
+    def replies(self) -> Iterator[Reply]:
+        """The replies that are there; whether they were the last, `ended` tells."""
+        piece = self._output.read(_PIECE)
+        if piece:
+            yield from self._reader.replies(piece)
+        elif piece is not None:
+            self.ended = True
+            self._reader.end()
 
     def end_input(self) -> None:
-        assert self._process.stdin
-        try:
-            self._process.stdin.close()
-        except BrokenPipeError:
-            pass
+        self._input.close()
 
     def wait(self) -> tuple[int, str]:
         """The status and what was said with it, when the program has ended."""
         if self._end is None:
-            assert self._process.stdout and self._process.stderr
-            status = self._process.wait()
-            self._reader.join()
-            said = self._process.stderr.read().decode("utf-8", "replace").strip()
-            self._process.stdout.close()
-            self._process.stderr.close()
-            self._end = status, said
+            os.set_blocking(self._output.fileno(), True)
+            while self._output.read(_PIECE):
+                pass
+            said = self._errors.read().decode("utf-8", "replace").strip()
+            self._end = self._process.wait(), said
+            self._output.close()
+            self._errors.close()
         return self._end
-
-    def _read(self) -> None:
-        assert self._process.stdout
-        try:
-            while reply := read_reply(self._process.stdout):
-                self._answers.put((self._index, reply))
-            self._answers.put((self._index, None))
-        except ProgramFailed as failed:
-            self._answers.put((self._index, failed))

@@ -6,20 +6,18 @@ A reply shows by itself where it ends, so they can be read without knowing what 
 from __future__ import annotations
 
 from dataclasses import dataclass
-from typing import BinaryIO, Iterable, Union
+from typing import Iterable, Iterator, NamedTuple, Union
 
 from .errors import ProgramFailed
 
 
-@dataclass(frozen=True)
-class Ok:
+class Ok(NamedTuple):
     """A change was carried out; the history has so many entries now."""
 
     length: int
 
 
-@dataclass(frozen=True)
-class Refused:
+class Refused(NamedTuple):
     """A command was refused, and changed nothing."""
 
     number: int
@@ -44,16 +42,14 @@ class Refused:
         return str(self)
 
 
-@dataclass(frozen=True, order=True)
-class Hit:
+class Hit(NamedTuple):
     """A document found as of a time."""
 
     doc: int
     score: int
 
 
-@dataclass(frozen=True, order=True)
-class Span:
+class Span(NamedTuple):
     """A document found from one time until another, with one score."""
 
     doc: int
@@ -62,16 +58,14 @@ class Span:
     score: int
 
 
-@dataclass(frozen=True)
-class Rows:
+class Rows(NamedTuple):
     """The rows of a query, and how many postings were read for them."""
 
     rows: tuple[Union[Hit, Span], ...]
     read: int
 
 
-@dataclass(frozen=True)
-class Text:
+class Text(NamedTuple):
     """The text of a document, as bytes of UTF-8."""
 
     text: bytes
@@ -82,8 +76,7 @@ class Gone:
     """The document isn't alive at that time."""
 
 
-@dataclass(frozen=True)
-class Segment:
+class Segment(NamedTuple):
     """A piece of a plan's time line and the size of its sublist, in postings."""
 
     start: int
@@ -91,8 +84,7 @@ class Segment:
     size: int
 
 
-@dataclass(frozen=True)
-class Pieces:
+class Pieces(NamedTuple):
     """A plan with its certificate: segments, boundaries with the least space up to each, space."""
 
     segments: tuple[Segment, ...]
@@ -100,8 +92,7 @@ class Pieces:
     space: int
 
 
-@dataclass(frozen=True)
-class Planned:
+class Planned(NamedTuple):
     """A plan was stored. The full list is the word's list clipped to times below the horizon."""
 
     length: int
@@ -112,8 +103,7 @@ class Planned:
     cost: int | None
 
 
-@dataclass(frozen=True)
-class Verdict:
+class Verdict(NamedTuple):
     """What the archive's checker says."""
 
     line: str
@@ -122,51 +112,68 @@ class Verdict:
 Reply = Union[Ok, Refused, Rows, Text, Gone, Pieces, Planned, Verdict]
 
 
-def read_reply(stream: BinaryIO) -> Reply | None:
-    """The next reply, or None at the end of the stream."""
-    rows: list[Hit | Span] = []
-    segments: list[Segment] = []
-    nodes: list[tuple[int, int]] = []
-    while line := stream.readline():
-        if not line.endswith(b"\n"):
-            break
-        words = line.decode("utf-8", "replace").split()
-        try:
-            match words:
-                case ["hit", doc, score]:
-                    rows.append(Hit(int(doc), int(score)))
-                case ["span", doc, start, end, score]:
-                    rows.append(Span(int(doc), int(start), int(end), int(score)))
-                case ["segment", start, end, size]:
-                    segments.append(Segment(int(start), int(end), int(size)))
-                case ["node", time, space]:
-                    nodes.append((int(time), int(space)))
-                case ["end", _, "read", read]:
-                    return Rows(tuple(rows), int(read))
-                case ["end", _, "space", space]:
-                    return Pieces(tuple(segments), tuple(nodes), int(space))
-                case ["text", size]:
-                    return _text(stream, int(size))
-                case _:
-                    return _one_line(words)
-        except ValueError:
-            raise ProgramFailed(f"tt_archive answered what is no reply: {line!r}") from None
-    if line or rows or segments or nodes:
-        raise ProgramFailed("tt_archive's last reply isn't whole")
-    return None
+class ReplyReader:
+    """Cuts what a program prints into replies, piece by piece."""
 
+    def __init__(self) -> None:
+        self._rest = b""
+        self._rows: list[Hit | Span] = []
+        self._segments: list[Segment] = []
+        self._nodes: list[tuple[int, int]] = []
 
-def _text(stream: BinaryIO, size: int) -> Text:
-    text = stream.read(size + 1)
-    if len(text) != size + 1:
-        raise ProgramFailed("tt_archive's last reply isn't whole")
-    return Text(text[:size])
+    def replies(self, piece: bytes) -> Iterator[Reply]:
+        """The replies that are whole with the next piece."""
+        printed = self._rest + piece
+        start = 0
+        while end := printed.find(b"\n", start) + 1:
+            line = printed[start:end]
+            try:
+                if line.startswith(b"ok "):  # most of what is printed
+                    reply: Reply | None = Ok(int(line[3:]))
+                elif line.startswith(b"text "):
+                    size = int(line[5:])
+                    if len(printed) <= end + size:
+                        break
+                    reply = Text(printed[end : end + size])
+                    end += size + 1
+                else:
+                    reply = self._reply(line.decode("utf-8", "replace").split())
+            except ValueError:
+                raise ProgramFailed(f"tt_archive answered what is no reply: {line!r}") from None
+            start = end
+            if reply:
+                yield reply
+        self._rest = printed[start:]
+
+    def end(self) -> None:
+        """Nothing more will be printed."""
+        if self._rest or self._rows or self._segments or self._nodes:
+            raise ProgramFailed("tt_archive's last reply isn't whole")
+
+    def _reply(self, words: list[str]) -> Reply | None:
+        """The reply that ends with a line of these words; None where more lines follow."""
+        match words:
+            case ["hit", doc, score]:
+                self._rows.append(Hit(int(doc), int(score)))
+            case ["span", doc, start, end, score]:
+                self._rows.append(Span(int(doc), int(start), int(end), int(score)))
+            case ["segment", start, end, size]:
+                self._segments.append(Segment(int(start), int(end), int(size)))
+            case ["node", time, space]:
+                self._nodes.append((int(time), int(space)))
+            case ["end", _, "read", read]:
+                rows, self._rows = self._rows, []
+                return Rows(tuple(rows), int(read))
+            case ["end", _, "space", space]:
+                segments, nodes, self._segments, self._nodes = self._segments, self._nodes, [], []
+                return Pieces(tuple(segments), tuple(nodes), int(space))
+            case _:
+                return _one_line(words)
+        return None
 
 
 def _one_line(words: list[str]) -> Reply:
     match words:
-        case ["ok", length]:
-            return Ok(int(length))
         case ["none"]:
             return Gone()
         case ["no", number, name, *detail]:

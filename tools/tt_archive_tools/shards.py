@@ -10,7 +10,6 @@ import os
 import shlex
 import shutil
 import subprocess
-from io import BytesIO
 from pathlib import Path
 from typing import Any, Mapping, Sequence
 
@@ -21,7 +20,7 @@ from .errors import ProgramFailed, ToolError
 from .journal import entries
 from .names import FILE as NAMES
 from .program import JOURNAL, Shard
-from .replies import Ok, Reply, read_reply
+from .replies import Ok, Reply, ReplyReader
 
 _BATCH_BYTES = 1 << 20
 
@@ -69,7 +68,7 @@ def split(archive: Collection, into: Collection) -> int:
 
 def _send(into: Collection, lines: dict[int, list[bytes]]) -> None:
     for side, script in lines.items():
-        into.send(side, b"".join(script), len(script), script, _taken)
+        into.send(side, b"".join(script), script, _taken)
     lines.clear()
 
 
@@ -93,10 +92,9 @@ def ask_with_parallel(
     if done.returncode != 0:
         here = {str(shard.folder.resolve()): shard for shard in shards if not (shard.login or logins)}
         raise ProgramFailed(_fault(done.stderr.decode("utf-8", "replace").strip(), done.returncode, here))
-    stream = BytesIO(done.stdout)
-    replies = []
-    while reply := read_reply(stream):
-        replies.append(reply)
+    reader = ReplyReader()
+    replies = list(reader.replies(done.stdout))
+    reader.end()
     if len(replies) != len(shards):
         raise ProgramFailed(f"{len(shards)} shards gave {len(replies)} replies")
     return replies

@@ -5,10 +5,9 @@ from __future__ import annotations
 import codecs
 import re
 from dataclasses import dataclass
-from pathlib import PurePosixPath
+from posixpath import splitext
 
 from .changes import Notes
-from .html_text import text_of_html
 
 REPLACED = "bytes that aren't UTF-8 and whose character set isn't known, replaced"
 BINARY = "binary, so without a text"
@@ -38,7 +37,7 @@ class Reading:
 
     def of_file(self, data: bytes, name: str, place: str, notes: Notes) -> bytes | None:
         """The text of a file, by its name; None where it has none."""
-        return self.of_bytes(data, PurePosixPath(name).suffix.lower() in _HTML_NAMES, None, place, notes)
+        return self.of_bytes(data, splitext(name)[1].lower() in _HTML_NAMES, None, place, notes)
 
     def of_bytes(
         self, data: bytes, html: bool, declared: str | None, place: str, notes: Notes
@@ -49,7 +48,11 @@ class Reading:
         text = decode(data, declared or self.charset, place, notes)
         if text is None:
             return None
-        return (text_of_html(text) if html and not self.keep_html else text).encode()
+        if html and not self.keep_html:
+            from .html_text import text_of_html  # loaded where it is needed
+
+            text = text_of_html(text)
+        return text.encode()
 
 
 def decode(data: bytes, declared: str | None, place: str, notes: Notes) -> str | None:

@@ -2,7 +2,6 @@
 
 from __future__ import annotations
 
-import calendar
 import re
 from datetime import datetime, timedelta, timezone
 
@@ -90,7 +89,7 @@ def _seconds_of(
         moment = datetime(year, month, day, hour, minute, min(second, 59), tzinfo=timezone.utc)
     except ValueError as error:
         raise ToolError(f"{text!r} is no time: {error}") from None
-    return calendar.timegm(moment.utctimetuple())
+    return (moment - _EPOCH) // timedelta(seconds=1)
 
 
 def _in_range(seconds: int, text: str) -> int:

@@ -4,18 +4,20 @@ The line of first parents is followed, so a merge shows at its own time what it 
 stands at its committer time, or at its parent's where that is later; of the commits of one second
 the last one counts. A renamed file ends under the old name and begins under the new one. Files
 that git would call binary, symbolic links and submodules have no text.
+
+Three commands of git (2.31 or newer) run beside the import: the commits, what each changed, and the
+contents, which are asked for ahead.
 """
 
 from __future__ import annotations
 
-import subprocess
-import tempfile
-from contextlib import contextmanager
+from contextlib import contextmanager, suppress
 from dataclasses import dataclass
-from itertools import groupby, islice
-from operator import attrgetter
+from io import BufferedReader
+from itertools import islice
 from pathlib import Path
-from typing import IO, Iterator
+from subprocess import DEVNULL, PIPE, Popen
+from typing import IO, Iterator, NamedTuple
 
 from ..changes import Change, Notes
 from ..errors import InputError
@@ -24,19 +26,18 @@ from ..texts import Reading
 _FILES = {b"100644", b"100755"}
 _KINDS = {b"120000": "symbolic link, so without a text", b"160000": "submodule, so without a text"}
 _GONE = b"000000"
-#: So many contents are asked for at once: their names fit into a pipe, which so never blocks.
-_BATCH = 256
+#: What each commit of the line of first parents changed, behind its hash and time.
+_COMMITS = ("rev-list", "--first-parent", "--reverse")
+_CHANGES = ("diff-tree", "--stdin", "--root", "--diff-merges=first-parent", "--always", "--format=%H %ct",
+            "-r", "-z", "--raw", "--no-renames", "--no-abbrev")  # fmt: skip
+#: So many contents are asked for at once: the names of two batches fit into a pipe, which so never blocks.
+_BATCH = 64
+_PIECE = 1 << 16
 
 
-@dataclass(frozen=True)
-class _Commit:
-    hash: str
-    tree: str
+class _FileChange(NamedTuple):
+    commit: str
     time: int
-
-
-@dataclass(frozen=True)
-class _FileChange:
     path: str
     mode: bytes
     blob: bytes
@@ -57,107 +58,89 @@ class GitSource:
         return " ".join(part for part in parts if part)
 
     def changes(self, reading: Reading, notes: Notes) -> Iterator[Change]:
-        commits = self._commits(notes)
-        with tempfile.TemporaryFile() as pairs:
-            before = self._run("hash-object", "-t", "tree", "/dev/null").strip()
-            for commit in commits:
-                pairs.write(f"{before} {commit.tree}\n".encode())
-                before = commit.tree
-            pairs.seek(0)
-            raw = ("diff-tree", "--stdin", "-r", "-z", "--raw", "--no-renames", "--no-abbrev", "--", *self.only)
-            with _running(self._git(*raw), pairs) as trees, \
-                 _running(self._git("cat-file", "--batch"), subprocess.PIPE) as blobs:  # fmt: skip
-                differences = _differences(trees, commits)
-                while batch := list(islice(differences, _BATCH)):
-                    _ask_for(blobs, batch)
-                    for commit, change in batch:
-                        place = f"{commit.hash[:12]}:{change.path}"
-                        text = _text(change, blobs, reading, place, notes)
-                        yield Change(commit.time, self.prefix + change.path, text, place)
-                if trees.wait() != 0:
-                    raise InputError(str(self.repository), "git diff-tree failed")
+        with self._running(*_COMMITS, self.branch, "--", stderr=PIPE) as commits, \
+             self._running(*_CHANGES, "--", *self.only, stdin=commits.stdout) as trees, \
+             self._running("cat-file", "--batch", stdin=PIPE) as blobs:  # fmt: skip
+            for change in _asked_for(blobs, _differences(trees, notes)):
+                place = f"{change.commit[:12]}:{change.path}"
+                text = _text(change, blobs, reading, place, notes)
+                yield Change(change.time, self.prefix + change.path, text, place)
+            self._check(commits)
+            if trees.wait() != 0:
+                raise InputError(str(self.repository), "git diff-tree failed (git 2.31 or newer is needed)")
 
-    def _commits(self, notes: Notes) -> list[_Commit]:
-        """The last commit of each second, in order."""
-        commits = []
-        latest = 0
-        log = self._run("log", "--first-parent", "--reverse", "--format=%H %T %ct", self.branch, "--")
-        for line in log.splitlines():
-            hash, tree, time = line.split()
-            if int(time) < latest:
-                notes.count("commits older than their parent, taken at its time")
-            latest = max(latest, int(time))
-            commits.append(_Commit(hash, tree, latest))
-        last = [list(together)[-1] for _, together in groupby(commits, key=attrgetter("time"))]
-        if len(last) < len(commits):
-            notes.counts["commits that another of the same second replaced"] += len(commits) - len(last)
-        return last
-
-    def _git(self, *words: str) -> list[str]:
-        return ["git", "-C", str(self.repository), *words]
-
-    def _run(self, *words: str) -> str:
+    @contextmanager
+    def _running(
+        self, *words: str, stdin: IO[bytes] | int | None = DEVNULL, stderr: int = DEVNULL
+    ) -> Iterator[Popen[bytes]]:
+        """A git command that runs beside this program, and ends with it."""
+        words = ("git", "-C", str(self.repository), *words)
         try:
-            done = subprocess.run(self._git(*words), capture_output=True)
+            process = Popen(words, _PIECE, stdin=stdin, stdout=PIPE, stderr=stderr, start_new_session=True)
         except FileNotFoundError:
             raise InputError(str(self.repository), "git isn't installed: install the package git") from None
-        if done.returncode != 0:
-            said = done.stderr.decode("utf-8", "replace").strip().splitlines() or ["git failed"]
+        try:
+            yield process
+        finally:
+            process.kill()
+            process.communicate()
+
+    def _check(self, commits: Popen[bytes]) -> None:
+        """An error where there is no repository or no such branch."""
+        assert commits.stderr
+        said = commits.stderr.read().decode("utf-8", "replace").strip().splitlines() or ["git failed"]
+        if commits.wait() != 0:
             if any("bad revision" in line for line in said):
                 raise InputError(str(self.repository), f"there is no commit {self.branch}")
             raise InputError(str(self.repository), next((line for line in said if line.startswith("fatal:")), said[-1]))
-        return done.stdout.decode("utf-8", "replace")
 
 
-@contextmanager
-def _running(words: list[str], stdin: IO[bytes] | int) -> Iterator[subprocess.Popen[bytes]]:
-    """A git command that runs beside this one, and ends with it."""
-    process = subprocess.Popen(
-        words, stdin=stdin, stdout=subprocess.PIPE, stderr=subprocess.DEVNULL, start_new_session=True
-    )
-    try:
-        yield process
-    finally:
-        process.kill()
-        process.communicate()
-
-
-def _differences(
-    trees: subprocess.Popen[bytes], commits: list[_Commit]
-) -> Iterator[tuple[_Commit, _FileChange]]:
-    """What each commit changed. A line of two trees stands before the changes from one to the other."""
+def _differences(trees: Popen[bytes], notes: Notes) -> Iterator[_FileChange]:
+    """What each commit changed: its hash and time, and then for each file two modes, two contents
+    and a letter, and its path."""
+    latest = -1
     fields = _fields(trees)
-    following = iter(commits)
-    commit = None
     for field in fields:
-        while field and not field.startswith(b":"):
-            field = field.partition(b"\n")[2]
-            commit = next(following)
-        if field and commit:
-            _, mode, _, blob, _ = field.split(b" ")
-            yield commit, _FileChange(next(fields).decode("utf-8", "surrogateescape"), mode, blob)
+        if b":" not in field:
+            commit, time = field.decode().split()
+            if int(time) < latest:
+                notes.count("commits older than their parent, taken at its time")
+            if int(time) <= latest:
+                notes.count("commits that another of the same second replaced")
+            latest = max(int(time), latest)
+            continue
+        _, mode, _, blob, _ = field.split(b" ")
+        if (path := next(fields, None)) is None:
+            return  # git was stopped, which its status tells
+        yield _FileChange(commit, latest, path.decode("utf-8", "surrogateescape"), mode, blob)
 
 
-def _fields(process: subprocess.Popen[bytes]) -> Iterator[bytes]:
+def _fields(process: Popen[bytes]) -> Iterator[bytes]:
     """The fields of git's -z output."""
-    assert process.stdout
+    assert isinstance(process.stdout, BufferedReader)
     rest = b""
-    while piece := process.stdout.read(1 << 16):
+    while piece := process.stdout.read1(_PIECE):
         *whole, rest = (rest + piece).split(b"\0")
         yield from whole
-    if rest:
-        yield rest
 
 
-def _ask_for(blobs: subprocess.Popen[bytes], batch: list[tuple[_Commit, _FileChange]]) -> None:
-    """Asks for the contents of all files of a batch, in their order."""
+def _asked_for(blobs: Popen[bytes], changes: Iterator[_FileChange]) -> Iterator[_FileChange]:
+    """The changes, with the contents of all files asked for in their order, a batch or two ahead."""
     assert blobs.stdin
-    blobs.stdin.write(b"".join(change.blob + b"\n" for _, change in batch if change.mode in _FILES))
-    blobs.stdin.flush()
+    asked: list[_FileChange] = []
+    while True:
+        batch = list(islice(changes, _BATCH))
+        with suppress(BrokenPipeError):  # what then is missing is told where it is read
+            blobs.stdin.write(b"".join(change.blob + b"\n" for change in batch if change.mode in _FILES))
+            blobs.stdin.flush()
+        yield from asked
+        if not batch:
+            return
+        asked = batch
 
 
 def _text(
-    change: _FileChange, blobs: subprocess.Popen[bytes], reading: Reading, place: str, notes: Notes
+    change: _FileChange, blobs: Popen[bytes], reading: Reading, place: str, notes: Notes
 ) -> bytes | None:
     if change.mode not in _FILES:
         if change.mode != _GONE:
@@ -165,7 +148,8 @@ def _text(
         return None
     assert blobs.stdout
     header = blobs.stdout.readline().split()
-    if len(header) != 3:
+    size = int(header[2]) if len(header) == 3 else -1
+    data = blobs.stdout.read(size + 1)
+    if size < 0 or len(data) <= size:
         raise InputError(place, "git doesn't have this file's content (a partial clone?)")
-    data = blobs.stdout.read(int(header[2]) + 1)[:-1]
-    return reading.of_file(data, change.path, place, notes)
+    return reading.of_file(data[:-1], change.path, place, notes)
