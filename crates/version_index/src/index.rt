@@ -1,6 +1,6 @@
 //! The index.
 ghost use Rattle.std.specs.Prelude.{◌≡◌, ℕ, ◌<◌, ◌≤◌, ◌^◌, ◌↔◌, List, [], ◌∷◌, ◌++◌, length, Option, option_map, Contains, Err, IfOk, OnOk, IfSome, IsSome, IsTrue};
-ghost use Rattle.fold_tokens.specs.Words.{with_all};
+ghost use Rattle.fold_tokens.specs.Words.{number_of, with_all};
 ghost use Rattle.version_store.specs.declared.change.Change.{Change};
 ghost use Rattle.version_index.specs.Words.{words_in, IsListFrom, IsPartFrom};
 ghost use Rattle.version_index.specs.Horizons.{trimmed};
@@ -16,7 +16,7 @@ use crate::prepared::Prepared;
 use crate::word_tails::WordTails;
 use fold_tokens::{NumberError, Places, Vocabulary};
 use std::alloc::{AllocError, Global};
-use time_base::{DocId, Key, Posting, Span, Time};
+use time_base::{DocId, Key, Posting, Span, Time, WordId};
 use version_store::held_as_changes_come;
 
 /// For each word of all versions so far, the list of how often each document has it at each time
@@ -76,7 +76,22 @@ impl Index {
     pub fn knows(&self, word: &Key) -> bool
         ensures { (horizon : List ℕ → ℕ) (changes : List (Change (List ℕ))) → IndexesFrom horizon (state_of self.now) changes → (IsTrue result ↔ Contains (words_in changes) word.now) }
     {
-        self.vocabulary.find(word).is_some()
+        self.number(word).is_some()
+    }
+
+    /// The number of the word, which is its place among the words of all texts in the order of first
+    /// occurrence; None where no text has it. It costs one look-up.
+    pub fn number(&self, word: &Key) -> Option<WordId>
+        ensures { option_map (λ id. id.number) result ≡ number_of word.now (state_of self.now).words }
+    {
+        self.vocabulary.find(word)
+    }
+
+    /// How many words the texts have, below which all numbers are. Constant cost.
+    pub fn words(&self) -> u32
+        ensures { result ≡ length (state_of self.now).words }
+    {
+        self.vocabulary.len()
     }
 
     /// Prepares a new text of the document, or its deletion: measures the text. Nothing changes.
