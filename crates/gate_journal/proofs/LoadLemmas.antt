@@ -1,5 +1,5 @@
 -- What a load does to the disk, and what it finds.
-use Rattle.std.proofs.Common.{◌≡◌, ℕ, ◌<◌, ◌≤◌, List, [], ◌∷◌, ◌++◌, length, take, drop, get_or, refl, inl, inr, ap, subst, sym, ◌∙◌, arith, append_assoc, length-append}
+use Rattle.std.proofs.Common.{◌≡◌, ℕ, ◌<◌, ◌≤◌, List, [], ◌∷◌, ◌++◌, length, take, drop, get_or, Result, Err, refl, inl, inr, ap, subst, sym, ◌∙◌, arith, append_assoc, length-append}
 use Rattle.std.proofs.lemmas.List.{append-nil, take-take, get_or-take}
 use Rattle.machine_model.specs.Areas.{Bytes}
 use Rattle.machine_model.specs.States.{DiskState, moment}
@@ -207,3 +207,7 @@ in_step_after a b end heads bodies same one longer found spells =
     let S : DiskState → Type 0 = λ d. Spells d.holds.journal bodies in
     let there = found_in_step a end heads bodies one longer found spells in
     (there.0, step_read a b end bodies same there.1, subst S (sym same) spells)
+
+-- what a call's error is where the caller hands it on
+pub exit_is : {T U E : Type 0} (r : Result T E) (s : Result U E) (e y x : E) → r ≡ Err e → s ≡ Err y → y ≡ e → s ≡ Err x → r ≡ Err x
+exit_is r s e y x was made same is = cc

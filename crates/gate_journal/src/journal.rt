@@ -32,16 +32,29 @@ impl Model for Journal {
 }
 
 impl Journal {
+    // A journal that may be read and not appended to.
     pub(crate) fn at(end: u64) -> Journal
         requires low { 17 ≤ end }
         requires high { end ≤ 2 ^ 40 }
         ensures end { result.end ≡ end }
-        ensures live { IsTrue result.live }
+        ensures live { ¬ (IsTrue result.live) }
     {
-        Journal { end, live: true }
+        Journal { end, live: false }
     }
 
-    /// Whether records may be appended: from the load until an `append` answers `Failed`. Costs nothing.
+    // The journal, which may be appended to from now on.
+    pub(crate) fn made_live(self) -> Journal
+        ensures end { result.end ≡ self.end }
+        ensures live { IsTrue result.live }
+    {
+        Journal {
+            end: self.end,
+            live: true,
+        }
+    }
+
+    /// Whether records may be appended: from the load until an `append` answers `Failed`, and never
+    /// where the journal was opened to read. Costs nothing.
     pub fn is_live(&self) -> bool
         ensures { result ≡ self.now.live }
     {

@@ -8,7 +8,7 @@
 //!
 //! To the layer above it promises that each byte list spells one list of bodies at most
 //! (`specs/Spelled.antt`), that a load finds it, and what each image left since the start of a call
-//! spells (`specs/Crash.antt`).
+//! spells (`specs/Crash.antt`). A journal can be opened to read alone: then nothing is written or synced.
 #![tactic(auto)]
 
 mod durable;

@@ -1,4 +1,4 @@
-ghost use Rattle.std.specs.Prelude.{◌≡◌, ◌+◌, ◌<◌, ◌≤◌, ◌∷◌, [], List, ℕ, All, length, take, IsTrue, IfOk, OnOk, IsErrOf, vec_len};
+ghost use Rattle.std.specs.Prelude.{◌≡◌, ◌+◌, ◌<◌, ◌≤◌, ◌∷◌, [], List, ℕ, All, length, take, IsTrue, IfOk, IfSome, OnOk, IsErrOf, MatchOption, vec_len};
 ghost use Rattle.machine_model.specs.Causes.{HasCause, Rose};
 ghost use Rattle.machine_model.specs.Calls.{OnlyReads, Syncs};
 ghost use Rattle.machine_model.specs.Images.{Only};
@@ -62,10 +62,46 @@ impl Journal {
     {
         let total = settle(disk)?;
         if total > NEW_BYTES {
-            open(alloc, disk, total)
+            let (journal, heads) = open(alloc, disk, total)?;
+            Ok((journal.made_live(), heads))
         } else {
             begin(alloc, disk)
         }
+    }
+
+    /// Opens the journal of a disk to read it alone, and answers where its records lie, in order. None
+    /// where the journal has at most 17 bytes: then it is new, whatever they are, and has no records.
+    ///
+    /// It reads as `load` does, and neither writes nor syncs: so a stop may leave other bytes than those
+    /// that it read. Nothing can be appended to the journal that it gives.
+    /// `NotJournal`, `Failed`, `Memory` and the cost are those of `load`.
+    pub fn open_to_read<D: Disk>(
+        alloc: Global,
+        disk: &mut D,
+    ) -> Result<Option<(Journal, Vec<Head>)>, JournalError>
+        ensures only { D.Disk.only disk.old disk.new }
+        // No image changes, and no length.
+        ensures same { OnlyReads (D.disk disk.old) (D.disk disk.new) }
+        ensures failed { IsErrOf result JournalError.Failed → Rose (D.disk disk.old).faults (D.disk disk.new).faults }
+        ensures new { IfOk result (λ o. MatchOption o ((D.disk disk.old).reach.journal ≤ 17) (λ p. 17 < (D.disk disk.old).reach.journal)) }
+        ensures not_live { IfOk result (λ o. IfSome o (λ p. ¬ (IsTrue p.0.live))) }
+        ensures least { IfOk result (λ o. IfSome o (λ p. 17 ≤ p.0.end)) }
+        ensures within { IfOk result (λ o. IfSome o (λ p. p.0.end ≤ (D.disk disk.new).reach.journal)) }
+        ensures row { IfOk result (λ o. IfSome o (λ p. AreInRow 16 p.1.items p.0.end)) }
+        ensures heads { IfOk result (λ o. IfSome o (λ p. All (LiesBefore p.0.end) p.1.items)) }
+        // What it answers of the bytes that reads give.
+        ensures not_journal { D.disk_tells → (at : ℕ) → IsErrOf result (JournalError.NotJournal at) →
+            IsNotJournal (D.disk disk.old).holds.journal at }
+        ensures found { D.disk_tells → IfOk result (λ o. MatchOption o (length (D.disk disk.old).holds.journal ≤ 17)
+            (λ p. IsFound (D.disk disk.old).holds.journal p.0.end p.1.items)) }
+        ensures pages_read { D.disk_tells → (D.disk disk.new).bytes_read.pages ≡ (D.disk disk.old).bytes_read.pages }
+    {
+        let total = disk.length(Area::Journal)?;
+        if total <= NEW_BYTES {
+            return Ok(None);
+        }
+        let (journal, heads) = open(alloc, disk, total)?;
+        Ok(Some((journal, heads)))
     }
 }
 
@@ -83,7 +119,7 @@ fn settle<D: Disk>(disk: &mut D) -> Result<u64, Failed>
     disk.length(Area::Journal)
 }
 
-// Loads a journal with more bytes than a new one, and changes nothing.
+// Reads a journal with more bytes than a new one, and changes nothing.
 fn open<D: Disk>(
     alloc: Global,
     disk: &mut D,
@@ -94,10 +130,11 @@ fn open<D: Disk>(
     ensures only { D.Disk.only disk.old disk.new }
     ensures same { OnlyReads (D.disk disk.old) (D.disk disk.new) }
     ensures failed { IsErrOf result JournalError.Failed → Rose (D.disk disk.old).faults (D.disk disk.new).faults }
-    ensures live { IfOk result (λ p. IsTrue p.0.live) }
+    ensures not_live { IfOk result (λ p. ¬ (IsTrue p.0.live)) }
     ensures least { IfOk result (λ p. 17 ≤ p.0.end) }
     ensures within { IfOk result (λ p. p.0.end ≤ total) }
     ensures row { IfOk result (λ p. AreInRow 16 p.1.items p.0.end) }
+    ensures heads { IfOk result (λ p. All (LiesBefore p.0.end) p.1.items) }
     ensures not_journal { D.disk_tells → (at : ℕ) → IsErrOf result (JournalError.NotJournal at) →
         IsNotJournal (D.disk disk.old).holds.journal at }
     ensures found { D.disk_tells → IfOk result (λ p. IsFound (D.disk disk.old).holds.journal p.0.end p.1.items) }
@@ -128,7 +165,7 @@ fn scan<D: Disk>(
     ensures only { D.Disk.only disk.old disk.new }
     ensures same { OnlyReads (D.disk disk.old) (D.disk disk.new) }
     ensures failed { IsErrOf result JournalError.Failed → Rose (D.disk disk.old).faults (D.disk disk.new).faults }
-    ensures live { IfOk result (λ p. IsTrue p.0.live) }
+    ensures not_live { IfOk result (λ p. ¬ (IsTrue p.0.live)) }
     ensures least { IfOk result (λ p. 17 ≤ p.0.end) }
     ensures within { IfOk result (λ p. p.0.end ≤ total) }
     ensures row { IfOk result (λ p. AreInRow 16 p.1.items p.0.end) }
@@ -175,5 +212,5 @@ fn begin<D: Disk>(alloc: Global, disk: &mut D) -> Result<(Journal, Vec<Head>), J
     ensures pages_read { D.disk_tells → (D.disk disk.new).bytes_read.pages ≡ (D.disk disk.old).bytes_read.pages }
 {
     write_through(disk, 0, &NEW_JOURNAL)?;
-    Ok((Journal::at(NEW_BYTES), Vec::new(alloc)))
+    Ok((Journal::at(NEW_BYTES).made_live(), Vec::new(alloc)))
 }

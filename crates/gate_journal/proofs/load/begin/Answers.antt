@@ -1,4 +1,4 @@
-use Rattle.std.proofs.Common.{arith, refl}
+use Rattle.std.proofs.Common.{◌∙◌, arith, refl}
 use Rattle.machine_model.specs.declared.area.Area.TheVariants.{Journal}
 use Rattle.gate_journal.specs.Header.{header}
 use Rattle.gate_journal.proofs.PagesLemmas.{pages_written}
@@ -19,4 +19,4 @@ returns-clause-crash g c = λ tells. begun _ _ (omega (arith, g.met.D.Disk.reach
 
 pub returns-clause-in_step : goal.returns-clause-in_step
 unfolding header
-returns-clause-in_step g c = λ tells. begun_in_step _ _ _ _ _ refl (c.in_ok-write_through.ensures.stays tells) c.at.ensures.end c.new.ensures.items
+returns-clause-in_step g c = λ tells. begun_in_step _ _ _ _ _ refl (c.in_ok-write_through.ensures.stays tells) (c.made_live.ensures.end ∙ c.at.ensures.end) c.new.ensures.items

@@ -4,8 +4,11 @@ use Rattle.machine_model.proofs.MomentLemmas.{reads_join}
 use Rattle.machine_model.specs.declared.area.Area.TheVariants.{Journal}
 use Rattle.gate_journal.specs.Refused.{IsNotJournal}
 use Rattle.gate_journal.proofs.LoadLemmas.{wrong_in_view, right_in_view, refused_cut, found_before, in_step_after}
-use Rattle.gate_journal.proofs.ScanLemmas.{view_before}
+use Rattle.gate_journal.proofs.ScanLemmas.{view_before, row_before}
 use Rattle.gate_journal.proofs.load.open.Goals as goal
+
+pub returns-clause-heads : goal.returns-clause-heads
+returns-clause-heads g c = IfOk-weaker c.scan.result _ _ (λ p row. row_before 16 p.0.end p.1.items row) c.scan.ensures.row
 
 pub returns-in-Some-clause-not_journal : goal.returns-in-Some-clause-not_journal
 returns-in-Some-clause-not_journal g c = λ tells at is.
