@@ -2,7 +2,9 @@
 ghost use Rattle.std.specs.Prelude.{◌≡◌, ◌+◌, ◌^◌, ◌≤◌, max, length, true, false, IfOk, OnOk, OnErr};
 
 use crate::calls::{read_front, whole, write_front};
-use machine_model::Failed;
+use crate::progress::Progress;
+use crate::watched::WatchedFile;
+use machine_model::{Area, Failed};
 use std::fs::OpenFile;
 use std::io::{Seek, SeekFrom};
 use std::os::unix::fs::FileExt;
@@ -85,6 +87,24 @@ impl<F: FileExt + Seek + OpenFile> AreaFile<F> {
                 Ok(())
             }
             Err(_) => Err(Failed),
+        }
+    }
+}
+
+impl<F> AreaFile<F> {
+    /// The same file, of this area, with the progress that sees it.
+    pub(crate) fn watched<C, E: Eprint>(
+        self,
+        area: Area,
+        progress: &Progress<C, E>,
+    ) -> AreaFile<WatchedFile<'_, F, C, E>>
+        ensures length { result.length ≡ self.length }
+        ensures synced { result.is_synced ≡ self.is_synced }
+    {
+        AreaFile {
+            file: WatchedFile::new(self.file, Some(area), progress),
+            length: self.length,
+            is_synced: self.is_synced,
         }
     }
 }

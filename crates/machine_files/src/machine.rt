@@ -1,10 +1,14 @@
 //! The machine that a program runs on.
 ghost use Rattle.std.specs.Prelude.{◌≡◌, IfOk};
 ghost use Rattle.machine_files.specs.Telling.{source_from, sink_from};
+ghost use Rattle.machine_files.specs.Stores.{IsNotedAlike};
 ghost use Rattle.machine_files.specs.Meaning.{source_state, sink_state, disk_state};
 
 use crate::fault_count::FaultCount;
+use crate::progress::Progress;
+use crate::read_file::ReadFile;
 use crate::store::Store;
+use crate::watched::{WatchedFile, WatchedStream};
 use machine_model::{Failed, Machine};
 use std::fs::{Files, OpenFile};
 use std::io;
@@ -41,14 +45,74 @@ where
     ensures disk { IfOk result (λ x. (disk_state x).faults ≡ 0) }
 {
     let store = Store::open(rt)?;
-    Ok(FileMachine {
+    Ok(machine_of(rt, store))
+}
+
+/// Makes a machine that reads the working folder's files, `archive.journal` and `archive.pages`, and
+/// the standard streams. Its calls that write or sync fail, and do nothing. No file is made, and none
+/// is read yet.
+///
+/// `Failed`: a file is missing, a file or the folder can't be opened, or a file is longer than 2^40
+/// bytes. Costs a few calls of the system, however long the files are.
+pub fn open_to_read<R: Files + Input + Print>(
+    rt: &R,
+) -> Result<FileMachine<ReadFile<R::File>, R::Reader, Printer<'_, R>>, Failed>
+where
+    R::File: FileExt,
+    ensures source { IfOk result (λ x. source_state x ≡ source_from 0) }
+    ensures sink { IfOk result (λ x. sink_state x ≡ sink_from 0) }
+    ensures disk { IfOk result (λ x. (disk_state x).faults ≡ 0) }
+{
+    let store = Store::open_to_read(rt)?;
+    Ok(machine_of(rt, store))
+}
+
+/// The machine of these files and the standard streams, no call of which has failed.
+fn machine_of<R: Input + Print, F>(
+    rt: &R,
+    store: Store<F>,
+) -> FileMachine<F, R::Reader, Printer<'_, R>>
+    ensures source { source_state result ≡ source_from 0 }
+    ensures sink { sink_state result ≡ sink_from 0 }
+    ensures disk { (disk_state result).faults ≡ 0 }
+{
+    FileMachine {
         store,
         input: rt.reader(),
         output: io::writer(rt),
         source_faults: FaultCount::new(),
         sink_faults: FaultCount::new(),
         disk_faults: FaultCount::new(),
-    })
+    }
+}
+
+/// A machine of whose long work a progress tells.
+pub type WatchedMachine<'p, F, I, O, C, E> = FileMachine<
+    WatchedFile<'p, F, C, E>,
+    WatchedStream<'p, I, C, E>,
+    WatchedStream<'p, O, C, E>,
+>;
+
+impl<F, I, O> FileMachine<F, I, O> {
+    /// The same machine, of whose long work the progress tells. No contract shows the difference.
+    pub fn watched<C, E: Eprint>(
+        self,
+        progress: &Progress<C, E>,
+    ) -> WatchedMachine<'_, F, I, O, C, E>
+        ensures source { source_state result ≡ source_state self }
+        ensures sink { sink_state result ≡ sink_state self }
+        ensures disk { disk_state result ≡ disk_state self }
+        ensures alike { IsNotedAlike self.store result.store }
+    {
+        FileMachine {
+            store: self.store.watched(progress),
+            input: WatchedStream::new(self.input, progress),
+            output: WatchedStream::new(self.output, progress),
+            source_faults: self.source_faults,
+            sink_faults: self.sink_faults,
+            disk_faults: self.disk_faults,
+        }
+    }
 }
 
 impl<F: FileExt + Seek + OpenFile, I: Read, O: Write> Machine for FileMachine<F, I, O> {

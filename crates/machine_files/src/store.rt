@@ -2,9 +2,12 @@
 ghost use Rattle.std.specs.Prelude.{◌≡◌, ◌+◌, ◌^◌, ◌≤◌, max, length, true, false, IfOk, OnOk, OnErr, IsErr};
 ghost use Rattle.machine_model.specs.Areas.{part, replaced};
 ghost use Rattle.machine_model.specs.Calls.{IsPartlyReached};
-ghost use Rattle.machine_files.specs.Stores.{lengths};
+ghost use Rattle.machine_files.specs.Stores.{lengths, IsNotedAlike};
 
 use crate::area_file::AreaFile;
+use crate::progress::Progress;
+use crate::read_file::ReadFile;
+use crate::watched::WatchedFile;
 use machine_model::{Area, Failed};
 use std::fs::{Files, OpenFile, OpenOptions};
 use std::io;
@@ -25,38 +28,44 @@ pub(crate) struct Store<F> {
     pub(crate) has_lost: bool,
 }
 
-/// Opens a file for reading and writing, and makes it where it is missing. What it holds stays.
+/// How a file is opened that is written to. It is made where it is missing; what it holds stays.
+fn to_write() -> OpenOptions {
+    let mut how = OpenOptions::new();
+    how.read(true).write(true).create(true);
+    how
+}
+
+/// How a file is opened that is read alone. It is not made.
+fn to_read() -> OpenOptions {
+    let mut how = OpenOptions::new();
+    how.read(true);
+    how
+}
+
+/// Opens a file. What it holds stays.
 ///
 /// The handle that is kept is a second one: it stands above the standard streams, also where one
 /// of those was closed and the first handle took its number. So no reply lands in a file.
-fn open_or_make<R: Files>(rt: &R, name: &str) -> io::Result<R::File> {
-    let file = OpenOptions::new()
-        .read(true)
-        .write(true)
-        .create(true)
-        .open(rt, name)?;
+fn open_kept<R: Files>(rt: &R, how: &OpenOptions, name: &str) -> io::Result<R::File> {
+    let file = how.open(rt, name)?;
     file.try_clone()
 }
 
 /// Opens the file of one area in the working folder.
-fn open_area<R: Files>(rt: &R, area: Area) -> Result<AreaFile<R::File>, Failed>
-where
-    R::File: FileExt,
-    ensures { IfOk result (λ a. a.is_synced ≡ false) }
-{
+fn open_area<R: Files>(rt: &R, how: &OpenOptions, area: Area) -> Result<R::File, Failed> {
     let name = match area {
         Area::Journal => "archive.journal",
         Area::Pages => "archive.pages",
     };
-    match open_or_make(rt, name) {
-        Ok(file) => AreaFile::new(file),
+    match open_kept(rt, how, name) {
+        Ok(file) => Ok(file),
         Err(_) => Err(Failed),
     }
 }
 
 /// Opens the working folder, so that the names in it can be made durable.
 fn open_folder<R: Files>(rt: &R) -> Result<R::File, Failed> {
-    match OpenOptions::new().read(true).open(rt, ".") {
+    match to_read().open(rt, ".") {
         Ok(folder) => Ok(folder),
         Err(_) => Err(Failed),
     }
@@ -70,9 +79,32 @@ impl<F: FileExt + Seek + OpenFile> Store<F> {
         ensures journal { IfOk result (λ s. s.journal.is_synced ≡ false) }
         ensures pages { IfOk result (λ s. s.pages.is_synced ≡ false) }
     {
-        let journal = open_area(rt, Area::Journal)?;
-        let pages = open_area(rt, Area::Pages)?;
-        let folder = open_folder(rt)?;
+        Store::open_as(rt, &to_write(), |file| file)
+    }
+
+    /// Opens both files of the working folder to read them alone. None is made.
+    pub(crate) fn open_to_read<R: Files<File = F>>(rt: &R) -> Result<Store<ReadFile<F>>, Failed>
+    where
+        F: Drop,
+    {
+        Store::open_as(rt, &to_read(), ReadFile::new)
+    }
+
+    /// Opens both files of the working folder in this way, and takes each as `taken` gives it.
+    fn open_as<R: Files, T: Fn(R::File) -> F + Drop>(
+        rt: &R,
+        how: &OpenOptions,
+        taken: T,
+    ) -> Result<Store<F>, Failed>
+    where
+        F: Drop,
+        requires { T.IsAlwaysCallable taken }
+        ensures journal { IfOk result (λ s. s.journal.is_synced ≡ false) }
+        ensures pages { IfOk result (λ s. s.pages.is_synced ≡ false) }
+    {
+        let journal = AreaFile::new(taken(open_area(rt, how, Area::Journal)?))?;
+        let pages = AreaFile::new(taken(open_area(rt, how, Area::Pages)?))?;
+        let folder = taken(open_folder(rt)?);
         Ok(Store {
             journal,
             pages,
@@ -168,6 +200,25 @@ impl<F: FileExt + Seek + OpenFile> Store<F> {
                 Ok(())
             }
             Err(_) => Err(Failed),
+        }
+    }
+}
+
+impl<F> Store<F> {
+    /// The same files, with the progress that sees them.
+    pub(crate) fn watched<C, E: Eprint>(
+        self,
+        progress: &Progress<C, E>,
+    ) -> Store<WatchedFile<'_, F, C, E>>
+        ensures alike { IsNotedAlike self result }
+    {
+        progress.reaches(self.journal.length);
+        Store {
+            journal: self.journal.watched(Area::Journal, progress),
+            pages: self.pages.watched(Area::Pages, progress),
+            folder: WatchedFile::new(self.folder, None, progress),
+            is_folder_synced: self.is_folder_synced,
+            has_lost: self.has_lost,
         }
     }
 }

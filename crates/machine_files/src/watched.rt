@@ -1,0 +1,197 @@
+//! A file and a stream whose calls a progress sees.
+use crate::progress::Progress;
+use machine_model::Area;
+use std::fs::{Metadata, OpenFile};
+use std::io;
+use std::io::{Read, Seek, SeekFrom, Write};
+use std::os::unix::fs::FileExt;
+use std::time::Clock;
+
+/// A file of a machine, whose progress sees where it is read and written.
+#[derive(Drop)]
+pub struct WatchedFile<'p, F, C, E: Eprint> {
+    file: F,
+    /// What the file has; none where it is the folder.
+    area: Option<Area>,
+    progress: &'p Progress<C, E>,
+}
+
+impl<'p, F, C, E: Eprint> WatchedFile<'p, F, C, E> {
+    /// The file of an area, or of none, with the progress that sees it.
+    pub(crate) fn new(
+        file: F,
+        area: Option<Area>,
+        progress: &'p Progress<C, E>,
+    ) -> WatchedFile<'p, F, C, E> {
+        WatchedFile {
+            file,
+            area,
+            progress,
+        }
+    }
+}
+
+impl<F: FileExt, C: Clock, E: Eprint> FileExt for WatchedFile<'_, F, C, E> {
+    fn read_at(&self, buf: &mut [u8], offset: u64) -> io::Result<usize> {
+        if let Some(area) = self.area {
+            self.progress.reads(area, offset, buf.len());
+        }
+        self.file.read_at(buf, offset)
+    }
+
+    fn write_at(&self, buf: &[u8], offset: u64) -> io::Result<usize> {
+        if let Some(area) = self.area {
+            let end = offset.saturating_add(buf.len() as u64);
+            self.progress.writes(area, end);
+        }
+        self.file.write_at(buf, offset)
+    }
+}
+
+impl<F: Seek, C, E: Eprint> Seek for WatchedFile<'_, F, C, E> {
+    fn seek(&mut self, to: SeekFrom) -> io::Result<u64> {
+        self.file.seek(to)
+    }
+}
+
+impl<F: OpenFile, C, E: Eprint> OpenFile for WatchedFile<'_, F, C, E> {
+    fn metadata(&self) -> io::Result<Metadata> {
+        self.file.metadata()
+    }
+
+    fn set_len(&self, size: u64) -> io::Result<()> {
+        self.file.set_len(size)
+    }
+
+    fn sync_all(&self) -> io::Result<()> {
+        self.file.sync_all()
+    }
+
+    fn sync_data(&self) -> io::Result<()> {
+        self.file.sync_data()
+    }
+}
+
+/// A stream of a machine, whose progress ends before each of its calls.
+#[derive(Drop)]
+pub struct WatchedStream<'p, S, C, E: Eprint> {
+    stream: S,
+    progress: &'p Progress<C, E>,
+}
+
+impl<'p, S, C, E: Eprint> WatchedStream<'p, S, C, E> {
+    /// The stream, with the progress that it ends.
+    pub(crate) fn new(stream: S, progress: &'p Progress<C, E>) -> WatchedStream<'p, S, C, E> {
+        WatchedStream { stream, progress }
+    }
+}
+
+impl<S: Read, C, E: Eprint> Read for WatchedStream<'_, S, C, E> {
+    fn read(&mut self, buf: &mut [u8]) -> io::Result<usize> {
+        self.progress.ends();
+        self.stream.read(buf)
+    }
+}
+
+impl<S: Write, C, E: Eprint> Write for WatchedStream<'_, S, C, E> {
+    fn write(&mut self, buf: &[u8]) -> io::Result<usize> {
+        self.progress.ends();
+        self.stream.write(buf)
+    }
+
+    fn flush(&mut self) -> io::Result<()> {
+        self.stream.flush()
+    }
+}
+
+#[cfg(test)]
+mod tests {
+    use super::*;
+    use std::cell::Cell;
+    use std::test::Fail;
+
+    /// A file of at most eight bytes, and which of its calls came last.
+    #[derive(Drop)]
+    struct Tape {
+        bytes: Cell<[u8; 8]>,
+        last: Cell<&'static str>,
+    }
+
+    impl FileExt for Tape {
+        fn read_at(&self, buf: &mut [u8], offset: u64) -> io::Result<usize> {
+            self.last.set("read_at");
+            let bytes = self.bytes.get();
+            for (to, from) in buf.iter_mut().zip(bytes.iter().skip(offset as usize)) {
+                *to = *from;
+            }
+            Ok(buf.len())
+        }
+
+        fn write_at(&self, buf: &[u8], offset: u64) -> io::Result<usize> {
+            self.last.set("write_at");
+            let mut bytes = self.bytes.get();
+            for (to, from) in bytes.iter_mut().skip(offset as usize).zip(buf.iter()) {
+                *to = *from;
+            }
+            self.bytes.set(bytes);
+            Ok(buf.len())
+        }
+    }
+
+    impl Seek for Tape {
+        fn seek(&mut self, _to: SeekFrom) -> io::Result<u64> {
+            Ok(8)
+        }
+    }
+
+    impl OpenFile for Tape {
+        fn metadata(&self) -> io::Result<Metadata> {
+            Err(io::Error::from(io::ErrorKind::Unsupported))
+        }
+
+        fn set_len(&self, _size: u64) -> io::Result<()> {
+            self.last.set("set_len");
+            Ok(())
+        }
+
+        fn sync_all(&self) -> io::Result<()> {
+            self.last.set("sync_all");
+            Ok(())
+        }
+
+        fn sync_data(&self) -> io::Result<()> {
+            self.last.set("sync_data");
+            Ok(())
+        }
+    }
+
+    #[test]
+    fn calls_go_through(rt: HostRuntime) -> Result<(), Fail> {
+        let progress = Progress::new("tests", &rt, rt.stderr());
+        let tape = Tape {
+            bytes: Cell::new([0; 8]),
+            last: Cell::new(""),
+        };
+        let mut file = WatchedFile::new(tape, Some(Area::Journal), &progress);
+        assert_eq!(rt; file.write_at(b"abc", 2)?, 3);
+        assert_eq!(rt; file.file.bytes.get(), *b"\0\0abc\0\0\0");
+        let mut buf = [0; 4];
+        assert_eq!(rt; file.read_at(&mut buf, 1)?, 4);
+        assert_eq!(rt; buf, *b"\0abc");
+        assert_eq!(rt; file.seek(SeekFrom::End(0))?, 8);
+        file.set_len(7)?;
+        assert_eq!(rt; file.file.last.get(), "set_len");
+        file.sync_data()?;
+        assert_eq!(rt; file.file.last.get(), "sync_data");
+        file.sync_all()?;
+        assert_eq!(rt; file.file.last.get(), "sync_all");
+        assert!(rt; file.metadata().is_err());
+        let mut input = WatchedStream::new(&b"xyz"[..], &progress);
+        assert_eq!(rt; input.read(&mut buf)?, 3);
+        assert_eq!(rt; buf, *b"xyzc");
+        let mut output = WatchedStream::new(Vec::new(rt.alloc()), &progress);
+        assert_eq!(rt; output.write(b"xy")?, 2);
+        assert_eq!(rt; output.stream.as_slice(), b"xy".as_slice());
+        Ok(())
+    }
+}
