@@ -1,0 +1,4 @@
+pub mod Samples
+pub mod Places
+pub mod Laws
+pub mod Rows
