@@ -1,0 +1,4 @@
+mod NumberLemmas
+mod ReadLemmas
+mod LawLemmas
+mod PlainLemmas

@@ -1,0 +1,5 @@
+pub mod Numbers
+pub mod Words
+pub mod Errors
+pub mod Plain
+pub mod Laws
