@@ -14,7 +14,7 @@ use Rattle.postings.proofs.Clipping.{one_list_of}
 use Rattle.version_store.specs.declared.change.Change.{Change}
 use Rattle.version_store.specs.Changes.{changes_of}
 use Rattle.version_store.proofs.Mapped.{changes_of-mapped}
-use Rattle.version_index.specs.Words.{frequency_in}
+use Rattle.version_index.specs.Words.{frequency_in, words_in}
 use Rattle.stored_plans.specs.Plans.{IsLeastPlan, plan_space}
 use Rattle.record_codec.specs.declared.plan.PlanEntry.{PlanEntry}
 use Rattle.archive_state.specs.Histories.{changes}
@@ -22,10 +22,11 @@ use Rattle.archive_state.specs.declared.stored.StoredPlan.{StoredPlan}
 use Rattle.archive_replay.specs.Texts.{bare, nothing}
 use Rattle.archive_replay.proofs.PlaceLemmas.{bare_changes}
 use Rattle.archive_replay.proofs.RisingLemmas.{loadable_rises}
-use Rattle.archive_check.specs.declared.verdict.Verdict.{Verdict}
-use Rattle.archive_check.specs.declared.verdict.Verdict.TheVariants.{Sound, Differs, NotLeast, BadText}
+use Rattle.archive_state.specs.declared.verdict.Verdict.{Verdict}
+use Rattle.archive_state.specs.declared.verdict.Verdict.TheVariants.{Sound, Differs, NotLeast, BadText}
 use Rattle.archive_check.specs.Verdicts.{with_texts, IsText, IsUpTo, IsFirstBad, IsPlanned, found_in, wanted_of, DifferAt, SegmentDiffers, IsLeastSpace, IsSound, HasDifference, TakesMore, FirstFault, AllSound, Says}
 use Rattle.archive_check.specs.Laws.{LoadedChangesAreInOrder, OneVerdict}
+use Rattle.archive_check.proofs.OrderLemmas.{one_way}
 
 -- ---- the order of changes
 
@@ -252,4 +253,7 @@ one_says texts pages plans (BadText c s) (BadText d t) x y =
     cc
 
 pub verdicts_are_one : OneVerdict
-verdicts_are_one journal changes pages plans one other x y = one_says (with_texts journal changes) pages plans one other x y
+verdicts_are_one journal changes pages plans one other x y =
+    let texts = with_texts journal changes in
+    let P : List StoredPlan → Type 0 = λ l. Says other texts pages l in
+    one_says texts pages x.0 one other x.2 (subst P (sym (one_way (words_in texts) plans x.0 y.0 x.1 y.1)) y.2)

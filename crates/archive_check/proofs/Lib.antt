@@ -3,4 +3,7 @@ pub mod TextLemmas
 pub mod SegmentLemmas
 pub mod LeastLemmas
 pub mod PlanLemmas
+pub mod Sorting
+pub mod OrderLemmas
 pub mod LawLemmas
+pub mod SoundLemmas

@@ -15,8 +15,8 @@ use Rattle.stored_plans.specs.Plans.{IsFitFor, plan_space}
 use Rattle.archive_replay.specs.Texts.{text_in, bare, nothing}
 use Rattle.archive_check.specs.declared.texts.Texts.{Texts}
 use Rattle.archive_check.specs.declared.texts.Texts.TheVariants.{Good, Bad}
-use Rattle.archive_check.specs.declared.verdict.Verdict.{Verdict}
-use Rattle.archive_check.specs.declared.verdict.Verdict.TheVariants.{Sound, Differs, NotLeast, BadText}
+use Rattle.archive_state.specs.declared.verdict.Verdict.{Verdict}
+use Rattle.archive_state.specs.declared.verdict.Verdict.TheVariants.{Sound, Differs, NotLeast, BadText}
 use Rattle.archive_check.specs.Verdicts.{with_texts, IsText, IsFirstBad, IsLeastSpace, HasDifference, TakesMore}
 
 -- ---- texts; on a disk that tells they are those that stand in the journal

@@ -1,5 +1,5 @@
 -- What a check tells of an archive: by the bytes that reads give, and where texts and sublists lie. No digest is asked.
-use Rattle.std.specs.Prelude.{◌≡◌, ◌≢◌, ◌⊎◌, ℕ, ◌<◌, ◌≤◌, List, [], ◌∷◌, ◌++◌, length, take, map, slice_get, sum_by, All, Contains, Option, IfSome, IsUtf8}
+use Rattle.std.specs.Prelude.{◌≡◌, ◌≢◌, ◌⊎◌, ℕ, ◌<◌, ◌≤◌, List, [], ◌∷◌, ◌++◌, length, take, map, slice_get, All, Contains, Option, IfSome, IsUtf8}
 use Rattle.time_base.specs.declared.ids.DocId.{DocId}
 use Rattle.time_base.specs.declared.time.Time.{Time}
 use Rattle.time_base.specs.declared.text_place.TextPlace.{TextPlace}
@@ -10,7 +10,7 @@ use Rattle.postings.specs.Lists.{EachNext}
 use Rattle.postings.specs.ListsOf.{IsListOf}
 use Rattle.version_store.specs.declared.change.Change.{Change}
 use Rattle.version_store.specs.Changes.{changes_of, mapped}
-use Rattle.version_index.specs.Words.{frequency_in}
+use Rattle.version_index.specs.Words.{frequency_in, words_in}
 use Rattle.elementary.specs.Partitions.{IsBest}
 use Rattle.stored_plans.specs.Plans.{IsFitFor, IsLeastPlan, plan_space}
 use Rattle.page_store.specs.Ranges.{bytes_in}
@@ -18,10 +18,12 @@ use Rattle.page_store.specs.Live.{IsInside}
 use Rattle.record_codec.specs.declared.plan.PlanEntry.{PlanEntry}
 use Rattle.sublist_store.specs.Segments.{seconds}
 use Rattle.sublist_store.specs.Preparing.{spellings}
+use Rattle.archive_state.specs.Plans.{segments_of}
 use Rattle.archive_state.specs.declared.stored.StoredPlan.{StoredPlan}
 use Rattle.archive_replay.specs.Texts.{text_in}
-use Rattle.archive_check.specs.declared.verdict.Verdict.{Verdict}
-use Rattle.archive_check.specs.declared.verdict.Verdict.TheVariants.{Sound, Differs, NotLeast, BadText}
+use Rattle.archive_state.specs.declared.verdict.Verdict.{Verdict}
+use Rattle.archive_state.specs.declared.verdict.Verdict.TheVariants.{Sound, Differs, NotLeast, BadText}
+use Rattle.archive_check.specs.Orders.{AreByNumber}
 
 -- ---- texts
 
@@ -134,18 +136,22 @@ pub record AllSound (words segments : ℕ) (texts : List (Change (List ℕ))) (p
   pub utf8 : 0 < length plans → All IsText texts
   pub sound : All (λ s. IsSound texts pages s.plan) plans
   pub words_are : words ≡ length plans
-  pub segments_are : segments ≡ sum_by (λ s. length s.plan.cuts) plans
+  pub segments_are : segments ≡ segments_of plans
 
--- what a verdict says of texts, pages and plans
+-- what a verdict says of texts, pages and plans that are checked in this order
 abbrev pub Says : Verdict → List (Change (List ℕ)) → List ℕ → List StoredPlan → Type 0
 Says (Sound words segments) texts pages plans = AllSound words segments texts pages plans
 Says (Differs word segment place found wanted) texts pages plans = FirstFault (HasDifference word segment place found wanted) texts pages plans
 Says (NotLeast word kept least) texts pages plans = FirstFault (TakesMore word kept least) texts pages plans
 Says (BadText doc at) texts pages plans = (0 < length plans) × IsFirstBad texts doc at
 
+-- what a verdict says of them where the plans are checked by the numbers that their words have in the texts
+abbrev pub Tells : Verdict → List (Change (List ℕ)) → List ℕ → List StoredPlan → Type 0
+Tells verdict texts pages plans = (ordered : List StoredPlan) × AreByNumber (words_in texts) plans ordered × Says verdict texts pages ordered
+
 -- the verdict is that of these plans, by the bytes of the journal and of Pages
 abbrev pub IsVerdict : (journal : List ℕ) → List (Change TextPlace) → (pages : List ℕ) → List StoredPlan → Verdict → Type 0
-IsVerdict journal changes pages plans verdict = Says verdict (with_texts journal changes) pages plans
+IsVerdict journal changes pages plans verdict = Tells verdict (with_texts journal changes) pages plans
 
 -- ---- what a check asks for
 

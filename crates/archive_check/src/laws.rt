@@ -1,6 +1,6 @@
 //! What holds of verdicts by their definitions, for whoever proves something over them. Nothing here
 //! runs.
-ghost use Rattle.archive_check.specs.Laws.{LoadedChangesAreInOrder, OneVerdict};
+ghost use Rattle.archive_check.specs.Laws.{ANewArchiveIsSound, LoadedChangesAreInOrder, OneVerdict, WhatStandsIsSound};
 
 /// The changes of a history that loads come in the order that a check asks for. Does nothing.
 pub fn loaded_changes_are_in_order()
@@ -10,4 +10,15 @@ pub fn loaded_changes_are_in_order()
 /// Of some plans there is one verdict at most. Does nothing.
 pub fn one_verdict()
     ensures { OneVerdict }
+{}
+
+/// An image that stands for a history has one verdict, that all is sound: as many words as there are
+/// live plans, and all their segments. Does nothing.
+pub fn what_stands_is_sound()
+    ensures { WhatStandsIsSound }
+{}
+
+/// Of a new archive all is sound, and nothing else is told. Does nothing.
+pub fn a_new_archive_is_sound()
+    ensures { ANewArchiveIsSound }
 {}

@@ -10,13 +10,14 @@ mod bytes;
 mod error;
 mod laws;
 mod least;
+mod ordering;
 mod segments;
 mod spelling;
 mod texts;
-mod verdict;
 mod verifying;
 
 pub use error::VerifyError;
-pub use laws::{loaded_changes_are_in_order, one_verdict};
-pub use verdict::Verdict;
+pub use laws::{
+    a_new_archive_is_sound, loaded_changes_are_in_order, one_verdict, what_stands_is_sound,
+};
 pub use verifying::verify;

@@ -1,5 +1,5 @@
 //! The check.
-ghost use Rattle.std.specs.Prelude.{◌≡◌, ◌+◌, ◌<◌, ◌≤◌, Ok, List, ℕ, length, All, IfOk, IsErrOf, MatchOption};
+ghost use Rattle.std.specs.Prelude.{◌≡◌, ◌+◌, ◌<◌, ◌≤◌, Ok, List, ℕ, length, map, All, IfOk, IsErrOf, MatchOption};
 ghost use Rattle.machine_model.specs.Causes.{Rose};
 ghost use Rattle.machine_model.specs.Calls.{OnlyReads};
 ghost use Rattle.postings.specs.Lists.{IsList};
@@ -7,16 +7,16 @@ ghost use Rattle.version_store.specs.declared.change.Change.{Change as PlainChan
 ghost use Rattle.version_index.specs.Indexes.{state_of, Indexes};
 ghost use Rattle.stored_plans.specs.Plans.{IsLeastPlan};
 ghost use Rattle.archive_replay.specs.Texts.{LiesIn};
-ghost use Rattle.archive_check.specs.Verdicts.{AreInOrder, IsPlanned, IsSound, IsText, IsVerdict, LiesInside, Says, IsToBeLeast};
+ghost use Rattle.archive_check.specs.Verdicts.{AreInOrder, IsPlanned, IsSound, IsText, IsVerdict, LiesInside, Says, Tells, IsToBeLeast};
 ghost use Rattle.archive_check.specs.Checking.{IsExcess, IsFaultOf};
 
 use crate::error::VerifyError;
 use crate::least::{Excess, excess_of};
+use crate::ordering::{Turn, by_number};
 use crate::segments::first_wrong;
 use crate::texts::{Texts, read_texts};
-use crate::verdict::Verdict;
 use archive_replay::list_up_to;
-use archive_state::StoredPlan;
+use archive_state::{StoredPlan, Verdict};
 use commands::Kind;
 use gate_journal::Journal;
 use machine_model::Disk;
@@ -26,16 +26,17 @@ use time_base::Posting;
 use version_index::Index;
 use version_store::Directory;
 
-/// Checks the plans of an archive, in this order, by its texts: that the place of each segment holds the
-/// bytes of its sublist, and that each plan is a least one that keeps to a guarantee and may be loaded for
-/// its list. The first fault is the verdict; where a text isn't UTF-8, that is. Without plans nothing is
-/// read. Nothing is changed.
+/// Checks the plans of an archive by its texts, in the order of the numbers that their words have there:
+/// that the place of each segment holds the bytes of its sublist, and that each plan is a least one that
+/// keeps to a guarantee and may be loaded for its list. The first fault is the verdict; where a text
+/// isn't UTF-8, that is. Without plans nothing is read. Nothing is changed.
 ///
 /// `Failed`: the disk failed. `Memory`: there was none, or the texts that were read have more than 2^20
 /// words, which those of no archive have.
 /// It reads each text and each sublist once, and holds the index of all words beside one text or one
-/// sublist. It costs time in the texts, `n log n` in the words' counts, and for each plan `n log n` in
-/// its word's postings and passes over those that overlap its segments, for each halving of these.
+/// sublist. It costs time in the texts, `n log n` in the words' counts and in the plans, and for each
+/// plan `n log n` in its word's postings and passes over those that overlap its segments, for each
+/// halving of these.
 pub fn verify<D: Disk>(
     alloc: Global,
     disk: &mut D,
@@ -61,7 +62,7 @@ pub fn verify<D: Disk>(
         });
     }
     match read_texts(alloc, disk, journal, directory.changes())? {
-        Texts::Good(index) => check_plans(alloc, disk, &index, plans),
+        Texts::Good(index) => check_by_number(alloc, disk, &index, plans),
         Texts::Bad(version) => Ok(Verdict::BadText {
             doc: version.doc,
             at: version.at,
@@ -69,8 +70,8 @@ pub fn verify<D: Disk>(
     }
 }
 
-/// Checks plans by the index of the texts.
-fn check_plans<D: Disk>(
+/// Checks plans by the index of the texts, in the order of the numbers of their words.
+fn check_by_number<D: Disk>(
     alloc: Global,
     disk: &mut D,
     index: &Index,
@@ -82,17 +83,37 @@ fn check_plans<D: Disk>(
     ensures same { OnlyReads (D.disk disk.old) (D.disk disk.new) }
     ensures failed { IsErrOf result VerifyError.Failed → Rose (D.disk disk.old).faults (D.disk disk.new).faults }
     ensures verdict { D.disk_tells → (texts : List (PlainChange (List ℕ))) → Indexes (state_of index.now) texts → All IsText texts →
-        IfOk result (λ v. Says v texts (D.disk disk.old).holds.pages plans.now) }
+        IfOk result (λ v. Tells v texts (D.disk disk.old).holds.pages plans.now) }
+{
+    let turns = by_number(alloc, index, plans)?;
+    check_plans(alloc, disk, index, &turns)
+}
+
+/// Checks plans in turn.
+fn check_plans<D: Disk>(
+    alloc: Global,
+    disk: &mut D,
+    index: &Index,
+    turns: &[Turn],
+) -> Result<Verdict, VerifyError>
+    requires texts { (texts : List (PlainChange (List ℕ))) × Indexes (state_of index.now) texts }
+    requires places { All (λ t. LiesInside (D.disk disk.old).reach.pages t.stored.now.plan) turns.now }
+    ensures only { D.Disk.only disk.old disk.new }
+    ensures same { OnlyReads (D.disk disk.old) (D.disk disk.new) }
+    ensures failed { IsErrOf result VerifyError.Failed → Rose (D.disk disk.old).faults (D.disk disk.new).faults }
+    ensures verdict { D.disk_tells → (texts : List (PlainChange (List ℕ))) → Indexes (state_of index.now) texts → All IsText texts →
+        IfOk result (λ v. Says v texts (D.disk disk.old).holds.pages (map (λ t. t.stored.now) turns.now)) }
 {
     let mut segments = 0;
-    for stored in plans {
-        if let Some(fault) = fault_of(alloc, disk, index, &stored.plan)? {
+    for turn in turns {
+        let plan = &turn.stored.plan;
+        if let Some(fault) = fault_of(alloc, disk, index, plan)? {
             return Ok(fault);
         }
-        segments = with_segments(segments, &stored.plan)?;
+        segments = with_segments(segments, plan)?;
     }
     Ok(Verdict::Sound {
-        words: plans.len() as u64,
+        words: turns.len() as u64,
         segments,
     })
 }

@@ -9,5 +9,6 @@ pub mod LiveLemmas
 pub mod StoreLemmas
 pub mod StandLemmas
 pub mod CertifyLemmas
+pub mod CheckLemmas
 pub mod ChosenLemmas
 pub mod DraftLemmas

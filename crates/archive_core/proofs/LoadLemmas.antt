@@ -1,20 +1,18 @@
 -- What a load leaves and finds.
-use Rattle.std.proofs.Common.{◌≡◌, ℕ, ◌+◌, ◌<◌, ◌≤◌, List, [], ◌∷◌, ◌++◌, length, Result, Err, inl, inr, refl, ap, subst, sym, ◌∙◌, arith, length-append}
+use Rattle.std.proofs.Common.{◌≡◌, ℕ, ◌+◌, ◌<◌, ◌≤◌, List, [], ◌∷◌, ◌++◌, length, Result, Ok, Err, IfOk, inl, inr, refl, ap, subst, sym, ◌∙◌, arith, length-append}
 use Rattle.std.proofs.lemmas.Bool.{cases_lt}
 use Rattle.std.proofs.lemmas.List.Elements.{All-nil}
 use Rattle.std.proofs.lemmas.List.{nil_from_length}
 use Rattle.machine_model.specs.Areas.{Bytes}
 use Rattle.machine_model.specs.States.{DiskState, Moment}
 use Rattle.machine_model.specs.Images.{MayLeave, Only}
-use Rattle.machine_model.proofs.MomentLemmas.{reads_join}
 use Rattle.page_store.specs.Taken.{HasTaken}
 use Rattle.page_store.specs.Live.{AreLive}
 use Rattle.gate_journal.specs.Records.{front}
-use Rattle.machine_model.specs.Calls.{OnlyReads, OnlyFails}
+use Rattle.machine_model.specs.Calls.{OnlyReads}
 use Rattle.gate_journal.specs.declared.head.Head.{Head}
 use Rattle.gate_journal.specs.Spelled.{Spells, EachSpells}
 use Rattle.gate_journal.specs.InStep.{IsInStep}
-use Rattle.gate_journal.proofs.LoadLemmas.{fails_read}
 use Rattle.gate_journal.specs.Crash.{KeepsBodies, KeepsPages}
 use Rattle.time_base.specs.declared.text_place.TextPlace.{TextPlace}
 use Rattle.version_store.specs.declared.change.Change.{Change}
@@ -122,22 +120,9 @@ bad_shelf image h plans reach at spelled loads live long bad =
     let is = subst B live (subst R long bad) in
     inr (inr (record { history = h; spelled = spelled; loadable = loads; index = is.index; inside = is.inside; good = is.good; bad = is.bad; at_is = is.at_is }))
 
--- what was gone over is the history of the bodies found
-pub gone_over : (bytes : List ℕ) (heads there : List Head) (changes : List (Change TextPlace)) (index : IndexState) (plans : List StoredPlan) (bodies : List (List ℕ)) → there ≡ heads → Spells bytes bodies
-    → (h : History) × IsReplayed h there changes plans × Indexes index (histories.changes h) × (bodies_of h ≡ bodies)
-    → (h : History) × IsReplayed h heads changes plans × Indexes index (histories.changes h) × (bodies_of h ≡ bodies) × Spells bytes (bodies_of h)
-gone_over bytes heads there changes index plans bodies same spelled all =
-    let P : List Head → Type 0 = λ l. IsReplayed all.0 l changes plans in
-    let S : List (List ℕ) → Type 0 = λ l. Spells bytes l in
-    (all.0, subst P same all.1, all.2, all.3, subst S (sym all.3) spelled)
-
--- the length of the pages that reads give is that at the start
-pub pages_long : (old : Bytes) (mid after : DiskState) (reach : ℕ) → reach ≡ after.reach.pages → length after.holds.pages ≡ after.reach.pages → OnlyReads mid after → mid.holds.pages ≡ old.pages → reach ≡ length old.pages
-pages_long old mid after reach is told same pages = is ∙ sym told ∙ ap (λ (d : DiskState). length d.holds.pages) same ∙ ap length pages
-
--- reads, and then a call that only fails
-pub reads_on : (mid after new : DiskState) → OnlyReads mid after → OnlyFails after new → OnlyReads mid new
-reads_on mid after new same fails = reads_join mid after new same (fails_read after new fails)
+-- pages that are as long as those of a disk are as long as it tells after reads
+pub pages_long : (image : Bytes) (old after : DiskState) (reach : ℕ) → reach ≡ after.reach.pages → OnlyReads old after → length image.pages ≡ old.reach.pages → reach ≡ length image.pages
+pages_long image old after reach is same long = is ∙ ap (λ (d : DiskState). d.reach.pages) same ∙ sym long
 
 -- where the places in hand are live, those of the history are
 pub all_live : (h : History) (plans : List StoredPlan) (reach : ℕ) (pages : List ℕ) → plans ≡ live_plans h → reach ≡ length pages → AreLive (extents_all plans) reach → AreLive (live_extents h) (length pages)
@@ -150,6 +135,14 @@ all_live h plans reach pages same long live =
 no_bodies : (h : History) → bodies_of h ≡ [] → h ≡ []
 no_bodies [] none = refl
 no_bodies (e ∷ h) none = absurd (omega (arith, ap length none))
+
+-- an archive without entries needs nothing of Pages
+none_held : (pages : List ℕ) → HoldsPlans [] pages
+none_held pages = record { apart = tt; each = All-nil (λ (stored : StoredPlan). HoldsPlan [] pages stored.plan) }
+
+-- and a journal of at most 17 bytes is that of one
+pub new_stands : (image : Bytes) → length image.journal ≤ 17 → Stands [] image
+new_stands image few = record { spelled = inl (few, refl); legal = tt; held = none_held image.pages }
 
 -- after a load each image has in its pages what the history needs, for which the bytes stood that reads gave
 pub held_loaded : (h : History) (image : Bytes) (old : Bytes) (mid new : DiskState) → Stands h old → (17 < length old.journal → Only mid.holds mid) → mid.holds.pages ≡ old.pages → new.now ≡ mid.now
@@ -165,7 +158,7 @@ held_loaded h image old mid new stands one same now allowed =
     of_none : h ≡ [] → HoldsPlans h image.pages
     of_none none =
         let E : History → Type 0 = λ g. HoldsPlans g image.pages in
-        subst E (sym none) (record { apart = tt; each = All-nil (λ (stored : StoredPlan). HoldsPlan [] image.pages stored.plan) })
+        subst E (sym none) (none_held image.pages)
 
     new_archive : Spells old.journal (bodies_of h) → length old.journal ≤ 17 → HoldsPlans h image.pages
     new_archive (inl new) short = of_none (no_bodies h new.1)
@@ -198,6 +191,7 @@ journal_exit r s Failed y at was made same is = absurd cc
 journal_exit r s (NotJournal n) y at was made same is = cc
 journal_exit r s Memory y at was made same is = absurd cc
 
--- what a call's error is where the caller hands it on
-pub exit_is : {T U E : Type 0} (r : Result T E) (s : Result U E) (e y x : E) → r ≡ Err e → s ≡ Err y → y ≡ e → s ≡ Err x → r ≡ Err x
-exit_is r s e y x was made same is = cc
+-- two things of what a call gave make a third
+pub IfOk-both : {T E : Type 0} (r : Result T E) (P Q R : T → Type 0) → ((x : T) → P x → Q x → R x) → IfOk r P → IfOk r Q → IfOk r R
+IfOk-both (Ok x) P Q R both p q = both x p q
+IfOk-both (Err e) P Q R both p q = tt

@@ -1,4 +1,6 @@
 -- Why a question is answered by an error.
+use Rattle.archive_check.specs.declared.error.VerifyError.{VerifyError}
+use Rattle.archive_check.specs.declared.error.VerifyError.TheVariants as checks
 use Rattle.archive_replay.specs.declared.error.ReadError.{ReadError}
 use Rattle.archive_replay.specs.declared.error.ReadError.TheVariants as reads
 use Rattle.archive_core.specs.declared.error.AskError.{AskError}
@@ -16,3 +18,8 @@ abbrev pub ask_error_of_fetch : FetchError → AskError
 ask_error_of_fetch fetches.Failed = asks.Failed
 ask_error_of_fetch (fetches.Damaged damage) = asks.Damaged damage
 ask_error_of_fetch fetches.Memory = asks.Memory
+
+-- a check without a verdict, as a question's error
+abbrev pub ask_error_of_check : VerifyError → AskError
+ask_error_of_check checks.Failed = asks.Failed
+ask_error_of_check checks.Memory = asks.Memory

@@ -8,7 +8,8 @@ use Rattle.sublist_store.specs.declared.why.Damage.{Damage}
 use Rattle.query_eval.specs.declared.answer.Answer.{Answer}
 use Rattle.query_eval.specs.declared.spans.SpanAnswer.{SpanAnswer}
 use Rattle.archive_state.specs.Histories.{History}
-use Rattle.archive_state.specs.Steps.{Reply, Accepted, Refused, Found, Spanned, Shown, Proposed, Planned, Step}
+use Rattle.archive_state.specs.declared.verdict.Verdict.{Verdict}
+use Rattle.archive_state.specs.Steps.{Reply, Accepted, Refused, Found, Spanned, Shown, Proposed, Planned, Verified, Step}
 use Rattle.archive_state.specs.Runs.{Turn}
 use Rattle.archive_state.specs.Stands.{EachStands}
 use Rattle.archive_core.specs.States.{ArchiveState, IsKept}
@@ -62,6 +63,10 @@ proposed (Err error) = declined error
 abbrev pub shown : {T : Type 0} → (T → List ℕ) → Result (Option T) AskError → Ending
 shown bytes (Ok text) = Replied (Shown (option_map bytes text))
 shown bytes (Err error) = declined error
+
+abbrev pub verified : Result Verdict AskError → Ending
+verified (Ok verdict) = Replied (Verified verdict)
+verified (Err error) = declined error
 
 -- Where a reply was given it is that of the turn, and the archive stands for the history after the turn; where memory ran out, each image
 -- stands for the history before it. Nothing is damaged.

@@ -72,7 +72,8 @@ impl Model for Archive {
 }
 
 impl Archive {
-    // The archive of a loaded journal, by the changes of its entries, the index of their texts and the live plans.
+    // The archive of a journal, by the changes of its entries, the index of their texts and the live plans.
+    // It is live where the journal is.
     pub(crate) fn of(
         journal: Journal,
         directory: Directory,
@@ -80,28 +81,28 @@ impl Archive {
         shelf: Shelf,
         entries: u64,
     ) -> Archive
-        requires live { IsTrue journal.live }
         requires few { entries + 17 ≤ journal.end }
-        requires stands { (h : History) × StandsFor (record { end = journal.end; live = true; length = entries; changes = directory.changes; index = state_of index; shelf = shelf }) h }
+        requires stands { (h : History) × StandsFor (record { end = journal.end; live = journal.live; length = entries; changes = directory.changes; index = state_of index; shelf = shelf }) h }
         ensures end { result.end ≡ journal.end }
-        ensures live { IsTrue result.live }
+        ensures live { result.live ≡ journal.live }
         ensures length { result.length ≡ entries }
         ensures changes { result.changes ≡ directory.changes }
         ensures index { result.index ≡ state_of index }
         ensures shelf { result.shelf ≡ shelf }
     {
+        let live = journal.is_live();
         Archive {
             journal,
             directory,
             index,
             shelf,
             entries,
-            live: true,
+            live,
         }
     }
 
-    /// Whether changes may be made: from the load until a change answers `Failed` or `Memory`.
-    /// Constant cost.
+    /// Whether changes may be made: from the load until a change answers `Failed` or `Memory`, and
+    /// never where the archive was opened to read. Constant cost.
     pub fn is_live(&self) -> bool
         ensures { result ≡ self.now.live }
     {

@@ -1,6 +1,7 @@
 //! Why a call of an archive didn't do its work.
 ghost use Rattle.std.specs.Prelude.{◌≡◌};
 
+use archive_check::VerifyError;
 use archive_replay::ReadError;
 use archive_state::Refusal;
 use std::alloc::{AllocError, AllocFailed};
@@ -51,6 +52,20 @@ impl From<ReadError> for AskError {
         match why {
             ReadError::Failed => AskError::Failed,
             ReadError::Memory => AskError::Memory,
+        }
+    }
+}
+
+impl From<VerifyError> for AskError {
+    ghost use Rattle.archive_core.specs.Causes.{ask_error_of_check};
+    ghost use Rattle.std.specs.Prelude.{◌≡◌};
+
+    ghost from_gives = { λ why e. e ≡ ask_error_of_check why };
+
+    fn from(why: VerifyError) -> Self {
+        match why {
+            VerifyError::Failed => AskError::Failed,
+            VerifyError::Memory => AskError::Memory,
         }
     }
 }

@@ -1,7 +1,9 @@
 //! Loading an archive.
-ghost use Rattle.std.specs.Prelude.{◌≡◌, ◌+◌, ◌<◌, ◌≤◌, ℕ, length, IsTrue, IfOk, OnOk, IsErrOf};
+ghost use Rattle.std.specs.Prelude.{◌≡◌, ◌+◌, ◌<◌, ◌≤◌, [], ℕ, List, length, All, IsTrue, IfOk, IfSome, OnOk, IsErrOf, MatchOption};
+ghost use Rattle.machine_model.specs.Areas.{Bytes};
 ghost use Rattle.machine_model.specs.Causes.{Rose};
-ghost use Rattle.machine_model.specs.Calls.{Syncs};
+ghost use Rattle.machine_model.specs.Calls.{OnlyReads, Syncs};
+ghost use Rattle.gate_journal.specs.Heads.{AreInRow, LiesBefore, heads_of};
 ghost use Rattle.gate_journal.specs.Spelled.{Spells};
 ghost use Rattle.gate_journal.specs.Crash.{KeepsPages};
 ghost use Rattle.archive_state.specs.Histories.{History};
@@ -11,7 +13,7 @@ ghost use Rattle.archive_core.specs.Changing.{KeepsHistory};
 
 use crate::archive::Archive;
 use archive_replay::{LoadError, Replayed, replay};
-use gate_journal::Journal;
+use gate_journal::{Head, Journal};
 use machine_model::{Area, Disk};
 use plan_shelf::Shelf;
 use std::alloc::Global;
@@ -48,14 +50,75 @@ impl Archive {
         ensures pages { D.disk_tells → KeepsPages (D.disk disk.old) (D.disk disk.new) }
     {
         let (journal, heads) = Journal::load(alloc, disk)?;
-        let replayed = replay(alloc, disk, &journal, &heads)?;
-        let Replayed {
-            directory,
-            index,
-            plans,
-        } = replayed;
-        let reach = disk.length(Area::Pages)?;
-        let shelf = Shelf::of(alloc, plans, reach)?;
-        Ok(Archive::of(journal, directory, index, shelf, heads.len() as u64))
+        archive_of(alloc, disk, journal, &heads)
     }
+
+    /// Opens the archive of a disk to read it alone. None where the journal has at most 17 bytes: then
+    /// it is new, whatever they are, and the archive has no entries.
+    ///
+    /// It reads as `load` does, and neither writes nor syncs: so a stop may leave another archive than
+    /// the one that it read. No change may be made to the archive that it gives.
+    /// `NotArchive`, `Failed`, `Memory` and the cost are those of `load`.
+    pub fn open_to_read<D: Disk>(alloc: Global, disk: &mut D) -> Result<Option<Archive>, LoadError>
+        ensures only { D.Disk.only disk.old disk.new }
+        // No image changes, and no length.
+        ensures same { OnlyReads (D.disk disk.old) (D.disk disk.new) }
+        ensures failed { IsErrOf result LoadError.Failed → Rose (D.disk disk.old).faults (D.disk disk.new).faults }
+        // On any disk: it isn't live, the disk reaches as far as its journal, and it stands for a history.
+        ensures not_live { IfOk result (λ o. IfSome o (λ a. ¬ (IsTrue a.live))) }
+        ensures new { IfOk result (λ o. MatchOption o ((D.disk disk.old).reach.journal ≤ 17) (λ a. 17 < (D.disk disk.old).reach.journal)) }
+        ensures within { IfOk result (λ o. IfSome o (λ a. Reaches (D.disk disk.new).reach a)) }
+        ensures stands { IfOk result (λ o. IfSome o (λ a. (h : History) × StandsFor a h)) }
+        // What it answers of the bytes that reads give.
+        ensures not_archive { D.disk_tells → (at : ℕ) → IsErrOf result (LoadError.NotArchive at) → IsNotArchive (D.disk disk.old).holds at }
+        ensures found { D.disk_tells → IfOk result (λ o. MatchOption o (Spells (D.disk disk.old).holds.journal [])
+            (λ a. (h : History) × (StandsFor a h × Spells (D.disk disk.old).holds.journal (bodies_of h)))) }
+        ensures exact { D.disk_tells → OnOk result ((at : ℕ) → IsNotArchive (D.disk disk.old).holds at → ⊥) }
+    {
+        match Journal::open_to_read(alloc, disk)? {
+            Some((journal, heads)) => {
+                let archive = archive_of(alloc, disk, journal, &heads)?;
+                Ok(Some(archive))
+            }
+            None => Ok(None),
+        }
+    }
+}
+
+/// The archive of a journal, by the entries that lie where these heads say. It reads alone.
+fn archive_of<D: Disk>(
+    alloc: Global,
+    disk: &mut D,
+    journal: Journal,
+    heads: &[Head],
+) -> Result<Archive, LoadError>
+    requires reached { journal.end ≤ (D.disk disk.old).reach.journal }
+    requires row { AreInRow 16 heads.now journal.end }
+    requires inside { All (LiesBefore journal.end) heads.now }
+    ensures only { D.Disk.only disk.old disk.new }
+    ensures same { OnlyReads (D.disk disk.old) (D.disk disk.new) }
+    ensures failed { IsErrOf result LoadError.Failed → Rose (D.disk disk.old).faults (D.disk disk.new).faults }
+    ensures live { IfOk result (λ a. a.live ≡ journal.live) }
+    ensures end { IfOk result (λ a. a.end ≡ journal.end) }
+    ensures within { IfOk result (λ a. Reaches (D.disk disk.new).reach a) }
+    ensures stands { IfOk result (λ a. (h : History) × StandsFor a h) }
+    // Where the journal spells the bodies that lie there: what it answers is so of any image that spells them and whose pages are as long.
+    ensures not_archive { D.disk_tells → (bodies : List (List ℕ)) → heads.now ≡ heads_of 16 bodies → Spells (D.disk disk.old).holds.journal bodies →
+        (image : Bytes) → Spells image.journal bodies → length image.pages ≡ (D.disk disk.old).reach.pages →
+        (at : ℕ) → IsErrOf result (LoadError.NotArchive at) → IsNotArchive image at }
+    ensures found { D.disk_tells → (bodies : List (List ℕ)) → heads.now ≡ heads_of 16 bodies → Spells (D.disk disk.old).holds.journal bodies →
+        IfOk result (λ a. (h : History) × (StandsFor a h × (bodies_of h ≡ bodies))) }
+    ensures exact { D.disk_tells → (bodies : List (List ℕ)) → heads.now ≡ heads_of 16 bodies → Spells (D.disk disk.old).holds.journal bodies →
+        (image : Bytes) → Spells image.journal bodies → length image.pages ≡ (D.disk disk.old).reach.pages →
+        OnOk result ((at : ℕ) → IsNotArchive image at → ⊥) }
+{
+    let replayed = replay(alloc, disk, &journal, heads)?;
+    let Replayed {
+        directory,
+        index,
+        plans,
+    } = replayed;
+    let reach = disk.length(Area::Pages)?;
+    let shelf = Shelf::of(alloc, plans, reach)?;
+    Ok(Archive::of(journal, directory, index, shelf, heads.len() as u64))
 }

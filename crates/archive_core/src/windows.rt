@@ -49,7 +49,7 @@ impl Archive {
         ensures same { OnlyReads (D.disk disk.old) (D.disk disk.new) }
         ensures kept { self.new ≡ self.old }
         ensures failed { IsErrOf result AskError.Failed → Rose (D.disk disk.old).faults (D.disk disk.new).faults }
-        // A refusal comes of a text that is no query, at the place where that shows, and wherever it is none (but for want of memory).
+        // A refusal comes of a text that is no query, at the place where that shows; an answer comes of a query.
         ensures refused { (why : Refusal) → IsErrOf result (AskError.Refused why) → IsNoQuery expr.now why }
         ensures asked { IsOk result → IsQuery expr.now }
         // Whatever the disk holds, if it tells: the answer is made from the lists that are chosen, by what reads of Pages give. Exactly the bytes of

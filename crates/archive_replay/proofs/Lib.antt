@@ -1,4 +1,5 @@
 pub mod PlaceLemmas
+pub mod TextLemmas
 pub mod RisingLemmas
 pub mod IndexLemmas
 pub mod ListLemmas

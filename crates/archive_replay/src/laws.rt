@@ -2,7 +2,9 @@
 ghost use Rattle.std.specs.Prelude.{◌≡◌, ◌+◌, ◌++◌, [], ◌∷◌, ℕ, List, Option, map};
 ghost use Rattle.time_base.specs.declared.posting.Posting.{Posting};
 ghost use Rattle.time_base.specs.declared.text_place.TextPlace.{TextPlace};
+ghost use Rattle.gate_journal.specs.Spelled.{Spells};
 ghost use Rattle.version_store.specs.declared.change.Change.{Change};
+ghost use Rattle.version_store.specs.Changes.{mapped};
 ghost use Rattle.version_index.specs.Indexing.{ComesLater};
 ghost use Rattle.version_index.specs.Words as index;
 ghost use Rattle.record_codec.specs.declared.entry.Entry.{Entry};
@@ -12,14 +14,17 @@ ghost use Rattle.archive_state.specs.Answers.{IsWordList};
 ghost use Rattle.archive_state.specs.Histories.{History, changes, end_of, entry_refusal, vocabulary};
 ghost use Rattle.archive_state.specs.Legal.{IsLoadable};
 ghost use Rattle.archive_state.specs.Plans.{IsChange};
+ghost use Rattle.archive_state.specs.Stands.{bodies_of};
 ghost use Rattle.archive_replay.specs.Entries.{IsHeld, Makes, text_of};
 ghost use Rattle.archive_replay.specs.Places.{ArePlaced};
-ghost use Rattle.archive_replay.specs.Texts.{bare};
+ghost use Rattle.archive_replay.specs.Texts.{bare, text_in};
 
-/// The changes with places are the history's but for what they hold. With the change of one entry
-/// more behind them they are those of the history with that entry; a plan makes none. Does nothing.
+/// The changes with places are the history's but for what they hold, and in a journal that spells the
+/// history's entries each place has its text. With the change of one entry more behind them they are
+/// those of the history with that entry; a plan makes none. Does nothing.
 pub fn places_follow_entries()
     ensures alike { (gate : ℕ) (h : History) (cs : List (Change TextPlace)) → ArePlaced gate h cs → map bare cs ≡ map bare (changes h) }
+    ensures texts { (journal : List ℕ) (h : History) (cs : List (Change TextPlace)) → Spells journal (bodies_of h) → ArePlaced 16 h cs → map (mapped (text_in journal)) cs ≡ changes h }
     ensures change { (h : History) (cs : List (Change TextPlace)) (e : Entry) (x : Change ℕ) (held : Option TextPlace) (gate : ℕ) → ArePlaced 16 h cs → end_of h ≡ gate + 1 → Makes e x → IsHeld (gate + 18) x.held held →
         ArePlaced 16 (h ++ e ∷ []) (cs ++ record { doc = x.doc; at = x.at; held = held } ∷ []) }
     ensures plan { (h : History) (cs : List (Change TextPlace)) (plan : PlanEntry) → ArePlaced 16 h cs → ArePlaced 16 (h ++ entries.Planned plan ∷ []) cs }

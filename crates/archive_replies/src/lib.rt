@@ -4,14 +4,19 @@
 //! command that is on disk can always be answered; answers and texts may take more. Contracts see a
 //! page as the bytes that are written on it and the room that is left. To the layer above it promises
 //! that the bytes are exactly the text of the reply, as the history of an archive defines it, and
-//! that no such text is empty.
+//! that no such text is empty. `show` shows bytes whole on a sink.
 #![tactic(auto)]
 
 mod laws;
 mod page;
+mod showing;
+mod tally;
+mod verdicts;
 
 pub use laws::replies_have_bytes;
 pub use page::{REPLY_ROOM, ReplyPage, Summary};
+pub use showing::show;
+pub use tally::Tally;
 
 #[cfg(test)]
 mod tests;

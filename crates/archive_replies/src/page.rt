@@ -186,7 +186,7 @@ impl ReplyPage {
 
     /// Makes room for so many bytes more, where there is less. The cost is linear in what the page
     /// holds where it grows, which over a reply is linear in the reply.
-    fn make_room(&mut self, bytes: usize) -> Result<(), AllocError>
+    pub(crate) fn make_room(&mut self, bytes: usize) -> Result<(), AllocError>
         ensures kept { self.new.bytes ≡ self.old.bytes }
         ensures room { OnOk result (bytes ≤ self.new.room) }
     {
@@ -270,7 +270,7 @@ impl ReplyPage {
     }
 
     /// Empties the page. Constant cost.
-    fn clear(&mut self)
+    pub(crate) fn clear(&mut self)
         ensures bytes { self.new.bytes ≡ [] }
         ensures room { reply_room ≤ self.new.room }
     {
@@ -278,7 +278,7 @@ impl ReplyPage {
     }
 
     /// Adds some bytes. It takes no memory. The cost is linear in the bytes.
-    fn put(&mut self, text: &[u8])
+    pub(crate) fn put(&mut self, text: &[u8])
         requires { length text.now ≤ self.old.room }
         ensures bytes { self.new.bytes ≡ self.old.bytes ++ text.now }
         ensures room { self.old.room ≤ self.new.room + length text.now }
@@ -312,7 +312,7 @@ impl ReplyPage {
     }
 
     /// Adds a name and a number behind it. It takes no memory. Constant cost.
-    fn put_named(&mut self, name: &[u8], n: u64)
+    pub(crate) fn put_named(&mut self, name: &[u8], n: u64)
         requires { length name.now + 20 ≤ self.old.room }
         ensures bytes { self.new.bytes ≡ self.old.bytes ++ name.now ++ decimal n }
         ensures room { self.old.room ≤ self.new.room + (length name.now + 20) }

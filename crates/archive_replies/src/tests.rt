@@ -1,9 +1,9 @@
-use crate::{ReplyPage, Summary};
-use archive_state::Refusal;
+use crate::{ReplyPage, Summary, Tally};
+use archive_state::{Refusal, Verdict};
 use proposals::{Node, Segment};
 use query_eval::{Row, SpanRow};
 use std::test::Fail;
-use time_base::{DocId, Span, Time, Which};
+use time_base::{DocId, Key, Span, Time, Which};
 
 #[test]
 fn accepted_commands_are_answered_by_the_number_of_entries(rt: HostRuntime) -> Result<(), Fail> {
@@ -206,5 +206,71 @@ fn texts_stand_behind_their_length(rt: HostRuntime) -> Result<(), Fail> {
     assert_eq!(rt; page.as_bytes().len(), 1011);
     page.accepted(1);
     assert_eq!(rt; page.as_bytes(), "ok 1\n".as_bytes());
+    Ok(())
+}
+
+#[test]
+fn a_sound_archive_is_told_with_its_plans_and_segments(rt: HostRuntime) -> Result<(), Fail> {
+    let mut page = ReplyPage::new(rt.alloc())?;
+    let (words, segments) = (12, 23);
+    page.verified(&Verdict::Sound { words, segments })?;
+    assert_eq!(rt; page.as_bytes(), "sound 12 23\n".as_bytes());
+    Ok(())
+}
+
+#[test]
+fn a_byte_that_differs_has_two_digits_and_one_that_is_missing_none(
+    rt: HostRuntime,
+) -> Result<(), Fail> {
+    let mut page = ReplyPage::new(rt.alloc())?;
+    let word = Key::new(rt.alloc(), "v")?.ok_or("a key of one byte")?;
+    page.verified(&Verdict::Differs {
+        word,
+        segment: 0,
+        place: 6,
+        found: Some(2),
+        wanted: Some(171),
+    })?;
+    assert_eq!(rt; page.as_bytes(), "differs v 0 6 02 ab\n".as_bytes());
+    let word = Key::new(rt.alloc(), "wörter")?.ok_or("a key of seven bytes")?;
+    page.verified(&Verdict::Differs {
+        word,
+        segment: 2,
+        place: 23,
+        found: None,
+        wanted: Some(240),
+    })?;
+    assert_eq!(rt; page.as_bytes(), "differs wörter 2 23 -- f0\n".as_bytes());
+    Ok(())
+}
+
+#[test]
+fn a_plan_that_takes_too_much_and_a_text_that_is_none_are_told(
+    rt: HostRuntime,
+) -> Result<(), Fail> {
+    let mut page = ReplyPage::new(rt.alloc())?;
+    let word = Key::new(rt.alloc(), "v")?.ok_or("a key of one byte")?;
+    let (kept, least) = (5, 4);
+    page.verified(&Verdict::NotLeast { word, kept, least })?;
+    assert_eq!(rt; page.as_bytes(), "notleast v 5 4\n".as_bytes());
+    let at = Time::new(10).ok_or("a time of 10 seconds")?;
+    page.verified(&Verdict::BadText { doc: DocId(7), at })?;
+    assert_eq!(rt; page.as_bytes(), "badtext 7 10\n".as_bytes());
+    Ok(())
+}
+
+#[test]
+fn a_sample_is_told_in_two_lines(rt: HostRuntime) -> Result<(), Fail> {
+    let mut page = ReplyPage::new(rt.alloc())?;
+    let tally = Tally {
+        accepted: 7,
+        refused: 3,
+        hits: 2,
+        read: 4,
+    };
+    let (words, segments) = (5, 5);
+    page.generated(2, &tally, &Verdict::Sound { words, segments })?;
+    let lines = "generated 2 accepted 7 refused 3 hits 2 read 4\nsound 5 5\n";
+    assert_eq!(rt; page.as_bytes(), lines.as_bytes());
     Ok(())
 }

@@ -11,7 +11,6 @@ use Rattle.record_codec.specs.Spelling.{spelling}
 use Rattle.record_codec.specs.declared.entry.Entry.{Entry}
 use Rattle.record_codec.proofs.EntryLemmas.{one_entry}
 use Rattle.record_codec.specs.declared.entry.Entry.TheVariants.{Arrive, Delete, Planned}
-use Rattle.record_codec.specs.declared.plan.PlanEntry.{PlanEntry}
 use Rattle.stored_plans.specs.Plans.{Asks, IsGoodPlan, IsFitFor}
 use Rattle.stored_plans.proofs.GoodLemmas.{good_is_fit}
 use Rattle.archive_state.specs.Histories.{History, changes, acts, end_of}

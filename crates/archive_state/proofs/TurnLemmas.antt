@@ -57,7 +57,7 @@ use Rattle.commands.specs.declared.command.Item.TheVariants as items
 use Rattle.commands.specs.declared.command.Kind.{Kind}
 use Rattle.commands.specs.declared.command.Kind.TheVariants.{Guarantee}
 use Rattle.commands.specs.declared.text.Text.TheVariants as texts
-use Rattle.archive_state.specs.Steps.{Reply, Accepted, Refused, Found, Spanned, Shown, Proposed, Planned, Summary, Adds, Declines, IsRepliedBy, IsReplied, Finds, FindsBy, Spans, SpansBy, Proposes, ProposesPlan, Plans, StoresPlan, spelled_key, CarriesOut, Step, too_long, bad_text, full_journal, arrival_refusal, deletion_refusal}
+use Rattle.archive_state.specs.Steps.{Reply, Accepted, Refused, Found, Spanned, Shown, Proposed, Planned, Verified, Summary, Adds, Declines, IsRepliedBy, IsReplied, Finds, FindsBy, Spans, SpansBy, Proposes, ProposesPlan, Plans, StoresPlan, spelled_key, sound_of, CarriesOut, Step, too_long, bad_text, full_journal, arrival_refusal, deletion_refusal}
 use Rattle.archive_state.specs.Runs.{Turn}
 use Rattle.archive_state.proofs.HistoryLemmas.{legal-push, legal_loads}
 use Rattle.archive_state.proofs.StoringLemmas.{plan_turn, plans_legal}
@@ -236,7 +236,7 @@ each_command h (commands.Between span expr) legal =
 each_command h (commands.Certificate word) legal =
     let shown = each_certifies h word legal in
     (record { reply = shown.0; next = h }, (refl, shown.1))
-each_command h commands.Verify legal = declines_turn h refusals.Line
+each_command h commands.Verify legal = (record { reply = Verified (sound_of h); next = h }, (refl, refl))
 
 pub each_turn : (h : History) (item : Item) → IsLegal h → (turn : Turn Reply History) × Step h item turn.reply turn.next
 each_turn h (items.Command c) legal = each_command h c legal
@@ -354,7 +354,7 @@ one_command h (commands.Plan word kind fraction) reply other next then free a b 
 one_command h (commands.Propose word fraction) reply other next then free a b = absurd (free tt)
 one_command h (commands.Between span expr) reply other next then free a b = one_stays h reply other next then a.0 b.0 (one_spans h span expr reply other a.1 b.1)
 one_command h (commands.Certificate word) reply other next then free a b = one_stays h reply other next then a.0 b.0 (one_certifies h word reply other a.1 b.1)
-one_command h commands.Verify reply other next then free a b = one_declines h refusals.Line reply other next then a b
+one_command h commands.Verify reply other next then free a b = one_stays h reply other next then a.0 b.0 (a.1 ∙ sym b.1)
 
 pub one_turn_only : (h : History) (item : Item) (reply other : Reply) (next then : History) → (IsChoice item → ⊥) → Step h item reply next → Step h item other then → IsOne reply other next then
 one_turn_only h (items.Command c) reply other next then free a b = one_command h c reply other next then free a b

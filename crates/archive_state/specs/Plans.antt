@@ -1,5 +1,5 @@
 -- The plans of a history that are live: of each word the one that was stored last. With each stands where its entry lies in the journal.
-use Rattle.std.specs.Prelude.{ℕ, ◌+◌, Bool, not, bytes_eq, List, [], ◌∷◌, ◌++◌, length, map, filter, Option, Some, None}
+use Rattle.std.specs.Prelude.{ℕ, ◌+◌, Bool, not, bytes_eq, List, [], ◌∷◌, ◌++◌, length, map, filter, sum_by, Option, Some, None}
 use Rattle.std.specs.List.{flat_map}
 use Rattle.time_base.specs.declared.extent.Extent.{Extent}
 use Rattle.record_codec.specs.Spelling.{spelling}
@@ -37,6 +37,10 @@ live_after gate live (entry ∷ entries) = live_after (gate + 5 + length (spelli
 -- the live plans of a history, in the order of their entries; the first gate lies behind the header of 16 bytes
 abbrev pub live_plans : History → List StoredPlan
 live_plans history = live_after 16 [] history
+
+-- how many segments these plans have together
+abbrev pub segments_of : List StoredPlan → ℕ
+segments_of plans = sum_by (λ stored. length stored.plan.cuts) plans
 
 -- the plan of the first, where there is one
 abbrev pub first_plan : List StoredPlan → Option PlanEntry

@@ -1,5 +1,5 @@
 -- The text of a reply: one or more lines.
-use Rattle.std.specs.Prelude.{ℕ, List, [], ◌∷◌, ◌++◌, length, Option, Some, None, codes}
+use Rattle.std.specs.Prelude.{ℕ, ◌/◌, ◌%◌, List, [], ◌∷◌, ◌++◌, length, get_or, Option, Some, None, codes}
 use Rattle.std.specs.List.{flat_map}
 use Rattle.std.specs.Fmt.{decimal}
 use Rattle.time_base.specs.declared.which.Which.{Which}
@@ -10,8 +10,10 @@ use Rattle.query_eval.specs.declared.answer.Row.{Row}
 use Rattle.query_eval.specs.declared.spans.SpanRow.{SpanRow}
 use Rattle.archive_state.specs.declared.refusal.Refusal.{Refusal}
 use Rattle.archive_state.specs.declared.refusal.Refusal.TheVariants as refusals
+use Rattle.archive_state.specs.declared.verdict.Verdict.{Verdict}
+use Rattle.archive_state.specs.declared.verdict.Verdict.TheVariants.{Sound, Differs, NotLeast, BadText}
 use Rattle.archive_state.specs.Refusals.{number_of}
-use Rattle.archive_state.specs.Steps.{Reply, Accepted, Refused, Found, Spanned, Shown, Proposed, Planned, Summary}
+use Rattle.archive_state.specs.Steps.{Reply, Accepted, Refused, Found, Spanned, Shown, Proposed, Planned, Verified, Summary}
 
 -- the name of a limit in a reply
 abbrev pub which_text : Which → List ℕ
@@ -93,6 +95,24 @@ abbrev pub summary_text : Summary → List ℕ
 summary_text s = codes "plan " ++ decimal s.length ++ codes " segments " ++ decimal s.segments ++ codes " space " ++ decimal s.space ++ codes " full " ++ decimal s.full
     ++ codes " horizon " ++ decimal s.horizon ++ cost_text s.cost ++ 10 ∷ []
 
+-- a digit in base 16
+abbrev pub digit_text : ℕ → ℕ
+digit_text digit = get_or (codes "0123456789abcdef") digit 0
+
+-- a byte as two digits in base 16; or that there is none
+abbrev pub byte_text : Option ℕ → List ℕ
+byte_text None = codes "--"
+byte_text (Some byte) = digit_text (byte / 16) ∷ digit_text (byte % 16) ∷ []
+
+-- what a check tells: how many words with a plan are as they should be, and how many segments they have; the first byte that differs, as it was
+-- found and as it is wanted; what a plan takes and the least that would do; or the version whose text isn't UTF-8
+abbrev pub verdict_text : Verdict → List ℕ
+verdict_text (Sound words segments) = codes "sound " ++ decimal words ++ codes " " ++ decimal segments
+verdict_text (Differs word segment place found wanted) =
+    codes "differs " ++ word ++ codes " " ++ decimal segment ++ codes " " ++ decimal place ++ codes " " ++ byte_text found ++ codes " " ++ byte_text wanted
+verdict_text (NotLeast word kept least) = codes "notleast " ++ word ++ codes " " ++ decimal kept ++ codes " " ++ decimal least
+verdict_text (BadText doc at) = codes "badtext " ++ decimal doc.0 ++ codes " " ++ decimal at.seconds
+
 -- the text of a reply
 abbrev pub reply_text : Reply → List ℕ
 reply_text (Accepted count) = codes "ok " ++ decimal count ++ 10 ∷ []
@@ -102,3 +122,4 @@ reply_text (Spanned rows read) = spans_text rows read
 reply_text (Shown text) = shown_text text
 reply_text (Proposed segments nodes total) = proposal_text segments nodes total
 reply_text (Planned summary) = summary_text summary
+reply_text (Verified verdict) = verdict_text verdict ++ 10 ∷ []

@@ -22,8 +22,9 @@ use Rattle.commands.specs.declared.command.Item.{Item}
 use Rattle.commands.specs.declared.command.Item.TheVariants as items
 use Rattle.commands.specs.declared.command.Kind.TheVariants.{Guarantee}
 use Rattle.commands.specs.declared.text.Text.TheVariants.{Bytes}
-use Rattle.archive_state.specs.Steps.{Accepted, Refused, Planned, Step}
+use Rattle.archive_state.specs.Steps.{Accepted, Refused, Planned, Verified, Step}
 use Rattle.archive_state.specs.Replies.{reply_text}
+use Rattle.archive_state.specs.declared.verdict.Verdict.TheVariants.{Sound, Differs, NotLeast, BadText}
 
 abbrev doc : ℕ → DocId
 doc n = record { 0 = n }
@@ -65,6 +66,15 @@ alive_from_ten = (refl, refl)
 texts : (reply_text (Accepted 12) ≡ codes "ok 12" ++ 10 ∷ []) × (reply_text (Refused refusals.SameTime) ≡ codes "no 3 SameTime" ++ 10 ∷ [])
 unfolding digits
 texts = (refl, refl)
+
+-- what a check tells as text: a byte has two digits, and one that is missing has none
+verdict_texts : (reply_text (Verified (Sound 1 3)) ≡ codes "sound 1 3" ++ 10 ∷ [])
+    × (reply_text (Verified (Differs (codes "v") 0 6 (Some 2) (Some 171))) ≡ codes "differs v 0 6 02 ab" ++ 10 ∷ [])
+    × (reply_text (Verified (Differs (codes "v") 2 23 None (Some 240))) ≡ codes "differs v 2 23 -- f0" ++ 10 ∷ [])
+    × (reply_text (Verified (NotLeast (codes "v") 5 4)) ≡ codes "notleast v 5 4" ++ 10 ∷ [])
+    × (reply_text (Verified (BadText (doc 7) (record { seconds = 10; before_now = lit< tt }))) ≡ codes "badtext 7 10" ++ 10 ∷ [])
+unfolding digits
+verdict_texts = (refl, refl, refl, refl, refl)
 
 -- document 1 has the word `v` in [10, 40), and document 2 in [20, 30)
 abbrev four_changes : History

@@ -40,11 +40,13 @@ use Rattle.query_eval.specs.declared.answer.Row.{Row}
 use Rattle.query_eval.specs.declared.spans.SpanRow.{SpanRow}
 use Rattle.archive_state.specs.declared.refusal.Refusal.{Refusal}
 use Rattle.archive_state.specs.declared.refusal.Refusal.TheVariants as refusals
+use Rattle.archive_state.specs.declared.verdict.Verdict.{Verdict}
+use Rattle.archive_state.specs.declared.verdict.Verdict.TheVariants.{Sound}
 use Rattle.archive_state.specs.Histories.{History, entry_refusal, end_of, text_at}
 use Rattle.archive_state.specs.Answers.{IsAnswerAt, IsSpanAnswerAt}
 use Rattle.archive_state.specs.Chosen.{IsReadFor}
 use Rattle.archive_state.specs.Planning.{OfPhrase, OfTerm, IsListUpTo, last_second}
-use Rattle.archive_state.specs.Plans.{live_extents, plan_of}
+use Rattle.archive_state.specs.Plans.{live_extents, live_plans, plan_of, segments_of}
 
 -- what is told of a plan that is stored: how many entries the history has now, how many segments the plan has, how many postings their sublists
 -- have together, how many postings the word's list has up to the horizon, and the horizon in seconds; and of a plan under a space bound, what its
@@ -73,6 +75,8 @@ pub data Reply : Type 0 where
   Proposed : List Segment → List Node → ℕ → Reply
   -- a plan is stored
   Planned : Summary → Reply
+  -- the archive was checked by its texts
+  Verified : Verdict → Reply
 
 -- the text has more bytes than a text may have
 abbrev pub too_long : List ℕ → Option Refusal
@@ -213,8 +217,11 @@ abbrev pub Arrives : History → DocId → Time → Text → Reply → History �
 Arrives old doc at (texts.Bytes text) reply new = Adds old (entries.Arrive doc at text) (arrival_refusal old doc at text) reply new
 Arrives old doc at (texts.TooLong bytes) reply new = Declines old (refusals.TooLong most_text) reply new
 
--- From the old history, the archive may give this reply to the command and go on to the new one. A command that isn't built yet is answered
--- as a line that is no command.
+-- what a check tells of a history: all is as it should be, so many words have a live plan, and these have so many segments
+abbrev pub sound_of : History → Verdict
+sound_of history = Sound (length (live_plans history)) (segments_of (live_plans history))
+
+-- from the old history, the archive may give this reply to the command and go on to the new one
 abbrev pub CarriesOut : History → Command → Reply → History → Type 0
 CarriesOut old (commands.Arrive doc at text) reply new = Arrives old doc at text reply new
 CarriesOut old (commands.Delete doc at) reply new = Adds old (entries.Delete doc at) (deletion_refusal old doc at) reply new
@@ -224,7 +231,7 @@ CarriesOut old (commands.Plan word kind fraction) reply new = Plans old word kin
 CarriesOut old (commands.Propose word fraction) reply new = (new ≡ old) × Proposes old word fraction reply
 CarriesOut old (commands.Between span expr) reply new = (new ≡ old) × Spans old span expr reply
 CarriesOut old (commands.Certificate word) reply new = (new ≡ old) × Certifies old word reply
-CarriesOut old commands.Verify reply new = Declines old refusals.Line reply new
+CarriesOut old commands.Verify reply new = (new ≡ old) × (reply ≡ Verified (sound_of old))
 
 -- the step of the machine: a command is carried out, and a line that is none is refused
 abbrev pub Step : History → Item → Reply → History → Type 0

@@ -13,6 +13,7 @@
 mod laws;
 mod refusal;
 mod stored;
+mod verdict;
 
 pub use laws::{
     a_history_is_legal_entry_by_entry, an_archive_is_refused_at_one_place,
@@ -21,3 +22,4 @@ pub use laws::{
 };
 pub use refusal::Refusal;
 pub use stored::StoredPlan;
+pub use verdict::Verdict;

@@ -1,5 +1,5 @@
 -- The plans so far are sound.
-use Rattle.std.specs.Prelude.{◌≡◌, List, ℕ, All, length, take, sum_by}
+use Rattle.std.specs.Prelude.{◌≡◌, List, ℕ, All, length, map, take, sum_by}
 use Rattle.machine_model.specs.Calls.{OnlyReads}
 use Rattle.version_store.specs.declared.change.Change.{Change}
 use Rattle.version_index.specs.Indexes.{state_of, Indexes}
@@ -7,10 +7,10 @@ use Rattle.archive_state.specs.declared.stored.StoredPlan.{StoredPlan}
 use Rattle.archive_check.specs.Verdicts.{IsSound}
 use Rattle.archive_check.proofs.verifying.check_plans.Given as goal
 
-abbrev pub invariant-loop-stored : goal.invariant-loop-stored
-invariant-loop-stored g l = record {
+abbrev pub invariant-loop-turn : goal.invariant-loop-turn
+invariant-loop-turn g l = record {
   only : g.D.Disk.only l.fn.disk l.disk;
   same : OnlyReads (g.D.Disk.disk l.fn.disk) (g.D.Disk.disk l.disk);
-  sound : g.D.Disk.disk_tells → (texts : List (Change (List ℕ))) → Indexes (state_of l.index) texts → All (λ s. IsSound texts (g.D.Disk.disk l.fn.disk).holds.pages s.plan) (take l.stored-index l.plans);
-  segments_are : l.segments ≡ sum_by (λ (s : StoredPlan). length s.plan.cuts) (take l.stored-index l.plans);
+  sound : g.D.Disk.disk_tells → (texts : List (Change (List ℕ))) → Indexes (state_of l.index) texts → All (λ s. IsSound texts (g.D.Disk.disk l.fn.disk).holds.pages s.plan) (take l.turn-index (map (λ t. t.stored.now) l.turns));
+  segments_are : l.segments ≡ sum_by (λ (s : StoredPlan). length s.plan.cuts) (take l.turn-index (map (λ t. t.stored.now) l.turns));
 }

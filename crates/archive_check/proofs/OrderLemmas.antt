@@ -1,0 +1,78 @@
+-- Plans in the order of the numbers of their words.
+use Rattle.std.proofs.Common.{◌≡◌, ◌==◌, ℕ, ◌<◌, Bool, true, false, cond, nat_lt, bytes_eq, List, [], ◌∷◌, length, map, get_or, filter, All, Some, None, ap, sym, subst, ◌∙◌, arith}
+use Rattle.std.specs.List.{position_or_len}
+use Rattle.std.specs.List.Sorted.{IsNonDecreasingBy, IsPermutation}
+use Rattle.std.proofs.lemmas.List.{get_or-map, length-map}
+use Rattle.std.proofs.lemmas.List.Elements.{All-nil, All-cons, All-head, All-tail}
+use Rattle.std.proofs.lemmas.List.Sorted.{All-permutation}
+use Rattle.fold_tokens.specs.Words.{number_of}
+use Rattle.fold_tokens.proofs.WordLemmas.{absent-none, new_place}
+use Rattle.archive_state.specs.declared.stored.StoredPlan.{StoredPlan}
+use Rattle.archive_check.specs.declared.ordering.Turn.{Turn}
+use Rattle.archive_check.specs.Orders.{place_of, AreByNumber}
+use Rattle.archive_check.proofs.Sorting.{ascends, rises, in_order, in_order-up, in_order-same, in_order-swaps, one_order, shown-of, shown-up}
+
+-- ---- there is one order
+
+pub put_in_order : List (List ℕ) → List StoredPlan → List StoredPlan
+put_in_order words plans = in_order (place_of words) plans
+
+pub are_put : (words : List (List ℕ)) (plans : List StoredPlan) → AreByNumber words plans (put_in_order words plans)
+unfolding put_in_order
+are_put words plans = record { ascending = rises (place_of words) (in_order (place_of words) plans) (in_order-up (place_of words) plans); same = λ n. in_order-same (place_of words) n plans }
+
+pub one_way : (words : List (List ℕ)) (plans one other : List StoredPlan) → AreByNumber words plans one → AreByNumber words plans other → one ≡ other
+one_way words plans one other a b =
+    one_order (place_of words) one other (ascends (place_of words) one a.ascending) (ascends (place_of words) other b.ascending) (λ n. a.same n ∙ sym (b.same n))
+
+-- the plans stand in another order, and that is all
+pub are_moved : (words : List (List ℕ)) (plans ordered : List StoredPlan) → AreByNumber words plans ordered → IsPermutation plans ordered
+unfolding put_in_order
+are_moved words plans ordered by_number =
+    subst (IsPermutation plans) (one_way words plans (in_order (place_of words) plans) ordered (are_put words plans) by_number) (in_order-swaps (place_of words) plans)
+
+-- ---- a place by a number
+
+-- the number of a word is its place
+pub place_is : (word : List ℕ) (words : List (List ℕ)) (n : ℕ) → Some n ≡ number_of word words → n ≡ position_or_len (bytes_eq word) words
+place_is word words n is = go (position_or_len (bytes_eq word) words) (length words) is
+  where
+    go : (p l : ℕ) → Some n ≡ cond (nat_lt p l) (Some p) None → n ≡ p
+    go p l e = by (nat_lt p l) e
+      where
+        by : (b : Bool) → Some n ≡ cond b (Some p) None → n ≡ p
+        by true e = cc
+        by false e = absurd cc
+
+pub no_place : (word : List ℕ) (words : List (List ℕ)) → None ≡ number_of word words → length words ≡ position_or_len (bytes_eq word) words
+no_place word words is = sym (new_place word words (absent-none word words (sym is)))
+
+-- ---- turns
+
+abbrev plan_in : Turn → StoredPlan
+plan_in turn = turn.stored.now
+
+pub turns_stand : (words : List (List ℕ)) (plans : List StoredPlan) (old new : List Turn) → map (λ t. t.stored.now) old ≡ plans → All (λ t. t.place ≡ place_of words t.stored.now) old → IsPermutation old new
+    → IsNonDecreasingBy (λ t. t.place) new → ((n : ℕ) → filter (λ t. t.place == n) new ≡ filter (λ t. t.place == n) old) → AreByNumber words plans (map (λ t. t.stored.now) new)
+turns_stand words plans old new are placed moved up stable =
+    let P : Turn → Type 0 = λ t. t.place ≡ place_of words t.stored.now in
+    let place : Turn → ℕ = λ t. t.place in
+    let there : All P new = All-permutation P old new moved placed in
+    record {
+      ascending = rises (place_of words) (map plan_in new) (shown-up plan_in place (place_of words) new there (ascends place new up));
+      same = λ n.
+          shown-of plan_in place (place_of words) n new there ∙ ap (map plan_in) (stable n) ∙ sym (shown-of plan_in place (place_of words) n old placed)
+          ∙ ap (λ (l : List StoredPlan). filter (λ s. place_of words s == n) l) are;
+    }
+
+-- what holds of plans holds of them in turn
+pub each_in_turn : (P : StoredPlan → Type 0) (turns : List Turn) → All P (map (λ t. t.stored.now) turns) → All (λ t. P t.stored.now) turns
+each_in_turn P [] all = All-nil (λ t. P t.stored.now)
+each_in_turn P (t ∷ turns) all = All-cons (λ u. P u.stored.now) t turns (All-head P t.stored.now (map plan_in turns) all) (each_in_turn P turns (All-tail P t.stored.now (map plan_in turns) all))
+
+-- the plan of a turn, among the plans in turn
+pub plans_within : (turns : List Turn) (i : ℕ) → i < length turns → i < length (map (λ t. t.stored.now) turns)
+plans_within turns i within = omega (arith, within, length-map turns plan_in)
+
+pub plan_at : (turns : List Turn) (i : ℕ) (turn : Turn) → i < length turns → turn ≡ get_or turns i turn → turn.stored.now ≡ get_or (map (λ t. t.stored.now) turns) i turn.stored.now
+plan_at turns i turn within is = ap plan_in is ∙ sym (get_or-map plan_in turns i turn turn.stored.now within)
