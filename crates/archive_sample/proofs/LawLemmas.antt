@@ -1,0 +1,39 @@
+-- Runs over the commands of samples have one report.
+use Rattle.std.proofs.Common.{◌≡◌, List, [], ◌∷◌, ◌++◌, map, refl, ap, subst, sym, ◌∙◌}
+use Rattle.std.proofs.lemmas.List.{same_from_push}
+use Rattle.commands.specs.declared.command.Command.{Command}
+use Rattle.commands.specs.declared.command.Command.TheVariants as plain
+use Rattle.commands.specs.declared.command.Item.TheVariants as items
+use Rattle.archive_state.specs.declared.verdict.Verdict.{Verdict}
+use Rattle.archive_state.specs.Histories.{History}
+use Rattle.archive_state.specs.Steps.{Reply, Verified, Step, sound_of}
+use Rattle.archive_state.specs.Runs.{Turn, IsRun}
+use Rattle.archive_replies.specs.Tallies.{tally_of}
+use Rattle.archive_replies.specs.declared.tally.Tally.{Tally}
+use Rattle.archive_sample.specs.Filling.{replies_of}
+use Rattle.archive_sample.specs.Laws.{ReportsAreOne, RunsHaveReports}
+use Rattle.archive_sample.proofs.FillLemmas.{sample_ends}
+
+-- the last reply of a run whose last command is a check
+checked_last : (front : List Command) (h : History) (turns : List (Turn Reply History)) → IsRun Step h (map items.Command (front ++ plain.Verify ∷ [])) turns
+    → (before : List Reply) × (verdict : Verdict) × (replies_of turns ≡ before ++ Verified verdict ∷ [])
+checked_last [] h [] run = absurd run
+checked_last [] h (turn ∷ []) run = ([], sound_of h, ap (λ (r : Reply). r ∷ []) run.0.1)
+checked_last [] h (turn ∷ next ∷ turns) run = absurd run.1
+checked_last (command ∷ front) h [] run = absurd run
+checked_last (command ∷ front) h (turn ∷ turns) run =
+    let is = checked_last front turn.next turns run.1 in
+    (turn.reply ∷ is.0, is.1, ap (λ (l : List Reply). turn.reply ∷ l) is.2)
+
+pub reports : RunsHaveReports
+reports seed count h turns run =
+    let ends = sample_ends seed count in
+    let R : List Command → Type 0 = λ l. IsRun Step h (map items.Command l) turns in
+    let is = checked_last ends.0 h turns (subst R ends.1 run) in
+    (record { tally = tally_of (replies_of turns); verdict = is.1 }, record { tally_is = refl; front = is.0; ends = is.2 })
+
+pub one_report : ReportsAreOne
+one_report replies one other is was =
+    let same = same_from_push is.front was.front (Verified one.verdict) (Verified other.verdict) (sym is.ends ∙ was.ends) in
+    let verdict : one.verdict ≡ other.verdict = cc in
+    ap (λ (t : Tally). record { tally = t; verdict = one.verdict }) (is.tally_is ∙ sym was.tally_is) ∙ ap (λ (v : Verdict). record { tally = other.tally; verdict = v }) verdict

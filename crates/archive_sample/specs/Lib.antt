@@ -1,0 +1,3 @@
+pub mod Filling
+pub mod Carrying
+pub mod Laws

@@ -1,0 +1,52 @@
+//! Counting what comes of commands.
+ghost use Rattle.std.specs.Prelude.{◌≡◌, ◌+◌, [], ◌∷◌, ◌++◌, List, Ok, IfOk, IfErr};
+ghost use Rattle.archive_state.specs.Steps.{Reply};
+ghost use Rattle.archive_replies.specs.Tallies.{tally_of};
+ghost use Rattle.archive_sample.specs.Carrying.{IsTold};
+
+use crate::error::FillError;
+use crate::outcome::Outcome;
+use archive_replies::Tally;
+
+/// The counts over no command.
+pub(crate) const NOTHING: Tally = Tally {
+    accepted: 0,
+    refused: 0,
+    hits: 0,
+    read: 0,
+};
+
+/// The counts with the outcome of one command more. It is `Memory` where a count would pass
+/// 2^64 - 1. Constant cost.
+pub(crate) fn with_outcome(tally: Tally, outcome: &Outcome) -> Result<Tally, FillError>
+    ensures counts { (replies : List Reply) (reply : Reply) → tally ≡ tally_of replies → IsTold reply (Ok outcome.now) → IfOk result (λ t. t ≡ tally_of (replies ++ reply ∷ [])) }
+    ensures full { IfErr result (λ error. error ≡ FillError.Memory) }
+{
+    match outcome {
+        Outcome::Accepted => Ok(Tally {
+            accepted: sum(tally.accepted, 1)?,
+            ..tally
+        }),
+        Outcome::Refused => Ok(Tally {
+            refused: sum(tally.refused, 1)?,
+            ..tally
+        }),
+        Outcome::Found { hits, read } => Ok(Tally {
+            hits: sum(tally.hits, *hits)?,
+            read: sum(tally.read, *read)?,
+            ..tally
+        }),
+        Outcome::Checked(_) => Ok(tally),
+    }
+}
+
+/// A sum of counts.
+fn sum(count: u64, more: u64) -> Result<u64, FillError>
+    ensures sum { IfOk result (λ n. n ≡ count + more) }
+    ensures full { IfErr result (λ error. error ≡ FillError.Memory) }
+{
+    match count.checked_add(more) {
+        Some(sum) => Ok(sum),
+        None => Err(FillError::Memory),
+    }
+}
