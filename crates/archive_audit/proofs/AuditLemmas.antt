@@ -1,0 +1,126 @@
+-- How an audit ends, and what it leaves.
+use Rattle.std.proofs.Common.{◌≡◌, ◌⊎◌, ℕ, ◌≤◌, List, [], Ok, Err, IsErrOf, refl, inl, inr, ap, sym, subst, ◌∙◌, arith}
+use Rattle.std.proofs.lemmas.List.{append-nil}
+use Rattle.machine_model.specs.Areas.{Bytes}
+use Rattle.machine_model.specs.Calls.{OnlyReads}
+use Rattle.machine_model.specs.Causes.{Rose}
+use Rattle.machine_model.specs.Images.{MayLeave}
+use Rattle.machine_model.specs.Moments.{LeavesOnly}
+use Rattle.machine_model.specs.Pushes.{IsPrefix, OnlyShows}
+use Rattle.machine_model.specs.States.{DiskState, Moment}
+use Rattle.machine_model.proofs.MomentLemmas.{joined, left_now, goes_on_reads}
+use Rattle.archive_state.specs.Histories.{History}
+use Rattle.archive_state.specs.Stands.{Stands}
+use Rattle.archive_state.specs.Steps.{sound_of}
+use Rattle.archive_state.specs.declared.verdict.Verdict.{Verdict}
+use Rattle.archive_state.proofs.HistoryLemmas.{legal_loads}
+use Rattle.archive_state.proofs.StandsLemmas.{spells_one_history}
+use Rattle.archive_check.specs.Checked.{IsChecked}
+use Rattle.archive_check.specs.Verdicts.{Tells, with_texts}
+use Rattle.archive_check.proofs.SoundLemmas.{stands_sound}
+use Rattle.archive_check.proofs.LawLemmas.{verdicts_are_one}
+use Rattle.archive_replay.proofs.TextLemmas.{texts_are}
+use Rattle.version_store.specs.declared.change.Change.{Change}
+use Rattle.archive_state.specs.Plans.{live_plans}
+use Rattle.archive_audit.specs.Laws.{OneVerdictOnAnImage}
+use Rattle.archive_replay.specs.declared.error.LoadError.{LoadError}
+use Rattle.archive_replay.specs.declared.error.LoadError.TheVariants as loads
+use Rattle.archive_audit.specs.declared.status.AuditStatus.{AuditStatus}
+use Rattle.archive_audit.specs.declared.status.AuditStatus.TheVariants.{Sound, Faulty, Usage, NotArchive, Disk, Sink, Memory}
+use Rattle.archive_audit.specs.Audits.{IsVerdictOn}
+use Rattle.archive_audit.specs.Statuses.{EndsEarly, status_of_load, status_of_verdict}
+
+-- ---- statuses
+
+-- a count that rose since a later moment rose since an earlier one
+pub rose_earlier : (a b c : ℕ) → a ≤ b → Rose b c → Rose a c
+rose_earlier a b c later rose = omega (arith, later, rose)
+
+-- an audit whose archive isn't opened is refused at that place, or the disk failed, or there was no memory
+pub load_refused : (error : LoadError) (at : ℕ) → ((place : ℕ) → error ≡ loads.NotArchive place → place ≡ at)
+    → IsErrOf {T = Verdict} (Err (status_of_load error)) (NotArchive at) ⊎ (IsErrOf {T = Verdict} (Err (status_of_load error)) Disk ⊎ IsErrOf {T = Verdict} (Err (status_of_load error)) Memory)
+load_refused loads.Failed at same = inr (inl refl)
+load_refused (loads.NotArchive place) at same = inl (ap (λ n. Err (NotArchive n)) (same place refl))
+load_refused loads.Memory at same = inr (inr refl)
+
+-- and so is one that ends with that
+pub refused_is : (status : AuditStatus) (at : ℕ) → IsErrOf {T = Verdict} (Err status) (NotArchive at) ⊎ (IsErrOf {T = Verdict} (Err status) Disk ⊎ IsErrOf {T = Verdict} (Err status) Memory)
+    → (status ≡ NotArchive at) ⊎ ((status ≡ Disk) ⊎ (status ≡ Memory))
+refused_is status at (inl is) = inl cc
+refused_is status at (inr (inl is)) = inr (inl cc)
+refused_is status at (inr (inr is)) = inr (inr cc)
+
+-- where there is a verdict, nothing was refused
+pub not_refused : (verdict : Verdict) (at : ℕ) → IsErrOf {E = AuditStatus} (Ok verdict) (NotArchive at) ⊎ (IsErrOf {E = AuditStatus} (Ok verdict) Disk ⊎ IsErrOf {E = AuditStatus} (Ok verdict) Memory) → ⊥
+not_refused verdict at (inl is) = absurd cc
+not_refused verdict at (inr (inl is)) = absurd cc
+not_refused verdict at (inr (inr is)) = absurd cc
+
+-- an audit of an archive that came to no verdict, and whose disk didn't fail, had no memory
+pub early_completes : (status : AuditStatus) → EndsEarly status → ((at : ℕ) → status ≡ NotArchive at → ⊥) → (status ≡ Disk → ⊥) → (status ≡ Sound) ⊎ ((status ≡ Faulty) ⊎ (status ≡ Memory))
+early_completes Sound early archive disk = absurd early
+early_completes Faulty early archive disk = absurd early
+early_completes Usage early archive disk = absurd early
+early_completes (NotArchive at) early archive disk = absurd (archive at refl)
+early_completes Disk early archive disk = absurd (disk refl)
+early_completes Sink early archive disk = absurd early
+early_completes Memory early archive disk = inr (inr refl)
+
+-- an audit that ended well ends as its verdict tells
+pub decided : (status told : AuditStatus) → (status ≡ told) ⊎ ((status ≡ Sink) ⊎ (status ≡ Memory)) → (status ≡ Sound) ⊎ (status ≡ Faulty) → status ≡ told
+decided status told (inl is) which = is
+decided status told (inr (inl is)) (inl sound) = absurd cc
+decided status told (inr (inl is)) (inr faulty) = absurd cc
+decided status told (inr (inr is)) (inl sound) = absurd cc
+decided status told (inr (inr is)) (inr faulty) = absurd cc
+
+-- ---- verdicts
+
+-- what stands is sound
+pub stands_as_sound : (history : History) (image : Bytes) (verdict : Verdict) → Stands history image → IsVerdictOn image verdict → status_of_verdict verdict ≡ Sound
+stands_as_sound history image verdict stands is =
+    let one : is.loaded ≡ history = spells_one_history image.journal is.loaded history is.spelled is.loadable stands.spelled (legal_loads history stands.legal) in
+    let C : History → Type 0 = λ h. IsChecked h image verdict in
+    let sound : verdict ≡ sound_of history = stands_sound history image verdict stands (subst C one is.checked) in
+    ap status_of_verdict sound
+
+-- the history that an image spells is one, and its texts are those that stand there; so there is one verdict
+pub one_verdict_on : OneVerdictOnAnImage
+one_verdict_on image one other is also =
+    let same : also.loaded ≡ is.loaded = spells_one_history image.journal also.loaded is.loaded also.spelled also.loadable is.spelled is.loadable in
+    let C : History → Type 0 = λ h. IsChecked h image other in
+    let there : IsChecked is.loaded image other = subst C same also.checked in
+    let alike : with_texts image.journal there.0 ≡ with_texts image.journal is.checked.0
+    = texts_are image.journal is.loaded there.0 is.spelled there.1 ∙ sym (texts_are image.journal is.loaded is.checked.0 is.spelled is.checked.1) in
+    let T : List (Change (List ℕ)) → Type 0 = λ l. Tells other l image.pages (live_plans is.loaded) in
+    verdicts_are_one image.journal is.checked.0 image.pages (live_plans is.loaded) one other is.checked.2 (subst T alike there.2)
+
+-- so no audit ends with a fault that told that
+pub not_faulty : (status told : AuditStatus) → told ≡ Sound → status ≡ told → status ≡ Faulty → ⊥
+not_faulty status told sound is faulty = absurd cc
+
+-- ---- the disk
+
+-- an image that was allowed at the start, beside bytes that go on from those shown then
+abbrev WasAllowed : DiskState → List ℕ → Bytes → List ℕ → Type 0
+WasAllowed old shown image beside = MayLeave old.now image × IsPrefix shown beside
+
+-- where nothing is done, each image was allowed
+pub still_images : (d : DiskState) (shown : List ℕ) → d.now.beside ≡ shown → LeavesOnly d d (λ image beside. MayLeave d.now image × IsPrefix shown beside)
+still_images d shown beside = left_now d (WasAllowed d shown) (λ image allowed. (allowed, ([], beside ∙ sym (append-nil shown))))
+
+-- reads leave that
+pub read_images : (old mid : DiskState) (shown : List ℕ) → old.now.beside ≡ shown → OnlyReads old mid → LeavesOnly old mid (λ image beside. MayLeave old.now image × IsPrefix shown beside)
+read_images old mid shown beside same =
+    let L : DiskState → Type 0 = λ d. LeavesOnly old d (WasAllowed old shown) in
+    subst L (sym same) (still_images old shown beside)
+
+-- and so do pushes behind them
+pub shown_images : (old mid new : DiskState) (before between after : List ℕ) → old.now.beside ≡ before → between ≡ before → OnlyReads old mid → OnlyShows mid new between after
+    → LeavesOnly old new (λ image beside. MayLeave old.now image × IsPrefix before beside)
+shown_images old mid new before between after beside same reads shows =
+    joined (WasAllowed old before) (goes_on_reads old mid reads) (read_images old mid before beside reads) shows.goes_on (λ image other left.
+    let is = shows.since image other left in
+    let M : Moment → Type 0 = λ m. MayLeave m image in
+    let P : List ℕ → Type 0 = λ l. IsPrefix l other in
+    (subst M (ap (λ (d : DiskState). d.now) reads) is.0, subst P same is.1))
