@@ -3,7 +3,7 @@ use archive_core::{ChangeError, LoadError};
 use archive_shell::Status;
 use machine_mem::Tail;
 use machine_model::Failed;
-use std::alloc::AllocError;
+use std::alloc::{AllocError, AllocFailed};
 
 /// Why a row doesn't hold, or couldn't be tried.
 #[derive(Debug, Drop)]
@@ -63,6 +63,12 @@ pub enum RowError {
 
 impl From<AllocError> for RowError {
     fn from(_: AllocError) -> Self {
+        RowError::Memory
+    }
+}
+
+impl<T: Drop> From<AllocFailed<T>> for RowError {
+    fn from(_: AllocFailed<T>) -> Self {
         RowError::Memory
     }
 }

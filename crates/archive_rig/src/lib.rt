@@ -31,7 +31,7 @@ pub use journals::{
 };
 pub use machines::{
     copy_image, count_on, join, load_image, machine_on, make_machine, read_image, read_journal,
-    run_on,
+    run_on, run_with,
 };
 pub use rows::{Row, expect_rows};
 pub use scripts::{

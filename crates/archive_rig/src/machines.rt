@@ -84,7 +84,18 @@ pub(crate) fn expect_memory(machine: &MemMachine) -> Result<(), RowError>
 pub fn run_on(alloc: Global, machine: &mut MemMachine) -> Result<Status, RowError>
     ensures { IfOk result (λ _. starved_of machine.new ≡ 0) }
 {
-    let status = run(alloc, &[], machine);
+    run_with(alloc, &[], machine)
+}
+
+/// Runs the program with words on a machine, which has to have had its memory.
+pub fn run_with(alloc: Global, words: &[&str], machine: &mut MemMachine) -> Result<Status, RowError>
+    ensures { IfOk result (λ _. starved_of machine.new ≡ 0) }
+{
+    let mut owned = Vec::new(alloc);
+    for word in words {
+        owned.push(String::from_str(alloc, word)?)?;
+    }
+    let status = run(alloc, &owned, machine);
     expect_memory(machine)?;
     Ok(status)
 }

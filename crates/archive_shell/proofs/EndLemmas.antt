@@ -51,7 +51,7 @@ pub syncs_still : (d : DiskState) → Syncs d d
 syncs_still d = record { goes_on = goes_on_same d; holds = refl; beside = refl; during = left_now d (λ image beside. Leaves d.now image beside) (λ image allowed. (allowed, refl)) }
 
 -- where each image left stands for a history, each that may be left now does
-keeps_now : (history : History) (old new : DiskState) → KeepsHistory history old new → EachStands new history
+pub keeps_now : (history : History) (old new : DiskState) → KeepsHistory history old new → EachStands new history
 keeps_now history old new keeps = λ image allowed. (keeps.images image new.now.beside (inl (allowed, refl))).0
 
 -- a run that ended before its input was begun

@@ -6,3 +6,4 @@ pub mod ServeLemmas
 pub mod ShowLemmas
 pub mod StepLemmas
 pub mod TurnLemmas
+pub mod SampleLemmas

@@ -17,7 +17,7 @@ use Rattle.archive_shell.specs.Statuses.{status_of_script, status_of_stop}
 use Rattle.archive_shell.specs.declared.stop.Stop.{Stop}
 use Rattle.archive_shell.specs.declared.stop.Stop.TheVariants as stops
 use Rattle.archive_shell.specs.declared.status.Status.{Status}
-use Rattle.archive_shell.specs.declared.status.Status.TheVariants.{Done, Usage, NotArchive, Disk, Sink, Source, Budget, Script, Damaged, Memory}
+use Rattle.archive_shell.specs.declared.status.Status.TheVariants.{Done, Usage, NotArchive, Disk, Sink, Source, Budget, Script, Damaged, NotEmpty, Memory}
 
 -- what a call of the reader gave: the bytes that it pulled, and what they say
 pub record Gives (held held_now : Held) (since : List ℕ) (answer : Result (Option Item) ScriptError) (before after : SourceState) : Type 0 where
@@ -188,17 +188,18 @@ ends_by old now source held held_now errors.Memory pulling gives = ends_early Me
 
 -- why a run whose machine didn't fail came to its end, or found no memory or a sublist damaged
 pub completes : (status : Status) (old new : SourceState) → Ends status old new → IsScript old.left → length old.left < 2 ^ 40
-    → (status ≡ Usage → ⊥) → ((at : ℕ) → status ≡ NotArchive at → ⊥) → (status ≡ Disk → ⊥) → (status ≡ Source → ⊥) → (status ≡ Sink → ⊥)
+    → (status ≡ Usage → ⊥) → ((at : ℕ) → status ≡ NotArchive at → ⊥) → ((n : ℕ) → status ≡ NotEmpty n → ⊥) → (status ≡ Disk → ⊥) → (status ≡ Source → ⊥) → (status ≡ Sink → ⊥)
     → (status ≡ Done) ⊎ ((status ≡ Memory) ⊎ ((damage : Damage) × (status ≡ Damaged damage)))
-completes Done old new ends script few usage load disk source sink = inl refl
-completes Memory old new ends script few usage load disk source sink = inr (inl refl)
-completes (Damaged damage) old new ends script few usage load disk source sink = inr (inr (damage, refl))
-completes Usage old new ends script few usage load disk source sink = absurd (usage refl)
-completes (NotArchive at) old new ends script few usage load disk source sink = absurd (load at refl)
-completes Disk old new ends script few usage load disk source sink = absurd (disk refl)
-completes Source old new ends script few usage load disk source sink = absurd (source refl)
-completes Sink old new ends script few usage load disk source sink = absurd (sink refl)
-completes (Script at) old new ends script few usage load disk source sink = absurd (go ends.ended ends.ended_is (ends.stood.script at refl))
+completes Done old new ends script few usage load full disk source sink = inl refl
+completes Memory old new ends script few usage load full disk source sink = inr (inl refl)
+completes (Damaged damage) old new ends script few usage load full disk source sink = inr (inr (damage, refl))
+completes Usage old new ends script few usage load full disk source sink = absurd (usage refl)
+completes (NotArchive at) old new ends script few usage load full disk source sink = absurd (load at refl)
+completes (NotEmpty n) old new ends script few usage load full disk source sink = absurd (full n refl)
+completes Disk old new ends script few usage load full disk source sink = absurd (disk refl)
+completes Source old new ends script few usage load full disk source sink = absurd (source refl)
+completes Sink old new ends script few usage load full disk source sink = absurd (sink refl)
+completes (Script at) old new ends script few usage load full disk source sink = absurd (go ends.ended ends.ended_is (ends.stood.script at refl))
   where
     whole : IsScript (ends.pulled ++ new.left)
     whole = subst IsScript ends.pulled_are script
@@ -208,4 +209,4 @@ completes (Script at) old new ends script few usage load disk source sink = absu
     go true is broken =
         let none : ends.pulled ++ new.left ≡ ends.pulled = ap (λ (l : List ℕ). ends.pulled ++ l) (is refl) ∙ append-nil ends.pulled in
         script_unbroken ends.pulled at (subst IsScript none whole) broken
-completes Budget old new ends script few usage load disk source sink = absurd (omega (arith, (ends.stood.budget refl).2, few, length-append ends.pulled new.left, ap length ends.pulled_are))
+completes Budget old new ends script few usage load full disk source sink = absurd (omega (arith, (ends.stood.budget refl).2, few, length-append ends.pulled new.left, ap length ends.pulled_are))

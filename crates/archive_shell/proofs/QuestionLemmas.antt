@@ -1,4 +1,4 @@
--- A question's reply is made from the lists that are chosen.
+-- A question's reply is made by what reads give.
 use Rattle.std.proofs.Common.{◌≡◌, ℕ, ◌+◌, ◌<◌, Bool, false, true, List, [], ◌∷◌, ◌++◌, length, get_or, Some, None, Result, Ok, Err, IfOk, OnOk, All, refl, inl, inr, ap, subst, sym, ◌∙◌, arith, append_assoc}
 use Rattle.std.specs.List.{AllZip, flat_map}
 use Rattle.std.proofs.lemmas.Grind.{flat_map-append}
@@ -26,10 +26,13 @@ use Rattle.std.proofs.lemmas.Bool.{cases_lt}
 use Rattle.archive_shell.proofs.EndLemmas.{new_stands}
 use Rattle.archive_state.specs.Histories.{History}
 use Rattle.archive_state.specs.Replies.{reply_text}
-use Rattle.archive_state.specs.Steps.{Reply, Found, Spanned, Refused, IsReplied}
+use Rattle.archive_state.specs.Steps.{Reply, Found, Spanned, Verified, Refused, IsReplied}
+use Rattle.archive_state.specs.declared.verdict.Verdict.{Verdict}
+use Rattle.archive_check.specs.Checked.{IsChecked}
+use Rattle.archive_check.proofs.SoundLemmas.{new_sound}
 use Rattle.archive_state.specs.declared.refusal.Refusal.{Refusal}
 use Rattle.archive_core.specs.Answering.{IsNoQuery}
-use Rattle.archive_core.specs.Takes.{Replied, found, spanned}
+use Rattle.archive_core.specs.Takes.{Replied, found, spanned, verified}
 use Rattle.archive_core.specs.declared.error.AskError.{AskError}
 use Rattle.archive_core.specs.declared.error.AskError.TheVariants as asks
 use Rattle.sublist_store.specs.declared.why.Damage.{Damage}
@@ -56,48 +59,57 @@ use Rattle.archive_shell.specs.declared.stop.Halt.{Halt}
 use Rattle.archive_shell.specs.declared.stop.Halt.TheVariants as halts
 
 -- a reply that is written is on the page, where there was memory for it
-on_page : (h : History) (pages : List ℕ) (item : Item) (reply : Reply) (result : Result (Unit {0}) Halt) (page : List ℕ) → IsMadeReply h pages item reply → Writes (Replied reply) result page → OnOk result (IsOnPage h pages item page)
-on_page h pages item reply (Ok done) page made (inl is) = record { reply = reply; made = made; is = is.1 }
-on_page h pages item reply (Ok done) page made (inr none) = absurd cc
-on_page h pages item reply (Err halt) page made writes = tt
+on_page : (h : History) (image : Bytes) (item : Item) (reply : Reply) (result : Result (Unit {0}) Halt) (page : List ℕ) → IsMadeReply h image item reply → Writes (Replied reply) result page → OnOk result (IsOnPage h image item page)
+on_page h image item reply (Ok done) page made (inl is) = record { reply = reply; made = made; is = is.1 }
+on_page h image item reply (Ok done) page made (inr none) = absurd cc
+on_page h image item reply (Err halt) page made writes = tt
 
 -- a run that is halted shows nothing
 halted : (P : Type 0) (result : Result (Unit {0}) Halt) (halt : Halt) → result ≡ Err halt → OnOk result P
 halted P (Ok done) halt is = absurd cc
 halted P (Err other) halt is = tt
 
-pub made_find : (h : History) (pages : List ℕ) (at : Time) (text : List ℕ) (B : Answer → Query → Type 0) (r : Result Answer AskError) (result : Result (Unit {0}) Halt) (page : List ℕ)
-    → IfOk r (λ answer. (query : Query) × IsRead key_of text (Ok query) × IsMadeAt h pages at.seconds query answer.rows.items answer.read × B answer query)
+pub made_find : (h : History) (image : Bytes) (at : Time) (text : List ℕ) (B : Answer → Query → Type 0) (r : Result Answer AskError) (result : Result (Unit {0}) Halt) (page : List ℕ)
+    → IfOk r (λ answer. (query : Query) × IsRead key_of text (Ok query) × IsMadeAt h image.pages at.seconds query answer.rows.items answer.read × B answer query)
     → ((why : Refusal) → r ≡ Err (asks.Refused why) → IsNoQuery text why)
-    → Writes (found r) result page → OnOk result (IsOnPage h pages (items.Command (commands.Find at text)) page)
-made_find h pages at text B (Ok answer) result page (query, read, made, rest) refused writes =
-    on_page h pages (items.Command (commands.Find at text)) (Found answer.rows.items answer.read) result page (Ok query, read, (answer.rows.items, answer.read, made, refl)) writes
-made_find h pages at text B (Err (asks.Refused why)) result page made refused writes =
+    → Writes (found r) result page → OnOk result (IsOnPage h image (items.Command (commands.Find at text)) page)
+made_find h image at text B (Ok answer) result page (query, read, made, rest) refused writes =
+    on_page h image (items.Command (commands.Find at text)) (Found answer.rows.items answer.read) result page (Ok query, read, (answer.rows.items, answer.read, made, refl)) writes
+made_find h image at text B (Err (asks.Refused why)) result page made refused writes =
     let (place, read, is) = refused why refl in
-    on_page h pages (items.Command (commands.Find at text)) (Refused why) result page (Err place, read, ap Refused is) writes
-made_find h pages at text B (Err asks.Failed) result page made refused writes = halted (IsOnPage h pages (items.Command (commands.Find at text)) page) result halts.Disk writes
-made_find h pages at text B (Err (asks.Damaged damage)) result page made refused writes = halted (IsOnPage h pages (items.Command (commands.Find at text)) page) result (halts.Damaged damage) writes
-made_find h pages at text B (Err asks.Memory) result page made refused writes = halted (IsOnPage h pages (items.Command (commands.Find at text)) page) result halts.Memory writes
+    on_page h image (items.Command (commands.Find at text)) (Refused why) result page (Err place, read, ap Refused is) writes
+made_find h image at text B (Err asks.Failed) result page made refused writes = halted (IsOnPage h image (items.Command (commands.Find at text)) page) result halts.Disk writes
+made_find h image at text B (Err (asks.Damaged damage)) result page made refused writes = halted (IsOnPage h image (items.Command (commands.Find at text)) page) result (halts.Damaged damage) writes
+made_find h image at text B (Err asks.Memory) result page made refused writes = halted (IsOnPage h image (items.Command (commands.Find at text)) page) result halts.Memory writes
 
-pub made_between : (h : History) (pages : List ℕ) (span : Span) (text : List ℕ) (B : SpanAnswer → Query → Type 0) (r : Result SpanAnswer AskError) (result : Result (Unit {0}) Halt) (page : List ℕ)
-    → IfOk r (λ answer. (query : Query) × IsRead key_of text (Ok query) × IsMadeOver h pages span.from span.to query answer.rows.items answer.read × B answer query)
+pub made_between : (h : History) (image : Bytes) (span : Span) (text : List ℕ) (B : SpanAnswer → Query → Type 0) (r : Result SpanAnswer AskError) (result : Result (Unit {0}) Halt) (page : List ℕ)
+    → IfOk r (λ answer. (query : Query) × IsRead key_of text (Ok query) × IsMadeOver h image.pages span.from span.to query answer.rows.items answer.read × B answer query)
     → ((why : Refusal) → r ≡ Err (asks.Refused why) → IsNoQuery text why)
-    → Writes (spanned r) result page → OnOk result (IsOnPage h pages (items.Command (commands.Between span text)) page)
-made_between h pages span text B (Ok answer) result page (query, read, made, rest) refused writes =
-    on_page h pages (items.Command (commands.Between span text)) (Spanned answer.rows.items answer.read) result page (Ok query, read, (answer.rows.items, answer.read, made, refl)) writes
-made_between h pages span text B (Err (asks.Refused why)) result page made refused writes =
+    → Writes (spanned r) result page → OnOk result (IsOnPage h image (items.Command (commands.Between span text)) page)
+made_between h image span text B (Ok answer) result page (query, read, made, rest) refused writes =
+    on_page h image (items.Command (commands.Between span text)) (Spanned answer.rows.items answer.read) result page (Ok query, read, (answer.rows.items, answer.read, made, refl)) writes
+made_between h image span text B (Err (asks.Refused why)) result page made refused writes =
     let (place, read, is) = refused why refl in
-    on_page h pages (items.Command (commands.Between span text)) (Refused why) result page (Err place, read, ap Refused is) writes
-made_between h pages span text B (Err asks.Failed) result page made refused writes = halted (IsOnPage h pages (items.Command (commands.Between span text)) page) result halts.Disk writes
-made_between h pages span text B (Err (asks.Damaged damage)) result page made refused writes = halted (IsOnPage h pages (items.Command (commands.Between span text)) page) result (halts.Damaged damage) writes
-made_between h pages span text B (Err asks.Memory) result page made refused writes = halted (IsOnPage h pages (items.Command (commands.Between span text)) page) result halts.Memory writes
+    on_page h image (items.Command (commands.Between span text)) (Refused why) result page (Err place, read, ap Refused is) writes
+made_between h image span text B (Err asks.Failed) result page made refused writes = halted (IsOnPage h image (items.Command (commands.Between span text)) page) result halts.Disk writes
+made_between h image span text B (Err (asks.Damaged damage)) result page made refused writes = halted (IsOnPage h image (items.Command (commands.Between span text)) page) result (halts.Damaged damage) writes
+made_between h image span text B (Err asks.Memory) result page made refused writes = halted (IsOnPage h image (items.Command (commands.Between span text)) page) result halts.Memory writes
+
+-- what a check tells is on the page, where there was memory for it
+pub made_verify : (h : History) (image : Bytes) (r : Result Verdict AskError) (result : Result (Unit {0}) Halt) (page : List ℕ) → IfOk r (λ verdict. IsChecked h image verdict) → ((why : Refusal) → r ≡ Err (asks.Refused why) → ⊥)
+    → Writes (verified r) result page → OnOk result (IsOnPage h image (items.Command commands.Verify) page)
+made_verify h image (Ok verdict) result page checked never writes = on_page h image (items.Command commands.Verify) (Verified verdict) result page (verdict, checked, refl) writes
+made_verify h image (Err (asks.Refused why)) result page checked never writes = absurd (never why refl)
+made_verify h image (Err asks.Failed) result page checked never writes = halted (IsOnPage h image (items.Command commands.Verify) page) result halts.Disk writes
+made_verify h image (Err (asks.Damaged damage)) result page checked never writes = halted (IsOnPage h image (items.Command commands.Verify) page) result (halts.Damaged damage) writes
+made_verify h image (Err asks.Memory) result page checked never writes = halted (IsOnPage h image (items.Command commands.Verify) page) result halts.Memory writes
 
 -- a reply that was on the page and is shown
-pub shown_so : (h : History) (item : Item) (page piece before mid after : List ℕ) (old disk new : DiskState) (archive archive_now : ArchiveState) → OnlyReads old disk → archive_now ≡ archive → IsOnPage h old.holds.pages item page
+pub shown_so : (h : History) (item : Item) (page piece before mid after : List ℕ) (old disk new : DiskState) (archive archive_now : ArchiveState) → OnlyReads old disk → archive_now ≡ archive → IsOnPage h old.holds item page
     → IsSameBeside disk new → mid ≡ before → piece ≡ page → after ≡ mid ++ piece → IsAsked h item before after old new archive archive_now
 shown_so h item page piece before mid after old disk new archive archive_now reads kept on still same is shown = record {
   kept = kept;
-  pages = ap (λ (d : DiskState). d.holds.pages) still.same ∙ ap (λ (d : DiskState). d.holds.pages) reads;
+  holds = ap (λ (d : DiskState). d.holds) still.same ∙ ap (λ (d : DiskState). d.holds) reads;
   asked = record {
     replies = on.reply ∷ [];
     each = (on.made, tt);
@@ -107,8 +119,8 @@ shown_so h item page piece before mid after old disk new archive archive_now rea
 
 -- ---- a run of questions goes on
 
-abbrev none_asked : (h : History) (pages : List ℕ) (shown : List ℕ) → AreMade h pages [] shown shown
-none_asked h pages shown = record { replies = []; each = tt; shown = sym (append-nil shown) }
+abbrev none_asked : (h : History) (image : Bytes) (shown : List ℕ) → AreMade h image [] shown shown
+none_asked h image shown = record { replies = []; each = tt; shown = sym (append-nil shown) }
 
 zip_push : (P : Item → Reply → Type 0) (xs : List Item) (ys : List Reply) (x : Item) (y : Reply) → AllZip P xs ys → P x y → AllZip P (xs ++ x ∷ []) (ys ++ y ∷ [])
 zip_push P [] [] x y all one = (one, tt)
@@ -116,25 +128,25 @@ zip_push P [] (b ∷ ys) x y all one = absurd all
 zip_push P (a ∷ xs) [] x y all one = absurd all
 zip_push P (a ∷ xs) (b ∷ ys) x y all one = (all.0, zip_push P xs ys x y all.1 one)
 
-one_more : (h : History) (pages : List ℕ) (asked : List Item) (item : Item) (before mid after : List ℕ) → AreMade h pages asked before mid → AreMade h pages (item ∷ []) mid after → AreMade h pages (asked ++ item ∷ []) before after
-one_more h pages asked item before mid after made next = go next.replies next.each next.shown
+one_more : (h : History) (image : Bytes) (asked : List Item) (item : Item) (before mid after : List ℕ) → AreMade h image asked before mid → AreMade h image (item ∷ []) mid after → AreMade h image (asked ++ item ∷ []) before after
+one_more h image asked item before mid after made next = go next.replies next.each next.shown
   where
-    go : (replies : List Reply) → AllZip (IsMadeReply h pages) (item ∷ []) replies → after ≡ mid ++ flat_map reply_text replies → AreMade h pages (asked ++ item ∷ []) before after
+    go : (replies : List Reply) → AllZip (IsMadeReply h image) (item ∷ []) replies → after ≡ mid ++ flat_map reply_text replies → AreMade h image (asked ++ item ∷ []) before after
     go [] each shown = absurd each
     go (reply ∷ other ∷ replies) each shown = absurd each.1
     go (reply ∷ []) each shown = record {
       replies = made.replies ++ reply ∷ [];
-      each = zip_push (IsMadeReply h pages) asked made.replies item reply made.each each.0;
+      each = zip_push (IsMadeReply h image) asked made.replies item reply made.each each.0;
       shown = shown ∙ ap (λ (l : List ℕ). l ++ flat_map reply_text (reply ∷ [])) made.shown ∙ append_assoc before (flat_map reply_text made.replies) (flat_map reply_text (reply ∷ []))
           ∙ ap (λ (l : List ℕ). before ++ l) (sym (flat_map-append reply_text made.replies (reply ∷ [])));
     }
 
-pub asking_start : (h : History) (now : MachineState) (archive : ArchiveState) (held : Held) → held ≡ fresh → StandsFor archive h → Asking h now.disk.holds.pages now now archive held
+pub asking_start : (h : History) (now : MachineState) (archive : ArchiveState) (held : Held) → held ≡ fresh → StandsFor archive h → Asking h now.disk.holds now now archive held
 asking_start h now archive held is stands =
-    let A : Held → Type 0 = λ x. Asking h now.disk.holds.pages now now archive x in
+    let A : Held → Type 0 = λ x. Asking h now.disk.holds now now archive x in
     subst A (sym is) (record {
       pulling = pulling_first now.source;
-      all_asked = λ none. record { stands = stands; pages_are = refl; made = none_asked h now.disk.holds.pages now.sink.shown };
+      all_asked = λ none. record { stands = stands; holds_are = refl; made = none_asked h now.disk.holds now.sink.shown };
     })
 
 all_part : (items rest : List Item) → All IsQuestion (items ++ rest) → All IsQuestion items
@@ -151,29 +163,29 @@ all_last : (items : List Item) (item : Item) → All IsQuestion (items ++ item �
 all_last items item all = subst IsQuestion (last_there items item item) (all (length items) item (omega (arith, length-append items (item ∷ []))))
 
 -- the next item was carried out
-pub asking_next : (h : History) (pages : List ℕ) (old now : MachineState) (source : SourceState) (sink : SinkState) (disk : DiskState) (archive archive_now : ArchiveState) (held held_now : Held) (item : Item)
-    → (asking : Asking h pages old now archive held) → Gives held held_now asking.pulling.since (Ok (Some item)) now.source source
+pub asking_next : (h : History) (image : Bytes) (old now : MachineState) (source : SourceState) (sink : SinkState) (disk : DiskState) (archive archive_now : ArchiveState) (held held_now : Held) (item : Item)
+    → (asking : Asking h image old now archive held) → Gives held held_now asking.pulling.since (Ok (Some item)) now.source source
     → (StandsFor archive h → IsQuestion item → IsAsked h item now.sink.shown sink.shown now.disk disk archive archive_now)
-    → Asking h pages old (record { source = source; sink = sink; disk = disk }) archive_now held_now
-asking_next h pages old now source sink disk archive archive_now held held_now item asking gives out = record {
+    → Asking h image old (record { source = source; sink = sink; disk = disk }) archive_now held_now
+asking_next h image old now source sink disk archive archive_now held held_now item asking gives out = record {
   pulling = pulling_next old.source now.source source held held_now item asking.pulling gives;
   all_asked = λ all.
       let items = asking.pulling.items in
       let was = asking.all_asked (all_front items item all) in
       let next = out was.stands (all_last items item all) in
-      let P : List ℕ → Type 0 = λ ps. AreMade h ps (item ∷ []) now.sink.shown sink.shown in
+      let P : Bytes → Type 0 = λ b. AreMade h b (item ∷ []) now.sink.shown sink.shown in
       let S : ArchiveState → Type 0 = λ a. StandsFor a h in
       record {
         stands = subst S (sym next.kept) was.stands;
-        pages_are = next.pages ∙ was.pages_are;
-        made = one_more h pages items item old.sink.shown now.sink.shown sink.shown was.made (subst P was.pages_are next.asked);
+        holds_are = next.holds ∙ was.holds_are;
+        made = one_more h image items item old.sink.shown now.sink.shown sink.shown was.made (subst P was.holds_are next.asked);
       };
 }
 
 -- the input is at its end
-pub asked_all : (h : History) (pages : List ℕ) (old now : MachineState) (source : SourceState) (archive : ArchiveState) (held held_now : Held) (asking : Asking h pages old now archive held)
-    → Gives held held_now asking.pulling.since (Ok None) now.source source → HasAsked h pages old (record { source = source; sink = now.sink; disk = now.disk })
-asked_all h pages old now source archive held held_now asking gives =
+pub asked_all : (h : History) (image : Bytes) (old now : MachineState) (source : SourceState) (archive : ArchiveState) (held held_now : Held) (asking : Asking h image old now archive held)
+    → Gives held held_now asking.pulling.since (Ok None) now.source source → HasAsked h image old (record { source = source; sink = now.sink; disk = now.disk })
+asked_all h image old now source archive held held_now asking gives =
     let whole = whole_done old.source now.source source held held_now asking.pulling gives in
     let done = whole.ends.stood.done refl in
     let all : old.source.left ≡ whole.ends.pulled = whole.ends.pulled_are ∙ ap (λ (l : List ℕ). whole.ends.pulled ++ l) (whole.ends.ended_is done.0) ∙ append-nil whole.ends.pulled in
@@ -191,11 +203,11 @@ asked_before : (ended : Bool) (left : List ℕ) → (ended ≡ true → left ≡
 asked_before false left told = tt
 asked_before true left told = (refl, told refl)
 
-pub asking_stops : (h : History) (pages : List ℕ) (old now : MachineState) (source : SourceState) (sink : SinkState) (disk : DiskState) (archive : ArchiveState) (held held_now : Held) (item : Item) (damage : Damage)
-    → (asking : Asking h pages old now archive held) → Gives held held_now asking.pulling.since (Ok (Some item)) now.source source
+pub asking_stops : (h : History) (image : Bytes) (old now : MachineState) (source : SourceState) (sink : SinkState) (disk : DiskState) (archive : ArchiveState) (held held_now : Held) (item : Item) (damage : Damage)
+    → (asking : Asking h image old now archive held) → Gives held held_now asking.pulling.since (Ok (Some item)) now.source source
     → (StandsFor archive h → Spoils h now.disk.holds.pages item damage × (sink.shown ≡ now.sink.shown))
-    → HasStopped h pages old (record { source = source; sink = sink; disk = disk }) damage
-asking_stops h pages old now source sink disk archive held held_now item damage asking gives out =
+    → HasStopped h image old (record { source = source; sink = sink; disk = disk }) damage
+asking_stops h image old now source sink disk archive held held_now item damage asking gives out =
     let items = asking.pulling.items in
     let next = pulling_next old.source now.source source held held_now item asking.pulling gives in
     let I : List ℕ → Type 0 = λ bytes. Items true bytes (items ++ item ∷ []) (next.since ++ source.left) in
@@ -206,20 +218,20 @@ asking_stops h pages old now source sink disk archive held held_now item damage 
       read = subst I (sym next.pulled_are) (next.reads.split true source.left (asked_before held_now.ended source.left next.told));
       made = λ all.
           let was = asking.all_asked all in
-          let M : List ℕ → Type 0 = λ shown. AreMade h pages items old.sink.shown shown in
+          let M : List ℕ → Type 0 = λ shown. AreMade h image items old.sink.shown shown in
           subst M (sym (out was.stands).1) was.made;
       spoiled = λ all.
           let was = asking.all_asked all in
-          let P : List ℕ → Type 0 = λ ps. Spoils h ps item damage in
-          subst P was.pages_are (out was.stands).0;
+          let P : Bytes → Type 0 = λ b. Spoils h b.pages item damage in
+          subst P was.holds_are (out was.stands).0;
     }
 
 -- a run goes on where neither what was shown nor the disk changed
-pub asking_along : (h : History) (pages : List ℕ) (old : MachineState) (source : SourceState) (one other : SinkState) (now then : DiskState) (archive : ArchiveState) (held : Held) → other ≡ one → then ≡ now
-    → Asking h pages old (record { source = source; sink = one; disk = now }) archive held → Asking h pages old (record { source = source; sink = other; disk = then }) archive held
-asking_along h pages old source one other now then archive held shown disk asking =
-    let S : SinkState → Type 0 = λ s. Asking h pages old (record { source = source; sink = s; disk = now }) archive held in
-    let D : DiskState → Type 0 = λ d. Asking h pages old (record { source = source; sink = other; disk = d }) archive held in
+pub asking_along : (h : History) (image : Bytes) (old : MachineState) (source : SourceState) (one other : SinkState) (now then : DiskState) (archive : ArchiveState) (held : Held) → other ≡ one → then ≡ now
+    → Asking h image old (record { source = source; sink = one; disk = now }) archive held → Asking h image old (record { source = source; sink = other; disk = then }) archive held
+asking_along h image old source one other now then archive held shown disk asking =
+    let S : SinkState → Type 0 = λ s. Asking h image old (record { source = source; sink = s; disk = now }) archive held in
+    let D : DiskState → Type 0 = λ d. Asking h image old (record { source = source; sink = other; disk = d }) archive held in
     subst D (sym disk) (subst S (sym shown) asking)
 
 -- no other end is the input's
@@ -253,26 +265,31 @@ replied_anywhere : (F G : Query → Reply → Type 0) → ((query : Query) (repl
 replied_anywhere F G each text reply (Ok query, read, made) = (Ok query, read, each query reply made)
 replied_anywhere F G each text reply (Err place, read, is) = (Err place, read, is)
 
-reply_anywhere : (p q : List ℕ) (item : Item) (reply : Reply) → IsMadeReply [] p item reply → IsMadeReply [] q item reply
+checked_anywhere : (p q : Bytes) (verdict : Verdict) → IsChecked [] p verdict → IsChecked [] q verdict
+checked_anywhere p q verdict checked =
+    let V : Verdict → Type 0 = λ v. IsChecked [] q v in
+    subst V (sym ((new_sound p).1 verdict checked)) (new_sound q).0
+
+reply_anywhere : (p q : Bytes) (item : Item) (reply : Reply) → IsMadeReply [] p item reply → IsMadeReply [] q item reply
 reply_anywhere p q (items.Command (commands.Find at expr)) reply made =
-    replied_anywhere (MakesAt [] p at) (MakesAt [] q at) (λ query r (rows, read, m, is). (
+    replied_anywhere (MakesAt [] p.pages at) (MakesAt [] q.pages at) (λ query r (rows, read, m, is). (
       rows,
       read,
       record {
         parts = m.parts;
-        are_chosen = chosen_anywhere p q at.seconds (at.seconds + 1) (words_of query) m.parts m.are_chosen;
+        are_chosen = chosen_anywhere p.pages q.pages at.seconds (at.seconds + 1) (words_of query) m.parts m.are_chosen;
         rows_are = m.rows_are;
         read_is = m.read_is;
       },
       is,
     )) expr reply made
 reply_anywhere p q (items.Command (commands.Between span expr)) reply made =
-    replied_anywhere (MakesOver [] p span) (MakesOver [] q span) (λ query r (rows, read, m, is). (
+    replied_anywhere (MakesOver [] p.pages span) (MakesOver [] q.pages span) (λ query r (rows, read, m, is). (
       rows,
       read,
       record {
         parts = m.parts;
-        are_chosen = chosen_anywhere p q span.from span.to (words_of query) m.parts m.are_chosen;
+        are_chosen = chosen_anywhere p.pages q.pages span.from span.to (words_of query) m.parts m.are_chosen;
         rows_are = m.rows_are;
         read_is = m.read_is;
       },
@@ -284,29 +301,29 @@ reply_anywhere p q (items.Command (commands.Show doc at)) reply made = absurd ma
 reply_anywhere p q (items.Command (commands.Plan word kind fraction)) reply made = absurd made
 reply_anywhere p q (items.Command (commands.Propose word fraction)) reply made = absurd made
 reply_anywhere p q (items.Command (commands.Certificate word)) reply made = absurd made
-reply_anywhere p q (items.Command commands.Verify) reply made = absurd made
+reply_anywhere p q (items.Command commands.Verify) reply (verdict, checked, is) = (verdict, checked_anywhere p q verdict checked, is)
 reply_anywhere p q items.Line reply made = absurd made
 
-replies_anywhere : (p q : List ℕ) (asked : List Item) (replies : List Reply) → AllZip (IsMadeReply [] p) asked replies → AllZip (IsMadeReply [] q) asked replies
+replies_anywhere : (p q : Bytes) (asked : List Item) (replies : List Reply) → AllZip (IsMadeReply [] p) asked replies → AllZip (IsMadeReply [] q) asked replies
 replies_anywhere p q [] [] all = tt
 replies_anywhere p q [] (reply ∷ replies) all = absurd all
 replies_anywhere p q (item ∷ asked) [] all = absurd all
 replies_anywhere p q (item ∷ asked) (reply ∷ replies) all = (reply_anywhere p q item reply all.0, replies_anywhere p q asked replies all.1)
 
-made_anywhere : (p q : List ℕ) (asked : List Item) (before after : List ℕ) → AreMade [] p asked before after → AreMade [] q asked before after
+made_anywhere : (p q : Bytes) (asked : List Item) (before after : List ℕ) → AreMade [] p asked before after → AreMade [] q asked before after
 made_anywhere p q asked before after made = record { replies = made.replies; each = replies_anywhere p q asked made.replies made.each; shown = made.shown }
 
--- the pages were those at the start, or there was nothing to read in them
+-- the bytes were those at the start, or there was nothing to read in them
 pub made_at_start : (h : History) (asked : List Item) (old new : DiskState) (before after : List ℕ) → Spells old.holds.journal (bodies_of h) → IsLoadable h → (17 < length old.holds.journal → Syncs old new)
-    → AreMade h new.holds.pages asked before after → AreMade h old.holds.pages asked before after
-made_at_start h asked old new before after spelled loads longer made = elim (cases_lt 17 (length old.holds.journal)) as (λ _. AreMade h old.holds.pages asked before after) [
-  | inl long ↦ (let P : Bytes → Type 0 = λ b. AreMade h b.pages asked before after in subst P (longer long).holds made)
+    → AreMade h new.holds asked before after → AreMade h old.holds asked before after
+made_at_start h asked old new before after spelled loads longer made = elim (cases_lt 17 (length old.holds.journal)) as (λ _. AreMade h old.holds asked before after) [
+  | inl long ↦ (let P : Bytes → Type 0 = λ b. AreMade h b asked before after in subst P (longer long).holds made)
   | inr short ↦ (
       let new_one : Stands [] old.holds = new_stands old.holds short in
       let none : h ≡ [] = spells_one_history old.holds.journal h [] spelled loads new_one.spelled (legal_loads [] new_one.legal) in
-      let H : History → Type 0 = λ x. AreMade x new.holds.pages asked before after in
-      let B : History → Type 0 = λ x. AreMade x old.holds.pages asked before after in
-      subst B (sym none) (made_anywhere new.holds.pages old.holds.pages asked before after (subst H none made))
+      let H : History → Type 0 = λ x. AreMade x new.holds asked before after in
+      let B : History → Type 0 = λ x. AreMade x old.holds asked before after in
+      subst B (sym none) (made_anywhere new.holds old.holds asked before after (subst H none made))
       )
 ]
 
@@ -323,9 +340,9 @@ none_spoiled pages (items.Command commands.Verify) damage spoiled = spoiled
 none_spoiled pages items.Line damage spoiled = spoiled
 
 pub stopped_at_start : (h : History) (asked : List Item) (damage : Damage) (old new : DiskState) (before after : List ℕ) → Spells old.holds.journal (bodies_of h) → IsLoadable h → (17 < length old.holds.journal → Syncs old new)
-    → AreMadeUpTo h new.holds.pages asked damage before after → AreMadeUpTo h old.holds.pages asked damage before after
-stopped_at_start h asked damage old new before after spelled loads longer made = elim (cases_lt 17 (length old.holds.journal)) as (λ _. AreMadeUpTo h old.holds.pages asked damage before after) [
-  | inl long ↦ (let P : Bytes → Type 0 = λ b. AreMadeUpTo h b.pages asked damage before after in subst P (longer long).holds made)
+    → AreMadeUpTo h new.holds asked damage before after → AreMadeUpTo h old.holds asked damage before after
+stopped_at_start h asked damage old new before after spelled loads longer made = elim (cases_lt 17 (length old.holds.journal)) as (λ _. AreMadeUpTo h old.holds asked damage before after) [
+  | inl long ↦ (let P : Bytes → Type 0 = λ b. AreMadeUpTo h b asked damage before after in subst P (longer long).holds made)
   | inr short ↦ (
       let new_one : Stands [] old.holds = new_stands old.holds short in
       let none : h ≡ [] = spells_one_history old.holds.journal h [] spelled loads new_one.spelled (legal_loads [] new_one.legal) in
@@ -336,9 +353,9 @@ stopped_at_start h asked damage old new before after spelled loads longer made =
 
 -- ---- where all the input is questions, the items up to the damage are the first of these
 
-pub stopped_among : (h : History) (pages : List ℕ) (old new : MachineState) (damage : Damage) (asked : List Item) → HasStopped h pages old new damage → Splits true old.source.left asked [] → All IsQuestion asked
-    → AreMadeUpTo h pages asked damage old.sink.shown new.sink.shown
-stopped_among h pages old new damage asked has split all =
+pub stopped_among : (h : History) (image : Bytes) (old new : MachineState) (damage : Damage) (asked : List Item) → HasStopped h image old new damage → Splits true old.source.left asked [] → All IsQuestion asked
+    → AreMadeUpTo h image asked damage old.sink.shown new.sink.shown
+stopped_among h image old new damage asked has split all =
     let left = old.source.left in
     let up_to = has.answered ++ has.item ∷ [] in
     let behind = each_splits true has.rest in

@@ -36,7 +36,7 @@ run_legal history (item ∷ items) (turn ∷ turns) legal range run =
     run_legal turn.next items turns (step_legal history item turn.reply turn.next legal (All-head HasDocument item items range) run.0) (All-tail HasDocument item items range) run.1
 
 -- and goes on over any such items
-run_on : (history : History) (items : List Item) → IsLegal history → All HasDocument items → (turns : List (Turn Reply History)) × IsRun Step history items turns
+pub run_on : (history : History) (items : List Item) → IsLegal history → All HasDocument items → (turns : List (Turn Reply History)) × IsRun Step history items turns
 run_on history [] legal range = ([], tt)
 run_on history (item ∷ items) legal range =
     let turn = each_turn history item legal in

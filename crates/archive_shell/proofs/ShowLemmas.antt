@@ -1,5 +1,5 @@
 -- An item carried out and its reply shown, over the states of a machine.
-use Rattle.std.proofs.Common.{◌≡◌, ℕ, ◌+◌, ◌<◌, ◌≤◌, List, [], ◌++◌, length, Some, None, Result, Ok, Err, refl, inl, inr, ap, subst, sym, ◌∙◌, arith, append_assoc}
+use Rattle.std.proofs.Common.{◌≡◌, ℕ, ◌+◌, ◌<◌, ◌≤◌, List, [], ◌∷◌, ◌++◌, length, Some, None, Result, Ok, Err, refl, inl, inr, ap, subst, sym, ◌∙◌, arith, append_assoc}
 use Rattle.std.specs.List.{flat_map}
 use Rattle.std.proofs.lemmas.List.{append-nil, append_cancel_left, length-append}
 use Rattle.machine_model.specs.Areas.{Bytes, Both, part}
@@ -9,8 +9,8 @@ use Rattle.machine_model.specs.Pushes.{IsPrefix, IsSameBeside, OnlyShows}
 use Rattle.machine_model.specs.declared.range.Range.{Range}
 use Rattle.commands.specs.declared.command.Item.{Item}
 use Rattle.archive_state.specs.Histories.{History}
-use Rattle.archive_state.specs.Steps.{Reply, Accepted, Refused, Found, Spanned, Shown, Proposed, Planned}
-use Rattle.archive_state.specs.Replies.{end_text, reply_text, row_text, span_text, node_text, segment_text, space_text}
+use Rattle.archive_state.specs.Steps.{Reply, Accepted, Refused, Found, Spanned, Shown, Proposed, Planned, Verified}
+use Rattle.archive_state.specs.Replies.{end_text, reply_text, row_text, span_text, node_text, segment_text, space_text, verdict_text}
 use Rattle.archive_state.specs.Stands.{Stands}
 use Rattle.archive_state.proofs.RunLemmas.{one_turn}
 use Rattle.archive_core.specs.States.{ArchiveState, IsKept}
@@ -42,16 +42,17 @@ some_bytes (Proposed segments nodes total) =
 some_bytes (Shown None) = omega arith
 some_bytes (Shown (Some text)) = omega arith
 some_bytes (Planned summary) = omega arith
+some_bytes (Verified verdict) = behind (verdict_text verdict) (10 ∷ []) (omega arith)
 
 -- pushes change no image
-same_images : (old new : DiskState) → IsSameBeside old new → (image : Bytes) → MayLeave new.now image → MayLeave old.now image
+pub same_images : (old new : DiskState) → IsSameBeside old new → (image : Bytes) → MayLeave new.now image → MayLeave old.now image
 same_images old new same image allowed = λ area.
     let S : Bytes → Type 0 = λ s. IsAllowed (part s area) (part new.now.pending area) (part image area) in
     let P : Both (List Range) → Type 0 = λ p. IsAllowed (part old.now.stable area) (part p area) (part image area) in
     subst P same.pending (subst S same.stable (allowed area))
 
 -- so an archive stays in step over them
-kept_beside : (old new : DiskState) (archive : ArchiveState) (history : History) → IsSameBeside old new → IsKept old archive history → IsKept new archive history
+pub kept_beside : (old new : DiskState) (archive : ArchiveState) (history : History) → IsSameBeside old new → IsKept old archive history → IsKept new archive history
 kept_beside old new archive history same kept = record {
   stands = kept.stands;
   in_step = record {

@@ -36,8 +36,8 @@ pub record IsPulled (old new : SourceState) (item : Item) : Type 0 where
   pub rest : List ℕ
   pub split : Splits ended pulled (before ++ item ∷ behind) rest
 
--- Reads of Pages give now, after the run, that what is read for this item is damaged: by the history for which the journal stood, with the
--- entries that were accepted since.
+-- Reads of Pages give now, after the run, that what is read for this item is damaged: by the history for which the journal stood, with entries
+-- behind it. (Which these are, it doesn't say.)
 pub record ShowsDamage (old new : DiskState) (item : Item) (damage : Damage) : Type 0 where
   pub loaded : History
   pub spelled : Spells old.holds.journal (bodies_of loaded)

@@ -15,7 +15,7 @@ use Rattle.archive_state.specs.Runs.{Turn, IsRun, state_after, shown_by, Reopens
 use Rattle.archive_state.specs.Stands.{Stands, EachStands}
 use Rattle.sublist_store.specs.declared.why.Damage.{Damage}
 use Rattle.archive_shell.specs.declared.status.Status.{Status}
-use Rattle.archive_shell.specs.declared.status.Status.TheVariants.{Done, Usage, NotArchive, Disk, Source, Sink, Script, Damaged, Budget, Memory}
+use Rattle.archive_shell.specs.declared.status.Status.TheVariants.{Done, Usage, NotArchive, Disk, Source, Sink, Script, Damaged, Budget, NotEmpty, Memory}
 
 -- a machine's meanings
 pub record MachineState : Type 0 where
@@ -34,6 +34,7 @@ CarriesOutAll (NotArchive at) = ⊥
 CarriesOutAll Disk = ⊥
 CarriesOutAll Sink = ⊥
 CarriesOutAll (Damaged damage) = ⊥
+CarriesOutAll (NotEmpty length) = ⊥
 CarriesOutAll Memory = ⊥
 
 -- the statuses of an event that may end a run before its input is gone over: a fault of the disk or the sink, want of memory, and a damaged sublist

@@ -5,3 +5,4 @@ pub mod Questions
 pub mod Serving
 pub mod Statuses
 pub mod Turns
+pub mod Sampling

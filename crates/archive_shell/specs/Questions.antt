@@ -1,6 +1,7 @@
--- What a run of questions alone shows, whatever the disk holds: replies that are made from the lists that are chosen, by what reads of Pages give.
+-- What a run of questions alone shows, whatever the disk holds: answers that are made from the lists that are chosen, and verdicts, by what reads give.
 use Rattle.std.specs.Prelude.{◌≡◌, ℕ, List, ◌∷◌, ◌++◌}
 use Rattle.std.specs.List.{AllZip, flat_map}
+use Rattle.machine_model.specs.Areas.{Bytes}
 use Rattle.time_base.specs.declared.time.Span.{Span}
 use Rattle.time_base.specs.declared.time.Time.{Time}
 use Rattle.commands.specs.declared.command.Command.TheVariants as commands
@@ -12,7 +13,9 @@ use Rattle.query_eval.specs.declared.spans.SpanRow.{SpanRow}
 use Rattle.archive_state.specs.Chosen.{IsMadeAt, IsMadeOver}
 use Rattle.archive_state.specs.Histories.{History}
 use Rattle.archive_state.specs.Replies.{reply_text}
-use Rattle.archive_state.specs.Steps.{Reply, Found, Spanned, IsReplied}
+use Rattle.archive_state.specs.Steps.{Reply, Found, Spanned, Verified, IsReplied}
+use Rattle.archive_state.specs.declared.verdict.Verdict.{Verdict}
+use Rattle.archive_check.specs.Checked.{IsChecked}
 use Rattle.sublist_store.specs.declared.why.Damage.{Damage}
 use Rattle.archive_shell.specs.Damages.{Spoils}
 
@@ -24,20 +27,25 @@ MakesAt history pages at query reply = (rows : List Row) × (read : ℕ) × IsMa
 abbrev pub MakesOver : History → List ℕ → Span → Query → Reply → Type 0
 MakesOver history pages span query reply = (rows : List SpanRow) × (read : ℕ) × IsMadeOver history pages span.from span.to query rows read × (reply ≡ Spanned rows read)
 
--- The item is a question, and this is its reply, made from the lists that are chosen; or its text is no query, and it is refused where that shows.
-abbrev pub IsMadeReply : History → List ℕ → Item → Reply → Type 0
-IsMadeReply history pages (items.Command (commands.Find at expr)) reply = IsReplied (MakesAt history pages at) expr reply
-IsMadeReply history pages (items.Command (commands.Between span expr)) reply = IsReplied (MakesOver history pages span) expr reply
-IsMadeReply history pages (items.Command (commands.Arrive doc at text)) reply = ⊥
-IsMadeReply history pages (items.Command (commands.Delete doc at)) reply = ⊥
-IsMadeReply history pages (items.Command (commands.Show doc at)) reply = ⊥
-IsMadeReply history pages (items.Command (commands.Plan word kind fraction)) reply = ⊥
-IsMadeReply history pages (items.Command (commands.Propose word fraction)) reply = ⊥
-IsMadeReply history pages (items.Command (commands.Certificate word)) reply = ⊥
-IsMadeReply history pages (items.Command commands.Verify) reply = ⊥
-IsMadeReply history pages items.Line reply = ⊥
+-- what is told of an archive that is checked: the verdict by the bytes of both areas
+abbrev pub TellsVerdict : History → Bytes → Reply → Type 0
+TellsVerdict history image reply = (verdict : Verdict) × IsChecked history image verdict × (reply ≡ Verified verdict)
 
--- the item asks what is found, at a time or over a window
+-- The item is a question, and this is its reply by these bytes: an answer made from the lists that are chosen, a refusal where a text is no query,
+-- at the place where that shows, or the verdict.
+abbrev pub IsMadeReply : History → Bytes → Item → Reply → Type 0
+IsMadeReply history image (items.Command (commands.Find at expr)) reply = IsReplied (MakesAt history image.pages at) expr reply
+IsMadeReply history image (items.Command (commands.Between span expr)) reply = IsReplied (MakesOver history image.pages span) expr reply
+IsMadeReply history image (items.Command (commands.Arrive doc at text)) reply = ⊥
+IsMadeReply history image (items.Command (commands.Delete doc at)) reply = ⊥
+IsMadeReply history image (items.Command (commands.Show doc at)) reply = ⊥
+IsMadeReply history image (items.Command (commands.Plan word kind fraction)) reply = ⊥
+IsMadeReply history image (items.Command (commands.Propose word fraction)) reply = ⊥
+IsMadeReply history image (items.Command (commands.Certificate word)) reply = ⊥
+IsMadeReply history image (items.Command commands.Verify) reply = TellsVerdict history image reply
+IsMadeReply history image items.Line reply = ⊥
+
+-- the item asks what is found, at a time or over a window, or has the archive checked
 abbrev pub IsQuestion : Item → Type 0
 IsQuestion (items.Command (commands.Find at expr)) = Unit {0}
 IsQuestion (items.Command (commands.Between span expr)) = Unit {0}
@@ -47,21 +55,21 @@ IsQuestion (items.Command (commands.Show doc at)) = ⊥
 IsQuestion (items.Command (commands.Plan word kind fraction)) = ⊥
 IsQuestion (items.Command (commands.Propose word fraction)) = ⊥
 IsQuestion (items.Command (commands.Certificate word)) = ⊥
-IsQuestion (items.Command commands.Verify) = ⊥
+IsQuestion (items.Command commands.Verify) = Unit {0}
 IsQuestion items.Line = ⊥
 
 -- behind what was shown before, the replies to these questions were shown, one by one, each made so
-pub record AreMade (history : History) (pages : List ℕ) (asked : List Item) (before after : List ℕ) : Type 0 where
+pub record AreMade (history : History) (image : Bytes) (asked : List Item) (before after : List ℕ) : Type 0 where
   pub replies : List Reply
-  pub each : AllZip (IsMadeReply history pages) asked replies
+  pub each : AllZip (IsMadeReply history image) asked replies
   pub shown : after ≡ before ++ flat_map reply_text replies
 
 -- behind what was shown before, the replies to the first of these questions were shown, each made so; then this is the first damage of what is read
 -- for the next one
-pub record AreMadeUpTo (history : History) (pages : List ℕ) (asked : List Item) (damage : Damage) (before after : List ℕ) : Type 0 where
+pub record AreMadeUpTo (history : History) (image : Bytes) (asked : List Item) (damage : Damage) (before after : List ℕ) : Type 0 where
   pub answered : List Item
   pub item : Item
   pub behind : List Item
   pub asked_are : asked ≡ answered ++ item ∷ behind
-  pub made : AreMade history pages answered before after
-  pub spoiled : Spoils history pages item damage
+  pub made : AreMade history image answered before after
+  pub spoiled : Spoils history image.pages item damage

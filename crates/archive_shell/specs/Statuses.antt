@@ -5,6 +5,8 @@ use Rattle.script_read.specs.declared.error.ScriptError.{ScriptError}
 use Rattle.script_read.specs.declared.error.ScriptError.TheVariants as errors
 use Rattle.archive_replay.specs.declared.error.LoadError.{LoadError}
 use Rattle.archive_replay.specs.declared.error.LoadError.TheVariants as loads
+use Rattle.archive_sample.specs.declared.error.FillError.{FillError}
+use Rattle.archive_sample.specs.declared.error.FillError.TheVariants as fills
 use Rattle.sublist_store.specs.declared.why.Why.{Why}
 use Rattle.sublist_store.specs.declared.why.Why.TheVariants.{Form, Digest, Astray, Clash, Bare}
 use Rattle.archive_shell.specs.declared.stop.Halt.{Halt}
@@ -12,7 +14,7 @@ use Rattle.archive_shell.specs.declared.stop.Halt.TheVariants as halts
 use Rattle.archive_shell.specs.declared.stop.Stop.{Stop}
 use Rattle.archive_shell.specs.declared.stop.Stop.TheVariants as stops
 use Rattle.archive_shell.specs.declared.status.Status.{Status}
-use Rattle.archive_shell.specs.declared.status.Status.TheVariants.{Done, Usage, NotArchive, Disk, Source, Sink, Script, Damaged, Budget, Memory}
+use Rattle.archive_shell.specs.declared.status.Status.TheVariants.{Done, Usage, NotArchive, Disk, Source, Sink, Script, Damaged, Budget, NotEmpty, Memory}
 
 -- the exit status
 abbrev pub code_of : Status → ℕ
@@ -25,6 +27,7 @@ code_of Sink = 6
 code_of (Script at) = 7
 code_of (Damaged damage) = 8
 code_of Budget = 9
+code_of (NotEmpty length) = 10
 code_of Memory = 12
 
 -- what is told of why a sublist is damaged
@@ -46,6 +49,7 @@ status_text Sink = codes "tt_archive: sink fault"
 status_text (Script at) = codes "tt_archive: script fault at byte " ++ decimal at
 status_text (Damaged damage) = codes "tt_archive: damaged sublist at page " ++ decimal damage.page ++ codes ": " ++ why_text damage.why
 status_text Budget = codes "tt_archive: no end after 1099511627776 bytes"
+status_text (NotEmpty length) = codes "tt_archive: the archive has " ++ decimal length ++ codes " entries"
 status_text Memory = codes "tt_archive: no memory"
 
 -- how a run ends where there is no next item
@@ -67,6 +71,12 @@ abbrev pub stop_of_halt : Halt → Stop
 stop_of_halt halts.Disk = stops.Disk
 stop_of_halt (halts.Damaged damage) = stops.Damaged damage
 stop_of_halt halts.Memory = stops.Memory
+
+-- how a run ends that was stopped at a command of a sample
+abbrev pub status_of_fill : FillError → Status
+status_of_fill fills.Failed = Disk
+status_of_fill (fills.Damaged damage) = Damaged damage
+status_of_fill fills.Memory = Memory
 
 -- how a run ends where there is no archive
 abbrev pub status_of_load : LoadError → Status

@@ -5,7 +5,7 @@ ghost use Rattle.archive_state.specs.Histories.{History};
 ghost use Rattle.archive_state.specs.Replies.{reply_text};
 ghost use Rattle.archive_state.specs.Steps.{Refused};
 ghost use Rattle.archive_core.specs.States.{IsKept, StandsFor};
-ghost use Rattle.archive_core.specs.Takes.{changed, declined, found, planned, proposed, shown, spanned, unchanged};
+ghost use Rattle.archive_core.specs.Takes.{changed, declined, found, planned, proposed, shown, spanned, unchanged, verified};
 ghost use Rattle.commands.specs.declared.command.Item.TheVariants as items;
 ghost use Rattle.commands.specs.declared.command.Command.TheVariants as plain;
 ghost use Rattle.archive_shell.specs.Damages.{Spoils};
@@ -17,7 +17,7 @@ ghost use Rattle.archive_shell.specs.Turns.{Answers, CanGoOn, GoesOnFrom, Writes
 use crate::stop::Halt;
 use archive_core::{Archive, AskError, ChangeError, PlanReport};
 use archive_replies::{ReplyPage, Summary};
-use archive_state::Refusal;
+use archive_state::{Refusal, Verdict};
 use commands::{Command, Item, MOST_TEXT_BYTES, Text};
 use machine_model::Disk;
 use proposals::Proposal;
@@ -40,9 +40,9 @@ pub(crate) fn answer<D: Disk>(
     ensures ready { OnOk result (CanGoOn archive.new (D.disk disk.new).reach) }
     ensures follows { (h : History) → StandsFor archive.old h → OnOk result (GoesOnFrom h archive.new) }
     ensures damaged { D.disk_tells → (h : History) → StandsFor archive.old h → (d : Damage) → IsErrOf result (Halt.Damaged d) → Spoils h (D.disk disk.old).holds.pages item d }
-    // Whatever the disk holds, a question leaves it and the archive as they are, and its reply is made from the lists that are chosen.
+    // Whatever the disk holds, a question leaves it and the archive as they are, and its reply is made by what reads give.
     ensures still { IsQuestion item → OnlyReads (D.disk disk.old) (D.disk disk.new) × (archive.new ≡ archive.old) }
-    ensures made { D.disk_tells → (h : History) → StandsFor archive.old h → IsQuestion item → OnOk result (IsOnPage h (D.disk disk.old).holds.pages item page.new.bytes) }
+    ensures made { D.disk_tells → (h : History) → StandsFor archive.old h → IsQuestion item → OnOk result (IsOnPage h (D.disk disk.old).holds item page.new.bytes) }
     ensures turn { D.disk_tells → (h : History) → IsKept (D.disk disk.old) archive.old h →
         Answers h item result (D.disk disk.old) (D.disk disk.new) archive.new page.new.bytes }
 {
@@ -52,7 +52,7 @@ pub(crate) fn answer<D: Disk>(
     }
 }
 
-/// Carries out a command. `verify`, which isn't built yet, is refused as a line that is none.
+/// Carries out a command.
 fn carry_out<D: Disk>(
     alloc: Global,
     disk: &mut D,
@@ -66,9 +66,9 @@ fn carry_out<D: Disk>(
     ensures ready { OnOk result (CanGoOn archive.new (D.disk disk.new).reach) }
     ensures follows { (h : History) → StandsFor archive.old h → OnOk result (GoesOnFrom h archive.new) }
     ensures damaged { D.disk_tells → (h : History) → StandsFor archive.old h → (d : Damage) → IsErrOf result (Halt.Damaged d) → Spoils h (D.disk disk.old).holds.pages (items.Command command) d }
-    // Whatever the disk holds, a question leaves it and the archive as they are, and its reply is made from the lists that are chosen.
+    // Whatever the disk holds, a question leaves it and the archive as they are, and its reply is made by what reads give.
     ensures still { IsQuestion (items.Command command) → OnlyReads (D.disk disk.old) (D.disk disk.new) × (archive.new ≡ archive.old) }
-    ensures made { D.disk_tells → (h : History) → StandsFor archive.old h → IsQuestion (items.Command command) → OnOk result (IsOnPage h (D.disk disk.old).holds.pages (items.Command command) page.new.bytes) }
+    ensures made { D.disk_tells → (h : History) → StandsFor archive.old h → IsQuestion (items.Command command) → OnOk result (IsOnPage h (D.disk disk.old).holds (items.Command command) page.new.bytes) }
     ensures turn { D.disk_tells → (h : History) → IsKept (D.disk disk.old) archive.old h →
         Answers h (items.Command command) result (D.disk disk.old) (D.disk disk.new) archive.new page.new.bytes }
 {
@@ -106,7 +106,10 @@ fn carry_out<D: Disk>(
             let result = archive.certificate(alloc, &word);
             write_proposed(page, result)
         }
-        Command::Verify => refuse(page, Refusal::Line),
+        Command::Verify => {
+            let result = archive.verify(alloc, disk);
+            write_verified(page, result)
+        }
     }
 }
 
@@ -243,6 +246,21 @@ fn write_proposed(page: &mut ReplyPage, plan: Result<Proposal, AskError>) -> Res
 {
     match plan {
         Ok(plan) => match page.proposed(&plan.segments, &plan.nodes, plan.space) {
+            Ok(()) => Ok(()),
+            Err(_) => Err(Halt::Memory),
+        },
+        Err(error) => write_declined(page, error),
+    }
+}
+
+/// Writes what a check told on the page, or halts the run.
+fn write_verified(page: &mut ReplyPage, verdict: Result<Verdict, AskError>) -> Result<(), Halt>
+    ensures writes { Writes (verified verdict) result page.new.bytes }
+    ensures fault { IsErrOf result Halt.Disk → IsErrOf verdict AskError.Failed }
+    ensures damage { (d : Damage) → IsErrOf result (Halt.Damaged d) → IsErrOf verdict (AskError.Damaged d) }
+{
+    match verdict {
+        Ok(verdict) => match page.verified(&verdict) {
             Ok(()) => Ok(()),
             Err(_) => Err(Halt::Memory),
         },

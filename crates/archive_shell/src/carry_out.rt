@@ -9,10 +9,9 @@ ghost use Rattle.archive_shell.specs.Questions.{IsQuestion};
 ghost use Rattle.archive_shell.specs.Turns.{CanGoOn, CarriesOut, GoesOnFrom};
 
 use crate::answer::answer;
-use crate::show::show;
 use crate::stop::Stop;
 use archive_core::Archive;
-use archive_replies::ReplyPage;
+use archive_replies::{ReplyPage, show};
 use commands::Item;
 use machine_model::Machine;
 use std::alloc::Global;

@@ -11,10 +11,11 @@ mod answer;
 mod carry_out;
 mod desk;
 mod program;
+mod sampling;
+mod script;
 mod serve;
-mod show;
 mod status;
 mod stop;
 
-pub use program::{are_refused, run};
+pub use program::{refusal_of, run};
 pub use status::Status;

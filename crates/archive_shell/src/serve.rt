@@ -1,5 +1,6 @@
 //! Going over the items of the input.
 ghost use Rattle.std.specs.Prelude.{◌≡◌, ◌<◌, ◌≤◌, ◌^◌, ◌++◌, [], List, OnOk, IsErrOf, MatchResult, ℕ};
+ghost use Rattle.machine_model.specs.Areas.{Bytes};
 ghost use Rattle.machine_model.specs.Causes.{Rose};
 ghost use Rattle.machine_model.specs.Pulls.{Pull};
 ghost use Rattle.machine_model.specs.States.{SourceState};
@@ -38,6 +39,7 @@ pub(crate) fn step<M: Machine>(
     ensures sink_fault { IsErrOf result Status.Sink → Rose (M.sink machine.old).faults (M.sink machine.new).faults }
     ensures disk_fault { IsErrOf result Status.Disk → Rose (M.disk machine.old).faults (M.disk machine.new).faults }
     ensures no_usage { IsErrOf result Status.Usage → ⊥ }
+    ensures not_full { (length : ℕ) → IsErrOf result (Status.NotEmpty length) → ⊥ }
     ensures no_load { (at : ℕ) → IsErrOf result (Status.NotArchive at) → ⊥ }
     ensures ready { OnOk result (CanGoOn archive.new (M.disk machine.new).reach) }
     ensures follows { (h : History) → StandsFor archive.old h → OnOk result (GoesOnFrom h archive.new) }
@@ -53,10 +55,10 @@ pub(crate) fn step<M: Machine>(
         (pulls : List Pull) × M.asked machine.old pulls machine.new × MatchResult result
         (λ _. Serving h began (record { source = M.source machine.new; sink = M.sink machine.new; disk = M.disk machine.new }) archive.new reader.new (before ++ pulls))
         (λ status. Serves h status began (record { source = M.source machine.new; sink = M.sink machine.new; disk = M.disk machine.new }) (before ++ pulls)) }
-    ensures asks { M.source_tells → M.sink_tells → M.disk_tells → (h : History) (pages : List ℕ) (began : MachineState) →
-        Asking h pages began (record { source = M.source machine.old; sink = M.sink machine.old; disk = M.disk machine.old }) archive.old reader.old → MatchResult result
-        (λ _. Asking h pages began (record { source = M.source machine.new; sink = M.sink machine.new; disk = M.disk machine.new }) archive.new reader.new)
-        (λ status. HasEnded h pages status began (record { source = M.source machine.new; sink = M.sink machine.new; disk = M.disk machine.new })) }
+    ensures asks { M.source_tells → M.sink_tells → M.disk_tells → (h : History) (image : Bytes) (began : MachineState) →
+        Asking h image began (record { source = M.source machine.old; sink = M.sink machine.old; disk = M.disk machine.old }) archive.old reader.old → MatchResult result
+        (λ _. Asking h image began (record { source = M.source machine.new; sink = M.sink machine.new; disk = M.disk machine.new }) archive.new reader.new)
+        (λ status. HasEnded h image status began (record { source = M.source machine.new; sink = M.sink machine.new; disk = M.disk machine.new })) }
 {
     let item = match reader.next_item(alloc, machine) {
         Ok(item) => item,
@@ -85,6 +87,7 @@ pub(crate) fn serve<M: Machine>(
     ensures disk_fault { result ≡ Status.Disk → Rose (M.disk machine.old).faults (M.disk machine.new).faults }
     ensures disk_later { (M.disk machine.old).faults ≤ (M.disk machine.new).faults }
     ensures no_usage { result ≡ Status.Usage → ⊥ }
+    ensures not_full { (length : ℕ) → result ≡ Status.NotEmpty length → ⊥ }
     ensures no_load { (at : ℕ) → result ≡ Status.NotArchive at → ⊥ }
     ensures damaged { M.disk_tells → (h : History) → StandsFor archive.old h → (d : Damage) → result ≡ Status.Damaged d →
         (item : Item) × ((more : List Entry) × Spoils (h ++ more) (M.disk machine.new).holds.pages item d)
@@ -96,10 +99,10 @@ pub(crate) fn serve<M: Machine>(
         (pulls : List Pull) × M.asked machine.old pulls machine.new
         × Serves h result (record { source = M.source machine.old; sink = M.sink machine.old; disk = M.disk machine.old })
         (record { source = M.source machine.new; sink = M.sink machine.new; disk = M.disk machine.new }) pulls }
-    ensures asks { M.source_tells → M.sink_tells → M.disk_tells → (h : History) (pages : List ℕ) →
-        Asking h pages (record { source = M.source machine.old; sink = M.sink machine.old; disk = M.disk machine.old })
+    ensures asks { M.source_tells → M.sink_tells → M.disk_tells → (h : History) (image : Bytes) →
+        Asking h image (record { source = M.source machine.old; sink = M.sink machine.old; disk = M.disk machine.old })
         (record { source = M.source machine.old; sink = M.sink machine.old; disk = M.disk machine.old }) archive.old reader.old →
-        HasEnded h pages result (record { source = M.source machine.old; sink = M.sink machine.old; disk = M.disk machine.old })
+        HasEnded h image result (record { source = M.source machine.old; sink = M.sink machine.old; disk = M.disk machine.old })
         (record { source = M.source machine.new; sink = M.sink machine.new; disk = M.disk machine.new }) }
 {
     'items: loop {

@@ -1,9 +1,10 @@
 //! How a run ends.
 ghost use Rattle.std.specs.Prelude.{◌≡◌};
-ghost use Rattle.archive_shell.specs.Statuses.{code_of, status_of_load, status_of_script, status_of_stop, why_text};
+ghost use Rattle.archive_shell.specs.Statuses.{code_of, status_of_fill, status_of_load, status_of_script, status_of_stop, why_text};
 
 use crate::stop::Stop;
 use archive_core::LoadError;
+use archive_sample::FillError;
 use script_read::ScriptError;
 use std::fmt;
 use sublist_store::{Damage, Why};
@@ -35,6 +36,11 @@ pub enum Status {
     Damaged(Damage),
     /// The input has no end within 2^40 bytes.
     Budget,
+    /// A sample is made in an empty archive alone, and this one has entries.
+    NotEmpty {
+        /// How many.
+        length: u64,
+    },
     /// There was no memory.
     Memory,
 }
@@ -54,6 +60,7 @@ impl Status {
             Status::Script { .. } => 7,
             Status::Damaged(_) => 8,
             Status::Budget => 9,
+            Status::NotEmpty { .. } => 10,
             Status::Memory => 12,
         }
     }
@@ -80,6 +87,18 @@ impl From<ScriptError> for Status {
             ScriptError::Budget => Status::Budget,
             ScriptError::Failed => Status::Source,
             ScriptError::Memory => Status::Memory,
+        }
+    }
+}
+
+impl From<FillError> for Status {
+    ghost from_gives = { λ error status. status ≡ status_of_fill error };
+
+    fn from(error: FillError) -> Status {
+        match error {
+            FillError::Failed => Status::Disk,
+            FillError::Damaged(damage) => Status::Damaged(damage),
+            FillError::Memory => Status::Memory,
         }
     }
 }
@@ -122,6 +141,9 @@ impl fmt::Display for Status {
                 write!(f, "tt_archive: damaged sublist at page {page}: {word}")
             }
             Status::Budget => write!(f, "tt_archive: no end after 1099511627776 bytes"),
+            Status::NotEmpty { length } => {
+                write!(f, "tt_archive: the archive has {length} entries")
+            }
             Status::Memory => write!(f, "tt_archive: no memory"),
         }
     }

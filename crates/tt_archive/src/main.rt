@@ -1,24 +1,26 @@
 //! The program `tt_archive`: one run of the archive on the files of the working folder.
 //!
 //! It opens `archive.journal` and `archive.pages`, makes a machine of them and of the standard
-//! streams (`machine_files::open_machine`), and calls `archive_shell::run` on it. What it promises
-//! is that call's contract. Here stand only the words, the status line and the exit status.
+//! streams (`machine_files::open_machine`), whose long work is told of on standard error, and calls
+//! `archive_shell::run` on it. What it promises is that call's contract. Here stand only the words,
+//! the status line and the exit status.
 #![tactic(auto)]
 
 ghost use Rattle.std.specs.Prelude.{◌≡◌};
 ghost use Rattle.std.specs.Process.{exit_status};
 ghost use Rattle.archive_shell.specs.Statuses.{code_of};
 
-use archive_shell::{Status, are_refused, run};
-use machine_files::open_machine;
+use archive_shell::{Status, refusal_of, run};
+use machine_files::{ArgumentsError, Progress, arguments, open_machine};
 use std::env::Env;
 use std::fs::Files;
-use std::io;
+use std::io::IsTerminal;
 use std::os::unix::fs::FileExt;
 use std::process::ExitCode;
+use std::time::Clock;
 
 fn main(rt: HostRuntime) -> ExitCode {
-    let status = run_here(&rt);
+    let status = run_here(&rt, rt.stderr());
     finish(&rt, status)
 }
 
@@ -35,36 +37,25 @@ fn finish<R: Eprint>(rt: &R, status: Status) -> ExitCode
 }
 
 /// Reads the words of the command line, and then opens the files of the working folder and runs
-/// the words on them. Words that are refused touch no file.
-fn run_here<R: Files + Input + Print + Env + AllocGlobal>(rt: &R) -> Status
+/// the words on them. Words that are refused touch no file. Long work is told of on `errors`.
+fn run_here<R, E>(rt: &R, errors: E) -> Status
 where
+    R: Files + Input + Print + Env + Clock + AllocGlobal,
     R::File: FileExt,
+    E: Eprint + IsTerminal + Drop,
 {
-    let words = match words(rt) {
+    let words = match arguments(rt) {
         Ok(words) => words,
-        Err(error) => return status_of_words(&error),
+        Err(ArgumentsError::NotText) => return Status::Usage,
+        Err(ArgumentsError::Memory) => return Status::Memory,
     };
-    if are_refused(&words) {
-        return Status::Usage;
+    if let Some(status) = refusal_of(rt.alloc(), &words) {
+        return status;
     }
-    let Ok(mut machine) = open_machine(rt) else {
+    let Ok(machine) = open_machine(rt) else {
         return Status::Disk;
     };
+    let progress = Progress::new("tt_archive", rt, errors);
+    let mut machine = machine.watched(&progress);
     run(rt.alloc(), &words, &mut machine)
-}
-
-/// How a run ends whose words couldn't be read: there was no memory for them, or one isn't text.
-fn status_of_words(error: &io::Error) -> Status {
-    match error.kind() {
-        io::ErrorKind::OutOfMemory => Status::Memory,
-        _ => Status::Usage,
-    }
-}
-
-/// The words of the command line behind the program's name.
-fn words<R: Env + AllocGlobal>(rt: &R) -> io::Result<Vec<String>> {
-    let mut all = std::env::args(rt)?;
-    let _ = all.next();
-    let words = all.collect(rt.alloc())?;
-    Ok(words)
 }

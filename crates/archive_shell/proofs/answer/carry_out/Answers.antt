@@ -1,14 +1,13 @@
-use Rattle.std.proofs.Common.{OnOk, refl, sym, subst}
+use Rattle.std.proofs.Common.{OnOk, sym, subst}
 use Rattle.commands.specs.declared.command.Command.{Command}
 use Rattle.commands.specs.declared.command.Command.TheVariants as plain
 use Rattle.commands.specs.declared.command.Item.TheVariants as items
-use Rattle.archive_state.specs.declared.refusal.Refusal.TheVariants as refusals
-use Rattle.archive_core.specs.Takes.{changed, found, planned, proposed, shown, spanned}
+use Rattle.archive_core.specs.Takes.{changed, found, planned, proposed, shown, spanned, verified}
 use Rattle.archive_shell.specs.Turns.{Answers}
 use Rattle.archive_shell.specs.Asking.{IsOnPage}
 use Rattle.archive_shell.specs.Damages.{Spoils}
-use Rattle.archive_shell.proofs.QuestionLemmas.{made_find, made_between}
-use Rattle.archive_shell.proofs.TurnLemmas.{answers_by, refused_by}
+use Rattle.archive_shell.proofs.QuestionLemmas.{made_find, made_between, made_verify}
+use Rattle.archive_shell.proofs.TurnLemmas.{answers_by}
 use Rattle.archive_shell.proofs.answer.carry_out.Goals as goal
 
 pub returns-in-Delete-clause-turn : goal.returns-in-Delete-clause-turn
@@ -55,8 +54,9 @@ returns-in-Certificate-clause-turn g c = λ tells h kept.
 
 pub returns-in-Verify-clause-turn : goal.returns-in-Verify-clause-turn
 returns-in-Verify-clause-turn g c = λ tells h kept.
-    let C : Command → Type 0 = λ d. Answers h (items.Command d) c.refuse.result (g.D.Disk.disk c.args.disk.now) (g.D.Disk.disk c.args.disk.now) c.args.archive.now c.refuse.new.page.bytes in
-    subst C (sym c.in-Verify.is) (refused_by h (items.Command plain.Verify) refusals.Line c.refuse.result _ c.args.archive.now c.refuse.new.page.bytes (refl, refl) kept c.refuse.ensures.goes_on c.refuse.ensures.reply)
+    let C : Command → Type 0 = λ d. Answers h (items.Command d) c.write_verified.result (g.D.Disk.disk c.args.disk.now) (g.D.Disk.disk c.verify-result.new.disk) c.args.archive.now c.write_verified.new.page.bytes in
+    subst C (sym c.in-Verify.is) (answers_by h (items.Command plain.Verify) (verified c.verify-result.result) c.write_verified.result _ _ c.args.archive.now c.write_verified.new.page.bytes
+    (c.verify-result.ensures.takes tells h kept) c.write_verified.ensures.writes)
 
 pub returns-in-Find-clause-damaged : goal.returns-in-Find-clause-damaged
 returns-in-Find-clause-damaged g c = λ tells h stands d is.
@@ -70,14 +70,21 @@ returns-in-Between-clause-damaged g c = λ tells h stands d is.
 
 pub returns-in-Find-clause-made : goal.returns-in-Find-clause-made
 returns-in-Find-clause-made g c = λ tells h stands question.
-    let pages = (g.D.Disk.disk c.args.disk.now).holds.pages in
-    let C : Command → Type 0 = λ d. OnOk c.write_found.result (IsOnPage h pages (items.Command d) c.write_found.new.page.bytes) in
+    let image = (g.D.Disk.disk c.args.disk.now).holds in
+    let C : Command → Type 0 = λ d. OnOk c.write_found.result (IsOnPage h image (items.Command d) c.write_found.new.page.bytes) in
     subst C (sym c.in-Find.is)
-    (made_find h pages c.in-Find.at c.in-Find.expr _ c.find-result.result c.write_found.result c.write_found.new.page.bytes (c.find-result.ensures.made tells h stands) c.find-result.ensures.refused c.write_found.ensures.writes)
+    (made_find h image c.in-Find.at c.in-Find.expr _ c.find-result.result c.write_found.result c.write_found.new.page.bytes (c.find-result.ensures.made tells h stands) c.find-result.ensures.refused c.write_found.ensures.writes)
 
 pub returns-in-Between-clause-made : goal.returns-in-Between-clause-made
 returns-in-Between-clause-made g c = λ tells h stands question.
-    let pages = (g.D.Disk.disk c.args.disk.now).holds.pages in
-    let C : Command → Type 0 = λ d. OnOk c.write_spanned.result (IsOnPage h pages (items.Command d) c.write_spanned.new.page.bytes) in
+    let image = (g.D.Disk.disk c.args.disk.now).holds in
+    let C : Command → Type 0 = λ d. OnOk c.write_spanned.result (IsOnPage h image (items.Command d) c.write_spanned.new.page.bytes) in
     subst C (sym c.in-Between.is)
-    (made_between h pages c.in-Between.span c.in-Between.expr _ c.between-result.result c.write_spanned.result c.write_spanned.new.page.bytes (c.between-result.ensures.made tells h stands) c.between-result.ensures.refused c.write_spanned.ensures.writes)
+    (made_between h image c.in-Between.span c.in-Between.expr _ c.between-result.result c.write_spanned.result c.write_spanned.new.page.bytes (c.between-result.ensures.made tells h stands) c.between-result.ensures.refused c.write_spanned.ensures.writes)
+
+pub returns-in-Verify-clause-made : goal.returns-in-Verify-clause-made
+returns-in-Verify-clause-made g c = λ tells h stands question.
+    let image = (g.D.Disk.disk c.args.disk.now).holds in
+    let C : Command → Type 0 = λ d. OnOk c.write_verified.result (IsOnPage h image (items.Command d) c.write_verified.new.page.bytes) in
+    subst C (sym c.in-Verify.is)
+    (made_verify h image c.verify-result.result c.write_verified.result c.write_verified.new.page.bytes (c.verify-result.ensures.checked tells h stands) c.verify-result.ensures.never c.write_verified.ensures.writes)

@@ -12,7 +12,7 @@ items-preserved g c =
       sink_later = omega (arith, was.sink_later, now.sink_later);
       disk_later = omega (arith, was.disk_later, now.disk_later);
       follows = λ h stands. (let before = was.follows h stands in goes_on_further h before.0 c.step.new.archive (now.follows (h ++ before.0) before.1));
-      asking = λ source_tells sink_tells disk_tells h pages start. now.asks source_tells sink_tells disk_tells h pages _ (was.asking source_tells sink_tells disk_tells h pages start);
+      asking = λ source_tells sink_tells disk_tells h image start. now.asks source_tells sink_tells disk_tells h image _ (was.asking source_tells sink_tells disk_tells h image start);
       pulling = λ source_tells start. now.pulls source_tells _ (was.pulling source_tells start);
       serving = λ source_tells sink_tells disk_tells h start.
           let so_far = was.serving source_tells sink_tells disk_tells h start in
@@ -36,5 +36,5 @@ returns-in-Err-clause-served g c = λ source_tells sink_tells disk_tells h start
     (so_far.0 ++ next.0, g.M.Machine.asked_joins _ _ _ so_far.0 next.0 so_far.1 next.1, next.2)
 
 pub returns-in-Err-clause-asks : goal.returns-in-Err-clause-asks
-returns-in-Err-clause-asks g c = λ source_tells sink_tells disk_tells h pages start.
-    c.in-Err.ensures.asks source_tells sink_tells disk_tells h pages _ (c.items.invariant.asking source_tells sink_tells disk_tells h pages start)
+returns-in-Err-clause-asks g c = λ source_tells sink_tells disk_tells h image start.
+    c.in-Err.ensures.asks source_tells sink_tells disk_tells h image _ (c.items.invariant.asking source_tells sink_tells disk_tells h image start)

@@ -1,4 +1,5 @@
-use Rattle.std.proofs.Common.{◌≤◌, ◌-◌, ◌^◌, ℕ, List, []}
+use Rattle.std.proofs.Common.{◌≤◌, ◌-◌, ◌^◌, List, []}
+use Rattle.machine_model.specs.Areas.{Bytes}
 use Rattle.machine_model.specs.Pulls.{Pull}
 use Rattle.archive_state.specs.Histories.{History}
 use Rattle.archive_core.specs.States.{StandsFor}
@@ -14,9 +15,9 @@ invariant-items g l = record {
   sink_later : (g.M.Sink.sink l.fn.machine).faults ≤ (g.M.Sink.sink l.machine).faults;
   disk_later : (g.M.Disk.disk l.fn.machine).faults ≤ (g.M.Disk.disk l.machine).faults;
   follows : (h : History) → StandsFor l.fn.archive h → GoesOnFrom h l.archive;
-  asking : g.M.Source.source_tells → g.M.Sink.sink_tells → g.M.Disk.disk_tells → (h : History) (pages : List ℕ)
-      → Asking h pages (record { source = g.M.Source.source l.fn.machine; sink = g.M.Sink.sink l.fn.machine; disk = g.M.Disk.disk l.fn.machine }) (record { source = g.M.Source.source l.fn.machine; sink = g.M.Sink.sink l.fn.machine; disk = g.M.Disk.disk l.fn.machine }) l.fn.archive l.fn.reader
-      → Asking h pages (record { source = g.M.Source.source l.fn.machine; sink = g.M.Sink.sink l.fn.machine; disk = g.M.Disk.disk l.fn.machine }) (record { source = g.M.Source.source l.machine; sink = g.M.Sink.sink l.machine; disk = g.M.Disk.disk l.machine }) l.archive l.reader;
+  asking : g.M.Source.source_tells → g.M.Sink.sink_tells → g.M.Disk.disk_tells → (h : History) (image : Bytes)
+      → Asking h image (record { source = g.M.Source.source l.fn.machine; sink = g.M.Sink.sink l.fn.machine; disk = g.M.Disk.disk l.fn.machine }) (record { source = g.M.Source.source l.fn.machine; sink = g.M.Sink.sink l.fn.machine; disk = g.M.Disk.disk l.fn.machine }) l.fn.archive l.fn.reader
+      → Asking h image (record { source = g.M.Source.source l.fn.machine; sink = g.M.Sink.sink l.fn.machine; disk = g.M.Disk.disk l.fn.machine }) (record { source = g.M.Source.source l.machine; sink = g.M.Sink.sink l.machine; disk = g.M.Disk.disk l.machine }) l.archive l.reader;
   pulling : g.M.Source.source_tells → Pulling (g.M.Source.source l.fn.machine) (g.M.Source.source l.fn.machine) l.fn.reader → Pulling (g.M.Source.source l.fn.machine) (g.M.Source.source l.machine) l.reader;
   serving : g.M.Source.source_tells → g.M.Sink.sink_tells → g.M.Disk.disk_tells → (h : History)
       → Serving h (record { source = g.M.Source.source l.fn.machine; sink = g.M.Sink.sink l.fn.machine; disk = g.M.Disk.disk l.fn.machine })

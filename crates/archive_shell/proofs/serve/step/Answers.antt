@@ -149,59 +149,59 @@ returns-in-Err-carry_out-clause-goes_on g c = λ source_tells sink_tells disk_te
     )
 
 pub returns-in-Err-clause-asks : goal.returns-in-Err-clause-asks
-returns-in-Err-clause-asks g c = λ source_tells sink_tells disk_tells h pages began asking. record {
+returns-in-Err-clause-asks g c = λ source_tells sink_tells disk_tells h image began asking. record {
   done = λ is. absurd (script_not_done c.in-Err.error (sym c.from.ensures ∙ is));
   damaged = λ d is. absurd (script_not_damaged c.in-Err.error d (sym c.from.ensures ∙ is));
 }
 
 pub returns-in_default-clause-asks : goal.returns-in_default-clause-asks
-returns-in_default-clause-asks g c = λ source_tells sink_tells disk_tells h pages began asking.
+returns-in_default-clause-asks g c = λ source_tells sink_tells disk_tells h image began asking.
     let m = c.args.machine.now in
     let mid = c.next_item.new.source in
     let alone = g.met.M.Machine.source_alone m mid c.next_item.ensures.only in
-    let here = asking_along h pages began (g.M.Source.source m) (g.M.Sink.sink m) (g.M.Sink.sink mid) (g.M.Disk.disk m) (g.M.Disk.disk mid) c.args.archive.now c.args.reader.now alone.0 alone.1 asking in
+    let here = asking_along h image began (g.M.Source.source m) (g.M.Sink.sink m) (g.M.Sink.sink mid) (g.M.Disk.disk m) (g.M.Disk.disk mid) c.args.archive.now c.args.reader.now alone.0 alone.1 asking in
     let p = here.pulling in
     let says = c.in-Ok.ensures.says p.since p.reads.stands in
     record {
       damaged = λ d is. absurd cc;
       done = λ is.
-          asked_all h pages began (record { source = g.M.Source.source m; sink = g.M.Sink.sink mid; disk = g.M.Disk.disk mid }) (g.M.Source.source mid) c.args.archive.now c.args.reader.now c.next_item.new.self here
+          asked_all h image began (record { source = g.M.Source.source m; sink = g.M.Sink.sink mid; disk = g.M.Disk.disk mid }) (g.M.Source.source mid) c.args.archive.now c.args.reader.now c.next_item.new.self here
           (gives_as c.args.reader.now c.next_item.new.self p.since (Ok c.in-Ok.item) (Ok None) (g.M.Source.source m) (g.M.Source.source mid) (ap Ok c.in_default.is)
           (record { more = says.0; gave = says.1 source_tells; calm = says.2; says = says.3; told = c.in-Ok.ensures.end source_tells p.told }));
     }
 
 pub returns-in-Ok-carry_out-clause-asks : goal.returns-in-Ok-carry_out-clause-asks
-returns-in-Ok-carry_out-clause-asks g c = λ source_tells sink_tells disk_tells h pages began asking.
+returns-in-Ok-carry_out-clause-asks g c = λ source_tells sink_tells disk_tells h image began asking.
     let m = c.args.machine.now in
     let mid = c.next_item.new.source in
     let last = c.carry_out.new.machine in
     let alone = g.met.M.Machine.source_alone m mid c.next_item.ensures.only in
-    let here = asking_along h pages began (g.M.Source.source m) (g.M.Sink.sink m) (g.M.Sink.sink mid) (g.M.Disk.disk m) (g.M.Disk.disk mid) c.args.archive.now c.args.reader.now alone.0 alone.1 asking in
+    let here = asking_along h image began (g.M.Source.source m) (g.M.Sink.sink m) (g.M.Sink.sink mid) (g.M.Disk.disk m) (g.M.Disk.disk mid) c.args.archive.now c.args.reader.now alone.0 alone.1 asking in
     let p = here.pulling in
     let says = c.in-Ok.ensures.says p.since p.reads.stands in
-    let S : SourceState → Type 0 = λ s. Asking h pages began (record { source = s; sink = g.M.Sink.sink last; disk = g.M.Disk.disk last }) c.carry_out.new.archive c.next_item.new.self in
+    let S : SourceState → Type 0 = λ s. Asking h image began (record { source = s; sink = g.M.Sink.sink last; disk = g.M.Disk.disk last }) c.carry_out.new.archive c.next_item.new.self in
     subst S (sym c.carry_out.ensures.source)
-    (asking_next h pages began (record { source = g.M.Source.source m; sink = g.M.Sink.sink mid; disk = g.M.Disk.disk mid }) (g.M.Source.source mid) (g.M.Sink.sink last) (g.M.Disk.disk last) c.args.archive.now c.carry_out.new.archive c.args.reader.now c.next_item.new.self c.in-Some.item here
+    (asking_next h image began (record { source = g.M.Source.source m; sink = g.M.Sink.sink mid; disk = g.M.Disk.disk mid }) (g.M.Source.source mid) (g.M.Sink.sink last) (g.M.Disk.disk last) c.args.archive.now c.carry_out.new.archive c.args.reader.now c.next_item.new.self c.in-Some.item here
     (gives_as c.args.reader.now c.next_item.new.self p.since (Ok c.in-Ok.item) (Ok (Some c.in-Some.item)) (g.M.Source.source m) (g.M.Source.source mid) (ap Ok c.in-Some.is)
     (record { more = says.0; gave = says.1 source_tells; calm = says.2; says = says.3; told = c.in-Ok.ensures.end source_tells p.told }))
     (λ stands question. c.in-Ok-carry_out.ensures.question disk_tells sink_tells h stands question))
 
 pub returns-in-Err-carry_out-clause-asks : goal.returns-in-Err-carry_out-clause-asks
-returns-in-Err-carry_out-clause-asks g c = λ source_tells sink_tells disk_tells h pages began asking.
+returns-in-Err-carry_out-clause-asks g c = λ source_tells sink_tells disk_tells h image began asking.
     let m = c.args.machine.now in
     let mid = c.next_item.new.source in
     let last = c.carry_out.new.machine in
     let alone = g.met.M.Machine.source_alone m mid c.next_item.ensures.only in
-    let here = asking_along h pages began (g.M.Source.source m) (g.M.Sink.sink m) (g.M.Sink.sink mid) (g.M.Disk.disk m) (g.M.Disk.disk mid) c.args.archive.now c.args.reader.now alone.0 alone.1 asking in
+    let here = asking_along h image began (g.M.Source.source m) (g.M.Sink.sink m) (g.M.Sink.sink mid) (g.M.Disk.disk m) (g.M.Disk.disk mid) c.args.archive.now c.args.reader.now alone.0 alone.1 asking in
     let p = here.pulling in
     let says = c.in-Ok.ensures.says p.since p.reads.stands in
     let out = λ (d : Damage) (stands : StandsFor c.args.archive.now h) (is : c.from-in-Err-carry_out.result ≡ Damaged d).
     c.in-Err-carry_out.ensures.damaged disk_tells h stands d (ap Err (stopped_at c.in-Err-carry_out.stop d (sym c.from-in-Err-carry_out.ensures ∙ is))) in
-    let S : Damage → SourceState → Type 0 = λ d s. HasStopped h pages began (record { source = s; sink = g.M.Sink.sink last; disk = g.M.Disk.disk last }) d in
+    let S : Damage → SourceState → Type 0 = λ d s. HasStopped h image began (record { source = s; sink = g.M.Sink.sink last; disk = g.M.Disk.disk last }) d in
     record {
       done = λ is. absurd (stop_not_done c.in-Err-carry_out.stop (sym c.from-in-Err-carry_out.ensures ∙ is));
       damaged = λ d is. subst (S d) (sym c.carry_out.ensures.source)
-          (asking_stops h pages began (record { source = g.M.Source.source m; sink = g.M.Sink.sink mid; disk = g.M.Disk.disk mid }) (g.M.Source.source mid) (g.M.Sink.sink last) (g.M.Disk.disk last) c.args.archive.now c.args.reader.now c.next_item.new.self c.in-Some.item d here
+          (asking_stops h image began (record { source = g.M.Source.source m; sink = g.M.Sink.sink mid; disk = g.M.Disk.disk mid }) (g.M.Source.source mid) (g.M.Sink.sink last) (g.M.Disk.disk last) c.args.archive.now c.args.reader.now c.next_item.new.self c.in-Some.item d here
           (gives_as c.args.reader.now c.next_item.new.self p.since (Ok c.in-Ok.item) (Ok (Some c.in-Some.item)) (g.M.Source.source m) (g.M.Source.source mid) (ap Ok c.in-Some.is)
           (record { more = says.0; gave = says.1 source_tells; calm = says.2; says = says.3; told = c.in-Ok.ensures.end source_tells p.told }))
           (λ stands. let found = out d stands is in (found.0, ap (λ (s : SinkState). s.shown) found.2)));

@@ -1,0 +1,208 @@
+-- A run over the commands of a sample: the load, the commands, and the two lines.
+use Rattle.std.proofs.Common.{◌≡◌, ◌⊎◌, ℕ, List, [], ◌∷◌, ◌++◌, length, map, All, Ok, Err, refl, inl, inr, ap, subst, sym, ◌∙◌, arith, append_assoc}
+use Rattle.std.proofs.lemmas.List.{append-nil, append_cancel_left}
+use Rattle.machine_model.specs.Areas.{Bytes}
+use Rattle.machine_model.specs.Moments.{GoesOn, LeavesOnly}
+use Rattle.machine_model.specs.Pushes.{IsPrefix, IsSameBeside, OnlyShows}
+use Rattle.machine_model.specs.States.{DiskState, SinkState}
+use Rattle.machine_model.proofs.MomentLemmas.{joined, goes_on_joins}
+use Rattle.commands.specs.declared.command.Item.TheVariants as items
+use Rattle.commands.specs.Documents.{HasDocument}
+use Rattle.program_words.specs.Words.{AreNoWords, AreWords}
+use Rattle.program_words.specs.declared.task.Task.{Task}
+use Rattle.sample_commands.specs.Samples.{sample_of}
+use Rattle.archive_state.specs.Histories.{History}
+use Rattle.archive_state.specs.Legal.{IsLegal}
+use Rattle.archive_state.specs.Steps.{Reply, Step}
+use Rattle.archive_state.specs.Runs.{Turn, IsRun}
+use Rattle.archive_state.specs.Standing.{last_state}
+use Rattle.archive_state.specs.Holding.{HoldsPlan}
+use Rattle.archive_state.specs.Stands.{Stands, EachStands, bodies_of}
+use Rattle.gate_journal.specs.Spelled.{Spells}
+use Rattle.archive_replay.specs.declared.error.LoadError.{LoadError}
+use Rattle.archive_replay.specs.declared.error.LoadError.TheVariants as loads
+use Rattle.std.proofs.lemmas.List.Elements.{All-nil}
+use Rattle.archive_state.proofs.RunLemmas.{state_after_all}
+use Rattle.archive_replies.specs.Tallies.{sample_text}
+use Rattle.archive_sample.specs.Filling.{EndsFilled, Fills, IsFilled}
+use Rattle.archive_sample.proofs.LawLemmas.{reports}
+use Rattle.archive_sample.specs.declared.error.FillError.{FillError}
+use Rattle.archive_sample.specs.declared.error.FillError.TheVariants as fills
+use Rattle.archive_sample.specs.declared.report.Report.{Report}
+use Rattle.archive_core.specs.States.{ArchiveState}
+use Rattle.archive_core.specs.Changing.{KeepsHistory}
+use Rattle.archive_core.proofs.AddLemmas.{kept_stands}
+use Rattle.sublist_store.specs.declared.why.Damage.{Damage}
+use Rattle.archive_shell.specs.Sampling.{EndsSample, Reached, Sampled}
+use Rattle.archive_shell.specs.Statuses.{status_of_fill, status_of_load}
+use Rattle.archive_shell.specs.declared.status.Status.{Status}
+use Rattle.archive_shell.specs.declared.status.Status.TheVariants.{Done, Usage, NotArchive, Disk, Source, Sink, Script, Damaged, Budget, NotEmpty, Memory}
+use Rattle.archive_shell.proofs.ServeLemmas.{run_on}
+use Rattle.archive_shell.proofs.ShowLemmas.{same_images}
+
+-- what was left while the commands were carried out
+filled_reaches : (turns : List (Turn Reply History)) (before : List ℕ) (old new : DiskState) → old.now.beside ≡ before → Fills [] turns old new → LeavesOnly old new (Reached turns before)
+filled_reaches turns before old new beside filled = λ image other left.
+    let was = filled.images image other left in
+    record { j = was.0.0; within = was.0.1; holds = was.0.2; shown = inl (was.1 ∙ beside) }
+
+-- where each image stands for the last history, what is left while the lines are shown does
+shown_reaches : (turns : List (Turn Reply History)) (before after : List ℕ) (old new : DiskState) → EachStands old (last_state [] turns) → OnlyShows old new before after → LeavesOnly old new (Reached turns before)
+shown_reaches turns before after old new each shows = λ image beside left.
+    let was = shows.since image beside left in
+    let S : History → Type 0 = λ h. Stands h image in
+    record { j = length turns; within = omega arith; holds = subst S (sym (state_after_all [] turns)) (each image was.0); shown = inr refl }
+
+-- what was left while the archive was loaded
+load_reaches : (turns : List (Turn Reply History)) (before : List ℕ) (old new : DiskState) → old.now.beside ≡ before → KeepsHistory [] old new → LeavesOnly old new (Reached turns before)
+load_reaches turns before old new beside keeps = λ image other left.
+    let was = keeps.images image other left in
+    record { j = 0; within = omega arith; holds = was.0; shown = inl (was.1 ∙ beside) }
+
+-- ---- the ends of a run
+
+-- a run that showed nothing
+pub unshown : (seed count : ℕ) (status : Status) (output output_now : SinkState) (old new : DiskState) (turns : List (Turn Reply History)) → IsRun Step [] (map items.Command (sample_of seed count)) turns
+    → output_now.shown ≡ output.shown → (status ≡ Done → ⊥) → ((damage : Damage) → status ≡ Damaged damage → ⊥) → GoesOn old new → (EachStands old [] → LeavesOnly old new (Reached turns output.shown))
+    → Sampled seed count status output output_now old new
+unshown seed count status output output_now old new turns run same not_done undamaged on images =
+    let has = reports seed count [] turns run in
+    record {
+      turns = turns;
+      run = run;
+      report = has.0;
+      report_is = has.1;
+      shown = [];
+      shown_is = same ∙ sym (append-nil output.shown);
+      front = (sample_text count has.0.tally has.0.verdict, refl);
+      whole = λ is. absurd (not_done is);
+      goes_on = on;
+      images = images;
+      last = λ is. absurd (not_done is);
+      undamaged = undamaged;
+    }
+
+-- how a run ends at a command
+pub fill_ends : (error : FillError) → EndsSample (status_of_fill error)
+fill_ends fills.Failed = tt
+fill_ends (fills.Damaged damage) = tt
+fill_ends fills.Memory = tt
+
+pub fill_not_done : (error : FillError) → status_of_fill error ≡ Done → ⊥
+fill_not_done fills.Failed is = cc
+fill_not_done (fills.Damaged damage) is = cc
+fill_not_done fills.Memory is = cc
+
+pub fill_undamaged : (turns : List (Turn Reply History)) (new : DiskState) (archive_now : ArchiveState) (error : FillError) → EndsFilled [] turns new archive_now (Err error) → (damage : Damage) → status_of_fill error ≡ Damaged damage → ⊥
+fill_undamaged turns new archive_now fills.Failed ends damage is = cc
+fill_undamaged turns new archive_now (fills.Damaged other) ends damage is = ends
+fill_undamaged turns new archive_now fills.Memory ends damage is = cc
+
+-- the commands were carried out up to an error
+pub filled_to_error : (seed count : ℕ) (error : FillError) (output output_now : SinkState) (old new : DiskState) (archive_now : ArchiveState) → old.now.beside ≡ output.shown → output_now ≡ output
+    → IsFilled [] (sample_of seed count) (Err error) old new archive_now → Sampled seed count (status_of_fill error) output output_now old new
+filled_to_error seed count error output output_now old new archive_now beside same filled =
+    unshown seed count (status_of_fill error) output output_now old new filled.turns filled.run (ap (λ (s : SinkState). s.shown) same) (fill_not_done error) (fill_undamaged filled.turns new archive_now error filled.ends) filled.fills.goes_on
+    (λ each. filled_reaches filled.turns output.shown old new beside filled.fills)
+
+-- they were carried out, and there was no memory for the lines
+pub filled_unshown : (seed count : ℕ) (report : Report) (output output_now : SinkState) (old new : DiskState) (archive_now : ArchiveState) → old.now.beside ≡ output.shown → output_now ≡ output
+    → IsFilled [] (sample_of seed count) (Ok report) old new archive_now → Sampled seed count Memory output output_now old new
+filled_unshown seed count report output output_now old new archive_now beside same filled =
+    unshown seed count Memory output output_now old new filled.turns filled.run (ap (λ (s : SinkState). s.shown) same) (λ is. cc) (λ damage is. cc) filled.fills.goes_on (λ each. filled_reaches filled.turns output.shown old new beside filled.fills)
+
+-- the lines were shown, or a front of them
+pub filled_shown : (seed count : ℕ) (status : Status) (report : Report) (output output_now : SinkState) (old mid new : DiskState) (archive_now : ArchiveState) (page : List ℕ) → old.now.beside ≡ output.shown
+    → IsFilled [] (sample_of seed count) (Ok report) old mid archive_now → page ≡ sample_text count report.tally report.verdict → OnlyShows mid new output.shown output_now.shown → IsSameBeside mid new
+    → IsPrefix output_now.shown (output.shown ++ page) → (status ≡ Done → output_now.shown ≡ output.shown ++ page) → ((damage : Damage) → status ≡ Damaged damage → ⊥)
+    → Sampled seed count status output output_now old new
+filled_shown seed count status report output output_now old mid new archive_now page beside filled text shows same front whole undamaged =
+    let turns = filled.turns in
+    let each : EachStands mid (last_state [] turns) = kept_stands mid archive_now (last_state [] turns) filled.ends.1 in
+    record {
+      turns = turns;
+      run = filled.run;
+      report = report;
+      report_is = filled.ends.0;
+      shown = shows.grows.0;
+      shown_is = shows.grows.1;
+      front = (
+        front.0,
+        sym text
+            ∙ append_cancel_left output.shown page (shows.grows.0 ++ front.0) (front.1 ∙ ap (λ (l : List ℕ). l ++ front.0) shows.grows.1 ∙ append_assoc output.shown shows.grows.0 front.0),
+      );
+      whole = λ is. append_cancel_left output.shown shows.grows.0 (sample_text count report.tally report.verdict) (sym shows.grows.1 ∙ whole is ∙ ap (λ (l : List ℕ). output.shown ++ l) text);
+      goes_on = goes_on_joins filled.fills.goes_on shows.goes_on;
+      images = λ start. joined (Reached turns output.shown) filled.fills.goes_on (filled_reaches turns output.shown old mid beside filled.fills) shows.goes_on (shown_reaches turns output.shown output_now.shown mid new each shows);
+      last = λ is image allowed. each image (same_images mid new same image allowed);
+      undamaged = undamaged;
+    }
+
+-- behind the load
+pub loaded_then : (seed count : ℕ) (status : Status) (output output_now : SinkState) (old mid new : DiskState) → old.now.beside ≡ output.shown → GoesOn old mid → (EachStands old [] → KeepsHistory [] old mid) → EachStands mid []
+    → Sampled seed count status output output_now mid new → Sampled seed count status output output_now old new
+loaded_then seed count status output output_now old mid new beside on keeps start sampled = record {
+  turns = sampled.turns;
+  run = sampled.run;
+  report = sampled.report;
+  report_is = sampled.report_is;
+  shown = sampled.shown;
+  shown_is = sampled.shown_is;
+  front = sampled.front;
+  whole = sampled.whole;
+  goes_on = goes_on_joins on sampled.goes_on;
+  images = λ each. joined (Reached sampled.turns output.shown) on (load_reaches sampled.turns output.shown old mid beside (keeps each)) sampled.goes_on (sampled.images start);
+  last = sampled.last;
+  undamaged = sampled.undamaged;
+}
+
+-- the archive wasn't loaded
+pub not_loaded : (seed count : ℕ) (status : Status) (output output_now : SinkState) (old new : DiskState) → All HasDocument (map items.Command (sample_of seed count)) → old.now.beside ≡ output.shown → output_now ≡ output
+    → (status ≡ Done → ⊥) → ((damage : Damage) → status ≡ Damaged damage → ⊥) → GoesOn old new → (EachStands old [] → KeepsHistory [] old new) → Sampled seed count status output output_now old new
+not_loaded seed count status output output_now old new range beside same not_done undamaged going keeps =
+    let start : IsLegal [] = tt in
+    let on = run_on [] (map items.Command (sample_of seed count)) start range in
+    unshown seed count status output output_now old new on.0 on.1 (ap (λ (s : SinkState). s.shown) same) not_done undamaged going (λ each. load_reaches on.0 output.shown old new beside (keeps each))
+
+-- ---- the load
+
+pub load_not_done : (error : LoadError) → status_of_load error ≡ Done → ⊥
+load_not_done loads.Failed is = cc
+load_not_done (loads.NotArchive at) is = cc
+load_not_done loads.Memory is = cc
+
+pub load_fills : (error : LoadError) → (error ≡ loads.Failed → ⊥) → ((at : ℕ) → error ≡ loads.NotArchive at → ⊥) → (status_of_load error ≡ Done) ⊎ (status_of_load error ≡ Memory)
+load_fills loads.Failed never archive = absurd (never refl)
+load_fills (loads.NotArchive at) never archive = absurd (archive at refl)
+load_fills loads.Memory never archive = inr refl
+
+none_of : (h : History) → length h ≡ 0 → h ≡ []
+none_of [] none = refl
+none_of (entry ∷ h) none = absurd (omega (arith, none))
+
+-- a journal that spells no entry stands for none
+pub empty_stands : (h : History) (image : Bytes) → length h ≡ 0 → Spells image.journal (bodies_of h) → Stands [] image
+empty_stands h image none spelled =
+    let S : History → Type 0 = λ x. Spells image.journal (bodies_of x) in
+    record { spelled = subst S (none_of h none) spelled; legal = tt; held = record { apart = tt; each = All-nil (λ stored. HoldsPlan [] image.pages stored.plan) } }
+
+-- how a run over a sample ends that had no fault
+pub sample_completes : (status : Status) → EndsSample status → (status ≡ Disk → ⊥) → (status ≡ Sink → ⊥) → ((damage : Damage) → status ≡ Damaged damage → ⊥) → (status ≡ Done) ⊎ (status ≡ Memory)
+sample_completes Done ends disk sink undamaged = inl refl
+sample_completes Memory ends disk sink undamaged = inr refl
+sample_completes Disk ends disk sink undamaged = absurd (disk refl)
+sample_completes Sink ends disk sink undamaged = absurd (sink refl)
+sample_completes (Damaged damage) ends disk sink undamaged = absurd (undamaged damage refl)
+sample_completes Usage ends disk sink undamaged = absurd ends
+sample_completes (NotArchive at) ends disk sink undamaged = absurd ends
+sample_completes Source ends disk sink undamaged = absurd ends
+sample_completes (Script at) ends disk sink undamaged = absurd ends
+sample_completes Budget ends disk sink undamaged = absurd ends
+sample_completes (NotEmpty n) ends disk sink undamaged = absurd ends
+
+-- ---- words
+
+-- a run that ends at its words, where these ask for something, had no memory to read them
+pub at_words : (P : Status → Type 0) (status : Status) (words : List (List ℕ)) (task : Task) → (status ≡ Memory) ⊎ ((status ≡ Usage) × AreNoWords words) → AreWords words task → P Memory → P status
+at_words P status words task (inl memory) are holds = subst P (sym memory) holds
+at_words P status words task (inr none) are holds = absurd (none.1 task are)

@@ -1,0 +1,71 @@
+//! A run over the commands of the input.
+ghost use Rattle.std.specs.Prelude.{◌≡◌, ◌⊎◌, ◌<◌, ◌≤◌, ◌^◌, ℕ, true, List, [], length, All};
+ghost use Rattle.machine_model.specs.Calls.{Syncs};
+ghost use Rattle.machine_model.specs.Causes.{Rose};
+ghost use Rattle.machine_model.specs.Pulls.{Pull};
+ghost use Rattle.script_read.specs.Items.{IsScript, Splits};
+ghost use Rattle.archive_state.specs.Histories.{History};
+ghost use Rattle.archive_state.specs.Stands.{Stands, IsNotArchive, bodies_of};
+ghost use Rattle.gate_journal.specs.Spelled.{Spells};
+ghost use Rattle.commands.specs.declared.command.Item.{Item};
+ghost use Rattle.archive_shell.specs.Damages.{IsPulled, ShowsDamage};
+ghost use Rattle.archive_shell.specs.Questions.{AreMade, AreMadeUpTo, IsQuestion};
+ghost use Rattle.archive_shell.specs.Headline.{Headline, MachineState};
+
+use crate::desk::Desk;
+use crate::serve::serve;
+use crate::status::Status;
+use archive_core::Archive;
+use machine_model::Machine;
+use std::alloc::Global;
+use sublist_store::Damage;
+
+/// Loads the archive of the machine's disk, and carries out the items of its source one after another.
+pub(crate) fn run_script<M: Machine>(alloc: Global, machine: &mut M) -> Status
+    ensures no_usage { result ≡ Status.Usage → ⊥ }
+    ensures not_full { (length : ℕ) → result ≡ Status.NotEmpty length → ⊥ }
+    ensures disk_fault { result ≡ Status.Disk → Rose (M.disk machine.old).faults (M.disk machine.new).faults }
+    ensures source_fault { result ≡ Status.Source → Rose (M.source machine.old).faults (M.source machine.new).faults }
+    ensures sink_fault { result ≡ Status.Sink → Rose (M.sink machine.old).faults (M.sink machine.new).faults }
+    ensures not_archive { M.disk_tells → (at : ℕ) → result ≡ Status.NotArchive at → IsNotArchive (M.disk machine.old).holds at }
+    ensures refused { M.disk_tells → (at : ℕ) → IsNotArchive (M.disk machine.old).holds at →
+        (result ≡ Status.NotArchive at) ⊎ ((result ≡ Status.Disk) ⊎ (result ≡ Status.Memory)) }
+    ensures damaged { M.disk_tells → (d : Damage) → result ≡ Status.Damaged d → (item : Item) × ShowsDamage (M.disk machine.old) (M.disk machine.new) item d
+        × (M.source_tells → IsPulled (M.source machine.old) (M.source machine.new) item) }
+    ensures questions { M.source_tells → M.sink_tells → M.disk_tells → (asked : List Item) → Splits true (M.source machine.old).left asked [] →
+        All IsQuestion asked → result ≡ Status.Done → (loaded : History) × Spells (M.disk machine.old).holds.journal (bodies_of loaded)
+        × AreMade loaded (M.disk machine.old).holds asked (M.sink machine.old).shown (M.sink machine.new).shown }
+    ensures stopped { M.source_tells → M.sink_tells → M.disk_tells → (asked : List Item) → Splits true (M.source machine.old).left asked [] →
+        All IsQuestion asked → (d : Damage) → result ≡ Status.Damaged d → (loaded : History) × Spells (M.disk machine.old).holds.journal (bodies_of loaded)
+        × AreMadeUpTo loaded (M.disk machine.old).holds asked d (M.sink machine.old).shown (M.sink machine.new).shown }
+    ensures left_alone { M.disk_tells → (at : ℕ) → IsNotArchive (M.disk machine.old).holds at →
+        (M.source machine.new ≡ M.source machine.old) × (M.sink machine.new ≡ M.sink machine.old)
+        × Syncs (M.disk machine.old) (M.disk machine.new) }
+    ensures headline { M.source_tells → M.sink_tells → M.disk_tells → (h : History) → Stands h (M.disk machine.old).holds →
+        (pulls : List Pull) × M.asked machine.old pulls machine.new
+        × Headline h result (record { source = M.source machine.old; sink = M.sink machine.old; disk = M.disk machine.old })
+        (record { source = M.source machine.new; sink = M.sink machine.new; disk = M.disk machine.new }) pulls }
+    ensures complete { M.source_tells → M.sink_tells → M.disk_tells →
+        ((at : ℕ) → IsNotArchive (M.disk machine.old).holds at → ⊥) →
+        IsScript (M.source machine.old).left → length (M.source machine.old).left < 2 ^ 40 →
+        (Rose (M.disk machine.old).faults (M.disk machine.new).faults → ⊥) →
+        (Rose (M.source machine.old).faults (M.source machine.new).faults → ⊥) →
+        (Rose (M.sink machine.old).faults (M.sink machine.new).faults → ⊥) →
+        (result ≡ Status.Done) ⊎ ((result ≡ Status.Memory) ⊎ ((damage : Damage) × (result ≡ Status.Damaged damage))) }
+{
+    let mut desk = match Desk::new(alloc) {
+        Ok(desk) => desk,
+        Err(_) => return Status::Memory,
+    };
+    let mut archive = match Archive::load(alloc, machine) {
+        Ok(archive) => archive,
+        Err(error) => return Status::from(error),
+    };
+    serve(
+        alloc,
+        machine,
+        &mut archive,
+        &mut desk.reader,
+        &mut desk.page,
+    )
+}
