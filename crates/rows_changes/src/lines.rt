@@ -21,16 +21,6 @@ fn a_line_that_is_no_command_is_refused_and_the_run_goes_on(rt: HostRuntime) -> 
 }
 
 #[test]
-fn what_is_not_built_yet_is_refused_as_no_command(rt: HostRuntime) -> Result<(), Fail> {
-    let rows = [Row {
-        script: b"arrive 7 10 5\nred a\nverify\n",
-        replies: b"ok 1\nno 1 Line\n",
-    }];
-    expect_rows(rt.alloc(), b"", &rows)?;
-    Ok(())
-}
-
-#[test]
 fn comments_blank_lines_spaces_and_line_ends(rt: HostRuntime) -> Result<(), Fail> {
     let rows = [
         Row {

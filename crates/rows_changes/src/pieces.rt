@@ -158,7 +158,7 @@ fn skipped_lines_refused_lines_and_line_ends_in_any_pieces(rt: HostRuntime) -> R
     )?;
     let want = Outcome {
         status: Status::Done,
-        replies: b"ok 1\nno 1 Line\nok 2\nno 6 BadText 0\nno 1 Line\n",
+        replies: b"ok 1\nno 1 Line\nok 2\nno 6 BadText 0\nsound 0 0\n",
         journal: b"TIMETRAVELTEXT\x00\x01\
             \xa5\x00\x00\x00\x12\x01\x00\x00\x00\x07\x00\x00\x00\x00\x00\x00\x00\x0ared a\
             \xa5\x00\x00\x00\x15\x01\x00\x00\x00\x08\x00\x00\x00\x00\x00\x00\x00\x14Stra\xc3\x9fe\r\

@@ -219,7 +219,9 @@ fn an_input_longer_than_a_block_is_read_whole(rt: HostRuntime) -> Result<(), Fai
 }
 
 #[test]
-fn any_word_is_a_usage_fault_and_nothing_is_touched(rt: HostRuntime) -> Result<(), Fail> {
+fn a_word_that_asks_for_nothing_is_a_usage_fault_and_nothing_is_touched(
+    rt: HostRuntime,
+) -> Result<(), Fail> {
     let alloc = rt.alloc();
     for word in ["", "x", "--help", "--generate"] {
         let mut machine = make_machine(alloc, FIRST_SCRIPT, b"journal", &[])?;

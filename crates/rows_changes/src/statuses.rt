@@ -39,6 +39,11 @@ fn each_status_has_its_code_and_its_line(rt: HostRuntime) -> Result<(), Fail> {
             9,
             "tt_archive: no end after 1099511627776 bytes",
         ),
+        (
+            Status::NotEmpty { length: 7 },
+            10,
+            "tt_archive: the archive has 7 entries",
+        ),
         (Status::Memory, 12, "tt_archive: no memory"),
     ] {
         let text = format!(in alloc; "{status}")?;

@@ -1,0 +1,26 @@
+//! The rows of `verify`, the check of an archive by its texts, and of samples, over the machine in memory.
+//!
+//! There are tests alone here. What a row wants is worked out from the definitions and the formats, never
+//! from what the program answers.
+#![tactic(auto)]
+
+#[cfg(test)]
+mod audits;
+#[cfg(test)]
+mod changed;
+#[cfg(test)]
+mod disks;
+#[cfg(test)]
+mod faults;
+#[cfg(test)]
+mod flat;
+#[cfg(test)]
+mod least;
+#[cfg(test)]
+mod realistic;
+#[cfg(test)]
+mod samples;
+#[cfg(test)]
+mod sound;
+#[cfg(test)]
+mod words;
