@@ -197,6 +197,26 @@ class Pictures(ArchiveCase):
         self.assertRegex(told[4], r"^plan       w2 guarantee 3/2: \d+ segments, until 1972-11-25T12:00:00Z$")
         self.assertRegex(told[5], r"^plan       w3 guarantee 2/1: ")
 
+    def test_what_is_stored_is_checked(self) -> None:
+        self.assertEqual(self.tt("verify").stdout, "sound: 0 words with a plan, 0 segments\n")
+        self.tt("plan", "w2", "guarantee", "3/2")
+        self.assertRegex(self.tt("verify").stdout, r"^sound: 1 word with a plan, \d+ segments\n$")
+
+    @unittest.skipIf(FAKE, "the stand-in keeps no sublists in Pages")
+    @needs("sublists")
+    def test_what_differs_is_told(self) -> None:
+        self.tt("plan", "w2", "guarantee", "3/2")
+        pages = self.archive / "archive.pages"
+        kept = pages.read_bytes()
+        pages.write_bytes(bytes([kept[0] ^ 1]) + kept[1:])
+        self.assertRegex(
+            self.tt("verify", status=1).stderr,
+            r"^tt: the plan of w2 isn't as it should be: byte 0 of its segment \d+ is [0-9a-f]{2}, and [0-9a-f]{2} is wanted "
+            r"\(-- where it has none\); no version is lost, and `tt plan` stores it anew\n$",
+        )
+        self.tt("plan", "w2", "guarantee", "3/2")
+        self.assertIn("sound: 1 word with a plan", self.tt("verify").stdout)
+
     @unittest.skipIf(FAKE, "the stand-in keeps no sublists in Pages")
     @needs("sublists")
     def test_damage_is_told_and_mended(self) -> None:

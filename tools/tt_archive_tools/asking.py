@@ -1,4 +1,4 @@
-"""The commands that ask an archive: find, between, show, plan and status."""
+"""The commands that ask an archive: find, between, show, plan, status and verify."""
 
 from __future__ import annotations
 
@@ -17,7 +17,7 @@ from .ledger import Ledger
 from .names import FILE as NAMES
 from .names import NameTable
 from .program import find_program
-from .replies import Gone, Hit, Planned, Refused, Rows, Span, Text, merge_rows
+from .replies import Gone, Hit, Planned, Refused, Rows, Span, Text, Verdict, merge_rows
 from .shards import ask_with_parallel
 from .times import parse_time, show_at, show_time
 from .wording import counted, one_line
@@ -126,6 +126,36 @@ def status(options: argparse.Namespace) -> None:
     ends = {line.source: line for line in lines if line.ended}
     for source, line in ends.items():
         print(f"imported   {source}, until {'-' if line.last is None else show_time(line.last)}")
+
+
+def verify(options: argparse.Namespace) -> None:
+    with Collection(options.archive, find_program(options.program)) as collection:
+        replies = collection.ask_all(commands.verify())
+    words = segments = 0
+    for reply in replies:
+        if not isinstance(reply, Verdict):
+            raise ToolError(f"the check was refused: {reply}")
+        match reply.line.split():
+            case ["sound", some, pieces]:
+                words += int(some)
+                segments += int(pieces)
+            case fault:
+                raise ToolError(_fault(fault))
+    print(f"sound: {counted(words, 'word')} with a plan, {counted(segments, 'segment')}")
+
+
+def _fault(told: Sequence[str]) -> str:
+    """What a check found, and what mends it."""
+    match told:
+        case ["differs", word, segment, place, found, wanted]:
+            what = f"byte {place} of its segment {segment} is {found}, and {wanted} is wanted (-- where it has none)"
+        case ["notleast", word, kept, least]:
+            what = f"it takes {kept} postings, and {least} would do"
+        case ["badtext", doc, time]:
+            return f"the text of #{doc} at {show_time(int(time))} isn't UTF-8"
+        case _:
+            return " ".join(told)
+    return f"the plan of {one_line(word)} isn't as it should be: {what}; no version is lost, and `tt plan` stores it anew"
 
 
 def _live(plans: Sequence[StoredPlan]) -> str:

@@ -75,6 +75,7 @@ def _add_filling(kinds: Kinds) -> None:
     shard.add_argument("into", type=Path, metavar="INTO")
     shard.add_argument("--empty", action="store_true", help="make empty archives, to import into")
     _command(kinds, "status", "asking.status", "tell what the archive holds")
+    _command(kinds, "verify", "asking.verify", "check what the plans store by the archive's own texts")
 
 
 def _add_sources(parser: argparse.ArgumentParser) -> None:
