@@ -12,6 +12,9 @@ pub enum ArgumentsError {
 }
 
 /// The words of the command line behind the program's name. Costs their length.
+///
+/// No clause says which words these are, as none says what a file holds: std's calls tell nothing of
+/// it. *Tested* on the built programs.
 pub fn arguments<R: Env + AllocGlobal>(rt: &R) -> Result<Vec<String>, ArgumentsError> {
     match collected(rt) {
         Ok(words) => Ok(words),

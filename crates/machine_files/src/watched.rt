@@ -7,7 +7,8 @@ use std::io::{Read, Seek, SeekFrom, Write};
 use std::os::unix::fs::FileExt;
 use std::time::Clock;
 
-/// A file of a machine, whose progress sees where it is read and written.
+/// A file of a machine, whose progress sees where it is read and written. Each call goes on to the
+/// file: *tested*, for no clause of std says what a call does to a file.
 #[derive(Drop)]
 pub struct WatchedFile<'p, F, C, E: Eprint> {
     file: F,
@@ -72,7 +73,8 @@ impl<F: OpenFile, C, E: Eprint> OpenFile for WatchedFile<'_, F, C, E> {
     }
 }
 
-/// A stream of a machine, whose progress ends before each of its calls.
+/// A stream of a machine, whose progress ends before each of its calls, which goes on to the stream:
+/// *tested*.
 #[derive(Drop)]
 pub struct WatchedStream<'p, S, C, E: Eprint> {
     stream: S,
