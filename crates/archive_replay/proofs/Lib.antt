@@ -4,7 +4,6 @@ pub mod RisingLemmas
 pub mod IndexLemmas
 pub mod ListLemmas
 pub mod LiveLemmas
-pub mod HeadLemmas
 pub mod ReplayLemmas
 pub mod SettleLemmas
 pub mod PrepareLemmas

@@ -1,13 +1,13 @@
 -- Going over entries: one entry more, and one that is refused.
-use Rattle.std.proofs.Common.{◌≡◌, ℕ, ◌+◌, ◌<◌, ◌≤◌, ◌^◌, Bool, IsTrue, ◌↔◌, List, [], ◌∷◌, ◌++◌, length, take, drop, get_or, sum_by, unwrap_or, Option, Some, None, IsSome, Result, Err, inr, refl, ap, subst, sym, ◌∙◌, arith, append_assoc, append-nil}
-use Rattle.std.proofs.lemmas.List.{take_more}
+use Rattle.std.proofs.Common.{◌≡◌, ℕ, ◌+◌, ◌<◌, ◌≤◌, ◌^◌, Bool, IsTrue, ◌↔◌, List, [], ◌∷◌, ◌++◌, length, sum_by, unwrap_or, Option, Some, None, IsSome, inr, refl, ap, subst, sym, ◌∙◌, arith, append_assoc, append-nil}
 use Rattle.machine_model.specs.States.{DiskState}
 use Rattle.machine_model.specs.Calls.{OnlyReads}
 use Rattle.gate_journal.specs.declared.head.Head.{Head}
-use Rattle.gate_journal.specs.Records.{records, front}
-use Rattle.gate_journal.specs.Heads.{AreInRow, heads_of}
+use Rattle.gate_journal.specs.Records.{front}
+use Rattle.gate_journal.specs.Heads.{heads_of}
 use Rattle.gate_journal.specs.Spelled.{Spells}
-use Rattle.gate_journal.specs.Scanning.{IsView}
+use Rattle.gate_journal.specs.Bodies.{BodiesState, body_at, AreBehind, AreLeft}
+use Rattle.gate_journal.proofs.BodyLemmas.{left_none}
 use Rattle.time_base.specs.declared.ids.DocId.{DocId}
 use Rattle.time_base.specs.declared.time.Time.{Time}
 use Rattle.time_base.specs.declared.text_place.TextPlace.{TextPlace}
@@ -42,14 +42,8 @@ use Rattle.archive_replay.specs.Places.{ArePlaced}
 use Rattle.archive_state.proofs.RefusalLemmas.{arrival-refused, arrival-words}
 use Rattle.archive_replay.specs.Entries.{Makes, IsHeld, refusal_by, change_refusal, text_of}
 use Rattle.archive_replay.proofs.IndexLemmas.{change_of, changes_still, makes_change, makes_is_change, takes_change, words_full, words_within}
-use Rattle.archive_replay.specs.declared.error.LoadError.{LoadError}
-use Rattle.archive_replay.specs.declared.error.LoadError.TheVariants as loads
-use Rattle.archive_replay.specs.declared.error.ReadError.{ReadError}
-use Rattle.archive_replay.specs.declared.error.ReadError.TheVariants as reads
-use Rattle.archive_replay.specs.Causes.{load_error_of_read}
 use Rattle.archive_replay.specs.Replaying.{IsTimely, IfTimely, IsOpen, AreOpen, plans_in, plans_from, IsReached, IsGoneOver, IsFaulty, IsReplaying, IsNextBad}
 use Rattle.archive_replay.proofs.PlaceLemmas.{bare_changes, placed_more, placed_plan, placed_arrive_refusal, placed_delete_refusal}
-use Rattle.archive_replay.proofs.HeadLemmas.{head_at, head_by_parts, heads_push, row_gate, length_heads, head_bytes, around, length_front, body_found}
 
 -- ---- entries that may come as far as is asked at once
 
@@ -219,112 +213,96 @@ pub plan_there : (gate : ℕ) (h : History) (plan : PlanEntry) (cs : List (Chang
 plan_there gate h plan cs plans at reached ranges late here =
     inr (record { entry = Planned plan; ranges = ranges; spelled = refl; refused = λ may. late (timely_back h cs plan reached.placed (planned_timely h plan may.planned)) }, here)
 
--- ---- heads, one after another
+-- ---- bodies, one after another
 
--- the next gate is where the next head says
-pub reached_at : (tells : Type 0) (journal : List ℕ) (heads : List Head) (i : ℕ) (cs : List (Change TextPlace)) (plans : List StoredPlan) (loader : Loaded) (head : Head) (end : ℕ) → AreInRow 16 heads end → i < length heads
-    → head ≡ get_or heads i head → (r : IsReplaying tells journal heads i cs plans loader) → IsReached head.gate r.history cs plans
-reached_at tells journal heads i cs plans loader head end row within is r =
-    let there = row_gate 16 end heads (bodies_of r.history) i head row r.met.heads_are within in
-    let gate : head.gate ≡ 16 + length (records (bodies_of r.history)) = ap (λ (x : Head). x.gate) is ∙ there.0 in
-    record {
-      opens = r.met.opens;
-      gate_is = omega (arith, gate, end_of_is r.history, length_front (bodies_of r.history));
-      placed = r.met.placed;
-      plans_are = r.met.plans_are;
-    }
-
--- a body read is the journal's
-body_read : (journal : List ℕ) (bodies : List (List ℕ)) (heads : List Head) (i : ℕ) (h : History) (head : Head) (end : ℕ) (body : List ℕ) → AreInRow 16 heads end → i < length heads
-    → head ≡ get_or heads i head → take i heads ≡ heads_of 16 (bodies_of h) → heads ≡ heads_of 16 bodies → Spells journal bodies → bodies_of h ≡ take i bodies
-    → body ≡ take head.bytes (drop head.body journal) → (i < length bodies) × (body ≡ get_or bodies i [])
-body_read journal bodies heads i h head end body row within is early same spelled before read =
-    let inside : i < length bodies = omega (arith, within, ap length same, length_heads 16 bodies) in
-    let there = row_gate 16 end heads (bodies_of h) i head row early within in
-    let at : head.body ≡ 16 + length (records (take i bodies)) + 5 = ap (λ (x : Head). x.body) is ∙ there.1 ∙ ap (λ (l : List (List ℕ)). 16 + length (records l) + 5) before in
-    let count : head.bytes ≡ length (get_or bodies i []) = ap (λ (x : Head). x.bytes) (is ∙ ap (λ (l : List Head). get_or l i head) same) ∙ head_bytes 16 bodies i head inside in
-    (inside, read ∙ ap (λ (n : ℕ). take n (drop head.body journal)) count ∙ body_found journal bodies i head.body spelled inside at)
-
--- one head more
-pub replayed_more : (tells : Type 0) (journal : List ℕ) (heads : List Head) (i : ℕ) (cs more : List (Change TextPlace)) (plans others : List StoredPlan) (loader after : Loaded) (head : Head) (end : ℕ) (body : List ℕ)
-    → AreInRow 16 heads end → i < length heads → head ≡ get_or heads i head → length body ≡ head.bytes → (tells → body ≡ take head.bytes (drop head.body journal))
-    → (r : IsReplaying tells journal heads i cs plans loader) → IsGoneOver head.gate r.history body more others after → IsReplaying tells journal heads (i + 1) more others after
-replayed_more tells journal heads i cs more plans others loader after head end body row within is long read r over =
-    let h = r.history in
-    let there = row_gate 16 end heads (bodies_of h) i head row r.met.heads_are within in
-    let next : bodies_of (h ++ over.entry ∷ []) ≡ bodies_of h ++ body ∷ [] = bodies_of-push h over.entry ∙ ap (λ (l : List ℕ). bodies_of h ++ l ∷ []) (sym over.spelled) in
-    let one : head.gate ≡ 16 + length (records (bodies_of h)) = ap (λ (x : Head). x.gate) is ∙ there.0 in
-    let two : head.body ≡ 16 + length (records (bodies_of h)) + 5 = ap (λ (x : Head). x.body) is ∙ there.1 in
-    let here : head ≡ head_at (16 + length (records (bodies_of h))) body = head_by_parts head (16 + length (records (bodies_of h))) body one two (sym long) in
-    record {
-      history = h ++ over.entry ∷ [];
-      met = record {
-        opens = over.reached.opens;
-        heads_are = take_more heads i head within
-            ∙ ap (λ (x : Head). take i heads ++ x ∷ []) (sym is ∙ here)
-            ∙ ap (λ (l : List Head). l ++ head_at (16 + length (records (bodies_of h))) body ∷ []) r.met.heads_are
-            ∙ sym (heads_push 16 (bodies_of h) body) ∙ ap (heads_of 16) (sym next);
-        placed = over.reached.placed;
-        plans_are = over.reached.plans_are;
-      };
-      loads = over.loads;
-      bodies_are = λ told bodies same spelled.
-          let before = r.bodies_are told bodies same spelled in
-          let found = body_read journal bodies heads i h head end body row within is r.met.heads_are same spelled before (read told) in
-          next ∙ ap (λ (l : List (List ℕ)). l ++ body ∷ []) before ∙ ap (λ (b : List ℕ). take i bodies ++ b ∷ []) found.1 ∙ sym (take_more bodies i [] found.0);
-    }
-
--- one head whose entry is refused
-pub next_bad : (tells : Type 0) (journal : List ℕ) (heads : List Head) (i : ℕ) (cs : List (Change TextPlace)) (plans : List StoredPlan) (loader : Loaded) (head : Head) (end : ℕ) (body : List ℕ) (bodies : List (List ℕ)) (at : ℕ)
-    → AreInRow 16 heads end → i < length heads → head ≡ get_or heads i head → tells → body ≡ take head.bytes (drop head.body journal)
-    → heads ≡ heads_of 16 bodies → Spells journal bodies
-    → (r : IsReplaying tells journal heads i cs plans loader) → IsFaulty head.gate r.history body at → IsNextBad r.history bodies at
-next_bad tells journal heads i cs plans loader head end body bodies at row within is told read same spelled r fault =
-    let h = r.history in
-    let before = r.bodies_are told bodies same spelled in
-    let found = body_read journal bodies heads i h head end body row within is r.met.heads_are same spelled before read in
-    let there = row_gate 16 end heads (bodies_of h) i head row r.met.heads_are within in
-    let gate : head.gate ≡ length (front (bodies_of h)) = ap (λ (x : Head). x.gate) is ∙ there.0 ∙ sym (length_front (bodies_of h)) in
-    let P : ℕ → Type 0 = λ n. IsFaulty n h body at in
-    record {
-      body = body;
-      rest = drop (i + 1) bodies;
-      split = around bodies i found.0
-          ∙ ap (λ (l : List (List ℕ)). l ++ get_or bodies i [] ∷ drop (i + 1) bodies) (sym before)
-          ∙ ap (λ (b : List ℕ). bodies_of h ++ b ∷ drop (i + 1) bodies) (sym found.1);
-      fault = subst P gate fault;
-    }
-
--- what was met is as it was
-unfoldable pub same_replaying : (tells : Type 0) (journal : List ℕ) (heads : List Head) (i : ℕ) (cs others : List (Change TextPlace)) (plans those : List StoredPlan) (loader other : Loaded) → others ≡ cs → those ≡ plans → other ≡ loader
-    → IsReplaying tells journal heads i cs plans loader → IsReplaying tells journal heads i others those other
-same_replaying tells journal heads i cs others plans those loader other a b d r = record {
-  history = r.history;
-  met = record {
-    opens = r.met.opens;
-    heads_are = r.met.heads_are;
-    placed = let P : List (Change TextPlace) → Type 0 = λ l. ArePlaced 16 r.history l in subst P (sym a) r.met.placed;
-    plans_are = b ∙ r.met.plans_are;
-  };
-  loads = let L : Loaded → Type 0 = λ l. AreLoaded l (changes r.history) in subst L (sym d) r.loads;
-  bodies_are = r.bodies_are;
+-- before the first one
+pub replaying_none : (tells : Type 0) (journal : List ℕ) (heads : List Head) (reader : BodiesState) (cs : List (Change TextPlace)) (plans : List StoredPlan) (loader : Loaded) → cs ≡ [] → plans ≡ [] → AreLoaded loader []
+    → AreBehind heads [] reader → ((bodies : List (List ℕ)) → Spells journal bodies → heads ≡ heads_of 16 bodies → AreLeft journal reader bodies) → IsReplaying tells journal heads reader cs plans loader
+replaying_none tells journal heads reader cs plans loader none nothing_ loads behind left = record {
+  history = [];
+  reached = record { opens = tt; gate_is = end_of_is []; placed = let P : List (Change TextPlace) → Type 0 = λ l. ArePlaced 16 [] l in subst P (sym none) refl; plans_are = nothing_ };
+  loads = loads;
+  behind = behind;
+  left = λ told bodies same spelled. (bodies, refl, left bodies spelled same);
 }
 
-pub holds_on : (old new : DiskState) → OnlyReads old new → new.holds.journal ≡ old.holds.journal
-holds_on old new same = ap (λ (d : DiskState). d.holds.journal) same
+-- behind these entries the reader gave this body, whose gate is at this place
+pub record Comes (tells : Type 0) (journal : List ℕ) (heads : List Head) (before : History) (reader next : BodiesState) (gate : ℕ) (body : List ℕ) : Type 0 where
+  pub here : gate ≡ length (front (bodies_of before))
+  pub behind : AreBehind heads (bodies_of before ++ body ∷ []) next
+  pub left : tells → (bodies : List (List ℕ)) → AreLeft journal reader bodies → (rest : List (List ℕ)) × (bodies ≡ body ∷ rest) × AreLeft journal next rest
 
-pub empty_view : (bytes : List ℕ) (from : ℕ) (journal : List ℕ) → length bytes ≡ 0 → IsView bytes from journal
-empty_view [] from journal none = refl
-empty_view (b ∷ bytes) from journal none = absurd (omega (arith, none))
+pub comes : (tells : Type 0) (a b : DiskState) (heads : List Head) (before : History) (reader next : BodiesState) (head : Head) (body : List ℕ) → OnlyReads a b → body ≡ body_at next head
+    → (head.gate ≡ length (front (bodies_of before))) × AreBehind heads (bodies_of before ++ body_at next head ∷ []) next
+    → (tells → (bodies : List (List ℕ)) → AreLeft b.holds.journal reader bodies → (rest : List (List ℕ)) × (bodies ≡ body_at next head ∷ rest) × AreLeft b.holds.journal next rest)
+    → Comes tells a.holds.journal heads before reader next head.gate body
+comes tells a b heads before reader next head body same is behind left =
+    let C : DiskState → List ℕ → Type 0 = λ d l. Comes tells d.holds.journal heads before reader next head.gate l in
+    subst (C a) (sym is) (subst (λ (d : DiskState). C d (body_at next head)) same (record { here = behind.0; behind = behind.1; left = left }))
 
-pub view_on : (bytes : List ℕ) (from : ℕ) (journal other : List ℕ) → other ≡ journal → IsView bytes from journal → IsView bytes from other
-view_on bytes from journal other same view = let P : List ℕ → Type 0 = λ l. IsView bytes from l in subst P (sym same) view
+pub reached_by : {tells : Type 0} {journal : List ℕ} {heads : List Head} {before : History} {reader next : BodiesState} {gate : ℕ} {body : List ℕ} {cs : List (Change TextPlace)} {plans : List StoredPlan}
+    → Comes tells journal heads before reader next gate body → IsReached (length (front (bodies_of before))) before cs plans → IsReached gate before cs plans
+reached_by {before = before} {cs = cs} {plans = plans} came reached = subst (λ (n : ℕ). IsReached n before cs plans) (sym came.here) reached
 
--- a load whose read failed
-pub failed_read : {T U : Type 0} (r : Result T ReadError) (s : Result U LoadError) (e : ReadError) (y : LoadError) → r ≡ Err e → s ≡ Err y → y ≡ load_error_of_read e
-    → s ≡ Err loads.Failed → r ≡ Err reads.Failed
-failed_read r s reads.Failed y was made same is = was
-failed_read r s reads.Memory y was made same is = absurd cc
+-- one body more
+pub replayed_more : (tells : Type 0) (journal : List ℕ) (heads : List Head) (reader next : BodiesState) (cs more : List (Change TextPlace)) (plans others : List StoredPlan) (loader after : Loaded) (gate : ℕ) (body : List ℕ)
+    → (r : IsReplaying tells journal heads reader cs plans loader) → Comes tells journal heads r.history reader next gate body → IsGoneOver gate r.history body more others after
+    → IsReplaying tells journal heads next more others after
+replayed_more tells journal heads reader next cs more plans others loader after gate body r came over =
+    let h = r.history in
+    let now : bodies_of (h ++ over.entry ∷ []) ≡ bodies_of h ++ body ∷ [] = bodies_of-push h over.entry ∙ ap (λ (l : List ℕ). bodies_of h ++ l ∷ []) (sym over.spelled) in
+    record {
+      history = h ++ over.entry ∷ [];
+      reached = record { opens = over.reached.opens; gate_is = end_of_is (h ++ over.entry ∷ []); placed = over.reached.placed; plans_are = over.reached.plans_are };
+      loads = over.loads;
+      behind = let B : List (List ℕ) → Type 0 = λ l. AreBehind heads l next in subst B (sym now) came.behind;
+      left = λ told bodies same spelled.
+          let before = r.left told bodies same spelled in
+          let later = came.left told before.0 before.2 in (
+            later.0,
+            before.1 ∙ ap (λ (l : List (List ℕ)). bodies_of h ++ l) later.1 ∙ sym (append_assoc (bodies_of h) (body ∷ []) later.0) ∙ ap (λ (l : List (List ℕ)). l ++ later.0) (sym now),
+            later.2,
+          );
+    }
+
+-- one whose entry is refused
+pub next_bad : {tells : Type 0} {journal : List ℕ} {heads : List Head} {h : History} {reader next : BodiesState} {gate : ℕ} {body : List ℕ} (at : ℕ) (bodies : List (List ℕ)) → tells → Comes tells journal heads h reader next gate body
+    → (rest : List (List ℕ)) × (bodies ≡ bodies_of h ++ rest) × AreLeft journal reader rest → IsFaulty gate h body at → IsNextBad h bodies at
+next_bad {h = h} {body = body} at bodies told came before fault =
+    let later = came.left told before.0 before.2 in
+    record {
+      body = body;
+      rest = later.0;
+      split = before.1 ∙ ap (λ (l : List (List ℕ)). bodies_of h ++ l) later.1;
+      fault = let P : ℕ → Type 0 = λ n. IsFaulty n h body at in subst P came.here fault;
+    }
+
+-- where none is left all were read
+pub all_read : (tells : Type 0) (journal : List ℕ) (heads : List Head) (reader : BodiesState) (cs : List (Change TextPlace)) (plans : List StoredPlan) (loader : Loaded)
+    → (r : IsReplaying tells journal heads reader cs plans loader) → reader.left ≡ []
+    → (heads ≡ heads_of 16 (bodies_of r.history)) × (tells → (bodies : List (List ℕ)) → heads ≡ heads_of 16 bodies → Spells journal bodies → bodies_of r.history ≡ bodies)
+all_read tells journal heads reader cs plans loader r none = (
+  r.behind.heads_are ∙ ap (λ (l : List Head). heads_of 16 (bodies_of r.history) ++ l) none ∙ append-nil (heads_of 16 (bodies_of r.history)),
+  λ told bodies same spelled.
+      let before = r.left told bodies same spelled in
+      sym (before.1 ∙ ap (λ (l : List (List ℕ)). bodies_of r.history ++ l) (left_none journal before.0 reader.left none before.2.lead) ∙ append-nil (bodies_of r.history)),
+)
+
+-- what was met is as it was
+unfoldable pub same_replaying : (tells : Type 0) (journal : List ℕ) (heads : List Head) (reader : BodiesState) (cs others : List (Change TextPlace)) (plans those : List StoredPlan) (loader other : Loaded) → others ≡ cs → those ≡ plans → other ≡ loader
+    → IsReplaying tells journal heads reader cs plans loader → IsReplaying tells journal heads reader others those other
+same_replaying tells journal heads reader cs others plans those loader other a b d r = record {
+  history = r.history;
+  reached = record {
+    opens = r.reached.opens;
+    gate_is = r.reached.gate_is;
+    placed = let P : List (Change TextPlace) → Type 0 = λ l. ArePlaced 16 r.history l in subst P (sym a) r.reached.placed;
+    plans_are = b ∙ r.reached.plans_are;
+  };
+  loads = let L : Loaded → Type 0 = λ l. AreLoaded l (changes r.history) in subst L (sym d) r.loads;
+  behind = r.behind;
+  left = r.left;
+}
 
 -- one change more, by its parts
 pub pushed_is : (cs early more : List (Change TextPlace)) (x : Change ℕ) (p : Change TextPlace) → p.doc ≡ x.doc → p.at ≡ x.at → early ≡ cs → more ≡ early ++ p ∷ []

@@ -28,7 +28,7 @@ use Rattle.archive_state.specs.Stands.{bodies_of}
 use Rattle.archive_state.proofs.HistoryLemmas.{come-push, end_of-push, end_of_is}
 use Rattle.archive_state.proofs.LiveLemmas.{list_stays, list_was}
 use Rattle.archive_replay.specs.Replaying.{IsTimely, AreOpen, plans_in, plans_from, IsFitIn, IsFirstUnfit, IsNextBad, IsReplayed, IsBadAmong}
-use Rattle.archive_replay.proofs.HeadLemmas.{row_end, length_front, length_heads}
+use Rattle.gate_journal.proofs.HeadLemmas.{length-front, length_heads, row_end}
 use Rattle.archive_replay.proofs.ReplayLemmas.{open_allowed}
 
 -- ---- a plan that is fit
@@ -152,18 +152,17 @@ settle_first whole before (Planned plan ∷ h) gate at is opens loads here unfit
     ]
 
 -- it is the fault among the bodies of the journal
-pub unfit_among : (h : History) (bodies : List (List ℕ)) (count at : ℕ) → AreOpen [] h → bodies_of h ≡ take count bodies → IsFirstUnfit h (plans_from 16 h) at → IsBadAmong bodies at
-unfit_among h bodies count at opens same unfit =
+pub unfit_among : (h : History) (bodies rest : List (List ℕ)) (at : ℕ) → AreOpen [] h → bodies ≡ bodies_of h ++ rest → IsFirstUnfit h (plans_from 16 h) at → IsBadAmong bodies at
+unfit_among h bodies rest at opens same unfit =
     let u = settle_first h [] h 16 at refl opens tt (omega (arith, end_of_is [])) unfit in
     record {
       before = u.early;
       loadable = u.loads;
       next = record {
         body = spelling (Planned u.plan);
-        rest = bodies_of u.after ++ drop count bodies;
-        split = sym (take-append-drop count bodies)
-            ∙ ap (λ (l : List (List ℕ)). l ++ drop count bodies) (sym same ∙ ap bodies_of u.is ∙ map-append spelling u.early (Planned u.plan ∷ u.after))
-            ∙ append_assoc (bodies_of u.early) (spelling (Planned u.plan) ∷ bodies_of u.after) (drop count bodies);
+        rest = bodies_of u.after ++ rest;
+        split = same ∙ ap (λ (l : List (List ℕ)). l ++ rest) (ap bodies_of u.is ∙ map-append spelling u.early (Planned u.plan ∷ u.after))
+            ∙ append_assoc (bodies_of u.early) (spelling (Planned u.plan) ∷ bodies_of u.after) rest;
         fault = inr (record { entry = Planned u.plan; ranges = u.ranges; spelled = refl; refused = u.refused }, u.at_is);
       };
     }
@@ -226,7 +225,7 @@ fit_more h plans i s b within is fit test yes_ =
 
 pub replayed_end : (h : History) (heads : List Head) (changes : List (Change TextPlace)) (plans : List StoredPlan) (end : ℕ) → AreInRow 16 heads end → IsReplayed h heads changes plans → end ≡ end_of h
 replayed_end h heads changes plans end row replayed =
-    omega (arith, row_end 16 end heads (bodies_of h) row replayed.heads_are, end_of_is h, length_front (bodies_of h))
+    omega (arith, row_end 16 end (bodies_of h) (subst (λ (l : List Head). AreInRow 16 l end) replayed.heads_are row), end_of_is h, length-front (bodies_of h))
 
 pub replayed_length : (h : History) (heads : List Head) (changes : List (Change TextPlace)) (plans : List StoredPlan) → IsReplayed h heads changes plans → length heads ≡ length h
 replayed_length h heads changes plans replayed = ap length replayed.heads_are ∙ length_heads 16 (bodies_of h) ∙ length-map h spelling

@@ -3,16 +3,9 @@ use Rattle.gate_journal.specs.declared.error.JournalError.{JournalError}
 use Rattle.gate_journal.specs.declared.error.JournalError.TheVariants as journals
 use Rattle.archive_replay.specs.declared.error.LoadError.{LoadError}
 use Rattle.archive_replay.specs.declared.error.LoadError.TheVariants as loads
-use Rattle.archive_replay.specs.declared.error.ReadError.{ReadError}
-use Rattle.archive_replay.specs.declared.error.ReadError.TheVariants as reads
 
 -- a journal's error, as one of an archive: bytes that are no journal are no archive
 abbrev pub load_error_of : JournalError → LoadError
 load_error_of journals.Failed = loads.Failed
 load_error_of (journals.NotJournal at) = loads.NotArchive at
 load_error_of journals.Memory = loads.Memory
-
--- a failed read, as a load's error
-abbrev pub load_error_of_read : ReadError → LoadError
-load_error_of_read reads.Failed = loads.Failed
-load_error_of_read reads.Memory = loads.Memory

@@ -1,6 +1,7 @@
 -- Changes of documents with the places of their texts in the journal.
 use Rattle.std.specs.Prelude.{◌≡◌, ℕ, ◌+◌, List, [], ◌∷◌, ◌++◌, length, map, Some, None}
 use Rattle.time_base.specs.declared.text_place.TextPlace.{TextPlace}
+use Rattle.gate_journal.specs.Records.{gate_bytes}
 use Rattle.version_store.specs.declared.change.Change.{Change}
 use Rattle.version_store.specs.Changes.{mapped}
 use Rattle.record_codec.specs.Spelling.{spelling}
@@ -12,16 +13,20 @@ use Rattle.archive_state.specs.Histories.{History}
 abbrev pub pair_of : TextPlace → ℕ × ℕ
 pair_of place = (place.at, place.bytes)
 
+-- where the text of an arrival begins in its spelling: behind the tag, the document and the time
+abbrev pub text_offset : ℕ
+text_offset = 13
+
 -- the changes that an entry makes, with where their texts lie; the entry's gate is at this place
 abbrev pub placed_by : ℕ → Entry → List (Change (ℕ × ℕ))
-placed_by gate (Arrive doc at text) = record { doc = doc; at = at; held = Some (gate + 18, length text) } ∷ []
+placed_by gate (Arrive doc at text) = record { doc = doc; at = at; held = Some (gate + (gate_bytes + text_offset), length text) } ∷ []
 placed_by gate (Delete doc at) = record { doc = doc; at = at; held = None } ∷ []
 placed_by gate (Planned plan) = []
 
 -- those of entries; the first entry's gate is at this place
 abbrev pub places : ℕ → History → List (Change (ℕ × ℕ))
 places gate [] = []
-places gate (entry ∷ entries) = placed_by gate entry ++ places (gate + 5 + length (spelling entry)) entries
+places gate (entry ∷ entries) = placed_by gate entry ++ places (gate + gate_bytes + length (spelling entry)) entries
 
 -- these are the changes that entries make, with the places of the texts
 abbrev pub ArePlaced : ℕ → History → List (Change TextPlace) → Type 0

@@ -1,9 +1,10 @@
 -- What a load knows while it goes over the entries.
-use Rattle.std.specs.Prelude.{◌≡◌, ◌⊎◌, ℕ, ◌+◌, ◌<◌, ◌≤◌, List, [], ◌∷◌, ◌++◌, length, take, All, Some, None}
+use Rattle.std.specs.Prelude.{◌≡◌, ◌⊎◌, ℕ, ◌+◌, ◌<◌, ◌≤◌, List, [], ◌∷◌, ◌++◌, length, All, Some, None}
 use Rattle.gate_journal.specs.declared.head.Head.{Head}
-use Rattle.gate_journal.specs.Records.{front}
+use Rattle.gate_journal.specs.Records.{first_gate, gate_bytes, front}
 use Rattle.gate_journal.specs.Heads.{heads_of}
 use Rattle.gate_journal.specs.Spelled.{Spells}
+use Rattle.gate_journal.specs.Bodies.{BodiesState, AreBehind, AreLeft}
 use Rattle.time_base.specs.declared.text_place.TextPlace.{TextPlace}
 use Rattle.version_store.specs.declared.change.Change.{Change}
 use Rattle.record_codec.specs.Spelling.{spelling}
@@ -24,11 +25,6 @@ use Rattle.archive_state.specs.Plans.{live_plans}
 use Rattle.version_index.specs.Loads.{Loaded, AreLoaded}
 use Rattle.archive_state.specs.Stands.{bodies_of, IsMisspelled, IsIllegal}
 use Rattle.archive_replay.specs.Places.{ArePlaced}
-
--- so many bytes from a place on have these many from another place on
-pub record Covers (from count at bytes : ℕ) : Type 0 where
-  pub begins : from ≤ at
-  pub ends : at + bytes ≤ from + count
 
 -- ---- entries that are gone over, before the lists are there with which plans are tested
 
@@ -62,7 +58,7 @@ plans_in gate (Planned plan) = record { gate = gate; plan = plan } ∷ []
 -- all plans of entries, the first of which has its gate at this place
 abbrev pub plans_from : ℕ → History → List StoredPlan
 plans_from gate [] = []
-plans_from gate (entry ∷ entries) = plans_in gate entry ++ plans_from (gate + 5 + length (spelling entry)) entries
+plans_from gate (entry ∷ entries) = plans_in gate entry ++ plans_from (gate + gate_bytes + length (spelling entry)) entries
 
 -- what is asked of a plan when the lists are there: its word has postings before the horizon, and the plan keeps the bound of its kind for them
 abbrev pub IsFitIn : History → StoredPlan → Type 0
@@ -83,34 +79,29 @@ pub record IsFirstUnfit (history : History) (plans : List StoredPlan) (at : ℕ)
 pub record IsReached (gate : ℕ) (history : History) (changes : List (Change TextPlace)) (plans : List StoredPlan) : Type 0 where
   pub opens : AreOpen [] history
   pub gate_is : end_of history ≡ gate + 1
-  pub placed : ArePlaced 16 history changes
-  pub plans_are : plans ≡ plans_from 16 history
+  pub placed : ArePlaced first_gate history changes
+  pub plans_are : plans ≡ plans_from first_gate history
 
 -- this body spells an entry that may come behind a history, as far as can be told; these are the changes and the plans with its own, and its text
 -- is loaded
 pub record IsGoneOver (gate : ℕ) (history : History) (body : List ℕ) (changes : List (Change TextPlace)) (plans : List StoredPlan) (loader : Loaded) : Type 0 where
   pub entry : Entry
   pub spelled : body ≡ spelling entry
-  pub reached : IsReached (gate + 5 + length body) (history ++ entry ∷ []) changes plans
+  pub reached : IsReached (gate + gate_bytes + length body) (history ++ entry ∷ []) changes plans
   pub loads : AreLoaded loader (histories.changes (history ++ entry ∷ []))
 
 -- an entry with its gate at this place that is misspelled or illegal behind a history, which shows at that place
 abbrev pub IsFaulty : ℕ → History → List ℕ → ℕ → Type 0
-IsFaulty gate before body at = ((offset : ℕ) × IsMisspelled body offset × (at ≡ gate + 5 + offset)) ⊎ (IsIllegal before body × (at ≡ gate))
+IsFaulty gate before body at = ((offset : ℕ) × IsMisspelled body offset × (at ≡ gate + gate_bytes + offset)) ⊎ (IsIllegal before body × (at ≡ gate))
 
--- the heads are those of these entries' bodies, and these are their changes and plans
-pub record IsMet (history : History) (heads : List Head) (changes : List (Change TextPlace)) (plans : List StoredPlan) : Type 0 where
-  pub opens : AreOpen [] history
-  pub heads_are : heads ≡ heads_of 16 (bodies_of history)
-  pub placed : ArePlaced 16 history changes
-  pub plans_are : plans ≡ plans_from 16 history
-
--- the first so many heads are gone over, their texts are loaded, and the bodies read are the journal's, whose heads these are
-pub record IsReplaying (tells : Type 0) (journal : List ℕ) (heads : List Head) (count : ℕ) (changes : List (Change TextPlace)) (plans : List StoredPlan) (loader : Loaded) : Type 0 where
+-- Entries that are gone over while bodies are read one after another: these are their changes and plans, their texts are loaded, and their bodies are
+-- those that were read of the journal, whose heads these are.
+pub record IsReplaying (tells : Type 0) (journal : List ℕ) (heads : List Head) (reader : BodiesState) (changes : List (Change TextPlace)) (plans : List StoredPlan) (loader : Loaded) : Type 0 where
   pub history : History
-  pub met : IsMet history (take count heads) changes plans
+  pub reached : IsReached (length (front (bodies_of history))) history changes plans
   pub loads : AreLoaded loader (histories.changes history)
-  pub bodies_are : tells → (bodies : List (List ℕ)) → heads ≡ heads_of 16 bodies → Spells journal bodies → bodies_of history ≡ take count bodies
+  pub behind : AreBehind heads (bodies_of history) reader
+  pub left : tells → (bodies : List (List ℕ)) → heads ≡ heads_of first_gate bodies → Spells journal bodies → (rest : List (List ℕ)) × (bodies ≡ bodies_of history ++ rest) × AreLeft journal reader rest
 
 -- the body behind these entries' bodies is misspelled or illegal, which shows at that place
 pub record IsNextBad (before : History) (bodies : List (List ℕ)) (at : ℕ) : Type 0 where
@@ -124,8 +115,8 @@ pub record IsNextBad (before : History) (bodies : List (List ℕ)) (at : ℕ) : 
 -- the heads are those of a history that loads, and these are its changes and its live plans
 pub record IsReplayed (history : History) (heads : List Head) (changes : List (Change TextPlace)) (plans : List StoredPlan) : Type 0 where
   pub loadable : IsLoadable history
-  pub heads_are : heads ≡ heads_of 16 (bodies_of history)
-  pub placed : ArePlaced 16 history changes
+  pub heads_are : heads ≡ heads_of first_gate (bodies_of history)
+  pub placed : ArePlaced first_gate history changes
   pub plans_are : plans ≡ live_plans history
 
 -- one of these bodies is misspelled or illegal, and those before it are those of a history that loads

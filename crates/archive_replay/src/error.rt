@@ -3,7 +3,7 @@ ghost use Rattle.std.specs.Prelude.{◌≡◌};
 
 use gate_journal::JournalError;
 use machine_model::Failed;
-use std::alloc::{AllocError, AllocFailed};
+use std::alloc::AllocError;
 
 /// Why an archive was not loaded.
 #[derive(Clone, Copy, Debug, PartialEq, Eq)]
@@ -41,20 +41,6 @@ impl From<AllocError> for LoadError {
     }
 }
 
-impl From<ReadError> for LoadError {
-    ghost use Rattle.archive_replay.specs.Causes.{load_error_of_read};
-    ghost use Rattle.std.specs.Prelude.{◌≡◌};
-
-    ghost from_gives = { λ why e. e ≡ load_error_of_read why };
-
-    fn from(why: ReadError) -> Self {
-        match why {
-            ReadError::Failed => LoadError::Failed,
-            ReadError::Memory => LoadError::Memory,
-        }
-    }
-}
-
 impl From<AllocError> for ReadError {
     ghost use Rattle.archive_replay.specs.declared.error.ReadError.TheVariants.{Memory};
     ghost use Rattle.std.specs.Prelude.{◌≡◌};
@@ -62,17 +48,6 @@ impl From<AllocError> for ReadError {
     ghost from_gives = { λ _ e. e ≡ Memory };
 
     fn from(_: AllocError) -> Self {
-        ReadError::Memory
-    }
-}
-
-impl<T: Drop> From<AllocFailed<T>> for ReadError {
-    ghost use Rattle.archive_replay.specs.declared.error.ReadError.TheVariants.{Memory};
-    ghost use Rattle.std.specs.Prelude.{◌≡◌};
-
-    ghost from_gives = { λ _ e. e ≡ Memory };
-
-    fn from(_: AllocFailed<T>) -> Self {
         ReadError::Memory
     }
 }

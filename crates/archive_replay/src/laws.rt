@@ -2,6 +2,7 @@
 ghost use Rattle.std.specs.Prelude.{◌≡◌, ◌+◌, ◌++◌, [], ◌∷◌, ℕ, List, Option, map};
 ghost use Rattle.time_base.specs.declared.posting.Posting.{Posting};
 ghost use Rattle.time_base.specs.declared.text_place.TextPlace.{TextPlace};
+ghost use Rattle.gate_journal.specs.Records.{first_gate, gate_bytes};
 ghost use Rattle.gate_journal.specs.Spelled.{Spells};
 ghost use Rattle.version_store.specs.declared.change.Change.{Change};
 ghost use Rattle.version_store.specs.Changes.{mapped};
@@ -16,7 +17,7 @@ ghost use Rattle.archive_state.specs.Legal.{IsLoadable};
 ghost use Rattle.archive_state.specs.Plans.{IsChange};
 ghost use Rattle.archive_state.specs.Stands.{bodies_of};
 ghost use Rattle.archive_replay.specs.Entries.{IsHeld, Makes, text_of};
-ghost use Rattle.archive_replay.specs.Places.{ArePlaced};
+ghost use Rattle.archive_replay.specs.Places.{text_offset, ArePlaced};
 ghost use Rattle.archive_replay.specs.Texts.{bare, text_in};
 
 /// The changes with places are the history's but for what they hold, and in a journal that spells the
@@ -24,10 +25,10 @@ ghost use Rattle.archive_replay.specs.Texts.{bare, text_in};
 /// those of the history with that entry; a plan makes none. Does nothing.
 pub fn places_follow_entries()
     ensures alike { (gate : ℕ) (h : History) (cs : List (Change TextPlace)) → ArePlaced gate h cs → map bare cs ≡ map bare (changes h) }
-    ensures texts { (journal : List ℕ) (h : History) (cs : List (Change TextPlace)) → Spells journal (bodies_of h) → ArePlaced 16 h cs → map (mapped (text_in journal)) cs ≡ changes h }
-    ensures change { (h : History) (cs : List (Change TextPlace)) (e : Entry) (x : Change ℕ) (held : Option TextPlace) (gate : ℕ) → ArePlaced 16 h cs → end_of h ≡ gate + 1 → Makes e x → IsHeld (gate + 18) x.held held →
-        ArePlaced 16 (h ++ e ∷ []) (cs ++ record { doc = x.doc; at = x.at; held = held } ∷ []) }
-    ensures plan { (h : History) (cs : List (Change TextPlace)) (plan : PlanEntry) → ArePlaced 16 h cs → ArePlaced 16 (h ++ entries.Planned plan ∷ []) cs }
+    ensures texts { (journal : List ℕ) (h : History) (cs : List (Change TextPlace)) → Spells journal (bodies_of h) → ArePlaced first_gate h cs → map (mapped (text_in journal)) cs ≡ changes h }
+    ensures change { (h : History) (cs : List (Change TextPlace)) (e : Entry) (x : Change ℕ) (held : Option TextPlace) (gate : ℕ) → ArePlaced first_gate h cs → end_of h ≡ gate + 1 → Makes e x → IsHeld (gate + (gate_bytes + text_offset)) x.held held →
+        ArePlaced first_gate (h ++ e ∷ []) (cs ++ record { doc = x.doc; at = x.at; held = held } ∷ []) }
+    ensures plan { (h : History) (cs : List (Change TextPlace)) (plan : PlanEntry) → ArePlaced first_gate h cs → ArePlaced first_gate (h ++ entries.Planned plan ∷ []) cs }
 {}
 
 /// The changes of a history have its words, and its words' lists. An entry that is not refused behind a

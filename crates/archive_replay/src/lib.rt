@@ -15,7 +15,6 @@ mod preparing;
 mod replaying;
 mod text;
 mod texts;
-mod window;
 
 pub use change::{TEXT_AT, note, placed};
 pub use error::{LoadError, ReadError};

@@ -1,6 +1,7 @@
 //! Preparing a change: the tests of it that need no disk, and the spelling of its entry.
 ghost use Rattle.std.specs.Prelude.{◌≡◌, ◌<◌, ◌^◌, length, IfOk};
 ghost use Rattle.time_base.specs.Limits.{limit_of};
+ghost use Rattle.gate_journal.specs.Records.{first_gate};
 ghost use Rattle.archive_state.specs.Histories.{History, changes};
 ghost use Rattle.version_index.specs.Indexes.{state_of, Indexes};
 ghost use Rattle.archive_state.specs.Steps.{arrival_refusal, deletion_refusal};
@@ -77,7 +78,7 @@ pub fn prepare_arrival(
     ensures same { state_of index.new ≡ state_of index.old }
     ensures fits { IfOk result (λ p. length p.body.items < 2 ^ 32) }
     ensures allowed { IfOk result (λ p. change_refusal p.change directory.now.changes ≡ None) }
-    ensures prepared { (h : History) → ArePlaced 16 h directory.now.changes → Indexes (state_of index.old) (changes h)
+    ensures prepared { (h : History) → ArePlaced first_gate h directory.now.changes → Indexes (state_of index.old) (changes h)
         → IsPrepared h (state_of index.old) (entries.Arrive doc at text.now) (arrival_refusal h doc at text.now) result }
 {
     let text = match text_of(text) {
@@ -122,7 +123,7 @@ pub fn prepare_deletion(
     ensures same { state_of index.new ≡ state_of index.old }
     ensures fits { IfOk result (λ p. length p.body.items < 2 ^ 32) }
     ensures allowed { IfOk result (λ p. change_refusal p.change directory.now.changes ≡ None) }
-    ensures prepared { (h : History) → ArePlaced 16 h directory.now.changes → Indexes (state_of index.old) (changes h)
+    ensures prepared { (h : History) → ArePlaced first_gate h directory.now.changes → Indexes (state_of index.old) (changes h)
         → IsPrepared h (state_of index.old) (entries.Delete doc at) (deletion_refusal h doc at) result }
 {
     let change = Change {

@@ -2,8 +2,10 @@
 ghost use Rattle.std.specs.Prelude.{◌≡◌, ◌↔◌, ◌+◌, ◌<◌, ◌≤◌, ◌^◌, [], ℕ, List, length, option_map, All, Some, None, IsTrue, IfOk, OnOk, IsErrOf};
 ghost use Rattle.machine_model.specs.Causes.{Rose};
 ghost use Rattle.machine_model.specs.Calls.{OnlyReads};
-ghost use Rattle.gate_journal.specs.Heads.{AreInRow, LiesBefore, heads_of};
+ghost use Rattle.gate_journal.specs.Records.{first_gate, gate_bytes};
+ghost use Rattle.gate_journal.specs.Heads.{AreInRow, heads_of};
 ghost use Rattle.gate_journal.specs.Spelled.{Spells};
+ghost use Rattle.gate_journal.specs.Bodies.{BodiesState};
 ghost use Rattle.record_codec.specs.Spelling.{IsEntry, spelling};
 ghost use Rattle.record_codec.specs.declared.entry.Entry.{Entry as PlainEntry};
 ghost use Rattle.record_codec.specs.declared.entry.Entry.TheVariants as entries;
@@ -19,7 +21,6 @@ use crate::change::{TEXT_AT, may_come, note, placed};
 use crate::error::LoadError;
 use crate::lists::{MANY_POSTINGS, list_up_to};
 use crate::live::live_of;
-use crate::window::Window;
 use archive_state::StoredPlan;
 use fold_tokens::NumberError;
 use gate_journal::{Head, Journal};
@@ -79,17 +80,17 @@ pub fn replay<D: Disk>(
     heads: &[Head],
 ) -> Result<Replayed, LoadError>
     requires reached { journal.now.end ≤ (D.disk disk.old).reach.journal }
-    requires row { AreInRow 16 heads.now journal.now.end }
-    requires inside { All (LiesBefore journal.now.end) heads.now }
+    requires row { AreInRow first_gate heads.now journal.now.end }
     ensures only { D.Disk.only disk.old disk.new }
     ensures same { OnlyReads (D.disk disk.old) (D.disk disk.new) }
+    ensures unread { D.disk_tells → (D.disk disk.new).bytes_read.pages ≡ (D.disk disk.old).bytes_read.pages }
     ensures failed { IsErrOf result LoadError.Failed → Rose (D.disk disk.old).faults (D.disk disk.new).faults }
     ensures stands { IfOk result (λ r. (h : History) × IsReplayed h heads.now r.directory.changes r.plans.items × Indexes (state_of r.index) (changes h)) }
     ensures counted { IfOk result (λ r. (h : History) → IsReplayed h heads.now r.directory.changes r.plans.items → (journal.now.end ≡ end_of h) × (length heads.now ≡ length h)) }
     ensures once { IfOk result (λ r. EachOnce r.plans.items) }
-    ensures found { D.disk_tells → (bodies : List (List ℕ)) → heads.now ≡ heads_of 16 bodies → Spells (D.disk disk.old).holds.journal bodies →
+    ensures found { D.disk_tells → (bodies : List (List ℕ)) → heads.now ≡ heads_of first_gate bodies → Spells (D.disk disk.old).holds.journal bodies →
         IfOk result (λ r. (h : History) × IsReplayed h heads.now r.directory.changes r.plans.items × Indexes (state_of r.index) (changes h) × (bodies_of h ≡ bodies)) }
-    ensures bad { D.disk_tells → (bodies : List (List ℕ)) → heads.now ≡ heads_of 16 bodies → Spells (D.disk disk.old).holds.journal bodies →
+    ensures bad { D.disk_tells → (bodies : List (List ℕ)) → heads.now ≡ heads_of first_gate bodies → Spells (D.disk disk.old).holds.journal bodies →
         (at : ℕ) → IsErrOf result (LoadError.NotArchive at) → IsBadAmong bodies at }
 {
     let mut met = Met::new(alloc)?;
@@ -124,23 +125,22 @@ fn go_over<D: Disk>(
     met: &mut Met,
 ) -> Result<Option<u64>, LoadError>
     requires reached { journal.now.end ≤ (D.disk disk.old).reach.journal }
-    requires row { AreInRow 16 heads.now journal.now.end }
-    requires inside { All (LiesBefore journal.now.end) heads.now }
+    requires row { AreInRow first_gate heads.now journal.now.end }
     requires changes { met.old.directory.changes ≡ [] }
     requires loads { Loads met.old.loader [] }
     requires plans { met.old.plans.items ≡ [] }
     ensures only { D.Disk.only disk.old disk.new }
     ensures same { OnlyReads (D.disk disk.old) (D.disk disk.new) }
+    ensures unread { D.disk_tells → (D.disk disk.new).bytes_read.pages ≡ (D.disk disk.old).bytes_read.pages }
     ensures failed { IsErrOf result LoadError.Failed → Rose (D.disk disk.old).faults (D.disk disk.new).faults }
     ensures fair { (at : ℕ) → IsErrOf result (LoadError.NotArchive at) → ⊥ }
-    ensures reached { IfOk result (λ fault. (count : ℕ) × ((r : IsReplaying D.disk_tells (D.disk disk.old).holds.journal heads.now count met.new.directory.changes met.new.plans.items (loaded met.new.loader))
-        × (fault ≡ None → length heads.now ≤ count)
-        × ((at : ℕ) → fault ≡ Some at → D.disk_tells → (bodies : List (List ℕ)) → heads.now ≡ heads_of 16 bodies → Spells (D.disk disk.old).holds.journal bodies → IsNextBad r.history bodies at))) }
+    ensures reached { IfOk result (λ fault. (reader : BodiesState) × ((r : IsReplaying D.disk_tells (D.disk disk.old).holds.journal heads.now reader met.new.directory.changes met.new.plans.items (loaded met.new.loader))
+        × (fault ≡ None → reader.left ≡ [])
+        × ((at : ℕ) → fault ≡ Some at → D.disk_tells → (bodies : List (List ℕ)) → heads.now ≡ heads_of first_gate bodies → Spells (D.disk disk.old).holds.journal bodies → IsNextBad r.history bodies at))) }
 {
-    let mut window = Window::new(alloc);
-    for head in heads {
-        window.cover(disk, journal, head.body, head.bytes)?;
-        match apply(alloc, met, head, window.piece(head.body, head.bytes)) {
+    let mut bodies = journal.bodies(alloc, heads);
+    while let Some(head) = bodies.next(disk)? {
+        match apply(alloc, met, &head, bodies.body(&head)) {
             Ok(()) => {}
             Err(LoadError::NotArchive { at }) => return Ok(Some(at)),
             Err(LoadError::Failed | LoadError::Memory) => return Err(LoadError::Memory),
@@ -151,7 +151,7 @@ fn go_over<D: Disk>(
 
 /// Adds an entry, by its head and its body.
 fn apply(alloc: Global, met: &mut Met, head: &Head, body: &[u8]) -> Result<(), LoadError>
-    requires place { head.now.body ≡ head.now.gate + 5 }
+    requires place { head.now.body ≡ head.now.gate + gate_bytes }
     requires within { head.now.body + head.now.bytes < 2 ^ 40 }
     requires len { length body.now ≡ head.now.bytes }
     ensures fair { IsErrOf result LoadError.Failed → ⊥ }
@@ -171,7 +171,7 @@ fn apply(alloc: Global, met: &mut Met, head: &Head, body: &[u8]) -> Result<(), L
 
 /// Adds an entry that is spelled.
 fn apply_entry(alloc: Global, met: &mut Met, head: &Head, entry: Entry) -> Result<(), LoadError>
-    requires place { head.now.body ≡ head.now.gate + 5 }
+    requires place { head.now.body ≡ head.now.gate + gate_bytes }
     requires within { head.now.body + head.now.bytes < 2 ^ 40 }
     requires ranges { IsEntry entry }
     requires long { length (spelling entry) ≡ head.now.bytes }
@@ -212,7 +212,7 @@ fn apply_change(
     change: Change<u32>,
     text: Option<&str>,
 ) -> Result<(), LoadError>
-    requires place { head.now.body ≡ head.now.gate + 5 }
+    requires place { head.now.body ≡ head.now.gate + gate_bytes }
     requires within { head.now.body + head.now.bytes < 2 ^ 40 }
     requires makes { (entry : PlainEntry) × IsEntry entry × Makes entry change × (option_map (λ t. t.now) text ≡ text_of entry) × (length (spelling entry) ≡ head.now.bytes) }
     ensures fair { IsErrOf result LoadError.Failed → ⊥ }

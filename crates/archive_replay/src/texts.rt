@@ -22,6 +22,7 @@ pub fn read_text<D: Disk>(
     requires reached { journal.now.end ≤ (D.disk disk.old).reach.journal }
     ensures only { D.Disk.only disk.old disk.new }
     ensures same { OnlyReads (D.disk disk.old) (D.disk disk.new) }
+    ensures unread { D.disk_tells → (D.disk disk.new).bytes_read.pages ≡ (D.disk disk.old).bytes_read.pages }
     ensures failed { IsErrOf result ReadError.Failed → Rose (D.disk disk.old).faults (D.disk disk.new).faults }
     ensures text { D.disk_tells → IfOk result (λ text. text.items ≡ text_in (D.disk disk.old).holds.journal place) }
 {

@@ -5,6 +5,7 @@ use Rattle.std.specs.Option.{option_map}
 use Rattle.time_base.specs.Limits.{limit_of}
 use Rattle.time_base.specs.declared.ids.DocId.{DocId}
 use Rattle.time_base.specs.declared.which.Which.TheVariants.{Words}
+use Rattle.gate_journal.specs.Records.{new_bytes, gate_bytes}
 use Rattle.fold_tokens.specs.Terms.{keys}
 use Rattle.fold_tokens.specs.Words.{distinct}
 use Rattle.version_store.specs.declared.change.Change.{Change}
@@ -60,7 +61,6 @@ text_at history doc t = held_at doc t (changes history)
 abbrev pub alive : History → ℕ → List (DocId × List ℕ)
 alive history t = filter_map (λ doc. option_map (λ text. (doc, text)) (text_at history doc t)) (documents (changes history))
 
--- where the journal of a history ends: behind the header of 16 bytes, for each entry its gate, its length in four bytes and its
--- spelling, and one closed gate
+-- where the journal of a history ends: behind the header and one closed gate, and for each entry its gate, its length and its spelling
 abbrev pub end_of : History → ℕ
-end_of history = 17 + sum_by (λ entry. length (spelling entry) + 5) history
+end_of history = new_bytes + sum_by (λ entry. length (spelling entry) + gate_bytes) history

@@ -2,6 +2,7 @@
 use Rattle.std.specs.Prelude.{ℕ, ◌+◌, Bool, not, bytes_eq, List, [], ◌∷◌, ◌++◌, length, map, filter, sum_by, Option, Some, None}
 use Rattle.std.specs.List.{flat_map}
 use Rattle.time_base.specs.declared.extent.Extent.{Extent}
+use Rattle.gate_journal.specs.Records.{first_gate, gate_bytes}
 use Rattle.record_codec.specs.Spelling.{spelling}
 use Rattle.record_codec.specs.declared.entry.Entry.{Entry}
 use Rattle.record_codec.specs.declared.entry.Entry.TheVariants.{Arrive, Delete, Planned}
@@ -29,14 +30,14 @@ with_entry gate live (Arrive doc at text) = live
 with_entry gate live (Delete doc at) = live
 with_entry gate live (Planned plan) = with_plan live (record { gate = gate; plan = plan })
 
--- the live plans after more entries, of which the first has its gate at this place; an entry takes 5 bytes and its spelling
+-- the live plans after more entries, of which the first has its gate at this place; an entry takes a gate, a length and its spelling
 abbrev pub live_after : ℕ → List StoredPlan → History → List StoredPlan
 live_after gate live [] = live
-live_after gate live (entry ∷ entries) = live_after (gate + 5 + length (spelling entry)) (with_entry gate live entry) entries
+live_after gate live (entry ∷ entries) = live_after (gate + gate_bytes + length (spelling entry)) (with_entry gate live entry) entries
 
--- the live plans of a history, in the order of their entries; the first gate lies behind the header of 16 bytes
+-- the live plans of a history, in the order of their entries
 abbrev pub live_plans : History → List StoredPlan
-live_plans history = live_after 16 [] history
+live_plans history = live_after first_gate [] history
 
 -- how many segments these plans have together
 abbrev pub segments_of : List StoredPlan → ℕ

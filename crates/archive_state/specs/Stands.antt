@@ -3,7 +3,7 @@ use Rattle.std.specs.Prelude.{◌≡◌, ◌⊎◌, ℕ, ◌+◌, ◌<◌, List,
 use Rattle.machine_model.specs.Areas.{Bytes}
 use Rattle.machine_model.specs.States.{DiskState}
 use Rattle.machine_model.specs.Images.{MayLeave}
-use Rattle.gate_journal.specs.Records.{front}
+use Rattle.gate_journal.specs.Records.{gate_bytes, front}
 use Rattle.gate_journal.specs.Spelled.{Spells}
 use Rattle.gate_journal.specs.Refused.{IsNotJournal}
 use Rattle.page_store.specs.Live.{AreLive}
@@ -49,7 +49,7 @@ pub record IsBadEntry (image : Bytes) (at : ℕ) : Type 0 where
   pub rest : List (List ℕ)
   pub spelled : Spells image.journal (bodies_of before ++ body ∷ rest)
   pub loadable : IsLoadable before
-  pub fault : ((offset : ℕ) × IsMisspelled body offset × (at ≡ length (front (bodies_of before)) + 5 + offset))
+  pub fault : ((offset : ℕ) × IsMisspelled body offset × (at ≡ length (front (bodies_of before)) + gate_bytes + offset))
       ⊎ (IsIllegal before body × (at ≡ length (front (bodies_of before))))
 
 -- A journal whose entries load, and the first extent of a live plan that lies outside Pages or shares a page with an earlier one. (The place is

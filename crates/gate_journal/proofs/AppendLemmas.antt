@@ -1,5 +1,5 @@
 -- How an append goes: the record behind the closed gate, and then the gate.
-use Rattle.std.proofs.Common.{◌≡◌, ◌≢◌, ◌⊎◌, ℕ, ◌+◌, ◌-◌, ◌<◌, ◌≤◌, ◌^◌, List, [], ◌∷◌, ◌++◌, length, drop, get_or, refl, inl, inr, ap, subst, sym, ◌∙◌, arith, append_assoc, length-append}
+use Rattle.std.proofs.Common.{◌≡◌, ◌≢◌, ◌⊎◌, ℕ, ◌+◌, ◌-◌, ◌<◌, ◌≤◌, ◌^◌, List, [], ◌∷◌, ◌++◌, length, drop, get_or, inl, inr, ap, subst, sym, ◌∙◌, arith, append_assoc, length-append}
 use Rattle.std.specs.Int.{w32, to_be_bytes}
 use Rattle.std.proofs.lemmas.Grind.{flat_map-append}
 use Rattle.std.proofs.lemmas.Bool.{cases_eq}
@@ -10,7 +10,7 @@ use Rattle.machine_model.specs.States.{DiskState}
 use Rattle.machine_model.specs.Images.{MayLeave, Only, Torn}
 use Rattle.machine_model.specs.Calls.{WritesThrough, Stays, written}
 use Rattle.machine_model.specs.declared.area.Area.TheVariants.{Journal}
-use Rattle.machine_model.proofs.MomentLemmas.{joined, goes_on_joins, goes_on_same, left_now}
+use Rattle.machine_model.proofs.MomentLemmas.{joined, goes_on_joins}
 use Rattle.gate_journal.specs.Header.{header}
 use Rattle.gate_journal.specs.Records.{open_gate, framed, behind_gate, record_bytes, records, front, Fit}
 use Rattle.gate_journal.specs.Spelled.{SpellsLong, Spells, EachSpells}
@@ -36,10 +36,6 @@ step_at {at} {end} {d} {bodies} same step = record { gate = step.gate; shut = st
 pub step_spells : (d : DiskState) (end : ℕ) (bodies : List (List ℕ)) → IsInStep d end bodies → EachSpells d bodies
 step_spells d end bodies step image allowed = let is = step.images image allowed in
     inr (record { gate = step.gate; rest = is.0; shut = step.shut; fit = step.fit; whole = is.1 })
-
-pub appends_same : (bodies : List (List ℕ)) (body : List ℕ) (d : DiskState) → EachSpells d bodies → Appends bodies body d d
-unfolding Either
-appends_same bodies body d each = record { goes_on = goes_on_same d; images = left_now d (Either bodies body d) (λ image allowed. (inl (each image allowed), refl)) }
 
 pub appends_join : {bodies : List (List ℕ)} {body : List ℕ} {a b c : DiskState} → Appends bodies body a b → b.now.beside ≡ a.now.beside → Appends bodies body b c → Appends bodies body a c
 unfolding Either

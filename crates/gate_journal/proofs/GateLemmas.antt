@@ -1,10 +1,10 @@
--- What stands at a gate, from a view of the bytes there.
+-- What stands at a gate, from the bytes there.
 use Rattle.std.proofs.Common.{◌≡◌, ℕ, ◌+◌, ◌-◌, ◌<◌, ◌≤◌, List, [], ◌∷◌, ◌++◌, length, take, drop, get_or, ap, sym, ◌∙◌, arith, append_assoc, length-drop}
 use Rattle.std.specs.Int.{w32, to_be_bytes}
-use Rattle.std.proofs.lemmas.List.{length-take, take-append-drop, take-take, drop-drop, drop-take}
+use Rattle.std.proofs.lemmas.List.{length-take, take-append-drop}
 use Rattle.gate_journal.specs.declared.gate.Gate.TheVariants.{Open}
 use Rattle.gate_journal.specs.Records.{open_gate, record_bytes}
-use Rattle.gate_journal.specs.Scanning.{IsView, StandsAt}
+use Rattle.gate_journal.specs.Scanning.{StandsAt}
 
 viewed : (bytes all : List ℕ) → bytes ≡ take (length bytes) all → all ≡ bytes ++ drop (length bytes) all
 viewed bytes all view = sym (take-append-drop (length bytes) all) ∙ ap (λ (l : List ℕ). l ++ drop (length bytes) all) (sym view)
@@ -37,18 +37,3 @@ stands_open bytes all count enough view is_open spelled room =
     ∙ ap (λ (l : List ℕ). open_gate ∷ (lb ++ l)) (sym (take-append-drop count tail))
     ∙ ap (λ (l : List ℕ). open_gate ∷ l) (sym (append_assoc lb body (drop count tail))) in
     (body, (drop count tail, whole, is, omega (arith, length-drop count tail, long, room)))
-
--- the part of a view from a later place on is a view from there
-pub view_from : (d bytes journal : List ℕ) (from gate : ℕ) → d ≡ bytes → IsView bytes from journal → from ≤ gate → gate ≤ from + length bytes
-    → IsView (take (length d - (gate - from)) (drop (gate - from) d)) gate journal
-view_from d bytes journal from gate same view low high =
-    let k = gate - from in
-    let left = length d - k in
-    let long : length d ≡ length bytes = ap length same in
-    let split : length bytes ≡ k + left = omega (arith, long, low, high) in
-    let there : drop k (drop from journal) ≡ drop gate journal = drop-drop k from journal ∙ ap (λ n. drop n journal) (omega (arith, low)) in
-    let later : drop k d ≡ take left (drop gate journal) =
-    ap (drop k) (same ∙ view) ∙ ap (λ n. drop k (take n (drop from journal))) split ∙ drop-take k left (drop from journal) ∙ ap (take left) there in
-    let is : take left (drop k d) ≡ take left (drop gate journal) = ap (take left) later ∙ take-take left left (drop gate journal) (omega arith) in
-    let count : length (take left (drop k d)) ≡ left = omega (arith, length-take left (drop k d), length-drop k d) in
-    is ∙ ap (λ n. take n (drop gate journal)) (sym count)

@@ -1,16 +1,26 @@
 -- Where the bodies of a journal stand.
-use Rattle.std.proofs.Common.{◌≡◌, ℕ, ◌+◌, List, [], ◌∷◌, ◌++◌, length, take, drop, inl, inr, ap, subst, sym, ◌∙◌, arith, append_assoc, length-append}
+use Rattle.std.proofs.Common.{◌≡◌, ℕ, ◌+◌, List, [], ◌∷◌, ◌++◌, length, take, drop, suc, refl, inl, inr, ap, subst, sym, ◌∙◌, arith, append_assoc, length-append}
 use Rattle.std.specs.Int.{w32, to_be_bytes}
 use Rattle.std.proofs.Math.Seq.{take-append_seam, drop-append-add}
 use Rattle.gate_journal.specs.declared.head.Head.{Head}
 use Rattle.gate_journal.specs.Header.{header}
 use Rattle.gate_journal.specs.Records.{record_bytes, records, front}
 use Rattle.gate_journal.specs.Spelled.{Spells}
-use Rattle.gate_journal.specs.Heads.{heads_of, AreBodies}
+use Rattle.gate_journal.specs.Heads.{heads_of, AreInRow, AreBodies}
 use Rattle.gate_journal.proofs.SpellingLemmas.{length-header}
 
 pub length-front : (bodies : List (List ℕ)) → length (front bodies) ≡ 16 + length (records bodies)
 length-front bodies = omega (arith, length-append header (records bodies), length-header)
+
+pub length_heads : (gate : ℕ) (bodies : List (List ℕ)) → length (heads_of gate bodies) ≡ length bodies
+length_heads gate [] = refl
+length_heads gate (body ∷ bodies) = ap suc (length_heads (gate + 5 + length body) bodies)
+
+-- a row ends behind its bodies and the closed gate
+pub row_end : (gate end : ℕ) (bodies : List (List ℕ)) → AreInRow gate (heads_of gate bodies) end → end ≡ gate + length (records bodies) + 1
+row_end gate end [] row = omega (arith, row)
+row_end gate end (body ∷ bodies) row =
+    omega (arith, row_end (gate + 5 + length body) end bodies row.2, length-append (record_bytes body) (records bodies), length-append (to_be_bytes w32 (length body)) body)
 
 -- the heads with one body more, whose gate is here
 pub heads_more : (from gate : ℕ) (bodies : List (List ℕ)) (body : List ℕ) → gate ≡ from + length (records bodies)

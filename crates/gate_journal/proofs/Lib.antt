@@ -4,6 +4,8 @@ pub mod TornLemmas
 pub mod AppendLemmas
 pub mod PagesLemmas
 pub mod HeadLemmas
+pub mod WindowLemmas
+pub mod BodyLemmas
 pub mod GateLemmas
 pub mod ScanLemmas
 pub mod LoadLemmas

@@ -17,17 +17,9 @@ use Rattle.gate_journal.specs.Refused.{IsFirstWrong, IsCutShort, IsNotJournal}
 use Rattle.gate_journal.specs.Found.{IsLaidOut, IsFound}
 use Rattle.gate_journal.specs.InStep.{IsInStep}
 use Rattle.gate_journal.specs.Crash.{KeepsBodies, KeepsPages}
-use Rattle.gate_journal.specs.Scanning.{IsView}
 use Rattle.gate_journal.proofs.SpellingLemmas.{length-header, spells_once}
 use Rattle.gate_journal.proofs.TornLemmas.{written_behind}
 use Rattle.gate_journal.proofs.AppendLemmas.{step_spells}
-
--- a call that changes nothing but the count of faults only reads
-pub fails_read : (a b : DiskState) → OnlyFails a b → OnlyReads a b
-fails_read a b same = same ∙ ap (λ r. record a { faults = b.faults; bytes_read = r }) (sym (ap (λ (d : DiskState). d.bytes_read) same))
-
-pub journal_read : (a b : DiskState) → OnlyReads a b → b.holds.journal ≡ a.holds.journal
-journal_read a b same = ap (λ (d : DiskState). d.holds.journal) same
 
 -- reads leave the images that are allowed
 reads_leave : (a b : DiskState) → OnlyReads a b → LeavesOnly a b (λ image beside. Leaves a.now image beside)
@@ -96,13 +88,6 @@ pages_sync a b syncs = record {
       let was = syncs.during image beside left in (image, was.0, refl, was.1);
 }
 
-pub pages_read : (a b : DiskState) → OnlyReads a b → KeepsPages a b
-pages_read a b same = record {
-  goes_on = goes_on_reads a b same;
-  images = λ image beside left.
-      let now = reads_leave a b same image beside left in (image, now.0, refl, now.1);
-}
-
 -- while a new journal is written each image has at most 17 bytes
 pub begun : (a b : DiskState) → length a.holds.journal ≤ 17 → Only a.holds a → WritesThrough Journal 0 17 a b → KeepsBodies [] a b
 begun a b short one through = record {
@@ -154,20 +139,16 @@ kept_begun bodies a b c none each syncs second =
     let K : List (List ℕ) → Type 0 = λ l. KeepsBodies l b c in
     kept_join (kept_sync bodies a b each syncs) syncs.beside (subst K (sym none) second)
 
--- a wrong byte in the first window is wrong in the journal
-pub wrong_in_view : (bytes window journal : List ℕ) (from at : ℕ) → bytes ≡ window → from ≡ 0 → IsView window from journal → 16 ≤ length window → 17 < length journal → IsFirstWrong bytes at → IsNotJournal journal at
-wrong_in_view bytes window journal from at same here view enough longer wrong =
-    let n = length window in
-    let is : bytes ≡ take n journal = same ∙ view ∙ ap (λ k. take n (drop k journal)) here in
+-- a wrong byte among the first is wrong in the journal
+pub wrong_in_front : (bytes journal : List ℕ) (at : ℕ) → bytes ≡ take 16 journal → 17 < length journal → IsFirstWrong bytes at → IsNotJournal journal at
+wrong_in_front bytes journal at is longer wrong =
     let inside : at < 16 = omega (arith, wrong.inside, length-header) in
-    let front : take at bytes ≡ take at journal = ap (take at) is ∙ take-take at n journal (omega (arith, inside, enough)) in
-    let byte : get_or bytes at 0 ≡ get_or journal at 0 = ap (λ (l : List ℕ). get_or l at 0) is ∙ get_or-take n journal at 0 (omega (arith, inside, enough)) in
+    let front : take at bytes ≡ take at journal = ap (take at) is ∙ take-take at 16 journal (omega (arith, inside)) in
+    let byte : get_or bytes at 0 ≡ get_or journal at 0 = ap (λ (l : List ℕ). get_or l at 0) is ∙ get_or-take 16 journal at 0 inside in
     (longer, inl (record { inside = wrong.inside; before = sym front ∙ wrong.before; wrong = λ equal. wrong.wrong (byte ∙ equal) }))
 
-pub right_in_view : (bytes window journal : List ℕ) (from : ℕ) → bytes ≡ window → from ≡ 0 → IsView window from journal → 16 ≤ length window → take 16 bytes ≡ header → take 16 journal ≡ header
-right_in_view bytes window journal from same here view enough right =
-    let n = length window in
-    sym (ap (take 16) (same ∙ view ∙ ap (λ k. take n (drop k journal)) here) ∙ take-take 16 n journal enough) ∙ right
+pub right_in_front : (bytes journal : List ℕ) → bytes ≡ take 16 journal → take 16 bytes ≡ header → take 16 journal ≡ header
+right_in_front bytes journal is right = sym (ap (take 16) is ∙ take-take 16 16 journal (omega arith)) ∙ right
 
 -- a journal that is cut short is refused, whatever was read since
 pub refused_cut : (a b : DiskState) (at : ℕ) → OnlyReads a b → 17 < length a.holds.journal → IsCutShort b.holds.journal at → IsNotJournal a.holds.journal at

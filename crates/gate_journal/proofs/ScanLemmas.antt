@@ -15,7 +15,7 @@ use Rattle.gate_journal.specs.Spelled.{Spells}
 use Rattle.gate_journal.specs.Refused.{IsCutShort}
 use Rattle.gate_journal.specs.Heads.{heads_of, AreInRow, LiesBefore}
 use Rattle.gate_journal.specs.Found.{IsFound}
-use Rattle.gate_journal.specs.Scanning.{IsView, StandsAt, IsScanned}
+use Rattle.gate_journal.specs.Scanning.{StandsAt, IsScanned}
 use Rattle.gate_journal.proofs.SpellingLemmas.{spelled_not_refused}
 use Rattle.gate_journal.proofs.HeadLemmas.{length-front, heads_more}
 use Rattle.gate_journal.proofs.AppendLemmas.{front_more, fit_more}
@@ -82,13 +82,7 @@ pub scanned_next : {bytes : List ℕ} {gate count next : ℕ} {heads more : List
 scanned_next {bytes} {gate} {count} {next} {heads} {more} fits s stands pushed here =
     subst (λ (n : ℕ). IsScanned bytes n more) (sym here) (subst (λ (h : List Head). IsScanned bytes (gate + 5 + count) h) (sym pushed) (scanned_and bytes gate count heads fits s stands))
 
--- reads leave views and what stands at a gate as they are
-pub view_read : (a b : DiskState) (bytes : List ℕ) (from : ℕ) → OnlyReads a b → IsView bytes from a.holds.journal → IsView bytes from b.holds.journal
-view_read a b bytes from same view = let V : DiskState → Type 0 = λ d. IsView bytes from d.holds.journal in subst V (sym same) view
-
-pub view_before : (a b : DiskState) (bytes : List ℕ) (from : ℕ) → OnlyReads a b → IsView bytes from b.holds.journal → IsView bytes from a.holds.journal
-view_before a b bytes from same view = let V : DiskState → Type 0 = λ d. IsView bytes from d.holds.journal in subst V same view
-
+-- reads leave what stands at a gate as it is
 pub stands_before : (a b : DiskState) (gate : ℕ) (found wanted : Gate) → OnlyReads a b → found ≡ wanted → StandsAt (drop gate b.holds.journal) found → StandsAt (drop gate a.holds.journal) wanted
 stands_before a b gate found wanted same is stands =
     let V : DiskState → Type 0 = λ d. StandsAt (drop gate d.holds.journal) found in

@@ -1,7 +1,7 @@
 -- What a load finds in a journal.
 use Rattle.std.specs.Prelude.{◌≡◌, ℕ, ◌+◌, List, length}
 use Rattle.gate_journal.specs.declared.head.Head.{Head}
-use Rattle.gate_journal.specs.Records.{front}
+use Rattle.gate_journal.specs.Records.{first_gate, front}
 use Rattle.gate_journal.specs.Heads.{heads_of}
 use Rattle.gate_journal.specs.Spelled.{Spells}
 use Rattle.gate_journal.specs.Refused.{IsNotJournal}
@@ -9,7 +9,7 @@ use Rattle.gate_journal.specs.Refused.{IsNotJournal}
 -- the end is the place behind the closed gate, and the heads say where these bodies lie
 pub record IsLaidOut (bodies : List (List ℕ)) (end : ℕ) (heads : List Head) : Type 0 where
   pub end_is : end ≡ length (front bodies) + 1
-  pub heads_are : heads ≡ heads_of 16 bodies
+  pub heads_are : heads ≡ heads_of first_gate bodies
 
 -- the bytes spell bodies, which lie where the heads say, and they aren't refused anywhere
 pub record IsFound (bytes : List ℕ) (end : ℕ) (heads : List Head) : Type 0 where

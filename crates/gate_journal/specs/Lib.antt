@@ -8,4 +8,6 @@ pub mod Found
 pub mod InStep
 pub mod Crash
 pub mod State
+pub mod Windows
+pub mod Bodies
 pub mod Scanning

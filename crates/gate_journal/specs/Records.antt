@@ -8,6 +8,18 @@ use Rattle.gate_journal.specs.Header.{header}
 abbrev pub open_gate : ℕ
 open_gate = 165
 
+-- the place of the first gate: the header has so many bytes
+abbrev pub first_gate : ℕ
+first_gate = 16
+
+-- a new journal has so many bytes: the header and a closed gate
+abbrev pub new_bytes : ℕ
+new_bytes = 17
+
+-- a gate and the length behind it have so many bytes
+abbrev pub gate_bytes : ℕ
+gate_bytes = 5
+
 -- the length of a body in four bytes, and the body
 abbrev pub framed : List ℕ → List ℕ
 framed body = to_be_bytes w32 (length body) ++ body

@@ -2,7 +2,7 @@
 use Rattle.std.specs.Prelude.{◌≡◌, ◌≢◌, ◌⊎◌, ℕ, ◌+◌, ◌<◌, ◌≤◌, List, ◌∷◌, ◌++◌, length, take, slice_index}
 use Rattle.std.specs.Int.{w32, from_be_bytes}
 use Rattle.gate_journal.specs.Header.{header}
-use Rattle.gate_journal.specs.Records.{open_gate, front, Fit}
+use Rattle.gate_journal.specs.Records.{new_bytes, open_gate, front, Fit}
 
 -- this is the first byte that differs from the header's
 pub record IsFirstWrong (bytes : List ℕ) (at : ℕ) : Type 0 where
@@ -25,4 +25,4 @@ pub record IsCutShort (bytes : List ℕ) (at : ℕ) : Type 0 where
 
 -- these bytes are more than a new journal and no journal, which shows at this place
 abbrev pub IsNotJournal : List ℕ → ℕ → Type 0
-IsNotJournal bytes at = (17 < length bytes) × (IsFirstWrong bytes at ⊎ IsCutShort bytes at)
+IsNotJournal bytes at = (new_bytes < length bytes) × (IsFirstWrong bytes at ⊎ IsCutShort bytes at)

@@ -1,20 +1,11 @@
 -- What a load knows while it goes over the records.
-use Rattle.std.specs.Prelude.{◌≡◌, ◌≢◌, ℕ, ◌+◌, ◌-◌, ◌<◌, ◌≤◌, min, List, ◌∷◌, ◌++◌, length, take, drop}
+use Rattle.std.specs.Prelude.{◌≡◌, ◌≢◌, ℕ, ◌<◌, List, ◌∷◌, ◌++◌, length}
 use Rattle.gate_journal.specs.declared.head.Head.{Head}
 use Rattle.gate_journal.specs.declared.gate.Gate.{Gate}
 use Rattle.gate_journal.specs.declared.gate.Gate.TheVariants.{Closed, Open, CutShort}
-use Rattle.gate_journal.specs.Records.{open_gate, record_bytes, front, Fit}
+use Rattle.gate_journal.specs.Records.{first_gate, open_gate, record_bytes, front, Fit}
 use Rattle.gate_journal.specs.Refused.{IsCut}
 use Rattle.gate_journal.specs.Heads.{heads_of}
-
--- these bytes stand in the journal from this place on
-abbrev pub IsView : List ℕ → ℕ → List ℕ → Type 0
-IsView bytes from journal = bytes ≡ take (length bytes) (drop from journal)
-
--- a window of so many bytes from a place on lies in a journal of this length, and has 65,536 bytes or all that are left
-pub record IsWindow (from count total : ℕ) : Type 0 where
-  pub within : from + count ≤ total
-  pub enough : min 65536 (total - from) ≤ count
 
 -- what stands at a gate, from which these bytes are left: a closed gate; a record and the place of a next gate; or an open gate that is cut short
 abbrev pub StandsAt : List ℕ → Gate → Type 0
@@ -30,4 +21,4 @@ pub record IsScanned (bytes : List ℕ) (gate : ℕ) (heads : List Head) : Type 
   pub fit : Fit bodies
   pub whole : bytes ≡ front bodies ++ rest
   pub gate_is : gate ≡ length (front bodies)
-  pub heads_are : heads ≡ heads_of 16 bodies
+  pub heads_are : heads ≡ heads_of first_gate bodies

@@ -3,7 +3,7 @@ use Rattle.std.specs.Prelude.{◌≡◌, ◌≢◌, ◌⊎◌, ℕ, ◌≤◌, L
 use Rattle.machine_model.specs.Areas.{Bytes}
 use Rattle.machine_model.specs.States.{DiskState}
 use Rattle.machine_model.specs.Images.{MayLeave}
-use Rattle.gate_journal.specs.Records.{open_gate, front, Fit}
+use Rattle.gate_journal.specs.Records.{new_bytes, open_gate, front, Fit}
 
 -- the header, the records of these bodies, a closed gate, and then any bytes
 pub record SpellsLong (bytes : List ℕ) (bodies : List (List ℕ)) : Type 0 where
@@ -15,7 +15,7 @@ pub record SpellsLong (bytes : List ℕ) (bodies : List (List ℕ)) : Type 0 whe
 
 -- A journal of at most 17 bytes is new and spells no body. (So does one of 17 bytes that is a header and a closed gate.)
 abbrev pub Spells : List ℕ → List (List ℕ) → Type 0
-Spells bytes bodies = ((length bytes ≤ 17) × (bodies ≡ [])) ⊎ SpellsLong bytes bodies
+Spells bytes bodies = ((length bytes ≤ new_bytes) × (bodies ≡ [])) ⊎ SpellsLong bytes bodies
 
 -- each image that a stop may leave now spells these bodies
 abbrev pub EachSpells : DiskState → List (List ℕ) → Type 0

@@ -1,5 +1,6 @@
 ghost use Rattle.std.specs.Prelude.{◌≡◌, ◌⊎◌, ◌+◌, ◌<◌, ◌≤◌, ℕ, List, length, take};
 ghost use Rattle.std.specs.Int.{w32, to_be_bytes};
+ghost use Rattle.gate_journal.specs.Records.{gate_bytes};
 ghost use Rattle.gate_journal.specs.Scanning.{StandsAt};
 
 /// The byte of a gate that is open. With every other byte it is closed.
@@ -33,14 +34,14 @@ fn spelled_count(bytes: &[u8]) -> u32
 pub(crate) fn gate_in(bytes: &[u8], left: u64) -> Gate
     requires some { 1 ≤ length bytes.now }
     requires within { length bytes.now ≤ left }
-    requires enough { (5 ≤ length bytes.now) ⊎ (length bytes.now ≡ left) }
+    requires enough { (gate_bytes ≤ length bytes.now) ⊎ (length bytes.now ≡ left) }
     ensures stands { (all : List ℕ) → length all ≡ left → bytes.now ≡ take (length bytes.now) all → StandsAt all result }
-    ensures fits { (count : ℕ) → result ≡ Gate.Open count → 5 + count < left }
+    ensures fits { (count : ℕ) → result ≡ Gate.Open count → gate_bytes + count < left }
 {
     if bytes[0] != OPEN_GATE {
         return Gate::Closed;
     }
-    if bytes.len() < 5 {
+    if (bytes.len() as u64) < GATE_BYTES {
         return Gate::CutShort;
     }
     let count = spelled_count(&bytes[1..5]);

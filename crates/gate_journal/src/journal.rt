@@ -1,6 +1,7 @@
 ghost use Rattle.std.specs.Prelude.{◌≡◌, ◌↔◌, ◌+◌, ◌-◌, ◌<◌, ◌≤◌, ◌^◌, ◌++◌, [], ◌∷◌, List, ℕ, false, IsTrue, length, take, drop, IfOk, OnOk, OnErr, IsErrOf};
 ghost use Rattle.machine_model.specs.Causes.{HasCause, Rose};
 ghost use Rattle.machine_model.specs.Calls.{OnlyReads};
+ghost use Rattle.gate_journal.specs.Records.{new_bytes, gate_bytes};
 ghost use Rattle.gate_journal.specs.Spelled.{EachSpells};
 ghost use Rattle.gate_journal.specs.InStep.{IsInStep};
 ghost use Rattle.gate_journal.specs.Crash.{Appends, KeepsPages};
@@ -22,19 +23,20 @@ pub struct Journal {
 
 impl Model for Journal {
     ghost use Rattle.std.specs.Prelude.{◌≤◌, ◌^◌};
+    ghost use Rattle.gate_journal.specs.Records.{new_bytes};
     ghost use Rattle.gate_journal.specs.State.{JournalState};
 
     ghost Value = { JournalState };
 
     ghost view = { λ j. record { end = j.end; live = j.live } };
 
-    ghost invariant = { λ j. (17 ≤ j.end) × (j.end ≤ 2 ^ 40) };
+    ghost invariant = { λ j. (new_bytes ≤ j.end) × (j.end ≤ 2 ^ 40) };
 }
 
 impl Journal {
     // A journal that may be read and not appended to.
     pub(crate) fn at(end: u64) -> Journal
-        requires low { 17 ≤ end }
+        requires low { new_bytes ≤ end }
         requires high { end ≤ 2 ^ 40 }
         ensures end { result.end ≡ end }
         ensures live { ¬ (IsTrue result.live) }
@@ -64,7 +66,7 @@ impl Journal {
     /// The number of bytes up to and with the closed gate that ends the records: at least 17, at most 2^40. Costs nothing.
     pub fn end(&self) -> u64
         ensures end { result ≡ self.now.end }
-        ensures least { 17 ≤ result }
+        ensures least { new_bytes ≤ result }
         ensures most { result ≤ 2 ^ 40 }
     {
         self.end
@@ -79,10 +81,10 @@ impl Journal {
         requires { IsTrue self.old.live }
         ensures only { D.Disk.only disk.old disk.new }
         ensures failed { IsErrOf result AppendError.Failed → Rose (D.disk disk.old).faults (D.disk disk.new).faults }
-        ensures full { IsErrOf result AppendError.Full ↔ (2 ^ 40 < self.old.end + 5 + length frame.now) }
+        ensures full { IsErrOf result AppendError.Full ↔ (2 ^ 40 < self.old.end + gate_bytes + length frame.now) }
         ensures same { IsErrOf result AppendError.Full → (self.new ≡ self.old) × (disk.new ≡ disk.old) }
         ensures place { IfOk result (λ at. at ≡ self.old.end + 4) }
-        ensures end { OnOk result (self.new.end ≡ self.old.end + 5 + length frame.now) }
+        ensures end { OnOk result (self.new.end ≡ self.old.end + gate_bytes + length frame.now) }
         ensures within { OnOk result (self.new.end ≤ (D.disk disk.new).reach.journal) }
         ensures live { IsTrue self.new.live ↔ ¬ (IsErrOf result AppendError.Failed) }
         ensures spent { IsErrOf result AppendError.Failed → self.new ≡ record self.old { live = false } }
@@ -124,6 +126,7 @@ impl Journal {
         ensures count { D.disk_tells → OnOk result ((D.disk disk.new).bytes_read ≡
             record (D.disk disk.old).bytes_read { journal = (D.disk disk.old).bytes_read.journal + length buf.old }) }
         ensures failed { D.disk_tells → OnErr result ((D.disk disk.new).bytes_read ≡ (D.disk disk.old).bytes_read) }
+        ensures unread { D.disk_tells → (D.disk disk.new).bytes_read.pages ≡ (D.disk disk.old).bytes_read.pages }
         ensures same { OnlyReads (D.disk disk.old) (D.disk disk.new) }
     {
         disk.read(Area::Journal, at, buf)

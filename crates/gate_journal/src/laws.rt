@@ -2,7 +2,7 @@ ghost use Rattle.std.specs.Prelude.{◌≡◌, ◌+◌, ◌++◌, [], ◌∷◌,
 ghost use Rattle.machine_model.specs.Areas.{Bytes};
 ghost use Rattle.machine_model.specs.States.{DiskState};
 ghost use Rattle.machine_model.specs.Images.{MayLeave};
-ghost use Rattle.gate_journal.specs.Records.{front};
+ghost use Rattle.gate_journal.specs.Records.{first_gate, gate_bytes, front};
 ghost use Rattle.gate_journal.specs.Heads.{heads_of, AreBodies};
 ghost use Rattle.gate_journal.specs.Spelled.{Spells, EachSpells};
 ghost use Rattle.gate_journal.specs.Refused.{IsNotJournal};
@@ -31,7 +31,7 @@ pub fn a_disk_stays_in_step()
 /// A law of the definitions: in bytes that spell bodies the heads lead to them, so that a read of the bytes
 /// that a head names gives its body; and a body more has its head behind the others.
 pub fn heads_lead_to_bodies()
-    ensures bodies { (bytes : List ℕ) (bodies : List (List ℕ)) → Spells bytes bodies → AreBodies bytes (heads_of 16 bodies) bodies }
+    ensures bodies { (bytes : List ℕ) (bodies : List (List ℕ)) → Spells bytes bodies → AreBodies bytes (heads_of first_gate bodies) bodies }
     ensures more { (bodies : List (List ℕ)) (body : List ℕ) → let gate = length (front bodies) in
-        heads_of 16 (bodies ++ body ∷ []) ≡ heads_of 16 bodies ++ record { gate = gate; body = gate + 5; bytes = length body } ∷ [] }
+        heads_of first_gate (bodies ++ body ∷ []) ≡ heads_of first_gate bodies ++ record { gate = gate; body = gate + gate_bytes; bytes = length body } ∷ [] }
 {}

@@ -11,6 +11,7 @@
 //! spells (`specs/Crash.antt`). A journal can be opened to read alone: then nothing is written or synced.
 #![tactic(auto)]
 
+mod bodies;
 mod durable;
 mod error;
 mod frame;
@@ -22,6 +23,7 @@ mod laws;
 mod load;
 mod window;
 
+pub use bodies::Bodies;
 pub use error::{AppendError, JournalError};
 pub use frame::Frame;
 pub use head::Head;
@@ -30,3 +32,4 @@ pub use laws::{
     a_disk_stays_in_step, a_journal_is_refused_at_one_place, a_journal_spells_one_list,
     heads_lead_to_bodies,
 };
+pub use window::Window;

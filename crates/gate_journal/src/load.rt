@@ -1,19 +1,20 @@
-ghost use Rattle.std.specs.Prelude.{◌≡◌, ◌+◌, ◌<◌, ◌≤◌, ◌∷◌, [], List, ℕ, All, length, take, IsTrue, IfOk, IfSome, OnOk, IsErrOf, MatchOption, vec_len};
+ghost use Rattle.std.specs.Prelude.{◌≡◌, ◌+◌, ◌<◌, ◌≤◌, ◌∷◌, [], List, ℕ, All, length, take, IsTrue, IfOk, IfSome, OnOk, IsErrOf, MatchOption};
 ghost use Rattle.machine_model.specs.Causes.{HasCause, Rose};
 ghost use Rattle.machine_model.specs.Calls.{OnlyReads, Syncs};
 ghost use Rattle.machine_model.specs.Images.{Only};
 ghost use Rattle.gate_journal.specs.Header.{header};
+ghost use Rattle.gate_journal.specs.Records.{first_gate, new_bytes};
 ghost use Rattle.gate_journal.specs.Heads.{AreInRow, LiesBefore};
 ghost use Rattle.gate_journal.specs.Spelled.{Spells, EachSpells};
 ghost use Rattle.gate_journal.specs.Refused.{IsNotJournal, IsCutShort};
 ghost use Rattle.gate_journal.specs.Found.{IsFound, IsLaidOut};
 ghost use Rattle.gate_journal.specs.InStep.{IsInStep};
 ghost use Rattle.gate_journal.specs.Crash.{KeepsBodies, KeepsPages};
-ghost use Rattle.gate_journal.specs.Scanning.{IsView, IsWindow};
+ghost use Rattle.gate_journal.specs.Windows.{IsView};
 
 use crate::durable::write_through;
 use crate::gate::{GATE_BYTES, Gate};
-use crate::header::{HEADER_BYTES, NEW_BYTES, NEW_JOURNAL, first_wrong};
+use crate::header::{FIRST_GATE, HEADER_BYTES, NEW_BYTES, NEW_JOURNAL, first_wrong};
 use crate::window::Window;
 use crate::{Head, Journal, JournalError};
 use machine_model::{Area, Disk, Failed};
@@ -33,9 +34,9 @@ impl Journal {
         ensures only { D.Disk.only disk.old disk.new }
         ensures failed { IsErrOf result JournalError.Failed → Rose (D.disk disk.old).faults (D.disk disk.new).faults }
         ensures live { IfOk result (λ p. IsTrue p.0.live) }
-        ensures least { IfOk result (λ p. 17 ≤ p.0.end) }
+        ensures least { IfOk result (λ p. new_bytes ≤ p.0.end) }
         ensures within { IfOk result (λ p. p.0.end ≤ (D.disk disk.new).reach.journal) }
-        ensures row { IfOk result (λ p. AreInRow 16 p.1.items p.0.end) }
+        ensures row { IfOk result (λ p. AreInRow first_gate p.1.items p.0.end) }
         ensures heads { IfOk result (λ p. All (LiesBefore p.0.end) p.1.items) }
         // What it answers of the bytes that reads gave at the start.
         ensures not_journal { D.disk_tells → (at : ℕ) → IsErrOf result (JournalError.NotJournal at) →
@@ -51,14 +52,14 @@ impl Journal {
         ensures finds { D.disk_tells → (bodies : List (List ℕ)) → EachSpells (D.disk disk.old) bodies →
             IfOk result (λ p. IsLaidOut bodies p.0.end p.1.items × IsInStep (D.disk disk.new) p.0.end bodies) }
         // A journal that isn't new is synced and read, and nothing else.
-        ensures longer { D.disk_tells → 17 < length (D.disk disk.old).holds.journal → Syncs (D.disk disk.old) (D.disk disk.new) }
+        ensures longer { D.disk_tells → new_bytes < length (D.disk disk.old).holds.journal → Syncs (D.disk disk.old) (D.disk disk.new) }
         // A journal that isn't new is durable then: no image is allowed but what reads give.
-        ensures one { D.disk_tells → 17 < length (D.disk disk.old).holds.journal →
+        ensures one { D.disk_tells → new_bytes < length (D.disk disk.old).holds.journal →
             OnOk result (Only (D.disk disk.new).holds (D.disk disk.new)) }
         ensures pages { D.disk_tells → KeepsPages (D.disk disk.old) (D.disk disk.new) }
         ensures pages_hold { D.disk_tells → OnOk result ((D.disk disk.new).holds.pages ≡ (D.disk disk.old).holds.pages) }
         ensures pages_reach { (D.disk disk.new).reach.pages ≡ (D.disk disk.old).reach.pages }
-        ensures pages_read { D.disk_tells → (D.disk disk.new).bytes_read.pages ≡ (D.disk disk.old).bytes_read.pages }
+        ensures unread { D.disk_tells → (D.disk disk.new).bytes_read.pages ≡ (D.disk disk.old).bytes_read.pages }
     {
         let total = settle(disk)?;
         if total > NEW_BYTES {
@@ -83,18 +84,18 @@ impl Journal {
         // No image changes, and no length.
         ensures same { OnlyReads (D.disk disk.old) (D.disk disk.new) }
         ensures failed { IsErrOf result JournalError.Failed → Rose (D.disk disk.old).faults (D.disk disk.new).faults }
-        ensures new { IfOk result (λ o. MatchOption o ((D.disk disk.old).reach.journal ≤ 17) (λ p. 17 < (D.disk disk.old).reach.journal)) }
+        ensures new { IfOk result (λ o. MatchOption o ((D.disk disk.old).reach.journal ≤ new_bytes) (λ p. new_bytes < (D.disk disk.old).reach.journal)) }
         ensures not_live { IfOk result (λ o. IfSome o (λ p. ¬ (IsTrue p.0.live))) }
-        ensures least { IfOk result (λ o. IfSome o (λ p. 17 ≤ p.0.end)) }
+        ensures least { IfOk result (λ o. IfSome o (λ p. new_bytes ≤ p.0.end)) }
         ensures within { IfOk result (λ o. IfSome o (λ p. p.0.end ≤ (D.disk disk.new).reach.journal)) }
-        ensures row { IfOk result (λ o. IfSome o (λ p. AreInRow 16 p.1.items p.0.end)) }
+        ensures row { IfOk result (λ o. IfSome o (λ p. AreInRow first_gate p.1.items p.0.end)) }
         ensures heads { IfOk result (λ o. IfSome o (λ p. All (LiesBefore p.0.end) p.1.items)) }
         // What it answers of the bytes that reads give.
         ensures not_journal { D.disk_tells → (at : ℕ) → IsErrOf result (JournalError.NotJournal at) →
             IsNotJournal (D.disk disk.old).holds.journal at }
-        ensures found { D.disk_tells → IfOk result (λ o. MatchOption o (length (D.disk disk.old).holds.journal ≤ 17)
+        ensures found { D.disk_tells → IfOk result (λ o. MatchOption o (length (D.disk disk.old).holds.journal ≤ new_bytes)
             (λ p. IsFound (D.disk disk.old).holds.journal p.0.end p.1.items)) }
-        ensures pages_read { D.disk_tells → (D.disk disk.new).bytes_read.pages ≡ (D.disk disk.old).bytes_read.pages }
+        ensures unread { D.disk_tells → (D.disk disk.new).bytes_read.pages ≡ (D.disk disk.old).bytes_read.pages }
     {
         let total = disk.length(Area::Journal)?;
         if total <= NEW_BYTES {
@@ -126,14 +127,14 @@ fn open<D: Disk>(
     total: u64,
 ) -> Result<(Journal, Vec<Head>), JournalError>
     requires long { total ≡ (D.disk disk.old).reach.journal }
-    requires longer { 17 < total }
+    requires longer { new_bytes < total }
     ensures only { D.Disk.only disk.old disk.new }
     ensures same { OnlyReads (D.disk disk.old) (D.disk disk.new) }
     ensures failed { IsErrOf result JournalError.Failed → Rose (D.disk disk.old).faults (D.disk disk.new).faults }
     ensures not_live { IfOk result (λ p. ¬ (IsTrue p.0.live)) }
-    ensures least { IfOk result (λ p. 17 ≤ p.0.end) }
+    ensures least { IfOk result (λ p. new_bytes ≤ p.0.end) }
     ensures within { IfOk result (λ p. p.0.end ≤ total) }
-    ensures row { IfOk result (λ p. AreInRow 16 p.1.items p.0.end) }
+    ensures row { IfOk result (λ p. AreInRow first_gate p.1.items p.0.end) }
     ensures heads { IfOk result (λ p. All (LiesBefore p.0.end) p.1.items) }
     ensures not_journal { D.disk_tells → (at : ℕ) → IsErrOf result (JournalError.NotJournal at) →
         IsNotJournal (D.disk disk.old).holds.journal at }
@@ -142,13 +143,14 @@ fn open<D: Disk>(
         (bodies : List (List ℕ)) → Spells (D.disk disk.old).holds.journal bodies →
         IfOk result (λ p. IsLaidOut bodies p.0.end p.1.items × IsInStep (D.disk disk.new) p.0.end bodies
         × Spells (D.disk disk.new).holds.journal bodies) }
-    ensures pages_read { D.disk_tells → (D.disk disk.new).bytes_read.pages ≡ (D.disk disk.old).bytes_read.pages }
+    ensures unread { D.disk_tells → (D.disk disk.new).bytes_read.pages ≡ (D.disk disk.old).bytes_read.pages }
 {
-    let window = Window::first(alloc, disk, total)?;
-    if let Some(at) = first_wrong(&window.bytes) {
+    let mut window = Window::new(alloc, total);
+    window.cover(disk, 0, HEADER_BYTES)?;
+    if let Some(at) = first_wrong(window.piece(0, HEADER_BYTES)) {
         return Err(JournalError::NotJournal { at });
     }
-    scan(alloc, disk, window, total)
+    scan(alloc, disk, window)
 }
 
 // Goes over the records, up to the first closed gate.
@@ -156,32 +158,29 @@ fn scan<D: Disk>(
     alloc: Global,
     disk: &mut D,
     window: Window,
-    total: u64,
 ) -> Result<(Journal, Vec<Head>), JournalError>
-    requires long { total ≡ (D.disk disk.old).reach.journal }
-    requires longer { 17 < total }
-    requires first { window.from ≡ 0 }
-    requires window { IsWindow window.from (vec_len window.bytes) total }
+    requires long { window.end ≡ (D.disk disk.old).reach.journal }
+    requires longer { new_bytes < window.end }
     ensures only { D.Disk.only disk.old disk.new }
     ensures same { OnlyReads (D.disk disk.old) (D.disk disk.new) }
     ensures failed { IsErrOf result JournalError.Failed → Rose (D.disk disk.old).faults (D.disk disk.new).faults }
     ensures not_live { IfOk result (λ p. ¬ (IsTrue p.0.live)) }
-    ensures least { IfOk result (λ p. 17 ≤ p.0.end) }
-    ensures within { IfOk result (λ p. p.0.end ≤ total) }
-    ensures row { IfOk result (λ p. AreInRow 16 p.1.items p.0.end) }
-    ensures not_journal { D.disk_tells → IsView window.bytes.items window.from (D.disk disk.old).holds.journal →
-        take 16 (D.disk disk.old).holds.journal ≡ header →
+    ensures least { IfOk result (λ p. new_bytes ≤ p.0.end) }
+    ensures within { IfOk result (λ p. p.0.end ≤ window.end) }
+    ensures row { IfOk result (λ p. AreInRow first_gate p.1.items p.0.end) }
+    ensures not_journal { D.disk_tells → IsView window (D.disk disk.old).holds.journal →
+        take first_gate (D.disk disk.old).holds.journal ≡ header →
         (at : ℕ) → IsErrOf result (JournalError.NotJournal at) → IsCutShort (D.disk disk.old).holds.journal at }
-    ensures found { D.disk_tells → IsView window.bytes.items window.from (D.disk disk.old).holds.journal →
-        take 16 (D.disk disk.old).holds.journal ≡ header →
+    ensures found { D.disk_tells → IsView window (D.disk disk.old).holds.journal →
+        take first_gate (D.disk disk.old).holds.journal ≡ header →
         IfOk result (λ p. IsFound (D.disk disk.old).holds.journal p.0.end p.1.items) }
-    ensures pages_read { D.disk_tells → (D.disk disk.new).bytes_read.pages ≡ (D.disk disk.old).bytes_read.pages }
+    ensures unread { D.disk_tells → (D.disk disk.new).bytes_read.pages ≡ (D.disk disk.old).bytes_read.pages }
 {
     let mut window = window;
     let mut heads = Vec::new(alloc);
-    let mut gate = HEADER_BYTES;
+    let mut gate = FIRST_GATE;
     loop {
-        match window.gate_at(disk, gate, total)? {
+        match window.gate_at(disk, gate)? {
             Gate::Closed => return Ok((Journal::at(gate + 1), heads)),
             Gate::CutShort => return Err(JournalError::NotJournal { at: gate }),
             Gate::Open(bytes) => {
@@ -195,21 +194,21 @@ fn scan<D: Disk>(
 
 // Writes a new journal over one that has no more bytes.
 fn begin<D: Disk>(alloc: Global, disk: &mut D) -> Result<(Journal, Vec<Head>), JournalError>
-    requires short { (D.disk disk.old).reach.journal ≤ 17 }
+    requires short { (D.disk disk.old).reach.journal ≤ new_bytes }
     requires one { D.disk_tells → Only (D.disk disk.old).holds (D.disk disk.old) }
     ensures only { D.Disk.only disk.old disk.new }
     ensures failed { IsErrOf result JournalError.Failed → Rose (D.disk disk.old).faults (D.disk disk.new).faults }
     ensures fair { (at : ℕ) → IsErrOf result (JournalError.NotJournal at) → ⊥ }
     ensures live { IfOk result (λ p. IsTrue p.0.live) }
-    ensures end { IfOk result (λ p. p.0.end ≡ 17) }
+    ensures end { IfOk result (λ p. p.0.end ≡ new_bytes) }
     ensures none { IfOk result (λ p. p.1.items ≡ []) }
-    ensures within { OnOk result (17 ≤ (D.disk disk.new).reach.journal) }
+    ensures within { OnOk result (new_bytes ≤ (D.disk disk.new).reach.journal) }
     ensures in_step { D.disk_tells → IfOk result (λ p. IsLaidOut [] p.0.end p.1.items × IsInStep (D.disk disk.new) p.0.end []) }
     ensures crash { D.disk_tells → KeepsBodies [] (D.disk disk.old) (D.disk disk.new) }
     ensures pages { D.disk_tells → KeepsPages (D.disk disk.old) (D.disk disk.new) }
     ensures pages_hold { D.disk_tells → OnOk result ((D.disk disk.new).holds.pages ≡ (D.disk disk.old).holds.pages) }
     ensures pages_reach { (D.disk disk.new).reach.pages ≡ (D.disk disk.old).reach.pages }
-    ensures pages_read { D.disk_tells → (D.disk disk.new).bytes_read.pages ≡ (D.disk disk.old).bytes_read.pages }
+    ensures unread { D.disk_tells → (D.disk disk.new).bytes_read.pages ≡ (D.disk disk.old).bytes_read.pages }
 {
     write_through(disk, 0, &NEW_JOURNAL)?;
     Ok((Journal::at(NEW_BYTES).made_live(), Vec::new(alloc)))

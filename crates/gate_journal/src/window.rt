@@ -1,116 +1,101 @@
-ghost use Rattle.std.specs.Prelude.{◌≡◌, ◌⊎◌, ◌+◌, ◌-◌, ◌<◌, ◌≤◌, ◌^◌, List, ℕ, length, drop, IfOk, OnOk, IsErrOf, vec_len};
-ghost use Rattle.machine_model.specs.Causes.{HasCause, Rose};
+ghost use Rattle.std.specs.Prelude.{◌≡◌, ◌+◌, ◌<◌, ◌≤◌, List, ℕ, length, take, drop, IfOk, OnOk, IsErrOf};
+ghost use Rattle.machine_model.specs.Causes.{Rose};
 ghost use Rattle.machine_model.specs.Calls.{OnlyReads};
-ghost use Rattle.gate_journal.specs.Scanning.{IsView, IsWindow, StandsAt};
+ghost use Rattle.gate_journal.specs.Records.{gate_bytes};
+ghost use Rattle.gate_journal.specs.Windows.{IsView, Covers, piece_of};
+ghost use Rattle.gate_journal.specs.Scanning.{StandsAt};
 
 use crate::JournalError;
 use crate::gate::{GATE_BYTES, Gate, gate_in};
-use machine_model::{Area, Disk, Failed};
+use machine_model::{Area, Disk};
 use std::alloc::Global;
+use std::marker::Model;
 
-/// The most bytes of a journal that are read at once.
+/// The most bytes of a journal that are read at once, but where more are asked for.
 const WINDOW_BYTES: u64 = 65_536;
 
-// The bytes of a journal from a place on: as many as a window has, or all that are left.
-#[derive(Drop)]
-pub(crate) struct Window {
-    pub(crate) from: u64,
-    pub(crate) bytes: Vec<u8>,
+/// Bytes of a journal in hand, which is read up to an end.
+#[derive(Debug, Drop)]
+pub struct Window {
+    end: u64,
+    from: u64,
+    bytes: Vec<u8>,
+}
+
+impl Model for Window {
+    ghost use Rattle.gate_journal.specs.Windows.{WindowState};
+
+    ghost Value = { WindowState };
+
+    ghost view = { λ w. record { end = w.end; from = w.from; bytes = w.bytes.items } };
 }
 
 impl Window {
-    // The first bytes of a journal of a length.
-    pub(crate) fn first<D: Disk>(
-        alloc: Global,
-        disk: &mut D,
-        total: u64,
-    ) -> Result<Window, JournalError>
-        requires long { total ≡ (D.disk disk.old).reach.journal }
+    // No bytes yet.
+    pub(crate) fn new(alloc: Global, end: u64) -> Window
+        ensures end { result.end ≡ end }
+        ensures view { (journal : List ℕ) → IsView result journal }
+    {
+        Window {
+            end,
+            from: 0,
+            bytes: Vec::new(alloc),
+        }
+    }
+
+    /// Takes so many bytes from a place on into hand. Where they aren't, the next bytes from there on are
+    /// read: 64 KiB or what is left up to the end, or all that are asked for.
+    pub fn cover<D: Disk>(&mut self, disk: &mut D, at: u64, count: u32) -> Result<(), JournalError>
+        requires inside { at + count ≤ self.old.end }
+        requires reached { self.old.end ≤ (D.disk disk.old).reach.journal }
         ensures only { D.Disk.only disk.old disk.new }
+        ensures same { OnlyReads (D.disk disk.old) (D.disk disk.new) }
+        ensures unread { D.disk_tells → (D.disk disk.new).bytes_read.pages ≡ (D.disk disk.old).bytes_read.pages }
         ensures failed { IsErrOf result JournalError.Failed → Rose (D.disk disk.old).faults (D.disk disk.new).faults }
         ensures fair { (at : ℕ) → IsErrOf result (JournalError.NotJournal at) → ⊥ }
-        ensures from { IfOk result (λ w. w.from ≡ 0) }
-        ensures window { IfOk result (λ w. IsWindow w.from (vec_len w.bytes) total) }
-        ensures view { D.disk_tells → IfOk result (λ w. IsView w.bytes.items w.from (D.disk disk.new).holds.journal) }
-        ensures pages_read { D.disk_tells → (D.disk disk.new).bytes_read.pages ≡ (D.disk disk.old).bytes_read.pages }
-        ensures same { OnlyReads (D.disk disk.old) (D.disk disk.new) }
+        ensures end { self.new.end ≡ self.old.end }
+        ensures covers { OnOk result (Covers self.new at count) }
+        ensures view { D.disk_tells → IsView self.old (D.disk disk.old).holds.journal → OnOk result (IsView self.new (D.disk disk.old).holds.journal) }
     {
-        let count = total.min(WINDOW_BYTES) as usize;
-        let mut bytes = vec![in alloc; 0; count]?;
-        disk.read(Area::Journal, 0, &mut bytes)?;
-        Ok(Window { from: 0, bytes })
+        let behind = at + u64::from(count);
+        if at < self.from || (self.bytes.len() as u64) < behind - self.from {
+            let more = (self.end - at).min(WINDOW_BYTES).max(u64::from(count));
+            self.from = at;
+            self.bytes.resize(more as usize, 0)?;
+            disk.read(Area::Journal, at, &mut self.bytes)?;
+        }
+        Ok(())
     }
 
-    // Makes the window begin at a place further on.
-    fn move_to<D: Disk>(&mut self, disk: &mut D, at: u64, total: u64) -> Result<(), Failed>
-        requires window { IsWindow self.old.from (vec_len self.old.bytes) total }
-        requires further { self.old.from ≤ at }
-        requires inside { at < total }
-        requires long { total ≡ (D.disk disk.old).reach.journal }
-        ensures only { D.Disk.only disk.old disk.new }
-        ensures cause { HasCause (D.disk disk.old).faults (D.disk disk.new).faults result }
-        ensures from { self.new.from ≡ at }
-        ensures window { IsWindow self.new.from (vec_len self.new.bytes) total }
-        ensures view { D.disk_tells → OnOk result (IsView self.new.bytes.items self.new.from (D.disk disk.new).holds.journal) }
-        ensures pages_read { D.disk_tells → (D.disk disk.new).bytes_read.pages ≡ (D.disk disk.old).bytes_read.pages }
-        ensures same { OnlyReads (D.disk disk.old) (D.disk disk.new) }
+    /// So many bytes in hand from a place on. Costs nothing.
+    pub fn piece(&self, at: u64, count: u32) -> &[u8]
+        requires { Covers self.now at count }
+        ensures piece { result.now ≡ piece_of self.now at count }
+        ensures len { length result.now ≡ count }
+        ensures stands { (journal : List ℕ) → IsView self.now journal → result.now ≡ take count (drop at journal) }
     {
-        let left = total - at;
-        if left < self.bytes.len() as u64 {
-            self.bytes.truncate(left as usize);
-        }
-        self.from = at;
-        disk.read(Area::Journal, at, &mut self.bytes)
-    }
-
-    // Moves the window to a gate where the gate and a length behind it aren't in it.
-    fn cover<D: Disk>(&mut self, disk: &mut D, gate: u64, total: u64) -> Result<(), Failed>
-        requires window { IsWindow self.old.from (vec_len self.old.bytes) total }
-        requires further { self.old.from ≤ gate }
-        requires inside { gate < total }
-        requires long { total ≡ (D.disk disk.old).reach.journal }
-        ensures only { D.Disk.only disk.old disk.new }
-        ensures cause { HasCause (D.disk disk.old).faults (D.disk disk.new).faults result }
-        ensures window { IsWindow self.new.from (vec_len self.new.bytes) total }
-        ensures from { self.new.from ≤ gate }
-        ensures some { gate < self.new.from + vec_len self.new.bytes }
-        ensures enough { (gate + 5 ≤ self.new.from + vec_len self.new.bytes) ⊎ (self.new.from + vec_len self.new.bytes ≡ total) }
-        ensures view { D.disk_tells → IsView self.old.bytes.items self.old.from (D.disk disk.old).holds.journal →
-            OnOk result (IsView self.new.bytes.items self.new.from (D.disk disk.new).holds.journal) }
-        ensures pages_read { D.disk_tells → (D.disk disk.new).bytes_read.pages ≡ (D.disk disk.old).bytes_read.pages }
-        ensures same { OnlyReads (D.disk disk.old) (D.disk disk.new) }
-    {
-        if gate + GATE_BYTES <= self.from + self.bytes.len() as u64 {
-            return Ok(());
-        }
-        self.move_to(disk, gate, total)
+        let start = (at - self.from) as usize;
+        &self.bytes[start..start + count as usize]
     }
 
     // What stands at a gate.
-    pub(crate) fn gate_at<D: Disk>(
-        &mut self,
-        disk: &mut D,
-        gate: u64,
-        total: u64,
-    ) -> Result<Gate, Failed>
-        requires window { IsWindow self.old.from (vec_len self.old.bytes) total }
-        requires further { self.old.from ≤ gate }
-        requires inside { gate < total }
-        requires long { total ≡ (D.disk disk.old).reach.journal }
+    pub(crate) fn gate_at<D: Disk>(&mut self, disk: &mut D, gate: u64) -> Result<Gate, JournalError>
+        requires inside { gate < self.old.end }
+        requires long { self.old.end ≡ (D.disk disk.old).reach.journal }
         ensures only { D.Disk.only disk.old disk.new }
-        ensures cause { HasCause (D.disk disk.old).faults (D.disk disk.new).faults result }
-        ensures from { self.new.from ≤ gate }
-        ensures window { IsWindow self.new.from (vec_len self.new.bytes) total }
-        ensures fits { (count : ℕ) → result ≡ Ok (Gate.Open count) → gate + 5 + count < total }
-        ensures view { D.disk_tells → IsView self.old.bytes.items self.old.from (D.disk disk.old).holds.journal →
-            OnOk result (IsView self.new.bytes.items self.new.from (D.disk disk.new).holds.journal) }
-        ensures stands { D.disk_tells → IsView self.old.bytes.items self.old.from (D.disk disk.old).holds.journal →
-            IfOk result (StandsAt (drop gate (D.disk disk.old).holds.journal)) }
-        ensures pages_read { D.disk_tells → (D.disk disk.new).bytes_read.pages ≡ (D.disk disk.old).bytes_read.pages }
         ensures same { OnlyReads (D.disk disk.old) (D.disk disk.new) }
+        ensures unread { D.disk_tells → (D.disk disk.new).bytes_read.pages ≡ (D.disk disk.old).bytes_read.pages }
+        ensures failed { IsErrOf result JournalError.Failed → Rose (D.disk disk.old).faults (D.disk disk.new).faults }
+        ensures fair { (at : ℕ) → IsErrOf result (JournalError.NotJournal at) → ⊥ }
+        ensures end { self.new.end ≡ self.old.end }
+        ensures fits { (count : ℕ) → result ≡ Ok (Gate.Open count) → gate + gate_bytes + count < self.old.end }
+        ensures view { D.disk_tells → IsView self.old (D.disk disk.old).holds.journal → OnOk result (IsView self.new (D.disk disk.old).holds.journal) }
+        ensures stands { D.disk_tells → IsView self.old (D.disk disk.old).holds.journal →
+            IfOk result (StandsAt (drop gate (D.disk disk.old).holds.journal)) }
     {
-        self.cover(disk, gate, total)?;
-        let start = (gate - self.from) as usize;
-        Ok(gate_in(&self.bytes[start..], total - gate))
+        let left = self.end - gate;
+        let count = left.min(GATE_BYTES) as u32;
+        self.cover(disk, gate, count)?;
+        Ok(gate_in(self.piece(gate, count), left))
     }
 }

@@ -1,78 +1,64 @@
-use Rattle.std.proofs.Common.{◌≡◌, ◌∙◌, ◌<◌, ℕ, Some, Err, length, ap, get_or, sym, subst, arith}
-use Rattle.std.proofs.lemmas.List.{get_or_default}
+use Rattle.std.proofs.Common.{◌≡◌, ◌∙◌, ℕ, Some, Err, ap, sym, subst, arith, rules}
 use Rattle.machine_model.specs.declared.area.Area.TheVariants.{Journal}
 use Rattle.machine_model.proofs.MomentLemmas.{reads_join}
-use Rattle.gate_journal.specs.declared.head.Head.{Head}
 use Rattle.version_index.specs.Loads.{loaded}
+use Rattle.archive_state.specs.Stands.{bodies_of}
 use Rattle.archive_replay.specs.Replaying.{IsNextBad}
 use Rattle.archive_replay.specs.declared.error.LoadError.TheVariants.{NotArchive}
-use Rattle.archive_replay.proofs.HeadLemmas.{window_has}
-use Rattle.archive_replay.proofs.ReplayLemmas.{reached_at, replayed_more, next_bad, same_replaying, view_on, holds_on}
+use Rattle.archive_replay.proofs.ReplayLemmas.{replaying_none, comes, reached_by, replayed_more, next_bad, same_replaying}
 use Rattle.archive_replay.proofs.replaying.go_over.Goals as goal
+
+pub loop-bodies-init : goal.loop-bodies-init
+loop-bodies-init g c = record {
+  only = search rules;
+  same = search rules;
+  unread = search rules;
+  end = c.bodies-bodies.ensures.end;
+  replaying = replaying_none g.D.Disk.disk_tells (g.D.Disk.disk c.args.disk.now).holds.journal c.args.heads.now c.bodies-bodies.result c.args.met.now.directory.changes c.args.met.now.plans.items (loaded c.args.met.now.loader)
+      c.requires.changes c.requires.plans c.requires.loads c.bodies-bodies.ensures.behind (c.bodies-bodies.ensures.left (g.D.Disk.disk c.args.disk.now).holds.journal);
+}
 
 pub apply-requires-clause-within : goal.apply-requires-clause-within
 apply-requires-clause-within g c =
-    let inside = c.requires.inside c.loop-head.head-index (record { gate = 0; body = 0; bytes = 0 }) (omega arith) in
-    omega (arith, inside.within, c.requires.reached, g.met.D.Disk.reach_limit c.args.disk.now Journal)
+    let next = rw c.in-Some.is at c.in_ok-head.ensures.next in
+    omega (arith, next.lies.within, c.loop-bodies.invariant.end, c.requires.reached, g.met.D.Disk.reach_limit c.args.disk.now Journal)
 
-pub returns-in-Err-NotArchive-clause-only : goal.returns-in-Err-NotArchive-clause-only
-returns-in-Err-NotArchive-clause-only g c = g.met.D.Disk.only_joins _ _ _ c.loop-head.invariant.only c.cover.ensures.only
+pub loop-bodies-preserved : goal.loop-bodies-preserved
+loop-bodies-preserved g c =
+    let so_far = c.loop-bodies.invariant in
+    let r = so_far.replaying in
+    let came = comes g.D.Disk.disk_tells (g.D.Disk.disk c.args.disk.now) (g.D.Disk.disk c.loop-bodies.disk) c.args.heads.now r.history c.loop-bodies.bodies c.next.new.self c.in-Some.head c.body.result.now so_far.same c.body.ensures.body
+    (rw c.in-Some.is at (c.in_ok-head.ensures.behind c.args.heads.now (bodies_of r.history) r.behind)) (λ told bodies left. rw c.in-Some.is at (c.in_ok-head.ensures.left told bodies left)) in
+    record {
+      only = g.met.D.Disk.only_joins _ _ _ so_far.only c.next.ensures.only;
+      same = reads_join (g.D.Disk.disk c.args.disk.now) (g.D.Disk.disk c.loop-bodies.disk) (g.D.Disk.disk c.next.new.disk) so_far.same c.next.ensures.same;
+      unread = λ tells. c.next.ensures.unread tells ∙ so_far.unread tells;
+      end = c.next.ensures.end ∙ so_far.end;
+      replaying = replayed_more g.D.Disk.disk_tells (g.D.Disk.disk c.args.disk.now).holds.journal c.args.heads.now c.loop-bodies.bodies c.next.new.self c.loop-bodies.met.directory.changes c.apply.new.met.directory.changes
+          c.loop-bodies.met.plans.items c.apply.new.met.plans.items (loaded c.loop-bodies.met.loader) (loaded c.apply.new.met.loader) c.in-Some.head.gate c.body.result.now
+          r came (c.in-Ok.ensures.more r.history (reached_by came r.reached) r.loads);
+    }
 
 pub returns-in-Err-NotArchive-clause-reached : goal.returns-in-Err-NotArchive-clause-reached
 unfolding same_replaying
 returns-in-Err-NotArchive-clause-reached g c =
-    let journal = (g.D.Disk.disk c.args.disk.now).holds.journal in
-    let heads = c.args.heads.now in
-    let i = c.loop-head.head-index in
-    let head : Head = get_or heads i (record { gate = 0; body = 0; bytes = 0 }) in
-    let within : i < length heads = omega arith in
-    let this = get_or_default heads i (record { gate = 0; body = 0; bytes = 0 }) head within in
-    let r = c.loop-head.invariant.replaying in
-    let cs = c.loop-head.met.directory.changes in
-    let plans = c.loop-head.met.plans.items in
-    let loader = loaded c.loop-head.met.loader in
-    let kept : (g.D.Disk.disk c.loop-head.disk).holds.journal ≡ journal = holds_on (g.D.Disk.disk c.args.disk.now) (g.D.Disk.disk c.loop-head.disk) c.loop-head.invariant.same in
-    let covers = c.in_ok-cover.ensures.covers in
-    let reached = reached_at g.D.Disk.disk_tells journal heads i cs plans loader head c.args.journal.now.end c.requires.row within this r in
+    let so_far = c.loop-bodies.invariant in
+    let r = so_far.replaying in
+    let came = comes g.D.Disk.disk_tells (g.D.Disk.disk c.args.disk.now) (g.D.Disk.disk c.loop-bodies.disk) c.args.heads.now r.history c.loop-bodies.bodies c.next.new.self c.in-Some.head c.body.result.now so_far.same c.body.ensures.body
+    (rw c.in-Some.is at (c.in_ok-head.ensures.behind c.args.heads.now (bodies_of r.history) r.behind)) (λ told bodies left. rw c.in-Some.is at (c.in_ok-head.ensures.left told bodies left)) in
     let refused : c.apply.result ≡ Err (NotArchive c.in-Err-NotArchive.at) = c.in-Err-NotArchive.is ∙ ap Err c.in-Err-NotArchive.field-0-is in
     let same = c.apply.ensures.kept c.in-Err-NotArchive.at refused in (
-      i,
+      c.loop-bodies.bodies,
       (
-        same_replaying g.D.Disk.disk_tells journal heads i cs c.apply.new.met.directory.changes plans c.apply.new.met.plans.items loader (loaded c.apply.new.met.loader) same.0 same.1 same.2 r,
+        same_replaying g.D.Disk.disk_tells (g.D.Disk.disk c.args.disk.now).holds.journal c.args.heads.now c.loop-bodies.bodies c.loop-bodies.met.directory.changes c.apply.new.met.directory.changes
+            c.loop-bodies.met.plans.items c.apply.new.met.plans.items (loaded c.loop-bodies.met.loader) (loaded c.apply.new.met.loader) same.0 same.1 same.2 r,
         (λ none. absurd cc),
-        (λ at is tells bodies heads_are spelled.
+        (λ at is tells bodies heads spelled.
             let there : c.in-Err-NotArchive.at ≡ at = sym c.in-Err-NotArchive.at-is ∙ some_is is in
-            let view = view_on _ _ _ _ (sym kept) (c.in_ok-cover.ensures.view tells (view_on _ _ _ _ kept (c.loop-head.invariant.view tells))) in
-            let read = c.piece.ensures.bytes ∙ window_has _ journal c.cover.new.self.from head.body head.bytes view covers.begins covers.ends in
             let B : ℕ → Type 0 = λ n. IsNextBad r.history bodies n in
-            subst B there (next_bad g.D.Disk.disk_tells journal heads i cs plans loader head c.args.journal.now.end c.piece.result.now bodies c.in-Err-NotArchive.at c.requires.row within this tells read heads_are spelled r
-            (c.apply.ensures.bad r.history reached r.loads c.in-Err-NotArchive.at refused))),
+            subst B there (next_bad c.in-Err-NotArchive.at bodies tells came (r.left tells bodies heads spelled) (c.apply.ensures.bad r.history (reached_by came r.reached) r.loads c.in-Err-NotArchive.at refused))),
       ),
     )
   where
     some_is : {m n : ℕ} → Some m ≡ Some n → m ≡ n
     some_is {m} {n} same = cc
-
-pub loop-head-preserved : goal.loop-head-preserved
-loop-head-preserved g c =
-    let journal = (g.D.Disk.disk c.args.disk.now).holds.journal in
-    let heads = c.args.heads.now in
-    let i = c.loop-head.head-index in
-    let head : Head = get_or heads i (record { gate = 0; body = 0; bytes = 0 }) in
-    let within : i < length heads = omega arith in
-    let this = get_or_default heads i (record { gate = 0; body = 0; bytes = 0 }) head within in
-    let r = c.loop-head.invariant.replaying in
-    let kept : (g.D.Disk.disk c.loop-head.disk).holds.journal ≡ journal = holds_on (g.D.Disk.disk c.args.disk.now) (g.D.Disk.disk c.loop-head.disk) c.loop-head.invariant.same in
-    let covers = c.in_ok-cover.ensures.covers in
-    let reached = reached_at g.D.Disk.disk_tells journal heads i c.loop-head.met.directory.changes c.loop-head.met.plans.items (loaded c.loop-head.met.loader) head c.args.journal.now.end c.requires.row within this r in
-    record {
-      only = g.met.D.Disk.only_joins _ _ _ c.loop-head.invariant.only c.cover.ensures.only;
-      same = reads_join (g.D.Disk.disk c.args.disk.now) (g.D.Disk.disk c.loop-head.disk) (g.D.Disk.disk c.cover.new.disk) c.loop-head.invariant.same c.cover.ensures.same;
-      view = λ tells. view_on _ _ _ _ (sym kept) (c.in_ok-cover.ensures.view tells (view_on _ _ _ _ kept (c.loop-head.invariant.view tells)));
-      replaying = replayed_more g.D.Disk.disk_tells journal heads i c.loop-head.met.directory.changes c.apply.new.met.directory.changes c.loop-head.met.plans.items c.apply.new.met.plans.items
-          (loaded c.loop-head.met.loader) (loaded c.apply.new.met.loader) head c.args.journal.now.end c.piece.result.now
-          c.requires.row within this c.piece.ensures.len
-          (λ tells. c.piece.ensures.bytes ∙ window_has _ journal c.cover.new.self.from head.body head.bytes
-          (view_on _ _ _ _ (sym kept) (c.in_ok-cover.ensures.view tells (view_on _ _ _ _ kept (c.loop-head.invariant.view tells)))) covers.begins covers.ends)
-          r (c.in-Ok.ensures.more r.history reached r.loads);
-    }

@@ -1,8 +1,7 @@
-use Rattle.std.proofs.Common.{◌≡◌, ◌∙◌, ℕ, List, [], All, fold, ap, subst, length, arith}
-use Rattle.std.proofs.lemmas.List.{take_all}
-use Rattle.gate_journal.specs.declared.head.Head.{Head}
+use Rattle.std.proofs.Common.{◌≡◌, ◌∙◌, ℕ, List, [], All, fold, ap, subst}
 use Rattle.gate_journal.specs.Heads.{heads_of}
 use Rattle.gate_journal.specs.Spelled.{Spells}
+use Rattle.version_index.specs.Loads.{loaded}
 use Rattle.version_index.specs.Indexes.{state_of, Indexes}
 use Rattle.archive_state.specs.declared.stored.StoredPlan.{StoredPlan}
 use Rattle.archive_state.specs.Histories as histories
@@ -10,7 +9,7 @@ use Rattle.archive_state.specs.Histories.{History}
 use Rattle.archive_state.specs.Plans.{with_plan}
 use Rattle.archive_state.specs.Stands.{bodies_of}
 use Rattle.archive_replay.specs.Replaying.{IsFitIn, IsFirstUnfit, IsReplayed, IsBadAmong}
-use Rattle.archive_replay.proofs.HeadLemmas.{length_heads}
+use Rattle.archive_replay.proofs.ReplayLemmas.{all_read}
 use Rattle.archive_replay.proofs.SettleLemmas.{settled, unfit_among, next_among, live_are, replayed_end, replayed_length}
 use Rattle.archive_replay.proofs.replaying.replay.Given.{Over}
 use Rattle.archive_replay.proofs.replaying.replay.Goals as goal
@@ -21,8 +20,9 @@ returns-in-Some-clause-bad g c = λ tells bodies heads spelled at is.
     let all = r.1.0 in
     let U : List StoredPlan → Type 0 = λ l. IsFirstUnfit all.history l c.in-Some.at in
     let unfit = c.in_ok-at.ensures.first c.in-Some.at c.in-Some.is all.history (c.in_ok-index.ensures (histories.changes all.history) all.loads) in
+    let before = all.left tells bodies heads spelled in
     let same : c.in-Some.at ≡ at = cc in
-    subst (IsBadAmong bodies) same (unfit_among all.history bodies r.0 c.in-Some.at all.met.opens (all.bodies_are tells bodies heads spelled) (subst U (c.deref.ensures.value ∙ all.met.plans_are) unfit))
+    subst (IsBadAmong bodies) same (unfit_among all.history bodies before.0 c.in-Some.at all.reached.opens before.1 (subst U (c.deref.ensures.value ∙ all.reached.plans_are) unfit))
 
 pub returns-in-Some-fault-clause-bad : goal.returns-in-Some-fault-clause-bad
 returns-in-Some-fault-clause-bad g c = λ tells bodies heads spelled at is.
@@ -31,7 +31,7 @@ returns-in-Some-fault-clause-bad g c = λ tells bodies heads spelled at is.
     let F : List StoredPlan → Type 0 = λ l. All (IsFitIn all.history) l in
     let fit = c.in_ok-at.ensures.none c.in_default.is all.history (c.in_ok-index.ensures (histories.changes all.history) all.loads) in
     let same : c.in-Some-fault.at ≡ at = cc in
-    subst (IsBadAmong bodies) same (next_among all.history bodies c.in-Some-fault.at all.met.opens (subst F (c.deref.ensures.value ∙ all.met.plans_are) fit) (r.1.2 c.in-Some-fault.at c.in-Some-fault.is tells bodies heads spelled))
+    subst (IsBadAmong bodies) same (next_among all.history bodies c.in-Some-fault.at all.reached.opens (subst F (c.deref.ensures.value ∙ all.reached.plans_are) fit) (r.1.2 c.in-Some-fault.at c.in-Some-fault.is tells bodies heads spelled))
 
 all_met : (g : Over) (c : goal.In_ok-plans g) → (h : History) × IsReplayed h c.args.heads.now c.go_over.new.met.directory.changes c.in_ok-plans.plans.items × Indexes (state_of c.in_ok-index.index) (histories.changes h)
     × (g.D.Disk.disk_tells → (bodies : List (List ℕ)) → c.args.heads.now ≡ heads_of 16 bodies → Spells (g.D.Disk.disk c.args.disk.now).holds.journal bodies → bodies_of h ≡ bodies)
@@ -41,19 +41,17 @@ all_met g c =
     let F : List StoredPlan → Type 0 = λ l. All (IsFitIn all.history) l in
     let indexes = c.in_ok-index.ensures (histories.changes all.history) all.loads in
     let fit = c.in_ok-at.ensures.none c.in_default.is all.history indexes in
-    let long = r.1.1 c.in_default-fault.is in
-    let H : List Head → Type 0 = λ l. l ≡ heads_of 16 (bodies_of all.history) in
+    let read = all_read g.D.Disk.disk_tells (g.D.Disk.disk c.args.disk.now).holds.journal c.args.heads.now r.0 c.go_over.new.met.directory.changes c.go_over.new.met.plans.items (loaded c.go_over.new.met.loader) all (r.1.1 c.in_default-fault.is) in
     let live : c.in_ok-plans.plans.items ≡ fold with_plan [] c.go_over.new.met.plans.items = c.in_ok-plans.ensures.live in (
       all.history,
       record {
-        loadable = settled all.history all.met.opens (subst F (c.deref.ensures.value ∙ all.met.plans_are) fit);
-        heads_are = subst H (take_all r.0 c.args.heads.now long) all.met.heads_are;
-        placed = all.met.placed;
-        plans_are = live ∙ ap (fold with_plan []) all.met.plans_are ∙ live_are all.history;
+        loadable = settled all.history all.reached.opens (subst F (c.deref.ensures.value ∙ all.reached.plans_are) fit);
+        heads_are = read.0;
+        placed = all.reached.placed;
+        plans_are = live ∙ ap (fold with_plan []) all.reached.plans_are ∙ live_are all.history;
       },
       indexes,
-      λ tells bodies heads spelled.
-          all.bodies_are tells bodies heads spelled ∙ take_all r.0 bodies (omega (arith, long, ap length heads, length_heads 16 bodies)),
+      read.1,
     )
 
 pub returns-clause-stands : goal.returns-clause-stands

@@ -1,26 +1,24 @@
-use Rattle.std.proofs.Common.{◌≡◌, ◌+◌, ◌-◌, ◌<◌, ◌≤◌, take, vec_len}
+use Rattle.std.proofs.Common.{◌≡◌, ◌+◌, ◌-◌, ◌<◌, ◌≤◌, take}
 use Rattle.machine_model.specs.Calls.{OnlyReads}
 use Rattle.gate_journal.specs.Header.{header}
 use Rattle.gate_journal.specs.Heads.{AreInRow}
-use Rattle.gate_journal.specs.Scanning.{IsView, IsWindow, IsScanned}
+use Rattle.gate_journal.specs.Windows.{IsView}
+use Rattle.gate_journal.specs.Scanning.{IsScanned}
 use Rattle.gate_journal.proofs.load.scan.Given as goal
 
 abbrev pub decreases-loop-heads : goal.decreases-loop-heads
-decreases-loop-heads g l = l.total - l.gate
+decreases-loop-heads g l = l.fn.window.end - l.gate
 
 abbrev pub invariant-loop-heads : goal.invariant-loop-heads
 invariant-loop-heads g l = record {
   only : g.D.Disk.only l.fn.disk l.disk;
   same : OnlyReads (g.D.Disk.disk l.fn.disk) (g.D.Disk.disk l.disk);
-  later : (g.D.Disk.disk l.fn.disk).faults ≤ (g.D.Disk.disk l.disk).faults;
-  pages_read : g.D.Disk.disk_tells → (g.D.Disk.disk l.disk).bytes_read.pages ≡ (g.D.Disk.disk l.fn.disk).bytes_read.pages;
-  window : IsWindow l.window.from (vec_len l.window.bytes) l.total;
-  from : l.window.from ≤ l.gate;
+  unread : g.D.Disk.disk_tells → (g.D.Disk.disk l.disk).bytes_read.pages ≡ (g.D.Disk.disk l.fn.disk).bytes_read.pages;
+  end : l.window.end ≡ l.fn.window.end;
   least : 16 ≤ l.gate;
-  inside : l.gate < l.total;
+  inside : l.gate < l.fn.window.end;
   row : AreInRow 16 l.heads.items (l.gate + 1);
-  view : g.D.Disk.disk_tells → IsView l.fn.window.bytes.items l.fn.window.from (g.D.Disk.disk l.fn.disk).holds.journal
-      → IsView l.window.bytes.items l.window.from (g.D.Disk.disk l.fn.disk).holds.journal;
-  scanned : g.D.Disk.disk_tells → IsView l.fn.window.bytes.items l.fn.window.from (g.D.Disk.disk l.fn.disk).holds.journal
+  view : g.D.Disk.disk_tells → IsView l.fn.window (g.D.Disk.disk l.fn.disk).holds.journal → IsView l.window (g.D.Disk.disk l.fn.disk).holds.journal;
+  scanned : g.D.Disk.disk_tells → IsView l.fn.window (g.D.Disk.disk l.fn.disk).holds.journal
       → take 16 (g.D.Disk.disk l.fn.disk).holds.journal ≡ header → IsScanned (g.D.Disk.disk l.fn.disk).holds.journal l.gate l.heads.items;
 }
