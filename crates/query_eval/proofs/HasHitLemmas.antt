@@ -1,9 +1,8 @@
 -- The documents that have a hit are those that have one of the words.
-use Rattle.std.proofs.Common.{◌≡◌, ◌⊎◌, ◌↔◌, ℕ, ◌+◌, ◌<◌, ◌≤◌, ◌==◌, Bool, true, false, cond, List, [], ◌∷◌, ◌++◌, length, map, take, get_or, filter, All, Contains, refl, sym, ap, subst, ◌∙◌, arith, inl, inr}
+use Rattle.std.proofs.Common.{◌≡◌, ◌⊎◌, ◌↔◌, ℕ, ◌+◌, ◌<◌, ◌≤◌, ◌==◌, Bool, true, false, cond, List, [], ◌∷◌, length, map, filter, All, Contains, refl, ap, subst, ◌∙◌, arith, inl, inr}
 use Rattle.std.proofs.lemmas.Bool.{eq-eqb}
 use Rattle.std.proofs.lemmas.Bool.Decides.{eqb_tells}
-use Rattle.std.proofs.lemmas.List.{map-append, take_more}
-use Rattle.std.proofs.lemmas.List.Elements.{All-nil, All-cons, All-head, All-tail, All-append, All-filter, All-contains, Contains-push, Contains-push_cases, Contains-append_left}
+use Rattle.std.proofs.lemmas.List.Elements.{All-nil, All-cons, All-head, All-tail, All-append, All-filter, All-contains}
 use Rattle.time_base.specs.declared.ids.DocId.{DocId}
 use Rattle.time_base.specs.declared.posting.Posting.{Posting}
 use Rattle.postings.specs.Lists.{rows_at}
@@ -53,7 +52,7 @@ of-in doc (x ∷ hits) h c e = go (x.doc.0 == doc.0) refl (here-or-later x h hit
     go false i (inl s) rest = absurd (let same = eq-eqb x.doc.0 doc.0 (ap (λ (y : Hit). y.doc.0) s ∙ ap (λ (d : DocId). d.0) e) in cc)
     go false i (inr k) rest = rest k
 
-of-from : (doc : DocId) (hits : List Hit) (h : Hit) → Contains (hits_of doc hits) h → Contains hits h × (h.doc ≡ doc)
+pub of-from : (doc : DocId) (hits : List Hit) (h : Hit) → Contains (hits_of doc hits) h → Contains hits h × (h.doc ≡ doc)
 of-from doc [] h c = absurd (none h c)
 of-from doc (x ∷ hits) h c = go (x.doc.0 == doc.0) refl c (λ k. of-from doc hits h k)
   where
@@ -68,14 +67,14 @@ of-from doc (x ∷ hits) h c = go (x.doc.0 == doc.0) refl c (λ k. of-from doc h
     go false i k rest = let (m, e) = rest k in (later x h hits m, e)
 
 -- the documents of hits
-document-in : (hits : List Hit) (h : Hit) → Contains hits h → Contains (map (λ x. x.doc) hits) h.doc
+pub document-in : (hits : List Hit) (h : Hit) → Contains hits h → Contains (map (λ x. x.doc) hits) h.doc
 document-in [] h c = absurd (none h c)
 document-in (x ∷ hits) h c = elim (here-or-later x h hits c) [
   | inl s ↦ subst (λ (y : Hit). Contains (map (λ z. z.doc) (x ∷ hits)) y.doc) s (here x.doc (map (λ z. z.doc) hits))
   | inr k ↦ later x.doc h.doc (map (λ z. z.doc) hits) (document-in hits h k)
 ]
 
-document-from : (hits : List Hit) (doc : DocId) → Contains (map (λ x. x.doc) hits) doc → (h : Hit) × Contains hits h × (h.doc ≡ doc)
+pub document-from : (hits : List Hit) (doc : DocId) → Contains (map (λ x. x.doc) hits) doc → (h : Hit) × Contains hits h × (h.doc ≡ doc)
 document-from [] doc c = absurd (none doc c)
 document-from (x ∷ hits) doc c = elim (here-or-later x.doc doc (map (λ z. z.doc) hits) c) [
   | inl s ↦ (x, here x hits, s)
@@ -98,19 +97,3 @@ documents-are t words parts hits n e tell doc = (
       let (m, s) = of-from doc hits h k in
       subst (λ d. Contains (map (λ x. x.doc) hits) d) s (document-in hits h m),
 )
-
--- a document is put behind others, or is the last of them
-pub put-behind : (docs : List DocId) (doc d : DocId) → Contains (docs ++ doc ∷ []) d ↔ (Contains docs d ⊎ (doc ≡ d))
-put-behind docs doc d = (λ c. Contains-push_cases docs doc d c, λ o. elim o [ inl k ↦ Contains-append_left docs (doc ∷ []) d k | inr e ↦ subst (λ x. Contains (docs ++ doc ∷ []) x) e (Contains-push docs doc) ])
-
--- one hit more
-pub one-more : (hits : List Hit) (i : ℕ) (x : Hit) (doc : DocId) (old new : List DocId) → i < length hits → (get_or hits i x).doc ≡ doc
-    → ((d : DocId) → Contains old d ↔ Contains (map (λ h. h.doc) (take i hits)) d) → ((d : DocId) → Contains new d ↔ (Contains old d ⊎ (doc ≡ d)))
-    → (d : DocId) → Contains new d ↔ Contains (map (λ h. h.doc) (take (i + 1) hits)) d
-one-more hits i x doc old new l is was put d =
-    let same : map (λ h. h.doc) (take (i + 1) hits) ≡ map (λ h. h.doc) (take i hits) ++ doc ∷ [] =
-    ap (map (λ (h : Hit). h.doc)) (take_more hits i x l) ∙ map-append (λ (h : Hit). h.doc) (take i hits) (get_or hits i x ∷ []) ∙ ap (λ (e : DocId). map (λ (h : Hit). h.doc) (take i hits) ++ e ∷ []) is in
-    let behind = put-behind (map (λ h. h.doc) (take i hits)) doc d in (
-      λ c. subst (λ l. Contains l d) (sym same) (behind.1 (elim ((put d).0 c) [ inl k ↦ inl ((was d).0 k) | inr e ↦ inr e ])),
-      λ c. (put d).1 (elim (behind.0 (subst (λ l. Contains l d) same c)) [ inl k ↦ inl ((was d).1 k) | inr e ↦ inr e ]),
-    )

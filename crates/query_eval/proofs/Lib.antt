@@ -6,6 +6,7 @@ pub mod HitPlaces
 pub mod Ranks
 pub mod Sorting
 pub mod HasHitLemmas
+pub mod MadeLemmas
 pub mod Groups
 pub mod Turning
 pub mod FactLemmas

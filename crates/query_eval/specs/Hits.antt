@@ -1,8 +1,13 @@
 -- What hits say of a document.
-use Rattle.std.specs.Prelude.{◌≡◌, ◌<◌, nat_le, nat_lt, ℕ, ◌==◌, ◌+◌, Bool, if◌then◌else◌, List, [], ◌∷◌, ◌++◌, length, get_or, filter, map}
+use Rattle.std.specs.Prelude.{◌≡◌, ◌↔◌, ◌<◌, ◌≤◌, nat_le, nat_lt, ℕ, ◌==◌, ◌+◌, Bool, if◌then◌else◌, List, [], ◌∷◌, ◌++◌, length, get_or, filter, map, Contains}
+use Rattle.std.specs.List.{filter_map}
 use Rattle.time_base.specs.declared.ids.DocId.{DocId}
 use Rattle.time_base.specs.declared.posting.Posting.{Posting}
 use Rattle.postings.specs.Lists.{rows_at}
+use Rattle.query_lang.specs.Grammar.{Query}
+use Rattle.query_lang.specs.Meaning.{words_of}
+use Rattle.query_eval.specs.Found.{row_of}
+use Rattle.query_eval.specs.declared.answer.Row.{Row}
 use Rattle.query_eval.specs.declared.hit.Hit.{Hit}
 use Rattle.query_eval.specs.declared.part.Part.{Part}
 
@@ -41,3 +46,13 @@ found (h ∷ hits) place = if h.place == place then h.tf else found hits place
 -- the hits of each document say how often it has each of these words
 abbrev pub Tell : List Hit → List (List ℕ) → (DocId → List ℕ → ℕ) → Type 0
 Tell hits words often = (doc : DocId) (k : ℕ) → k < length words → found (hits_of doc hits) k ≡ often doc (get_or words k [])
+
+-- the hits before a place are of earlier documents than those from it on
+abbrev pub IsCut : List Hit → ℕ → Type 0
+IsCut hits n = (i j : ℕ) (h : Hit) → i < n → n ≤ j → j < length hits → (get_or hits i h).doc.0 < (get_or hits j h).doc.0
+
+-- the rows, before they are sorted, of the documents of some of the hits, by all hits of each
+pub record AreMade (query : Query) (hits some : List Hit) (made : List Row) : Type 0 where
+  pub docs : List DocId
+  pub had : (d : DocId) → (Contains docs d ↔ Contains (map (λ h. h.doc) some) d)
+  pub rows : (often : DocId → List ℕ → ℕ) → Tell hits (words_of query) often → made ≡ filter_map (λ doc. row_of query (often doc) doc) docs

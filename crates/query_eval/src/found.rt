@@ -1,19 +1,19 @@
 //! Answers to queries over any lists.
-ghost use Rattle.std.specs.Prelude.{option_to_list, ◌++◌, OnOk, ◌≡◌, ◌<◌, ◌≤◌, ◌+◌, ◌∷◌, if◌then◌else◌, drop, ℕ, List, [], Ok, length, Contains, IfOk, IsErrOf};
+ghost use Rattle.std.specs.Prelude.{option_to_list, ◌++◌, OnOk, ◌≡◌, ◌<◌, ◌≤◌, ◌+◌, ◌∷◌, if◌then◌else◌, drop, ℕ, List, [], Ok, length, map, Contains, IfOk, IsErrOf};
 ghost use Rattle.std.specs.List.{filter_map, slice_index_or};
 ghost use Rattle.std.specs.List.Sorted.{IsNonDecreasingBy, IsPermutation};
 ghost use Rattle.query_lang.specs.Meaning.{words_of};
 ghost use Rattle.query_eval.specs.Answers.{IsAnswer};
 ghost use Rattle.query_eval.specs.Asked.{Asks, AsksFront, AsksToFault, read_of};
 ghost use Rattle.query_eval.specs.Found.{told, HasHit, row_of, once, AreSorted};
-ghost use Rattle.query_eval.specs.Hits.{found, Tell};
+ghost use Rattle.query_eval.specs.Hits.{found, Tell, AreMade};
 ghost use Rattle.query_eval.specs.declared.answer.Row.{Row as RowValue};
 ghost use Rattle.query_eval.specs.declared.part.Part.{Part as PartValue};
 ghost use Rattle.time_base.specs.declared.ids.DocId.{DocId as DocValue};
 
 use crate::answer::{Answer, Row};
 use crate::asking::{When, parts_when};
-use crate::hit::{Hit, count_words, documents_of, group_of, hits_at};
+use crate::hit::{Hit, count_words, end_of, group_of, hits_at};
 use crate::part::{EvalError, Lists, Part};
 use query_lang::{Pile, Query};
 use std::alloc::{AllocError, Global};
@@ -132,6 +132,37 @@ fn rows_of(
     Ok(rows)
 }
 
+/// The rows of the documents that have a hit, among hits that stand by document, in their order. One
+/// pass over the hits, and the query's length for each document; `counts` is room for the words'
+/// frequencies.
+fn rows_by_hits(
+    alloc: Global,
+    query: &Query,
+    hits: &[Hit],
+    counts: &mut [u32],
+) -> Result<Vec<Row>, AllocError>
+    requires sorted { IsNonDecreasingBy (λ h. h.doc.0) hits.now }
+    requires room { length counts.old ≡ length (words_of query.now) }
+    ensures { IfOk result (λ rows. AreMade query.now hits.now hits.now rows.items) }
+{
+    let mut truths = Pile::new(alloc);
+    let mut rows = Vec::new(alloc);
+    let mut start = 0;
+    while start < hits.len() {
+        let end = end_of(hits, start);
+        let row = row_by(
+            query,
+            hits[start].doc,
+            &hits[start..end],
+            counts,
+            &mut truths,
+        )?;
+        put(&mut rows, row)?;
+        start = end;
+    }
+    Ok(rows)
+}
+
 /// The sum of what was read for parts, of which there are few.
 pub(crate) fn read_of(parts: &[Part]) -> u64
     requires { length parts.now ≤ 4096 }
@@ -179,6 +210,25 @@ fn answer_among(
     Ok(answer)
 }
 
+/// What the query finds by hits among the documents that have one.
+fn answer_over(
+    alloc: Global,
+    query: &Query,
+    parts: &[Part],
+    hits: &[Hit],
+) -> Result<Answer, AllocError>
+    requires many { length parts.now ≡ length (words_of query.now) }
+    requires sorted { IsNonDecreasingBy (λ h. h.doc.0) hits.now }
+    ensures rows { IfOk result (λ a. (often : DocValue → List ℕ → ℕ) → Tell hits.now (words_of query.now) often
+        → IsAnswer (λ doc. Contains (map (λ h. h.doc) hits.now) doc) often query.now a.rows.items) }
+    ensures read { IfOk result (λ a. a.read ≡ read_of parts.now) }
+{
+    let mut counts = vec![in alloc; 0; query.words().len()]?;
+    let rows = rows_by_hits(alloc, query, hits, &mut counts)?;
+    let answer = answer_of(alloc, rows, parts)?;
+    Ok(answer)
+}
+
 /// What the query finds at a time among these documents, by the parts of the lists of its words, one
 /// for each distinct word in order. A document has a word as often as the first posting of its part
 /// says that holds the time. Costs the parts, a sort of their postings, and for each document two
@@ -202,8 +252,8 @@ pub fn answer_from(
 
 /// What the query finds at a time among the documents that have one of its words then, by the parts
 /// of the lists of its words as in `answer_from`. Where `Query::matches_without_words` is false and
-/// whatever has a word is alive, no document is missed (`only_hits_matter`). Costs what `answer_from`
-/// does for those documents.
+/// whatever has a word is alive, no document is missed (`only_hits_matter`). Costs the parts, a sort of
+/// their postings and one of the rows, and for each document that has a hit the query's length.
 pub fn answer_by_hits(
     alloc: Global,
     query: &Query,
@@ -217,8 +267,7 @@ pub fn answer_by_hits(
 {
     let all = hits_at(alloc, parts, t)?;
     let hits = all.as_slice();
-    let docs = documents_of(alloc, hits)?;
-    let answer = answer_among(alloc, query, parts, hits, docs.as_slice())?;
+    let answer = answer_over(alloc, query, parts, hits)?;
     Ok(answer)
 }
 

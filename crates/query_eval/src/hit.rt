@@ -1,8 +1,8 @@
 //! The hits of documents.
-ghost use Rattle.std.specs.Prelude.{◌≡◌, ◌⊎◌, ◌↔◌, ◌<◌, ◌≤◌, ◌++◌, true, false, ℕ, length, slice_index, filter, map, Contains, IfOk, OnOk};
-ghost use Rattle.time_base.specs.declared.ids.DocId.{DocId as Document};
+ghost use Rattle.std.specs.Prelude.{◌≡◌, ◌<◌, ◌≤◌, ◌-◌, ◌++◌, true, false, ℕ, length, take, drop, get_or, slice_index, filter, IfOk, OnOk};
 ghost use Rattle.std.specs.List.Sorted.{IsNonDecreasingBy, IsPartitionPoint};
-ghost use Rattle.query_eval.specs.Hits.{hits_of, found, is_before, is_up_to, is_of, hits_in, gathered};
+ghost use Rattle.query_eval.specs.Hits.{hits_of, found, is_before, is_up_to, is_of, hits_in, gathered, IsCut};
+ghost use Rattle.query_eval.specs.declared.hit.Hit.{Hit as HitValue};
 
 use crate::part::Part;
 use std::alloc::{AllocError, Global};
@@ -109,23 +109,20 @@ pub(crate) fn count_words(counts: &mut [u32], group: &[Hit])
     }
 }
 
-/// Puts a document behind others, where it isn't the last of them.
-fn note_document(docs: &mut Vec<DocId>, doc: DocId) -> Result<(), AllocError>
-    ensures { OnOk result ((d : Document) → (Contains docs.new.items d ↔ (Contains docs.old.items d ⊎ (doc ≡ d)))) }
+/// Where the hits of a document end, of which the first stands at a place. Costs these hits.
+pub(crate) fn end_of(hits: &[Hit], start: usize) -> usize
+    requires sorted { IsNonDecreasingBy (λ h. h.doc.0) hits.now }
+    requires there { start < length hits.now }
+    requires first { IsCut hits.now start }
+    ensures behind { start < result }
+    ensures inside { result ≤ length hits.now }
+    ensures next { IsCut hits.now result }
+    ensures group { (h : HitValue) → take (result - start) (drop start hits.now) ≡ hits_of (get_or hits.now start h).doc hits.now }
 {
-    if docs.last() != Some(&doc) {
-        docs.push(doc)?;
+    let doc = hits[start].doc;
+    let mut end = start + 1;
+    while end < hits.len() && hits[end].doc == doc {
+        end += 1;
     }
-    Ok(())
-}
-
-/// The documents that have a hit. One pass over the hits.
-pub(crate) fn documents_of(alloc: Global, hits: &[Hit]) -> Result<Vec<DocId>, AllocError>
-    ensures { IfOk result (λ docs. (d : Document) → (Contains docs.items d ↔ Contains (map (λ h. h.doc) hits.now) d)) }
-{
-    let mut docs = Vec::new(alloc);
-    for hit in hits {
-        note_document(&mut docs, hit.doc)?;
-    }
-    Ok(docs)
+    end
 }

@@ -1,4 +1,4 @@
-use Rattle.std.proofs.Common.{◌≡◌, ℕ, Contains, ap, sym, subst, ◌∙◌, filter}
+use Rattle.std.proofs.Common.{◌≡◌, ℕ, ap, ◌∙◌, filter}
 use Rattle.time_base.specs.declared.ids.DocId.{DocId}
 use Rattle.fold_tokens.proofs.CountLemmas.{IsDistinct-distinct}
 use Rattle.query_lang.specs.Meaning.{words_of, occurring}
@@ -17,12 +17,5 @@ returns-clause-rows c =
     let hits = c.as_slice-hits.result.now in
     let each : (d : ℕ) → filter (is_of d) hits ≡ filter (is_of d) (gathered t 0 parts) = λ d. ap (filter (is_of d)) c.as_slice-hits.ensures.value ∙ c.in_ok-all.ensures.each d in
     let tell = hits-tell t words parts hits (IsDistinct-distinct (occurring c.args.query.now)) c.requires each in
-    same_alive (HasHit words parts t) _ (λ (doc : DocId). told words parts t doc.0) c.args.query.now _
-    (λ doc.
-    let made = documents-are t words parts hits c.requires each tell doc in
-    let docs = c.in_ok-docs.ensures doc in
-    let same = c.as_slice.ensures.value in (
-      λ k. made.0 (docs.0 (subst (λ l. Contains l doc) same k)),
-      λ k. subst (λ l. Contains l doc) (sym same) (docs.1 (made.1 k)),
-    ))
+    same_alive (HasHit words parts t) _ (λ (doc : DocId). told words parts t doc.0) c.args.query.now _ (documents-are t words parts hits c.requires each tell)
     (c.in_ok-answer.ensures.rows (λ (doc : DocId). told words parts t doc.0) tell)
