@@ -35,7 +35,7 @@ use Rattle.archive_state.specs.declared.refusal.Refusal.TheVariants.{Full}
 use Rattle.version_store.specs.Tests.{first_of}
 use Rattle.archive_state.specs.Steps.{full_journal}
 use Rattle.archive_state.proofs.RefusalLemmas.{cause, cause-allowed, cause-full, cause-none}
-use Rattle.archive_core.specs.States.{ArchiveState, StandsFor, IsKept, Reaches}
+use Rattle.archive_core.specs.States.{ArchiveState, StandsFor, CacheStands, IsKept, Reaches}
 use Rattle.plan_shelf.specs.Shelves.{ShelfState, extents_all}
 use Rattle.archive_replay.specs.Places.{ArePlaced}
 use Rattle.time_base.specs.declared.time.Time.{Time}
@@ -180,11 +180,11 @@ pages_nowhere d = record {
 
 -- after Ok the archive is in step with the history and the entry
 pub kept_more : (d : DiskState) (b : ArchiveState) (h : History) (e : Entry) (body : List ℕ) → StandsFor b (h ++ e ∷ []) → body ≡ spelling e
-    → IsLegal (h ++ e ∷ []) → EachHolds d (h ++ e ∷ []) → IsInStep d b.end (bodies_of h ++ body ∷ []) → IsKept d b (h ++ e ∷ [])
-kept_more d b h e body stands same legal held in_step =
+    → IsLegal (h ++ e ∷ []) → EachHolds d (h ++ e ∷ []) → CacheStands d b → IsInStep d b.end (bodies_of h ++ body ∷ []) → IsKept d b (h ++ e ∷ [])
+kept_more d b h e body stands same legal held cached in_step =
     let bodies : bodies_of h ++ body ∷ [] ≡ bodies_of (h ++ e ∷ []) = ap (λ (l : List ℕ). bodies_of h ++ l ∷ []) same ∙ sym (bodies_of-push h e) in
     let P : List (List ℕ) → Type 0 = λ l. IsInStep d b.end l in
-    record { stands = stands; in_step = subst P bodies in_step; legal = legal; held = held }
+    record { stands = stands; in_step = subst P bodies in_step; legal = legal; held = held; cached = cached }
 
 pub appends_nowhere : (d : DiskState) (end : ℕ) (bodies : List (List ℕ)) (body : List ℕ) → IsInStep d end bodies → Appends bodies body d d
 appends_nowhere d end bodies body step = record {
@@ -226,16 +226,16 @@ adds_entry r a b h e refusal x body words stands next prepared cause_is full roo
 -- and of its images
 pub leads_entry : (r : Result ℕ ChangeError) (a b : ArchiveState) (old new : DiskState) (h : History) (e : Entry) (x : Change ℕ) (body : List ℕ) (words : Words)
     → IsKept old a h → IsNext h e x body → IsPreparedFor a.index (document_of e) (text_of e) words → IfOk r (λ n. IsMore a b x body words × (n ≡ b.length)) → Appends (bodies_of h) body old new
-    → KeepsPages old new → OnOk r (IsInStep new b.end (bodies_of h ++ body ∷ [])) → LeadsTo h (h ++ e ∷ []) old new × OnOk r (IsKept new b (h ++ e ∷ []))
-leads_entry r a b old new h e x body words kept next prepared more appends pages step = (leads_to h e body old new change kept.legal next.legal next.spelled kept.held appends pages, go r more step)
+    → KeepsPages old new → OnOk r (IsInStep new b.end (bodies_of h ++ body ∷ [])) → (IsOk r → CacheStands new b) → LeadsTo h (h ++ e ∷ []) old new × OnOk r (IsKept new b (h ++ e ∷ []))
+leads_entry r a b old new h e x body words kept next prepared more appends pages step cached = (leads_to h e body old new change kept.legal next.legal next.spelled kept.held appends pages, go r more step cached)
   where
     change : IsChange e
     change = (change_comes h e x kept.stands.loadable next.legal.allowed next.makes).0
 
-    go : (r : Result ℕ ChangeError) → IfOk r (λ n. IsMore a b x body words × (n ≡ b.length)) → OnOk r (IsInStep new b.end (bodies_of h ++ body ∷ [])) → OnOk r (IsKept new b (h ++ e ∷ []))
-    go (Ok n) more step = kept_more new b h e body (stands_more a b h e x body words kept.stands next prepared more.0) next.spelled (legal-push h e kept.legal next.legal)
-        (holds_kept (h ++ e ∷ []) old new (held_change h e old change kept.legal next.legal kept.held) pages) step
-    go (Err error) more step = tt
+    go : (r : Result ℕ ChangeError) → IfOk r (λ n. IsMore a b x body words × (n ≡ b.length)) → OnOk r (IsInStep new b.end (bodies_of h ++ body ∷ [])) → (IsOk r → CacheStands new b) → OnOk r (IsKept new b (h ++ e ∷ []))
+    go (Ok n) more step cached = kept_more new b h e body (stands_more a b h e x body words kept.stands next prepared more.0) next.spelled (legal-push h e kept.legal next.legal)
+        (holds_kept (h ++ e ∷ []) old new (held_change h e old change kept.legal next.legal kept.held) pages) (cached refl) step
+    go (Err error) more step cached = tt
 
 -- what is known of an entry that was not prepared
 pub adds_none : (why : Unprepared) (r : Result ℕ ChangeError) (a b : ArchiveState) (h : History) (e : Entry) (refusal : Option Refusal)

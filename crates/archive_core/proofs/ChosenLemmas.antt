@@ -1,11 +1,10 @@
 -- What is chosen of words' lists, by the plans in hand.
 use Rattle.std.proofs.Common.{◌≡◌, ℕ, zero, suc, ◌+◌, ◌*◌, ◌<◌, ◌≤◌, ◌^◌, Bool, true, false, nat_lt, List, [], ◌∷◌, ◌++◌, length, get_or, filter, map, cond, sum_by, All, Option, Some, None, Result, Ok, Err, refl, ap, sym, subst, ◌∙◌, lt-ltb, arith}
 use Rattle.std.proofs.lemmas.List.Elements.{All-nil, All-cons, All-head, All-tail, All-append, All-filter}
-use Rattle.std.proofs.lemmas.List.Sums.{sum_by-cons, sum_by-append}
-use Rattle.machine_model.specs.Areas.{Both, replaced}
+use Rattle.std.proofs.lemmas.List.Sums.{sum_by-cons}
+use Rattle.machine_model.specs.Areas.{Both}
 use Rattle.machine_model.specs.Calls.{OnlyReads}
 use Rattle.machine_model.specs.States.{DiskState}
-use Rattle.machine_model.specs.declared.area.Area.TheVariants.{Pages}
 use Rattle.archive_state.specs.Answers.{IsWordList}
 use Rattle.time_base.specs.declared.extent.Extent.{Extent}
 use Rattle.time_base.specs.declared.posting.Posting.{Posting}
@@ -22,8 +21,8 @@ use Rattle.archive_state.specs.declared.stored.StoredPlan.{StoredPlan}
 use Rattle.archive_state.specs.Histories.{History}
 use Rattle.archive_state.specs.Legal.{EachMayCome, IsLoadable}
 use Rattle.archive_state.specs.Plans.{is_another, live_after, live_plans, with_plan, plan_of}
-use Rattle.archive_state.specs.Chosen.{AreChosen, GathersOf, IsChosenOf, bytes_chosen, bytes_for, tail_for}
-use Rattle.archive_core.specs.States.{ArchiveState, StandsFor, Reaches}
+use Rattle.archive_state.specs.Chosen.{AreChosen, GathersOf, IsChosenOf, tail_for}
+use Rattle.archive_core.specs.States.{ArchiveState, StandsFor, IsSameButCache, Reaches}
 use Rattle.plan_shelf.specs.Shelves.{extents_all}
 use Rattle.plan_shelf.specs.Shelves.{IsReadable}
 use Rattle.archive_replay.specs.Live.{IsPlanAt}
@@ -31,6 +30,7 @@ use Rattle.archive_core.specs.Causes.{ask_error_of_fetch}
 use Rattle.archive_core.specs.declared.error.AskError.{AskError}
 use Rattle.archive_core.specs.declared.error.AskError.TheVariants as asks
 use Rattle.std.specs.Result.{IsErrAnd}
+use Rattle.archive_core.proofs.CacheLemmas.{reaches_but_cache}
 use Rattle.archive_core.proofs.LiveLemmas.{plan_found, none_found}
 use Rattle.sublist_store.specs.Fetching.{IfDamaged}
 use Rattle.sublist_store.specs.declared.why.Damage.{Damage}
@@ -95,11 +95,6 @@ chosen_more a b h pages [] (q ∷ parts) word part are is = absurd are
 chosen_more a b h pages (w ∷ words) [] word part are is = absurd are
 chosen_more a b h pages (w ∷ words) (q ∷ parts) word part are is = (are.0, chosen_more a b h pages words parts word part are.1 is)
 
-pub bytes_more : (h : History) (a b : ℕ) (words : List (List ℕ)) (word : List ℕ) → bytes_for h a b (words ++ word ∷ []) ≡ bytes_for h a b words + bytes_chosen (plan_of h word) a b
-bytes_more h a b words word =
-    let f : List ℕ → ℕ = λ w. bytes_chosen (plan_of h w) a b in
-    omega (arith, sum_by-append f words (word ∷ []), sum_by-cons f word [])
-
 -- no tail is needed where the window ends by the horizon
 pub no_tail : (b h : ℕ) (list : List Posting) → b ≤ h → tail_for b h list ≡ []
 no_tail b h list early = go (nat_lt h b) refl
@@ -144,37 +139,19 @@ whole_chosen h pages word a b list whole read none is list_is read_is =
     let P : Option PlanEntry → Type 0 = λ o. IsChosenOf h pages word o a b list read in
     subst P (sym none) (whole, is, list_is, read_is)
 
--- bytes that were counted by a word's plan
-pub counted : (word : List ℕ) (h : History) (o : Option PlanEntry) (a b : ℕ) (old new : Both ℕ) → plan_of h word ≡ o → new ≡ replaced old Pages (old.pages + bytes_chosen o a b)
-    → new ≡ replaced old Pages (old.pages + bytes_chosen (plan_of h word) a b)
-counted word h o a b old new live is = is ∙ ap (λ (x : Option PlanEntry). replaced old Pages (old.pages + bytes_chosen x a b)) (sym live)
-
 -- a fetch's error that was handed on
 pub handed : {T : Type 0} (r : Result T AskError) (e : FetchError) (d : Damage) → IsErrAnd r (λ x. x ≡ ask_error_of_fetch e) → r ≡ Err (asks.Damaged d) → ask_error_of_fetch e ≡ asks.Damaged d
 handed {T = T} r e d and is = sym (subst (λ (x : Result T AskError). IsErrAnd x (λ y. y ≡ ask_error_of_fetch e)) is and)
-
--- of a word without a plan no byte is read
-pub none_counted : (word : List ℕ) (h : History) (a b : ℕ) (old : Both ℕ) → plan_of h word ≡ None → old ≡ replaced old Pages (old.pages + bytes_chosen (plan_of h word) a b)
-none_counted word h a b old none =
-    let same : old.pages ≡ old.pages + 0 = omega arith in
-    counted word h None a b old old none (ap (λ (n : ℕ). replaced old Pages n) same)
 
 -- ---- reads one behind another
 
 pub reads_join : (a b c : DiskState) → OnlyReads a b → OnlyReads b c → OnlyReads a c
 reads_join a b c x y = y ∙ ap (λ (d : DiskState). record d { faults = c.faults; bytes_read = c.bytes_read }) x
 
-pub reaches_on : (a b : DiskState) (x y : ArchiveState) → OnlyReads a b → y ≡ x → Reaches a.reach x → Reaches b.reach y
+pub reaches_on : (a b : DiskState) (x y : ArchiveState) → OnlyReads a b → IsSameButCache x y → Reaches a.reach x → Reaches b.reach y
 reaches_on a b x y same kept within =
     let R : Both ℕ → Type 0 = λ r. Reaches r y in
-    let X : ArchiveState → Type 0 = λ z. Reaches a.reach z in
-    subst R (sym (ap (λ (d : DiskState). d.reach) same)) (subst X (sym kept) within)
-
-pub counts_join : (a b c : Both ℕ) (m n k : ℕ) → b ≡ replaced a Pages (a.pages + m) → c ≡ replaced b Pages (b.pages + n) → k ≡ m + n → c ≡ replaced a Pages (a.pages + k)
-counts_join a b c m n k x y sum =
-    let journal : b.journal ≡ a.journal = ap (λ (d : Both ℕ). d.journal) x in
-    let pages : b.pages + n ≡ a.pages + k = omega (arith, ap (λ (d : Both ℕ). d.pages) x, sum) in
-    y ∙ ap (λ (j : ℕ). record { journal = j; pages = b.pages + n }) journal ∙ ap (λ (p : ℕ). record { journal = a.journal; pages = p }) pages
+    subst R (sym (ap (λ (d : DiskState). d.reach) same)) (reaches_but_cache a.reach x y kept within)
 
 -- a question's error that was handed on
 pub handed_on : {T : Type 0} (r : Result T AskError) (e : AskError) (d : Damage) → IsErrAnd r (λ x. x ≡ e) → r ≡ Err (asks.Damaged d) → e ≡ asks.Damaged d

@@ -11,4 +11,5 @@ pub mod StandLemmas
 pub mod CertifyLemmas
 pub mod CheckLemmas
 pub mod ChosenLemmas
+pub mod CacheLemmas
 pub mod DraftLemmas

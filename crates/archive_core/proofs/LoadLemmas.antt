@@ -31,6 +31,7 @@ use Rattle.archive_replay.specs.Places.{ArePlaced}
 use Rattle.plan_shelf.specs.Shelves.{extents_all}
 use Rattle.plan_shelf.specs.Shelves.{IsBadShelf}
 use Rattle.archive_core.specs.Changing.{KeepsHistory}
+use Rattle.archive_core.proofs.CacheLemmas.{none_cached}
 use Rattle.gate_journal.specs.declared.error.JournalError.{JournalError}
 use Rattle.gate_journal.specs.declared.error.JournalError.TheVariants.{Failed, NotJournal, Memory}
 use Rattle.archive_replay.specs.declared.error.LoadError.{LoadError}
@@ -167,9 +168,9 @@ held_loaded h image old mid new stands one same now allowed =
 
 -- the archive is in step with the disk for the history for which the bytes stood
 pub kept_loaded : (a : ArchiveState) (mid new : DiskState) (old : Bytes) (end : ℕ) (bodies : List (List ℕ)) (g h : History)
-    → StandsFor a g → a.end ≡ end → bodies_of g ≡ bodies → Spells old.journal bodies → IsInStep mid end bodies → new.now ≡ mid.now
+    → StandsFor a g → a.shelf.cache ≡ [] → a.end ≡ end → bodies_of g ≡ bodies → Spells old.journal bodies → IsInStep mid end bodies → new.now ≡ mid.now
     → (17 < length old.journal → Only mid.holds mid) → mid.holds.pages ≡ old.pages → Stands h old → IsKept new a h
-kept_loaded a mid new old end bodies g h stands end_is same spelled step now one pages stood =
+kept_loaded a mid new old end bodies g h stands empty end_is same spelled step now one pages stood =
     let R : List (List ℕ) → Type 0 = λ l. Spells old.journal l in
     let one_history : g ≡ h = spells_one_history old.journal g h (subst R (sym same) spelled) stands.loadable stood.spelled (legal_loads h stood.legal) in
     let S : History → Type 0 = λ x. StandsFor a x in
@@ -182,6 +183,7 @@ kept_loaded a mid new old end bodies g h stands end_is same spelled step now one
       in_step = subst P (sym same ∙ ap bodies_of one_history) (subst Q (sym end_is) there);
       legal = stood.legal;
       held = λ image allowed. held_loaded h image old mid new stood one pages now allowed;
+      cached = none_cached new a empty;
     }
 
 -- what the journal's error is where a load hands it on

@@ -44,7 +44,7 @@ use Rattle.archive_state.proofs.StoringLemmas.{plan_legal}
 use Rattle.archive_state.proofs.TurnLemmas.{each_plans}
 use Rattle.archive_core.specs.Adding.{HasSameShelf}
 use Rattle.archive_core.specs.Changing.{LeadsTo}
-use Rattle.archive_core.specs.States.{ArchiveState, StandsFor, IsKept, Reaches}
+use Rattle.archive_core.specs.States.{ArchiveState, StandsFor, CacheStands, IsKept, Reaches}
 use Rattle.plan_shelf.specs.Shelves.{ShelfState, extents_all}
 use Rattle.plan_shelf.specs.Readying.{HasPlaces, IsFull, IsReady, plan_with, tells_of}
 use Rattle.archive_core.specs.Storing.{IsDraft, IsStorable, IsStoredAs, NotDrafted, NotReady}
@@ -62,6 +62,7 @@ use Rattle.plan_shelf.specs.declared.readying.Ready.{Ready}
 use Rattle.archive_core.proofs.AddLemmas.{inside_on, kept_stands, leads_nowhere, step_at}
 use Rattle.archive_replay.proofs.IndexLemmas.{changes_still}
 use Rattle.archive_replay.proofs.PlaceLemmas.{placed_plan}
+use Rattle.archive_core.proofs.CacheLemmas.{cached_on}
 use Rattle.archive_core.proofs.PlanLemmas.{map_phrase}
 use Rattle.archive_core.proofs.LiveLemmas.{all_inside_with}
 
@@ -130,9 +131,10 @@ reaches_planned a last shelf stored places old new reaches more end placed same 
 -- ---- an archive that has what it had
 
 -- where pages have the same extents taken as before, they have whatever was taken
-pub same_shelf : (old new : ShelfState) (live : List Extent) → new.plans ≡ old.plans → HasTaken old.pages live → HasTaken new.pages live → HasSameShelf old new
-same_shelf old new live plans was now = record {
+pub same_shelf : (old new : ShelfState) (live : List Extent) → new.plans ≡ old.plans → HasTaken old.pages live → HasTaken new.pages live → new.cache ≡ old.cache → HasSameShelf old new
+same_shelf old new live plans was now cache = record {
   plans_are = plans;
+  cache_is = cache;
   taken = λ es has. record {
     apart = has.apart;
     counted = has.counted ∙ sym was.counted ∙ now.counted;
@@ -242,6 +244,17 @@ drafted_never Q asks.Failed r a b not (inr failed) = let one = not.0 in absurd c
 drafted_never Q (asks.Damaged damage) r a b not (inr failed) = let one = not.0 in absurd cc
 drafted_never Q asks.Memory r a b not (inr failed) = let one = not.0 in absurd cc
 
+-- and what it keeps is as it was
+pub not_drafted_cached : (reason : AskError) (r : Result PlanReport ChangeError) (a b : ArchiveState) (d : DiskState) → NotDrafted reason r a b → CacheStands d a → CacheStands d b
+not_drafted_cached (asks.Refused because) r a b d not cached = cached_on a.shelf.cache b.shelf.cache d d (ap (λ (s : ArchiveState). s.shelf.cache) not.1) refl cached
+not_drafted_cached asks.Failed r a b d not cached = cached_on a.shelf.cache b.shelf.cache d d (ap (λ (s : ArchiveState). s.shelf.cache) not.1) refl cached
+not_drafted_cached (asks.Damaged damage) r a b d not cached = cached_on a.shelf.cache b.shelf.cache d d (ap (λ (s : ArchiveState). s.shelf.cache) not.1) refl cached
+not_drafted_cached asks.Memory r a b d not cached = cached_on a.shelf.cache b.shelf.cache d d (ap (λ (s : ArchiveState). s.shelf.cache) not.1) refl cached
+
+pub not_ready_cached : (reason : Unprepared) (r : Result PlanReport ChangeError) (a b : ArchiveState) (d : DiskState) → NotReady reason r a b → CacheStands d a → CacheStands d b
+not_ready_cached (unprepared.Refused because) r a b d not cached = cached_on a.shelf.cache b.shelf.cache d d (ap (λ (s : ArchiveState). s.shelf.cache) not.1) refl cached
+not_ready_cached unprepared.Memory r a b d not cached = cached_on a.shelf.cache b.shelf.cache d d (ap (λ (s : ArchiveState). s.shelf.cache) not.1) refl cached
+
 -- a plan was written, or a part of it: what it is, and what each image left stands for
 pub record IsWritten (h : History) (phrase : List ℕ) (kind : Kind) (factor : Fraction) (r : Result PlanReport ChangeError) (old new : DiskState) (b : ArchiveState) : Type 0 where
   pub told : Summary
@@ -252,25 +265,27 @@ pub record IsWritten (h : History) (phrase : List ℕ) (kind : Kind) (factor : F
 
 pub takes_plan : (h : History) (phrase : List ℕ) (kind : Kind) (factor : Fraction) (r : Result PlanReport ChangeError) (old new : DiskState) (a b : ArchiveState) → IsKept old a h
     → ((why : Refusal) → r ≡ Err (changes.Refused why) → Plans h phrase kind factor (Refused why) h × StandsFor b h) → ((why : Refusal) → r ≡ Err (changes.Refused why) → new ≡ old) → (r ≡ Err changes.Memory → new ≡ old)
-    → (IsOk r ⊎ (r ≡ Err changes.Failed) → IsWritten h phrase kind factor r old new b) → Takes h (items.Command (commands.Plan phrase kind factor)) (planned r) old new b
-takes_plan h phrase kind factor (Ok report) old new a b kept refused same memory written =
+    → (IsOk r ⊎ (r ≡ Err changes.Failed) → IsWritten h phrase kind factor r old new b) → (IsOk r ⊎ ((why : Refusal) × (r ≡ Err (changes.Refused why))) → CacheStands new b)
+    → Takes h (items.Command (commands.Plan phrase kind factor)) (planned r) old new b
+takes_plan h phrase kind factor (Ok report) old new a b kept refused same memory written cached =
     let is = written (inl refl) in
     record { turn = record { reply = steps.Planned is.told; next = is.next }; step = is.plans; leads = is.leads; ends = (ap steps.Planned (sym is.kept.0), is.kept.1) }
-takes_plan h phrase kind factor (Err (changes.Refused why)) old new a b kept refused same memory written =
+takes_plan h phrase kind factor (Err (changes.Refused why)) old new a b kept refused same memory written cached =
     let is = refused why refl in
     let still = same why refl in
     let L : DiskState → Type 0 = λ d. LeadsTo h h old d in
     let K : DiskState → Type 0 = λ d. IsKept d b h in
+    let C : DiskState → Type 0 = λ d. CacheStands d b in
     record {
       turn = record { reply = Refused why; next = h };
       step = is.0;
       leads = subst L (sym still) (leads_nowhere old a h h kept);
-      ends = (refl, subst K (sym still) (record { stands = is.1; in_step = step_at b.end (kept.stands.end_is ∙ sym is.1.end_is) kept.in_step; legal = kept.legal; held = kept.held }));
+      ends = (refl, subst K (sym still) (record { stands = is.1; in_step = step_at b.end (kept.stands.end_is ∙ sym is.1.end_is) kept.in_step; legal = kept.legal; held = kept.held; cached = subst C still (cached (inr (why, refl))) }));
     }
-takes_plan h phrase kind factor (Err changes.Failed) old new a b kept refused same memory written =
+takes_plan h phrase kind factor (Err changes.Failed) old new a b kept refused same memory written cached =
     let is = written (inr refl) in
     record { turn = record { reply = steps.Planned is.told; next = is.next }; step = is.plans; leads = is.leads; ends = tt }
-takes_plan h phrase kind factor (Err changes.Memory) old new a b kept refused same memory written =
+takes_plan h phrase kind factor (Err changes.Memory) old new a b kept refused same memory written cached =
     let (turn, step) = each_plans h phrase kind factor kept.legal in
     let L : DiskState → Type 0 = λ d. LeadsTo h turn.next old d in
     let E : DiskState → Type 0 = λ d. EachStands d h in

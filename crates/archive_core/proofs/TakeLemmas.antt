@@ -42,6 +42,7 @@ use Rattle.archive_core.specs.declared.error.ChangeError.TheVariants as changes
 use Rattle.archive_core.specs.declared.error.AskError.{AskError}
 use Rattle.archive_core.specs.declared.error.AskError.TheVariants as asks
 use Rattle.archive_core.proofs.AddLemmas.{kept_stands, leads_nowhere}
+use Rattle.archive_core.proofs.CacheLemmas.{cache_reads}
 use Rattle.archive_core.proofs.LoadLemmas.{step_reads}
 
 -- an item that adds an entry, or is refused
@@ -104,6 +105,7 @@ reads_keep h old new a kept same = record {
   in_step = step_reads old new a.end (bodies_of h) kept.in_step same;
   legal = kept.legal;
   held = (let P : DiskState → Type 0 = λ d. (image : Bytes) → MayLeave d.now image → HoldsPlans h image.pages in subst P (sym same) kept.held);
+  cached = cache_reads old new a same kept.cached;
 }
 
 -- the reply of a turn is the one that was given, if one was

@@ -30,10 +30,11 @@ pub record IsMore (old new : ArchiveState) (change : Change ℕ) (body : List �
   pub indexed : (texts : List (Change (List ℕ))) (doc : DocId) (text : Option (List ℕ)) → Indexes old.index texts → IsPreparedFor old.index doc text words
       → ComesLater texts (record { doc = doc; at = change.at; held = text }) → Indexes new.index (texts ++ record { doc = doc; at = change.at; held = text } ∷ [])
 
--- the same plans, and the same extents are taken
+-- the same plans, the same extents are taken, and the same pages are kept
 pub record HasSameShelf (old new : ShelfState) : Type 0 where
   pub plans_are : new.plans ≡ old.plans
   pub taken : (extents : List Extent) → HasTaken old.pages extents → HasTaken new.pages extents
+  pub cache_is : new.cache ≡ old.cache
 
 -- an archive that is spent has what it had, and may be changed no more
 pub record IsSpent (old new : ArchiveState) : Type 0 where

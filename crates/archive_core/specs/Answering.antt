@@ -1,8 +1,9 @@
--- What is said of a question, whatever the disk holds: that its phrase is a query or none, what its answer is made from, and what was read.
+-- What is said of a question, whatever the disk holds: that its phrase is a query or none, what its answer is made from, and what was read and kept.
 use Rattle.std.specs.Prelude.{◌≡◌, ℕ, ◌+◌, List, Ok, Err}
 use Rattle.machine_model.specs.Areas.{replaced}
 use Rattle.machine_model.specs.States.{DiskState}
 use Rattle.machine_model.specs.declared.area.Area.TheVariants.{Pages}
+use Rattle.page_cache.specs.Caches.{Kept, after_asking_all, missed_by_all}
 use Rattle.query_lang.specs.Grammar.{Query, IsRead}
 use Rattle.query_lang.specs.Meaning.{words_of}
 use Rattle.query_lang.specs.Tokens.{key_of}
@@ -11,7 +12,7 @@ use Rattle.query_eval.specs.declared.spans.SpanRow.{SpanRow}
 use Rattle.archive_state.specs.declared.refusal.Refusal.{Refusal}
 use Rattle.archive_state.specs.declared.refusal.Refusal.TheVariants as refusals
 use Rattle.archive_state.specs.Histories.{History}
-use Rattle.archive_state.specs.Chosen.{IsMadeAt, IsMadeOver, bytes_for}
+use Rattle.archive_state.specs.Chosen.{IsMadeAt, IsMadeOver, pieces_for}
 
 -- the phrase is a query
 abbrev pub IsQuery : List ℕ → Type 0
@@ -21,16 +22,23 @@ IsQuery phrase = (query : Query) × IsRead key_of phrase (Ok query)
 abbrev pub IsNoQuery : List ℕ → Refusal → Type 0
 IsNoQuery phrase why = (place : ℕ) × IsRead key_of phrase (Err place) × (why ≡ refusals.BadQuery place)
 
--- exactly the bytes of the places were read that are chosen of a query's words over [a, b)
-abbrev pub HasReadFor : History → ℕ → ℕ → Query → DiskState → DiskState → Type 0
-HasReadFor history a b query old new = new.bytes_read ≡ replaced old.bytes_read Pages (old.bytes_read.pages + bytes_for history a b (words_of query))
+-- Pages were asked for that gave these pieces, in turn: those that were missed were read of Pages, and nothing else; the cache is the one after
+-- the asking.
+pub record HasAsked (pieces was now : List Kept) (old new : DiskState) : Type 0 where
+  pub count : new.bytes_read ≡ replaced old.bytes_read Pages (old.bytes_read.pages + missed_by_all pieces was)
+  pub cache : now ≡ after_asking_all pieces was
 
--- the answer to a phrase at a time is made from the lists that are chosen, by what reads of Pages gave before, and these were read
-abbrev pub AnswersAt : History → ℕ → List ℕ → DiskState → DiskState → List Row → ℕ → Type 0
-AnswersAt history t phrase old new rows read =
-    (query : Query) × IsRead key_of phrase (Ok query) × IsMadeAt history old.holds.pages t query rows read × HasReadFor history t (t + 1) query old new
+-- exactly the pages of the places were asked for that are chosen of a query's words over [a, b)
+abbrev pub HasReadFor : History → ℕ → ℕ → Query → List Kept → List Kept → DiskState → DiskState → Type 0
+HasReadFor history a b query was now old new = HasAsked (pieces_for history old.holds.pages a b (words_of query)) was now old new
+
+-- The answer to a phrase at a time is made from the lists that are chosen, by what reads of Pages gave before, and the pages of these were
+-- asked for, with the caches before and after.
+abbrev pub AnswersAt : History → ℕ → List ℕ → List Kept → List Kept → DiskState → DiskState → List Row → ℕ → Type 0
+AnswersAt history t phrase was now old new rows read =
+    (query : Query) × IsRead key_of phrase (Ok query) × IsMadeAt history old.holds.pages t query rows read × HasReadFor history t (t + 1) query was now old new
 
 -- the same over [a, b)
-abbrev pub AnswersOver : History → ℕ → ℕ → List ℕ → DiskState → DiskState → List SpanRow → ℕ → Type 0
-AnswersOver history a b phrase old new rows read =
-    (query : Query) × IsRead key_of phrase (Ok query) × IsMadeOver history old.holds.pages a b query rows read × HasReadFor history a b query old new
+abbrev pub AnswersOver : History → ℕ → ℕ → List ℕ → List Kept → List Kept → DiskState → DiskState → List SpanRow → ℕ → Type 0
+AnswersOver history a b phrase was now old new rows read =
+    (query : Query) × IsRead key_of phrase (Ok query) × IsMadeOver history old.holds.pages a b query rows read × HasReadFor history a b query was now old new

@@ -6,3 +6,4 @@ pub mod Causes
 pub mod Takes
 pub mod Storing
 pub mod Answering
+pub mod After

@@ -6,6 +6,7 @@ use Rattle.machine_model.specs.States.{DiskState}
 use Rattle.gate_journal.specs.InStep.{IsInStep}
 use Rattle.time_base.specs.declared.text_place.TextPlace.{TextPlace}
 use Rattle.version_store.specs.declared.change.Change.{Change}
+use Rattle.page_cache.specs.Caches.{StandsFor as IsCacheOf}
 use Rattle.page_store.specs.Live.{IsInside}
 use Rattle.page_store.specs.Taken.{HasTaken}
 use Rattle.archive_state.specs.Histories.{History, changes, end_of}
@@ -18,7 +19,7 @@ use Rattle.plan_shelf.specs.Shelves.{ShelfState, extents_all}
 use Rattle.archive_state.specs.Stands.{bodies_of}
 
 -- an archive in hand: where its journal ends, whether it may be changed, how many entries it has, the changes of documents with
--- the places of the texts, the index of the texts, and the live plans with the free pages
+-- the places of the texts, the index of the texts, and the live plans with the free pages and the pages that are kept
 pub record ArchiveState : Type 0 where
   pub end : ℕ
   pub live : Bool
@@ -41,10 +42,19 @@ pub record StandsFor (archive : ArchiveState) (history : History) : Type 0 where
 abbrev pub Reaches : Both ℕ → ArchiveState → Type 0
 Reaches reach archive = (archive.end ≤ reach.journal) × All (IsInside reach.pages) (extents_all archive.shelf.plans)
 
+-- the pages that an archive in hand keeps are as reads of its disk give them
+abbrev pub CacheStands : DiskState → ArchiveState → Type 0
+CacheStands d archive = IsCacheOf archive.shelf.cache d.holds.pages
+
+-- the archive but for its cache is as it was
+abbrev pub IsSameButCache : ArchiveState → ArchiveState → Type 0
+IsSameButCache old new = new ≡ record old { shelf = record (old.shelf) { cache = new.shelf.cache } }
+
 -- what a disk is that an archive in hand may change: all its images have the history's journal, and the history is legal, and in all images
--- the pages hold what its live plans need
+-- the pages hold what its live plans need; the pages that it keeps are as reads give them
 pub record IsKept (d : DiskState) (archive : ArchiveState) (history : History) : Type 0 where
   pub stands : StandsFor archive history
   pub in_step : IsInStep d archive.end (bodies_of history)
   pub legal : IsLegal history
   pub held : (image : Bytes) → MayLeave d.now image → HoldsPlans history image.pages
+  pub cached : CacheStands d archive

@@ -1,10 +1,9 @@
 //! The archive in hand, and its changes.
 ghost use Rattle.std.specs.Prelude.{◌≡◌, ◌⊎◌, ◌↔◌, ◌+◌, ◌<◌, ◌≤◌, ◌^◌, ◌++◌, [], ◌∷◌, ℕ, List, length, get_or, Option, Some, None, Ok, Err, true, false, IsTrue, IfOk, IfErr, OnOk, IsOk, IsErrOf};
-ghost use Rattle.machine_model.specs.Areas.{replaced};
 ghost use Rattle.machine_model.specs.Calls.{OnlyReads};
 ghost use Rattle.sublist_store.specs.Fetching.{IfDamaged, IfFailed};
 ghost use Rattle.archive_state.specs.declared.stored.StoredPlan.{StoredPlan as PlainStored};
-ghost use Rattle.archive_state.specs.Chosen.{GathersOf, bytes_chosen};
+ghost use Rattle.archive_state.specs.Chosen.{GathersOf, pieces_chosen};
 ghost use Rattle.machine_model.specs.Causes.{Rose};
 ghost use Rattle.time_base.specs.Limits.{limit_of};
 ghost use Rattle.gate_journal.specs.InStep.{IsInStep};
@@ -15,12 +14,14 @@ ghost use Rattle.archive_state.specs.Plans.{live_extents};
 ghost use Rattle.record_codec.specs.declared.plan.PlanEntry.{PlanEntry};
 ghost use Rattle.archive_core.specs.Storing.{IsDraft, IsStoredAs, NotDrafted, NotReady};
 ghost use Rattle.plan_shelf.specs.Readying.{IsFull, tells_of};
-ghost use Rattle.archive_core.specs.States.{StandsFor, IsKept, Reaches};
+ghost use Rattle.archive_core.specs.Answering.{HasAsked};
+ghost use Rattle.archive_core.specs.States.{StandsFor, CacheStands, IsSameButCache, IsKept, Reaches};
 ghost use Rattle.archive_core.specs.Changing.{LeadsTo};
 ghost use Rattle.archive_core.specs.Takes.{Takes, changed, planned};
 ghost use Rattle.plan_shelf.specs.Readying.{summary_of};
 ghost use Rattle.record_codec.specs.declared.entry.Entry.{Entry};
 ghost use Rattle.archive_core.specs.Adding.{Adds, GivesUp, IsMore, IsSpent};
+ghost use Rattle.archive_core.specs.After.{AfterChange, IsDone};
 ghost use Rattle.archive_replay.specs.Entries.{IsNext, IsPrepared, document_of, text_of, change_refusal};
 ghost use Rattle.version_index.specs.Indexes.{IsPreparedFor, state_of};
 ghost use Rattle.record_codec.specs.declared.entry.Entry.TheVariants as entries;
@@ -36,7 +37,7 @@ use archive_replay::{
 use archive_state::Refusal;
 use commands::{Kind, Phrase};
 use gate_journal::{Frame, Journal};
-use machine_model::{Area, Disk};
+use machine_model::Disk;
 use plan_shelf::{Draft, PlanReport, Shelf, make_ready};
 use std::alloc::Global;
 use std::marker::Model;
@@ -159,11 +160,12 @@ impl Archive {
         ensures only { D.Disk.only disk.old disk.new }
         ensures failed { IfErr result (IfFailed (Rose (D.disk disk.old).faults (D.disk disk.new).faults)) }
         ensures same { OnlyReads (D.disk disk.old) (D.disk disk.new) }
-        ensures count { D.disk_tells → (s : PlainStored) → s ≡ get_or self.old.shelf.plans at s →
-            OnOk result ((D.disk disk.new).bytes_read ≡ replaced (D.disk disk.old).bytes_read Area.Pages ((D.disk disk.old).bytes_read.pages + bytes_chosen (Some s.plan) span.from span.to)) }
-        ensures gathered { D.disk_tells → (s : PlainStored) → s ≡ get_or self.old.shelf.plans at s → IfOk result (λ g. GathersOf (D.disk disk.old).holds.pages s.plan span.from span.to (Ok (g.list.items, g.read))) }
-        ensures damaged { D.disk_tells → (s : PlainStored) → s ≡ get_or self.old.shelf.plans at s → IfErr result (IfDamaged (λ d. GathersOf (D.disk disk.old).holds.pages s.plan span.from span.to (Err d))) }
-        ensures kept { self.new ≡ self.old }
+        ensures kept { IsSameButCache self.old self.new }
+        ensures cached { D.disk_tells → CacheStands (D.disk disk.old) self.old → CacheStands (D.disk disk.new) self.new }
+        ensures asked { D.disk_tells → CacheStands (D.disk disk.old) self.old → (s : PlainStored) → s ≡ get_or self.old.shelf.plans at s →
+            OnOk result (HasAsked (pieces_chosen (D.disk disk.old).holds.pages (Some s.plan) span.from span.to) self.old.shelf.cache self.new.shelf.cache (D.disk disk.old) (D.disk disk.new)) }
+        ensures gathered { D.disk_tells → CacheStands (D.disk disk.old) self.old → (s : PlainStored) → s ≡ get_or self.old.shelf.plans at s → IfOk result (λ g. GathersOf (D.disk disk.old).holds.pages s.plan span.from span.to (Ok (g.list.items, g.read))) }
+        ensures damaged { D.disk_tells → CacheStands (D.disk disk.old) self.old → (s : PlainStored) → s ≡ get_or self.old.shelf.plans at s → IfErr result (IfDamaged (λ d. GathersOf (D.disk disk.old).holds.pages s.plan span.from span.to (Err d))) }
     {
         self.shelf.gather(alloc, disk, at, span)
     }
@@ -188,20 +190,12 @@ impl Archive {
         requires live { IsTrue self.old.live }
         requires within { Reaches (D.disk disk.old).reach self.old }
         ensures only { D.Disk.only disk.old disk.new }
-        ensures failed { IsErrOf result ChangeError.Failed → Rose (D.disk disk.old).faults (D.disk disk.new).faults }
-        ensures within { Reaches (D.disk disk.new).reach self.new }
-        // It is live unless it is spent.
-        ensures live { IsTrue self.new.live ↔ (IsOk result ⊎ ((why : Refusal) × IsErrOf result (ChangeError.Refused why))) }
+        ensures after { AfterChange D.disk_tells ((self.new ≡ self.old) × (disk.new ≡ disk.old)) (disk.new ≡ disk.old) result (D.disk disk.old) (D.disk disk.new) self.old self.new }
         // On any disk: a refusal is the first cause in order, comes wherever there is one (but for want of memory), and changes nothing; at Ok
         // the archive stands for the history with the new entry, and answers how many entries there are.
         ensures adds { (h : History) → StandsFor self.old h → Adds h (entries.Arrive doc at text.now) (arrival_refusal h doc at text.now) result self.new }
         // What it stands for then begins with what it stood for.
-        ensures follows { (h : History) → StandsFor self.old h → IsOk result ⊎ ((why : Refusal) × IsErrOf result (ChangeError.Refused why)) → (more : History) × StandsFor self.new (h ++ more) }
-        ensures same { (why : Refusal) → IsErrOf result (ChangeError.Refused why) → (self.new ≡ self.old) × (disk.new ≡ disk.old) }
-        // All memory is taken before the first call of the disk.
-        ensures memory { IsErrOf result ChangeError.Memory → disk.new ≡ disk.old }
-        // Where it is spent, it has the entries and the texts that it had.
-        ensures spent { (IsErrOf result ChangeError.Memory ⊎ IsErrOf result ChangeError.Failed) → IsSpent self.old self.new }
+        ensures follows { (h : History) → StandsFor self.old h → IsDone result → (more : History) × StandsFor self.new (h ++ more) }
         // In step, it is a step of the abstract machine; each image left since stands for the history before it or after it.
         ensures takes { D.disk_tells → (h : History) → IsKept (D.disk disk.old) self.old h → Takes h (items.Command (commands.Arrive doc at (texts.Bytes text.now))) (changed result) (D.disk disk.old) (D.disk disk.new) self.new }
         ensures pages { D.disk_tells → KeepsPages (D.disk disk.old) (D.disk disk.new) }
@@ -230,20 +224,12 @@ impl Archive {
         requires live { IsTrue self.old.live }
         requires within { Reaches (D.disk disk.old).reach self.old }
         ensures only { D.Disk.only disk.old disk.new }
-        ensures failed { IsErrOf result ChangeError.Failed → Rose (D.disk disk.old).faults (D.disk disk.new).faults }
-        ensures within { Reaches (D.disk disk.new).reach self.new }
-        // It is live unless it is spent.
-        ensures live { IsTrue self.new.live ↔ (IsOk result ⊎ ((why : Refusal) × IsErrOf result (ChangeError.Refused why))) }
+        ensures after { AfterChange D.disk_tells ((self.new ≡ self.old) × (disk.new ≡ disk.old)) (disk.new ≡ disk.old) result (D.disk disk.old) (D.disk disk.new) self.old self.new }
         // On any disk: a refusal is the first cause in order, comes wherever there is one (but for want of memory), and changes nothing; at Ok
         // the archive stands for the history with the new entry, and answers how many entries there are.
         ensures adds { (h : History) → StandsFor self.old h → Adds h (entries.Delete doc at) (deletion_refusal h doc at) result self.new }
         // What it stands for then begins with what it stood for.
-        ensures follows { (h : History) → StandsFor self.old h → IsOk result ⊎ ((why : Refusal) × IsErrOf result (ChangeError.Refused why)) → (more : History) × StandsFor self.new (h ++ more) }
-        ensures same { (why : Refusal) → IsErrOf result (ChangeError.Refused why) → (self.new ≡ self.old) × (disk.new ≡ disk.old) }
-        // All memory is taken before the first call of the disk.
-        ensures memory { IsErrOf result ChangeError.Memory → disk.new ≡ disk.old }
-        // Where it is spent, it has the entries and the texts that it had.
-        ensures spent { (IsErrOf result ChangeError.Memory ⊎ IsErrOf result ChangeError.Failed) → IsSpent self.old self.new }
+        ensures follows { (h : History) → StandsFor self.old h → IsDone result → (more : History) × StandsFor self.new (h ++ more) }
         // In step, it is a step of the abstract machine; each image left since stands for the history before it or after it.
         ensures takes { D.disk_tells → (h : History) → IsKept (D.disk disk.old) self.old h → Takes h (items.Command (commands.Delete doc at)) (changed result) (D.disk disk.old) (D.disk disk.new) self.new }
         ensures pages { D.disk_tells → KeepsPages (D.disk disk.old) (D.disk disk.new) }
@@ -275,21 +261,13 @@ impl Archive {
         requires live { IsTrue self.old.live }
         requires within { Reaches (D.disk disk.old).reach self.old }
         ensures only { D.Disk.only disk.old disk.new }
-        ensures failed { IsErrOf result ChangeError.Failed → Rose (D.disk disk.old).faults (D.disk disk.new).faults }
-        ensures within { Reaches (D.disk disk.new).reach self.new }
-        // It is live unless it is spent.
-        ensures live { IsTrue self.new.live ↔ (IsOk result ⊎ ((why : Refusal) × IsErrOf result (ChangeError.Refused why))) }
+        ensures after { AfterChange D.disk_tells (disk.new ≡ disk.old) (disk.new ≡ disk.old) result (D.disk disk.old) (D.disk disk.new) self.old self.new }
         // On any disk, whatever history it stood for: a refusal has its cause there, and comes wherever there is one (but for want of memory); at Ok
         // the archive stands for a history with a plan that may be stored.
         ensures refused { (h : History) → StandsFor self.old h → (why : Refusal) → IsErrOf result (ChangeError.Refused why) → Plans h word.now kind factor (Refused why) h × StandsFor self.new h }
         ensures stores { (h : History) → StandsFor self.old h → IfOk result (λ r. (next : History) × (Plans h word.now kind factor (Planned (summary_of r)) next × StandsFor self.new next)) }
         // What it stands for then begins with what it stood for.
-        ensures follows { (h : History) → StandsFor self.old h → IsOk result ⊎ ((why : Refusal) × IsErrOf result (ChangeError.Refused why)) → (more : History) × StandsFor self.new (h ++ more) }
-        ensures same { (why : Refusal) → IsErrOf result (ChangeError.Refused why) → disk.new ≡ disk.old }
-        // All memory is taken before the first call of the disk.
-        ensures memory { IsErrOf result ChangeError.Memory → disk.new ≡ disk.old }
-        // Where it is spent, it has the entries, the texts and the plans that it had.
-        ensures spent { (IsErrOf result ChangeError.Memory ⊎ IsErrOf result ChangeError.Failed) → IsSpent self.old self.new }
+        ensures follows { (h : History) → StandsFor self.old h → IsDone result → (more : History) × StandsFor self.new (h ++ more) }
         // In step, it is a step of the abstract machine; each image left since stands for the history before it or after it.
         ensures takes { D.disk_tells → (h : History) → IsKept (D.disk disk.old) self.old h → Takes h (items.Command (commands.Plan word.now kind factor)) (planned result) (D.disk disk.old) (D.disk disk.new) self.new }
     {
@@ -325,12 +303,13 @@ impl Archive {
         ensures only { D.Disk.only disk.old disk.new }
         ensures failed { IsErrOf result ChangeError.Failed → Rose (D.disk disk.old).faults (D.disk disk.new).faults }
         ensures within { Reaches (D.disk disk.new).reach self.new }
-        ensures live { IsTrue self.new.live ↔ (IsOk result ⊎ ((why : Refusal) × IsErrOf result (ChangeError.Refused why))) }
-        ensures refused { (h : History) → StandsFor self.old h → (why : Refusal) → IsErrOf result (ChangeError.Refused why) → IsFull draft (live_extents h) self.old.end why × StandsFor self.new h }
-        ensures stores { (h : History) → StandsFor self.old h → IfOk result (λ r. (plan : PlanEntry) × (IsStoredAs h draft plan × (summary_of r ≡ tells_of draft (length h + 1)) × StandsFor self.new (h ++ entries.Planned plan ∷ []))) }
+        ensures live { IsTrue self.new.live ↔ IsDone result }
         ensures same { (why : Refusal) → IsErrOf result (ChangeError.Refused why) → disk.new ≡ disk.old }
         ensures memory { IsErrOf result ChangeError.Memory → disk.new ≡ disk.old }
+        ensures cached { D.disk_tells → CacheStands (D.disk disk.old) self.old → IsDone result → CacheStands (D.disk disk.new) self.new }
         ensures spent { (IsErrOf result ChangeError.Memory ⊎ IsErrOf result ChangeError.Failed) → IsSpent self.old self.new }
+        ensures refused { (h : History) → StandsFor self.old h → (why : Refusal) → IsErrOf result (ChangeError.Refused why) → IsFull draft (live_extents h) self.old.end why × StandsFor self.new h }
+        ensures stores { (h : History) → StandsFor self.old h → IfOk result (λ r. (plan : PlanEntry) × (IsStoredAs h draft plan × (summary_of r ≡ tells_of draft (length h + 1)) × StandsFor self.new (h ++ entries.Planned plan ∷ []))) }
         ensures leads { D.disk_tells → (h : History) → IsKept (D.disk disk.old) self.old h → IsOk result ⊎ IsErrOf result ChangeError.Failed →
             (plan : PlanEntry) × (IsStoredAs h draft plan × LeadsTo h (h ++ entries.Planned plan ∷ []) (D.disk disk.old) (D.disk disk.new)
             × IfOk result (λ r. (summary_of r ≡ tells_of draft (length h + 1)) × IsKept (D.disk disk.new) self.new (h ++ entries.Planned plan ∷ []))) }
@@ -383,12 +362,7 @@ impl Archive {
         requires allowed { IfOk prepared (λ p. change_refusal p.change self.old.changes ≡ None) }
         requires next { (h : History) → StandsFor self.old h → (entry : Entry) × (refusal : Option Refusal) × IsPrepared h self.old.index entry refusal prepared }
         ensures only { D.Disk.only disk.old disk.new }
-        ensures failed { IsErrOf result ChangeError.Failed → Rose (D.disk disk.old).faults (D.disk disk.new).faults }
-        ensures within { Reaches (D.disk disk.new).reach self.new }
-        ensures live { IsTrue self.new.live ↔ (IsOk result ⊎ ((why : Refusal) × IsErrOf result (ChangeError.Refused why))) }
-        ensures same { (why : Refusal) → IsErrOf result (ChangeError.Refused why) → (self.new ≡ self.old) × (disk.new ≡ disk.old) }
-        ensures memory { IsErrOf result ChangeError.Memory → disk.new ≡ disk.old }
-        ensures spent { (IsErrOf result ChangeError.Memory ⊎ IsErrOf result ChangeError.Failed) → IsSpent self.old self.new }
+        ensures after { AfterChange D.disk_tells ((self.new ≡ self.old) × (disk.new ≡ disk.old)) (disk.new ≡ disk.old) result (D.disk disk.old) (D.disk disk.new) self.old self.new }
         ensures adds { (h : History) (entry : Entry) (refusal : Option Refusal) → StandsFor self.old h → IsPrepared h self.old.index entry refusal prepared → Adds h entry refusal result self.new }
         ensures leads { D.disk_tells → (h : History) (entry : Entry) (refusal : Option Refusal) → IsKept (D.disk disk.old) self.old h → IsPrepared h self.old.index entry refusal prepared →
             LeadsTo h (h ++ entry ∷ []) (D.disk disk.old) (D.disk disk.new) × OnOk result (IsKept (D.disk disk.new) self.new (h ++ entry ∷ [])) }
@@ -429,12 +403,13 @@ impl Archive {
         ensures only { D.Disk.only disk.old disk.new }
         ensures failed { IsErrOf result ChangeError.Failed → Rose (D.disk disk.old).faults (D.disk disk.new).faults }
         ensures within { Reaches (D.disk disk.new).reach self.new }
-        ensures live { IsTrue self.new.live ↔ (IsOk result ⊎ ((why : Refusal) × IsErrOf result (ChangeError.Refused why))) }
+        ensures live { IsTrue self.new.live ↔ IsDone result }
         ensures refused { (why : Refusal) → IsErrOf result (ChangeError.Refused why) → (why ≡ Refusal.Full Which.Journal (limit_of Which.Journal)) × (limit_of Which.Journal < self.old.end + 5 + length prepared.body.items) }
         ensures allowed { (IsOk result ⊎ IsErrOf result ChangeError.Failed) → self.old.end + 5 + length prepared.body.items ≤ limit_of Which.Journal }
         ensures same { (why : Refusal) → IsErrOf result (ChangeError.Refused why) → (self.new ≡ self.old) × (disk.new ≡ disk.old) }
         // All memory is taken before the first call of the disk.
         ensures memory { IsErrOf result ChangeError.Memory → disk.new ≡ disk.old }
+        ensures cached { D.disk_tells → CacheStands (D.disk disk.old) self.old → IsDone result → CacheStands (D.disk disk.new) self.new }
         ensures spent { (IsErrOf result ChangeError.Memory ⊎ IsErrOf result ChangeError.Failed) → IsSpent self.old self.new }
         ensures more { IfOk result (λ n. IsMore self.old self.new prepared.change prepared.body.items prepared.words × (n ≡ self.new.length)) }
         ensures crash { D.disk_tells → (bodies : List (List ℕ)) → IsInStep (D.disk disk.old) self.old.end bodies → Appends bodies prepared.body.items (D.disk disk.old) (D.disk disk.new) }

@@ -12,8 +12,9 @@ ghost use Rattle.version_store.specs.Changes.{held_at};
 ghost use Rattle.archive_state.specs.Histories.{History, text_at};
 ghost use Rattle.archive_state.specs.Plans.{is_another};
 ghost use Rattle.archive_state.specs.Chosen.{AreChosen, SpoilsAnswer};
-ghost use Rattle.archive_core.specs.Answering.{AnswersAt, IsNoQuery, IsQuery};
-ghost use Rattle.archive_core.specs.States.{StandsFor, IsKept, Reaches};
+ghost use Rattle.archive_core.specs.After.{AfterQuestion};
+ghost use Rattle.archive_core.specs.Answering.{AnswersAt, IsNoQuery};
+ghost use Rattle.archive_core.specs.States.{StandsFor, CacheStands, IsKept, Reaches};
 ghost use Rattle.archive_core.specs.Takes.{Takes, found, shown};
 ghost use Rattle.commands.specs.declared.command.Command.TheVariants as commands;
 ghost use Rattle.commands.specs.declared.command.Item.TheVariants as items;
@@ -32,7 +33,7 @@ use time_base::{DocId, Key, Span, Time};
 
 impl Archive {
     /// What a query finds as of a time: the rows of the documents alive then that match, and how many
-    /// postings were read for them. Nothing is changed.
+    /// postings were read for them. Nothing is changed but which pages are kept.
     ///
     /// `Refused`: the text is no query. `Damaged`: a sublist that was read isn't what the entry of its
     /// plan says. `Failed`: the disk failed.
@@ -40,7 +41,8 @@ impl Archive {
     /// Pages, before the horizon, and its list in memory from the horizon on; of each other word its
     /// list in memory. Then the postings are sorted that hold the time, and where a word has a plan,
     /// each row is looked up; where the query matches without any of its words, there is also a look-up
-    /// for each document.
+    /// for each document. A page that was read before is not read again while it is among the 1,024
+    /// that were used last.
     pub fn find<D: Disk>(
         &mut self,
         alloc: Global,
@@ -50,16 +52,13 @@ impl Archive {
     ) -> Result<Answer, AskError>
         requires within { Reaches (D.disk disk.old).reach self.old }
         ensures only { D.Disk.only disk.old disk.new }
-        ensures same { OnlyReads (D.disk disk.old) (D.disk disk.new) }
-        ensures kept { self.new ≡ self.old }
-        ensures failed { IsErrOf result AskError.Failed → Rose (D.disk disk.old).faults (D.disk disk.new).faults }
-        // A refusal comes of a text that is no query, at the place where that shows; an answer comes of a query.
-        ensures refused { (why : Refusal) → IsErrOf result (AskError.Refused why) → IsNoQuery expr.now why }
-        ensures asked { IsOk result → IsQuery expr.now }
-        // Whatever the disk holds, if it tells: the answer is made from the lists that are chosen, by what reads of Pages give. Exactly the bytes of
-        // the places chosen are read. What is damaged is the first of what is read for the query's words, as what reads give shows.
-        ensures made { D.disk_tells → (h : History) → StandsFor self.old h → IfOk result (λ answer. AnswersAt h at.seconds expr.now (D.disk disk.old) (D.disk disk.new) answer.rows.items answer.read) }
-        ensures damaged { D.disk_tells → (h : History) → StandsFor self.old h → (d : Damage) → IsErrOf result (AskError.Damaged d) →
+        ensures after { AfterQuestion D.disk_tells expr.now result (D.disk disk.old) (D.disk disk.new) self.old self.new }
+        // Whatever the disk holds, if it tells, and the pages kept are what reads give: the answer is made from the lists that are chosen, by what
+        // reads of Pages give. Exactly those pages of the places chosen are read that are missed. What is damaged is the first of what is read for
+        // the query's words, as what reads give shows.
+        ensures made { D.disk_tells → (h : History) → StandsFor self.old h → CacheStands (D.disk disk.old) self.old →
+            IfOk result (λ answer. AnswersAt h at.seconds expr.now self.old.shelf.cache self.new.shelf.cache (D.disk disk.old) (D.disk disk.new) answer.rows.items answer.read) }
+        ensures damaged { D.disk_tells → (h : History) → StandsFor self.old h → CacheStands (D.disk disk.old) self.old → (d : Damage) → IsErrOf result (AskError.Damaged d) →
             SpoilsAnswer h (D.disk disk.old).holds.pages at.seconds (at.seconds + 1) expr.now d }
         // In step, it is a step of the abstract machine.
         ensures takes { D.disk_tells → (h : History) → IsKept (D.disk disk.old) self.old h →
@@ -78,13 +77,10 @@ impl Archive {
     ) -> Result<Answer, AskError>
         requires within { Reaches (D.disk disk.old).reach self.old }
         ensures only { D.Disk.only disk.old disk.new }
-        ensures same { OnlyReads (D.disk disk.old) (D.disk disk.new) }
-        ensures kept { self.new ≡ self.old }
-        ensures failed { IsErrOf result AskError.Failed → Rose (D.disk disk.old).faults (D.disk disk.new).faults }
-        ensures refused { (why : Refusal) → IsErrOf result (AskError.Refused why) → IsNoQuery expr.now why }
-        ensures asked { IsOk result → IsQuery expr.now }
-        ensures made { D.disk_tells → (h : History) → StandsFor self.old h → IfOk result (λ answer. AnswersAt h at.seconds expr.now (D.disk disk.old) (D.disk disk.new) answer.rows.items answer.read) }
-        ensures damaged { D.disk_tells → (h : History) → StandsFor self.old h → (d : Damage) → IsErrOf result (AskError.Damaged d) →
+        ensures after { AfterQuestion D.disk_tells expr.now result (D.disk disk.old) (D.disk disk.new) self.old self.new }
+        ensures made { D.disk_tells → (h : History) → StandsFor self.old h → CacheStands (D.disk disk.old) self.old →
+            IfOk result (λ answer. AnswersAt h at.seconds expr.now self.old.shelf.cache self.new.shelf.cache (D.disk disk.old) (D.disk disk.new) answer.rows.items answer.read) }
+        ensures damaged { D.disk_tells → (h : History) → StandsFor self.old h → CacheStands (D.disk disk.old) self.old → (d : Damage) → IsErrOf result (AskError.Damaged d) →
             SpoilsAnswer h (D.disk disk.old).holds.pages at.seconds (at.seconds + 1) expr.now d }
     {
         let query = query_of(alloc, expr)?;

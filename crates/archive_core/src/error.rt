@@ -7,7 +7,7 @@ use archive_state::Refusal;
 use std::alloc::{AllocError, AllocFailed};
 use sublist_store::{Damage, FetchError};
 
-/// Why a question was not answered. Nothing was changed.
+/// Why a question was not answered. Nothing was changed but which pages are kept.
 #[derive(Clone, Copy, Debug, PartialEq, Eq)]
 pub enum AskError {
     /// It is no question.

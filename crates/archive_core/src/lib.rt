@@ -4,6 +4,7 @@
 //! images that stand for the history before it or for that and the new entry, and after Ok for the
 //! latter alone (`specs/Changing.antt`); a refused call changes nothing. A load gives the history
 //! for which the images of its disk stand. An archive can be opened to read alone: then no image changes.
+//! Questions change nothing but which pages an archive keeps, and these go on being what reads give.
 #![tactic(auto)]
 
 mod archive;

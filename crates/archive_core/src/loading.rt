@@ -33,8 +33,9 @@ impl Archive {
     pub fn load<D: Disk>(alloc: Global, disk: &mut D) -> Result<Archive, LoadError>
         ensures only { D.Disk.only disk.old disk.new }
         ensures failed { IsErrOf result LoadError.Failed → Rose (D.disk disk.old).faults (D.disk disk.new).faults }
-        // On any disk: it is live, the disk reaches as far as its journal, and it stands for a history.
+        // On any disk: it is live, keeps no page yet, the disk reaches as far as its journal, and it stands for a history.
         ensures live { IfOk result (λ a. IsTrue a.live) }
+        ensures empty { IfOk result (λ a. a.shelf.cache ≡ []) }
         ensures within { IfOk result (λ a. Reaches (D.disk disk.new).reach a) }
         ensures stands { IfOk result (λ a. (h : History) × StandsFor a h) }
         // What it answers of the bytes that reads gave at the start; where they stand for a history, it is the one loaded.
@@ -45,6 +46,8 @@ impl Archive {
         // Where each image stands for one history, each image left since stands for it.
         ensures crash { D.disk_tells → (h : History) → EachStands (D.disk disk.old) h → KeepsHistory h (D.disk disk.old) (D.disk disk.new) }
         ensures never { D.disk_tells → (h : History) → EachStands (D.disk disk.old) h → (at : ℕ) → IsErrOf result (LoadError.NotArchive at) → ⊥ }
+        // No byte of Pages is read.
+        ensures unread { D.disk_tells → (D.disk disk.new).bytes_read.pages ≡ (D.disk disk.old).bytes_read.pages }
         // A journal that isn't new is synced and read, and nothing else.
         ensures longer { D.disk_tells → 17 < length (D.disk disk.old).holds.journal → Syncs (D.disk disk.old) (D.disk disk.new) }
         ensures pages { D.disk_tells → KeepsPages (D.disk disk.old) (D.disk disk.new) }
@@ -64,8 +67,9 @@ impl Archive {
         // No image changes, and no length.
         ensures same { OnlyReads (D.disk disk.old) (D.disk disk.new) }
         ensures failed { IsErrOf result LoadError.Failed → Rose (D.disk disk.old).faults (D.disk disk.new).faults }
-        // On any disk: it isn't live, the disk reaches as far as its journal, and it stands for a history.
+        // On any disk: it isn't live, keeps no page yet, the disk reaches as far as its journal, and it stands for a history.
         ensures not_live { IfOk result (λ o. IfSome o (λ a. ¬ (IsTrue a.live))) }
+        ensures empty { IfOk result (λ o. IfSome o (λ a. a.shelf.cache ≡ [])) }
         ensures new { IfOk result (λ o. MatchOption o ((D.disk disk.old).reach.journal ≤ 17) (λ a. 17 < (D.disk disk.old).reach.journal)) }
         ensures within { IfOk result (λ o. IfSome o (λ a. Reaches (D.disk disk.new).reach a)) }
         ensures stands { IfOk result (λ o. IfSome o (λ a. (h : History) × StandsFor a h)) }
@@ -98,7 +102,9 @@ fn archive_of<D: Disk>(
     ensures only { D.Disk.only disk.old disk.new }
     ensures same { OnlyReads (D.disk disk.old) (D.disk disk.new) }
     ensures failed { IsErrOf result LoadError.Failed → Rose (D.disk disk.old).faults (D.disk disk.new).faults }
+    ensures unread { D.disk_tells → (D.disk disk.new).bytes_read.pages ≡ (D.disk disk.old).bytes_read.pages }
     ensures live { IfOk result (λ a. a.live ≡ journal.live) }
+    ensures empty { IfOk result (λ a. a.shelf.cache ≡ []) }
     ensures end { IfOk result (λ a. a.end ≡ journal.end) }
     ensures within { IfOk result (λ a. Reaches (D.disk disk.new).reach a) }
     ensures stands { IfOk result (λ a. (h : History) × StandsFor a h) }

@@ -10,7 +10,9 @@ ghost use Rattle.time_base.specs.declared.time.Time.{Time as PlainTime};
 ghost use Rattle.record_codec.specs.declared.place.Place.{Place as PlainPlace};
 ghost use Rattle.record_codec.specs.declared.plan.PlanEntry.{PlanEntry as PlainPlan};
 ghost use Rattle.gate_journal.specs.InStep.{IsInStep};
+ghost use Rattle.page_cache.specs.Caches.{StandsFor as IsCacheOf};
 ghost use Rattle.page_store.specs.Live.{IsInside};
+ghost use Rattle.page_store.specs.Runs.{IsTaken};
 ghost use Rattle.page_store.specs.Taken.{HasTaken};
 ghost use Rattle.stored_plans.specs.Plans.{IsCostOf, IsGoodPlan, plan_space};
 ghost use Rattle.sublist_store.specs.Preparing.{extents};
@@ -130,7 +132,8 @@ pub(crate) fn write_ready<D: Disk>(
     ensures inside { OnOk result (All (λ (p : PlainPlace). IsInside (D.disk disk.new).reach.pages p.extent) ready.prepared.places) }
     ensures plans { OnOk result (shelf.new.plans ≡ with_plan shelf.old.plans ready.stored) }
     ensures pages { OnOk result (HasTaken shelf.new.pages (extents_all shelf.new.plans)) }
-    ensures spent { OnErr result ((journal.new.end ≡ journal.old.end) × (shelf.new.plans ≡ shelf.old.plans) × HasTaken shelf.new.pages (extents_all shelf.old.plans)) }
+    ensures cached { D.disk_tells → IsCacheOf shelf.old.cache (D.disk disk.old).holds.pages → OnOk result (IsCacheOf shelf.new.cache (D.disk disk.new).holds.pages) }
+    ensures spent { OnErr result ((journal.new.end ≡ journal.old.end) × (shelf.new.plans ≡ shelf.old.plans) × HasTaken shelf.new.pages (extents_all shelf.old.plans) × (shelf.new.cache ≡ shelf.old.cache)) }
     ensures crash { D.disk_tells → (h : History) → IsInStep (D.disk disk.old) journal.old.end (bodies_of h) → ((image : Bytes) → MayLeave (D.disk disk.old).now image → HoldsPlans h image.pages) → IsLegal h →
         IsStorable h ready.stored.plan ready.prepared ready.frame → LeadsTo h (h ++ entries.Planned ready.stored.plan ∷ []) (D.disk disk.old) (D.disk disk.new) }
     ensures kept { D.disk_tells → (h : History) → IsInStep (D.disk disk.old) journal.old.end (bodies_of h) → ((image : Bytes) → MayLeave (D.disk disk.old).now image → HoldsPlans h image.pages) → IsLegal h →
@@ -165,7 +168,8 @@ fn put_down<D: Disk>(
 ) -> Result<(), Failed>
     requires live { IsTrue journal.old.live }
     requires fits { journal.old.end + 5 + length frame.now ≤ 2 ^ 40 }
-    requires taken { (live : List PlainExtent) × HasTaken sublists.now (extents prepared.now.places ++ live) }
+    requires taken { (live : List PlainExtent) × HasTaken sublists.now.pages (extents prepared.now.places ++ live) }
+    requires unkept { All (λ k. IsTaken (extents prepared.now.places) k.page → ⊥) sublists.now.cache }
     ensures only { D.Disk.only disk.old disk.new }
     ensures failed { OnErr result (Rose (D.disk disk.old).faults (D.disk disk.new).faults) }
     ensures live { OnOk result (IsTrue journal.new.live) }
@@ -173,6 +177,7 @@ fn put_down<D: Disk>(
     ensures reached { OnOk result (journal.new.end ≤ (D.disk disk.new).reach.journal) }
     ensures inside { OnOk result (All (λ (p : PlainPlace). IsInside (D.disk disk.new).reach.pages p.extent) prepared.now.places) }
     ensures spent { OnErr result (journal.new.end ≡ journal.old.end) }
+    ensures cached { D.disk_tells → IsCacheOf sublists.now.cache (D.disk disk.old).holds.pages → OnOk result (IsCacheOf sublists.now.cache (D.disk disk.new).holds.pages) }
     ensures crash { D.disk_tells → (h : History) (plan : PlainPlan) → IsInStep (D.disk disk.old) journal.old.end (bodies_of h) → ((image : Bytes) → MayLeave (D.disk disk.old).now image → HoldsPlans h image.pages) → IsLegal h →
         IsStorable h plan prepared.now frame.now → LeadsTo h (h ++ entries.Planned plan ∷ []) (D.disk disk.old) (D.disk disk.new) }
     ensures kept { D.disk_tells → (h : History) (plan : PlainPlan) → IsInStep (D.disk disk.old) journal.old.end (bodies_of h) → ((image : Bytes) → MayLeave (D.disk disk.old).now image → HoldsPlans h image.pages) → IsLegal h →

@@ -8,8 +8,9 @@ ghost use Rattle.query_eval.specs.Found.{told};
 ghost use Rattle.query_eval.specs.Spans.{IsSpanAnswer};
 ghost use Rattle.archive_state.specs.Histories.{History, text_at};
 ghost use Rattle.archive_state.specs.Chosen.{SpoilsAnswer};
-ghost use Rattle.archive_core.specs.Answering.{AnswersOver, IsNoQuery, IsQuery};
-ghost use Rattle.archive_core.specs.States.{StandsFor, IsKept, Reaches};
+ghost use Rattle.archive_core.specs.After.{AfterQuestion};
+ghost use Rattle.archive_core.specs.Answering.{AnswersOver};
+ghost use Rattle.archive_core.specs.States.{StandsFor, CacheStands, IsKept, Reaches};
 ghost use Rattle.archive_core.specs.Takes.{Takes, spanned};
 ghost use Rattle.commands.specs.declared.command.Command.TheVariants as commands;
 ghost use Rattle.commands.specs.declared.command.Item.TheVariants as items;
@@ -29,14 +30,15 @@ use time_base::Span;
 impl Archive {
     /// What a query finds over a window of time: for each document the longest spans inside it in which
     /// the document is alive, matches and has one score, and how many postings were read for them.
-    /// Nothing is changed.
+    /// Nothing is changed but which pages are kept.
     ///
     /// `Refused`: the text is no query. `Damaged`: a sublist that was read isn't what the entry of its
     /// plan says. `Failed`: the disk failed.
     /// Costs the query's length. Of each word with a plan, the sublists of the segments that overlap the
     /// window are read from Pages, and its list in memory from the horizon on, where the window
     /// reaches past it; of each other word its list in memory. Then it costs what the directory's
-    /// `lives` does, and a sort of the postings and the lives.
+    /// `lives` does, and a sort of the postings and the lives. A page that was read before is not read
+    /// again while it is among the 1,024 that were used last.
     pub fn between<D: Disk>(
         &mut self,
         alloc: Global,
@@ -46,16 +48,13 @@ impl Archive {
     ) -> Result<SpanAnswer, AskError>
         requires within { Reaches (D.disk disk.old).reach self.old }
         ensures only { D.Disk.only disk.old disk.new }
-        ensures same { OnlyReads (D.disk disk.old) (D.disk disk.new) }
-        ensures kept { self.new ≡ self.old }
-        ensures failed { IsErrOf result AskError.Failed → Rose (D.disk disk.old).faults (D.disk disk.new).faults }
-        // A refusal comes of a text that is no query, at the place where that shows; an answer comes of a query.
-        ensures refused { (why : Refusal) → IsErrOf result (AskError.Refused why) → IsNoQuery expr.now why }
-        ensures asked { IsOk result → IsQuery expr.now }
-        // Whatever the disk holds, if it tells: the answer is made from the lists that are chosen, by what reads of Pages give. Exactly the bytes of
-        // the places chosen are read. What is damaged is the first of what is read for the query's words, as what reads give shows.
-        ensures made { D.disk_tells → (h : History) → StandsFor self.old h → IfOk result (λ answer. AnswersOver h span.from span.to expr.now (D.disk disk.old) (D.disk disk.new) answer.rows.items answer.read) }
-        ensures damaged { D.disk_tells → (h : History) → StandsFor self.old h → (d : Damage) → IsErrOf result (AskError.Damaged d) →
+        ensures after { AfterQuestion D.disk_tells expr.now result (D.disk disk.old) (D.disk disk.new) self.old self.new }
+        // Whatever the disk holds, if it tells, and the pages kept are what reads give: the answer is made from the lists that are chosen, by what
+        // reads of Pages give. Exactly those pages of the places chosen are read that are missed. What is damaged is the first of what is read for
+        // the query's words, as what reads give shows.
+        ensures made { D.disk_tells → (h : History) → StandsFor self.old h → CacheStands (D.disk disk.old) self.old →
+            IfOk result (λ answer. AnswersOver h span.from span.to expr.now self.old.shelf.cache self.new.shelf.cache (D.disk disk.old) (D.disk disk.new) answer.rows.items answer.read) }
+        ensures damaged { D.disk_tells → (h : History) → StandsFor self.old h → CacheStands (D.disk disk.old) self.old → (d : Damage) → IsErrOf result (AskError.Damaged d) →
             SpoilsAnswer h (D.disk disk.old).holds.pages span.from span.to expr.now d }
         // In step, it is a step of the abstract machine.
         ensures takes { D.disk_tells → (h : History) → IsKept (D.disk disk.old) self.old h →
@@ -74,13 +73,10 @@ impl Archive {
     ) -> Result<SpanAnswer, AskError>
         requires within { Reaches (D.disk disk.old).reach self.old }
         ensures only { D.Disk.only disk.old disk.new }
-        ensures same { OnlyReads (D.disk disk.old) (D.disk disk.new) }
-        ensures kept { self.new ≡ self.old }
-        ensures failed { IsErrOf result AskError.Failed → Rose (D.disk disk.old).faults (D.disk disk.new).faults }
-        ensures refused { (why : Refusal) → IsErrOf result (AskError.Refused why) → IsNoQuery expr.now why }
-        ensures asked { IsOk result → IsQuery expr.now }
-        ensures made { D.disk_tells → (h : History) → StandsFor self.old h → IfOk result (λ answer. AnswersOver h span.from span.to expr.now (D.disk disk.old) (D.disk disk.new) answer.rows.items answer.read) }
-        ensures damaged { D.disk_tells → (h : History) → StandsFor self.old h → (d : Damage) → IsErrOf result (AskError.Damaged d) →
+        ensures after { AfterQuestion D.disk_tells expr.now result (D.disk disk.old) (D.disk disk.new) self.old self.new }
+        ensures made { D.disk_tells → (h : History) → StandsFor self.old h → CacheStands (D.disk disk.old) self.old →
+            IfOk result (λ answer. AnswersOver h span.from span.to expr.now self.old.shelf.cache self.new.shelf.cache (D.disk disk.old) (D.disk disk.new) answer.rows.items answer.read) }
+        ensures damaged { D.disk_tells → (h : History) → StandsFor self.old h → CacheStands (D.disk disk.old) self.old → (d : Damage) → IsErrOf result (AskError.Damaged d) →
             SpoilsAnswer h (D.disk disk.old).holds.pages span.from span.to expr.now d }
     {
         let query = query_of(alloc, expr)?;

@@ -1,5 +1,8 @@
 pub mod QuestionLemmas
+pub mod FetchLemmas
+pub mod StartLemmas
 pub mod DamageLemmas
+pub mod CauseLemmas
 pub mod EndLemmas
 pub mod PullLemmas
 pub mod ServeLemmas

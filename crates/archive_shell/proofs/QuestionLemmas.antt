@@ -1,5 +1,5 @@
 -- A question's reply is made by what reads give.
-use Rattle.std.proofs.Common.{◌≡◌, ℕ, ◌+◌, ◌<◌, Bool, false, true, List, [], ◌∷◌, ◌++◌, length, get_or, Some, None, Result, Ok, Err, IfOk, OnOk, All, refl, inl, inr, ap, subst, sym, ◌∙◌, arith, append_assoc}
+use Rattle.std.proofs.Common.{◌≡◌, ℕ, Bool, false, true, List, [], ◌∷◌, ◌++◌, length, get_or, Some, None, Result, Ok, Err, IfOk, OnOk, All, refl, inl, inr, ap, subst, sym, ◌∙◌, arith, append_assoc, add-zero}
 use Rattle.std.specs.List.{AllZip, flat_map}
 use Rattle.std.proofs.lemmas.Grind.{flat_map-append}
 use Rattle.std.proofs.lemmas.List.{append-nil, get_or_append_left, length-append}
@@ -13,23 +13,13 @@ use Rattle.query_lang.specs.Grammar.{Query, IsRead}
 use Rattle.query_lang.specs.Tokens.{key_of}
 use Rattle.query_eval.specs.declared.answer.Answer.{Answer}
 use Rattle.query_eval.specs.declared.spans.SpanAnswer.{SpanAnswer}
-use Rattle.archive_state.specs.Chosen.{AreChosen, IsMadeAt, IsMadeOver}
-use Rattle.archive_state.specs.Legal.{IsLoadable}
-use Rattle.archive_state.specs.Stands.{Stands, bodies_of}
-use Rattle.archive_state.proofs.HistoryLemmas.{legal_loads}
-use Rattle.archive_state.proofs.StandsLemmas.{spells_one_history}
-use Rattle.gate_journal.specs.Spelled.{Spells}
+use Rattle.archive_state.specs.Chosen.{IsMadeAt, IsMadeOver}
 use Rattle.machine_model.specs.Areas.{Bytes}
-use Rattle.query_lang.specs.Meaning.{words_of}
-use Rattle.query_eval.specs.declared.part.Part.{Part}
-use Rattle.std.proofs.lemmas.Bool.{cases_lt}
-use Rattle.archive_shell.proofs.EndLemmas.{new_stands}
 use Rattle.archive_state.specs.Histories.{History}
 use Rattle.archive_state.specs.Replies.{reply_text}
-use Rattle.archive_state.specs.Steps.{Reply, Found, Spanned, Verified, Refused, IsReplied}
+use Rattle.archive_state.specs.Steps.{Reply, Found, Spanned, Verified, Refused}
 use Rattle.archive_state.specs.declared.verdict.Verdict.{Verdict}
 use Rattle.archive_check.specs.Checked.{IsChecked}
-use Rattle.archive_check.proofs.SoundLemmas.{new_sound}
 use Rattle.archive_state.specs.declared.refusal.Refusal.{Refusal}
 use Rattle.archive_core.specs.Answering.{IsNoQuery}
 use Rattle.archive_core.specs.Takes.{Replied, found, spanned, verified}
@@ -37,17 +27,22 @@ use Rattle.archive_core.specs.declared.error.AskError.{AskError}
 use Rattle.archive_core.specs.declared.error.AskError.TheVariants as asks
 use Rattle.sublist_store.specs.declared.why.Damage.{Damage}
 use Rattle.archive_shell.specs.Damages.{Spoils}
-use Rattle.archive_shell.specs.Asking.{IsOnPage, IsAsked, Asking, HasAsked, HasStopped}
+use Rattle.archive_shell.specs.Asking.{Asking, Fetches, HasAsked, HasStopped, IsAsked, IsOnPage}
+use Rattle.archive_shell.specs.Fetching.{IsAsking}
 use Rattle.archive_shell.specs.Headline.{MachineState}
-use Rattle.archive_core.specs.States.{ArchiveState, StandsFor}
-use Rattle.machine_model.specs.Calls.{OnlyReads, Syncs}
+use Rattle.archive_core.specs.States.{ArchiveState, CacheStands, IsSameButCache, StandsFor}
+use Rattle.machine_model.specs.Calls.{OnlyReads}
 use Rattle.machine_model.specs.Pushes.{IsSameBeside}
 use Rattle.script_read.specs.Items.{Items, Splits}
 use Rattle.script_read.specs.Reading.{Held, MayFollow, fresh}
 use Rattle.script_read.proofs.Joins.{items-join}
 use Rattle.script_read.proofs.Splitting.{each_splits, one_split}
+use Rattle.archive_shell.proofs.FetchLemmas.{asking_question, asking_questions, fetched_beside, fetched_more}
+use Rattle.archive_shell.proofs.TurnLemmas.{halted}
 use Rattle.archive_shell.proofs.PullLemmas.{Gives, pulling_first, pulling_next, whole_done}
-use Rattle.archive_shell.specs.Questions.{AreMade, AreMadeUpTo, IsMadeReply, IsQuestion, MakesAt, MakesOver}
+use Rattle.page_cache.specs.Caches.{Kept, IsHeld, StandsFor as IsCacheOf}
+use Rattle.std.proofs.lemmas.List.Elements.{All-nil}
+use Rattle.archive_shell.specs.Questions.{AreMade, AreMadeUpTo, IsMadeReply, IsQuestion}
 use Rattle.archive_shell.specs.Turns.{Writes}
 use Rattle.archive_shell.specs.Statuses.{status_of_script, status_of_stop}
 use Rattle.archive_shell.specs.declared.status.Status.TheVariants.{Done, Damaged}
@@ -63,11 +58,6 @@ on_page : (h : History) (image : Bytes) (item : Item) (reply : Reply) (result : 
 on_page h image item reply (Ok done) page made (inl is) = record { reply = reply; made = made; is = is.1 }
 on_page h image item reply (Ok done) page made (inr none) = absurd cc
 on_page h image item reply (Err halt) page made writes = tt
-
--- a run that is halted shows nothing
-halted : (P : Type 0) (result : Result (Unit {0}) Halt) (halt : Halt) → result ≡ Err halt → OnOk result P
-halted P (Ok done) halt is = absurd cc
-halted P (Err other) halt is = tt
 
 pub made_find : (h : History) (image : Bytes) (at : Time) (text : List ℕ) (B : Answer → Query → Type 0) (r : Result Answer AskError) (result : Result (Unit {0}) Halt) (page : List ℕ)
     → IfOk r (λ answer. (query : Query) × IsRead key_of text (Ok query) × IsMadeAt h image.pages at.seconds query answer.rows.items answer.read × B answer query)
@@ -105,9 +95,10 @@ made_verify h image (Err (asks.Damaged damage)) result page checked never writes
 made_verify h image (Err asks.Memory) result page checked never writes = halted (IsOnPage h image (items.Command commands.Verify) page) result halts.Memory writes
 
 -- a reply that was on the page and is shown
-pub shown_so : (h : History) (item : Item) (page piece before mid after : List ℕ) (old disk new : DiskState) (archive archive_now : ArchiveState) → OnlyReads old disk → archive_now ≡ archive → IsOnPage h old.holds item page
+pub shown_so : (h : History) (item : Item) (page piece before mid after : List ℕ) (old disk new : DiskState) (archive archive_now : ArchiveState) → OnlyReads old disk → IsSameButCache archive archive_now → IsOnPage h old.holds item page
+    → (IsAsking item → Fetches h item archive.shelf.cache archive_now.shelf.cache old disk)
     → IsSameBeside disk new → mid ≡ before → piece ≡ page → after ≡ mid ++ piece → IsAsked h item before after old new archive archive_now
-shown_so h item page piece before mid after old disk new archive archive_now reads kept on still same is shown = record {
+shown_so h item page piece before mid after old disk new archive archive_now reads kept on fetched still same is shown = record {
   kept = kept;
   holds = ap (λ (d : DiskState). d.holds) still.same ∙ ap (λ (d : DiskState). d.holds) reads;
   asked = record {
@@ -115,9 +106,24 @@ shown_so h item page piece before mid after old disk new archive archive_now rea
     each = (on.made, tt);
     shown = shown ∙ ap (λ (l : List ℕ). l ++ piece) same ∙ ap (λ (l : List ℕ). before ++ l) (is ∙ on.is ∙ sym (append-nil (reply_text on.reply)));
   };
+  fetched = λ asking. fetched_beside h item archive.shelf.cache archive_now.shelf.cache old disk new still (fetched asking);
 }
 
 -- ---- a run of questions goes on
+
+-- an archive that is the same but for its cache stands for the same history
+stands_still : (h : History) (archive archive_now : ArchiveState) → IsSameButCache archive archive_now → StandsFor archive h → StandsFor archive_now h
+stands_still h archive archive_now same stands =
+    let S : ArchiveState → Type 0 = λ a. StandsFor a h in
+    subst S (sym same) (record {
+      loadable = stands.loadable;
+      end_is = stands.end_is;
+      length_is = stands.length_is;
+      changes_are = stands.changes_are;
+      index_is = stands.index_is;
+      plans_are = stands.plans_are;
+      pages_are = stands.pages_are;
+    })
 
 abbrev none_asked : (h : History) (image : Bytes) (shown : List ℕ) → AreMade h image [] shown shown
 none_asked h image shown = record { replies = []; each = tt; shown = sym (append-nil shown) }
@@ -141,45 +147,59 @@ one_more h image asked item before mid after made next = go next.replies next.ea
           ∙ ap (λ (l : List ℕ). before ++ l) (sym (flat_map-append reply_text made.replies (reply ∷ [])));
     }
 
-pub asking_start : (h : History) (now : MachineState) (archive : ArchiveState) (held : Held) → held ≡ fresh → StandsFor archive h → Asking h now.disk.holds now now archive held
-asking_start h now archive held is stands =
+-- an archive that was just loaded keeps no page
+pub cached_first : (d : DiskState) (archive : ArchiveState) → archive.shelf.cache ≡ [] → CacheStands d archive
+cached_first d archive none =
+    let C : List Kept → Type 0 = λ cache. IsCacheOf cache d.holds.pages in
+    subst C (sym none) (All-nil (IsHeld d.holds.pages))
+
+pub asking_start : (h : History) (now : MachineState) (archive : ArchiveState) (held : Held) → held ≡ fresh → StandsFor archive h → archive.shelf.cache ≡ [] → Asking h now.disk.holds now now archive held
+asking_start h now archive held is stands none =
     let A : Held → Type 0 = λ x. Asking h now.disk.holds now now archive x in
     subst A (sym is) (record {
       pulling = pulling_first now.source;
-      all_asked = λ none. record { stands = stands; holds_are = refl; made = none_asked h now.disk.holds now.sink.shown };
+      all_asked = λ all. record { stands = stands; cached = cached_first now.disk archive none; holds_are = refl; made = none_asked h now.disk.holds now.sink.shown };
+      all_fetched = λ all. record { pieces = []; asked_for = refl; read = sym (add-zero now.disk.bytes_read.pages); kept = none };
     })
 
-all_part : (items rest : List Item) → All IsQuestion (items ++ rest) → All IsQuestion items
-all_part items rest all = λ k d lt. subst IsQuestion (get_or_append_left items rest d k lt) (all k d (omega (arith, lt, length-append items rest)))
+all_part : (P : Item → Type 0) (items rest : List Item) → All P (items ++ rest) → All P items
+all_part P items rest all = λ k d lt. subst P (get_or_append_left items rest d k lt) (all k d (omega (arith, lt, length-append items rest)))
 
-all_front : (items : List Item) (item : Item) → All IsQuestion (items ++ item ∷ []) → All IsQuestion items
-all_front items item all = all_part items (item ∷ []) all
+all_front : (P : Item → Type 0) (items : List Item) (item : Item) → All P (items ++ item ∷ []) → All P items
+all_front P items item all = all_part P items (item ∷ []) all
 
 last_there : (items : List Item) (item d : Item) → get_or (items ++ item ∷ []) (length items) d ≡ item
 last_there [] item d = refl
 last_there (x ∷ items) item d = last_there items item d
 
-all_last : (items : List Item) (item : Item) → All IsQuestion (items ++ item ∷ []) → IsQuestion item
-all_last items item all = subst IsQuestion (last_there items item item) (all (length items) item (omega (arith, length-append items (item ∷ []))))
+all_last : (P : Item → Type 0) (items : List Item) (item : Item) → All P (items ++ item ∷ []) → P item
+all_last P items item all = subst P (last_there items item item) (all (length items) item (omega (arith, length-append items (item ∷ []))))
 
 -- the next item was carried out
 pub asking_next : (h : History) (image : Bytes) (old now : MachineState) (source : SourceState) (sink : SinkState) (disk : DiskState) (archive archive_now : ArchiveState) (held held_now : Held) (item : Item)
     → (asking : Asking h image old now archive held) → Gives held held_now asking.pulling.since (Ok (Some item)) now.source source
-    → (StandsFor archive h → IsQuestion item → IsAsked h item now.sink.shown sink.shown now.disk disk archive archive_now)
+    → (StandsFor archive h → CacheStands now.disk archive → IsQuestion item → IsAsked h item now.sink.shown sink.shown now.disk disk archive archive_now) → (CacheStands now.disk archive → CacheStands disk archive_now)
     → Asking h image old (record { source = source; sink = sink; disk = disk }) archive_now held_now
-asking_next h image old now source sink disk archive archive_now held held_now item asking gives out = record {
+asking_next h image old now source sink disk archive archive_now held held_now item asking gives out cached = record {
   pulling = pulling_next old.source now.source source held held_now item asking.pulling gives;
   all_asked = λ all.
       let items = asking.pulling.items in
-      let was = asking.all_asked (all_front items item all) in
-      let next = out was.stands (all_last items item all) in
+      let was = asking.all_asked (all_front IsQuestion items item all) in
+      let next = out was.stands was.cached (all_last IsQuestion items item all) in
       let P : Bytes → Type 0 = λ b. AreMade h b (item ∷ []) now.sink.shown sink.shown in
-      let S : ArchiveState → Type 0 = λ a. StandsFor a h in
       record {
-        stands = subst S (sym next.kept) was.stands;
+        stands = stands_still h archive archive_now next.kept was.stands;
+        cached = cached was.cached;
         holds_are = next.holds ∙ was.holds_are;
         made = one_more h image items item old.sink.shown now.sink.shown sink.shown was.made (subst P was.holds_are next.asked);
       };
+  all_fetched = λ all.
+      let items = asking.pulling.items in
+      let front = all_front IsAsking items item all in
+      let last = all_last IsAsking items item all in
+      let was = asking.all_asked (asking_questions items front) in
+      let next = out was.stands was.cached (asking_question item last) in
+      fetched_more h image.pages items item archive.shelf.cache archive_now.shelf.cache old.disk now.disk disk (ap (λ (b : Bytes). b.pages) was.holds_are) (asking.all_fetched front) (next.fetched last);
 }
 
 -- the input is at its end
@@ -196,6 +216,7 @@ asked_all h image old now source archive held held_now asking gives =
       items = asking.pulling.items;
       split = subst L (sym all) (subst R done.1 (subst E done.0 whole.split));
       made = λ questions. (asking.all_asked questions).made;
+      reads = λ queries. (let has = asking.all_fetched queries in record { pieces = has.pieces; asked_for = has.asked_for; read = has.read });
     }
 
 -- the next item was carried out up to a damage
@@ -205,7 +226,7 @@ asked_before true left told = (refl, told refl)
 
 pub asking_stops : (h : History) (image : Bytes) (old now : MachineState) (source : SourceState) (sink : SinkState) (disk : DiskState) (archive : ArchiveState) (held held_now : Held) (item : Item) (damage : Damage)
     → (asking : Asking h image old now archive held) → Gives held held_now asking.pulling.since (Ok (Some item)) now.source source
-    → (StandsFor archive h → Spoils h now.disk.holds.pages item damage × (sink.shown ≡ now.sink.shown))
+    → (StandsFor archive h → CacheStands now.disk archive → Spoils h now.disk.holds.pages item damage × (sink.shown ≡ now.sink.shown))
     → HasStopped h image old (record { source = source; sink = sink; disk = disk }) damage
 asking_stops h image old now source sink disk archive held held_now item damage asking gives out =
     let items = asking.pulling.items in
@@ -219,11 +240,11 @@ asking_stops h image old now source sink disk archive held held_now item damage 
       made = λ all.
           let was = asking.all_asked all in
           let M : List ℕ → Type 0 = λ shown. AreMade h image items old.sink.shown shown in
-          subst M (sym (out was.stands).1) was.made;
+          subst M (sym (out was.stands was.cached).1) was.made;
       spoiled = λ all.
           let was = asking.all_asked all in
           let P : Bytes → Type 0 = λ b. Spoils h b.pages item damage in
-          subst P was.holds_are (out was.stands).0;
+          subst P was.holds_are (out was.stands was.cached).0;
     }
 
 -- a run goes on where neither what was shown nor the disk changed
@@ -253,104 +274,6 @@ stop_not_done stops.Sink is = cc
 stop_not_done (stops.Damaged damage) is = cc
 stop_not_done stops.Memory is = cc
 
--- ---- an archive without entries reads no page
-
-chosen_anywhere : (p q : List ℕ) (a b : ℕ) (words : List (List ℕ)) (parts : List Part) → AreChosen [] p a b words parts → AreChosen [] q a b words parts
-chosen_anywhere p q a b [] [] are = tt
-chosen_anywhere p q a b [] (part ∷ parts) are = absurd are
-chosen_anywhere p q a b (word ∷ words) [] are = absurd are
-chosen_anywhere p q a b (word ∷ words) (part ∷ parts) are = (are.0, chosen_anywhere p q a b words parts are.1)
-
-replied_anywhere : (F G : Query → Reply → Type 0) → ((query : Query) (reply : Reply) → F query reply → G query reply) → (text : List ℕ) (reply : Reply) → IsReplied F text reply → IsReplied G text reply
-replied_anywhere F G each text reply (Ok query, read, made) = (Ok query, read, each query reply made)
-replied_anywhere F G each text reply (Err place, read, is) = (Err place, read, is)
-
-checked_anywhere : (p q : Bytes) (verdict : Verdict) → IsChecked [] p verdict → IsChecked [] q verdict
-checked_anywhere p q verdict checked =
-    let V : Verdict → Type 0 = λ v. IsChecked [] q v in
-    subst V (sym ((new_sound p).1 verdict checked)) (new_sound q).0
-
-reply_anywhere : (p q : Bytes) (item : Item) (reply : Reply) → IsMadeReply [] p item reply → IsMadeReply [] q item reply
-reply_anywhere p q (items.Command (commands.Find at expr)) reply made =
-    replied_anywhere (MakesAt [] p.pages at) (MakesAt [] q.pages at) (λ query r (rows, read, m, is). (
-      rows,
-      read,
-      record {
-        parts = m.parts;
-        are_chosen = chosen_anywhere p.pages q.pages at.seconds (at.seconds + 1) (words_of query) m.parts m.are_chosen;
-        rows_are = m.rows_are;
-        read_is = m.read_is;
-      },
-      is,
-    )) expr reply made
-reply_anywhere p q (items.Command (commands.Between span expr)) reply made =
-    replied_anywhere (MakesOver [] p.pages span) (MakesOver [] q.pages span) (λ query r (rows, read, m, is). (
-      rows,
-      read,
-      record {
-        parts = m.parts;
-        are_chosen = chosen_anywhere p.pages q.pages span.from span.to (words_of query) m.parts m.are_chosen;
-        rows_are = m.rows_are;
-        read_is = m.read_is;
-      },
-      is,
-    )) expr reply made
-reply_anywhere p q (items.Command (commands.Arrive doc at text)) reply made = absurd made
-reply_anywhere p q (items.Command (commands.Delete doc at)) reply made = absurd made
-reply_anywhere p q (items.Command (commands.Show doc at)) reply made = absurd made
-reply_anywhere p q (items.Command (commands.Plan word kind fraction)) reply made = absurd made
-reply_anywhere p q (items.Command (commands.Propose word fraction)) reply made = absurd made
-reply_anywhere p q (items.Command (commands.Certificate word)) reply made = absurd made
-reply_anywhere p q (items.Command commands.Verify) reply (verdict, checked, is) = (verdict, checked_anywhere p q verdict checked, is)
-reply_anywhere p q items.Line reply made = absurd made
-
-replies_anywhere : (p q : Bytes) (asked : List Item) (replies : List Reply) → AllZip (IsMadeReply [] p) asked replies → AllZip (IsMadeReply [] q) asked replies
-replies_anywhere p q [] [] all = tt
-replies_anywhere p q [] (reply ∷ replies) all = absurd all
-replies_anywhere p q (item ∷ asked) [] all = absurd all
-replies_anywhere p q (item ∷ asked) (reply ∷ replies) all = (reply_anywhere p q item reply all.0, replies_anywhere p q asked replies all.1)
-
-made_anywhere : (p q : Bytes) (asked : List Item) (before after : List ℕ) → AreMade [] p asked before after → AreMade [] q asked before after
-made_anywhere p q asked before after made = record { replies = made.replies; each = replies_anywhere p q asked made.replies made.each; shown = made.shown }
-
--- the bytes were those at the start, or there was nothing to read in them
-pub made_at_start : (h : History) (asked : List Item) (old new : DiskState) (before after : List ℕ) → Spells old.holds.journal (bodies_of h) → IsLoadable h → (17 < length old.holds.journal → Syncs old new)
-    → AreMade h new.holds asked before after → AreMade h old.holds asked before after
-made_at_start h asked old new before after spelled loads longer made = elim (cases_lt 17 (length old.holds.journal)) as (λ _. AreMade h old.holds asked before after) [
-  | inl long ↦ (let P : Bytes → Type 0 = λ b. AreMade h b asked before after in subst P (longer long).holds made)
-  | inr short ↦ (
-      let new_one : Stands [] old.holds = new_stands old.holds short in
-      let none : h ≡ [] = spells_one_history old.holds.journal h [] spelled loads new_one.spelled (legal_loads [] new_one.legal) in
-      let H : History → Type 0 = λ x. AreMade x new.holds asked before after in
-      let B : History → Type 0 = λ x. AreMade x old.holds asked before after in
-      subst B (sym none) (made_anywhere new.holds old.holds asked before after (subst H none made))
-      )
-]
-
-none_spoiled : (pages : List ℕ) (item : Item) (damage : Damage) → Spoils [] pages item damage → ⊥
-none_spoiled pages (items.Command (commands.Find at expr)) damage spoiled = let live = spoiled.first.shown.live in cc
-none_spoiled pages (items.Command (commands.Between span expr)) damage spoiled = let live = spoiled.first.shown.live in cc
-none_spoiled pages (items.Command (commands.Arrive doc at text)) damage spoiled = spoiled
-none_spoiled pages (items.Command (commands.Delete doc at)) damage spoiled = spoiled
-none_spoiled pages (items.Command (commands.Show doc at)) damage spoiled = spoiled
-none_spoiled pages (items.Command (commands.Plan word kind fraction)) damage spoiled = spoiled
-none_spoiled pages (items.Command (commands.Propose word fraction)) damage spoiled = spoiled
-none_spoiled pages (items.Command (commands.Certificate word)) damage spoiled = spoiled
-none_spoiled pages (items.Command commands.Verify) damage spoiled = spoiled
-none_spoiled pages items.Line damage spoiled = spoiled
-
-pub stopped_at_start : (h : History) (asked : List Item) (damage : Damage) (old new : DiskState) (before after : List ℕ) → Spells old.holds.journal (bodies_of h) → IsLoadable h → (17 < length old.holds.journal → Syncs old new)
-    → AreMadeUpTo h new.holds asked damage before after → AreMadeUpTo h old.holds asked damage before after
-stopped_at_start h asked damage old new before after spelled loads longer made = elim (cases_lt 17 (length old.holds.journal)) as (λ _. AreMadeUpTo h old.holds asked damage before after) [
-  | inl long ↦ (let P : Bytes → Type 0 = λ b. AreMadeUpTo h b asked damage before after in subst P (longer long).holds made)
-  | inr short ↦ (
-      let new_one : Stands [] old.holds = new_stands old.holds short in
-      let none : h ≡ [] = spells_one_history old.holds.journal h [] spelled loads new_one.spelled (legal_loads [] new_one.legal) in
-      let H : History → Type 0 = λ x. Spoils x new.holds.pages made.item damage in
-      absurd (none_spoiled new.holds.pages made.item damage (subst H none made.spoiled))
-      )
-]
-
 -- ---- where all the input is questions, the items up to the damage are the first of these
 
 pub stopped_among : (h : History) (image : Bytes) (old new : MachineState) (damage : Damage) (asked : List Item) → HasStopped h image old new damage → Splits true old.source.left asked [] → All IsQuestion asked
@@ -362,5 +285,5 @@ stopped_among h image old new damage asked has split all =
     let joined : Splits true left (up_to ++ behind.0) behind.1 = (items-join true left has.rest behind.1 up_to behind.0 has.read behind.2.0, behind.2.1) in
     let is : asked ≡ has.answered ++ has.item ∷ behind.0 = (one_split true left asked (up_to ++ behind.0) [] behind.1 split joined).0 ∙ append_assoc has.answered (has.item ∷ []) behind.0 in
     let A : List Item → Type 0 = λ l. All IsQuestion l in
-    let front = all_part has.answered (has.item ∷ behind.0) (subst A is all) in
+    let front = all_part IsQuestion has.answered (has.item ∷ behind.0) (subst A is all) in
     record { answered = has.answered; item = has.item; behind = behind.0; asked_are = is; made = has.made front; spoiled = has.spoiled front }

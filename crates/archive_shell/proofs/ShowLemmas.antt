@@ -13,7 +13,7 @@ use Rattle.archive_state.specs.Steps.{Reply, Accepted, Refused, Found, Spanned, 
 use Rattle.archive_state.specs.Replies.{end_text, reply_text, row_text, span_text, node_text, segment_text, space_text, verdict_text}
 use Rattle.archive_state.specs.Stands.{Stands}
 use Rattle.archive_state.proofs.RunLemmas.{one_turn}
-use Rattle.archive_core.specs.States.{ArchiveState, IsKept}
+use Rattle.archive_core.specs.States.{ArchiveState, CacheStands, IsKept}
 use Rattle.archive_core.proofs.AddLemmas.{kept_stands}
 use Rattle.archive_shell.specs.Statuses.{stop_of_halt}
 use Rattle.archive_shell.specs.Turns.{AnsweredBy, Answers, CarriesOut, EndsAt, StopsAt}
@@ -51,6 +51,10 @@ same_images old new same image allowed = λ area.
     let P : Both (List Range) → Type 0 = λ p. IsAllowed (part old.now.stable area) (part p area) (part image area) in
     subst P same.pending (subst S same.stable (allowed area))
 
+-- nor what an archive keeps of pages
+pub cached_beside : (old new : DiskState) (archive : ArchiveState) → IsSameBeside old new → CacheStands old archive → CacheStands new archive
+cached_beside old new archive same cached = let C : DiskState → Type 0 = λ d. CacheStands d archive in subst C (sym same.same) cached
+
 -- so an archive stays in step over them
 pub kept_beside : (old new : DiskState) (archive : ArchiveState) (history : History) → IsSameBeside old new → IsKept old archive history → IsKept new archive history
 kept_beside old new archive history same kept = record {
@@ -64,6 +68,7 @@ kept_beside old new archive history same kept = record {
   };
   legal = kept.legal;
   held = λ image allowed. kept.held image (same_images old new same image allowed);
+  cached = cached_beside old new archive same kept.cached;
 }
 
 -- the run was stopped before the reply

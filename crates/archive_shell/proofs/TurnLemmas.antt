@@ -1,5 +1,5 @@
 -- One item answered: what a call of the archive did, and what is written of it.
-use Rattle.std.proofs.Common.{◌≡◌, ℕ, List, Result, Ok, inl, inr, ap, subst, sym, ◌∙◌}
+use Rattle.std.proofs.Common.{◌≡◌, ℕ, List, Result, Ok, Err, OnOk, inl, inr, ap, subst, sym, ◌∙◌}
 use Rattle.machine_model.specs.States.{DiskState}
 use Rattle.commands.specs.declared.command.Item.{Item}
 use Rattle.archive_state.specs.declared.refusal.Refusal.{Refusal}
@@ -11,6 +11,16 @@ use Rattle.archive_core.specs.Takes.{Ending, Replied, Starved, Faulted, Spoiled,
 use Rattle.archive_core.proofs.AddLemmas.{kept_stands, leads_nowhere}
 use Rattle.archive_shell.specs.Turns.{AnsweredBy, Answers, Writes}
 use Rattle.archive_shell.specs.declared.stop.Halt.{Halt}
+
+-- a run that is halted goes on nowhere
+pub halted : (P : Type 0) (result : Result (Unit {0}) Halt) (halt : Halt) → result ≡ Err halt → OnOk result P
+halted P (Ok done) halt is = absurd cc
+halted P (Err other) halt is = tt
+
+-- what holds anyway holds where it goes on
+pub anyway : (P : Type 0) (result : Result (Unit {0}) Halt) → P → OnOk result P
+anyway P (Ok done) p = p
+anyway P (Err halt) p = tt
 
 -- an item that a call took is answered by what is written of the call's end
 pub answers_by : (h : History) (item : Item) (ending : Ending) (result : Result (Unit {0}) Halt) (old new : DiskState) (archive : ArchiveState) (page : List ℕ)

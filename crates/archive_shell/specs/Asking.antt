@@ -1,20 +1,24 @@
 -- A run of questions alone while it goes on, whatever the disk holds.
-use Rattle.std.specs.Prelude.{◌≡◌, ℕ, true, List, [], ◌∷◌, ◌++◌, All}
+use Rattle.std.specs.Prelude.{◌≡◌, ℕ, ◌+◌, true, List, [], ◌∷◌, ◌++◌, Result, Err, OnOk, All}
 use Rattle.machine_model.specs.Areas.{Bytes}
 use Rattle.machine_model.specs.States.{DiskState}
 use Rattle.commands.specs.declared.command.Item.{Item}
 use Rattle.script_read.specs.Items.{Items, Splits}
 use Rattle.script_read.specs.Reading.{Held}
+use Rattle.page_cache.specs.Caches.{Kept, after_asking_all, missed_by_all}
 use Rattle.archive_state.specs.Histories.{History}
 use Rattle.archive_state.specs.Replies.{reply_text}
 use Rattle.archive_state.specs.Steps.{Reply}
-use Rattle.archive_core.specs.States.{ArchiveState, StandsFor}
+use Rattle.archive_core.specs.States.{ArchiveState, CacheStands, IsSameButCache, StandsFor}
 use Rattle.sublist_store.specs.declared.why.Damage.{Damage}
 use Rattle.archive_shell.specs.Damages.{Spoils}
+use Rattle.archive_shell.specs.Fetching.{AllAskFor, AsksFor, IsAsking, ReadsMissed}
 use Rattle.archive_shell.specs.Headline.{MachineState}
 use Rattle.archive_shell.specs.Questions.{AreMade, IsMadeReply, IsQuestion}
 use Rattle.archive_shell.specs.Serving.{Pulling}
 use Rattle.archive_shell.specs.declared.status.Status.{Status}
+use Rattle.archive_shell.specs.declared.stop.Halt.{Halt}
+use Rattle.archive_shell.specs.declared.stop.Halt.TheVariants as halts
 use Rattle.archive_shell.specs.declared.status.Status.TheVariants.{Done, Damaged}
 
 -- the page has the reply to a question, which was made by these bytes
@@ -23,28 +27,56 @@ pub record IsOnPage (history : History) (image : Bytes) (item : Item) (page : Li
   pub made : IsMadeReply history image item reply
   pub is : page ≡ reply_text reply
 
--- a question was carried out and its reply shown: the archive and the bytes are as they were
+-- An item that asks what is found asked for these pieces, with the caches before and after: those that were missed were read of Pages.
+pub record Fetches (history : History) (item : Item) (was now : List Kept) (old new : DiskState) : Type 0 where
+  pub pieces : List Kept
+  pub asked_for : AsksFor history old.holds.pages item pieces
+  pub read : new.bytes_read.pages ≡ old.bytes_read.pages + missed_by_all pieces was
+  pub kept : now ≡ after_asking_all pieces was
+
+-- the same of some items since no page was kept
+pub record HasFetched (history : History) (pages : List ℕ) (items : List Item) (cache : List Kept) (old now : DiskState) : Type 0 where
+  pub pieces : List Kept
+  pub asked_for : AllAskFor history pages items pieces
+  pub read : now.bytes_read.pages ≡ old.bytes_read.pages + missed_by_all pieces []
+  pub kept : cache ≡ after_asking_all pieces []
+
+-- What is told of an item by what reads give, whatever the disk holds: the archive stands for this history, and its cache is as reads give it.
+pub record IsByReads (history : History) (item : Item) (result : Result (Unit {0}) Halt) (old new : DiskState) (archive archive_now : ArchiveState) (page : List ℕ) : Type 0 where
+  -- a damage is the first of what is read for it
+  pub damaged : (damage : Damage) → result ≡ Err (halts.Damaged damage) → Spoils history old.holds.pages item damage
+  -- the reply to a question is made by what reads give
+  pub made : IsQuestion item → OnOk result (IsOnPage history old.holds item page)
+  -- where it asks what is found, just the pages are asked for of what is chosen
+  pub fetched : IsAsking item → OnOk result (Fetches history item archive.shelf.cache archive_now.shelf.cache old new)
+
+-- a question was carried out and its reply shown: the archive but for its cache is as it was, and so are the bytes
 pub record IsAsked (history : History) (item : Item) (before after : List ℕ) (old new : DiskState) (archive archive_now : ArchiveState) : Type 0 where
-  pub kept : archive_now ≡ archive
+  pub kept : IsSameButCache archive archive_now
   pub holds : new.holds ≡ old.holds
   pub asked : AreMade history old.holds (item ∷ []) before after
+  pub fetched : IsAsking item → Fetches history item archive.shelf.cache archive_now.shelf.cache old new
 
 -- what is known where all items so far were questions
 pub record AllAsked (history : History) (image : Bytes) (items : List Item) (old now : MachineState) (archive : ArchiveState) : Type 0 where
   pub stands : StandsFor archive history
+  pub cached : CacheStands now.disk archive
   pub holds_are : now.disk.holds ≡ image
   pub made : AreMade history image items old.sink.shown now.sink.shown
 
--- a run that goes on: the bytes pulled so far, and what is known where all their items were questions
+-- a run that goes on: the bytes pulled so far, and what is known where all their items were questions, and where all ask what is found
 pub record Asking (history : History) (image : Bytes) (old now : MachineState) (archive : ArchiveState) (held : Held) : Type 0 where
   pub pulling : Pulling old.source now.source held
   pub all_asked : All IsQuestion pulling.items → AllAsked history image pulling.items old now archive
+  pub all_fetched : All IsAsking pulling.items → HasFetched history image.pages pulling.items archive.shelf.cache old.disk now.disk
 
--- a run that came to its end: the items are those of all the input, and where all are questions, each reply was made so
+-- a run that came to its end: the items are those of all the input, and where all are questions, each reply was made so, and where all
+-- ask what is found, the pieces that were missed were read
 pub record HasAsked (history : History) (image : Bytes) (old new : MachineState) : Type 0 where
   pub items : List Item
   pub split : Splits true old.source.left items []
   pub made : All IsQuestion items → AreMade history image items old.sink.shown new.sink.shown
+  pub reads : All IsAsking items → ReadsMissed history image.pages items old.disk.bytes_read.pages new.disk.bytes_read.pages
 
 -- a run that was stopped by a damage: the items up to the one at which it was, and where all in front of it are questions, each of their replies
 -- was made so, and the damage is the first of what is read for it

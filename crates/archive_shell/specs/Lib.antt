@@ -1,5 +1,7 @@
 pub mod Damages
 pub mod Asking
+pub mod Causes
+pub mod Fetching
 pub mod Headline
 pub mod Questions
 pub mod Serving

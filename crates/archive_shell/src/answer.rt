@@ -4,15 +4,15 @@ ghost use Rattle.machine_model.specs.Causes.{Rose};
 ghost use Rattle.archive_state.specs.Histories.{History};
 ghost use Rattle.archive_state.specs.Replies.{reply_text};
 ghost use Rattle.archive_state.specs.Steps.{Refused};
-ghost use Rattle.archive_core.specs.States.{IsKept, StandsFor};
+ghost use Rattle.archive_core.specs.States.{CacheStands, IsKept, IsSameButCache, StandsFor};
 ghost use Rattle.archive_core.specs.Takes.{changed, declined, found, planned, proposed, shown, spanned, unchanged, verified};
 ghost use Rattle.commands.specs.declared.command.Item.TheVariants as items;
 ghost use Rattle.commands.specs.declared.command.Command.TheVariants as plain;
-ghost use Rattle.archive_shell.specs.Damages.{Spoils};
 ghost use Rattle.machine_model.specs.Calls.{OnlyReads};
-ghost use Rattle.archive_shell.specs.Asking.{IsOnPage};
+ghost use Rattle.archive_shell.specs.Asking.{IsByReads};
+ghost use Rattle.archive_shell.specs.Causes.{IsLeft};
 ghost use Rattle.archive_shell.specs.Questions.{IsQuestion};
-ghost use Rattle.archive_shell.specs.Turns.{Answers, CanGoOn, GoesOnFrom, Writes};
+ghost use Rattle.archive_shell.specs.Turns.{Answers, CanGoOn, Writes};
 
 use crate::stop::Halt;
 use archive_core::{Archive, AskError, ChangeError, PlanReport};
@@ -37,12 +37,11 @@ pub(crate) fn answer<D: Disk>(
     requires ready { CanGoOn archive.old (D.disk disk.old).reach }
     ensures only { D.Disk.only disk.old disk.new }
     ensures disk_fault { IsErrOf result Halt.Disk → Rose (D.disk disk.old).faults (D.disk disk.new).faults }
-    ensures ready { OnOk result (CanGoOn archive.new (D.disk disk.new).reach) }
-    ensures follows { (h : History) → StandsFor archive.old h → OnOk result (GoesOnFrom h archive.new) }
-    ensures damaged { D.disk_tells → (h : History) → StandsFor archive.old h → (d : Damage) → IsErrOf result (Halt.Damaged d) → Spoils h (D.disk disk.old).holds.pages item d }
-    // Whatever the disk holds, a question leaves it and the archive as they are, and its reply is made by what reads give.
-    ensures still { IsQuestion item → OnlyReads (D.disk disk.old) (D.disk disk.new) × (archive.new ≡ archive.old) }
-    ensures made { D.disk_tells → (h : History) → StandsFor archive.old h → IsQuestion item → OnOk result (IsOnPage h (D.disk disk.old).holds item page.new.bytes) }
+    ensures left { OnOk result (IsLeft D.disk_tells (D.disk disk.old) (D.disk disk.new) archive.old archive.new) }
+    // Whatever the disk holds, a question leaves it and the archive but for its cache as they are, and what is told is so by what reads give.
+    ensures still { IsQuestion item → OnlyReads (D.disk disk.old) (D.disk disk.new) × IsSameButCache archive.old archive.new }
+    ensures by_reads { D.disk_tells → (h : History) → StandsFor archive.old h → CacheStands (D.disk disk.old) archive.old →
+        IsByReads h item result (D.disk disk.old) (D.disk disk.new) archive.old archive.new page.new.bytes }
     ensures turn { D.disk_tells → (h : History) → IsKept (D.disk disk.old) archive.old h →
         Answers h item result (D.disk disk.old) (D.disk disk.new) archive.new page.new.bytes }
 {
@@ -63,12 +62,11 @@ fn carry_out<D: Disk>(
     requires ready { CanGoOn archive.old (D.disk disk.old).reach }
     ensures only { D.Disk.only disk.old disk.new }
     ensures disk_fault { IsErrOf result Halt.Disk → Rose (D.disk disk.old).faults (D.disk disk.new).faults }
-    ensures ready { OnOk result (CanGoOn archive.new (D.disk disk.new).reach) }
-    ensures follows { (h : History) → StandsFor archive.old h → OnOk result (GoesOnFrom h archive.new) }
-    ensures damaged { D.disk_tells → (h : History) → StandsFor archive.old h → (d : Damage) → IsErrOf result (Halt.Damaged d) → Spoils h (D.disk disk.old).holds.pages (items.Command command) d }
-    // Whatever the disk holds, a question leaves it and the archive as they are, and its reply is made by what reads give.
-    ensures still { IsQuestion (items.Command command) → OnlyReads (D.disk disk.old) (D.disk disk.new) × (archive.new ≡ archive.old) }
-    ensures made { D.disk_tells → (h : History) → StandsFor archive.old h → IsQuestion (items.Command command) → OnOk result (IsOnPage h (D.disk disk.old).holds (items.Command command) page.new.bytes) }
+    ensures left { OnOk result (IsLeft D.disk_tells (D.disk disk.old) (D.disk disk.new) archive.old archive.new) }
+    // Whatever the disk holds, a question leaves it and the archive but for its cache as they are, and what is told is so by what reads give.
+    ensures still { IsQuestion (items.Command command) → OnlyReads (D.disk disk.old) (D.disk disk.new) × IsSameButCache archive.old archive.new }
+    ensures by_reads { D.disk_tells → (h : History) → StandsFor archive.old h → CacheStands (D.disk disk.old) archive.old →
+        IsByReads h (items.Command command) result (D.disk disk.old) (D.disk disk.new) archive.old archive.new page.new.bytes }
     ensures turn { D.disk_tells → (h : History) → IsKept (D.disk disk.old) archive.old h →
         Answers h (items.Command command) result (D.disk disk.old) (D.disk disk.new) archive.new page.new.bytes }
 {
@@ -126,8 +124,7 @@ fn arrive<D: Disk>(
     requires ready { CanGoOn archive.old (D.disk disk.old).reach }
     ensures only { D.Disk.only disk.old disk.new }
     ensures disk_fault { IsErrOf result Halt.Disk → Rose (D.disk disk.old).faults (D.disk disk.new).faults }
-    ensures ready { OnOk result (CanGoOn archive.new (D.disk disk.new).reach) }
-    ensures follows { (h : History) → StandsFor archive.old h → OnOk result (GoesOnFrom h archive.new) }
+    ensures left { OnOk result (IsLeft D.disk_tells (D.disk disk.old) (D.disk disk.new) archive.old archive.new) }
     ensures undamaged { (d : Damage) → IsErrOf result (Halt.Damaged d) → ⊥ }
     ensures turn { D.disk_tells → (h : History) → IsKept (D.disk disk.old) archive.old h →
         Answers h (items.Command (plain.Arrive doc at text)) result (D.disk disk.old) (D.disk disk.new) archive.new page.new.bytes }

@@ -2,11 +2,12 @@
 ghost use Rattle.std.specs.Prelude.{◌≡◌, ◌≤◌, [], OnOk, IsErrOf};
 ghost use Rattle.machine_model.specs.Causes.{Rose};
 ghost use Rattle.archive_state.specs.Histories.{History};
-ghost use Rattle.archive_core.specs.States.{IsKept, StandsFor};
+ghost use Rattle.archive_core.specs.States.{CacheStands, IsKept, StandsFor};
 ghost use Rattle.archive_shell.specs.Damages.{Spoils};
 ghost use Rattle.archive_shell.specs.Asking.{IsAsked};
+ghost use Rattle.archive_shell.specs.Causes.{IsLeft};
 ghost use Rattle.archive_shell.specs.Questions.{IsQuestion};
-ghost use Rattle.archive_shell.specs.Turns.{CanGoOn, CarriesOut, GoesOnFrom};
+ghost use Rattle.archive_shell.specs.Turns.{CanGoOn, CarriesOut};
 
 use crate::answer::answer;
 use crate::stop::Stop;
@@ -32,11 +33,10 @@ pub(crate) fn carry_out<M: Machine>(
     ensures sink_later { (M.sink machine.old).faults ≤ (M.sink machine.new).faults }
     ensures disk_fault { IsErrOf result Stop.Disk → Rose (M.disk machine.old).faults (M.disk machine.new).faults }
     ensures sink_fault { IsErrOf result Stop.Sink → Rose (M.sink machine.old).faults (M.sink machine.new).faults }
-    ensures ready { OnOk result (CanGoOn archive.new (M.disk machine.new).reach) }
-    ensures follows { (h : History) → StandsFor archive.old h → OnOk result (GoesOnFrom h archive.new) }
-    ensures damaged { M.disk_tells → (h : History) → StandsFor archive.old h → (d : Damage) → IsErrOf result (Stop.Damaged d) →
+    ensures left { OnOk result (IsLeft M.disk_tells (M.disk machine.old) (M.disk machine.new) archive.old archive.new) }
+    ensures damaged { M.disk_tells → (h : History) → StandsFor archive.old h → CacheStands (M.disk machine.old) archive.old → (d : Damage) → IsErrOf result (Stop.Damaged d) →
         Spoils h (M.disk machine.old).holds.pages item d × ((M.disk machine.new).holds.pages ≡ (M.disk machine.old).holds.pages) × (M.sink machine.new ≡ M.sink machine.old) }
-    ensures question { M.disk_tells → M.sink_tells → (h : History) → StandsFor archive.old h → IsQuestion item →
+    ensures question { M.disk_tells → M.sink_tells → (h : History) → StandsFor archive.old h → CacheStands (M.disk machine.old) archive.old → IsQuestion item →
         OnOk result (IsAsked h item (M.sink machine.old).shown (M.sink machine.new).shown (M.disk machine.old) (M.disk machine.new) archive.old archive.new) }
     ensures turn { M.disk_tells → M.sink_tells → (h : History) → IsKept (M.disk machine.old) archive.old h →
         CarriesOut h item result (M.sink machine.old).shown (M.sink machine.new).shown (M.disk machine.old) (M.disk machine.new) archive.new }

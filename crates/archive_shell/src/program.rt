@@ -15,6 +15,7 @@ ghost use Rattle.program_words.specs.declared.task.Task.{Task as PlainTask};
 ghost use Rattle.program_words.specs.declared.task.Task.TheVariants as tasks;
 ghost use Rattle.program_words.specs.declared.task.SampleNumbers.{SampleNumbers as PlainNumbers};
 ghost use Rattle.archive_shell.specs.Damages.{IsPulled, ShowsDamage};
+ghost use Rattle.archive_shell.specs.Fetching.{IsAsking, ReadsMissed};
 ghost use Rattle.archive_shell.specs.Questions.{AreMade, AreMadeUpTo, IsQuestion};
 ghost use Rattle.archive_shell.specs.Headline.{Headline, MachineState};
 ghost use Rattle.archive_shell.specs.Sampling.{EndsSample, Sampled};
@@ -92,6 +93,11 @@ pub fn run<M: Machine>(alloc: Global, words: &[String], machine: &mut M) -> Stat
     ensures stopped { M.source_tells → M.sink_tells → M.disk_tells → AreWords (texts words.now) tasks.Script → (asked : List Item) → Splits true (M.source machine.old).left asked [] →
         All IsQuestion asked → (d : Damage) → result ≡ Status.Damaged d → (loaded : History) × Spells (M.disk machine.old).holds.journal (bodies_of loaded)
         × AreMadeUpTo loaded (M.disk machine.old).holds asked d (M.sink machine.old).shown (M.sink machine.new).shown }
+    // Where each item of such a script asks what is found, the bytes that were read of Pages by the end are those of the pieces that were missed:
+    // the items ask in their order for the pages of the lists that are chosen, and what was read of a page isn't read again while it is kept.
+    ensures reads { M.source_tells → M.sink_tells → M.disk_tells → AreWords (texts words.now) tasks.Script → (asked : List Item) → Splits true (M.source machine.old).left asked [] →
+        All IsAsking asked → result ≡ Status.Done → (loaded : History) × Spells (M.disk machine.old).holds.journal (bodies_of loaded)
+        × ReadsMissed loaded (M.disk machine.old).holds.pages asked (M.disk machine.old).bytes_read.pages (M.disk machine.new).bytes_read.pages }
     // From the history that the journal stands for: one run of the abstract machine over the items of the bytes pulled, what is shown of it
     // and when, what each image left at any moment stands for, and where the input stood.
     ensures headline { M.source_tells → M.sink_tells → M.disk_tells → AreWords (texts words.now) tasks.Script → (h : History) → Stands h (M.disk machine.old).holds →

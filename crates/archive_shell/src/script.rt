@@ -9,6 +9,7 @@ ghost use Rattle.archive_state.specs.Stands.{Stands, IsNotArchive, bodies_of};
 ghost use Rattle.gate_journal.specs.Spelled.{Spells};
 ghost use Rattle.commands.specs.declared.command.Item.{Item};
 ghost use Rattle.archive_shell.specs.Damages.{IsPulled, ShowsDamage};
+ghost use Rattle.archive_shell.specs.Fetching.{IsAsking, ReadsMissed};
 ghost use Rattle.archive_shell.specs.Questions.{AreMade, AreMadeUpTo, IsQuestion};
 ghost use Rattle.archive_shell.specs.Headline.{Headline, MachineState};
 
@@ -38,6 +39,9 @@ pub(crate) fn run_script<M: Machine>(alloc: Global, machine: &mut M) -> Status
     ensures stopped { M.source_tells → M.sink_tells → M.disk_tells → (asked : List Item) → Splits true (M.source machine.old).left asked [] →
         All IsQuestion asked → (d : Damage) → result ≡ Status.Damaged d → (loaded : History) × Spells (M.disk machine.old).holds.journal (bodies_of loaded)
         × AreMadeUpTo loaded (M.disk machine.old).holds asked d (M.sink machine.old).shown (M.sink machine.new).shown }
+    ensures reads { M.source_tells → M.sink_tells → M.disk_tells → (asked : List Item) → Splits true (M.source machine.old).left asked [] →
+        All IsAsking asked → result ≡ Status.Done → (loaded : History) × Spells (M.disk machine.old).holds.journal (bodies_of loaded)
+        × ReadsMissed loaded (M.disk machine.old).holds.pages asked (M.disk machine.old).bytes_read.pages (M.disk machine.new).bytes_read.pages }
     ensures left_alone { M.disk_tells → (at : ℕ) → IsNotArchive (M.disk machine.old).holds at →
         (M.source machine.new ≡ M.source machine.old) × (M.sink machine.new ≡ M.sink machine.old)
         × Syncs (M.disk machine.old) (M.disk machine.new) }

@@ -1,18 +1,18 @@
 //! Going over the items of the input.
-ghost use Rattle.std.specs.Prelude.{◌≡◌, ◌<◌, ◌≤◌, ◌^◌, ◌++◌, [], List, OnOk, IsErrOf, MatchResult, ℕ};
+ghost use Rattle.std.specs.Prelude.{◌≡◌, ◌<◌, ◌≤◌, ◌^◌, ◌++◌, [], List, OnOk, IfErr, IsErrOf, MatchResult, ℕ};
 ghost use Rattle.machine_model.specs.Areas.{Bytes};
-ghost use Rattle.machine_model.specs.Causes.{Rose};
 ghost use Rattle.machine_model.specs.Pulls.{Pull};
 ghost use Rattle.machine_model.specs.States.{SourceState};
 ghost use Rattle.commands.specs.declared.command.Item.{Item};
 ghost use Rattle.record_codec.specs.declared.entry.Entry.{Entry};
 ghost use Rattle.archive_state.specs.Histories.{History};
-ghost use Rattle.archive_core.specs.States.{StandsFor};
+ghost use Rattle.archive_core.specs.States.{CacheStands, StandsFor};
 ghost use Rattle.archive_shell.specs.Damages.{IsPulled, Spoils};
 ghost use Rattle.archive_shell.specs.Headline.{MachineState};
 ghost use Rattle.archive_shell.specs.Asking.{Asking, HasEnded};
+ghost use Rattle.archive_shell.specs.Causes.{IsLater, IsLeft, MayEnd};
 ghost use Rattle.archive_shell.specs.Serving.{Pulling, Ends, Serving, Serves};
-ghost use Rattle.archive_shell.specs.Turns.{CanGoOn, GoesOnFrom};
+ghost use Rattle.archive_shell.specs.Turns.{CanGoOn};
 
 use crate::carry_out::carry_out;
 use crate::status::Status;
@@ -32,18 +32,12 @@ pub(crate) fn step<M: Machine>(
     page: &mut ReplyPage,
 ) -> Result<(), Status>
     requires ready { CanGoOn archive.old (M.disk machine.old).reach }
-    ensures source_later { (M.source machine.old).faults ≤ (M.source machine.new).faults }
-    ensures sink_later { (M.sink machine.old).faults ≤ (M.sink machine.new).faults }
-    ensures disk_later { (M.disk machine.old).faults ≤ (M.disk machine.new).faults }
-    ensures source_fault { IsErrOf result Status.Source → Rose (M.source machine.old).faults (M.source machine.new).faults }
-    ensures sink_fault { IsErrOf result Status.Sink → Rose (M.sink machine.old).faults (M.sink machine.new).faults }
-    ensures disk_fault { IsErrOf result Status.Disk → Rose (M.disk machine.old).faults (M.disk machine.new).faults }
-    ensures no_usage { IsErrOf result Status.Usage → ⊥ }
-    ensures not_full { (length : ℕ) → IsErrOf result (Status.NotEmpty length) → ⊥ }
-    ensures no_load { (at : ℕ) → IsErrOf result (Status.NotArchive at) → ⊥ }
-    ensures ready { OnOk result (CanGoOn archive.new (M.disk machine.new).reach) }
-    ensures follows { (h : History) → StandsFor archive.old h → OnOk result (GoesOnFrom h archive.new) }
-    ensures damaged { M.disk_tells → (h : History) → StandsFor archive.old h → (d : Damage) → IsErrOf result (Status.Damaged d) →
+    ensures later { IsLater (record { source = M.source machine.old; sink = M.sink machine.old; disk = M.disk machine.old })
+        (record { source = M.source machine.new; sink = M.sink machine.new; disk = M.disk machine.new }) }
+    ensures cause { IfErr result (λ status. MayEnd status (record { source = M.source machine.old; sink = M.sink machine.old; disk = M.disk machine.old })
+        (record { source = M.source machine.new; sink = M.sink machine.new; disk = M.disk machine.new })) }
+    ensures left { OnOk result (IsLeft M.disk_tells (M.disk machine.old) (M.disk machine.new) archive.old archive.new) }
+    ensures damaged { M.disk_tells → (h : History) → StandsFor archive.old h → CacheStands (M.disk machine.old) archive.old → (d : Damage) → IsErrOf result (Status.Damaged d) →
         (item : Item) × Spoils h (M.disk machine.new).holds.pages item d
         × (M.source_tells → (began : SourceState) → Pulling began (M.source machine.old) reader.old → IsPulled began (M.source machine.new) item) }
     ensures nearer { OnOk result (reader.old.passed < reader.new.passed) }
@@ -82,14 +76,11 @@ pub(crate) fn serve<M: Machine>(
     page: &mut ReplyPage,
 ) -> Status
     requires ready { CanGoOn archive.old (M.disk machine.old).reach }
-    ensures source_fault { result ≡ Status.Source → Rose (M.source machine.old).faults (M.source machine.new).faults }
-    ensures sink_fault { result ≡ Status.Sink → Rose (M.sink machine.old).faults (M.sink machine.new).faults }
-    ensures disk_fault { result ≡ Status.Disk → Rose (M.disk machine.old).faults (M.disk machine.new).faults }
-    ensures disk_later { (M.disk machine.old).faults ≤ (M.disk machine.new).faults }
-    ensures no_usage { result ≡ Status.Usage → ⊥ }
-    ensures not_full { (length : ℕ) → result ≡ Status.NotEmpty length → ⊥ }
-    ensures no_load { (at : ℕ) → result ≡ Status.NotArchive at → ⊥ }
-    ensures damaged { M.disk_tells → (h : History) → StandsFor archive.old h → (d : Damage) → result ≡ Status.Damaged d →
+    ensures later { IsLater (record { source = M.source machine.old; sink = M.sink machine.old; disk = M.disk machine.old })
+        (record { source = M.source machine.new; sink = M.sink machine.new; disk = M.disk machine.new }) }
+    ensures cause { MayEnd result (record { source = M.source machine.old; sink = M.sink machine.old; disk = M.disk machine.old })
+        (record { source = M.source machine.new; sink = M.sink machine.new; disk = M.disk machine.new }) }
+    ensures damaged { M.disk_tells → (h : History) → StandsFor archive.old h → CacheStands (M.disk machine.old) archive.old → (d : Damage) → result ≡ Status.Damaged d →
         (item : Item) × ((more : List Entry) × Spoils (h ++ more) (M.disk machine.new).holds.pages item d)
         × (M.source_tells → Pulling (M.source machine.old) (M.source machine.old) reader.old → IsPulled (M.source machine.old) (M.source machine.new) item) }
     ensures ends { M.source_tells → Pulling (M.source machine.old) (M.source machine.old) reader.old → Ends result (M.source machine.old) (M.source machine.new) }

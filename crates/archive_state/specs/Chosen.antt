@@ -1,12 +1,15 @@
 -- Which postings are read for a query over a window of time, how many they are, and the answer that is made from them. Of a word without a
 -- plan it is its whole list. Of a word with one it is the sublists of the segments that overlap the window, and the word's list from the
 -- horizon on where the window reaches past it.
-use Rattle.std.specs.Prelude.{◌≡◌, ℕ, ◌+◌, ◌^◌, nat_lt, if◌then◌else◌, true, List, [], ◌∷◌, ◌++◌, length, sum_by, Option, Some, None, Ok, Err, IsSome, is_some}
+use Rattle.std.specs.Prelude.{◌≡◌, ℕ, ◌+◌, ◌^◌, nat_lt, if◌then◌else◌, true, List, [], ◌∷◌, ◌++◌, length, Option, Some, None, Ok, Err, IsSome, is_some}
+use Rattle.std.specs.List.{flat_map}
 use Rattle.time_base.specs.declared.posting.Posting.{Posting}
+use Rattle.page_cache.specs.Caches.{Kept}
 use Rattle.postings.specs.Lists.{sublist}
 use Rattle.record_codec.specs.declared.plan.PlanEntry.{PlanEntry}
 use Rattle.sublist_store.specs.Segments.{seconds}
-use Rattle.sublist_store.specs.Gathering.{Outcome, Gathers, chosen, stored_size, bytes_of_all}
+use Rattle.sublist_store.specs.Gathering.{Outcome, Gathers, chosen, stored_size}
+use Rattle.sublist_store.specs.Caching.{pieces_of_all}
 use Rattle.sublist_store.specs.declared.why.Damage.{Damage}
 use Rattle.query_lang.specs.Grammar.{Query, IsRead}
 use Rattle.query_lang.specs.Meaning.{words_of}
@@ -87,14 +90,14 @@ pub record SpoilsAnswer (history : History) (pages : List ℕ) (a b : ℕ) (phra
   pub is_read : IsRead key_of phrase (Ok query)
   pub first : IsFirstDamage history pages a b (words_of query) damage
 
--- how many bytes of Pages are read of a word for [a, b), by its live plan if it has one: those of the places that are chosen
-abbrev pub bytes_chosen : Option PlanEntry → ℕ → ℕ → ℕ
-bytes_chosen None a b = 0
-bytes_chosen (Some plan) a b = let h = plan.horizon.seconds in bytes_of_all (chosen a b h true (seconds plan.cuts) plan.places)
+-- the pieces of the pages that are asked for, for a word over [a, b), by its live plan if it has one: those of the places that are chosen, in order
+abbrev pub pieces_chosen : List ℕ → Option PlanEntry → ℕ → ℕ → List Kept
+pieces_chosen pages None a b = []
+pieces_chosen pages (Some plan) a b = let h = plan.horizon.seconds in pieces_of_all pages (chosen a b h true (seconds plan.cuts) plan.places)
 
--- and of some words
-abbrev pub bytes_for : History → ℕ → ℕ → List (List ℕ) → ℕ
-bytes_for history a b words = sum_by (λ word. bytes_chosen (plan_of history word) a b) words
+-- and for some words, in their order
+abbrev pub pieces_for : History → List ℕ → ℕ → ℕ → List (List ℕ) → List Kept
+pieces_for history pages a b words = flat_map (λ word. pieces_chosen pages (plan_of history word) a b) words
 
 -- ---- the answers that are made from the lists chosen
 

@@ -1,15 +1,24 @@
--- The extents of live plans, and why their places are refused.
-use Rattle.std.proofs.Common.{◌≡◌, ℕ, zero, suc, ◌+◌, ◌<◌, List, [], ◌∷◌, ◌++◌, length, map, take, drop, get_or, refl, ap, subst, sym, ◌∙◌, arith, inl}
-use Rattle.std.proofs.lemmas.List.{append-nil, length-map, get_or_append_left, take_more, at_drop_more}
+-- The extents of live plans, the pages of theirs that are kept, and why their places are refused.
+use Rattle.std.proofs.Common.{◌≡◌, ℕ, zero, suc, ◌+◌, ◌<◌, List, [], ◌∷◌, ◌++◌, length, map, take, drop, get_or, true, refl, ap, subst, sym, ◌∙◌, arith, inl}
+use Rattle.std.proofs.lemmas.List.{append-nil, length-map, get_or_append_left, get_or_default, take_more, at_drop_more}
 use Rattle.std.proofs.lemmas.List.Concat.{flat_map-append}
 use Rattle.time_base.specs.declared.extent.Extent.{Extent}
+use Rattle.time_base.specs.declared.time.Time.{Time}
 use Rattle.page_store.specs.Live.{AreLive, IsNext, IsRefused}
 use Rattle.page_store.specs.declared.live.LiveError.TheVariants.{Clash}
+use Rattle.page_store.specs.Runs.{IsTaken}
 use Rattle.page_store.specs.Taken.{PagesState, HasTaken}
 use Rattle.page_store.proofs.OrderLemmas.{taken_swaps}
-use Rattle.page_store.proofs.StayLemmas.{apart_parts}
+use Rattle.page_store.proofs.StayLemmas.{apart_parts, taken_left, taken_right}
 use Rattle.page_store.proofs.TakenLemmas.{next_extent}
+use Rattle.page_cache.specs.Caches.{Kept, IsHeld, StandsFor}
+use Rattle.page_cache.specs.Laws.{LieIn}
+use Rattle.page_cache.specs.Pieces.{without_pages}
+use Rattle.page_cache.proofs.LawLemmas.{left-all, left-in-rest}
+use Rattle.sublist_store.specs.Caching.{without_all}
+use Rattle.sublist_store.specs.Gathering.{chosen}
 use Rattle.sublist_store.specs.Preparing.{extents}
+use Rattle.sublist_store.specs.Segments.{seconds}
 use Rattle.record_codec.specs.declared.place.Place.{Place}
 use Rattle.archive_state.specs.declared.stored.StoredPlan.{StoredPlan}
 use Rattle.archive_state.specs.Plans.{extents_of}
@@ -43,6 +52,57 @@ new_behind pages new live stored same has =
 pub extents_more : (plans : List StoredPlan) (i : ℕ) (s : StoredPlan) → i < length plans → s ≡ get_or plans i s → extents_all (take (i + 1) plans) ≡ extents_all (take i plans) ++ extents_of s.plan
 extents_more plans i s within same =
     ap extents_all (take_more plans i s within) ∙ extents_push (take i plans) (get_or plans i s) ∙ ap (λ (y : StoredPlan). extents_all (take i plans) ++ extents_of y.plan) (sym same)
+
+-- ---- the pages that are kept
+
+-- what stands there is this plan
+pub plan_is : (plans : List StoredPlan) (at : ℕ) (s t : StoredPlan) → at < length plans → s ≡ get_or plans at s → t ≡ get_or plans at t → s ≡ t
+plan_is plans at s t within one other = one ∙ get_or_default plans at s t within ∙ sym other
+
+-- the segments of a plan that are chosen, by its cuts and places
+pub chosen_is : (a b h : ℕ) (cuts these : List Time) (places those : List Place) → cuts ≡ these → places ≡ those
+    → chosen a b h true (seconds cuts) places ≡ chosen a b h true (seconds these) those
+chosen_is a b h cuts these places those one other =
+    ap (λ (c : List Time). chosen a b h true (seconds c) places) one ∙ ap (λ (p : List Place). chosen a b h true (seconds these) p) other
+
+-- the pages of the places of a plan are among those of all plans
+among_all : (plans : List StoredPlan) (at : ℕ) (s : StoredPlan) (p : ℕ) → at < length plans → s ≡ get_or plans at s → IsTaken (extents_of s.plan) p → IsTaken (extents_all plans) p
+among_all [] at s p within same taken = absurd (omega (arith, within))
+among_all (t ∷ plans) zero s p within same taken =
+    taken_left (extents_of t.plan) (extents_all plans) p (subst (λ (y : StoredPlan). IsTaken (extents_of y.plan) p) same taken)
+among_all (t ∷ plans) (suc at) s p within same taken =
+    taken_right (extents_of t.plan) (extents_all plans) p (among_all plans at s p (omega (arith, within)) same taken)
+
+pub plan_among : (plans : List StoredPlan) (at : ℕ) (s : StoredPlan) (places : List Place) → at < length plans → s ≡ get_or plans at s → places ≡ s.plan.places
+    → (p : ℕ) → IsTaken (extents places) p → IsTaken (extents_all plans) p
+plan_among plans at s places within same is p taken = among_all plans at s p within same (subst (λ (ps : List Place). IsTaken (extents ps) p) is taken)
+
+-- once the pages of some extents are given back, what is kept lies in the others
+without_lie : (before es after : List Extent) (cache : List Kept) → LieIn (before ++ (es ++ after)) cache → LieIn (before ++ after) (without_all es cache)
+without_lie before [] after cache lie = lie
+without_lie before (e ∷ es) after cache lie = without_lie before es after (without_pages e cache) (left-in-rest before (es ++ after) e cache lie)
+
+-- and stands for Pages as before
+pub without_stands : (es : List Extent) (cache : List Kept) (pages : List ℕ) → StandsFor cache pages → StandsFor (without_all es cache) pages
+without_stands [] cache pages stands = stands
+without_stands (e ∷ es) cache pages stands = without_stands es (without_pages e cache) pages (left-all (IsHeld pages) e cache stands)
+
+-- what lies in the extents of plans lies in those of one plan more
+pub lie_behind : (plans : List StoredPlan) (stored : StoredPlan) (cache : List Kept) → LieIn (extents_all plans) cache → LieIn (extents_all (plans ++ stored ∷ [])) cache
+lie_behind plans stored cache lie i d within =
+    subst (λ (es : List Extent). IsTaken es (get_or cache i d).page) (sym (extents_push plans stored))
+    (taken_left (extents_all plans) (extents_of stored.plan) (get_or cache i d).page (lie i d within))
+
+-- what is kept lies in the extents of the other plans and the new one, once those of the old one are given back
+pub lie_without : (live front back : List StoredPlan) (s stored : StoredPlan) (old : List Place) (cache : List Kept) → live ≡ front ++ s ∷ back → old ≡ s.plan.places
+    → LieIn (extents_all live) cache → LieIn (extents_all ((front ++ back) ++ stored ∷ [])) (without_all (extents old) cache)
+lie_without live front back s stored old cache same is lie =
+    let each : StoredPlan → List Extent = λ t. extents_of t.plan in
+    let split : extents_all live ≡ extents_all front ++ (extents_of s.plan ++ extents_all back) = ap extents_all same ∙ flat_map-append each front (s ∷ back) in
+    let parts = without_lie (extents_all front) (extents_of s.plan) (extents_all back) cache (subst (λ (es : List Extent). LieIn es cache) split lie) in
+    let joined = subst (λ (es : List Extent). LieIn es (without_all (extents_of s.plan) cache)) (sym (flat_map-append each front back)) parts in
+    let left = subst (λ (ps : List Place). LieIn (extents_all (front ++ back)) (without_all (extents ps) cache)) (sym is) joined in
+    lie_behind (front ++ back) stored (without_all (extents old) cache) left
 
 -- ---- the gate of the place with an index
 

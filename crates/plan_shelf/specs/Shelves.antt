@@ -4,14 +4,16 @@ use Rattle.std.specs.List.{flat_map}
 use Rattle.time_base.specs.declared.extent.Extent.{Extent}
 use Rattle.page_store.specs.Live.{AreLive, IsInside}
 use Rattle.page_store.specs.Taken.{PagesState}
+use Rattle.page_cache.specs.Caches.{Kept}
 use Rattle.record_codec.specs.declared.plan.PlanEntry.{PlanEntry}
 use Rattle.archive_state.specs.declared.stored.StoredPlan.{StoredPlan}
 use Rattle.archive_state.specs.Plans.{extents_of}
 
--- live plans in hand, the pages that are free, and for how many more plans there is room
+-- live plans in hand, which pages are free, the pages that are kept, and for how many more plans there is room
 pub record ShelfState : Type 0 where
   pub plans : List StoredPlan
   pub pages : PagesState
+  pub cache : List Kept
   pub room : ℕ
 
 -- the extents of the places of plans

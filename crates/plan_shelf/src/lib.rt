@@ -1,8 +1,9 @@
 //! The live plans in hand, and the pages that hold their sublists.
 //!
 //! A `Shelf` has of each word one plan at most, and knows which pages are free: those of no live plan
-//! and of no plan that is being stored (`specs/Shelves.antt`). A plan is made ready here: each of its
-//! sublists gets the lowest run of free pages that is long enough, and its entry is spelled
+//! and of no plan that is being stored (`specs/Shelves.antt`). Each page that it keeps to be read once
+//! is a live plan's; those of a plan that is replaced are kept no longer. A plan is made ready here:
+//! each of its sublists gets the lowest run of free pages that is long enough, and its entry is spelled
 //! (`specs/Readying.antt`); all memory is taken then. Nothing here writes.
 #![tactic(auto)]
 

@@ -92,6 +92,7 @@ pub fn make_ready(
     requires high { end ≤ 2 ^ 40 }
     requires few { count < 2 ^ 40 }
     ensures plans { shelf.new.plans ≡ shelf.old.plans }
+    ensures cache { shelf.new.cache ≡ shelf.old.cache }
     ensures ready { IfOk result (λ r. IsReady draft end count r) }
     ensures placed { (taken : List PlainExtent) → HasTaken shelf.old.pages taken → IfOk result (λ r. HasPlaces draft taken r.prepared.places) }
     ensures taken { (taken : List PlainExtent) → HasTaken shelf.old.pages taken → IfOk result (λ r. HasTaken shelf.new.pages (extents r.prepared.places ++ taken)) }

@@ -5,11 +5,13 @@ ghost use Rattle.machine_model.specs.Calls.{OnlyReads};
 ghost use Rattle.machine_model.specs.Causes.{Rose};
 ghost use Rattle.sublist_store.specs.Fetching.{IfDamaged, IfFailed};
 ghost use Rattle.archive_state.specs.declared.stored.StoredPlan.{StoredPlan as PlainStored};
-ghost use Rattle.archive_state.specs.Chosen.{GathersOf, bytes_chosen};
+ghost use Rattle.archive_state.specs.Chosen.{GathersOf, pieces_chosen};
 ghost use Rattle.time_base.specs.declared.extent.Extent.{Extent as PlainExtent};
 ghost use Rattle.page_store.specs.Live.{AreLive, IsRefused};
 ghost use Rattle.page_store.specs.Placing.{ArePlaced, HaveNoRoom};
 ghost use Rattle.page_store.specs.Taken.{HasTaken};
+ghost use Rattle.page_cache.specs.Caches.{StandsFor, after_asking_all, missed_by_all};
+ghost use Rattle.page_cache.specs.Laws.{LieIn};
 ghost use Rattle.postings.specs.Lists.{IsList};
 ghost use Rattle.record_codec.specs.declared.place.Layout.TheVariants.{Blocks};
 ghost use Rattle.sublist_store.specs.Preparing.{IsFor, extents, sizes, spellings};
@@ -30,7 +32,8 @@ use std::marker::Model;
 use sublist_store::{FetchError, Gathered, Prepared, Sublists};
 use time_base::{Extent, Key, Posting, Span, Time};
 
-/// Live plans, each of another word, and the pages that their sublists leave free.
+/// Live plans, each of another word, the pages that their sublists leave free, and the pages of theirs
+/// that were read and are kept.
 #[derive(Drop)]
 pub struct Shelf {
     plans: Vec<StoredPlan>,
@@ -39,18 +42,19 @@ pub struct Shelf {
 
 impl Model for Shelf {
     ghost use Rattle.std.specs.Prelude.{◌-◌, vec_len, vec_capacity};
+    ghost use Rattle.page_cache.specs.Laws.{LieIn};
     ghost use Rattle.archive_replay.specs.Live.{EachOnce};
-    ghost use Rattle.plan_shelf.specs.Shelves.{ShelfState};
+    ghost use Rattle.plan_shelf.specs.Shelves.{ShelfState, extents_all};
 
     ghost Value = { ShelfState };
 
-    ghost view = { λ s. record { plans = s.plans.items; pages = s.sublists; room = vec_capacity s.plans - vec_len s.plans } };
+    ghost view = { λ s. record { plans = s.plans.items; pages = s.sublists.pages; cache = s.sublists.cache; room = vec_capacity s.plans - vec_len s.plans } };
 
-    ghost invariant = { λ s. EachOnce s.plans.items };
+    ghost invariant = { λ s. EachOnce s.plans.items × LieIn (extents_all s.plans.items) s.sublists.cache };
 }
 
 impl Shelf {
-    /// The shelf of these live plans, in Pages of so many bytes.
+    /// The shelf of these live plans, in Pages of so many bytes. No page is kept yet.
     ///
     /// `NotArchive`: a place lies outside Pages or shares a page with an earlier one, which shows at the
     /// gate of the first such place's plan. `Memory`: there was none. It is never `Failed`.
@@ -60,6 +64,7 @@ impl Shelf {
         ensures plans { IfOk result (λ s. s.plans ≡ plans.items) }
         ensures taken { IfOk result (λ s. HasTaken s.pages (extents_all plans.items)) }
         ensures live { IfOk result (λ s. AreLive (extents_all plans.items) reach) }
+        ensures cache { IfOk result (λ s. s.cache ≡ []) }
         ensures bad { (at : ℕ) → IsErrOf result (LoadError.NotArchive at) → IsBadShelf plans.items reach at }
         ensures fair { IsErrOf result LoadError.Failed → ⊥ }
     {
@@ -94,8 +99,8 @@ impl Shelf {
         position_of(&self.plans, word)
     }
 
-    /// What Pages have in a window of the list of the plan that stands there. Costs what
-    /// `Sublists::gather` does.
+    /// What Pages have in a window of the list of the plan that stands there: where the cache stands for
+    /// Pages, what reads give. Costs what `Sublists::gather` does.
     pub fn gather<D: Disk>(
         &mut self,
         alloc: Global,
@@ -108,11 +113,16 @@ impl Shelf {
         ensures only { D.Disk.only disk.old disk.new }
         ensures failed { IfErr result (IfFailed (Rose (D.disk disk.old).faults (D.disk disk.new).faults)) }
         ensures same { OnlyReads (D.disk disk.old) (D.disk disk.new) }
-        ensures count { D.disk_tells → (s : PlainStored) → s ≡ get_or self.old.plans at s →
-            OnOk result ((D.disk disk.new).bytes_read ≡ replaced (D.disk disk.old).bytes_read Area.Pages ((D.disk disk.old).bytes_read.pages + bytes_chosen (Some s.plan) span.from span.to)) }
-        ensures gathered { D.disk_tells → (s : PlainStored) → s ≡ get_or self.old.plans at s → IfOk result (λ g. GathersOf (D.disk disk.old).holds.pages s.plan span.from span.to (Ok (g.list.items, g.read))) }
-        ensures damaged { D.disk_tells → (s : PlainStored) → s ≡ get_or self.old.plans at s → IfErr result (IfDamaged (λ d. GathersOf (D.disk disk.old).holds.pages s.plan span.from span.to (Err d))) }
-        ensures kept { self.new ≡ self.old }
+        // The pages of the places that are chosen are asked for, in order.
+        ensures asked { D.disk_tells → StandsFor self.old.cache (D.disk disk.old).holds.pages → (s : PlainStored) → s ≡ get_or self.old.plans at s →
+            OnOk result (self.new.cache ≡ after_asking_all (pieces_chosen (D.disk disk.old).holds.pages (Some s.plan) span.from span.to) self.old.cache) }
+        // Those that are missed are read, and nothing else is.
+        ensures count { D.disk_tells → StandsFor self.old.cache (D.disk disk.old).holds.pages → (s : PlainStored) → s ≡ get_or self.old.plans at s →
+            OnOk result ((D.disk disk.new).bytes_read ≡ replaced (D.disk disk.old).bytes_read Area.Pages ((D.disk disk.old).bytes_read.pages + missed_by_all (pieces_chosen (D.disk disk.old).holds.pages (Some s.plan) span.from span.to) self.old.cache)) }
+        ensures gathered { D.disk_tells → StandsFor self.old.cache (D.disk disk.old).holds.pages → (s : PlainStored) → s ≡ get_or self.old.plans at s → IfOk result (λ g. GathersOf (D.disk disk.old).holds.pages s.plan span.from span.to (Ok (g.list.items, g.read))) }
+        ensures damaged { D.disk_tells → StandsFor self.old.cache (D.disk disk.old).holds.pages → (s : PlainStored) → s ≡ get_or self.old.plans at s → IfErr result (IfDamaged (λ d. GathersOf (D.disk disk.old).holds.pages s.plan span.from span.to (Err d))) }
+        ensures stays { D.disk_tells → StandsFor self.old.cache (D.disk disk.old).holds.pages → StandsFor self.new.cache (D.disk disk.new).holds.pages }
+        ensures kept { self.new ≡ record (self.old) { cache = self.new.cache } }
     {
         let plan = &self.plans[at].plan;
         self.sublists.gather(
@@ -138,6 +148,7 @@ impl Shelf {
         requires list { IsList list.now }
         requires taken { (taken : List PlainExtent) × HasTaken self.old.pages taken }
         ensures plans { self.new.plans ≡ self.old.plans }
+        ensures cache { self.new.cache ≡ self.old.cache }
         ensures room { self.new.room ≡ self.old.room }
         ensures spelled { IfOk result (λ p. p.spellings ≡ spellings Blocks list.now (seconds cuts.now) horizon.seconds) }
         ensures each { IfOk result (λ p. AllZip IsFor p.places p.spellings) }
@@ -154,14 +165,16 @@ impl Shelf {
     pub fn forget(&mut self, prepared: Prepared)
         requires taken { (live : List PlainExtent) × HasTaken self.old.pages (extents prepared.places ++ live) }
         ensures plans { self.new.plans ≡ self.old.plans }
+        ensures cache { self.new.cache ≡ self.old.cache }
         ensures freed { (live : List PlainExtent) → HasTaken self.old.pages (extents prepared.places ++ live) → HasTaken self.new.pages live }
     {
         self.sublists.forget(prepared);
     }
 
-    /// The store of the sublists. Constant cost.
+    /// The store of the sublists, whose kept pages are those of the plans' places alone. Constant cost.
     pub fn sublists(&self) -> &Sublists
-        ensures { result.now ≡ self.now.pages }
+        ensures value { result.now ≡ record { pages = self.now.pages; cache = self.now.cache } }
+        ensures lie { LieIn (extents_all self.now.plans) self.now.cache }
     {
         &self.sublists
     }
@@ -170,19 +183,21 @@ impl Shelf {
     pub fn make_room(&mut self) -> Result<(), AllocError>
         ensures plans { self.new.plans ≡ self.old.plans }
         ensures pages { self.new.pages ≡ self.old.pages }
+        ensures cache { self.new.cache ≡ self.old.cache }
         ensures room { OnOk result (1 ≤ self.new.room) }
     {
         self.plans.reserve(1)
     }
 
-    /// A plan takes the place of the one that its word had, whose pages are free then. Takes no
-    /// memory. Costs a search among the plans and what giving each old place back does.
+    /// A plan takes the place of the one that its word had, whose pages are free then and kept no longer.
+    /// Takes no memory. Costs a search among the plans and what giving each old place back does.
     pub fn put(&mut self, stored: StoredPlan, prepared: Prepared)
         requires room { 1 ≤ self.old.room }
         requires places { extents stored.plan.places ≡ extents prepared.places }
         requires taken { HasTaken self.old.pages (extents prepared.places ++ extents_all self.old.plans) }
         ensures plans { self.new.plans ≡ with_plan self.old.plans stored }
         ensures taken { HasTaken self.new.pages (extents_all self.new.plans) }
+        ensures stays { (pages : List ℕ) → StandsFor self.old.cache pages → StandsFor self.new.cache pages }
     {
         match put_live(&mut self.plans, stored) {
             Some(old) => self.sublists.adopt(prepared, old.plan.places.as_slice()),

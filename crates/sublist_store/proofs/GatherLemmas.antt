@@ -1,20 +1,17 @@
 -- One segment more of those that overlap a window.
-use Rattle.std.proofs.Common.{◌≡◌, ℕ, ◌+◌, ◌<◌, ◌≤◌, ◌==◌, zero, suc, add-one, add-zero, zero-add, add_assoc, All, Bool, true, false, ◌&&◌, if◌then◌else◌, nat_lt, List, [], ◌∷◌, ◌++◌, length, drop, get_or, refl, ap, sym, subst, ◌∙◌, arith, sum_by}
+use Rattle.std.proofs.Common.{◌≡◌, ℕ, ◌+◌, ◌<◌, ◌==◌, zero, suc, add-one, All, Bool, true, false, ◌&&◌, if◌then◌else◌, nat_lt, List, [], ◌∷◌, ◌++◌, length, drop, get_or, refl, ap, sym, subst, ◌∙◌, arith, sum_by}
 use Rattle.std.proofs.Math.Seq.{drop-cons}
-use Rattle.std.proofs.lemmas.List.{drop_all}
 use Rattle.std.proofs.lemmas.List.Sums.{sum_by-cons}
 use Rattle.time_base.specs.declared.time.Time.{Time}
 use Rattle.record_codec.specs.declared.place.Place.{Place}
 use Rattle.std.proofs.lemmas.List.Elements.{All-tail}
-use Rattle.machine_model.specs.Areas.{Both, replaced}
 use Rattle.machine_model.specs.States.{DiskState}
-use Rattle.machine_model.specs.declared.area.Area.TheVariants.{Pages}
 use Rattle.page_store.specs.Live.{IsInside}
 use Rattle.sublist_store.specs.Fetching.{IfDamaged}
 use Rattle.sublist_store.specs.declared.why.FetchError.{FetchError}
 use Rattle.sublist_store.specs.declared.why.FetchError.TheVariants.{Failed, Damaged, Memory}
 use Rattle.sublist_store.specs.Segments.{seconds, next_cut}
-use Rattle.sublist_store.specs.Gathering.{Chosen, chosen, overlapping, bytes_of_all}
+use Rattle.sublist_store.specs.Gathering.{Chosen, chosen, overlapping}
 use Rattle.sublist_store.specs.declared.why.Damage.{Damage}
 
 -- the segments that overlap the window, from segment k on
@@ -55,38 +52,6 @@ pub chosen_takes : (a b h : ℕ) (cuts : List Time) (places : List Place) (k : �
     → chosen_from a b h cuts places k ≡ c ∷ chosen_from a b h cuts places (k + 1)
 chosen_takes a b h cuts places k c at meets =
     chosen_one a b h cuts places k c at ∙ ap (λ (t : Bool). (if t then c ∷ [] else []) ++ chosen_from a b h cuts places (k + 1)) meets
-
--- behind the last there is none
-pub chosen_ends : (a b h : ℕ) (cuts : List Time) (places : List Place) (k : ℕ) → length cuts ≤ k → [] ≡ chosen_from a b h cuts places k
-chosen_ends a b h cuts places k all = ends (k == 0) (drop k cuts) (drop k places) (drop_all k cuts all)
-  where
-    ends : (first : Bool) (cs : List Time) (ps : List Place) → cs ≡ [] → [] ≡ chosen a b h first (seconds cs) ps
-    ends first [] ps none = refl
-    ends first (c ∷ cs) ps none = absurd (omega (arith, ap (λ (l : List Time). length l) none))
-
--- ---- bytes read
-
--- So many bytes of Pages were read, and those of the rest make those of all.
-pub record HasRead (old now : Both ℕ) (rest all : List Chosen) : Type 0 where
-  pub count : ℕ
-  pub is : now ≡ replaced old Pages (old.pages + count)
-  pub left : count + bytes_of_all rest ≡ bytes_of_all all
-
-pub read_none : (old : Both ℕ) (all : List Chosen) → HasRead old old all all
-read_none old all = record { count = 0; is = ap (λ (n : ℕ). replaced old Pages n) (sym (add-zero old.pages)); left = zero-add (bytes_of_all all) }
-
-pub read_same : (old now : Both ℕ) (rest new all : List Chosen) → new ≡ rest → HasRead old now rest all → HasRead old now new all
-read_same old now rest new all same read = subst (λ (r : List Chosen). HasRead old now r all) (sym same) read
-
-pub read_more : (old mid now : Both ℕ) (rest new all : List Chosen) (c : Chosen) → rest ≡ c ∷ new → now ≡ replaced mid Pages (mid.pages + c.place.extent.bytes) → HasRead old mid rest all → HasRead old now new all
-read_more old mid now rest new all c is more read = record {
-  count = read.count + c.place.extent.bytes;
-  is = more ∙ ap (λ (m : Both ℕ). replaced m Pages (m.pages + c.place.extent.bytes)) read.is ∙ ap (λ (n : ℕ). replaced old Pages n) (add_assoc old.pages read.count c.place.extent.bytes);
-  left = omega (arith, read.left, ap bytes_of_all is, sum_by-cons (λ (x : Chosen). x.place.extent.bytes) c new);
-}
-
-pub read_all : (old now : Both ℕ) (rest all : List Chosen) → [] ≡ rest → HasRead old now rest all → now ≡ replaced old Pages (old.pages + bytes_of_all all)
-read_all old now rest all none read = read.is ∙ ap (λ (n : ℕ). replaced old Pages (old.pages + n)) (sym (add-zero read.count) ∙ ap (λ (r : List Chosen). read.count + bytes_of_all r) none ∙ read.left)
 
 -- ---- one place more
 

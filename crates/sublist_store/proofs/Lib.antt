@@ -1,5 +1,7 @@
 pub mod Longer
 pub mod GatherLemmas
+pub mod AskLemmas
+pub mod KeptLemmas
 pub mod PlaceLemmas
 pub mod WriteLemmas
 pub mod HoldLemmas

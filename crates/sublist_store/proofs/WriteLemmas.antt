@@ -1,8 +1,9 @@
 -- One piece more that is written.
-use Rattle.std.proofs.Common.{◌≡◌, Bool, true, false, ℕ, ◌+◌, ◌*◌, ◌<◌, ◌≤◌, ◌==◌, if◌then◌else◌, max, List, [], ◌∷◌, ◌++◌, length, drop, get_or, zero, suc, add-one, All, refl, ap, sym, subst, ◌∙◌, arith}
+use Rattle.std.proofs.Common.{◌≡◌, Bool, true, false, ℕ, ◌+◌, ◌*◌, ◌<◌, ◌≤◌, ◌==◌, if◌then◌else◌, max, List, [], ◌∷◌, ◌++◌, length, drop, get_or, zero, suc, add-one, All, Result, OnOk, refl, ap, sym, subst, ◌∙◌, arith}
 use Rattle.std.proofs.Math.Seq.{drop-cons}
 use Rattle.std.proofs.lemmas.List.{map-append, append-nil, append_assoc, drop_all}
 use Rattle.std.proofs.lemmas.List.Elements.{All-nil, All-cons, All-head, All-tail, All-append}
+use Rattle.std.proofs.lemmas.Result.{on_ok_weaker}
 use Rattle.std.specs.List.{AllZip}
 use Rattle.machine_model.specs.States.{DiskState}
 use Rattle.machine_model.specs.Calls.{Syncs, IsSynced}
@@ -11,12 +12,15 @@ use Rattle.time_base.specs.declared.extent.Extent.{Extent}
 use Rattle.record_codec.specs.declared.place.Place.{Place}
 use Rattle.page_store.specs.Crash.{ChangesOnly}
 use Rattle.page_store.specs.Live.{IsInside}
+use Rattle.page_store.specs.Runs.{IsTaken}
 use Rattle.page_store.specs.Ranges.{range_of}
 use Rattle.page_store.specs.Taken.{PagesState, HasTaken, AreApart}
 use Rattle.page_store.specs.Wrote.{Piece, Wrote, Stored, extents_of, ranges_of, reach_with}
 use Rattle.page_store.proofs.ChangeLemmas.{changes_nothing, changes_join, changes_more}
 use Rattle.page_store.proofs.StayLemmas.{apart_left}
 use Rattle.page_store.proofs.WroteLemmas.{wrote_nothing, wrote_join, ranges_join, stored_synced}
+use Rattle.page_cache.specs.Caches.{Kept, StandsFor}
+use Rattle.page_cache.proofs.LawLemmas.{writes-stand}
 use Rattle.sublist_store.specs.Preparing.{IsFor, extents, pieces_of}
 
 abbrev pub pieces_from : List Place → List (List ℕ) → ℕ → List Piece
@@ -144,6 +148,14 @@ pub pieces_apart : (store : PagesState) (places : List Place) (all : List (List 
 pieces_apart store places all live each has =
     let A : List Extent → Type 0 = λ es. AreApart es in
     subst A (sym (extents_same places all each)) (apart_left (extents places) live has.apart)
+
+-- pages that are kept and aren't among the places stand as they did
+pub stands_still : {T E : Type 0} (result : Result T E) (cache : List Kept) (places : List Place) (all : List (List ℕ)) (old new : DiskState) → AllZip IsFor places all
+    → All (λ (k : Kept). IsTaken (extents places) k.page → ⊥) cache → OnOk result (Stored (pieces_of places all) old new) → StandsFor cache old.holds.pages → OnOk result (StandsFor cache new.holds.pages)
+stands_still result cache places all old new each unkept stored stands =
+    let U : List Extent → Type 0 = λ es. All (λ (k : Kept). IsTaken es k.page → ⊥) cache in
+    let apart : U (extents_of (pieces_of places all)) = subst U (sym (extents_same places all each)) unkept in
+    on_ok_weaker result (λ (s : Stored (pieces_of places all) old new). writes-stand cache (extents_of (pieces_of places all)) old.holds.pages new.holds.pages apart s.wrote.elsewhere stands) stored
 
 -- the places and the bytes are as many, and each is for the other
 pub as_many : (places : List Place) (all : List (List ℕ)) → AllZip IsFor places all → length all ≡ length places

@@ -1,5 +1,5 @@
 -- What is gathered from the places of a plan for a window: by the bytes that were read, and nothing else.
-use Rattle.std.specs.Prelude.{◌≡◌, ◌⊎◌, ℕ, ◌+◌, Bool, true, false, ◌&&◌, if◌then◌else◌, nat_lt, List, [], ◌∷◌, ◌++◌, length, sum_by, Result, Ok, Err}
+use Rattle.std.specs.Prelude.{◌≡◌, ◌⊎◌, ℕ, ◌+◌, Bool, true, false, ◌&&◌, if◌then◌else◌, nat_lt, List, [], ◌∷◌, ◌++◌, length, Result, Ok, Err}
 use Rattle.time_base.specs.declared.posting.Posting.{Posting}
 use Rattle.record_codec.specs.declared.place.Layout.{Layout}
 use Rattle.record_codec.specs.declared.place.Place.{Place}
@@ -57,10 +57,6 @@ abbrev pub Refuses : Layout → ℕ → List ℕ → Chosen → List Posting →
 Refuses layout h pages c union why =
     Explains layout c.place.digest c.from c.to h (bytes_of c pages) why
     ⊎ ((list : List Posting) × (IsFetched layout c.place.digest c.from c.to h (bytes_of c pages) list × Parts c.first union list why))
-
--- the bytes of the segments' places, added up
-abbrev pub bytes_of_all : List Chosen → ℕ
-bytes_of_all segments = sum_by (λ (c : Chosen). c.place.extent.bytes) segments
 
 -- the list and how many postings were read for it, or what is damaged
 abbrev pub Outcome : Type 0

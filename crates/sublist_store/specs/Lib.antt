@@ -5,4 +5,5 @@ pub mod Checking
 pub mod Gathering
 pub mod Joining
 pub mod Preparing
+pub mod Caching
 pub mod Laws

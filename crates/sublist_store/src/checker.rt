@@ -11,10 +11,11 @@ use sha2::{Digest, Sha256};
 use std::alloc::{AllocError, Global};
 use std::marker::Model;
 use sublist_codec::ListError;
-use time_base::Posting;
+use time_base::{Extent, Posting};
 
-/// The most bytes that checked bytes and their lists take together: 64 MiB. A place that takes more
-/// by itself is remembered until another one is checked.
+/// The most bytes that checked bytes and their lists take together: 64 MiB, which is more than places
+/// in 1,024 pages take. A place that takes more by itself, or that has no bytes, is remembered until
+/// another one is checked.
 const MOST_BYTES: usize = 1 << 26;
 
 /// The bytes of a posting in memory, and what a place takes beside its bytes and postings.
@@ -210,7 +211,7 @@ impl Checker {
             return;
         };
         let size = newest.size();
-        if size > MOST_BYTES {
+        if newest.bytes.is_empty() || size > MOST_BYTES {
             return;
         }
         match self.known.push(newest.page, newest) {
@@ -220,6 +221,17 @@ impl Checker {
         }
         self.size = self.size.saturating_add(size);
         self.make_room();
+    }
+
+    /// Forgets what stood in an extent, which no place has any longer.
+    pub(crate) fn let_go(&mut self, extent: Extent) {
+        self.put_away();
+        if extent.bytes == 0 {
+            return;
+        }
+        if let Some(old) = self.known.pop(&extent.first) {
+            self.size = self.size.saturating_sub(old.size());
+        }
     }
 
     /// Forgets what was used longest ago, until the others take few enough bytes.

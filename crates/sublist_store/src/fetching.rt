@@ -2,14 +2,19 @@
 ghost use Rattle.std.specs.Prelude.{◌≡◌, ◌+◌, ◌*◌, ◌≤◌, ℕ, true, List, All, length, IfOk, OnOk, IfErr, MatchOption};
 ghost use Rattle.machine_model.specs.Areas.{replaced};
 ghost use Rattle.machine_model.specs.Causes.{Rose};
+ghost use Rattle.time_base.specs.declared.extent.Extent.{Extent};
 ghost use Rattle.page_store.specs.Ranges.{bytes_in};
+ghost use Rattle.page_store.specs.Runs.{IsPageOf, IsTaken};
+ghost use Rattle.page_cache.specs.Caches.{after_asking_all, missed_by_all, StandsFor};
+ghost use Rattle.page_cache.specs.Laws.{LieIn};
+ghost use Rattle.sublist_store.specs.Caching.{pieces_at};
 ghost use Rattle.sublist_store.specs.Layouts.{Spells};
 ghost use Rattle.sublist_store.specs.Fetching.{IsFetched, IsFirstAstray, Explains, IfDamaged, IfFailed, belongs};
 
 use crate::checker::{CheckError, Checker};
 use crate::why::{Damage, FetchError, Why};
 use machine_model::{Area, Disk};
-use page_store::Pages;
+use page_cache::{PageCache, PageError};
 use record_codec::{Layout, Place};
 use std::alloc::Global;
 use time_base::{Posting, Time};
@@ -22,9 +27,9 @@ pub(crate) struct Bounds {
     pub(crate) horizon: u64,
 }
 
-/// Reads a place's bytes, and lends the list that they spell.
+/// Asks for a place's bytes, and lends the list that they spell.
 pub(crate) fn lend<'c, D: Disk>(
-    pages: &Pages,
+    cache: &mut PageCache,
     checker: &'c mut Checker,
     alloc: Global,
     disk: &mut D,
@@ -36,18 +41,26 @@ pub(crate) fn lend<'c, D: Disk>(
     ensures only { D.Disk.only disk.old disk.new }
     ensures failed { IfErr result (IfFailed (Rose (D.disk disk.old).faults (D.disk disk.new).faults)) }
     ensures same { D.disk disk.new ≡ record (D.disk disk.old) { faults = (D.disk disk.new).faults; bytes_read = (D.disk disk.new).bytes_read } }
-    ensures count { D.disk_tells → OnOk result ((D.disk disk.new).bytes_read ≡ replaced (D.disk disk.old).bytes_read Area.Pages ((D.disk disk.old).bytes_read.pages + place.now.extent.bytes)) }
+    ensures asked { D.disk_tells → StandsFor cache.old (D.disk disk.old).holds.pages → OnOk result (cache.new ≡ after_asking_all (pieces_at (D.disk disk.old).holds.pages place.now.extent) cache.old) }
+    ensures count { D.disk_tells → StandsFor cache.old (D.disk disk.old).holds.pages
+        → OnOk result ((D.disk disk.new).bytes_read ≡ replaced (D.disk disk.old).bytes_read Area.Pages ((D.disk disk.old).bytes_read.pages
+        + missed_by_all (pieces_at (D.disk disk.old).holds.pages place.now.extent) cache.old)) }
+    ensures stays { D.disk_tells → StandsFor cache.old (D.disk disk.old).holds.pages → StandsFor cache.new (D.disk disk.new).holds.pages }
+    ensures lie { (taken : List Extent) → ((p : ℕ) → IsPageOf place.now.extent p → IsTaken taken p) → LieIn taken cache.old → LieIn taken cache.new }
     ensures spelled { IfOk result (λ list. (bytes : List ℕ) × ((length bytes ≡ place.now.extent.bytes) × Spells layout bytes list.now)) }
-    ensures found { D.disk_tells → IfOk result (λ list. IsFetched layout place.now.digest bounds.from bounds.to bounds.horizon (bytes_in place.now.extent (D.disk disk.old).holds.pages) list.now) }
-    ensures damaged { D.disk_tells → IfErr result (IfDamaged (λ d. (d.page ≡ place.now.extent.first) × Explains layout place.now.digest bounds.from bounds.to bounds.horizon (bytes_in place.now.extent (D.disk disk.old).holds.pages) d.why)) }
+    ensures found { D.disk_tells → StandsFor cache.old (D.disk disk.old).holds.pages
+        → IfOk result (λ list. IsFetched layout place.now.digest bounds.from bounds.to bounds.horizon (bytes_in place.now.extent (D.disk disk.old).holds.pages) list.now) }
+    ensures damaged { D.disk_tells → StandsFor cache.old (D.disk disk.old).holds.pages
+        → IfErr result (IfDamaged (λ d. (d.page ≡ place.now.extent.first) × Explains layout place.now.digest bounds.from bounds.to bounds.horizon (bytes_in place.now.extent (D.disk disk.old).holds.pages) d.why)) }
 {
     let mut bytes = match vec![in alloc; 0; place.extent.bytes as usize] {
         Ok(bytes) => bytes,
         Err(_) => return Err(FetchError::Memory),
     };
-    match pages.read_extent(disk, place.extent, &mut bytes) {
+    match cache.read(disk, place.extent, &mut bytes) {
         Ok(()) => {}
-        Err(_) => return Err(FetchError::Failed),
+        Err(PageError::Failed) => return Err(FetchError::Failed),
+        Err(PageError::Memory) => return Err(FetchError::Memory),
     }
     sifted(checker, alloc, layout, place, &bytes, bounds)
 }

@@ -1,13 +1,19 @@
 //! Gathering the sublists of the segments that overlap a window.
-ghost use Rattle.std.specs.Prelude.{◌≡◌, [], ◌∷◌, ◌+◌, ◌*◌, ◌^◌, ◌==◌, ◌<◌, ◌≤◌, ◌&&◌, nat_lt, true, false, List, All, drop, length, sum_by, Ok, Err, IfOk, OnOk, IfErr};
+ghost use Rattle.std.specs.Prelude.{◌≡◌, [], ◌∷◌, ◌+◌, ◌*◌, ◌^◌, ◌==◌, ◌<◌, ◌≤◌, ◌&&◌, nat_lt, true, false, ℕ, List, All, drop, length, sum_by, Ok, Err, IfOk, OnOk, IfErr};
+ghost use Rattle.time_base.specs.declared.extent.Extent.{Extent};
 ghost use Rattle.record_codec.specs.declared.place.Place.{Place as PlainPlace};
 ghost use Rattle.machine_model.specs.Areas.{replaced};
 ghost use Rattle.machine_model.specs.Causes.{Rose};
 ghost use Rattle.postings.specs.Lists.{IsList};
 ghost use Rattle.page_store.specs.Live.{IsInside};
+ghost use Rattle.page_store.specs.Runs.{IsPageOf, IsTaken};
+ghost use Rattle.page_cache.specs.Caches.{after_asking_all, missed_by_all, StandsFor};
+ghost use Rattle.page_cache.specs.Laws.{LieIn};
+ghost use Rattle.sublist_store.specs.Caching.{pieces_at, pieces_of_all};
+ghost use Rattle.sublist_store.specs.Preparing.{extents};
 ghost use Rattle.sublist_store.specs.Segments.{seconds, next_cut};
 ghost use Rattle.sublist_store.specs.Fetching.{IfDamaged, IfFailed};
-ghost use Rattle.sublist_store.specs.Gathering.{Chosen, chosen, bytes_of_all, IsBare, Gathers};
+ghost use Rattle.sublist_store.specs.Gathering.{Chosen, chosen, IsBare, Gathers};
 ghost use Rattle.sublist_store.specs.Joining.{Paged, size_of_all, IsFound, AreFetched, RefusesAlone, StopsAt};
 
 use crate::checker::Checker;
@@ -16,7 +22,7 @@ use crate::joining::{Sublist, join_all};
 use crate::store::Sublists;
 use crate::why::{Damage, FetchError, Why};
 use machine_model::{Area, Disk};
-use page_store::Pages;
+use page_cache::PageCache;
 use record_codec::{Layout, Place};
 use std::alloc::Global;
 use time_base::{Posting, Span, Time};
@@ -38,10 +44,11 @@ pub(crate) struct Segment {
 }
 
 impl Sublists {
-    /// The union of the sublists of the segments that overlap the window, each read from its place.
-    /// The cuts are the left ends of the segments, the horizon is the end of the last, and places are
-    /// theirs. It costs a pass over the cuts, what the fetches do, and n log k for n postings in k
-    /// segments that are read; where two clash, for each segment a pass over the union so far.
+    /// The union of the sublists of the segments that overlap the window, each read from its place;
+    /// pages that are kept are not read again. The cuts are the left ends of the segments, the horizon
+    /// is the end of the last, and places are theirs. It costs a pass over the cuts, what the fetches
+    /// do, and n log k for n postings in k segments that are read; where two clash, for each segment a
+    /// pass over the union so far.
     pub fn gather<D: Disk>(
         &mut self,
         alloc: Global,
@@ -58,18 +65,27 @@ impl Sublists {
         ensures only { D.Disk.only disk.old disk.new }
         ensures failed { IfErr result (IfFailed (Rose (D.disk disk.old).faults (D.disk disk.new).faults)) }
         ensures same { D.disk disk.new ≡ record (D.disk disk.old) { faults = (D.disk disk.new).faults; bytes_read = (D.disk disk.new).bytes_read } }
-        // Exactly the bytes of the segments that overlap the window were read.
-        ensures count { D.disk_tells → OnOk result ((D.disk disk.new).bytes_read ≡ replaced (D.disk disk.old).bytes_read Area.Pages ((D.disk disk.old).bytes_read.pages
-            + bytes_of_all (chosen span.from span.to horizon.seconds true (seconds cuts.now) places.now))) }
         ensures list { IfOk result (λ g. IsList g.list.items) }
+        ensures pages { self.new.pages ≡ self.old.pages }
+        // The pages of the segments that overlap the window were asked for, in order.
+        ensures asked { D.disk_tells → StandsFor self.old.cache (D.disk disk.old).holds.pages
+            → OnOk result (self.new.cache ≡ after_asking_all (pieces_of_all (D.disk disk.old).holds.pages (chosen span.from span.to horizon.seconds true (seconds cuts.now) places.now)) self.old.cache) }
+        // Exactly what was missed of them was read.
+        ensures count { D.disk_tells → StandsFor self.old.cache (D.disk disk.old).holds.pages
+            → OnOk result ((D.disk disk.new).bytes_read ≡ replaced (D.disk disk.old).bytes_read Area.Pages ((D.disk disk.old).bytes_read.pages
+            + missed_by_all (pieces_of_all (D.disk disk.old).holds.pages (chosen span.from span.to horizon.seconds true (seconds cuts.now) places.now)) self.old.cache)) }
         // The list and the number read are what the bytes that reads give lead to.
-        ensures gathered { D.disk_tells → IfOk result (λ g. Gathers layout horizon.seconds (D.disk disk.old).holds.pages (chosen span.from span.to horizon.seconds true (seconds cuts.now) places.now) [] 0 (Ok (g.list.items, g.read))) }
+        ensures gathered { D.disk_tells → StandsFor self.old.cache (D.disk disk.old).holds.pages
+            → IfOk result (λ g. Gathers layout horizon.seconds (D.disk disk.old).holds.pages (chosen span.from span.to horizon.seconds true (seconds cuts.now) places.now) [] 0 (Ok (g.list.items, g.read))) }
         // And so is the damage.
-        ensures damaged { D.disk_tells → IfErr result (IfDamaged (λ d. Gathers layout horizon.seconds (D.disk disk.old).holds.pages (chosen span.from span.to horizon.seconds true (seconds cuts.now) places.now) [] 0 (Err d))) }
-        ensures pages { self.new ≡ self.old }
+        ensures damaged { D.disk_tells → StandsFor self.old.cache (D.disk disk.old).holds.pages
+            → IfErr result (IfDamaged (λ d. Gathers layout horizon.seconds (D.disk disk.old).holds.pages (chosen span.from span.to horizon.seconds true (seconds cuts.now) places.now) [] 0 (Err d))) }
+        ensures stays { D.disk_tells → StandsFor self.old.cache (D.disk disk.old).holds.pages → StandsFor self.new.cache (D.disk disk.new).holds.pages }
+        // Whatever is answered, what is kept lies in the extents that are taken, where the places do.
+        ensures lie { (taken : List Extent) → ((p : ℕ) → IsTaken (extents places.now) p → IsTaken taken p) → LieIn taken self.old.cache → LieIn taken self.new.cache }
     {
         gather_all(
-            &self.pages,
+            &mut self.cache,
             &mut self.checker,
             alloc,
             disk,
@@ -84,7 +100,7 @@ impl Sublists {
 
 /// The same with the store's parts.
 fn gather_all<D: Disk>(
-    pages: &Pages,
+    cache: &mut PageCache,
     checker: &mut Checker,
     alloc: Global,
     disk: &mut D,
@@ -100,15 +116,22 @@ fn gather_all<D: Disk>(
     ensures only { D.Disk.only disk.old disk.new }
     ensures failed { IfErr result (IfFailed (Rose (D.disk disk.old).faults (D.disk disk.new).faults)) }
     ensures same { D.disk disk.new ≡ record (D.disk disk.old) { faults = (D.disk disk.new).faults; bytes_read = (D.disk disk.new).bytes_read } }
-    ensures count { D.disk_tells → OnOk result ((D.disk disk.new).bytes_read ≡ replaced (D.disk disk.old).bytes_read Area.Pages ((D.disk disk.old).bytes_read.pages
-        + bytes_of_all (chosen span.from span.to horizon.seconds true (seconds cuts.now) places.now))) }
+    ensures asked { D.disk_tells → StandsFor cache.old (D.disk disk.old).holds.pages
+        → OnOk result (cache.new ≡ after_asking_all (pieces_of_all (D.disk disk.old).holds.pages (chosen span.from span.to horizon.seconds true (seconds cuts.now) places.now)) cache.old) }
+    ensures count { D.disk_tells → StandsFor cache.old (D.disk disk.old).holds.pages
+        → OnOk result ((D.disk disk.new).bytes_read ≡ replaced (D.disk disk.old).bytes_read Area.Pages ((D.disk disk.old).bytes_read.pages
+        + missed_by_all (pieces_of_all (D.disk disk.old).holds.pages (chosen span.from span.to horizon.seconds true (seconds cuts.now) places.now)) cache.old)) }
+    ensures stays { D.disk_tells → StandsFor cache.old (D.disk disk.old).holds.pages → StandsFor cache.new (D.disk disk.new).holds.pages }
+    ensures lie { (taken : List Extent) → ((p : ℕ) → IsTaken (extents places.now) p → IsTaken taken p) → LieIn taken cache.old → LieIn taken cache.new }
     ensures list { IfOk result (λ g. IsList g.list.items) }
-    ensures gathered { D.disk_tells → IfOk result (λ g. Gathers layout horizon.seconds (D.disk disk.old).holds.pages (chosen span.from span.to horizon.seconds true (seconds cuts.now) places.now) [] 0 (Ok (g.list.items, g.read))) }
-    ensures damaged { D.disk_tells → IfErr result (IfDamaged (λ d. Gathers layout horizon.seconds (D.disk disk.old).holds.pages (chosen span.from span.to horizon.seconds true (seconds cuts.now) places.now) [] 0 (Err d))) }
+    ensures gathered { D.disk_tells → StandsFor cache.old (D.disk disk.old).holds.pages
+        → IfOk result (λ g. Gathers layout horizon.seconds (D.disk disk.old).holds.pages (chosen span.from span.to horizon.seconds true (seconds cuts.now) places.now) [] 0 (Ok (g.list.items, g.read))) }
+    ensures damaged { D.disk_tells → StandsFor cache.old (D.disk disk.old).holds.pages
+        → IfErr result (IfDamaged (λ d. Gathers layout horizon.seconds (D.disk disk.old).holds.pages (chosen span.from span.to horizon.seconds true (seconds cuts.now) places.now) [] 0 (Err d))) }
 {
     let mut lists = Vec::new(alloc);
     let fetched = fetch_all(
-        pages, checker, alloc, disk, layout, cuts, horizon, places, span, &mut lists,
+        cache, checker, alloc, disk, layout, cuts, horizon, places, span, &mut lists,
     );
     // A clash among the lists in front of a segment that is refused is the first damage.
     let list = match join_all(alloc, lists) {
@@ -124,7 +147,7 @@ fn gather_all<D: Disk>(
 /// Fetches the sublists of the segments that overlap the window, in order, up to the first one that is
 /// refused, and counts their postings.
 fn fetch_all<D: Disk>(
-    pages: &Pages,
+    cache: &mut PageCache,
     checker: &mut Checker,
     alloc: Global,
     disk: &mut D,
@@ -142,12 +165,19 @@ fn fetch_all<D: Disk>(
     ensures only { D.Disk.only disk.old disk.new }
     ensures failed { IfErr result (IfFailed (Rose (D.disk disk.old).faults (D.disk disk.new).faults)) }
     ensures same { D.disk disk.new ≡ record (D.disk disk.old) { faults = (D.disk disk.new).faults; bytes_read = (D.disk disk.new).bytes_read } }
-    ensures count { D.disk_tells → OnOk result ((D.disk disk.new).bytes_read ≡ replaced (D.disk disk.old).bytes_read Area.Pages ((D.disk disk.old).bytes_read.pages
-        + bytes_of_all (chosen span.from span.to horizon.seconds true (seconds cuts.now) places.now))) }
+    ensures asked { D.disk_tells → StandsFor cache.old (D.disk disk.old).holds.pages
+        → OnOk result (cache.new ≡ after_asking_all (pieces_of_all (D.disk disk.old).holds.pages (chosen span.from span.to horizon.seconds true (seconds cuts.now) places.now)) cache.old) }
+    ensures count { D.disk_tells → StandsFor cache.old (D.disk disk.old).holds.pages
+        → OnOk result ((D.disk disk.new).bytes_read ≡ replaced (D.disk disk.old).bytes_read Area.Pages ((D.disk disk.old).bytes_read.pages
+        + missed_by_all (pieces_of_all (D.disk disk.old).holds.pages (chosen span.from span.to horizon.seconds true (seconds cuts.now) places.now)) cache.old)) }
+    ensures stays { D.disk_tells → StandsFor cache.old (D.disk disk.old).holds.pages → StandsFor cache.new (D.disk disk.new).holds.pages }
+    ensures lie { (taken : List Extent) → ((p : ℕ) → IsTaken (extents places.now) p → IsTaken taken p) → LieIn taken cache.old → LieIn taken cache.new }
     ensures lists { All (λ (l : Paged). IsList l.1) lists.new.items }
     ensures read { IfOk result (λ n. n ≡ size_of_all lists.new.items) }
-    ensures fetched { D.disk_tells → OnOk result (AreFetched layout horizon.seconds (D.disk disk.old).holds.pages (chosen span.from span.to horizon.seconds true (seconds cuts.now) places.now) lists.new.items []) }
-    ensures stopped { D.disk_tells → IfErr result (λ e. (rest : List Chosen) × (AreFetched layout horizon.seconds (D.disk disk.old).holds.pages (chosen span.from span.to horizon.seconds true (seconds cuts.now) places.now) lists.new.items rest
+    ensures fetched { D.disk_tells → StandsFor cache.old (D.disk disk.old).holds.pages
+        → OnOk result (AreFetched layout horizon.seconds (D.disk disk.old).holds.pages (chosen span.from span.to horizon.seconds true (seconds cuts.now) places.now) lists.new.items []) }
+    ensures stopped { D.disk_tells → StandsFor cache.old (D.disk disk.old).holds.pages
+        → IfErr result (λ e. (rest : List Chosen) × (AreFetched layout horizon.seconds (D.disk disk.old).holds.pages (chosen span.from span.to horizon.seconds true (seconds cuts.now) places.now) lists.new.items rest
         × IfDamaged (StopsAt layout horizon.seconds (D.disk disk.old).holds.pages rest) e)) }
 {
     let mut read = 0;
@@ -156,7 +186,7 @@ fn fetch_all<D: Disk>(
         if !overlaps(segment, span) {
             continue;
         }
-        let found = match fetch_one(pages, checker, alloc, disk, layout, &places[k], segment) {
+        let found = match fetch_one(cache, checker, alloc, disk, layout, &places[k], segment) {
             Ok(found) => found,
             Err(error) => return Err(error),
         };
@@ -171,7 +201,7 @@ fn fetch_all<D: Disk>(
 
 /// Fetches the sublist of a segment.
 fn fetch_one<D: Disk>(
-    pages: &Pages,
+    cache: &mut PageCache,
     checker: &mut Checker,
     alloc: Global,
     disk: &mut D,
@@ -183,16 +213,23 @@ fn fetch_one<D: Disk>(
     ensures only { D.Disk.only disk.old disk.new }
     ensures failed { IfErr result (IfFailed (Rose (D.disk disk.old).faults (D.disk disk.new).faults)) }
     ensures same { D.disk disk.new ≡ record (D.disk disk.old) { faults = (D.disk disk.new).faults; bytes_read = (D.disk disk.new).bytes_read } }
-    ensures count { D.disk_tells → OnOk result ((D.disk disk.new).bytes_read ≡ replaced (D.disk disk.old).bytes_read Area.Pages ((D.disk disk.old).bytes_read.pages + place.now.extent.bytes)) }
+    ensures asked { D.disk_tells → StandsFor cache.old (D.disk disk.old).holds.pages → OnOk result (cache.new ≡ after_asking_all (pieces_at (D.disk disk.old).holds.pages place.now.extent) cache.old) }
+    ensures count { D.disk_tells → StandsFor cache.old (D.disk disk.old).holds.pages
+        → OnOk result ((D.disk disk.new).bytes_read ≡ replaced (D.disk disk.old).bytes_read Area.Pages ((D.disk disk.old).bytes_read.pages
+        + missed_by_all (pieces_at (D.disk disk.old).holds.pages place.now.extent) cache.old)) }
+    ensures stays { D.disk_tells → StandsFor cache.old (D.disk disk.old).holds.pages → StandsFor cache.new (D.disk disk.new).holds.pages }
+    ensures lie { (taken : List Extent) → ((p : ℕ) → IsPageOf place.now.extent p → IsTaken taken p) → LieIn taken cache.old → LieIn taken cache.new }
     ensures list { IfOk result (λ s. IsList s.1) }
     ensures short { IfOk result (λ s. length s.1 ≤ place.now.extent.bytes) }
-    ensures found { D.disk_tells → IfOk result (λ s. IsFound layout segment.bounds.horizon (D.disk disk.old).holds.pages
+    ensures found { D.disk_tells → StandsFor cache.old (D.disk disk.old).holds.pages
+        → IfOk result (λ s. IsFound layout segment.bounds.horizon (D.disk disk.old).holds.pages
         (record { from = segment.bounds.from; to = segment.bounds.to; place = place.now; first = segment.first }) s) }
-    ensures damaged { D.disk_tells → IfErr result (IfDamaged (λ d. (d.page ≡ place.now.extent.first) × RefusesAlone layout segment.bounds.horizon (D.disk disk.old).holds.pages
+    ensures damaged { D.disk_tells → StandsFor cache.old (D.disk disk.old).holds.pages
+        → IfErr result (IfDamaged (λ d. (d.page ≡ place.now.extent.first) × RefusesAlone layout segment.bounds.horizon (D.disk disk.old).holds.pages
         (record { from = segment.bounds.from; to = segment.bounds.to; place = place.now; first = segment.first }) d.why)) }
 {
     let page = place.extent.first;
-    let found = match lend(pages, checker, alloc, disk, layout, place, segment.bounds) {
+    let found = match lend(cache, checker, alloc, disk, layout, place, segment.bounds) {
         Ok(found) => found,
         Err(error) => return Err(error),
     };

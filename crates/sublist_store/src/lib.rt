@@ -3,8 +3,10 @@
 //!
 //! The store knows which pages are free, as `page_store` does, and its contracts range over the
 //! extents that are taken. What is fetched is a function of the bytes that the disk gives
-//! (`specs/Fetching.antt`, `specs/Gathering.antt`): a list, or the first cause against them. Bytes that
-//! were checked before are compared in place of being hashed and decoded anew, which no clause shows.
+//! (`specs/Fetching.antt`, `specs/Gathering.antt`): a list, or the first cause against them. Places are
+//! read through a cache of pages, so that exactly the bytes of pages that aren't kept are read
+//! (`specs/Caching.antt`); pages that are given up are kept no longer. Bytes that were checked before are
+//! compared in place of being hashed and decoded anew, which no clause shows.
 #![tactic(auto)]
 
 mod checker;

@@ -5,9 +5,12 @@ ghost use Rattle.time_base.specs.declared.extent.Extent.{Extent};
 ghost use Rattle.page_store.specs.Runs.{IsFreeRun, pages_for};
 ghost use Rattle.page_store.specs.Taken.{HasTaken};
 ghost use Rattle.page_store.specs.Placing.{ArePlaced, HaveNoRoom};
+ghost use Rattle.sublist_store.specs.Caching.{without_all};
 ghost use Rattle.sublist_store.specs.Preparing.{Adds, IsFor, extents, sizes};
 
+use crate::checker::Checker;
 use crate::spelled::Spelling;
+use page_cache::PageCache;
 use page_store::{Pages, TakeError};
 use record_codec::Place;
 use sha2::{Digest, Sha256};
@@ -68,5 +71,15 @@ pub(crate) fn release(pages: &mut Pages, places: &[Place])
 {
     for place in places {
         pages.give_back(place.extent);
+    }
+}
+
+/// Keeps no page of places any longer, and forgets that their bytes were checked.
+pub(crate) fn let_go(cache: &mut PageCache, checker: &mut Checker, places: &[Place])
+    ensures { cache.new ≡ without_all (extents places.now) cache.old }
+{
+    for place in places {
+        cache.give_back(place.extent);
+        checker.let_go(place.extent);
     }
 }

@@ -6,14 +6,17 @@ ghost use Rattle.record_codec.specs.declared.place.Place.{Place as PlainPlace};
 ghost use Rattle.machine_model.specs.Causes.{HasCause};
 ghost use Rattle.postings.specs.Lists.{IsList};
 ghost use Rattle.page_store.specs.Live.{IsInside};
+ghost use Rattle.page_store.specs.Runs.{IsTaken};
 ghost use Rattle.page_store.specs.Taken.{HasTaken, AreApart};
 ghost use Rattle.page_store.specs.Placing.{ArePlaced, HaveNoRoom};
 ghost use Rattle.page_store.specs.Wrote.{Stored, extents_of, ranges_of};
 ghost use Rattle.page_store.specs.Crash.{ChangesOnly};
+ghost use Rattle.page_cache.specs.Caches.{StandsFor};
+ghost use Rattle.sublist_store.specs.Caching.{without_all};
 ghost use Rattle.sublist_store.specs.Segments.{seconds};
 ghost use Rattle.sublist_store.specs.Preparing.{IsFor, extents, pieces, pieces_of, sizes, spellings};
 
-use crate::placing::{place_all, release};
+use crate::placing::{let_go, place_all, release};
 use crate::spelled::{Spelling, spell_all};
 use crate::store::Sublists;
 use machine_model::{Disk, Failed};
@@ -65,15 +68,16 @@ impl Sublists {
         horizon: Time,
     ) -> Result<Prepared, TakeError>
         requires list { IsList list.now }
-        requires taken { (taken : List Extent) × HasTaken self.old taken }
+        requires taken { (taken : List Extent) × HasTaken self.old.pages taken }
         ensures spelled { IfOk result (λ p. p.spellings ≡ spellings layout list.now (seconds cuts.now) horizon.seconds) }
         ensures each { IfOk result (λ p. AllZip IsFor p.places p.spellings) }
         // Each place takes the lowest run, the earlier ones having been placed.
-        ensures placed { (taken : List Extent) → HasTaken self.old taken → IfOk result (λ p. ArePlaced taken (sizes p.spellings) (extents p.places)) }
-        ensures taken { (taken : List Extent) → HasTaken self.old taken → IfOk result (λ p. HasTaken self.new (extents p.places ++ taken)) }
-        ensures full { (taken : List Extent) → HasTaken self.old taken → IsErrOf result TakeError.Full → HaveNoRoom taken (sizes (spellings layout list.now (seconds cuts.now) horizon.seconds)) }
+        ensures placed { (taken : List Extent) → HasTaken self.old.pages taken → IfOk result (λ p. ArePlaced taken (sizes p.spellings) (extents p.places)) }
+        ensures taken { (taken : List Extent) → HasTaken self.old.pages taken → IfOk result (λ p. HasTaken self.new.pages (extents p.places ++ taken)) }
+        ensures full { (taken : List Extent) → HasTaken self.old.pages taken → IsErrOf result TakeError.Full → HaveNoRoom taken (sizes (spellings layout list.now (seconds cuts.now) horizon.seconds)) }
         // After an error no page is taken.
-        ensures none { (taken : List Extent) → HasTaken self.old taken → OnErr result (HasTaken self.new taken) }
+        ensures none { (taken : List Extent) → HasTaken self.old.pages taken → OnErr result (HasTaken self.new.pages taken) }
+        ensures cache { self.new.cache ≡ self.old.cache }
     {
         let spellings = match spell_all(alloc, layout, list, cuts, horizon) {
             Ok(spellings) => spellings,
@@ -85,28 +89,32 @@ impl Sublists {
         }
     }
 
-    /// The new places are live, and the pages of the old ones free. Takes no memory. It costs what
-    /// giving each old place back does.
+    /// The new places are live, and the pages of the old ones free and kept no longer. Takes no memory.
+    /// It costs what giving each old place back does, to the free pages and to the cache.
     pub fn adopt(&mut self, prepared: Prepared, old: &[Place])
-        requires taken { (live : List Extent) × HasTaken self.old (extents prepared.places ++ (extents old.now ++ live)) }
-        ensures freed { (live : List Extent) → HasTaken self.old (extents prepared.places ++ (extents old.now ++ live)) → HasTaken self.new (extents prepared.places ++ live) }
+        requires taken { (live : List Extent) × HasTaken self.old.pages (extents prepared.places ++ (extents old.now ++ live)) }
+        ensures freed { (live : List Extent) → HasTaken self.old.pages (extents prepared.places ++ (extents old.now ++ live)) → HasTaken self.new.pages (extents prepared.places ++ live) }
+        ensures cache { self.new.cache ≡ without_all (extents old.now) self.old.cache }
     {
         release(&mut self.pages, old);
+        let_go(&mut self.cache, &mut self.checker, old);
     }
 
     /// The pages of the places are free again. Takes no memory. It costs what giving each place back
     /// does.
     pub fn forget(&mut self, prepared: Prepared)
-        requires taken { (live : List Extent) × HasTaken self.old (extents prepared.places ++ live) }
-        ensures freed { (live : List Extent) → HasTaken self.old (extents prepared.places ++ live) → HasTaken self.new live }
+        requires taken { (live : List Extent) × HasTaken self.old.pages (extents prepared.places ++ live) }
+        ensures freed { (live : List Extent) → HasTaken self.old.pages (extents prepared.places ++ live) → HasTaken self.new.pages live }
+        ensures cache { self.new.cache ≡ self.old.cache }
     {
         release(&mut self.pages, prepared.places());
     }
 
-    /// Writes each place's bytes, and makes them durable. Takes no memory. It makes a call of the disk
-    /// for each place that has bytes, and one more.
+    /// Writes each place's bytes, and makes them durable; none of these pages may be kept. Takes no
+    /// memory. It makes a call of the disk for each place that has bytes, and one more.
     pub fn write<D: Disk>(&self, disk: &mut D, prepared: &Prepared) -> Result<(), Failed>
-        requires taken { (live : List Extent) × HasTaken self.now (extents prepared.now.places ++ live) }
+        requires taken { (live : List Extent) × HasTaken self.now.pages (extents prepared.now.places ++ live) }
+        requires unkept { All (λ k. IsTaken (extents prepared.now.places) k.page → ⊥) self.now.cache }
         ensures only { D.Disk.only disk.old disk.new }
         ensures cause { HasCause (D.disk disk.old).faults (D.disk disk.new).faults result }
         ensures journal { (D.disk disk.new).reach.journal ≡ (D.disk disk.old).reach.journal }
@@ -117,6 +125,8 @@ impl Sublists {
         ensures images { D.disk_tells → ChangesOnly (ranges_of (pieces prepared.now)) (D.disk disk.old) (D.disk disk.new) }
         // After Ok the bytes stand in the places, and all else reads as it did; no image is allowed but what reads give.
         ensures stored { D.disk_tells → OnOk result (Stored (pieces prepared.now) (D.disk disk.old) (D.disk disk.new)) }
+        // So what is kept stands for Pages as it did.
+        ensures stays { D.disk_tells → StandsFor self.now.cache (D.disk disk.old).holds.pages → OnOk result (StandsFor self.now.cache (D.disk disk.new).holds.pages) }
     {
         write_all(&self.pages, disk, &prepared.places, &prepared.spellings)
     }

@@ -1,54 +1,69 @@
 //! Sublists in pages.
-ghost use Rattle.std.specs.Prelude.{◌≡◌, ◌+◌, ◌*◌, ◌≤◌, List, length, IfOk, OnOk, OnErr, IfErr};
+ghost use Rattle.std.specs.Prelude.{◌≡◌, [], ◌+◌, ◌*◌, ◌≤◌, ℕ, List, length, IfOk, OnOk, OnErr, IfErr};
+ghost use Rattle.time_base.specs.declared.extent.Extent.{Extent as PlainExtent};
 ghost use Rattle.machine_model.specs.Areas.{replaced};
 ghost use Rattle.machine_model.specs.Causes.{HasCause, Rose};
 ghost use Rattle.page_store.specs.Ranges.{bytes_in};
+ghost use Rattle.page_store.specs.Runs.{IsPageOf, IsTaken};
 ghost use Rattle.page_store.specs.Taken.{HasTaken};
 ghost use Rattle.page_store.specs.Live.{AreLive, IsRefused};
+ghost use Rattle.page_cache.specs.Caches.{after_asking_all, missed_by_all, StandsFor};
+ghost use Rattle.page_cache.specs.Laws.{LieIn};
+ghost use Rattle.sublist_store.specs.Caching.{pieces_at};
 ghost use Rattle.sublist_store.specs.Fetching.{IsFetched, Explains, IfDamaged, IfFailed};
 
 use crate::checker::Checker;
 use crate::fetching::{Bounds, lend};
 use crate::why::FetchError;
 use machine_model::{Area, Disk, Failed};
+use page_cache::PageCache;
 use page_store::{LiveError, Pages};
 use record_codec::{Layout, Place};
 use std::alloc::Global;
 use std::marker::Model;
 use time_base::{Extent, Posting, Span, Time};
 
-/// The pages that sublists have, and bytes that were checked. Contracts see the pages alone.
+/// The pages that sublists have, pages that were read, and bytes that were checked. Contracts see the
+/// first two.
 #[derive(Drop)]
 pub struct Sublists {
     pub(crate) pages: Pages,
     pub(crate) checker: Checker,
+    pub(crate) cache: PageCache,
 }
 
 impl Model for Sublists {
-    ghost use Rattle.page_store.specs.Taken.{PagesState};
+    ghost use Rattle.sublist_store.specs.Caching.{SublistsState};
 
-    ghost Value = { PagesState };
+    ghost Value = { SublistsState };
 
-    ghost view = { λ s. s.pages };
+    ghost view = { λ s. record { pages = s.pages; cache = s.cache } };
 }
 
 impl Sublists {
-    /// The store in which the pages of these extents are taken, in Pages of `reach` bytes. It costs
-    /// what `Pages::from_live` does.
+    /// The store in which the pages of these extents are taken, in Pages of `reach` bytes, and none is
+    /// kept. It costs what `Pages::from_live` does.
     pub fn from_live(alloc: Global, live: &[Extent], reach: u64) -> Result<Sublists, LiveError>
-        ensures taken { IfOk result (λ s. HasTaken s live.now × AreLive live.now reach) }
+        ensures taken { IfOk result (λ s. HasTaken s.pages live.now × AreLive live.now reach) }
         // An extent is refused exactly where it is the first that doesn't pass.
         ensures refused { IfErr result (IsRefused live.now reach) }
+        ensures cache { IfOk result (λ s. s.cache ≡ []) }
     {
         let pages = match Pages::from_live(alloc, live, reach) {
             Ok(pages) => pages,
             Err(error) => return Err(error),
         };
         let checker = Checker::new(alloc)?;
-        Ok(Sublists { pages, checker })
+        let cache = PageCache::new(alloc)?;
+        Ok(Sublists {
+            pages,
+            checker,
+            cache,
+        })
     }
 
-    /// Reads the bytes of a place. With no bytes no device is called. Takes no memory.
+    /// Reads the bytes of a place from the disk, whatever is kept. With no bytes no device is called.
+    /// Takes no memory.
     pub fn read_place<D: Disk>(
         &self,
         disk: &mut D,
@@ -69,8 +84,8 @@ impl Sublists {
     }
 
     /// Reads the bytes of a place, and gives the list that they spell in the layout, which is that of
-    /// a segment below a horizon. It costs a pass over the bytes, and their digest where they weren't
-    /// checked before.
+    /// a segment below a horizon. Pages that are kept are not read again. It costs a pass over the
+    /// bytes, and their digest where they weren't checked before.
     pub fn fetch<D: Disk>(
         &mut self,
         alloc: Global,
@@ -84,21 +99,30 @@ impl Sublists {
         ensures only { D.Disk.only disk.old disk.new }
         ensures failed { IfErr result (IfFailed (Rose (D.disk disk.old).faults (D.disk disk.new).faults)) }
         ensures same { D.disk disk.new ≡ record (D.disk disk.old) { faults = (D.disk disk.new).faults; bytes_read = (D.disk disk.new).bytes_read } }
-        // Exactly these bytes were read.
-        ensures count { D.disk_tells → OnOk result ((D.disk disk.new).bytes_read ≡ replaced (D.disk disk.old).bytes_read Area.Pages ((D.disk disk.old).bytes_read.pages + place.now.extent.bytes)) }
+        ensures pages { self.new.pages ≡ self.old.pages }
+        // The pages of the place were asked for, in order.
+        ensures asked { D.disk_tells → StandsFor self.old.cache (D.disk disk.old).holds.pages
+            → OnOk result (self.new.cache ≡ after_asking_all (pieces_at (D.disk disk.old).holds.pages place.now.extent) self.old.cache) }
+        // Exactly what was missed of them was read.
+        ensures count { D.disk_tells → StandsFor self.old.cache (D.disk disk.old).holds.pages
+            → OnOk result ((D.disk disk.new).bytes_read ≡ replaced (D.disk disk.old).bytes_read Area.Pages ((D.disk disk.old).bytes_read.pages
+            + missed_by_all (pieces_at (D.disk disk.old).holds.pages place.now.extent) self.old.cache)) }
         // The bytes that reads give have the digest and spell the list, of which each posting belongs there.
-        ensures found { D.disk_tells → IfOk result (λ v. IsFetched layout place.now.digest span.from span.to horizon.seconds (bytes_in place.now.extent (D.disk disk.old).holds.pages) v.items) }
+        ensures found { D.disk_tells → StandsFor self.old.cache (D.disk disk.old).holds.pages → IfOk result (λ v. IsFetched layout place.now.digest span.from span.to horizon.seconds (bytes_in place.now.extent (D.disk disk.old).holds.pages) v.items) }
         // Of the causes the first is named, with the first page of the place.
-        ensures damaged { D.disk_tells → IfErr result (IfDamaged (λ d. (d.page ≡ place.now.extent.first) × Explains layout place.now.digest span.from span.to horizon.seconds (bytes_in place.now.extent (D.disk disk.old).holds.pages) d.why)) }
-        ensures pages { self.new ≡ self.old }
+        ensures damaged { D.disk_tells → StandsFor self.old.cache (D.disk disk.old).holds.pages
+            → IfErr result (IfDamaged (λ d. (d.page ≡ place.now.extent.first) × Explains layout place.now.digest span.from span.to horizon.seconds (bytes_in place.now.extent (D.disk disk.old).holds.pages) d.why)) }
+        ensures stays { D.disk_tells → StandsFor self.old.cache (D.disk disk.old).holds.pages → StandsFor self.new.cache (D.disk disk.new).holds.pages }
+        // Whatever is answered, what is kept lies in the extents that are taken, where the place does.
+        ensures lie { (taken : List PlainExtent) → ((p : ℕ) → IsPageOf place.now.extent p → IsTaken taken p) → LieIn taken self.old.cache → LieIn taken self.new.cache }
     {
         let bounds = Bounds {
             from: span.from,
             to: span.to,
             horizon: horizon.seconds,
         };
-        match lend(
-            &self.pages,
+        let list = match lend(
+            &mut self.cache,
             &mut self.checker,
             alloc,
             disk,
@@ -106,11 +130,9 @@ impl Sublists {
             place,
             bounds,
         ) {
-            Ok(list) => match Vec::from_slice(alloc, list) {
-                Ok(list) => Ok(list),
-                Err(_) => Err(FetchError::Memory),
-            },
-            Err(error) => Err(error),
-        }
+            Ok(list) => list,
+            Err(error) => return Err(error),
+        };
+        Ok(Vec::from_slice(alloc, list)?)
     }
 }

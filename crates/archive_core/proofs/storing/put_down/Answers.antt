@@ -1,3 +1,5 @@
+use Rattle.std.proofs.Common.{ℕ, List, sym, subst}
+use Rattle.page_cache.specs.Caches.{StandsFor as IsCacheOf}
 use Rattle.page_store.specs.Wrote.{ranges_of}
 use Rattle.sublist_store.specs.Preparing.{pieces}
 use Rattle.archive_state.specs.Stands.{bodies_of}
@@ -25,3 +27,8 @@ returns-in-Err-Failed-clause-crash g c = λ tells h plan step held legal ready.
     stored_leads h plan c.args.prepared.now c.args.frame.now _ _ _ _ ready legal step held (g.met.D.Disk.holds_allowed c.args.disk.now tells)
     (c.write.ensures.images tells) (g.met.D.Disk.only_beside _ _ tells c.write.ensures.only) (c.in_ok-write.ensures.stored tells)
     (λ bodies in_step. c.append.ensures.crash tells bodies in_step) (c.append.ensures.pages tells)
+
+pub returns-in-Ok-clause-cached : goal.returns-in-Ok-clause-cached
+returns-in-Ok-clause-cached g c = λ tells cached.
+    let P : List ℕ → Type 0 = λ ps. IsCacheOf c.args.sublists.now.cache ps in
+    subst P (sym (c.in-Ok.ensures.pages_hold tells)) (c.in_ok-write.ensures.stays tells cached)

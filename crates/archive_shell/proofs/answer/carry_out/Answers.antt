@@ -1,11 +1,12 @@
-use Rattle.std.proofs.Common.{OnOk, sym, subst}
+use Rattle.std.proofs.Common.{ap, sym, subst}
 use Rattle.commands.specs.declared.command.Command.{Command}
 use Rattle.commands.specs.declared.command.Command.TheVariants as plain
 use Rattle.commands.specs.declared.command.Item.TheVariants as items
+use Rattle.archive_core.specs.States.{ArchiveState}
 use Rattle.archive_core.specs.Takes.{changed, found, planned, proposed, shown, spanned, verified}
 use Rattle.archive_shell.specs.Turns.{Answers}
-use Rattle.archive_shell.specs.Asking.{IsOnPage}
-use Rattle.archive_shell.specs.Damages.{Spoils}
+use Rattle.archive_shell.specs.Asking.{IsByReads}
+use Rattle.archive_shell.proofs.FetchLemmas.{fetched_between, fetched_find}
 use Rattle.archive_shell.proofs.QuestionLemmas.{made_find, made_between, made_verify}
 use Rattle.archive_shell.proofs.TurnLemmas.{answers_by}
 use Rattle.archive_shell.proofs.answer.carry_out.Goals as goal
@@ -58,33 +59,44 @@ returns-in-Verify-clause-turn g c = λ tells h kept.
     subst C (sym c.in-Verify.is) (answers_by h (items.Command plain.Verify) (verified c.verify-result.result) c.write_verified.result _ _ c.args.archive.now c.write_verified.new.page.bytes
     (c.verify-result.ensures.takes tells h kept) c.write_verified.ensures.writes)
 
-pub returns-in-Find-clause-damaged : goal.returns-in-Find-clause-damaged
-returns-in-Find-clause-damaged g c = λ tells h stands d is.
-    let C : Command → Type 0 = λ x. Spoils h (g.D.Disk.disk c.args.disk.now).holds.pages (items.Command x) d in
-    subst C (sym c.in-Find.is) (c.find-result.ensures.damaged tells h stands d (c.write_found.ensures.damage d is))
+pub returns-in-Find-clause-by_reads : goal.returns-in-Find-clause-by_reads
+returns-in-Find-clause-by_reads g c = λ tells h stands cached.
+    let found = c.find-result.ensures in
+    let old = g.D.Disk.disk c.args.disk.now in
+    let new = g.D.Disk.disk c.find-result.new.disk in
+    let page = c.write_found.new.page.bytes in
+    let made = found.made tells h stands cached in
+    let C : Command → Type 0 = λ d. IsByReads h (items.Command d) c.write_found.result old new c.args.archive.now c.find-result.new.self page in
+    subst C (sym c.in-Find.is) (record {
+      damaged = λ d is. found.damaged tells h stands cached d (c.write_found.ensures.damage d is);
+      made = λ question. made_find h old.holds c.in-Find.at c.in-Find.expr _ c.find-result.result c.write_found.result page made found.after.refused c.write_found.ensures.writes;
+      fetched = λ asking. fetched_find h c.in-Find.at c.in-Find.expr _ _ old new _ c.find-result.result c.write_found.result page made found.after.refused
+          (λ why is. (let still = found.after.unasked why is in (still.0, ap (λ (a : ArchiveState). a.shelf.cache) still.1))) c.write_found.ensures.writes;
+    })
 
-pub returns-in-Between-clause-damaged : goal.returns-in-Between-clause-damaged
-returns-in-Between-clause-damaged g c = λ tells h stands d is.
-    let C : Command → Type 0 = λ x. Spoils h (g.D.Disk.disk c.args.disk.now).holds.pages (items.Command x) d in
-    subst C (sym c.in-Between.is) (c.between-result.ensures.damaged tells h stands d (c.write_spanned.ensures.damage d is))
+pub returns-in-Between-clause-by_reads : goal.returns-in-Between-clause-by_reads
+returns-in-Between-clause-by_reads g c = λ tells h stands cached.
+    let found = c.between-result.ensures in
+    let old = g.D.Disk.disk c.args.disk.now in
+    let new = g.D.Disk.disk c.between-result.new.disk in
+    let page = c.write_spanned.new.page.bytes in
+    let made = found.made tells h stands cached in
+    let C : Command → Type 0 = λ d. IsByReads h (items.Command d) c.write_spanned.result old new c.args.archive.now c.between-result.new.self page in
+    subst C (sym c.in-Between.is) (record {
+      damaged = λ d is. found.damaged tells h stands cached d (c.write_spanned.ensures.damage d is);
+      made = λ question. made_between h old.holds c.in-Between.span c.in-Between.expr _ c.between-result.result c.write_spanned.result page made found.after.refused c.write_spanned.ensures.writes;
+      fetched = λ asking. fetched_between h c.in-Between.span c.in-Between.expr _ _ old new _ c.between-result.result c.write_spanned.result page made found.after.refused
+          (λ why is. (let still = found.after.unasked why is in (still.0, ap (λ (a : ArchiveState). a.shelf.cache) still.1))) c.write_spanned.ensures.writes;
+    })
 
-pub returns-in-Find-clause-made : goal.returns-in-Find-clause-made
-returns-in-Find-clause-made g c = λ tells h stands question.
-    let image = (g.D.Disk.disk c.args.disk.now).holds in
-    let C : Command → Type 0 = λ d. OnOk c.write_found.result (IsOnPage h image (items.Command d) c.write_found.new.page.bytes) in
-    subst C (sym c.in-Find.is)
-    (made_find h image c.in-Find.at c.in-Find.expr _ c.find-result.result c.write_found.result c.write_found.new.page.bytes (c.find-result.ensures.made tells h stands) c.find-result.ensures.refused c.write_found.ensures.writes)
-
-pub returns-in-Between-clause-made : goal.returns-in-Between-clause-made
-returns-in-Between-clause-made g c = λ tells h stands question.
-    let image = (g.D.Disk.disk c.args.disk.now).holds in
-    let C : Command → Type 0 = λ d. OnOk c.write_spanned.result (IsOnPage h image (items.Command d) c.write_spanned.new.page.bytes) in
-    subst C (sym c.in-Between.is)
-    (made_between h image c.in-Between.span c.in-Between.expr _ c.between-result.result c.write_spanned.result c.write_spanned.new.page.bytes (c.between-result.ensures.made tells h stands) c.between-result.ensures.refused c.write_spanned.ensures.writes)
-
-pub returns-in-Verify-clause-made : goal.returns-in-Verify-clause-made
-returns-in-Verify-clause-made g c = λ tells h stands question.
-    let image = (g.D.Disk.disk c.args.disk.now).holds in
-    let C : Command → Type 0 = λ d. OnOk c.write_verified.result (IsOnPage h image (items.Command d) c.write_verified.new.page.bytes) in
-    subst C (sym c.in-Verify.is)
-    (made_verify h image c.verify-result.result c.write_verified.result c.write_verified.new.page.bytes (c.verify-result.ensures.checked tells h stands) c.verify-result.ensures.never c.write_verified.ensures.writes)
+pub returns-in-Verify-clause-by_reads : goal.returns-in-Verify-clause-by_reads
+returns-in-Verify-clause-by_reads g c = λ tells h stands cached.
+    let old = g.D.Disk.disk c.args.disk.now in
+    let new = g.D.Disk.disk c.verify-result.new.disk in
+    let page = c.write_verified.new.page.bytes in
+    let C : Command → Type 0 = λ d. IsByReads h (items.Command d) c.write_verified.result old new c.args.archive.now c.args.archive.now page in
+    subst C (sym c.in-Verify.is) (record {
+      damaged = λ d is. absurd (c.verify-result.ensures.undamaged d (c.write_verified.ensures.damage d is));
+      made = λ question. made_verify h old.holds c.verify-result.result c.write_verified.result page (c.verify-result.ensures.checked tells h stands) c.verify-result.ensures.never c.write_verified.ensures.writes;
+      fetched = λ asking. absurd asking;
+    })

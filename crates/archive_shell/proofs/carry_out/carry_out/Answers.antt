@@ -2,6 +2,7 @@ use Rattle.std.proofs.Common.{◌≡◌, List, ℕ, [], Ok, Err, ap, sym, subst,
 use Rattle.machine_model.specs.States.{DiskState, SinkState}
 use Rattle.archive_shell.specs.Turns.{Answers, CarriesOut}
 use Rattle.archive_shell.specs.declared.stop.Stop.TheVariants.{Damaged, Sink}
+use Rattle.archive_shell.proofs.CauseLemmas.{left_beside}
 use Rattle.archive_shell.proofs.DamageLemmas.{halted_at, is_question}
 use Rattle.archive_shell.proofs.QuestionLemmas.{shown_so}
 use Rattle.archive_shell.proofs.ShowLemmas.{cut_short, carried_out}
@@ -64,21 +65,25 @@ returns-in-Err-show-clause-turn g c = λ disk_tells sink_tells h kept.
     subst P shown out
 
 pub returns-in-Ok-show-clause-question : goal.returns-in-Ok-show-clause-question
-returns-in-Ok-show-clause-question g c = λ disk_tells sink_tells h stands question.
+returns-in-Ok-show-clause-question g c = λ disk_tells sink_tells h stands cached question.
     let m = g.met.M.Machine in
     let mid = c.answer.new.disk in
     let alone = m.disk_alone c.args.machine.now mid c.answer.ensures.only in
     let still = c.in-Ok.ensures.still question in
+    let told = c.in-Ok.ensures.by_reads disk_tells h stands cached in
     shown_so h c.args.item c.answer.new.page.bytes c.as_bytes.result.now (g.M.Sink.sink c.args.machine.now).shown (g.M.Sink.sink mid).shown (g.M.Sink.sink c.show.new.sink).shown
-    (g.M.Disk.disk c.args.machine.now) (g.M.Disk.disk mid) (g.M.Disk.disk c.show.new.sink) c.args.archive.now c.answer.new.archive still.0 still.1 (c.in-Ok.ensures.made disk_tells h stands question)
+    (g.M.Disk.disk c.args.machine.now) (g.M.Disk.disk mid) (g.M.Disk.disk c.show.new.sink) c.args.archive.now c.answer.new.archive still.0 still.1 (told.made question) told.fetched
     (m.sink_alone mid c.show.new.sink c.show.ensures.only).1 (ap (λ (s : SinkState). s.shown) alone.1) c.as_bytes.ensures (c.in-Ok-show.ensures.whole sink_tells)
 
 pub returns-in-Err-clause-damaged : goal.returns-in-Err-clause-damaged
-returns-in-Err-clause-damaged g c = λ tells h stands d is.
+returns-in-Err-clause-damaged g c = λ tells h stands cached d is.
     let m = c.args.machine.now in
     let mid = c.answer.new.disk in
     let same : c.from.result ≡ Damaged d = cc in
     let halt = halted_at c.in-Err.halt d (sym c.from.ensures ∙ same) in
-    let spoiled = c.in-Err.ensures.damaged tells h stands d (ap Err halt) in
+    let spoiled = (c.in-Err.ensures.by_reads tells h stands cached).damaged d (ap Err halt) in
     let still = c.in-Err.ensures.still (is_question h (g.M.Disk.disk m).holds.pages c.args.item d spoiled) in
     (spoiled, ap (λ (d : DiskState). d.holds.pages) still.0, (g.met.M.Machine.disk_alone m mid c.answer.ensures.only).1)
+
+pub returns-in-Ok-show-clause-left : goal.returns-in-Ok-show-clause-left
+returns-in-Ok-show-clause-left g c = left_beside _ _ _ _ _ _ (g.met.M.Machine.sink_alone c.answer.new.disk c.show.new.sink c.show.ensures.only).1 c.in-Ok.ensures.left

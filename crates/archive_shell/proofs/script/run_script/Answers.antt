@@ -1,4 +1,4 @@
-use Rattle.std.proofs.Common.{◌≡◌, ◌⊎◌, true, List, [], length, All, Err, refl, inl, inr, ap, sym, subst}
+use Rattle.std.proofs.Common.{◌≡◌, ◌⊎◌, ℕ, true, List, [], length, All, Err, refl, inl, inr, ap, sym, subst}
 use Rattle.std.proofs.lemmas.Bool.{cases_lt}
 use Rattle.machine_model.specs.Calls.{Syncs}
 use Rattle.machine_model.specs.Causes.{Rose}
@@ -14,9 +14,11 @@ use Rattle.archive_shell.proofs.PullLemmas.{completes, pulling_start}
 use Rattle.commands.specs.declared.command.Item.{Item}
 use Rattle.script_read.specs.Items.{Splits}
 use Rattle.script_read.proofs.Splitting.{one_split}
+use Rattle.archive_shell.specs.Fetching.{IsAsking, ReadsMissed}
 use Rattle.archive_shell.specs.Questions.{AreMade, AreMadeUpTo, IsQuestion}
 use Rattle.archive_shell.specs.Damages.{IsPulled}
-use Rattle.archive_shell.proofs.QuestionLemmas.{asking_start, made_at_start, stopped_among, stopped_at_start}
+use Rattle.archive_shell.proofs.QuestionLemmas.{asking_start, cached_first, stopped_among}
+use Rattle.archive_shell.proofs.StartLemmas.{fetched_at_start, made_at_start, stopped_at_start}
 use Rattle.archive_shell.proofs.script.run_script.Goals as goal
 
 pub returns-in-Err-clause-left_alone : goal.returns-in-Err-clause-left_alone
@@ -72,27 +74,27 @@ returns-in-Err-load-clause-complete g c = λ source_tells sink_tells disk_tells 
 pub returns-clause-disk_fault : goal.returns-clause-disk_fault
 returns-clause-disk_fault g c = λ is.
     rose_earlier (g.M.Disk.disk c.args.machine.now).faults (g.M.Disk.disk c.load.new.disk).faults (g.M.Disk.disk c.serve.new.machine).faults
-    (g.met.M.Disk.only_faults c.args.machine.now c.load.new.disk c.load.ensures.only) (c.serve.ensures.disk_fault is)
+    (g.met.M.Disk.only_faults c.args.machine.now c.load.new.disk c.load.ensures.only) (c.serve.ensures.cause.disk is)
 
 pub returns-clause-source_fault : goal.returns-clause-source_fault
 returns-clause-source_fault g c = λ is.
     let alone = g.met.M.Machine.disk_alone c.args.machine.now c.load.new.disk c.load.ensures.only in
     let S : SourceState → Type 0 = λ s. Rose s.faults (g.M.Source.source c.serve.new.machine).faults in
-    subst S alone.0 (c.serve.ensures.source_fault is)
+    subst S alone.0 (c.serve.ensures.cause.source is)
 
 pub returns-clause-sink_fault : goal.returns-clause-sink_fault
 returns-clause-sink_fault g c = λ is.
     let alone = g.met.M.Machine.disk_alone c.args.machine.now c.load.new.disk c.load.ensures.only in
     let S : SinkState → Type 0 = λ s. Rose s.faults (g.M.Sink.sink c.serve.new.machine).faults in
-    subst S alone.1 (c.serve.ensures.sink_fault is)
+    subst S alone.1 (c.serve.ensures.cause.sink is)
 
 pub returns-clause-not_archive : goal.returns-clause-not_archive
-returns-clause-not_archive g c = λ disk_tells at is. absurd (c.serve.ensures.no_load at is)
+returns-clause-not_archive g c = λ disk_tells at is. absurd (c.serve.ensures.cause.no_load at is)
 
 pub returns-clause-damaged : goal.returns-clause-damaged
 returns-clause-damaged g c = λ disk_tells d is.
     let found = c.in-Ok-load.ensures.found disk_tells in
-    let (item, shown, pulled) = c.serve.ensures.damaged disk_tells found.0 found.1.0 d is in
+    let (item, shown, pulled) = c.serve.ensures.damaged disk_tells found.0 found.1.0 (cached_first (g.M.Disk.disk c.load.new.disk) c.in-Ok-load.archive c.in-Ok-load.ensures.empty) d is in
     let m = c.args.machine.now in
     let n = c.load.new.disk in
     let S : SourceState → Type 0 = λ s. IsPulled s (g.M.Source.source c.serve.new.machine) item in (
@@ -135,9 +137,9 @@ returns-clause-complete g c = λ source_tells sink_tells disk_tells archive scri
     let ends = subst E alone.0 (c.serve.ensures.ends source_tells (pulling_start (g.M.Source.source n) c.in-Ok.desk.reader c.in-Ok.ensures)) in
     let S : SourceState → Type 0 = λ s. Rose s.faults (g.M.Source.source last).faults in
     let T : SinkState → Type 0 = λ s. Rose s.faults (g.M.Sink.sink last).faults in
-    completes c.serve.result (g.M.Source.source m) (g.M.Source.source last) ends script few c.serve.ensures.no_usage c.serve.ensures.no_load c.serve.ensures.not_full
-    (λ is. disk (rose_earlier (g.M.Disk.disk m).faults (g.M.Disk.disk n).faults (g.M.Disk.disk last).faults (g.met.M.Disk.only_faults m n c.load.ensures.only) (c.serve.ensures.disk_fault is)))
-    (λ is. source (subst S alone.0 (c.serve.ensures.source_fault is))) (λ is. sink (subst T alone.1 (c.serve.ensures.sink_fault is)))
+    completes c.serve.result (g.M.Source.source m) (g.M.Source.source last) ends script few c.serve.ensures.cause.no_usage c.serve.ensures.cause.no_load c.serve.ensures.cause.not_full
+    (λ is. disk (rose_earlier (g.M.Disk.disk m).faults (g.M.Disk.disk n).faults (g.M.Disk.disk last).faults (g.met.M.Disk.only_faults m n c.load.ensures.only) (c.serve.ensures.cause.disk is)))
+    (λ is. source (subst S alone.0 (c.serve.ensures.cause.source is))) (λ is. sink (subst T alone.1 (c.serve.ensures.cause.sink is)))
 
 pub returns-clause-questions : goal.returns-clause-questions
 returns-clause-questions g c = λ source_tells sink_tells disk_tells asked split all is.
@@ -148,7 +150,7 @@ returns-clause-questions g c = λ source_tells sink_tells disk_tells asked split
     let found = c.in-Ok-load.ensures.found disk_tells in
     let image = (g.M.Disk.disk n).holds in
     let ended = c.serve.ensures.asks source_tells sink_tells disk_tells found.0 image
-    (asking_start found.0 (record { source = g.M.Source.source n; sink = g.M.Sink.sink n; disk = g.M.Disk.disk n }) c.in-Ok-load.archive c.in-Ok.desk.reader c.in-Ok.ensures found.1.0) in
+    (asking_start found.0 (record { source = g.M.Source.source n; sink = g.M.Sink.sink n; disk = g.M.Disk.disk n }) c.in-Ok-load.archive c.in-Ok.desk.reader c.in-Ok.ensures found.1.0 c.in-Ok-load.ensures.empty) in
     let has = ended.done is in
     let S : SourceState → Type 0 = λ s. Splits true s.left asked [] in
     let same : has.items ≡ asked = (one_split true (g.M.Source.source n).left has.items asked [] [] has.split (subst S (sym alone.0) split)).0 in
@@ -167,8 +169,31 @@ returns-clause-stopped g c = λ source_tells sink_tells disk_tells asked split a
     let found = c.in-Ok-load.ensures.found disk_tells in
     let image = (g.M.Disk.disk n).holds in
     let ended = c.serve.ensures.asks source_tells sink_tells disk_tells found.0 image
-    (asking_start found.0 (record { source = g.M.Source.source n; sink = g.M.Sink.sink n; disk = g.M.Disk.disk n }) c.in-Ok-load.archive c.in-Ok.desk.reader c.in-Ok.ensures found.1.0) in
+    (asking_start found.0 (record { source = g.M.Source.source n; sink = g.M.Sink.sink n; disk = g.M.Disk.disk n }) c.in-Ok-load.archive c.in-Ok.desk.reader c.in-Ok.ensures found.1.0 c.in-Ok-load.ensures.empty) in
     let S : SourceState → Type 0 = λ s. Splits true s.left asked [] in
     let stopped = stopped_among found.0 image _ _ d asked (ended.damaged d is) (subst S (sym alone.0) split) all in
     let K : SinkState → Type 0 = λ s. AreMadeUpTo found.0 image asked d s.shown (g.M.Sink.sink last).shown in
     (found.0, found.1.1, stopped_at_start found.0 asked d (g.M.Disk.disk m) (g.M.Disk.disk n) (g.M.Sink.sink m).shown (g.M.Sink.sink last).shown found.1.1 found.1.0.loadable (c.in-Ok-load.ensures.longer disk_tells) (subst K alone.1 stopped))
+
+pub returns-clause-reads : goal.returns-clause-reads
+returns-clause-reads g c = λ source_tells sink_tells disk_tells asked split all is.
+    let m = c.args.machine.now in
+    let n = c.load.new.disk in
+    let last = c.serve.new.machine in
+    let alone = g.met.M.Machine.disk_alone m n c.load.ensures.only in
+    let found = c.in-Ok-load.ensures.found disk_tells in
+    let image = (g.M.Disk.disk n).holds in
+    let ended = c.serve.ensures.asks source_tells sink_tells disk_tells found.0 image
+    (asking_start found.0 (record { source = g.M.Source.source n; sink = g.M.Sink.sink n; disk = g.M.Disk.disk n }) c.in-Ok-load.archive c.in-Ok.desk.reader c.in-Ok.ensures found.1.0 c.in-Ok-load.ensures.empty) in
+    let has = ended.done is in
+    let S : SourceState → Type 0 = λ s. Splits true s.left asked [] in
+    let same : has.items ≡ asked = (one_split true (g.M.Source.source n).left has.items asked [] [] has.split (subst S (sym alone.0) split)).0 in
+    let A : List Item → Type 0 = λ l. All IsAsking l in
+    let after = (g.M.Disk.disk last).bytes_read.pages in
+    let R : List Item → Type 0 = λ l. ReadsMissed found.0 image.pages l (g.M.Disk.disk n).bytes_read.pages after in
+    let B : ℕ → Type 0 = λ before. ReadsMissed found.0 image.pages asked before after in (
+      found.0,
+      found.1.1,
+      fetched_at_start found.0 asked (g.M.Disk.disk m) (g.M.Disk.disk n) (g.M.Disk.disk m).bytes_read.pages after found.1.1 found.1.0.loadable (c.in-Ok-load.ensures.longer disk_tells)
+          (subst B (c.load.ensures.unread disk_tells) (subst R same (has.reads (subst A (sym same) all)))),
+    )

@@ -1,5 +1,5 @@
-use Rattle.std.proofs.Common.{◌++◌, Err, ap, arith}
-use Rattle.archive_shell.proofs.DamageLemmas.{goes_on_further}
+use Rattle.std.proofs.Common.{◌++◌, Err, ap}
+use Rattle.archive_shell.proofs.CauseLemmas.{ends_later, later_joins, left_joins}
 use Rattle.archive_shell.proofs.serve.serve.Goals as goal
 
 pub items-preserved : goal.items-preserved
@@ -7,11 +7,8 @@ items-preserved g c =
     let was = c.items.invariant in
     let now = c.in-Ok.ensures in
     record {
-      ready = now.ready;
-      source_later = omega (arith, was.source_later, now.source_later);
-      sink_later = omega (arith, was.sink_later, now.sink_later);
-      disk_later = omega (arith, was.disk_later, now.disk_later);
-      follows = λ h stands. (let before = was.follows h stands in goes_on_further h before.0 c.step.new.archive (now.follows (h ++ before.0) before.1));
+      later = later_joins _ _ _ was.later now.later;
+      left = left_joins _ _ _ _ _ _ _ was.left now.left;
       asking = λ source_tells sink_tells disk_tells h image start. now.asks source_tells sink_tells disk_tells h image _ (was.asking source_tells sink_tells disk_tells h image start);
       pulling = λ source_tells start. now.pulls source_tells _ (was.pulling source_tells start);
       serving = λ source_tells sink_tells disk_tells h start.
@@ -21,9 +18,9 @@ items-preserved g c =
     }
 
 pub returns-in-Err-clause-damaged : goal.returns-in-Err-clause-damaged
-returns-in-Err-clause-damaged g c = λ tells h stands d is.
-    let before = c.items.invariant.follows h stands in
-    let (item, spoils, pulled) = c.in-Err.ensures.damaged tells (h ++ before.0) before.1 d (ap Err is) in
+returns-in-Err-clause-damaged g c = λ tells h stands cached d is.
+    let before = c.items.invariant.left.follows h stands in
+    let (item, spoils, pulled) = c.in-Err.ensures.damaged tells (h ++ before.0) before.1 (c.items.invariant.left.cached tells cached) d (ap Err is) in
     (item, (before.0, spoils), λ source_tells start. pulled source_tells _ (c.items.invariant.pulling source_tells start))
 
 pub returns-in-Err-clause-ends : goal.returns-in-Err-clause-ends
@@ -38,3 +35,9 @@ returns-in-Err-clause-served g c = λ source_tells sink_tells disk_tells h start
 pub returns-in-Err-clause-asks : goal.returns-in-Err-clause-asks
 returns-in-Err-clause-asks g c = λ source_tells sink_tells disk_tells h image start.
     c.in-Err.ensures.asks source_tells sink_tells disk_tells h image _ (c.items.invariant.asking source_tells sink_tells disk_tells h image start)
+
+pub returns-in-Err-clause-later : goal.returns-in-Err-clause-later
+returns-in-Err-clause-later g c = later_joins _ _ _ c.items.invariant.later c.in-Err.ensures.later
+
+pub returns-in-Err-clause-cause : goal.returns-in-Err-clause-cause
+returns-in-Err-clause-cause g c = ends_later _ _ _ _ c.items.invariant.later c.in-Err.ensures.cause

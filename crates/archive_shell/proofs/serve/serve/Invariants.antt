@@ -1,20 +1,16 @@
-use Rattle.std.proofs.Common.{◌≤◌, ◌-◌, ◌^◌, List, []}
+use Rattle.std.proofs.Common.{◌-◌, ◌^◌, List, []}
 use Rattle.machine_model.specs.Areas.{Bytes}
 use Rattle.machine_model.specs.Pulls.{Pull}
 use Rattle.archive_state.specs.Histories.{History}
-use Rattle.archive_core.specs.States.{StandsFor}
 use Rattle.archive_shell.specs.Asking.{Asking}
+use Rattle.archive_shell.specs.Causes.{IsLater, IsLeft}
 use Rattle.archive_shell.specs.Serving.{Pulling, Serving}
-use Rattle.archive_shell.specs.Turns.{CanGoOn, GoesOnFrom}
 use Rattle.archive_shell.proofs.serve.serve.Given as goal
 
 abbrev pub invariant-items : goal.invariant-items
 invariant-items g l = record {
-  ready : CanGoOn l.archive (g.M.Disk.disk l.machine).reach;
-  source_later : (g.M.Source.source l.fn.machine).faults ≤ (g.M.Source.source l.machine).faults;
-  sink_later : (g.M.Sink.sink l.fn.machine).faults ≤ (g.M.Sink.sink l.machine).faults;
-  disk_later : (g.M.Disk.disk l.fn.machine).faults ≤ (g.M.Disk.disk l.machine).faults;
-  follows : (h : History) → StandsFor l.fn.archive h → GoesOnFrom h l.archive;
+  later : IsLater (record { source = g.M.Source.source l.fn.machine; sink = g.M.Sink.sink l.fn.machine; disk = g.M.Disk.disk l.fn.machine }) (record { source = g.M.Source.source l.machine; sink = g.M.Sink.sink l.machine; disk = g.M.Disk.disk l.machine });
+  left : IsLeft g.M.Disk.disk_tells (g.M.Disk.disk l.fn.machine) (g.M.Disk.disk l.machine) l.fn.archive l.archive;
   asking : g.M.Source.source_tells → g.M.Sink.sink_tells → g.M.Disk.disk_tells → (h : History) (image : Bytes)
       → Asking h image (record { source = g.M.Source.source l.fn.machine; sink = g.M.Sink.sink l.fn.machine; disk = g.M.Disk.disk l.fn.machine }) (record { source = g.M.Source.source l.fn.machine; sink = g.M.Sink.sink l.fn.machine; disk = g.M.Disk.disk l.fn.machine }) l.fn.archive l.fn.reader
       → Asking h image (record { source = g.M.Source.source l.fn.machine; sink = g.M.Sink.sink l.fn.machine; disk = g.M.Disk.disk l.fn.machine }) (record { source = g.M.Source.source l.machine; sink = g.M.Sink.sink l.machine; disk = g.M.Disk.disk l.machine }) l.archive l.reader;

@@ -1,9 +1,9 @@
 use Rattle.std.proofs.Common.{◌≡◌, ◌++◌, ℕ, List, [], Some, None, Ok, Err, refl, sym, ap, subst, ◌∙◌}
 use Rattle.std.proofs.lemmas.List.{append-nil}
-use Rattle.machine_model.specs.States.{SinkState, SourceState}
+use Rattle.machine_model.specs.States.{DiskState, SinkState, SourceState}
 use Rattle.machine_model.specs.Pulls.{Pull}
 use Rattle.archive_state.specs.Standing.{last_state}
-use Rattle.archive_core.specs.States.{StandsFor}
+use Rattle.archive_core.specs.States.{CacheStands, StandsFor}
 use Rattle.sublist_store.specs.declared.why.Damage.{Damage}
 use Rattle.archive_shell.specs.Serving.{Pulling, Ends, Serving, Serves}
 use Rattle.archive_shell.specs.Statuses.{status_of_script, status_of_stop}
@@ -12,6 +12,7 @@ use Rattle.archive_shell.specs.declared.status.Status.TheVariants.{Damaged}
 use Rattle.archive_shell.proofs.PullLemmas.{ends_by, ends_early, gives_as, pulling_next, stops_early, whole_done}
 use Rattle.archive_shell.proofs.StepLemmas.{ended_by, ended_done, serving_next, stopped, serving_along, serves_as, pulls_in, pulls_beside}
 use Rattle.archive_shell.specs.Asking.{Asking, HasStopped}
+use Rattle.archive_shell.specs.Causes.{IsLeft}
 use Rattle.archive_shell.specs.Damages.{IsPulled, Spoils}
 use Rattle.archive_shell.proofs.DamageLemmas.{last_pulled, stopped_at}
 use Rattle.archive_shell.proofs.QuestionLemmas.{asked_all, asking_along, asking_next, asking_stops, script_not_damaged, script_not_done, stop_not_done}
@@ -184,7 +185,7 @@ returns-in-Ok-carry_out-clause-asks g c = λ source_tells sink_tells disk_tells 
     (asking_next h image began (record { source = g.M.Source.source m; sink = g.M.Sink.sink mid; disk = g.M.Disk.disk mid }) (g.M.Source.source mid) (g.M.Sink.sink last) (g.M.Disk.disk last) c.args.archive.now c.carry_out.new.archive c.args.reader.now c.next_item.new.self c.in-Some.item here
     (gives_as c.args.reader.now c.next_item.new.self p.since (Ok c.in-Ok.item) (Ok (Some c.in-Some.item)) (g.M.Source.source m) (g.M.Source.source mid) (ap Ok c.in-Some.is)
     (record { more = says.0; gave = says.1 source_tells; calm = says.2; says = says.3; told = c.in-Ok.ensures.end source_tells p.told }))
-    (λ stands question. c.in-Ok-carry_out.ensures.question disk_tells sink_tells h stands question))
+    (λ stands cached question. c.in-Ok-carry_out.ensures.question disk_tells sink_tells h stands cached question) (λ cached. c.in-Ok-carry_out.ensures.left.cached disk_tells cached))
 
 pub returns-in-Err-carry_out-clause-asks : goal.returns-in-Err-carry_out-clause-asks
 returns-in-Err-carry_out-clause-asks g c = λ source_tells sink_tells disk_tells h image began asking.
@@ -195,8 +196,8 @@ returns-in-Err-carry_out-clause-asks g c = λ source_tells sink_tells disk_tells
     let here = asking_along h image began (g.M.Source.source m) (g.M.Sink.sink m) (g.M.Sink.sink mid) (g.M.Disk.disk m) (g.M.Disk.disk mid) c.args.archive.now c.args.reader.now alone.0 alone.1 asking in
     let p = here.pulling in
     let says = c.in-Ok.ensures.says p.since p.reads.stands in
-    let out = λ (d : Damage) (stands : StandsFor c.args.archive.now h) (is : c.from-in-Err-carry_out.result ≡ Damaged d).
-    c.in-Err-carry_out.ensures.damaged disk_tells h stands d (ap Err (stopped_at c.in-Err-carry_out.stop d (sym c.from-in-Err-carry_out.ensures ∙ is))) in
+    let out = λ (d : Damage) (stands : StandsFor c.args.archive.now h) (cached : CacheStands (g.M.Disk.disk mid) c.args.archive.now) (is : c.from-in-Err-carry_out.result ≡ Damaged d).
+    c.in-Err-carry_out.ensures.damaged disk_tells h stands cached d (ap Err (stopped_at c.in-Err-carry_out.stop d (sym c.from-in-Err-carry_out.ensures ∙ is))) in
     let S : Damage → SourceState → Type 0 = λ d s. HasStopped h image began (record { source = s; sink = g.M.Sink.sink last; disk = g.M.Disk.disk last }) d in
     record {
       done = λ is. absurd (stop_not_done c.in-Err-carry_out.stop (sym c.from-in-Err-carry_out.ensures ∙ is));
@@ -204,15 +205,17 @@ returns-in-Err-carry_out-clause-asks g c = λ source_tells sink_tells disk_tells
           (asking_stops h image began (record { source = g.M.Source.source m; sink = g.M.Sink.sink mid; disk = g.M.Disk.disk mid }) (g.M.Source.source mid) (g.M.Sink.sink last) (g.M.Disk.disk last) c.args.archive.now c.args.reader.now c.next_item.new.self c.in-Some.item d here
           (gives_as c.args.reader.now c.next_item.new.self p.since (Ok c.in-Ok.item) (Ok (Some c.in-Some.item)) (g.M.Source.source m) (g.M.Source.source mid) (ap Ok c.in-Some.is)
           (record { more = says.0; gave = says.1 source_tells; calm = says.2; says = says.3; told = c.in-Ok.ensures.end source_tells p.told }))
-          (λ stands. let found = out d stands is in (found.0, ap (λ (s : SinkState). s.shown) found.2)));
+          (λ stands cached. let found = out d stands cached is in (found.0, ap (λ (s : SinkState). s.shown) found.2)));
     }
 
 pub returns-in-Err-carry_out-clause-damaged : goal.returns-in-Err-carry_out-clause-damaged
-returns-in-Err-carry_out-clause-damaged g c = λ tells h stands d is.
+returns-in-Err-carry_out-clause-damaged g c = λ tells h stands cached d is.
     let one = g.M.Source.source c.args.machine.now in
     let other = g.M.Source.source c.next_item.new.source in
     let same : c.from-in-Err-carry_out.result ≡ Damaged d = cc in
-    let found = c.in-Err-carry_out.ensures.damaged tells h stands d (ap Err (stopped_at c.in-Err-carry_out.stop d (sym c.from-in-Err-carry_out.ensures ∙ same))) in
+    let alone = g.met.M.Machine.source_alone c.args.machine.now c.next_item.new.source c.next_item.ensures.only in
+    let C : DiskState → Type 0 = λ x. CacheStands x c.args.archive.now in
+    let found = c.in-Err-carry_out.ensures.damaged tells h stands (subst C (sym alone.1) cached) d (ap Err (stopped_at c.in-Err-carry_out.stop d (sym c.from-in-Err-carry_out.ensures ∙ same))) in
     let P : List ℕ → Type 0 = λ pages. Spoils h pages c.in-Some.item d in (
       c.in-Some.item,
       subst P (sym found.1) found.0,
@@ -224,3 +227,9 @@ returns-in-Err-carry_out-clause-damaged g c = λ tells h stands d is.
           (gives_as c.args.reader.now c.next_item.new.self p.since (Ok c.in-Ok.item) (Ok (Some c.in-Some.item)) one other (ap Ok c.in-Some.is)
           (record { more = says.0; gave = says.1 source_tells; calm = says.2; says = says.3; told = c.in-Ok.ensures.end source_tells p.told }))) refl),
     )
+
+pub returns-in-Ok-carry_out-clause-left : goal.returns-in-Ok-carry_out-clause-left
+returns-in-Ok-carry_out-clause-left g c =
+    let alone = g.met.M.Machine.source_alone c.args.machine.now c.next_item.new.source c.next_item.ensures.only in
+    let L : DiskState → Type 0 = λ d. IsLeft g.M.Disk.disk_tells d (g.M.Disk.disk c.carry_out.new.machine) c.args.archive.now c.carry_out.new.archive in
+    subst L alone.1 c.in-Ok-carry_out.ensures.left

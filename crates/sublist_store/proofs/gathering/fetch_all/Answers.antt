@@ -7,7 +7,8 @@ use Rattle.postings.specs.Lists.{IsList}
 use Rattle.sublist_store.specs.Gathering.{Chosen}
 use Rattle.sublist_store.specs.Joining.{Paged, size_of_all, AreFetched, RefusesAlone, StopsAt}
 use Rattle.sublist_store.specs.declared.why.Damage.{Damage}
-use Rattle.sublist_store.proofs.GatherLemmas.{chosen_from, IsAt, place_at, chosen_skips, chosen_takes, read_none, read_same, read_more, some_place, sizes_at, inside_behind, disk_joins, if_damaged}
+use Rattle.sublist_store.proofs.GatherLemmas.{chosen_from, IsAt, place_at, chosen_skips, chosen_takes, some_place, sizes_at, inside_behind, disk_joins, if_damaged}
+use Rattle.sublist_store.proofs.AskLemmas.{among_all, asked_none, asked_same, asked_more}
 use Rattle.sublist_store.proofs.FetchLemmas.{fetched_more, found_same, stops_at}
 use Rattle.sublist_store.proofs.gathering.fetch_all.Goals as goal
 
@@ -24,8 +25,10 @@ loop-k-init g c =
       read = ap size_of_all (sym c.requires.none);
       few = omega (arith, c.requires.few);
       inside = c.requires.inside;
-      fetched = λ tells. subst F (sym c.requires.none) refl;
-      count = λ tells. read_none (g.D.Disk.disk c.args.disk.now).bytes_read all;
+      lie = λ taken within lie. lie;
+      stays = λ tells stands. stands;
+      fetched = λ tells stands. subst F (sym c.requires.none) refl;
+      asked = λ tells stands. asked_none pages c.args.cache.now (g.D.Disk.disk c.args.disk.now).bytes_read all;
     }
 
 pub loop-k-preserved-then-not-overlaps : goal.loop-k-preserved-then-not-overlaps
@@ -53,12 +56,15 @@ loop-k-preserved-then-not-overlaps g c =
       read = was.read;
       few = omega (arith, was.few, sizes_at (drop k places) (drop (k + 1) places) some.0 some.1);
       inside = inside_behind (g.D.Disk.disk c.args.disk.now).reach.pages (drop k places) (drop (k + 1) places) some.0 some.1 was.inside;
-      fetched = λ tells. subst F (sym same) (was.fetched tells);
-      count = λ tells. read_same (g.D.Disk.disk c.args.disk.now).bytes_read (g.D.Disk.disk c.loop-k.disk).bytes_read rest new all same (was.count tells);
+      lie = was.lie;
+      stays = was.stays;
+      fetched = λ tells stands. subst F (sym same) (was.fetched tells stands);
+      asked = λ tells stands. asked_same (g.D.Disk.disk c.args.disk.now).holds.pages c.args.cache.now c.loop-k.cache
+          (g.D.Disk.disk c.args.disk.now).bytes_read (g.D.Disk.disk c.loop-k.disk).bytes_read rest new all same (was.asked tells stands);
     }
 
 pub returns-in-Err-clause-stopped : goal.returns-in-Err-clause-stopped
-returns-in-Err-clause-stopped g c = λ tells.
+returns-in-Err-clause-stopped g c = λ tells stands.
     let a = c.args.span.from in
     let b = c.args.span.to in
     let h = c.args.horizon.seconds in
@@ -83,7 +89,7 @@ returns-in-Err-clause-stopped g c = λ tells.
     let same : were ≡ pages = ap (λ (d : DiskState). d.holds.pages) was.same in
     let P : Damage → Type 0 = λ d. (d.page ≡ place.extent.first) × RefusesAlone c.args.layout segment.bounds.horizon were one d.why in
     let Q : Damage → Type 0 = λ d. StopsAt c.args.layout h pages rest d in
-    (rest, (was.fetched tells, if_damaged P Q (λ d refused. stops_at c.args.layout h segment.bounds.horizon pages were rest new one d c.segment_at-segment.ensures.horizon same takes refused) c.in-Err.error (c.in-Err.ensures.damaged tells)))
+    (rest, (was.fetched tells stands, if_damaged P Q (λ d refused. stops_at c.args.layout h segment.bounds.horizon pages were rest new one d c.segment_at-segment.ensures.horizon same takes refused) c.in-Err.error (c.in-Err.ensures.damaged tells (was.stays tells stands))))
 
 pub loop-k-preserved : goal.loop-k-preserved
 loop-k-preserved g c =
@@ -123,7 +129,30 @@ loop-k-preserved g c =
       read = ap (λ (n : ℕ). n + length c.postings.result.now) was.read ∙ ap (λ (l : List Posting). size_of_all lists + length l) c.postings.ensures ∙ sym (sum_by_push (λ (x : Paged). length x.1) lists found) ∙ ap size_of_all (sym items);
       few = omega (arith, was.few, c.in-Ok.ensures.short, ap (λ (l : List Posting). length l) c.postings.ensures, sizes_at (drop k places) (drop (k + 1) places) place next);
       inside = inside_behind (g.D.Disk.disk c.args.disk.now).reach.pages (drop k places) (drop (k + 1) places) place next was.inside;
-      fetched = λ tells. subst F (sym items) (fetched_more c.args.layout h pages all lists rest new one found takes
-          (found_same c.args.layout h segment.bounds.horizon pages were one found c.segment_at-segment.ensures.horizon same (c.in-Ok.ensures.found tells)) (was.fetched tells));
-      count = λ tells. read_more (g.D.Disk.disk c.args.disk.now).bytes_read (g.D.Disk.disk c.loop-k.disk).bytes_read (g.D.Disk.disk c.fetch_one.new.disk).bytes_read rest new all one takes (c.in-Ok.ensures.count tells) (was.count tells);
+      lie = λ taken within lie. c.fetch_one.ensures.lie taken (λ p mine. within p (among_all places k place p (omega (arith, c.loop-k-test.true, c.requires.as_many)) c.index-places-k.is mine)) (was.lie taken within lie);
+      stays = λ tells stands. c.fetch_one.ensures.stays tells (was.stays tells stands);
+      fetched = λ tells stands. subst F (sym items) (fetched_more c.args.layout h pages all lists rest new one found takes
+          (found_same c.args.layout h segment.bounds.horizon pages were one found c.segment_at-segment.ensures.horizon same (c.in-Ok.ensures.found tells (was.stays tells stands))) (was.fetched tells stands));
+      asked = λ tells stands. asked_more pages were c.args.cache.now c.loop-k.cache c.fetch_one.new.cache
+          (g.D.Disk.disk c.args.disk.now).bytes_read (g.D.Disk.disk c.loop-k.disk).bytes_read (g.D.Disk.disk c.fetch_one.new.disk).bytes_read rest new all one same takes
+          (c.in-Ok.ensures.asked tells (was.stays tells stands)) (c.in-Ok.ensures.count tells (was.stays tells stands)) (was.asked tells stands);
     }
+
+pub returns-in-Err-clause-stays : goal.returns-in-Err-clause-stays
+returns-in-Err-clause-stays g c = λ tells stands. c.fetch_one.ensures.stays tells (c.loop-k.invariant.stays tells stands)
+
+pub returns-in-Err-clause-lie : goal.returns-in-Err-clause-lie
+returns-in-Err-clause-lie g c = λ taken within lie. c.fetch_one.ensures.lie taken
+    (λ p mine. within p (among_all c.args.places.now c.loop-k.k c.index-places-k.result p (omega (arith, c.loop-k-test.true, c.requires.as_many)) c.index-places-k.is mine))
+    (c.loop-k.invariant.lie taken within lie)
+
+pub returns-in-Err-push-clause-only : goal.returns-in-Err-push-clause-only
+returns-in-Err-push-clause-only g c = g.met.D.Disk.only_joins _ _ _ c.loop-k.invariant.only c.fetch_one.ensures.only
+
+pub returns-in-Err-push-clause-stays : goal.returns-in-Err-push-clause-stays
+returns-in-Err-push-clause-stays g c = λ tells stands. c.fetch_one.ensures.stays tells (c.loop-k.invariant.stays tells stands)
+
+pub returns-in-Err-push-clause-lie : goal.returns-in-Err-push-clause-lie
+returns-in-Err-push-clause-lie g c = λ taken within lie. c.fetch_one.ensures.lie taken
+    (λ p mine. within p (among_all c.args.places.now c.loop-k.k c.index-places-k.result p (omega (arith, c.loop-k-test.true, c.requires.as_many)) c.index-places-k.is mine))
+    (c.loop-k.invariant.lie taken within lie)

@@ -1,9 +1,15 @@
-use Rattle.std.specs.Prelude.{◌≡◌, ◌+◌, ◌^◌, ◌≤◌, All, drop, sum_by}
+use Rattle.std.specs.Prelude.{◌≡◌, ℕ, ◌+◌, ◌^◌, ◌≤◌, List, All, drop, sum_by}
 use Rattle.postings.specs.Lists.{IsList}
+use Rattle.time_base.specs.declared.extent.Extent.{Extent}
 use Rattle.page_store.specs.Live.{IsInside}
+use Rattle.page_store.specs.Runs.{IsTaken}
+use Rattle.page_cache.specs.Caches.{StandsFor}
+use Rattle.page_cache.specs.Laws.{LieIn}
 use Rattle.record_codec.specs.declared.place.Place.{Place}
 use Rattle.sublist_store.specs.Joining.{Paged, size_of_all, AreFetched}
-use Rattle.sublist_store.proofs.GatherLemmas.{chosen_from, HasRead}
+use Rattle.sublist_store.specs.Preparing.{extents}
+use Rattle.sublist_store.proofs.GatherLemmas.{chosen_from}
+use Rattle.sublist_store.proofs.AskLemmas.{HasAsked}
 use Rattle.sublist_store.proofs.gathering.fetch_all.Given as goal
 
 abbrev pub invariant-loop-k : goal.invariant-loop-k
@@ -14,8 +20,11 @@ invariant-loop-k g l = record {
   read : l.read ≡ size_of_all l.lists.items;
   few : l.read + sum_by (λ (p : Place). p.extent.bytes) (drop l.k l.places) ≤ 2 ^ 60;
   inside : All (λ (p : Place). IsInside (g.D.Disk.disk l.fn.disk).reach.pages p.extent) (drop l.k l.places);
-  fetched : g.D.Disk.disk_tells → AreFetched l.layout l.horizon.seconds (g.D.Disk.disk l.fn.disk).holds.pages
+  lie : (taken : List Extent) → ((p : ℕ) → IsTaken (extents l.places) p → IsTaken taken p) → LieIn taken l.fn.cache → LieIn taken l.cache;
+  stays : g.D.Disk.disk_tells → StandsFor l.fn.cache (g.D.Disk.disk l.fn.disk).holds.pages → StandsFor l.cache (g.D.Disk.disk l.disk).holds.pages;
+  fetched : g.D.Disk.disk_tells → StandsFor l.fn.cache (g.D.Disk.disk l.fn.disk).holds.pages → AreFetched l.layout l.horizon.seconds (g.D.Disk.disk l.fn.disk).holds.pages
       (chosen_from l.span.from l.span.to l.horizon.seconds l.cuts l.places 0) l.lists.items (chosen_from l.span.from l.span.to l.horizon.seconds l.cuts l.places l.k);
-  count : g.D.Disk.disk_tells → HasRead (g.D.Disk.disk l.fn.disk).bytes_read (g.D.Disk.disk l.disk).bytes_read
+  asked : g.D.Disk.disk_tells → StandsFor l.fn.cache (g.D.Disk.disk l.fn.disk).holds.pages → HasAsked (g.D.Disk.disk l.fn.disk).holds.pages
+      l.fn.cache l.cache (g.D.Disk.disk l.fn.disk).bytes_read (g.D.Disk.disk l.disk).bytes_read
       (chosen_from l.span.from l.span.to l.horizon.seconds l.cuts l.places l.k) (chosen_from l.span.from l.span.to l.horizon.seconds l.cuts l.places 0);
 }

@@ -8,28 +8,28 @@ use Rattle.sublist_store.proofs.FetchLemmas.{gathers_clash, gathers_all, gathers
 use Rattle.sublist_store.proofs.gathering.gather_all.Goals as goal
 
 pub returns-in-Err-clause-damaged : goal.returns-in-Err-clause-damaged
-returns-in-Err-clause-damaged g c = λ tells.
+returns-in-Err-clause-damaged g c = λ tells stands.
     let h = c.args.horizon.seconds in
     let pages = (g.D.Disk.disk c.args.disk.now).holds.pages in
     let all = chosen c.args.span.from c.args.span.to h true (seconds c.args.cuts.now) c.args.places.now in
     let lists = c.fetch_all-fetched.new.lists.items in
-    let left = some_left (λ rest. AreFetched c.args.layout h pages all lists rest) (λ rest e. IfDamaged (StopsAt c.args.layout h pages rest) e) c.fetch_all-fetched.result (c.fetch_all-fetched.ensures.fetched tells) (c.fetch_all-fetched.ensures.stopped tells) in
+    let left = some_left (λ rest. AreFetched c.args.layout h pages all lists rest) (λ rest e. IfDamaged (StopsAt c.args.layout h pages rest) e) c.fetch_all-fetched.result (c.fetch_all-fetched.ensures.fetched tells stands) (c.fetch_all-fetched.ensures.stopped tells stands) in
     if_damaged (λ d. JoinInTurn lists [] (Err d)) (λ d. Gathers c.args.layout h pages all [] 0 (Err d))
     (λ d clash. gathers_clash c.args.layout h pages all lists left.0 [] 0 d left.1 clash) c.in-Err.error c.in-Err.ensures.damaged
 
 pub returns-in-Ok-fetched-clause-gathered : goal.returns-in-Ok-fetched-clause-gathered
-returns-in-Ok-fetched-clause-gathered g c = λ tells.
+returns-in-Ok-fetched-clause-gathered g c = λ tells stands.
     let h = c.args.horizon.seconds in
     let pages = (g.D.Disk.disk c.args.disk.now).holds.pages in
     let all = chosen c.args.span.from c.args.span.to h true (seconds c.args.cuts.now) c.args.places.now in
-    gathers_all c.args.layout h pages all c.fetch_all-fetched.new.lists.items c.in-Ok.list.items c.in-Ok-fetched.read (c.in-Ok-fetched.ensures.fetched tells) c.in-Ok.ensures.joined c.in-Ok-fetched.ensures.read
+    gathers_all c.args.layout h pages all c.fetch_all-fetched.new.lists.items c.in-Ok.list.items c.in-Ok-fetched.read (c.in-Ok-fetched.ensures.fetched tells stands) c.in-Ok.ensures.joined c.in-Ok-fetched.ensures.read
 
 pub returns-in-Err-fetched-clause-damaged : goal.returns-in-Err-fetched-clause-damaged
-returns-in-Err-fetched-clause-damaged g c = λ tells.
+returns-in-Err-fetched-clause-damaged g c = λ tells stands.
     let h = c.args.horizon.seconds in
     let pages = (g.D.Disk.disk c.args.disk.now).holds.pages in
     let all = chosen c.args.span.from c.args.span.to h true (seconds c.args.cuts.now) c.args.places.now in
     let lists = c.fetch_all-fetched.new.lists.items in
-    let (rest, stopped) = c.in-Err-fetched.ensures.stopped tells in
+    let (rest, stopped) = c.in-Err-fetched.ensures.stopped tells stands in
     if_damaged (λ d. StopsAt c.args.layout h pages rest d) (λ d. Gathers c.args.layout h pages all [] 0 (Err d))
     (λ d stops. gathers_stop c.args.layout h pages all lists rest c.in-Ok.list.items d stopped.0 c.in-Ok.ensures.joined stops) c.in-Err-fetched.error stopped.1

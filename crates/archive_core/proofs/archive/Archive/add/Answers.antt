@@ -1,4 +1,4 @@
-use Rattle.std.proofs.Common.{Result, subst}
+use Rattle.std.proofs.Common.{Result, inl, subst}
 use Rattle.archive_replay.specs.Entries.{IsPrepared}
 use Rattle.archive_replay.specs.declared.preparing.Prepared.{Prepared}
 use Rattle.archive_replay.specs.declared.preparing.Unprepared.{Unprepared}
@@ -23,6 +23,7 @@ returns-in-Ok-clause-leads g c = λ tells h entry refusal kept prepared.
     let P : Result Prepared Unprepared → Type 0 = λ p. IsPrepared h c.args.self.now.index entry refusal p in
     let is = subst P c.in-Ok.is prepared in
     leads_entry c.commit.result c.args.self.now c.commit.new.self _ _ h entry c.in-Ok.prepared.change c.in-Ok.prepared.body.items c.in-Ok.prepared.words kept is.0 is.1 c.commit.ensures.more (c.commit.ensures.crash tells _ kept.in_step) (c.commit.ensures.pages tells) (c.commit.ensures.in_step tells _ kept.in_step)
+    (λ ok. c.commit.ensures.cached tells kept.cached (inl ok))
 
 pub returns-in-Err-clause-adds : goal.returns-in-Err-clause-adds
 returns-in-Err-clause-adds g c = λ h entry refusal stands prepared.

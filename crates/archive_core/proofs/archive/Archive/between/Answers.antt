@@ -1,9 +1,8 @@
-use Rattle.std.proofs.Common.{sym, subst}
 use Rattle.commands.specs.declared.command.Command.TheVariants as commands
 use Rattle.commands.specs.declared.command.Item.TheVariants as items
 use Rattle.archive_state.proofs.ChosenLemmas.{held_undamaged}
-use Rattle.archive_core.specs.States.{ArchiveState}
-use Rattle.archive_core.specs.Takes.{Takes, spanned}
+use Rattle.archive_core.specs.Takes.{spanned}
+use Rattle.archive_core.proofs.CacheLemmas.{takes_but_cache}
 use Rattle.archive_core.proofs.TakeLemmas.{takes_between, spans_made}
 use Rattle.archive_core.proofs.archive.Archive.between.Goals as goal
 
@@ -13,8 +12,7 @@ returns-clause-takes g c = λ tells h kept.
     let done = g.D.Disk.disk c.span_answer_of.new.disk in
     let loads = kept.stands.loadable in
     let held = kept.held disk.holds (g.met.D.Disk.holds_allowed c.args.disk.now tells) in
-    let T : ArchiveState → Type 0 = λ a. Takes h (items.Command (commands.Between c.args.span c.args.expr.now)) (spanned c.span_answer_of.result) disk done a in
-    subst T (sym c.span_answer_of.ensures.kept)
-    (takes_between h c.args.span c.args.expr.now c.span_answer_of.result disk done c.args.self.now c.span_answer_of.ensures.refused
-    (λ d is. let first = (c.span_answer_of.ensures.damaged tells h kept.stands d is).first in held_undamaged h disk.holds.pages first.word _ _ d loads held first.shown)
-    (spans_made h disk.holds.pages c.args.span c.args.expr.now _ c.span_answer_of.result loads held (c.span_answer_of.ensures.made tells h kept.stands)) c.span_answer_of.ensures.same kept)
+    takes_but_cache h (items.Command (commands.Between c.args.span c.args.expr.now)) (spanned c.span_answer_of.result) disk done c.args.self.now c.span_answer_of.new.self c.span_answer_of.ensures.after.kept (c.span_answer_of.ensures.after.cached tells kept.cached)
+    (takes_between h c.args.span c.args.expr.now c.span_answer_of.result disk done c.args.self.now c.span_answer_of.ensures.after.refused
+    (λ d is. let first = (c.span_answer_of.ensures.damaged tells h kept.stands kept.cached d is).first in held_undamaged h disk.holds.pages first.word _ _ d loads held first.shown)
+    (spans_made h disk.holds.pages c.args.span c.args.expr.now _ c.span_answer_of.result loads held (c.span_answer_of.ensures.made tells h kept.stands kept.cached)) c.span_answer_of.ensures.after.same kept)

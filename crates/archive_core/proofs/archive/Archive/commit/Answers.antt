@@ -9,6 +9,7 @@ use Rattle.version_index.specs.Indexes.{state_of}
 use Rattle.archive_state.specs.Histories.{History}
 use Rattle.archive_core.specs.States.{ArchiveState, StandsFor}
 use Rattle.plan_shelf.specs.Shelves.{extents_all}
+use Rattle.archive_core.proofs.CacheLemmas.{cached_on}
 use Rattle.archive_core.proofs.AddLemmas.{appends_nowhere, pages_nowhere, step_at, is_more, stands_on, inside_on}
 use Rattle.archive_core.proofs.archive.Archive.commit.Goals as goal
 
@@ -64,6 +65,13 @@ returns-in-Ok-clause-more g c =
           (c.in_ok-frame.ensures.body ∙ c.deref.ensures.value) c.in-Ok.ensures.end refl c.in-Ok.ensures.place c.placed.ensures.held c.placed.ensures.doc c.placed.ensures.at c.reserve.ensures.same c.note.ensures refl c.make_room.ensures.same (c.commit.ensures (λ word. 0) (λ word. omega arith)),
       refl,
     )
+
+pub returns-then-limit-end-clause-cached : goal.returns-then-limit-end-clause-cached
+returns-then-limit-end-clause-cached g c = λ tells cached is. cached
+
+pub returns-in-Ok-clause-cached : goal.returns-in-Ok-clause-cached
+returns-in-Ok-clause-cached g c = λ tells cached is.
+    cached_on c.args.self.now.shelf.cache c.self.inside.shelf.cache (g.D.Disk.disk c.args.disk.now) (g.D.Disk.disk c.append.new.disk) (ap (λ (s : ArchiveState). s.shelf.cache) c.self.view_is) (c.in-Ok.ensures.pages_hold tells) cached
 
 -- an append that failed leaves the end
 pub returns-clause-within : goal.returns-clause-within

@@ -5,6 +5,7 @@ use Rattle.record_codec.specs.declared.entry.Entry.TheVariants as entries
 use Rattle.version_index.specs.Indexes.{IndexState, Indexes, state_of}
 use Rattle.archive_state.specs.Histories.{changes}
 use Rattle.archive_state.specs.Steps.{deletion_refusal}
+use Rattle.archive_core.specs.After.{AfterChange}
 use Rattle.archive_core.specs.States.{ArchiveState, StandsFor, IsKept}
 use Rattle.archive_replay.specs.Entries.{IsPrepared}
 use Rattle.archive_core.proofs.TakeLemmas.{adds_follow, takes_entry}
@@ -17,11 +18,12 @@ add-requires-clause-next g c = λ h stands.
     let P : IndexState → Type 0 = λ i. IsPrepared h i (entries.Delete c.args.doc c.args.at) (deletion_refusal h c.args.doc c.args.at) c.prepare_deletion-prepared.result in
     ((entries.Delete c.args.doc c.args.at), (deletion_refusal h c.args.doc c.args.at), subst P (sym same) (c.prepare_deletion-prepared.ensures.prepared h stands.changes_are (subst I same stands.index_is)))
 
-pub returns-clause-same : goal.returns-clause-same
-returns-clause-same g c = λ why is.
+pub returns-clause-after : goal.returns-clause-after
+returns-clause-after g c =
     let A : IndexState → ArchiveState = λ i. record { end = c.self.inside.journal.end; live = c.self.inside.live; length = c.self.inside.entries; changes = c.self.inside.directory.changes; index = i; shelf = c.self.inside.shelf } in
-    let still = c.add.ensures.same why is in
-    (still.0 ∙ ap A c.prepare_deletion-prepared.ensures.same ∙ c.self.view_is, still.1)
+    let still = c.add.new.disk ≡ c.args.disk.now in
+    let P : ArchiveState → Type 0 = λ a. AfterChange g.D.Disk.disk_tells ((c.add.new.self ≡ a) × still) still c.add.result (g.D.Disk.disk c.args.disk.now) (g.D.Disk.disk c.add.new.disk) a c.add.new.self in
+    subst P (ap A c.prepare_deletion-prepared.ensures.same ∙ c.self.view_is) c.add.ensures.after
 
 pub returns-clause-adds : goal.returns-clause-adds
 returns-clause-adds g c = λ h stands.
@@ -45,9 +47,9 @@ returns-clause-takes g c = λ tells h kept.
     let prepared = subst P (sym same) (c.prepare_deletion-prepared.ensures.prepared h before.stands.changes_are (subst I same before.stands.index_is)) in
     takes_entry h (items.Command (commands.Delete c.args.doc c.args.at)) (entries.Delete c.args.doc c.args.at) (deletion_refusal h c.args.doc c.args.at) c.add.result _ _ c.args.self.now c.add.new.self
     (λ reply next adds. adds) kept (c.add.ensures.adds h (entries.Delete c.args.doc c.args.at) (deletion_refusal h c.args.doc c.args.at) before.stands prepared)
-    (λ why is. (let still = c.add.ensures.same why is in (still.0 ∙ here, ap g.D.Disk.disk still.1))) (λ is. ap g.D.Disk.disk (c.add.ensures.memory is))
+    (λ why is. (let still = c.add.ensures.after.same why is in (still.0 ∙ here, ap g.D.Disk.disk still.1))) (λ is. ap g.D.Disk.disk (c.add.ensures.after.memory is))
     (c.add.ensures.leads tells h (entries.Delete c.args.doc c.args.at) (deletion_refusal h c.args.doc c.args.at) before prepared)
 
 pub returns-clause-follows : goal.returns-clause-follows
 returns-clause-follows g c = λ h stands.
-    adds_follow h (entries.Delete c.args.doc c.args.at) (deletion_refusal h c.args.doc c.args.at) c.add.result c.args.self.now c.add.new.self _ stands (returns-clause-adds g c h stands) (returns-clause-same g c)
+    adds_follow h (entries.Delete c.args.doc c.args.at) (deletion_refusal h c.args.doc c.args.at) c.add.result c.args.self.now c.add.new.self _ stands (returns-clause-adds g c h stands) (returns-clause-after g c).same

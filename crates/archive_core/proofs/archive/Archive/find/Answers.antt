@@ -1,9 +1,8 @@
-use Rattle.std.proofs.Common.{sym, subst}
 use Rattle.commands.specs.declared.command.Command.TheVariants as commands
 use Rattle.commands.specs.declared.command.Item.TheVariants as items
 use Rattle.archive_state.proofs.ChosenLemmas.{held_undamaged}
-use Rattle.archive_core.specs.States.{ArchiveState}
-use Rattle.archive_core.specs.Takes.{Takes, found}
+use Rattle.archive_core.specs.Takes.{found}
+use Rattle.archive_core.proofs.CacheLemmas.{takes_but_cache}
 use Rattle.archive_core.proofs.TakeLemmas.{takes_find, finds_made}
 use Rattle.archive_core.proofs.archive.Archive.find.Goals as goal
 
@@ -13,8 +12,7 @@ returns-clause-takes g c = λ tells h kept.
     let done = g.D.Disk.disk c.answer_of.new.disk in
     let loads = kept.stands.loadable in
     let held = kept.held disk.holds (g.met.D.Disk.holds_allowed c.args.disk.now tells) in
-    let T : ArchiveState → Type 0 = λ a. Takes h (items.Command (commands.Find c.args.at c.args.expr.now)) (found c.answer_of.result) disk done a in
-    subst T (sym c.answer_of.ensures.kept)
-    (takes_find h c.args.at c.args.expr.now c.answer_of.result disk done c.args.self.now c.answer_of.ensures.refused
-    (λ d is. let first = (c.answer_of.ensures.damaged tells h kept.stands d is).first in held_undamaged h disk.holds.pages first.word _ _ d loads held first.shown)
-    (finds_made h disk.holds.pages c.args.at c.args.expr.now _ c.answer_of.result loads held (c.answer_of.ensures.made tells h kept.stands)) c.answer_of.ensures.same kept)
+    takes_but_cache h (items.Command (commands.Find c.args.at c.args.expr.now)) (found c.answer_of.result) disk done c.args.self.now c.answer_of.new.self c.answer_of.ensures.after.kept (c.answer_of.ensures.after.cached tells kept.cached)
+    (takes_find h c.args.at c.args.expr.now c.answer_of.result disk done c.args.self.now c.answer_of.ensures.after.refused
+    (λ d is. let first = (c.answer_of.ensures.damaged tells h kept.stands kept.cached d is).first in held_undamaged h disk.holds.pages first.word _ _ d loads held first.shown)
+    (finds_made h disk.holds.pages c.args.at c.args.expr.now _ c.answer_of.result loads held (c.answer_of.ensures.made tells h kept.stands kept.cached)) c.answer_of.ensures.after.same kept)

@@ -1,5 +1,8 @@
-use Rattle.std.proofs.Common.{◌<◌, length, subst, sym}
-use Rattle.archive_core.specs.States.{ArchiveState, Reaches}
+use Rattle.std.proofs.Common.{◌≡◌, ◌<◌, length, ap, subst, sym}
+use Rattle.version_index.specs.Indexes.{state_of}
+use Rattle.plan_shelf.specs.Shelves.{ShelfState}
+use Rattle.archive_core.specs.States.{ArchiveState, IsSameButCache, Reaches}
+use Rattle.archive_core.proofs.CacheLemmas.{stands_but_cache}
 use Rattle.archive_core.proofs.ChosenLemmas.{readable}
 use Rattle.archive_core.proofs.archive.Archive.gather.Goals as goal
 
@@ -9,3 +12,21 @@ gather-requires-clause-readable g c = λ s same.
     let R : ArchiveState → Type 0 = λ a. Reaches reach a in
     let L : ArchiveState → Type 0 = λ a. c.args.at < length a.shelf.plans in
     readable _ c.self.invariant.2.0 reach c.args.at s c.self.invariant.2.1 (subst R (sym c.self.view_is) c.requires.within) (subst L (sym c.self.view_is) c.requires.there) same
+
+-- the shelf alone changes, and of it the cache
+but_cache : (a : ArchiveState) (shelf : ShelfState) → shelf ≡ record (a.shelf) { cache = shelf.cache } → IsSameButCache a (record a { shelf = shelf })
+but_cache a shelf kept = ap (λ (s : ShelfState). record a { shelf = s }) kept
+
+pub invariant_of-self : goal.invariant_of-self
+invariant_of-self g c =
+    let a : ArchiveState = record { end = c.self.inside.journal.end; live = c.self.inside.live; length = c.self.inside.entries; changes = c.self.inside.directory.changes; index = state_of c.self.inside.index; shelf = c.self.inside.shelf } in (
+      c.self.invariant.0,
+      c.self.invariant.1,
+      (c.self.invariant.2.0, stands_but_cache a (record a { shelf = c.gather.new.self }) c.self.invariant.2.0 (but_cache a c.gather.new.self c.gather.ensures.kept) c.self.invariant.2.1),
+    )
+
+pub returns-clause-kept : goal.returns-clause-kept
+returns-clause-kept g c =
+    let a : ArchiveState = record { end = c.self.inside.journal.end; live = c.self.inside.live; length = c.self.inside.entries; changes = c.self.inside.directory.changes; index = state_of c.self.inside.index; shelf = c.self.inside.shelf } in
+    let S : ArchiveState → Type 0 = λ x. IsSameButCache x (record a { shelf = c.gather.new.self }) in
+    subst S c.self.view_is (but_cache a c.gather.new.self c.gather.ensures.kept)

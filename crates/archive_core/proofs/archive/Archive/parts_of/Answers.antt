@@ -3,19 +3,20 @@ use Rattle.std.proofs.lemmas.List.{take_more, take-append-drop, length_push}
 use Rattle.machine_model.specs.States.{DiskState}
 use Rattle.query_eval.specs.declared.part.Part.{Part}
 use Rattle.archive_state.specs.Plans.{plan_of}
-use Rattle.archive_state.specs.Chosen.{AreChosen, IsChosenOf, IsDamagedFor, bytes_for}
-use Rattle.archive_core.specs.States.{ArchiveState, StandsFor}
+use Rattle.archive_state.specs.Chosen.{AreChosen, IsChosenOf, IsDamagedFor, pieces_chosen, pieces_for}
+use Rattle.archive_core.specs.Answering.{HasAsked}
 use Rattle.archive_core.specs.declared.error.AskError.{AskError}
-use Rattle.archive_core.proofs.ChosenLemmas.{bytes_more, chosen_more, counts_join, handed_on, reaches_on, reads_join}
+use Rattle.archive_core.proofs.CacheLemmas.{asked_joins, but_cache_joins, pieces_more, stands_but_cache}
+use Rattle.archive_core.proofs.ChosenLemmas.{chosen_more, handed_on, reaches_on, reads_join}
 use Rattle.archive_core.proofs.archive.Archive.parts_of.Goals as goal
 
 pub returns-in_err-part-clause-damaged : goal.returns-in_err-part-clause-damaged
-returns-in_err-part-clause-damaged g c = λ tells h stands d is.
+returns-in_err-part-clause-damaged g c = λ tells h stands cached d is.
     let was = c.loop-word.invariant in
     let first = g.D.Disk.disk c.args.disk.now in
     let pages : (g.D.Disk.disk c.loop-word.disk).holds.pages ≡ first.holds.pages = ap (λ (x : DiskState). x.holds.pages) was.same in
     let P : List ℕ → Type 0 = λ ps. IsDamagedFor h ps c.word-item.result c.args.span.from c.args.span.to d in
-    let here = c.in_err-part.ensures.damaged tells h (subst (λ (x : ArchiveState). StandsFor x h) (sym was.kept) stands) d
+    let here = c.in_err-part.ensures.damaged tells h (stands_but_cache c.args.self.now c.loop-word.self h was.kept stands) (was.cached tells cached) d
     (ap (λ (e : AskError). Err e) (handed_on c.from_residual.result c.in_err-part.field-0.0 d c.from_residual.ensures.1 is)) in
     let index = c.loop-word.word-index in
     let words = c.args.words.now in
@@ -26,9 +27,15 @@ returns-in_err-part-clause-damaged g c = λ tells h stands d is.
       back = drop (index + 1) words;
       words_are = sym (take-append-drop (index + 1) words) ∙ ap (λ (l : List (List ℕ)). l ++ drop (index + 1) words) next ∙ append_assoc (take index words) (c.word-item.result ∷ []) (drop (index + 1) words);
       parts = c.loop-word.parts.items;
-      are_chosen = was.chosen tells h stands;
+      are_chosen = was.chosen tells h stands cached;
       shown = subst P pages here;
     }
+
+pub returns-in_err-part-clause-cached : goal.returns-in_err-part-clause-cached
+returns-in_err-part-clause-cached g c = λ tells cached. c.part_of.ensures.cached tells (c.loop-word.invariant.cached tells cached)
+
+pub returns-in_err-push-clause-cached : goal.returns-in_err-push-clause-cached
+returns-in_err-push-clause-cached g c = λ tells cached. c.part_of.ensures.cached tells (c.loop-word.invariant.cached tells cached)
 
 pub loop-word-preserved : goal.loop-word-preserved
 loop-word-preserved g c =
@@ -40,22 +47,29 @@ loop-word-preserved g c =
     let b = c.args.span.to in
     let first = g.D.Disk.disk c.args.disk.now in
     let before = g.D.Disk.disk c.loop-word.disk in
-    let next = take_more c.args.words.now c.loop-word.word-index c.word-item.result c.loop-word-test.true ∙ ap (λ (w : List ℕ). take c.loop-word.word-index c.args.words.now ++ w ∷ []) (sym c.word-item.is) in
+    let after = g.D.Disk.disk c.part_of.new.disk in
+    let words = take c.loop-word.word-index c.args.words.now in
+    let word = c.word-item.result in
+    let next = take_more c.args.words.now c.loop-word.word-index word c.loop-word-test.true ∙ ap (λ (w : List ℕ). words ++ w ∷ []) (sym c.word-item.is) in
+    let pages : before.holds.pages ≡ first.holds.pages = ap (λ (d : DiskState). d.holds.pages) was.same in
     record {
       only = g.met.D.Disk.only_joins _ _ _ was.only done.only;
-      same = reads_join first before (g.D.Disk.disk c.part_of.new.disk) was.same done.same;
-      kept = done.kept ∙ was.kept;
-      within = reaches_on before (g.D.Disk.disk c.part_of.new.disk) c.loop-word.self c.part_of.new.self done.same done.kept was.within;
+      same = reads_join first before after was.same done.same;
+      kept = but_cache_joins c.args.self.now c.loop-word.self c.part_of.new.self was.kept done.kept;
+      cached = λ tells cached. done.cached tells (was.cached tells cached);
+      within = reaches_on before after c.loop-word.self c.part_of.new.self done.same done.kept was.within;
       many = omega (arith, ap length put, length_push c.loop-word.parts.items part, was.many);
-      chosen = λ tells h stands.
-          let pages : before.holds.pages ≡ first.holds.pages = ap (λ (d : DiskState). d.holds.pages) was.same in
-          let K : List ℕ → Type 0 = λ ps. IsChosenOf h ps c.word-item.result (plan_of h c.word-item.result) a b part.list.items part.read in
-          let here = subst K pages (done.chosen tells h (subst (λ (x : ArchiveState). StandsFor x h) (sym was.kept) stands)) in
-          let more = chosen_more a b h first.holds.pages (take c.loop-word.word-index c.args.words.now) c.loop-word.parts.items c.word-item.result part (was.chosen tells h stands) here in
+      chosen = λ tells h stands cached.
+          let K : List ℕ → Type 0 = λ ps. IsChosenOf h ps word (plan_of h word) a b part.list.items part.read in
+          let here = subst K pages (done.chosen tells h (stands_but_cache c.args.self.now c.loop-word.self h was.kept stands) (was.cached tells cached)) in
+          let more = chosen_more a b h first.holds.pages words c.loop-word.parts.items word part (was.chosen tells h stands cached) here in
           let P : List Part → Type 0 = λ l. AreChosen h first.holds.pages a b (take (c.loop-word.word-index + 1) c.args.words.now) l in
           let W : List (List ℕ) → Type 0 = λ l. AreChosen h first.holds.pages a b l (c.loop-word.parts.items ++ part ∷ []) in
           subst P (sym put) (subst W (sym next) more);
-      count = λ tells h stands.
-          counts_join first.bytes_read before.bytes_read (g.D.Disk.disk c.part_of.new.disk).bytes_read _ _ _ (was.count tells h stands) (done.count tells h (subst (λ (x : ArchiveState). StandsFor x h) (sym was.kept) stands))
-          (ap (bytes_for h a b) next ∙ bytes_more h a b (take c.loop-word.word-index c.args.words.now) c.word-item.result);
+      asked = λ tells h stands cached.
+          let K : List ℕ → Type 0 = λ ps. HasAsked (pieces_chosen ps (plan_of h word) a b) c.loop-word.self.shelf.cache c.part_of.new.self.shelf.cache before after in
+          let here = subst K pages (done.asked tells h (stands_but_cache c.args.self.now c.loop-word.self h was.kept stands) (was.cached tells cached)) in
+          asked_joins (pieces_for h first.holds.pages a b words) (pieces_chosen first.holds.pages (plan_of h word) a b) (pieces_for h first.holds.pages a b (take (c.loop-word.word-index + 1) c.args.words.now))
+          c.args.self.now.shelf.cache c.loop-word.self.shelf.cache c.part_of.new.self.shelf.cache first before after (was.asked tells h stands cached) here
+          (ap (pieces_for h first.holds.pages a b) next ∙ pieces_more h first.holds.pages a b words word);
     }

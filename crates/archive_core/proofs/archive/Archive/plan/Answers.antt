@@ -1,4 +1,4 @@
-use Rattle.std.proofs.Common.{◌≡◌, ◌+◌, ◌∷◌, [], ◌++◌, length, Result, Ok, Err, IfOk, refl, ap, sym, subst}
+use Rattle.std.proofs.Common.{rules, ◌≡◌, ◌+◌, ◌∷◌, [], ◌++◌, length, Result, Ok, Err, IfOk, refl, ap, sym, subst}
 use Rattle.record_codec.specs.declared.entry.Entry.TheVariants as entries
 use Rattle.record_codec.specs.declared.plan.PlanEntry.{PlanEntry}
 use Rattle.archive_state.specs.Histories.{History}
@@ -9,7 +9,7 @@ use Rattle.plan_shelf.specs.Readying.{tells_of}
 use Rattle.plan_shelf.specs.Readying.{summary_of}
 use Rattle.archive_core.specs.declared.error.ChangeError.{ChangeError}
 use Rattle.plan_shelf.specs.declared.readying.PlanReport.{PlanReport}
-use Rattle.archive_core.proofs.StoreLemmas.{plans_full, plans_stored, plans_refused, drafted_never, takes_plan}
+use Rattle.archive_core.proofs.StoreLemmas.{not_drafted_cached, plans_full, plans_stored, plans_refused, drafted_never, takes_plan}
 use Rattle.archive_core.proofs.TakeLemmas.{none_follows, plan_follows, stored_follows}
 use Rattle.archive_core.proofs.archive.Archive.plan.Goals as goal
 
@@ -50,16 +50,29 @@ returns-in-Ok-clause-takes g c = λ tells h kept.
       leads = leads;
       kept = then;
     })
+    (c.store.ensures.cached tells kept.cached)
 
 pub returns-in-Err-clause-refused : goal.returns-in-Err-clause-refused
 returns-in-Err-clause-refused g c = λ h stands why is.
     plans_refused h c.args.word.now c.args.kind c.args.factor c.in-Err.why c.not_drafted.result c.args.self.now c.not_drafted.new.self why c.not_drafted.ensures (c.in-Err.ensures.refused h stands) stands is
+
+pub returns-in-Err-clause-after : goal.returns-in-Err-clause-after
+returns-in-Err-clause-after g c = record {
+  failed = search rules;
+  within = search rules;
+  live = search rules;
+  same = search rules;
+  memory = search rules;
+  cached = λ tells cached is. not_drafted_cached c.in-Err.why c.not_drafted.result c.args.self.now c.not_drafted.new.self (g.D.Disk.disk c.args.disk.now) c.not_drafted.ensures cached;
+  spent = search rules;
+}
 
 pub returns-in-Err-clause-takes : goal.returns-in-Err-clause-takes
 returns-in-Err-clause-takes g c = λ tells h kept.
     takes_plan h c.args.word.now c.args.kind c.args.factor c.not_drafted.result _ _ c.args.self.now c.not_drafted.new.self kept
     (λ why is. plans_refused h c.args.word.now c.args.kind c.args.factor c.in-Err.why c.not_drafted.result c.args.self.now c.not_drafted.new.self why c.not_drafted.ensures (c.in-Err.ensures.refused h kept.stands) kept.stands is)
     (λ why is. refl) (λ is. refl) (λ is. drafted_never _ c.in-Err.why c.not_drafted.result c.args.self.now c.not_drafted.new.self c.not_drafted.ensures is)
+    ((returns-in-Err-clause-after g c).cached tells kept.cached)
 
 pub returns-in-Ok-clause-follows : goal.returns-in-Ok-clause-follows
 returns-in-Ok-clause-follows g c = λ h stands.

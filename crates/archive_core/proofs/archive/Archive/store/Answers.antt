@@ -1,7 +1,8 @@
-use Rattle.std.proofs.Common.{ℕ, ◌+◌, List, ◌∷◌, [], ◌++◌, refl, ap, sym, subst, ◌∙◌, arith, rules}
+use Rattle.std.proofs.Common.{ℕ, ◌+◌, List, ◌∷◌, [], ◌++◌, inl, refl, ap, sym, subst, ◌∙◌, arith, rules}
 use Rattle.machine_model.specs.declared.area.Area.TheVariants.{Journal, Pages}
 use Rattle.record_codec.specs.declared.entry.Entry.TheVariants as entries
 use Rattle.version_index.specs.Indexes.{seen, state_of}
+use Rattle.page_cache.specs.Caches.{Kept, StandsFor as IsCacheOf}
 use Rattle.page_store.specs.Taken.{HasTaken}
 use Rattle.archive_state.specs.declared.stored.StoredPlan.{StoredPlan}
 use Rattle.archive_state.specs.Plans.{with_plan, live_extents}
@@ -12,7 +13,8 @@ use Rattle.plan_shelf.specs.Shelves.{extents_all}
 use Rattle.plan_shelf.specs.Readying.{IsFull, tells_of}
 use Rattle.plan_shelf.specs.Readying.{summary_of}
 use Rattle.archive_core.proofs.AddLemmas.{reaches_on}
-use Rattle.archive_core.proofs.StoreLemmas.{ready_storable, ready_stored, stands_planned, reaches_planned, same_shelf, stands_still, full_refused}
+use Rattle.archive_core.proofs.CacheLemmas.{cached_on}
+use Rattle.archive_core.proofs.StoreLemmas.{not_ready_cached, ready_storable, ready_stored, stands_planned, reaches_planned, same_shelf, stands_still, full_refused}
 use Rattle.archive_core.proofs.archive.Archive.store.Goals as goal
 
 pub returns-in-Err-clause-refused : goal.returns-in-Err-clause-refused
@@ -22,6 +24,13 @@ returns-in-Err-clause-refused g c = λ h stands why is.
     let still = stands_still a h c.make_ready.new.shelf before c.in-Err.ensures.plans (c.in-Err.ensures.none _ before.pages_are) in
     full_refused c.in-Err.why c.not_ready.result _ c.not_ready.new.self h c.args.draft c.args.self.now.end why c.not_ready.ensures
     (λ because e. subst (λ (n : ℕ). IsFull c.args.draft (live_extents h) n because) (c.end.ensures.end ∙ ap (λ (s : ArchiveState). s.end) c.self.view_is) (c.in-Err.ensures.full _ before.pages_are because e)) still is
+
+pub returns-in-Err-clause-cached : goal.returns-in-Err-clause-cached
+returns-in-Err-clause-cached g c = λ tells cached is.
+    let a : ArchiveState = record { end = c.self.inside.journal.end; live = c.self.inside.live; length = c.self.inside.entries; changes = c.self.inside.directory.changes; index = state_of c.self.inside.index; shelf = c.self.inside.shelf } in
+    let disk = g.D.Disk.disk c.args.disk.now in
+    not_ready_cached c.in-Err.why c.not_ready.result (record a { shelf = c.make_ready.new.shelf }) c.not_ready.new.self disk c.not_ready.ensures
+    (cached_on c.args.self.now.shelf.cache c.make_ready.new.shelf.cache disk disk (c.in-Err.ensures.cache ∙ ap (λ (s : ArchiveState). s.shelf.cache) c.self.view_is) refl cached)
 
 pub invariant_of-self-in-Ok-write_ready : goal.invariant_of-self-in-Ok-write_ready
 invariant_of-self-in-Ok-write_ready g c =
@@ -62,6 +71,12 @@ returns-in-Ok-write_ready-clause-stores g c = λ h now.
       ),
     )
 
+pub returns-in-Ok-write_ready-clause-cached : goal.returns-in-Ok-write_ready-clause-cached
+returns-in-Ok-write_ready-clause-cached g c = λ tells cached is.
+    let disk = g.D.Disk.disk c.args.disk.now in
+    let C : List Kept → Type 0 = λ ks. IsCacheOf ks disk.holds.pages in
+    c.in-Ok-write_ready.ensures.cached tells (subst C (sym (c.in-Ok.ensures.cache ∙ ap (λ (s : ArchiveState). s.shelf.cache) c.self.view_is)) cached)
+
 pub returns-in-Ok-write_ready-clause-leads : goal.returns-in-Ok-write_ready-clause-leads
 returns-in-Ok-write_ready-clause-leads g c = λ tells h now is.
     let a : ArchiveState = record { end = c.self.inside.journal.end; live = c.self.inside.live; length = c.self.inside.entries; changes = c.self.inside.directory.changes; index = state_of c.self.inside.index; shelf = c.self.inside.shelf } in
@@ -84,6 +99,7 @@ returns-in-Ok-write_ready-clause-leads g c = λ tells h now is.
             in_step = then.0;
             legal = legal-push h (entries.Planned r.stored.plan) kept.legal storable.entry;
             held = then.1;
+            cached = returns-in-Ok-write_ready-clause-cached g c tells now.cached (inl refl);
           },
         ),
       ),
@@ -104,7 +120,7 @@ returns-in-Err-write_ready-clause-spent g c = λ is.
     let spent = c.in-Err-write_ready.ensures.spent in
     let pages = subst (λ (l : List StoredPlan). HasTaken c.write_ready.new.shelf.pages (extents_all l)) (c.in-Ok.ensures.plans ∙ stands.plans_are) spent.2 in
     let view = c.self.view_is in
-    let shelf = same_shelf c.self.inside.shelf c.write_ready.new.shelf (live_extents h) (spent.1 ∙ c.in-Ok.ensures.plans) stands.pages_are pages in
+    let shelf = same_shelf c.self.inside.shelf c.write_ready.new.shelf (live_extents h) (spent.1 ∙ c.in-Ok.ensures.plans) stands.pages_are pages (spent.3 ∙ c.in-Ok.ensures.cache) in
     record {
       end_is = spent.0 ∙ ap (λ (s : ArchiveState). s.end) view;
       length_is = ap (λ (s : ArchiveState). s.length) view;

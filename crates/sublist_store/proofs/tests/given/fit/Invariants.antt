@@ -1,7 +1,7 @@
 use Rattle.std.specs.Prelude.{◌≡◌, ◌≤◌, ◌^◌, All, sum_by, take}
 use Rattle.record_codec.specs.declared.place.Place.{Place}
 use Rattle.page_store.specs.Live.{IsInside}
-use Rattle.sublist_store.proofs.tests.fit.Given as goal
+use Rattle.sublist_store.proofs.tests.given.fit.Given as goal
 
 abbrev pub invariant-loop-place : goal.invariant-loop-place
 invariant-loop-place l = record {

@@ -4,7 +4,7 @@ use Rattle.std.proofs.lemmas.List.Elements.{All-nil, All-cons, All-append}
 use Rattle.std.proofs.lemmas.List.Sums.{sum_by-append}
 use Rattle.record_codec.specs.declared.place.Place.{Place}
 use Rattle.page_store.specs.Live.{IsInside}
-use Rattle.sublist_store.proofs.tests.fit.Goals as goal
+use Rattle.sublist_store.proofs.tests.given.fit.Goals as goal
 
 pub loop-place-preserved : goal.loop-place-preserved
 loop-place-preserved c =

@@ -1,0 +1,52 @@
+-- What holds after each call that changes an archive in hand, and after each question, whatever it is for.
+use Rattle.std.specs.Prelude.{◌≡◌, ◌⊎◌, ◌↔◌, List, ℕ, Result, Err, IsOk, IsTrue}
+use Rattle.machine_model.specs.Calls.{OnlyReads}
+use Rattle.machine_model.specs.Causes.{Rose}
+use Rattle.machine_model.specs.States.{DiskState}
+use Rattle.archive_state.specs.declared.refusal.Refusal.{Refusal}
+use Rattle.archive_core.specs.Adding.{IsSpent}
+use Rattle.archive_core.specs.Answering.{IsNoQuery, IsQuery}
+use Rattle.archive_core.specs.States.{ArchiveState, CacheStands, IsSameButCache, Reaches}
+use Rattle.archive_core.specs.declared.error.AskError.{AskError}
+use Rattle.archive_core.specs.declared.error.AskError.TheVariants as asks
+use Rattle.archive_core.specs.declared.error.ChangeError.{ChangeError}
+use Rattle.archive_core.specs.declared.error.ChangeError.TheVariants as changes
+
+-- a change was made or refused, and so the archive isn't spent
+abbrev pub IsDone : {T : Type 0} → Result T ChangeError → Type 0
+IsDone result = IsOk result ⊎ ((why : Refusal) × (result ≡ Err (changes.Refused why)))
+
+-- After a call that changes an archive, on any disk: `tells` says that the disk tells, `refused` what a refusal leaves as it was, and `uncalled`
+-- that the disk is as it was.
+pub record AfterChange {T : Type 0} (tells refused uncalled : Type 0) (result : Result T ChangeError) (d e : DiskState) (old new : ArchiveState) : Type 0 where
+  -- it failed only where a call of the disk failed
+  pub failed : result ≡ Err changes.Failed → Rose d.faults e.faults
+  -- the disk reaches as far as what the archive may read
+  pub within : Reaches e.reach new
+  -- it is live unless it is spent
+  pub live : IsTrue new.live ↔ IsDone result
+  -- a refusal changes nothing
+  pub same : (why : Refusal) → result ≡ Err (changes.Refused why) → refused
+  -- all memory is taken before the first call of the disk
+  pub memory : result ≡ Err changes.Memory → uncalled
+  -- unless it is spent, the pages that it keeps go on being what reads give
+  pub cached : tells → CacheStands d old → IsDone result → CacheStands e new
+  -- where it is spent, it has the entries, the texts and the plans that it had
+  pub spent : (result ≡ Err changes.Memory) ⊎ (result ≡ Err changes.Failed) → IsSpent old new
+
+-- After a question by this phrase, on any disk: `tells` says that the disk tells.
+pub record AfterQuestion {T : Type 0} (tells : Type 0) (phrase : List ℕ) (result : Result T AskError) (d e : DiskState) (old new : ArchiveState) : Type 0 where
+  -- no image changes, no byte and no length
+  pub same : OnlyReads d e
+  -- nor does the archive, but for which pages it keeps
+  pub kept : IsSameButCache old new
+  -- and these go on being what reads give, whatever is answered
+  pub cached : tells → CacheStands d old → CacheStands e new
+  -- it failed only where a call of the disk failed
+  pub failed : result ≡ Err asks.Failed → Rose d.faults e.faults
+  -- a refusal comes of a text that is no query, at the place where that shows
+  pub refused : (why : Refusal) → result ≡ Err (asks.Refused why) → IsNoQuery phrase why
+  -- and then nothing was read, and no page asked for
+  pub unasked : (why : Refusal) → result ≡ Err (asks.Refused why) → (e ≡ d) × (new ≡ old)
+  -- and an answer comes of a query
+  pub asked : IsOk result → IsQuery phrase
