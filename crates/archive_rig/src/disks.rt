@@ -1,10 +1,12 @@
 //! Disks in memory, and scripts on them, one run for each.
-use crate::journals::Segment;
+use crate::journals::{
+    FLAT, FOUR_RECORDS, Plan, Segment, flat_segments, journal_of, pages_of, plan_of_v, plan_record,
+};
 use crate::rows::expect_row;
 use crate::{Row, RowError, copy_image, machine_on, read_image, run_on};
 use archive_shell::Status;
 use machine_model::Image;
-use std::alloc::Global;
+use std::alloc::{AllocError, Global};
 
 /// The four changes that most rows of plans begin with: document 1 has the word `v` in [10, 40), and
 /// document 2 in [20, 30).
@@ -68,6 +70,26 @@ pub fn expect_on(alloc: Global, disk: &Image, rows: &[Row<'_>]) -> Result<(), Ro
 /// The disk after the four changes and the first plan.
 pub fn first_disk(alloc: Global) -> Result<Image, RowError> {
     disk_after_all(alloc, new_disk(alloc), &[FOUR_CHANGES, FIRST_PLAN])
+}
+
+/// A disk with the four changes, a plan and the plan's sublists, the first pages first, as the formats spell
+/// them.
+pub fn disk_with(alloc: Global, plan: &Plan<'_>) -> Result<Image, AllocError> {
+    let record = plan_record(alloc, plan)?;
+    Ok(Image {
+        journal: journal_of(alloc, &[FOUR_RECORDS, &record])?,
+        pages: pages_of(alloc, plan.segments)?,
+    })
+}
+
+/// The disk of an archive whose first plan behind the four changes is flat.
+pub fn flat_disk(alloc: Global) -> Result<Image, AllocError> {
+    let segments = flat_segments();
+    let plan = Plan {
+        form: FLAT,
+        ..plan_of_v(40, &segments)
+    };
+    disk_with(alloc, &plan)
 }
 
 /// The run of an empty script on a disk has this status and shows nothing.

@@ -1,5 +1,5 @@
 //! Journals with plans, as the formats spell them.
-use crate::sublists::{LIFE_OF_1, LIVES_OF_1_AND_2, Sublist};
+use crate::sublists::{FLAT_LIFE, FLAT_LIVES, LIFE_OF_1, LIVES_OF_1_AND_2, Sublist};
 use std::alloc::{AllocError, Global};
 
 /// A segment of a plan, with its sublist and where that lies.
@@ -28,6 +28,15 @@ pub fn first_segments() -> [Segment<'static>; 3] {
         segment_at(10, 0, LIFE_OF_1),
         segment_at(20, 1, LIVES_OF_1_AND_2),
         segment_at(30, 2, LIFE_OF_1),
+    ]
+}
+
+/// The same segments, flat.
+pub fn flat_segments() -> [Segment<'static>; 3] {
+    [
+        segment_at(10, 0, FLAT_LIFE),
+        segment_at(20, 1, FLAT_LIVES),
+        segment_at(30, 2, FLAT_LIFE),
     ]
 }
 

@@ -21,13 +21,13 @@ mod sublists;
 
 pub use changes::{Change, expect_change, expect_changes, made, refused, three_changes};
 pub use disks::{
-    FIRST_CERTIFICATE, FIRST_PLAN, FOUR_CHANGES, disk_after, disk_after_all, expect_held,
-    expect_on, expect_status, first_disk, new_disk,
+    FIRST_CERTIFICATE, FIRST_PLAN, FOUR_CHANGES, disk_after, disk_after_all, disk_with,
+    expect_held, expect_on, expect_status, first_disk, flat_disk, new_disk,
 };
 pub use error::RowError;
 pub use journals::{
     BLOCKS, FLAT, FOUR_END, FOUR_RECORDS, GUARANTEE, Plan, SINCE_30, Segment, UNIFORM,
-    first_segments, journal_of, pages_of, plan_of_v, plan_record, segment_at,
+    first_segments, flat_segments, journal_of, pages_of, plan_of_v, plan_record, segment_at,
 };
 pub use machines::{
     copy_image, count_on, join, load_image, machine_on, make_machine, read_image, read_journal,
@@ -40,6 +40,6 @@ pub use scripts::{
 };
 pub use stops::{EXTRAS, FILLS, expect_entries, expect_shown, pick_entries, pick_image};
 pub use sublists::{
-    CLIPPED_LIFE_OF_1, CLIPPED_LIVES, FIRST_LIFE, LIFE_OF_1, LIFE_OF_3, LIVES_OF_1_AND_2, NOTHING,
-    SECOND_LIFE, Sublist,
+    CLIPPED_LIFE_OF_1, CLIPPED_LIVES, FIRST_LIFE, FLAT_LIFE, FLAT_LIVES, LIFE_OF_1, LIFE_OF_3,
+    LIVES_OF_1_AND_2, NOTHING, SECOND_LIFE, Sublist,
 };

@@ -1,9 +1,10 @@
-//! Sublists in blocks as the formats spell them, with their digests.
+//! Sublists as the formats spell them, in blocks and flat, with their digests.
 //!
 //! A block begins with the number of its postings in a byte, the number of the bytes behind its header
 //! in 2, the greatest frequency in 4, and its first and last document in 4 each. The first posting is its
 //! frequency, its start and its length, in 7 bits a byte; a later one has how far its document is from
-//! the one before in front of these.
+//! the one before in front of these. Flat, a posting has 24 bytes: its document and its frequency in 4
+//! each, and its start and its end in 8 each.
 
 /// A sublist: its bytes, and their SHA-256.
 #[derive(Clone, Copy, Debug)]
@@ -61,6 +62,23 @@ pub const CLIPPED_LIVES: Sublist<'static> = Sublist {
     bytes: b"\x02\x00\x07\x00\x00\x00\x01\x00\x00\x00\x01\x00\x00\x00\x02\x01\x0a\x14\x01\x01\x14\x0a",
     digest: b"\x05\xde\x14\x3b\x8f\x86\x73\x01\x2b\xc7\xdb\xf5\xe0\x1a\xd9\x55\
         \x95\xac\x51\x65\xdb\x20\x48\xc6\xcf\x98\xe1\xcf\x65\x4e\x8f\xbd",
+};
+
+/// Document 1 has it once in [10, 40), flat.
+pub const FLAT_LIFE: Sublist<'static> = Sublist {
+    bytes: b"\x00\x00\x00\x01\x00\x00\x00\x01\x00\x00\x00\x00\x00\x00\x00\x0a\
+        \x00\x00\x00\x00\x00\x00\x00\x28",
+    digest: b"\x71\x3c\x58\x58\x83\x5b\xfe\xf5\xe1\x79\x03\x6b\x97\x57\xc8\x26\
+        \x58\x72\xcc\xa3\x29\x4c\x93\x70\x12\x04\x59\xca\x08\x4c\x34\x49",
+};
+
+/// Document 1 has it once in [10, 40), and document 2 in [20, 30), flat.
+pub const FLAT_LIVES: Sublist<'static> = Sublist {
+    bytes: b"\x00\x00\x00\x01\x00\x00\x00\x01\x00\x00\x00\x00\x00\x00\x00\x0a\
+        \x00\x00\x00\x00\x00\x00\x00\x28\x00\x00\x00\x02\x00\x00\x00\x01\
+        \x00\x00\x00\x00\x00\x00\x00\x14\x00\x00\x00\x00\x00\x00\x00\x1e",
+    digest: b"\x9e\x7b\x19\x95\xab\x05\x8b\x20\x26\x32\x3f\x96\xcd\x0a\x8d\xb4\
+        \x47\x81\x14\xb1\x4e\x82\x66\x3a\xd2\x6c\x11\x67\xdc\x59\x00\x18",
 };
 
 /// No posting.

@@ -1,8 +1,8 @@
 //! Sublists with bytes that changed: the first is told, with what was found there and what is wanted.
-use crate::disks::{disk_with, expect_told, put_byte};
+use crate::disks::{expect_told, put_byte};
 use archive_rig::{
-    CLIPPED_LIVES, LIFE_OF_1, LIVES_OF_1_AND_2, Row, Sublist, copy_image, disk_after, expect_on,
-    first_disk, first_segments, machine_on, plan_of_v, run_on, segment_at,
+    CLIPPED_LIVES, LIFE_OF_1, LIVES_OF_1_AND_2, Row, Sublist, copy_image, disk_after, disk_with,
+    expect_on, first_disk, first_segments, machine_on, plan_of_v, run_on, segment_at,
 };
 use archive_shell::Status;
 use std::test::Fail;
@@ -45,6 +45,30 @@ fn bytes_whose_digest_was_made_anew_are_seen_by_the_check_alone(
     let left = disk_after(alloc, &disk, &row)?;
     assert_eq!(rt; left.journal.as_slice(), disk.journal.as_slice());
     assert_eq!(rt; left.pages.as_slice(), disk.pages.as_slice());
+    Ok(())
+}
+
+// Under the digest that the texts' sublist has, the same bytes end the run at the first question that reads
+// them, whatever was asked before.
+#[test]
+fn bytes_under_the_digest_of_others_are_answered_by_no_text(rt: HostRuntime) -> Result<(), Fail> {
+    let alloc = rt.alloc();
+    let mut segments = first_segments();
+    segments[0].sublist = Sublist {
+        digest: LIFE_OF_1.digest,
+        ..TWICE
+    };
+    let disk = disk_with(alloc, &plan_of_v(40, &segments))?;
+    let script = b"find 25 v\nverify\nfind 25 v\nfind 15 v\nfind 25 v\n";
+    let mut machine = machine_on(alloc, script, disk, &[])?;
+    let status = run_on(alloc, &mut machine)?;
+    let told = format!(in alloc; "{status}")?;
+    let line = "tt_archive: damaged sublist at page 0: digest";
+    assert_eq!(rt; told.as_str(), line);
+    assert_eq!(rt; status.code(), 8);
+    let replies =
+        b"hit 1 1\nhit 2 1\nend 2 read 2\ndiffers v 0 6 02 01\nhit 1 1\nhit 2 1\nend 2 read 2\n";
+    assert_eq!(rt; machine.shown(), replies.as_slice());
     Ok(())
 }
 

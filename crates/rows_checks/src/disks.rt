@@ -1,17 +1,8 @@
-//! Disks with the four changes and a plan of their word, as the formats spell them.
-use archive_rig::{FOUR_RECORDS, Plan, Row, expect_on, journal_of, pages_of, plan_record};
+//! What a check tells of a disk, and bytes put in its Pages.
+use archive_rig::{Row, expect_on};
 use machine_model::Image;
-use std::alloc::{AllocError, Global};
+use std::alloc::Global;
 use std::test::Fail;
-
-/// A disk with the four changes, a plan and the plan's sublists, the first pages first.
-pub(crate) fn disk_with(alloc: Global, plan: &Plan<'_>) -> Result<Image, AllocError> {
-    let record = plan_record(alloc, plan)?;
-    Ok(Image {
-        journal: journal_of(alloc, &[FOUR_RECORDS, &record])?,
-        pages: pages_of(alloc, plan.segments)?,
-    })
-}
 
 /// A check of the disk tells this.
 pub(crate) fn expect_told(alloc: Global, disk: &Image, told: &[u8]) -> Result<(), Fail> {

@@ -1,7 +1,7 @@
 //! Plans that take more space than they have to.
-use crate::disks::{disk_with, expect_told, put_byte};
+use crate::disks::{expect_told, put_byte};
 use archive_rig::{
-    LIFE_OF_1, LIVES_OF_1_AND_2, Plan, UNIFORM, first_segments, plan_of_v, segment_at,
+    LIFE_OF_1, LIVES_OF_1_AND_2, Plan, UNIFORM, disk_with, first_segments, plan_of_v, segment_at,
 };
 use std::test::Fail;
 

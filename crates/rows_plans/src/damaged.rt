@@ -1,12 +1,12 @@
 //! Sublists that aren't what the entries of their plans say, and the run's end where one is read.
 use archive_rig::{
-    CLIPPED_LIVES, FIRST_CERTIFICATE, FIRST_LIFE, FOUR_RECORDS, LIFE_OF_1, LIFE_OF_3, NOTHING, Row,
-    Segment, Sublist, copy_image, disk_after, expect_on, first_disk, first_segments, journal_of,
-    machine_on, pages_of, plan_of_v, plan_record, read_image, run_on, segment_at,
+    CLIPPED_LIVES, FIRST_CERTIFICATE, FIRST_LIFE, LIFE_OF_1, LIFE_OF_3, NOTHING, Row, Sublist,
+    copy_image, disk_after, disk_with, expect_on, first_disk, first_segments, machine_on,
+    plan_of_v, read_image, run_on, segment_at,
 };
 use archive_shell::Status;
 use machine_model::Image;
-use std::alloc::{AllocError, Global};
+use std::alloc::Global;
 use std::process::Abort;
 use std::test::Fail;
 use sublist_store::{Damage, Why};
@@ -153,15 +153,6 @@ fn what_reads_other_sublists_or_none_is_answered(rt: HostRuntime) -> Result<(), 
     Ok(())
 }
 
-/// A disk with the four changes and a plan that keeps these sublists, with their digests.
-fn disk_of(alloc: Global, segments: &[Segment<'_>]) -> Result<Image, AllocError> {
-    let record = plan_record(alloc, &plan_of_v(40, segments))?;
-    Ok(Image {
-        journal: journal_of(alloc, &[FOUR_RECORDS, &record])?,
-        pages: pages_of(alloc, segments)?,
-    })
-}
-
 // The digests are right: no archive wrote these.
 #[test]
 fn bytes_that_are_no_sublist_of_the_segment_are_told_why(rt: HostRuntime) -> Result<(), Fail> {
@@ -218,7 +209,7 @@ fn bytes_that_are_no_sublist_of_the_segment_are_told_why(rt: HostRuntime) -> Res
             "tt_archive: damaged sublist at page 0: bare",
         ),
     ] {
-        let disk = disk_of(alloc, segments)?;
+        let disk = disk_with(alloc, &plan_of_v(40, segments))?;
         let script = [before, last].concat(alloc)?;
         let row = Row {
             script: &script,
@@ -234,7 +225,8 @@ fn bytes_that_are_no_sublist_of_the_segment_are_told_why(rt: HostRuntime) -> Res
 fn a_document_that_is_not_alive_is_no_hit(rt: HostRuntime) -> Result<(), Fail> {
     let alloc = rt.alloc();
     let [_, two, three] = first_segments();
-    let disk = disk_of(alloc, &[segment_at(10, 0, LIFE_OF_9), two, three])?;
+    let segments = [segment_at(10, 0, LIFE_OF_9), two, three];
+    let disk = disk_with(alloc, &plan_of_v(40, &segments))?;
     let rows = [Row {
         script: b"find 15 v\nbetween 10 20 v\nfind 25 v\n",
         replies: b"end 0 read 1\nend 0 read 1\nhit 1 1\nhit 2 1\nend 2 read 2\n",

@@ -1,41 +1,14 @@
 //! An archive with a plan whose sublists are flat, 24 bytes a posting: it is read, and new plans are in
 //! blocks. A program that knows the formats alone made its files.
 use archive_rig::{
-    FIRST_CERTIFICATE, FLAT, FOUR_RECORDS, LIFE_OF_1, LIVES_OF_1_AND_2, Plan, Row, Segment,
-    Sublist, disk_after, expect_held, expect_on, journal_of, pages_of, plan_of_v, plan_record,
+    FIRST_CERTIFICATE, FLAT, FOUR_RECORDS, LIFE_OF_1, LIVES_OF_1_AND_2, Plan, Row, disk_after,
+    expect_held, expect_on, flat_disk, flat_segments, journal_of, plan_of_v, plan_record,
     segment_at,
 };
-use machine_model::Image;
 use std::alloc::{AllocError, Global};
 use std::test::Fail;
 
-/// Document 1 has the word once in [10, 40), flat.
-const FLAT_LIFE: Sublist<'static> = Sublist {
-    bytes: b"\x00\x00\x00\x01\x00\x00\x00\x01\x00\x00\x00\x00\x00\x00\x00\x0a\
-        \x00\x00\x00\x00\x00\x00\x00\x28",
-    digest: b"\x71\x3c\x58\x58\x83\x5b\xfe\xf5\xe1\x79\x03\x6b\x97\x57\xc8\x26\
-        \x58\x72\xcc\xa3\x29\x4c\x93\x70\x12\x04\x59\xca\x08\x4c\x34\x49",
-};
-
-/// Document 1 has it once in [10, 40), and document 2 in [20, 30), flat.
-const FLAT_LIVES: Sublist<'static> = Sublist {
-    bytes: b"\x00\x00\x00\x01\x00\x00\x00\x01\x00\x00\x00\x00\x00\x00\x00\x0a\
-        \x00\x00\x00\x00\x00\x00\x00\x28\x00\x00\x00\x02\x00\x00\x00\x01\
-        \x00\x00\x00\x00\x00\x00\x00\x14\x00\x00\x00\x00\x00\x00\x00\x1e",
-    digest: b"\x9e\x7b\x19\x95\xab\x05\x8b\x20\x26\x32\x3f\x96\xcd\x0a\x8d\xb4\
-        \x47\x81\x14\xb1\x4e\x82\x66\x3a\xd2\x6c\x11\x67\xdc\x59\x00\x18",
-};
-
-/// The archive's plan.
-fn flat_segments() -> [Segment<'static>; 3] {
-    [
-        segment_at(10, 0, FLAT_LIFE),
-        segment_at(20, 1, FLAT_LIVES),
-        segment_at(30, 2, FLAT_LIFE),
-    ]
-}
-
-/// The plan's record.
+/// The record of the archive's plan.
 fn flat_record(alloc: Global) -> Result<Vec<u8>, AllocError> {
     let segments = flat_segments();
     let plan = Plan {
@@ -45,15 +18,7 @@ fn flat_record(alloc: Global) -> Result<Vec<u8>, AllocError> {
     plan_record(alloc, &plan)
 }
 
-/// The archive's files, 277 and 8,216 bytes.
-fn flat_disk(alloc: Global) -> Result<Image, AllocError> {
-    let record = flat_record(alloc)?;
-    Ok(Image {
-        journal: journal_of(alloc, &[FOUR_RECORDS, &record])?,
-        pages: pages_of(alloc, &flat_segments())?,
-    })
-}
-
+// The archive's files have 277 and 8,216 bytes.
 #[test]
 fn a_flat_plan_is_read_and_certified(rt: HostRuntime) -> Result<(), Fail> {
     let alloc = rt.alloc();

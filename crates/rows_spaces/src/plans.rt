@@ -3,12 +3,9 @@
 //! The word's list is document 1 in [10, 40) and document 2 in [20, 30), so the boundaries are 10, 20, 30 and
 //! 40. A segment has 2 postings, but [10, 20) and [30, 40) have 1. So one segment takes 2, two take 3, and
 //! three take 4.
-use archive_rig::{
-    BLOCKS, FOUR_CHANGES, FOUR_RECORDS, Plan, Row, Segment, disk_after_all, journal_of, new_disk,
-    pages_of, plan_record,
-};
+use archive_rig::{BLOCKS, FOUR_CHANGES, Plan, Row, Segment, disk_after_all, new_disk};
 use machine_model::Image;
-use std::alloc::{AllocError, Global};
+use std::alloc::Global;
 use std::test::Fail;
 
 /// What is asked of the word's list, before it, in it and behind it, at times and over windows.
@@ -59,13 +56,4 @@ pub(crate) fn plan_of<'a>(
         word: b"v",
         segments,
     }
-}
-
-/// A disk with the four changes and a plan, and the plan's sublists, the first pages first.
-pub(crate) fn disk_with(alloc: Global, plan: &Plan<'_>) -> Result<Image, AllocError> {
-    let record = plan_record(alloc, plan)?;
-    Ok(Image {
-        journal: journal_of(alloc, &[FOUR_RECORDS, &record])?,
-        pages: pages_of(alloc, plan.segments)?,
-    })
 }
