@@ -3,9 +3,10 @@
 from __future__ import annotations
 
 import os
+import subprocess
 import sys
 
-from support import ArchiveCase
+from support import TOOLS, ArchiveCase
 
 DAY = 86_400
 #: 2007-07-23
@@ -106,6 +107,12 @@ class FolderImport(ArchiveCase):
     def test_one_at_a_time(self) -> None:
         with self.open():
             self.assertIn("another tt is at work", self.tt("status", status=1).stderr)
+
+    def test_the_command_by_itself(self) -> None:
+        done = subprocess.run([TOOLS / "tt", "-C", self.archive, "find", "bridge"], capture_output=True, text=True)
+        self.assertEqual((done.stdout, done.stderr, done.returncode), ("0 documents now; 0 postings read\n", "", 0))
+        done = subprocess.run([TOOLS / "tt", "-C", self.folder, "status"], capture_output=True, text=True)
+        self.assertEqual((done.stdout, done.returncode), ("", 1))
 
     def test_no_archive(self) -> None:
         done = self.tt("-C", self.folder, "status", status=1)

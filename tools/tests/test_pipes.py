@@ -122,6 +122,23 @@ class ManyUnderWay(ArchiveCase):
         done = self.tt("import", "git", self.repository.path, status=1)
         self.assertIn(":file200: git doesn't have this file's content", done.stderr)
 
+    def test_git_ends_with_the_import(self) -> None:
+        self.repository.commit(START, one_txt=b"one")
+        noting = self.folder / "noting"
+        noting.mkdir()
+        (noting / "git").write_text(f"#!/bin/sh\necho $$ >>'{noting}/pids'\nPATH=${{PATH#*:}} exec git \"$@\"\n")
+        (noting / "git").chmod(0o755)
+        path = f"{noting}:{os.environ['PATH']}"
+        self.tt("import", "git", self.repository.path, PATH=path)
+        self.tt("import", "git", self.repository.path, "--branch", "none", status=1, PATH=path)
+        self.tt("import", "git", self.repository.path, status=1, PATH=path, TT_ARCHIVE="false")
+        (self.archive / "names.tsv").write_text("no table\n")
+        self.tt("import", "git", self.repository.path, status=1, PATH=path)
+        pids = (noting / "pids").read_text().split()
+        self.assertGreater(len(pids), 3)
+        for pid in pids:
+            self.assertRaises(ProcessLookupError, os.kill, int(pid), 0)
+
     def test_the_end_of_a_program_that_has_much_to_print(self) -> None:
         program = Program(["sh", "-c", "cat >&2; head -c 1000000 /dev/zero; exit 3"], Shard(self.folder))
         self.assertEqual(bytes(program.write(memoryview(b"said"))), b"")

@@ -9,7 +9,6 @@ from pathlib import Path
 from typing import Sequence, TypeAlias
 
 from .errors import ToolError
-from .program import VARIABLE
 from .wording import one_line
 
 #: The commands of a parser, or the sources of `import`.
@@ -51,7 +50,7 @@ def _parser() -> argparse.ArgumentParser:
     parser = argparse.ArgumentParser(prog="tt", description=_ABOUT)
     add = parser.add_argument
     add("-C", "--archive", type=Path, default=Path("."), metavar="FOLDER", help="the archive's folder (here)")
-    add("--program", metavar="WORDS", help=f"the tt_archive to run (${VARIABLE}, on the path, or built here)")
+    add("--program", metavar="WORDS", help="the tt_archive to run ($TT_ARCHIVE, on the path, or built here)")
     add("-q", "--quiet", action="store_true", help="no progress on a terminal")
     kinds = parser.add_subparsers(required=True, metavar="COMMAND")
     _add_filling(kinds)
@@ -67,10 +66,10 @@ def _command(kinds: Kinds, name: str, run: str, help: str) -> argparse.ArgumentP
 
 
 def _add_filling(kinds: Kinds) -> None:
-    init = _command(kinds, "init", "importing.init", "make an empty archive")
+    init = _command(kinds, "init", "filling.init", "make an empty archive")
     init.add_argument("folder", type=Path, metavar="FOLDER")
     _add_sources(kinds.add_parser("import", help="fill the archive from a source"))
-    shard = _command(kinds, "shard", "importing.shard", "split the archive by document into N archives below INTO")
+    shard = _command(kinds, "shard", "filling.shard", "split the archive by document into N archives below INTO")
     shard.add_argument("count", type=int, metavar="N")
     shard.add_argument("into", type=Path, metavar="INTO")
     shard.add_argument("--empty", action="store_true", help="make empty archives, to import into")

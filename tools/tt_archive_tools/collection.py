@@ -19,7 +19,6 @@ from types import TracebackType
 from typing import Any, Callable, Iterator, Sequence
 
 from . import commands
-from .damage import explained
 from .errors import NotBuilt, ProgramFailed, ToolError
 from .ledger import FILE as IMPORTS
 from .names import FILE as NAMES
@@ -106,7 +105,7 @@ class Collection:
         if kind is None:
             for shard, (status, said) in zip(self.shards, ends):
                 if status != 0:
-                    raise ProgramFailed(f"{shard}: {explained(said, shard) or 'status %d' % status}")
+                    raise ProgramFailed(f"{shard}: {_explained(said, shard) or 'status %d' % status}")
 
     def side_of(self, doc: int) -> int:
         """Which of the archives has the document."""
@@ -235,8 +234,14 @@ def _replies(program: Program) -> Iterator[Reply]:
     if wrong or program.ended:
         program.end_input()
         status, said = program.wait()
-        why = explained(said, program.shard) or wrong or f"tt_archive ended with status {status}"
+        why = _explained(said, program.shard) or wrong or f"tt_archive ended with status {status}"
         raise ProgramFailed(f"{program.shard}: {why}")
+
+
+def _explained(said: str, shard: Shard) -> str:
+    from .damage import explained  # loaded where something is wrong
+
+    return explained(said, shard)
 
 
 def make_archive(folder: Path, command: Sequence[str]) -> None:

@@ -19,8 +19,9 @@ from .sources import Source
 from .texts import Reading
 from .times import show_time
 
-#: Changes are sent in batches of so many, or of so many bytes of text.
-_BATCH = 256
+#: Changes are sent in batches of so many, at first fewer, so that the program begins soon, or of so many
+#: bytes of text.
+_FIRST, _BATCH = 16, 256
 _BATCH_BYTES = 1 << 20
 
 
@@ -110,6 +111,7 @@ class _Feeder:
         self._latest = -1 if last is None else last
         self._refused_times: list[int] = []
         self._batch: list[Change] = []
+        self._most = _FIRST
         self._bytes = 0
 
     def feed(self, changes: Iterable[Change]) -> None:
@@ -144,7 +146,7 @@ class _Feeder:
             return
         self._batch.append(change)
         self._bytes += len(change.text or b"")
-        if len(self._batch) >= _BATCH or self._bytes >= _BATCH_BYTES:
+        if len(self._batch) >= self._most or self._bytes >= _BATCH_BYTES:
             self._send()
 
     def _send(self) -> None:
@@ -166,6 +168,7 @@ class _Feeder:
             self._collection.send(side, b"".join(lines), sent, self._answered)
         self._progress.step(len(self._batch), self._batch[-1].time)
         self._batch.clear()
+        self._most = min(2 * self._most, _BATCH)
         self._bytes = 0
 
     def _answered(self, sent: _Sent, reply: Reply) -> None:

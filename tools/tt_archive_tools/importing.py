@@ -1,34 +1,22 @@
-"""The commands that fill an archive: init, import and shard. Each loads what it alone needs."""
+"""The commands that import. Each makes its source, and loads what it alone needs."""
 
 from __future__ import annotations
 
 import argparse
-import sys
+from contextlib import ExitStack
 from pathlib import Path
 
-from .changes import Notes
-from .collection import Collection, make_archive
-from .errors import ToolError
-from .feeding import Progress, Tally, import_source
-from .program import find_program
 from .sources import Source, Together
-from .texts import Reading
-from .times import show_time
-from .wording import counted, one_line
-
-
-def init(options: argparse.Namespace) -> None:
-    make_archive(options.folder, find_program(options.program))
-    print(f"an archive is in {options.folder}")
 
 
 def import_git(options: argparse.Namespace) -> None:
     from .sources.git import GitSource
 
-    _import(options, _together([
-        GitSource(repository, options.branch, tuple(options.only), prefix)
-        for repository, prefix in _prefixed(options.repositories, options.prefix)
-    ]))  # fmt: skip
+    with ExitStack() as running:
+        _import(options, _together([
+            running.enter_context(GitSource(repository, options.branch, tuple(options.only), prefix))
+            for repository, prefix in _prefixed(options.repositories, options.prefix)
+        ]))  # fmt: skip
 
 
 def import_mediawiki(options: argparse.Namespace) -> None:
@@ -49,25 +37,6 @@ def import_folder(options: argparse.Namespace) -> None:
     _import(options, _together([FolderSource(*each) for each in _prefixed(options.trees, options.prefix)]))
 
 
-def shard(options: argparse.Namespace) -> None:
-    from .shards import make_shards, split
-
-    command = find_program(options.program)
-    if options.empty:
-        make_shards(options.into, options.count)
-        with Collection(options.into, command):
-            pass
-        print(f"{counted(options.count, 'empty archive')}, in {options.into}")
-        return
-    with Collection(options.archive, command) as archive:
-        if len(archive.shards) > 1:
-            raise ToolError(f"{options.archive} is split already")
-        make_shards(options.into, options.count)
-        with Collection(options.into, command) as shards:
-            entries = split(archive, shards)
-    print(f"{entries} versions and deletions are in {counted(options.count, 'archive')} in {options.into}")
-
-
 def _prefixed(paths: list[Path], prefix: str) -> list[tuple[Path, str]]:
     """Where there are several, the documents of each are named after it."""
     if len(paths) == 1:
@@ -80,31 +49,6 @@ def _together(sources: list[Source]) -> Source:
 
 
 def _import(options: argparse.Namespace, source: Source) -> None:
-    progress = Progress(not options.quiet)
+    from .filling import import_from  # git is at work while this is loaded
 
-    def tell(line: str) -> None:
-        progress.clear()
-        print(one_line(line), file=sys.stderr)
-
-    notes = Notes(tell, progress.show)
-    reading = Reading(options.charset, options.keep_html)
-    try:
-        with Collection(options.archive, find_program(options.program)) as collection:
-            tally = import_source(collection, source, reading, notes, progress)
-    finally:
-        progress.clear()
-    _report(tally, notes)
-
-
-def _report(tally: Tally, notes: Notes) -> None:
-    print(f"{counted(tally.arrived, 'version')} and {counted(tally.ended, 'deletion')} are in the archive")
-    if tally.before:
-        print(f"imported before, until {show_time(tally.before_until)}: {counted(tally.before, 'change')}")
-    if tally.late:
-        why = "since an archive takes nothing before its last time"
-        print(f"of these new in the source, and too late, {why}: {tally.late}")
-    for name, count in tally.refused.items():
-        print(f"refused, {name}: {count}")
-    for kind, count in notes.counts.items():
-        if not kind.startswith("refused: "):
-            print(f"{kind}: {count}")
+    import_from(source, options)

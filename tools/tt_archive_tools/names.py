@@ -9,7 +9,6 @@ never used and is taken away.
 
 from __future__ import annotations
 
-import difflib
 import os
 import re
 from pathlib import Path
@@ -76,6 +75,8 @@ class NameTable:
                 return self._numbers[spelled]
         if re.fullmatch(r"#\d{1,10}", name, re.ASCII):
             return int(name[1:])
+        import difflib  # loaded where it is needed
+
         close = difflib.get_close_matches(name, self._numbers, n=3)
         hint = f"; near it: {', '.join(map(escape, close))}" if close else ""
         raise ToolError(f"no document is named {name!r}{hint}")

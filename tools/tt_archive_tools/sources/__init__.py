@@ -2,13 +2,13 @@
 
 from __future__ import annotations
 
-from dataclasses import dataclass
 from heapq import merge
 from operator import attrgetter
-from typing import Iterator, Protocol
+from typing import TYPE_CHECKING, Iterator, Protocol
 
-from ..changes import Change, Notes
-from ..texts import Reading
+if TYPE_CHECKING:
+    from ..changes import Change, Notes
+    from ..texts import Reading
 
 
 class Source(Protocol):
@@ -22,11 +22,11 @@ class Source(Protocol):
         """All changes, in order of time."""
 
 
-@dataclass(frozen=True)
 class Together:
     """Several sources as one, in order of time over all of them."""
 
-    sources: tuple[Source, ...]
+    def __init__(self, sources: tuple[Source, ...]) -> None:
+        self.sources = sources
 
     @property
     def identity(self) -> str:

@@ -6,22 +6,25 @@ the last one counts. A renamed file ends under the old name and begins under the
 that git would call binary, symbolic links and submodules have no text.
 
 Three commands of git (2.31 or newer) run beside the import: the commits, what each changed, and the
-contents, which are asked for ahead.
+contents, which are asked for ahead. They begin before the rest of the tools is loaded and the archive
+is open, since the oldest commit is the last that git comes to.
 """
 
 from __future__ import annotations
 
-from contextlib import contextmanager, suppress
-from dataclasses import dataclass
+import os
+from contextlib import ExitStack, suppress
 from io import BufferedReader
 from itertools import islice
 from pathlib import Path
 from subprocess import DEVNULL, PIPE, Popen
-from typing import IO, Iterator, NamedTuple
+from typing import IO, TYPE_CHECKING, Iterator, NamedTuple
 
-from ..changes import Change, Notes
 from ..errors import InputError
-from ..texts import Reading
+
+if TYPE_CHECKING:
+    from ..changes import Change, Notes
+    from ..texts import Reading
 
 _FILES = {b"100644", b"100755"}
 _KINDS = {b"120000": "symbolic link, so without a text", b"160000": "submodule, so without a text"}
@@ -30,8 +33,9 @@ _GONE = b"000000"
 _COMMITS = ("rev-list", "--first-parent", "--reverse")
 _CHANGES = ("diff-tree", "--stdin", "--root", "--diff-merges=first-parent", "--always", "--format=%H %ct",
             "-r", "-z", "--raw", "--no-renames", "--no-abbrev")  # fmt: skip
-#: So many contents are asked for at once: the names of two batches fit into a pipe, which so never blocks.
-_BATCH = 64
+#: So many contents are asked for at once, at first fewer, so that the first comes soon. The names of two
+#: batches fit into a pipe, which so never blocks.
+_FIRST, _BATCH = 16, 64
 _PIECE = 1 << 16
 
 
@@ -43,14 +47,26 @@ class _FileChange(NamedTuple):
     blob: bytes
 
 
-@dataclass(frozen=True)
 class GitSource:
-    """One branch of a repository."""
+    """One branch of a repository. A context: git runs from when it is entered until it is left."""
 
-    repository: Path
-    branch: str = "HEAD"
-    only: tuple[str, ...] = ()
-    prefix: str = ""
+    def __init__(self, repository: Path, branch: str = "HEAD", only: tuple[str, ...] = (), prefix: str = "") -> None:
+        self.repository = repository
+        self.branch = branch
+        self.only = only
+        self.prefix = prefix
+        self._running = ExitStack()
+
+    def __enter__(self) -> GitSource:
+        with ExitStack() as running:
+            self._commits = self._start(running, *_COMMITS, self.branch, "--", stderr=PIPE)
+            self._trees = self._start(running, *_CHANGES, "--", *self.only, stdin=self._commits.stdout)
+            self._blobs = self._start(running, "cat-file", "--batch", stdin=PIPE)
+            self._running = running.pop_all()
+        return self
+
+    def __exit__(self, *_: object) -> None:
+        self._running.close()
 
     @property
     def identity(self) -> str:
@@ -58,32 +74,28 @@ class GitSource:
         return " ".join(part for part in parts if part)
 
     def changes(self, reading: Reading, notes: Notes) -> Iterator[Change]:
-        with self._running(*_COMMITS, self.branch, "--", stderr=PIPE) as commits, \
-             self._running(*_CHANGES, "--", *self.only, stdin=commits.stdout) as trees, \
-             self._running("cat-file", "--batch", stdin=PIPE) as blobs:  # fmt: skip
-            for change in _asked_for(blobs, _differences(trees, notes)):
-                place = f"{change.commit[:12]}:{change.path}"
-                text = _text(change, blobs, reading, place, notes)
-                yield Change(change.time, self.prefix + change.path, text, place)
-            self._check(commits)
-            if trees.wait() != 0:
-                raise InputError(str(self.repository), "git diff-tree failed (git 2.31 or newer is needed)")
+        from ..changes import Change  # git walks while this is loaded
 
-    @contextmanager
-    def _running(
-        self, *words: str, stdin: IO[bytes] | int | None = DEVNULL, stderr: int = DEVNULL
-    ) -> Iterator[Popen[bytes]]:
+        for change in _asked_for(self._blobs, _differences(self._trees, notes)):
+            place = f"{change.commit[:12]}:{change.path}"
+            text = _text(change, self._blobs, reading, place, notes)
+            yield Change(change.time, self.prefix + change.path, text, place)
+        self._check(self._commits)
+        if self._trees.wait() != 0:
+            raise InputError(str(self.repository), "git diff-tree failed (git 2.31 or newer is needed)")
+
+    def _start(
+        self, running: ExitStack, *words: str, stdin: IO[bytes] | int | None = DEVNULL, stderr: int = DEVNULL
+    ) -> Popen[bytes]:
         """A git command that runs beside this program, and ends with it."""
         words = ("git", "-C", str(self.repository), *words)
+        env = {**os.environ, "GIT_FLUSH": "0"}  # commits come in whole pieces, and not one by one
         try:
-            process = Popen(words, _PIECE, stdin=stdin, stdout=PIPE, stderr=stderr, start_new_session=True)
+            process = Popen(words, _PIECE, stdin=stdin, stdout=PIPE, stderr=stderr, env=env, start_new_session=True)
         except FileNotFoundError:
             raise InputError(str(self.repository), "git isn't installed: install the package git") from None
-        try:
-            yield process
-        finally:
-            process.kill()
-            process.communicate()
+        running.callback(_end, process)
+        return process
 
     def _check(self, commits: Popen[bytes]) -> None:
         """An error where there is no repository or no such branch."""
@@ -95,6 +107,11 @@ class GitSource:
             raise InputError(str(self.repository), next((line for line in said if line.startswith("fatal:")), said[-1]))
 
 
+def _end(process: Popen[bytes]) -> None:
+    process.kill()
+    process.communicate()
+
+
 def _differences(trees: Popen[bytes], notes: Notes) -> Iterator[_FileChange]:
     """What each commit changed: its hash and time, and then for each file two modes, two contents
     and a letter, and its path."""
@@ -102,12 +119,13 @@ def _differences(trees: Popen[bytes], notes: Notes) -> Iterator[_FileChange]:
     fields = _fields(trees)
     for field in fields:
         if b":" not in field:
-            commit, time = field.decode().split()
-            if int(time) < latest:
+            commit, seconds = field.decode().split()
+            time = int(seconds)
+            if time < latest:
                 notes.count("commits older than their parent, taken at its time")
-            if int(time) <= latest:
+            if time <= latest:
                 notes.count("commits that another of the same second replaced")
-            latest = max(int(time), latest)
+            latest = max(time, latest)
             continue
         _, mode, _, blob, _ = field.split(b" ")
         if (path := next(fields, None)) is None:
@@ -128,15 +146,16 @@ def _asked_for(blobs: Popen[bytes], changes: Iterator[_FileChange]) -> Iterator[
     """The changes, with the contents of all files asked for in their order, a batch or two ahead."""
     assert blobs.stdin
     asked: list[_FileChange] = []
+    most = _FIRST
     while True:
-        batch = list(islice(changes, _BATCH))
+        batch = list(islice(changes, most))
         with suppress(BrokenPipeError):  # what then is missing is told where it is read
             blobs.stdin.write(b"".join(change.blob + b"\n" for change in batch if change.mode in _FILES))
             blobs.stdin.flush()
         yield from asked
         if not batch:
             return
-        asked = batch
+        asked, most = batch, min(2 * most, _BATCH)
 
 
 def _text(
