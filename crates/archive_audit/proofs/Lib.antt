@@ -1,1 +1,1 @@
-pub mod AuditLemmas
+mod AuditLemmas

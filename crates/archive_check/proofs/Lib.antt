@@ -1,9 +1,9 @@
-pub mod ByteLemmas
-pub mod TextLemmas
-pub mod SegmentLemmas
-pub mod LeastLemmas
-pub mod PlanLemmas
-pub mod Sorting
-pub mod OrderLemmas
+mod ByteLemmas
+mod TextLemmas
+mod SegmentLemmas
+mod LeastLemmas
+mod PlanLemmas
+mod Sorting
+mod OrderLemmas
 pub mod LawLemmas
 pub mod SoundLemmas

@@ -1,15 +1,15 @@
-pub mod TextLemmas
+mod TextLemmas
 pub mod AddLemmas
-pub mod LoadLemmas
-pub mod TakeLemmas
-pub mod AnswerLemmas
-pub mod SpanLemmas
-pub mod PlanLemmas
-pub mod LiveLemmas
-pub mod StoreLemmas
-pub mod StandLemmas
-pub mod CertifyLemmas
-pub mod CheckLemmas
-pub mod ChosenLemmas
-pub mod CacheLemmas
-pub mod DraftLemmas
+mod LoadLemmas
+mod TakeLemmas
+mod AnswerLemmas
+mod SpanLemmas
+mod PlanLemmas
+mod LiveLemmas
+mod StoreLemmas
+mod StandLemmas
+mod CertifyLemmas
+mod CheckLemmas
+mod ChosenLemmas
+mod CacheLemmas
+mod DraftLemmas

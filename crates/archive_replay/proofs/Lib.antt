@@ -2,8 +2,8 @@ pub mod PlaceLemmas
 pub mod TextLemmas
 pub mod RisingLemmas
 pub mod IndexLemmas
-pub mod ListLemmas
-pub mod LiveLemmas
-pub mod ReplayLemmas
-pub mod SettleLemmas
-pub mod PrepareLemmas
+mod ListLemmas
+mod LiveLemmas
+mod ReplayLemmas
+mod SettleLemmas
+mod PrepareLemmas

@@ -1,3 +1,4 @@
+//! Rows of replies as bytes.
 use crate::{ReplyPage, Summary, Tally};
 use archive_state::{Refusal, Verdict};
 use proposals::{Node, Segment};

@@ -1,3 +1,3 @@
-pub mod CarryLemmas
-pub mod FillLemmas
+mod CarryLemmas
+mod FillLemmas
 pub mod LawLemmas

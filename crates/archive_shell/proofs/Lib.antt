@@ -1,12 +1,12 @@
-pub mod QuestionLemmas
-pub mod FetchLemmas
-pub mod StartLemmas
-pub mod DamageLemmas
-pub mod CauseLemmas
-pub mod EndLemmas
-pub mod PullLemmas
-pub mod ServeLemmas
-pub mod ShowLemmas
-pub mod StepLemmas
-pub mod TurnLemmas
-pub mod SampleLemmas
+mod QuestionLemmas
+mod FetchLemmas
+mod StartLemmas
+mod DamageLemmas
+mod CauseLemmas
+mod EndLemmas
+mod PullLemmas
+mod ServeLemmas
+mod ShowLemmas
+mod StepLemmas
+mod TurnLemmas
+mod SampleLemmas

@@ -4,10 +4,10 @@ pub mod LiveLemmas
 pub mod HoldLemmas
 pub mod StandsLemmas
 pub mod RefusalLemmas
-pub mod PlanningLemmas
+mod PlanningLemmas
 pub mod StoringLemmas
-pub mod ToldLemmas
+mod ToldLemmas
 pub mod CertifyingLemmas
 pub mod TurnLemmas
-pub mod BoundLemmas
+mod BoundLemmas
 pub mod ChosenLemmas

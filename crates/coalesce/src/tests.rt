@@ -1,3 +1,4 @@
+//! Rows of shortest lists.
 ghost use Rattle.std.specs.Prelude.{IfSome};
 ghost use Rattle.postings.specs.Lists.{IsList};
 

@@ -1,3 +1,4 @@
+//! Rows of texts and phrases.
 use crate::{Command, Content, Item, Phrase, Text};
 use std::test::Fail;
 use time_base::{DocId, Time};

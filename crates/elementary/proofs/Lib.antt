@@ -1,13 +1,13 @@
 pub mod Sums
 pub mod Places
 pub mod Tables
-pub mod Distinct
+mod Distinct
 pub mod Cuts
 pub mod Walk
-pub mod LeastAlive
+mod LeastAlive
 pub mod Pushing
-pub mod Reaching
+mod Reaching
 pub mod Ordering
-pub mod Searching
+mod Searching
 pub mod Bests
 pub mod Narrow

@@ -1,11 +1,11 @@
-pub mod KeyLemmas
-pub mod RunLemmas
+mod KeyLemmas
+mod RunLemmas
 pub mod CountLemmas
 pub mod FrequencyLemmas
 pub mod WordLemmas
 pub mod NumberingLemmas
-pub mod CutLemmas
-pub mod WeighLemmas
-pub mod TallyLemmas
+mod CutLemmas
+mod WeighLemmas
+mod TallyLemmas
 pub mod NewLemmas
 pub mod WeightLemmas

@@ -1,3 +1,4 @@
+//! Rows of words: which texts have which, and how often.
 ghost use Rattle.std.specs.Prelude.{◌≡◌, ◌∷◌, [], IfOk};
 
 use super::*;

@@ -1,13 +1,13 @@
 pub mod SpellingLemmas
-pub mod WriteLemmas
-pub mod TornLemmas
-pub mod AppendLemmas
-pub mod PagesLemmas
+mod WriteLemmas
+mod TornLemmas
+mod AppendLemmas
+mod PagesLemmas
 pub mod HeadLemmas
-pub mod WindowLemmas
+mod WindowLemmas
 pub mod BodyLemmas
-pub mod GateLemmas
-pub mod ScanLemmas
+mod GateLemmas
+mod ScanLemmas
 pub mod LoadLemmas
-pub mod StepLemmas
-pub mod Examples
+mod StepLemmas
+mod Examples

@@ -1,3 +1,4 @@
+//! Why a call of a journal ends without an answer.
 ghost use Rattle.std.specs.Prelude.{◌≡◌};
 
 use machine_model::Failed;

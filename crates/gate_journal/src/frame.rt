@@ -1,3 +1,4 @@
+//! A record as it stands in a journal.
 ghost use Rattle.std.specs.Prelude.{◌≡◌, ◌+◌, ◌<◌, ◌^◌, ◌∷◌, [], List, ℕ, length, IfOk};
 
 use crate::gate::{CLOSED_GATE, OPEN_GATE};

@@ -1,3 +1,4 @@
+//! Gates: the byte in front of each record that says whether it is there.
 ghost use Rattle.std.specs.Prelude.{◌≡◌, ◌⊎◌, ◌+◌, ◌<◌, ◌≤◌, ℕ, List, length, take};
 ghost use Rattle.std.specs.Int.{w32, to_be_bytes};
 ghost use Rattle.gate_journal.specs.Records.{gate_bytes};

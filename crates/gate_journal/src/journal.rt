@@ -1,3 +1,4 @@
+//! A loaded journal, and the append that is safe at any stop.
 ghost use Rattle.std.specs.Prelude.{◌≡◌, ◌↔◌, ◌+◌, ◌-◌, ◌<◌, ◌≤◌, ◌^◌, ◌++◌, [], ◌∷◌, List, ℕ, false, IsTrue, length, take, drop, IfOk, OnOk, OnErr, IsErrOf};
 ghost use Rattle.machine_model.specs.Causes.{HasCause, Rose};
 ghost use Rattle.machine_model.specs.Calls.{OnlyReads};

@@ -1,3 +1,4 @@
+//! Laws of what bytes spell, and of disks in step.
 ghost use Rattle.std.specs.Prelude.{◌≡◌, ◌+◌, ◌++◌, [], ◌∷◌, List, ℕ, length};
 ghost use Rattle.machine_model.specs.Areas.{Bytes};
 ghost use Rattle.machine_model.specs.States.{DiskState};

@@ -1,3 +1,3 @@
-pub mod BestLeft
-pub mod Settling
-pub mod Ways
+mod BestLeft
+mod Settling
+mod Ways

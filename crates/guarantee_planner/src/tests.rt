@@ -1,3 +1,4 @@
+//! Rows of least plans.
 mod all_pairs;
 mod brute_force;
 mod certificates;

@@ -1,7 +1,7 @@
-pub mod WrittenLemmas
-pub mod FaultLemmas
-pub mod GrowthLemmas
-pub mod CallLemmas
-pub mod PushLemmas
-pub mod PickLemmas
-pub mod RecallLemmas
+mod WrittenLemmas
+mod FaultLemmas
+mod GrowthLemmas
+mod CallLemmas
+mod PushLemmas
+mod PickLemmas
+mod RecallLemmas

@@ -1,3 +1,4 @@
+//! A count that can't pass its last value.
 ghost use Rattle.std.specs.Prelude.{◌≡◌, ◌+◌, ◌-◌, ◌^◌, ◌≤◌, min};
 
 /// A count that stays at 2^64 - 1 once it is there.

@@ -1,3 +1,4 @@
+//! What one call changed.
 ghost use Rattle.std.specs.Prelude.{◌+◌, ◌^◌, ◌≤◌, length};
 
 use machine_model::Area;

@@ -1,3 +1,4 @@
+//! Which calls of a machine in memory fail.
 ghost use Rattle.std.specs.Prelude.{◌≡◌, ◌↔◌, IsTrue, IfSome, IfNone};
 ghost use Rattle.machine_mem.specs.Faults.{count_of, next_of, counts_with, Names, IsNamed, IsSpared};
 

@@ -1,3 +1,4 @@
+//! What a disk holds now, and what was shown.
 ghost use Rattle.std.specs.Prelude.{◌≡◌, ◌^◌, ◌≤◌, length, IfOk};
 ghost use Rattle.machine_mem.specs.Differences.{holding_of, first_of, played};
 ghost use Rattle.machine_mem.specs.declared.difference.Difference.TheVariants as differences;

@@ -1,3 +1,4 @@
+//! The bytes that a machine in memory gives when it is pulled.
 ghost use Rattle.std.specs.Prelude.{◌≡◌, ◌≤◌, ◌++◌, min, length, take, vec_len};
 
 /// Bytes to be pulled, with the place of the next one and the most that one pull gives.

@@ -1,3 +1,4 @@
+//! The machine in memory, what it holds, and the image that a stop leaves.
 ghost use Rattle.std.specs.Prelude.{◌≡◌, ◌+◌, ◌-◌, ◌^◌, ◌<◌, ◌≤◌, [], ◌++◌, min, length, take, IfOk, OnOk, OnErr};
 ghost use Rattle.machine_model.specs.Areas.{part};
 ghost use Rattle.machine_model.specs.States.{DiskState};

@@ -1,3 +1,4 @@
+//! A source over bytes that lie in memory.
 ghost use Rattle.std.specs.Prelude.{◌≡◌, refl};
 ghost use Rattle.machine_model.specs.Pulls.{ArePulls};
 ghost use Rattle.machine_model.proofs.PullLemmas.{pulls_join};

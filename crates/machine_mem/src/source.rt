@@ -1,3 +1,4 @@
+//! The machine in memory as a source.
 use crate::MemMachine;
 use crate::faults::CallKind;
 use machine_model::{Failed, Source};

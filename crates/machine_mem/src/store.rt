@@ -1,3 +1,4 @@
+//! One area of a disk: what reads give of it, and what a stop may leave.
 ghost use Rattle.std.specs.Prelude.{◌≡◌, ◌+◌, ◌^◌, ◌≤◌, [], ◌∷◌, length, take, IfOk};
 ghost use Rattle.machine_model.specs.Images.{IsAllowed};
 ghost use Rattle.machine_model.specs.Calls.{written};

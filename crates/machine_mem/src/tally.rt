@@ -1,3 +1,4 @@
+//! A sum of any size.
 ghost use Rattle.std.specs.Prelude.{◌≡◌, ◌+◌, ◌-◌, ◌^◌, sum, min, OnOk, OnErr};
 
 use std::alloc::{AllocError, Global};

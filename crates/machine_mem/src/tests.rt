@@ -1,3 +1,4 @@
+//! Rows of the machine in memory.
 ghost use Rattle.std.specs.Prelude.{◌≤◌};
 
 use crate::{CallKind, Fault, Fill, MemMachine, Pick, SliceSource, Tail};

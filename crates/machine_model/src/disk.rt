@@ -1,3 +1,4 @@
+//! Where bytes are kept, through stops.
 ghost use Rattle.std.specs.Prelude.{◌≡◌, ◌+◌, ◌-◌, ◌^◌, ◌≤◌, ◌∷◌, max, length, take, drop, IfOk, OnOk, OnErr};
 ghost use Rattle.machine_model.specs.Areas.{part, replaced};
 ghost use Rattle.machine_model.specs.States.{DiskState};

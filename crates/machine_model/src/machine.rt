@@ -1,3 +1,4 @@
+//! A source, a sink and a disk in one.
 ghost use Rattle.std.specs.Prelude.{◌≡◌, ℕ, List, [], ◌++◌, map, Result};
 ghost use Rattle.machine_model.specs.Pulls.{Pull};
 ghost use Rattle.machine_model.specs.Pushes.{IsSameBeside, OnlyShows, IsShownByPiece, taken};

@@ -1,3 +1,4 @@
+//! Where bytes are shown.
 ghost use Rattle.std.specs.Prelude.{◌≡◌, ◌≤◌, ◌^◌, ◌-◌, ◌++◌, ℕ, List, length, take, IfOk, Result};
 ghost use Rattle.machine_model.specs.States.{SinkState};
 ghost use Rattle.machine_model.specs.Causes.{HasCause};

@@ -1,3 +1,4 @@
+//! Where bytes come from.
 ghost use Rattle.std.specs.Prelude.{◌≡◌, ◌≤◌, ◌^◌, ◌-◌, ◌++◌, [], ◌∷◌, ℕ, List, length, take, IfOk, OnErr};
 ghost use Rattle.machine_model.specs.States.{SourceState};
 ghost use Rattle.machine_model.specs.Causes.{HasCause};

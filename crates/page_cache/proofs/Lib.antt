@@ -1,7 +1,7 @@
-pub mod CacheLemmas
-pub mod EntryLemmas
-pub mod RunLemmas
-pub mod PieceLemmas
-pub mod ReadLemmas
-pub mod SizeLemmas
+mod CacheLemmas
+mod EntryLemmas
+mod RunLemmas
+mod PieceLemmas
+mod ReadLemmas
+mod SizeLemmas
 pub mod LawLemmas

@@ -1,3 +1,4 @@
+//! Rows of pages that are kept.
 ghost use Rattle.std.specs.Prelude.{◌≤◌, ◌^◌, length, IfOk};
 
 use super::*;

@@ -1,10 +1,10 @@
-pub mod RunLemmas
-pub mod PutLemmas
-pub mod CutLemmas
+mod RunLemmas
+mod PutLemmas
+mod CutLemmas
 pub mod StayLemmas
 pub mod PlacingLemmas
 pub mod TakenLemmas
-pub mod GiveLemmas
+mod GiveLemmas
 pub mod ChangeLemmas
 pub mod WroteLemmas
 pub mod OrderLemmas

@@ -1,3 +1,4 @@
+//! Rows of free pages and of extents.
 use super::*;
 use std::alloc::{AllocError, Global};
 use std::test::*;

@@ -1,1 +1,1 @@
-pub mod ChoiceLemmas
+mod ChoiceLemmas

@@ -1,2 +1,2 @@
-pub mod ShelfLemmas
-pub mod ReadyLemmas
+mod ShelfLemmas
+mod ReadyLemmas

@@ -6,4 +6,4 @@ pub mod Frequencies
 pub mod Merged
 pub mod Order
 pub mod Spans
-pub mod Windows
+mod Windows

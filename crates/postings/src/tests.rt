@@ -1,3 +1,4 @@
+//! Rows of posting lists.
 use crate::{MergeError, as_of, clip, merge_distinct, overlap};
 use std::test::Fail;
 use time_base::{DocId, NOW, Posting, Span, Time};

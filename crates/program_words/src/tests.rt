@@ -1,3 +1,4 @@
+//! Rows of the words of the command line.
 use crate::{SampleNumbers, Task, WordsError, read_words};
 use std::alloc::{AllocError, Global};
 use std::test::Fail;

@@ -1,13 +1,13 @@
-pub mod CallLemmas
+mod CallLemmas
 pub mod FoundLemmas
 pub mod GivenLemmas
-pub mod HitLemmas
-pub mod HitPlaces
+mod HitLemmas
+mod HitPlaces
 pub mod Ranks
-pub mod Sorting
-pub mod HasHitLemmas
-pub mod MadeLemmas
-pub mod Groups
-pub mod Turning
-pub mod FactLemmas
+mod Sorting
+mod HasHitLemmas
+mod MadeLemmas
+mod Groups
+mod Turning
+mod FactLemmas
 pub mod SpanRows

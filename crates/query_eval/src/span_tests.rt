@@ -1,3 +1,4 @@
+//! Rows of answers over windows of time.
 ghost use Rattle.std.specs.Prelude.{[]};
 
 use crate::{EvalError, Lists, Part, SpanRow, answer_between, answer_over};

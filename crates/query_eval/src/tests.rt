@@ -1,3 +1,4 @@
+//! Rows of answers.
 use crate::{Part, Row, answer_from};
 use query_lang::Query;
 use std::alloc::{AllocError, Global};

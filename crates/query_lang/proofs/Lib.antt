@@ -1,8 +1,8 @@
-pub mod Complete
+mod Complete
 pub mod Deciding
-pub mod NumberLemmas
-pub mod PostfixLaws
-pub mod ReadLemmas
+mod NumberLemmas
+mod PostfixLaws
+mod ReadLemmas
 pub mod ReadingLaws
-pub mod Sound
-pub mod TokenLemmas
+mod Sound
+mod TokenLemmas

@@ -1,3 +1,4 @@
+//! Why a text gives no query.
 use std::alloc::AllocError;
 
 /// Why a text gives no query.

@@ -1,3 +1,4 @@
+//! Rows of queries that are read.
 use crate::{Pile, Query, QueryError};
 use std::alloc::{AllocError, Global};
 use std::test::Fail;

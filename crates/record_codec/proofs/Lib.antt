@@ -1,8 +1,8 @@
-pub mod Steps
-pub mod FieldLemmas
-pub mod FieldCodec
-pub mod NumberLemmas
-pub mod PlanFieldLemmas
-pub mod SegmentLemmas
-pub mod PlanLemmas
+mod Steps
+mod FieldLemmas
+mod FieldCodec
+mod NumberLemmas
+mod PlanFieldLemmas
+mod SegmentLemmas
+mod PlanLemmas
 pub mod EntryLemmas

@@ -1,3 +1,4 @@
+//! The entries of an archive's history.
 use crate::plan::PlanEntry;
 use crate::text::VersionText;
 use time_base::{DocId, Time};

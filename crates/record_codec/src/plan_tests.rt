@@ -1,3 +1,4 @@
+//! Rows of plans as bytes.
 use super::*;
 use commands::Kind;
 use std::alloc::{AllocError, Global};

@@ -1,3 +1,4 @@
+//! Rows of entries as bytes.
 use super::*;
 use std::alloc::{AllocError, Global};
 use std::test::*;

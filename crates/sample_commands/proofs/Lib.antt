@@ -1,2 +1,2 @@
-pub mod SampleLemmas
+mod SampleLemmas
 pub mod LawLemmas

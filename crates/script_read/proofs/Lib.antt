@@ -1,14 +1,14 @@
-pub mod NumberLemmas
-pub mod WordLemmas
-pub mod ValueLemmas
-pub mod Calendar
+mod NumberLemmas
+mod WordLemmas
+mod ValueLemmas
+mod Calendar
 pub mod Ranges
-pub mod Cuts
-pub mod LineLemmas
-pub mod PassedOver
-pub mod LongTexts
+mod Cuts
+mod LineLemmas
+mod PassedOver
+mod LongTexts
 pub mod Joins
-pub mod HeldLemmas
-pub mod CallLemmas
+mod HeldLemmas
+mod CallLemmas
 pub mod Splitting
 pub mod RunLemmas

@@ -1,15 +1,15 @@
-pub mod BestLemmas
+mod BestLemmas
 pub mod CapLemmas
-pub mod CellLemmas
-pub mod Choosing
-pub mod CostLemmas
-pub mod CourseLemmas
-pub mod CutLemmas
-pub mod FrontLemmas
+mod CellLemmas
+mod Choosing
+mod CostLemmas
+mod CourseLemmas
+mod CutLemmas
+mod FrontLemmas
 pub mod FunctionLemmas
-pub mod LegLemmas
-pub mod PlanLemmas
+mod LegLemmas
+mod PlanLemmas
 pub mod ShortLemmas
-pub mod StopLemmas
+mod StopLemmas
 pub mod ThereIsABest
-pub mod WeightLemmas
+mod WeightLemmas

@@ -1,3 +1,4 @@
+//! Rows of plans under a space bound.
 mod brute_force;
 mod calls;
 mod given;

@@ -1,3 +1,3 @@
-pub mod CapLemmas
+mod CapLemmas
 pub mod GoodLemmas
 pub mod PlanLemmas

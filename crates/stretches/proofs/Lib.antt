@@ -4,4 +4,4 @@ pub mod Joining
 pub mod Laid
 pub mod Longest
 pub mod Pieces
-pub mod Sorted
+mod Sorted

@@ -1,3 +1,4 @@
+//! When a document is there.
 use time_base::{DocId, Span};
 
 /// When a document is there.

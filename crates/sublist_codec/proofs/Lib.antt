@@ -1,14 +1,14 @@
-pub mod Bytes
-pub mod Steps
-pub mod AllAt
-pub mod FieldLemmas
+mod Bytes
+mod Steps
+mod AllAt
+mod FieldLemmas
 pub mod LayoutLemmas
 pub mod FlatLemmas
-pub mod NumberLemmas
-pub mod NumberReading
-pub mod BlockLemmas
-pub mod WriteLemmas
-pub mod BlockLaws
-pub mod BlockWalk
+mod NumberLemmas
+mod NumberReading
+mod BlockLemmas
+mod WriteLemmas
+mod BlockLaws
+mod BlockWalk
 pub mod BlockCodec
-pub mod FrameLemmas
+mod FrameLemmas

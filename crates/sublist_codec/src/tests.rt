@@ -1,3 +1,4 @@
+//! Rows of lists as bytes.
 ghost use Rattle.std.specs.Prelude.{IfOk};
 ghost use Rattle.postings.specs.Lists.{IsList};
 

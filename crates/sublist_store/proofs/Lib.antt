@@ -1,13 +1,13 @@
-pub mod Longer
-pub mod GatherLemmas
-pub mod AskLemmas
-pub mod KeptLemmas
+mod Longer
+mod GatherLemmas
+mod AskLemmas
+mod KeptLemmas
 pub mod PlaceLemmas
 pub mod WriteLemmas
 pub mod HoldLemmas
-pub mod UnionLemmas
-pub mod JoinLemmas
-pub mod FetchLemmas
-pub mod OutcomeLemmas
+mod UnionLemmas
+mod JoinLemmas
+mod FetchLemmas
+mod OutcomeLemmas
 pub mod HeldLemmas
 pub mod SpellLemmas

@@ -1,3 +1,4 @@
+//! Rows of sublists in pages.
 mod gathering;
 mod given;
 mod keeping;

@@ -1,12 +1,12 @@
-pub mod Blocked
-pub mod ByWord
+mod Blocked
+mod ByWord
 pub mod Followed
-pub mod Gathered
-pub mod Holding
-pub mod Located
-pub mod Open
-pub mod Passed
-pub mod Trimmed
-pub mod Turned
-pub mod Within
-pub mod Words
+mod Gathered
+mod Holding
+mod Located
+mod Open
+mod Passed
+mod Trimmed
+mod Turned
+mod Within
+mod Words

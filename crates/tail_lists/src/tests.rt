@@ -1,3 +1,4 @@
+//! Rows of tails.
 ghost use Rattle.std.specs.Prelude.{IfOk};
 ghost use Rattle.tail_lists.specs.Weights.{AreWeights};
 

@@ -1,3 +1,3 @@
 pub mod Equal
-pub mod Counting
+mod Counting
 pub mod TimeLemmas

@@ -1,3 +1,4 @@
+//! Rows of times, dates and limits.
 use crate::{DocId, Extent, Fraction, Key, Posting, Span, Time, WordId};
 use std::collections::HashMap;
 use std::test::Fail;

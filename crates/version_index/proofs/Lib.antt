@@ -1,10 +1,10 @@
-pub mod WordSteps
-pub mod HorizonSteps
-pub mod Trimming
-pub mod Steps
-pub mod Keeping
-pub mod Measures
-pub mod Measured
-pub mod NumberSteps
-pub mod Lookups
-pub mod Loading
+mod WordSteps
+mod HorizonSteps
+mod Trimming
+mod Steps
+mod Keeping
+mod Measures
+mod Measured
+mod NumberSteps
+mod Lookups
+mod Loading

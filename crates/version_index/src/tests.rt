@@ -1,3 +1,4 @@
+//! Rows of the index of words.
 ghost use Rattle.std.specs.Prelude.{◌≡◌, ◌+◌, ◌<◌, ◌≤◌, ◌^◌, ◌*◌, ◌↔◌, ℕ, List, [], ◌∷◌, ◌++◌, length, option_map, IfSome, IsTrue};
 ghost use Rattle.version_store.specs.declared.change.Change.{Change};
 ghost use Rattle.version_index.specs.Indexing.{ComesLater};

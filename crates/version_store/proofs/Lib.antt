@@ -1,12 +1,12 @@
-pub mod Listed
+mod Listed
 pub mod Latest
-pub mod Known
+mod Known
 pub mod Indexed
 pub mod Mapped
 pub mod Valid
 pub mod Law
-pub mod Steps
-pub mod Ascending
+mod Steps
+mod Ascending
 pub mod Holding
 pub mod Alive
-pub mod Turning
+mod Turning

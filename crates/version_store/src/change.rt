@@ -1,3 +1,4 @@
+//! A change of a document.
 use time_base::{DocId, Time};
 
 /// A change of a document: a new version, of whose text `T` is held, or a tombstone.

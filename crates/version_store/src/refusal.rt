@@ -1,3 +1,4 @@
+//! Why a change of a document isn't allowed.
 use time_base::{Time, Which};
 
 /// Why a change of a document isn't allowed.

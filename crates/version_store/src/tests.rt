@@ -1,3 +1,4 @@
+//! Rows of versions and of who is alive.
 use super::*;
 use std::alloc::AllocError;
 use std::process::Abort;

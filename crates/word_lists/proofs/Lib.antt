@@ -1,2 +1,2 @@
-pub mod Sorted
-pub mod Turns
+mod Sorted
+mod Turns

@@ -1,3 +1,4 @@
+//! Rows of a word's list.
 ghost use Rattle.std.specs.Prelude.{◌≡◌, ◌<◌, ◌≤◌, ◌^◌};
 ghost use Rattle.postings.specs.Lists.{EachNext};
 
