@@ -15,37 +15,12 @@ use Rattle.archive_check.specs.Verdicts.{IsLeastSpace}
 
 -- ---- a list with no posting
 
-covers_up : (list : List Posting) (factor : Fraction) (f : ℕ) (cuts : List ℕ) (end : ℕ) → Covers list factor f cuts end → f ≤ end
-covers_up list factor f [] end c = omega (arith, c)
-covers_up list factor f (g ∷ cuts) end c = omega (arith, c.0, covers_up list factor g cuts end c.2)
-
-covers_some : (list : List Posting) (factor : Fraction) (f : ℕ) (cuts : List Time) (h end : ℕ) → Covers list factor f (later cuts h) end → f < end
-covers_some list factor f [] h end c = omega (arith, c.0, covers_up list factor h [] end c.2)
-covers_some list factor f (g ∷ cuts) h end c = omega (arith, c.0, covers_up list factor g.seconds (later cuts h) end c.2)
-
--- the only boundary is the horizon
-only_boundary : (h t : ℕ) → IsBoundary [] h t → t ≡ h
-only_boundary h t (zero, within, is) = sym is
-only_boundary h t (suc k, within, is) = absurd (omega (arith, within))
-
-nothing_fits : (factor : Fraction) (cuts : List Time) (h : ℕ) → IsFitPlan [] factor cuts h → ⊥
-nothing_fits factor [] h fit = absurd fit
-nothing_fits factor (f ∷ cuts) h fit = omega (arith, only_boundary h f.seconds fit.first.is, covers_some [] factor f.seconds cuts h h fit.covers)
-
-pub empty_fits : (list : List Posting) (factor : Fraction) (cuts : List Time) (h : ℕ) → length list ≡ 0 → IsFitPlan list factor cuts h → ⊥
-empty_fits [] factor cuts h none fit = nothing_fits factor cuts h fit
-empty_fits (p ∷ list) factor cuts h none fit = absurd (omega (arith, none))
-
 -- ---- the space of a plan
 
 pub space_kept : (list : List Posting) (cuts : List Time) (horizon : Time) (p : List ℕ) → p ≡ map (λ (t : Time). t.seconds) (cuts ++ horizon ∷ []) → 2 ≤ length p
     → space list (slice_index p 0) (drop 1 p) ≡ plan_space list cuts horizon.seconds
 space_kept list [] horizon p is many = absurd (omega (arith, ap length is, many))
 space_kept list (f ∷ cuts) horizon p is many = ap (λ (l : List ℕ). space list (slice_index l 0) (drop 1 l)) (is ∙ sym (seconds_are f cuts horizon))
-
--- so many cuts, and the horizon
-pub cuts_long : (cuts : List Time) (horizon : Time) (p : List ℕ) → p ≡ map (λ (t : Time). t.seconds) (cuts ++ horizon ∷ []) → length p ≡ length cuts + 1
-cuts_long cuts horizon p is = ap length is ∙ length-map (cuts ++ horizon ∷ []) (λ (t : Time). t.seconds) ∙ length-append cuts (horizon ∷ [])
 
 -- ---- the least space
 
@@ -67,17 +42,6 @@ space_least list factor (g ∷ cuts) h f others least fit =
           let S : ℕ → Type 0 = λ x. space list f others ≤ space list x other in
           subst S same (least.least other (subst D (sym same) covers));
     }
-
--- a plan that takes no more is a least one
-pub takes_least : (list : List Posting) (factor : Fraction) (cuts : List Time) (h kept least : ℕ) → IsFitPlan list factor cuts h → kept ≡ plan_space list cuts h → IsLeastSpace list factor cuts h least → kept ≤ least
-    → IsLeastPlan list factor cuts h
-takes_least list factor [] h kept least fit is best within = absurd fit
-takes_least list factor (f ∷ cuts) h kept least fit is best within = record {
-  first = fit.first;
-  at_boundaries = fit.at_boundaries;
-  covers = fit.covers;
-  least = λ other covers. omega (arith, is, within, best.least other covers);
-}
 
 -- a least partition has no more cuts than the table may have boundaries
 pub least_short : (list : List Posting) (factor : Fraction) (h : ℕ) (table : Counts) (p : List ℕ) → Tabulates list h table → 2 ≤ length p → IsLeast list factor (slice_index p 0) (drop 1 p) h → length p ≤ length table.boundaries

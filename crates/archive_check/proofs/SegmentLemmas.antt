@@ -19,14 +19,6 @@ use Rattle.archive_check.specs.Verdicts.{DifferAt, SegmentDiffers}
 abbrev pub bytes_at : List ℕ → List Place → List (List ℕ)
 bytes_at pages places = map (λ (p : Place). bytes_in p.extent pages) places
 
-pub only_one : {X : Type 0} (xs : List X) (x : X) → length xs ≡ 1 → x ≡ get_or xs 0 x → xs ≡ x ∷ []
-only_one [] x long is = absurd (omega (arith, long))
-only_one (y ∷ []) x long is = ap (λ z. z ∷ []) (sym is)
-only_one (y ∷ z ∷ xs) x long is = absurd (omega (arith, long))
-
-pub differs_there : (this that : List ℕ) (place : ℕ) (found wanted : Option ℕ) → DifferAt this that place found wanted → SegmentDiffers (this ∷ []) (that ∷ []) 0 place found wanted
-differs_there this that place found wanted d = record { front = []; this = this; that = that; behind = []; after = []; one_is = refl; other_is = refl; segment_is = refl; differs = d }
-
 differs_left : (a b x y : List (List ℕ)) (segment place : ℕ) (found wanted : Option ℕ) → SegmentDiffers a x segment place found wanted → SegmentDiffers (a ++ b) (x ++ y) segment place found wanted
 differs_left a b x y segment place found wanted d = record {
   front = d.front;

@@ -129,9 +129,6 @@ late_same {A} {B} doc t xs ys same late =
 
 -- ---- loading
 
-pub loaded_none : (tells : Type 0) (journal : List ℕ) (loader : Loaded) → AreLoaded loader [] → AreAllLoaded tells journal [] loader
-loaded_none tells journal loader loads = record { texts = []; loads = loads; alike = refl; utf8 = All-nil IsText; are = λ told. refl }
-
 pub comes_behind : (tells : Type 0) (journal : List ℕ) (changes : List (Change TextPlace)) (i : ℕ) (c : Change TextPlace) (loader : Loaded) → AreInOrder changes → i < length changes → c ≡ get_or changes i c
     → (r : AreAllLoaded tells journal (take i changes) loader) → All (λ d. d.at.seconds < c.at.seconds) (changes_of c.doc r.texts)
 comes_behind tells journal changes i c loader order within is r = late_same c.doc c.at.seconds r.texts (take i changes) r.alike (earlier changes i c order within is)

@@ -128,13 +128,6 @@ sealed_phrase kind h phrase word list horizon One Other A B sealed some refused 
     let P : Option (List ℕ) → Type 0 = λ key. OfPhrase kind h key Other B in
     subst P (sym sealed.word_is) (inr (sealed.known, (list, sealed.list_is, some_list (last_second h) One Other refused kind list A (B word list) some goes here)))
 
--- a plan of a sealed list that is refused, and one that is proposed
-pub wide_refused : (h : History) (phrase word : List ℕ) (factor : Fraction) (list : List Posting) (horizon : ℕ) (why : Refusal) → IsSealed h phrase word list horizon → 0 < length list
-    → OfBoundaries horizon list (λ because. why ≡ because) ⊥ → Proposes h phrase factor (Refused why)
-wide_refused h phrase word factor list horizon why sealed some of =
-    sealed_phrase Guarantee h phrase word list horizon (λ because. why ≡ because) (λ because. Refused why ≡ Refused because) ⊥ (λ word list. ProposesPlan factor (last_second h) list (Refused why)) sealed some
-    (λ because e. ap Refused e) (λ no_plan. absurd no_plan) of
-
 pub least_proposed : (h : History) (phrase word : List ℕ) (factor : Fraction) (list : List Posting) (horizon : ℕ) (p : Proposal) → IsSealed h phrase word list horizon → 0 < length list
     → OfBoundaries horizon list (λ because. ⊥) (IsProposal list factor horizon p.segments.items p.nodes.items p.space) → Proposes h phrase factor (Proposed p.segments.items p.nodes.items p.space)
 least_proposed h phrase word factor list horizon p sealed some of =

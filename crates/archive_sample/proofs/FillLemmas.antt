@@ -201,20 +201,6 @@ filled_at h commands rest further command error turns old mid new a b goes is ou
     (All-tail HasDocument (items.Command command) (map items.Command further) here) (fills_next h turns out.turn old mid new goes.fills out.leads beside)
     (ends_at h turns out.turn new b error out.ends)
 
--- all commands were carried out
-pub filled_whole : (h : History) (commands : List Command) (tally : Tally) (last : Option Verdict) (verdict : Verdict) (old now : DiskState) (archive : ArchiveState) → Counts h commands [] tally last old now archive
-    → last ≡ Some verdict → IsFilled h commands (Ok (record { tally = tally; verdict = verdict })) old now archive
-filled_whole h commands tally last verdict old now archive counts is =
-    let L : Option Verdict → Type 0 = λ v. IsLast (replies_of counts.turns) v in
-    let told = subst L is counts.last_is in
-    let R : List Command → Type 0 = λ l. IsRun Step h (map items.Command l) counts.turns in
-    record {
-      turns = counts.turns;
-      run = subst R (sym (counts.goes.commands_are ∙ append-nil counts.goes.done)) counts.goes.run;
-      fills = counts.goes.fills;
-      ends = (record { tally_is = counts.tally_is; front = told.0; ends = told.1 }, counts.goes.kept);
-    }
-
 -- a sample ends with a check
 pub sample_ends : (seed count : ℕ) → (front : List Command) × (sample_of seed count ≡ front ++ plain.Verify ∷ [])
 unfolding sample_of
@@ -228,8 +214,3 @@ pub comes_next : (rest further : List Command) (command : Command) (last next : 
 comes_next rest further command last next (inl ([], e)) is checked = inr (cc, checked cc)
 comes_next rest further command last next (inl (first ∷ front, e)) is checked = inl (front, cc)
 comes_next rest further command last next (inr (none, some)) is checked = cc
-
-pub comes_last : (rest : List Command) (last : Option Verdict) → ComesToCheck rest last → rest ≡ [] → IsSome last
-comes_last rest last (inl ([], e)) none = cc
-comes_last rest last (inl (first ∷ front, e)) none = cc
-comes_last rest last (inr (is, some)) none = some

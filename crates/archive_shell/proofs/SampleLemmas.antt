@@ -82,12 +82,6 @@ unshown seed count status output output_now old new turns run same not_done unda
       undamaged = undamaged;
     }
 
--- how a run ends at a command
-pub fill_ends : (error : FillError) → EndsSample (status_of_fill error)
-fill_ends fills.Failed = tt
-fill_ends (fills.Damaged damage) = tt
-fill_ends fills.Memory = tt
-
 pub fill_not_done : (error : FillError) → status_of_fill error ≡ Done → ⊥
 fill_not_done fills.Failed is = cc
 fill_not_done (fills.Damaged damage) is = cc

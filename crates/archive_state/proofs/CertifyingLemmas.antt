@@ -12,7 +12,7 @@ use Rattle.proposals.specs.declared.proposal.Node.{Node}
 use Rattle.proposals.specs.declared.proposal.Segment.{Segment}
 use Rattle.proposals.specs.Proposals.{IsProposal}
 use Rattle.proposals.proofs.Pieces.{differ_in_segments}
-use Rattle.proposals.proofs.Begins.{each_least_is_shown, begin_once}
+use Rattle.proposals.proofs.Begins.{each_least_is_proposed, begin_once}
 use Rattle.record_codec.specs.declared.plan.PlanEntry.{PlanEntry}
 use Rattle.sublist_store.specs.Segments.{seconds}
 use Rattle.stored_plans.specs.Plans.{IsLeastPlan, IsGoodPlan, later}
@@ -54,7 +54,7 @@ shown : (list : List Posting) (factor : Fraction) (cuts : List Time) (horizon : 
 shown list factor [] horizon early least = absurd least
 shown list factor (f ∷ cuts) horizon early least =
     let now : horizon.seconds < 2 ^ 40 = horizon.before_now in
-    let (segments, (nodes, (total, (proposal, begins, space)))) = each_least_is_shown list factor horizon.seconds f.seconds (later cuts horizon.seconds) (omega (arith, now)) early least in
+    let (segments, (nodes, (total, (proposal, begins, space)))) = each_least_is_proposed list factor horizon.seconds f.seconds (later cuts horizon.seconds) (omega (arith, now)) early least in
     (segments, (nodes, (total, (proposal, last_cancels (map (λ (s : Segment). s.span.from) segments) (seconds (f ∷ cuts)) horizon.seconds begins))))
 
 plan_shown : (h : History) (plan : PlanEntry) (kind : Kind) → MayBePlanned IsGoodPlan h plan

@@ -88,19 +88,6 @@ size_between_is list times boundaries same j k f g s h d e =
     let right : slice_index boundaries k ≡ g = ap (λ l. slice_index l k) (sym same) ∙ e in
     h ∙ (λ i. size (left i) (right i) list)
 
-pub ascends_more : (xs : List ℕ) (k : ℕ) → 1 ≤ k → ((i : ℕ) → i + 1 < k → slice_index xs i < slice_index xs (i + 1)) → slice_index xs (k - 1) < slice_index xs k → (i : ℕ) → i + 1 < k + 1 → slice_index xs i < slice_index xs (i + 1)
-ascends_more xs k some h lt i l = go (cases_lt (i + 1) k)
-  where
-    go : ((i + 1 < k) ⊎ (k ≤ i + 1)) → slice_index xs i < slice_index xs (i + 1)
-    go (inl m) = h i m
-    go (inr m) =
-        let a : k ≡ i + 1 = omega arith in
-        let b : k - 1 ≡ i = omega arith in
-        subst (λ n. slice_index xs i < slice_index xs n) a (subst (λ n. slice_index xs n < slice_index xs k) b lt)
-
-pub not_ascending : (xs : List ℕ) (k : ℕ) → 1 ≤ k → k < length xs → slice_index xs k ≤ slice_index xs (k - 1) → IsStrictlyIncreasing xs → ⊥
-not_ascending xs k some l le up = omega (arith, rises xs up (k - 1) k (omega arith) l)
-
 pub drop_at : (xs : List ℕ) (k : ℕ) → k < length xs → drop k xs ≡ slice_index xs k ∷ drop (k + 1) xs
 drop_at xs k l = rw (add-one, drop-cons xs k 0)
 

@@ -153,10 +153,6 @@ keys_of-closed done (c ∷ run) k e =
 pub length-keys_of : (done : List (List ℕ)) → length (keys_of done) ≤ length done
 length-keys_of done = omega (arith, length-filter is_key (map key done), count_by-le-length is_key (map key done), length-map done key)
 
--- and no more characters than bytes
-pub length-chars : (bs : List ℕ) → IsUtf8 bs → length (chars bs) ≤ length bs
-length-chars bs text = omega (arith, length-le-encodes (chars bs), ap length (encodes-chars bs text))
-
 -- a count written in its place is one more
 pub bump-known : {X : Type 0} (eq : X → X → Bool) (es : List (X × ℕ)) (x : X) (c : ℕ) → lookup (eq x) es ≡ Some c → set_value (eq x) es (c + 1) ≡ bump eq es x
 bump-known eq [] x c h = absurd cc

@@ -10,34 +10,9 @@ pub record AreRead (whole yielded run : List ℕ) (done : List (List ℕ)) : Typ
   pub rest : (cs : List ℕ) → yielded ++ cs ≡ whole → done ++ runs_from run cs ≡ runs whole
   pub short : 2 * length done + length run ≤ length yielded
 
--- before the first character
-pub AreRead-none : (whole : List ℕ) → AreRead whole [] [] []
-AreRead-none whole = record { rest = λ cs e. ap runs e; short = omega arith }
-
--- after one more character of the run
-pub AreRead-inside : (whole yielded run : List ℕ) (done : List (List ℕ)) (c : ℕ) → is_term c ≡ true → AreRead whole yielded run done → AreRead whole (yielded ++ c ∷ []) (run ++ c ∷ []) done
-AreRead-inside whole yielded run done c inside h = record {
-  rest = λ cs e. ap (λ b. done ++ (if b then runs_from (run ++ c ∷ []) cs else closed run ++ runs_from [] cs)) (sym inside) ∙ h.rest (c ∷ cs) (sym (append_assoc yielded (c ∷ []) cs) ∙ e);
-  short = omega (arith, h.short, length-append yielded (c ∷ []), length-append run (c ∷ []));
-}
-
 short_closed : (run : List ℕ) (done : List (List ℕ)) (n : ℕ) → 2 * length done + length run ≤ n → 2 * length (done ++ closed run) + 0 ≤ n + 1
 short_closed [] done n h = omega (arith, length-append done [])
 short_closed (c ∷ run) done n h = omega (arith, length-append done ((c ∷ run) ∷ []))
-
--- after a character that ends it
-pub AreRead-between : (whole yielded run : List ℕ) (done : List (List ℕ)) (c : ℕ) → is_term c ≡ false → AreRead whole yielded run done → AreRead whole (yielded ++ c ∷ []) [] (done ++ closed run)
-AreRead-between whole yielded run done c outside h = record {
-  rest = λ cs e.
-      append_assoc done (closed run) (runs_from [] cs)
-      ∙ ap (λ b. done ++ (if b then runs_from (run ++ c ∷ []) cs else closed run ++ runs_from [] cs)) (sym outside)
-      ∙ h.rest (c ∷ cs) (sym (append_assoc yielded (c ∷ []) cs) ∙ e);
-  short = let s = short_closed run done (length yielded) h.short in omega (arith, s, length-append yielded (c ∷ []));
-}
-
--- at the end of the text
-pub AreRead-end : (whole run : List ℕ) (done : List (List ℕ)) → AreRead whole whole run done → done ++ closed run ≡ runs whole
-AreRead-end whole run done h = h.rest [] (append-nil whole)
 
 -- a buffer's characters with one more
 pub chars-push : (bs ds : List ℕ) (c : ℕ) → IsUtf8 bs → IsUtf8 ds → ds ≡ bs ++ encode_utf8 c → chars ds ≡ chars bs ++ c ∷ []
@@ -52,10 +27,6 @@ closed_full bs (c ∷ cs) e some = refl
 -- a buffer that isn't empty holds a run
 pub closed-chars : (bs : List ℕ) → IsUtf8 bs → 0 < length bs → closed (chars bs) ≡ chars bs ∷ []
 closed-chars bs text some = closed_full bs (chars bs) (encodes-chars bs text) some
-
--- an empty one doesn't
-pub closed-empty : (bs : List ℕ) → bs ≡ [] → closed (chars bs) ≡ []
-closed-empty bs e = ap (λ l. closed (chars l)) e ∙ ap closed chars-nil
 
 -- a stretch of letters, marks and numbers is one run
 runs_from-stretch : (begun run : List ℕ) → list_all is_term run ≡ true → runs_from begun run ≡ closed (begun ++ run)

@@ -193,14 +193,6 @@ nowhere places es x h miss q l e =
     let p : slice_index places x ≡ q = sym (ap (slice_index places) e) ∙ h q l in
     miss (omega (arith, l, p)) (ap (λ k. (at es k).0) p ∙ e)
 
-pub placed_here : (places : List ℕ) (es : List (ℕ × ℕ)) (p c : ℕ) → p < length es → ArePlaced places es → ArePlaced places (set es p ((at es p).0, c))
-placed_here places es p c l h q r = by (nat_eq q p) refl
-  where
-    by : (b : Bool) → nat_eq q p ≡ b → slice_index places (at (set es p ((at es p).0, c)) q).0 ≡ q
-    by true e = let s : q ≡ p = eqb-true _ _ e in
-        ap (λ k. slice_index places (at (set es p ((at es p).0, c)) k).0) s ∙ ap (λ (v : ℕ × ℕ). slice_index places v.0) (get_or-set_same es p ((at es p).0, c) (0, 0) l) ∙ h p l ∙ sym s
-    by false e = ap (λ (v : ℕ × ℕ). slice_index places v.0) (get_or-set_other es p q ((at es p).0, c) (0, 0) (eqb-false _ _ e)) ∙ h q (omega (arith, r, length-set es p ((at es p).0, c)))
-
 pub placed_behind : (places : List ℕ) (es : List (ℕ × ℕ)) (x : ℕ) → x < length places → ArePlaced places es → ((q : ℕ) → q < length es → (at es q).0 ≢ x) → ArePlaced (set places x (length es)) (es ++ (x, 1) ∷ [])
 placed_behind places es x l h apart q r = by (nat_lt q (length es)) refl
   where

@@ -11,7 +11,7 @@ use Rattle.gate_journal.specs.Windows.{WindowState, IsView, Covers, piece_of}
 use Rattle.gate_journal.specs.Bodies.{BodiesState, body_at, IsNext, AreBehind, AreLeft}
 use Rattle.gate_journal.proofs.AppendLemmas.{front_more}
 use Rattle.gate_journal.proofs.HeadLemmas.{length-front, heads_grow, heads_lead}
-use Rattle.gate_journal.proofs.WindowLemmas.{piece_stands}
+use Rattle.gate_journal.proofs.WindowLemmas.{piece_lies}
 
 pub length-piece : (window : WindowState) (at count : ℕ) → Covers window at count → length (piece_of window at count) ≡ count
 length-piece window at count covers = omega (arith, covers.begins, covers.ends, length-take count (drop (at - window.from) window.bytes), length-drop (at - window.from) window.bytes)
@@ -77,7 +77,7 @@ left_next journal bodies old new head next view lead = go bodies (let L : List H
     go [] lead = absurd lead
     go (body ∷ rest) lead = (
       rest,
-      ap (λ (b : List ℕ). b ∷ rest) (sym lead.0 ∙ sym (piece_stands new.window journal head.body head.bytes view next.covers)),
+      ap (λ (b : List ℕ). b ∷ rest) (sym lead.0 ∙ sym (piece_lies new.window journal head.body head.bytes view next.covers)),
       record { lead = lead.1; view = view },
     )
 

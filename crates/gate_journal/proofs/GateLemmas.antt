@@ -1,10 +1,10 @@
--- What stands at a gate, from the bytes there.
+-- What lies at a gate, from the bytes there.
 use Rattle.std.proofs.Common.{◌≡◌, ℕ, ◌+◌, ◌-◌, ◌<◌, ◌≤◌, List, [], ◌∷◌, ◌++◌, length, take, drop, get_or, ap, sym, ◌∙◌, arith, append_assoc, length-drop}
 use Rattle.std.specs.Int.{w32, to_be_bytes}
 use Rattle.std.proofs.lemmas.List.{length-take, take-append-drop}
 use Rattle.gate_journal.specs.declared.gate.Gate.TheVariants.{Open}
 use Rattle.gate_journal.specs.Records.{open_gate, record_bytes}
-use Rattle.gate_journal.specs.Scanning.{StandsAt}
+use Rattle.gate_journal.specs.Scanning.{LiesAt}
 
 viewed : (bytes all : List ℕ) → bytes ≡ take (length bytes) all → all ≡ bytes ++ drop (length bytes) all
 viewed bytes all view = sym (take-append-drop (length bytes) all) ∙ ap (λ (l : List ℕ). l ++ drop (length bytes) all) (sym view)
@@ -24,9 +24,9 @@ counted : (bytes all : List ℕ) (count : ℕ) → 5 ≤ length bytes → bytes 
 counted bytes all count enough view is_open spelled =
     five_bytes bytes all enough view ∙ ap (λ g. g ∷ (take 4 (drop 1 bytes) ++ drop 5 all)) is_open ∙ ap (λ (l : List ℕ). open_gate ∷ (l ++ drop 5 all)) (sym spelled)
 
-pub stands_open : (bytes all : List ℕ) (count : ℕ) → 5 ≤ length bytes → bytes ≡ take (length bytes) all → get_or bytes 0 0 ≡ open_gate → to_be_bytes w32 count ≡ take 4 (drop 1 bytes)
-    → 5 + count < length all → StandsAt all (Open count)
-stands_open bytes all count enough view is_open spelled room =
+pub lies_open : (bytes all : List ℕ) (count : ℕ) → 5 ≤ length bytes → bytes ≡ take (length bytes) all → get_or bytes 0 0 ≡ open_gate → to_be_bytes w32 count ≡ take 4 (drop 1 bytes)
+    → 5 + count < length all → LiesAt all (Open count)
+lies_open bytes all count enough view is_open spelled room =
     let tail = drop 5 all in
     let body = take count tail in
     let long : length tail ≡ length all - 5 = length-drop 5 all in

@@ -15,7 +15,7 @@ use Rattle.gate_journal.specs.Spelled.{Spells}
 use Rattle.gate_journal.specs.Refused.{IsCutShort}
 use Rattle.gate_journal.specs.Heads.{heads_of, AreInRow, LiesBefore}
 use Rattle.gate_journal.specs.Found.{IsFound}
-use Rattle.gate_journal.specs.Scanning.{StandsAt, IsScanned}
+use Rattle.gate_journal.specs.Scanning.{LiesAt, IsScanned}
 use Rattle.gate_journal.proofs.SpellingLemmas.{spelled_not_refused}
 use Rattle.gate_journal.proofs.HeadLemmas.{length-front, heads_more}
 use Rattle.gate_journal.proofs.AppendLemmas.{front_more, fit_more}
@@ -58,13 +58,13 @@ left_at : (bytes : List ℕ) (gate : ℕ) (heads : List Head) (s : IsScanned byt
 left_at bytes gate heads s = ap (drop gate) s.whole ∙ ap (λ n. drop n (front s.bodies ++ s.rest)) s.gate_is ∙ drop-append_seam (front s.bodies) s.rest
 
 -- one record is passed
-scanned_and : (bytes : List ℕ) (gate count : ℕ) (heads : List Head) → count < 2 ^ 32 → IsScanned bytes gate heads → StandsAt (drop gate bytes) (Open count)
+scanned_and : (bytes : List ℕ) (gate count : ℕ) (heads : List Head) → count < 2 ^ 32 → IsScanned bytes gate heads → LiesAt (drop gate bytes) (Open count)
     → IsScanned bytes (gate + 5 + count) (heads ++ record { gate = gate; body = gate + 5; bytes = count } ∷ [])
-scanned_and bytes gate count heads fits s stands =
-    let body = stands.0 in
-    let rest = stands.1.0 in
-    let left : s.rest ≡ record_bytes body ++ rest = sym (left_at bytes gate heads s) ∙ stands.1.1 in
-    let long : length body ≡ count = stands.1.2 in
+scanned_and bytes gate count heads fits s lies =
+    let body = lies.0 in
+    let rest = lies.1.0 in
+    let left : s.rest ≡ record_bytes body ++ rest = sym (left_at bytes gate heads s) ∙ lies.1.1 in
+    let long : length body ≡ count = lies.1.2 in
     let short : length body < 2 ^ 32 = omega (arith, long, fits) in
     record {
       bodies = s.bodies ++ body ∷ [];
@@ -77,26 +77,26 @@ scanned_and bytes gate count heads fits s stands =
           ∙ sym (heads_more 16 gate s.bodies body (s.gate_is ∙ length-front s.bodies));
     }
 
-pub scanned_next : {bytes : List ℕ} {gate count next : ℕ} {heads more : List Head} → count < 2 ^ 32 → IsScanned bytes gate heads → StandsAt (drop gate bytes) (Open count)
+pub scanned_next : {bytes : List ℕ} {gate count next : ℕ} {heads more : List Head} → count < 2 ^ 32 → IsScanned bytes gate heads → LiesAt (drop gate bytes) (Open count)
     → more ≡ heads ++ record { gate = gate; body = gate + 5; bytes = count } ∷ [] → next ≡ gate + 5 + count → IsScanned bytes next more
-scanned_next {bytes} {gate} {count} {next} {heads} {more} fits s stands pushed here =
-    subst (λ (n : ℕ). IsScanned bytes n more) (sym here) (subst (λ (h : List Head). IsScanned bytes (gate + 5 + count) h) (sym pushed) (scanned_and bytes gate count heads fits s stands))
+scanned_next {bytes} {gate} {count} {next} {heads} {more} fits s lies pushed here =
+    subst (λ (n : ℕ). IsScanned bytes n more) (sym here) (subst (λ (h : List Head). IsScanned bytes (gate + 5 + count) h) (sym pushed) (scanned_and bytes gate count heads fits s lies))
 
--- reads leave what stands at a gate as it is
-pub stands_before : (a b : DiskState) (gate : ℕ) (found wanted : Gate) → OnlyReads a b → found ≡ wanted → StandsAt (drop gate b.holds.journal) found → StandsAt (drop gate a.holds.journal) wanted
-stands_before a b gate found wanted same is stands =
-    let V : DiskState → Type 0 = λ d. StandsAt (drop gate d.holds.journal) found in
-    subst (λ (x : Gate). StandsAt (drop gate a.holds.journal) x) is (subst V same stands)
+-- reads leave what lies at a gate as it is
+pub lies_before : (a b : DiskState) (gate : ℕ) (found wanted : Gate) → OnlyReads a b → found ≡ wanted → LiesAt (drop gate b.holds.journal) found → LiesAt (drop gate a.holds.journal) wanted
+lies_before a b gate found wanted same is lies =
+    let V : DiskState → Type 0 = λ d. LiesAt (drop gate d.holds.journal) found in
+    subst (λ (x : Gate). LiesAt (drop gate a.holds.journal) x) is (subst V same lies)
 
 -- at a closed gate the bodies are found
-pub scanned_closed : (bytes : List ℕ) (gate : ℕ) (heads : List Head) → IsScanned bytes gate heads → StandsAt (drop gate bytes) Closed → IsFound bytes (gate + 1) heads
-scanned_closed bytes gate heads s stands =
+pub scanned_closed : (bytes : List ℕ) (gate : ℕ) (heads : List Head) → IsScanned bytes gate heads → LiesAt (drop gate bytes) Closed → IsFound bytes (gate + 1) heads
+scanned_closed bytes gate heads s lies =
     let spells : Spells bytes s.bodies = inr (record {
-      gate = stands.0;
-      rest = stands.1.0;
-      shut = stands.1.2;
+      gate = lies.0;
+      rest = lies.1.0;
+      shut = lies.1.2;
       fit = s.fit;
-      whole = s.whole ∙ ap (λ (l : List ℕ). front s.bodies ++ l) (sym (left_at bytes gate heads s) ∙ stands.1.1);
+      whole = s.whole ∙ ap (λ (l : List ℕ). front s.bodies ++ l) (sym (left_at bytes gate heads s) ∙ lies.1.1);
     }) in
     record {
       bodies = s.bodies;
@@ -109,12 +109,12 @@ pub found_at : {bytes : List ℕ} {at end : ℕ} {heads : List Head} → at ≡ 
 found_at {bytes} {at} {end} {heads} same found = subst (λ (n : ℕ). IsFound bytes n heads) (sym same) found
 
 -- at a gate that is cut short the bytes are refused
-pub scanned_cut : (bytes : List ℕ) (gate : ℕ) (heads : List Head) → IsScanned bytes gate heads → StandsAt (drop gate bytes) CutShort → IsCutShort bytes gate
-scanned_cut bytes gate heads s stands = record {
+pub scanned_cut : (bytes : List ℕ) (gate : ℕ) (heads : List Head) → IsScanned bytes gate heads → LiesAt (drop gate bytes) CutShort → IsCutShort bytes gate
+scanned_cut bytes gate heads s lies = record {
   bodies = s.bodies;
-  rest = stands.0;
+  rest = lies.0;
   fit = s.fit;
-  whole = s.whole ∙ ap (λ (l : List ℕ). front s.bodies ++ l) (sym (left_at bytes gate heads s) ∙ stands.1);
+  whole = s.whole ∙ ap (λ (l : List ℕ). front s.bodies ++ l) (sym (left_at bytes gate heads s) ∙ lies.1);
   at_is = s.gate_is;
-  cut = stands.2;
+  cut = lies.2;
 }

@@ -34,7 +34,7 @@ same_record x y s t x_fits y_fits same =
     let long : length x ≡ length y = sym (from_be_bytes-to_be_bytes_4 (length x) x_fits) ∙ ap (from_be_bytes w32) parts.0 ∙ from_be_bytes-to_be_bytes_4 (length y) y_fits in
     same_front x y s t long parts.1
 
--- what stands at the last gate: a closed gate, or an open one that is cut short
+-- what lies at the last gate: a closed gate, or an open one that is cut short
 pub Stops : List ℕ → Type 0
 Stops tail = ((gate : ℕ) × ((rest : List ℕ) × (tail ≡ gate ∷ rest) × (gate ≢ open_gate))) ⊎ ((rest : List ℕ) × (tail ≡ open_gate ∷ rest) × IsCut rest)
 

@@ -6,8 +6,8 @@ use Rattle.machine_model.specs.Calls.{OnlyReads}
 use Rattle.gate_journal.specs.Windows.{WindowState, IsView, Covers, piece_of}
 
 -- a piece in hand stands in the journal
-pub piece_stands : (window : WindowState) (journal : List ℕ) (at count : ℕ) → IsView window journal → Covers window at count → piece_of window at count ≡ take count (drop at journal)
-piece_stands window journal at count view covers =
+pub piece_lies : (window : WindowState) (journal : List ℕ) (at count : ℕ) → IsView window journal → Covers window at count → piece_of window at count ≡ take count (drop at journal)
+piece_lies window journal at count view covers =
     let skip = at - window.from in
     let more = length window.bytes - skip in
     let there = drop window.from journal in

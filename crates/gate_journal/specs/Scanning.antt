@@ -7,12 +7,12 @@ use Rattle.gate_journal.specs.Records.{first_gate, open_gate, record_bytes, fron
 use Rattle.gate_journal.specs.Refused.{IsCut}
 use Rattle.gate_journal.specs.Heads.{heads_of}
 
--- what stands at a gate, from which these bytes are left: a closed gate; a record and the place of a next gate; or an open gate that is cut short
-abbrev pub StandsAt : List ℕ → Gate → Type 0
-StandsAt left Closed = (gate : ℕ) × ((rest : List ℕ) × (left ≡ gate ∷ rest) × (gate ≢ open_gate))
-StandsAt left (Open count) =
+-- what lies at a gate, from which these bytes are left: a closed gate; a record and the place of a next gate; or an open gate that is cut short
+abbrev pub LiesAt : List ℕ → Gate → Type 0
+LiesAt left Closed = (gate : ℕ) × ((rest : List ℕ) × (left ≡ gate ∷ rest) × (gate ≢ open_gate))
+LiesAt left (Open count) =
     (body : List ℕ) × ((rest : List ℕ) × (left ≡ record_bytes body ++ rest) × (length body ≡ count) × (0 < length rest))
-StandsAt left CutShort = (rest : List ℕ) × (left ≡ open_gate ∷ rest) × IsCut rest
+LiesAt left CutShort = (rest : List ℕ) × (left ≡ open_gate ∷ rest) × IsCut rest
 
 -- the bytes before this gate are a header and whole records, and these are their heads
 pub record IsScanned (bytes : List ℕ) (gate : ℕ) (heads : List Head) : Type 0 where

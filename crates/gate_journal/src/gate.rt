@@ -2,7 +2,7 @@
 ghost use Rattle.std.specs.Prelude.{◌≡◌, ◌⊎◌, ◌+◌, ◌<◌, ◌≤◌, ℕ, List, length, take};
 ghost use Rattle.std.specs.Int.{w32, to_be_bytes};
 ghost use Rattle.gate_journal.specs.Records.{gate_bytes};
-ghost use Rattle.gate_journal.specs.Scanning.{StandsAt};
+ghost use Rattle.gate_journal.specs.Scanning.{LiesAt};
 
 /// The byte of a gate that is open. With every other byte it is closed.
 pub(crate) const OPEN_GATE: u8 = 0xa5;
@@ -10,7 +10,7 @@ pub(crate) const OPEN_GATE: u8 = 0xa5;
 /// The byte with which a gate is written closed.
 pub(crate) const CLOSED_GATE: u8 = 0;
 
-/// What stands at a gate.
+/// What lies at a gate.
 #[derive(Clone, Copy, Debug, PartialEq, Eq)]
 pub(crate) enum Gate {
     Closed,
@@ -31,12 +31,12 @@ fn spelled_count(bytes: &[u8]) -> u32
     u32::from_be_bytes([bytes[0], bytes[1], bytes[2], bytes[3]])
 }
 
-// What stands at a gate, from the bytes from there on: the gate and its length, or all that are left.
+// What lies at a gate, from the bytes from there on: the gate and its length, or all that are left.
 pub(crate) fn gate_in(bytes: &[u8], left: u64) -> Gate
     requires some { 1 ≤ length bytes.now }
     requires within { length bytes.now ≤ left }
     requires enough { (gate_bytes ≤ length bytes.now) ⊎ (length bytes.now ≡ left) }
-    ensures stands { (all : List ℕ) → length all ≡ left → bytes.now ≡ take (length bytes.now) all → StandsAt all result }
+    ensures lies { (all : List ℕ) → length all ≡ left → bytes.now ≡ take (length bytes.now) all → LiesAt all result }
     ensures fits { (count : ℕ) → result ≡ Gate.Open count → gate_bytes + count < left }
 {
     if bytes[0] != OPEN_GATE {

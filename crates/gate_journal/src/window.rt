@@ -4,7 +4,7 @@ ghost use Rattle.machine_model.specs.Causes.{Rose};
 ghost use Rattle.machine_model.specs.Calls.{OnlyReads};
 ghost use Rattle.gate_journal.specs.Records.{gate_bytes};
 ghost use Rattle.gate_journal.specs.Windows.{IsView, Covers, piece_of};
-ghost use Rattle.gate_journal.specs.Scanning.{StandsAt};
+ghost use Rattle.gate_journal.specs.Scanning.{LiesAt};
 
 use crate::JournalError;
 use crate::gate::{GATE_BYTES, Gate, gate_in};
@@ -73,13 +73,13 @@ impl Window {
         requires { Covers self.now at count }
         ensures piece { result.now ≡ piece_of self.now at count }
         ensures len { length result.now ≡ count }
-        ensures stands { (journal : List ℕ) → IsView self.now journal → result.now ≡ take count (drop at journal) }
+        ensures lies { (journal : List ℕ) → IsView self.now journal → result.now ≡ take count (drop at journal) }
     {
         let start = (at - self.from) as usize;
         &self.bytes[start..start + count as usize]
     }
 
-    // What stands at a gate.
+    // What lies at a gate.
     pub(crate) fn gate_at<D: Disk>(&mut self, disk: &mut D, gate: u64) -> Result<Gate, JournalError>
         requires inside { gate < self.old.end }
         requires long { self.old.end ≡ (D.disk disk.old).reach.journal }
@@ -91,8 +91,8 @@ impl Window {
         ensures end { self.new.end ≡ self.old.end }
         ensures fits { (count : ℕ) → result ≡ Ok (Gate.Open count) → gate + gate_bytes + count < self.old.end }
         ensures view { D.disk_tells → IsView self.old (D.disk disk.old).holds.journal → OnOk result (IsView self.new (D.disk disk.old).holds.journal) }
-        ensures stands { D.disk_tells → IsView self.old (D.disk disk.old).holds.journal →
-            IfOk result (StandsAt (drop gate (D.disk disk.old).holds.journal)) }
+        ensures lies { D.disk_tells → IsView self.old (D.disk disk.old).holds.journal →
+            IfOk result (LiesAt (drop gate (D.disk disk.old).holds.journal)) }
     {
         let left = self.end - gate;
         let count = left.min(GATE_BYTES) as u32;

@@ -32,12 +32,6 @@ count_more lefts at next end count e lt l h = record {
   many = omega (arith, h.many);
 }
 
-pub way_first : (times lefts : List ℕ) (at end : ℕ) (cuts : List ℕ) → cuts ≡ slice_index times at ∷ [] → at ≡ end → IsWay times lefts at end (reverse cuts)
-way_first times lefts at end cuts e f = record { places = []; are = ap (λ l. reverse l) e; leads = f }
-
-pub way_done : (times lefts : List ℕ) (at end : ℕ) (cuts : List ℕ) → at ≡ 0 → IsWay times lefts at end cuts → IsWay times lefts 0 end cuts
-way_done times lefts at end cuts e w = subst (λ n. IsWay times lefts n end cuts) e w
-
 -- the numbers are bounds
 pub settled_bounds : (list : List Posting) (horizon : ℕ) (table : Counts) (factor : Fraction) (pi lefts : List ℕ) → Tabulates list horizon table → AreSettled table factor pi lefts (length table.boundaries) → AreBounds list factor horizon table.boundaries pi
 settled_bounds list horizon table factor pi lefts t s = record {

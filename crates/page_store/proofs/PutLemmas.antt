@@ -102,9 +102,6 @@ pub record IsHalved (first : ℕ) (runs : List Run) (low high : ℕ) : Type 0 wh
   pub before : All (λ r. r.first < first) (take low runs)
   pub behind : (d : Run) → high < length runs → first ≤ (get_or runs high d).first
 
-pub halved_begins : (first : ℕ) (runs : List Run) → IsHalved first runs 0 (length runs)
-halved_begins first runs = record { order = omega arith; within = omega arith; before = All-nil (λ (r : Run). r.first < first); behind = λ d lt. absurd (omega arith) }
-
 first_from : (from : ℕ) (runs : List Run) (at : ℕ) (d : Run) → AreRuns from runs → at < length runs → from ≤ (get_or runs at d).first
 first_from from [] at d are within = absurd (omega arith)
 first_from from (r ∷ runs) zero d are within = are.0
@@ -126,16 +123,6 @@ halved_low first runs low high middle d are h lt is =
       within = h.within;
       before = subst (λ k. All (λ (r : Run). r.first < first) (take k runs)) (sym next) (low_until first 0 runs middle d are (omega arith) is);
       behind = h.behind;
-    }
-
-pub halved_high : (first : ℕ) (runs : List Run) (low high middle : ℕ) (d : Run) → IsHalved first runs low high → low ≤ middle → middle < high → first ≤ (get_or runs middle d).first → IsHalved first runs low middle
-halved_high first runs low high middle d h le lt is =
-    let inside = h.within in
-    record {
-      order = le;
-      within = omega arith;
-      before = h.before;
-      behind = λ e within. subst (λ (r : Run). first ≤ r.first) (get_or_default runs middle d e within) is;
     }
 
 pub halved_ends : (first : ℕ) (runs : List Run) (low high : ℕ) → AreRuns 0 runs → IsHalved first runs low high → high ≤ low → IsSplitAt first runs low
@@ -323,9 +310,6 @@ pub remove_seam : (xs ys : List Run) (x : Run) → remove (xs ++ x ∷ ys) (leng
 remove_seam xs ys x =
     let none : length xs - length xs ≡ 0 = omega arith in
     remove-append_right xs (x ∷ ys) (length xs) (length xs) refl (omega arith) ∙ ap (λ (k : ℕ). xs ++ remove (x ∷ ys) k) none
-
-IsOut : ℕ → ℕ → List Run → Type 0
-IsOut first n runs = (p : ℕ) → first ≤ p → p < first + n → IsIn runs p → ⊥
 
 -- by place: nothing touches
 pub by_none : (first n : ℕ) (runs : List Run) (at : ℕ) → IsSplitAt first runs at → AreRuns 0 runs → 1 ≤ n → first + n ≤ 2 ^ 28 → ((p : ℕ) → first ≤ p → p < first + n → IsIn runs p → ⊥)

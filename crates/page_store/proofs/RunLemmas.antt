@@ -33,11 +33,6 @@ in_from from p [] are is = absurd is
 in_from from p (r ∷ runs) are (inl here) = omega (arith, are.0, here.0)
 in_from from p (r ∷ runs) are (inr more) = omega (arith, are.0, in_from (r.first + r.pages + 1) p runs are.3 more)
 
-pub in_limit : (from p : ℕ) (runs : List Run) → AreRuns from runs → IsIn runs p → p < 2 ^ 28
-in_limit from p [] are is = absurd is
-in_limit from p (r ∷ runs) are (inl here) = omega (arith, are.2, here.1)
-in_limit from p (r ∷ runs) are (inr more) = in_limit (r.first + r.pages + 1) p runs are.3 more
-
 pub in_parts : (front back : List Run) (p : ℕ) → IsIn (front ++ back) p → IsIn front p ⊎ IsIn back p
 in_parts [] back p is = inr is
 in_parts (r ∷ front) back p (inl here) = inl (inl here)

@@ -75,17 +75,6 @@ wrote_one piece old new long is =
       }) (All-nil (HoldsPiece pages));
     })
 
--- a piece without bytes
-pub wrote_none : (piece : Piece) (old : Bytes) → length piece.bytes ≡ piece.extent.bytes → piece.extent.bytes ≡ 0 → Wrote (piece ∷ []) old old
-wrote_none piece old long none = record {
-  journal = refl;
-  elsewhere = same_outside (range_of piece.extent ∷ []) old.pages;
-  each = All-cons (HoldsPiece old.pages) piece [] (record {
-    inside = λ some. absurd (omega (arith, none));
-    bytes = nothing (bytes_in piece.extent old.pages) piece.bytes (omega (arith, none, length-take piece.extent.bytes (drop (piece.extent.first * 4096) old.pages))) (omega (arith, long, none));
-  }) (All-nil (HoldsPiece old.pages));
-}
-
 pub wrote_nothing : (old : Bytes) → Wrote [] old old
 wrote_nothing old = record { journal = refl; elsewhere = same_outside [] old.pages; each = All-nil (HoldsPiece old.pages) }
 
@@ -123,41 +112,8 @@ written_piece piece old new at bytes long place same is =
     let Q : List ℕ → Type 0 = λ l. new ≡ replaced old Pages (written (piece.extent.first * 4096) l old.pages) in
     wrote_one piece old new long (subst Q same (subst P place is))
 
--- the first so many pieces, and the next one
-pub next_piece : (pieces : List Piece) (i : ℕ) (piece : Piece) → i < length pieces → piece ≡ get_or pieces i piece → take (i + 1) pieces ≡ take i pieces ++ piece ∷ []
-next_piece pieces i piece within is = take_more pieces i piece within ∙ ap (λ (q : Piece). take i pieces ++ q ∷ []) (sym is)
-
 pub ranges_join : (xs ys : List Piece) → ranges_of (xs ++ ys) ≡ ranges_of xs ++ ranges_of ys
 ranges_join xs ys = ap (map range_of) (map-append (λ (piece : Piece). piece.extent) xs ys) ∙ map-append range_of (extents_of xs) (extents_of ys)
-
--- the writes of the first pieces change only what those of all may
-pub first_changes : (pieces : List Piece) (i : ℕ) {a b : DiskState} → ChangesOnly (ranges_of (take i pieces)) a b → ChangesOnly (ranges_of pieces) a b
-first_changes pieces i {a} {b} changes =
-    let P : List Piece → Type 0 = λ ps. ChangesOnly (ranges_of ps) a b in
-    let Q : List Range → Type 0 = λ rs. ChangesOnly rs a b in
-    subst P (take-append-drop i pieces) (subst Q (sym (ranges_join (take i pieces) (drop i pieces))) (changes_more (ranges_of (take i pieces)) (ranges_of (drop i pieces)) changes))
-
--- one piece more
-pub next_changes : (pieces : List Piece) (i : ℕ) (piece : Piece) {a b c : DiskState} → take (i + 1) pieces ≡ take i pieces ++ piece ∷ []
-    → ChangesOnly (ranges_of (take i pieces)) a b → ChangesOnly (ranges_of (piece ∷ [])) b c → ChangesOnly (ranges_of (take (i + 1) pieces)) a c
-next_changes pieces i piece {a} {b} {c} next one two =
-    let P : List Piece → Type 0 = λ ps. ChangesOnly (ranges_of ps) a c in
-    let Q : List Range → Type 0 = λ rs. ChangesOnly rs a c in
-    subst P (sym next) (subst Q (sym (ranges_join (take i pieces) (piece ∷ []))) (changes_join (ranges_of (take i pieces)) (ranges_of (piece ∷ [])) one two))
-
-pub next_wrote : (pieces : List Piece) (i : ℕ) (piece : Piece) (a b c : Bytes) → AreApart (extents_of pieces) → take (i + 1) pieces ≡ take i pieces ++ piece ∷ []
-    → Wrote (take i pieces) a b → Wrote (piece ∷ []) b c → Wrote (take (i + 1) pieces) a c
-next_wrote pieces i piece a b c apart next one two =
-    let P : List Piece → Type 0 = λ ps. Wrote ps a c in
-    let A : List Piece → Type 0 = λ ps. AreApart (extents_of ps) in
-    subst P (sym next) (wrote_join (take i pieces) (piece ∷ []) a b c (subst A next (first_apart pieces (i + 1) apart)) one two)
-  where
-    first_apart : (pieces : List Piece) (n : ℕ) → AreApart (extents_of pieces) → AreApart (extents_of (take n pieces))
-    first_apart pieces n apart =
-        let A : List Piece → Type 0 = λ ps. AreApart (extents_of ps) in
-        let B : List Extent → Type 0 = λ es. AreApart es in
-        apart_left (extents_of (take n pieces)) (extents_of (drop n pieces))
-        (subst B (map-append (λ (q : Piece). q.extent) (take n pieces) (drop n pieces)) (subst A (sym (take-append-drop n pieces)) apart))
 
 -- and a good sync behind them
 pub stored_synced : (pieces : List Piece) (a b c : DiskState) → Wrote pieces a.holds b.holds → Syncs b c → IsSynced b c → Stored pieces a c

@@ -27,5 +27,5 @@ pub record CertifiesCuts (list : List Posting) (factor : Fraction) (times pi cut
 
 -- A certified partition is least: no admissible partition from the first boundary to the horizon, whatever its
 -- cut times, takes less space.
-abbrev pub CertificateShowsLeast : Type 0
-CertificateShowsLeast = (list : List Posting) (factor : Fraction) (times pi cuts : List ℕ) (horizon : ℕ) → Certifies list factor times pi cuts horizon → IsLeast list factor (slice_index times 0) cuts horizon
+abbrev pub CertificateProvesLeast : Type 0
+CertificateProvesLeast = (list : List Posting) (factor : Fraction) (times pi cuts : List ℕ) (horizon : ℕ) → Certifies list factor times pi cuts horizon → IsLeast list factor (slice_index times 0) cuts horizon

@@ -3,7 +3,7 @@ ghost use Rattle.std.specs.Prelude.{◌≡◌, ◌↔◌, ℕ, ◌+◌, ◌<◌,
 ghost use Rattle.time_base.specs.declared.posting.Posting.{Posting};
 ghost use Rattle.elementary.specs.Counts.{Tabulates, size_between};
 ghost use Rattle.elementary.specs.Partitions.{IsLeast};
-ghost use Rattle.plan_certificate.specs.Certificates.{CertifiesCuts, CertificateShowsLeast};
+ghost use Rattle.plan_certificate.specs.Certificates.{CertifiesCuts, CertificateProvesLeast};
 ghost use Rattle.plan_certificate.specs.Edges.{EdgesBelow};
 
 use crate::certificate::Certificate;
@@ -94,6 +94,6 @@ pub fn check(
 
 /// A certified partition takes the least space of all admissible ones, whatever their cut times. Does
 /// nothing when it runs.
-pub fn certificate_shows_least()
-    ensures { CertificateShowsLeast }
+pub fn certificate_proves_least()
+    ensures { CertificateProvesLeast }
 {}

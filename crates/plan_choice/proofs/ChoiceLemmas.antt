@@ -34,10 +34,6 @@ early_cut cuts horizon k up last below =
 pub last_cut : (list : List Posting) (horizon : ℕ) (table : Counts) (cuts : List ℕ) → Tabulates list horizon table → IsFitting table.boundaries cuts → slice_index cuts (length cuts - 1) ≡ horizon
 last_cut list horizon table cuts t fits = fits.last ∙ last_is_horizon list horizon table.boundaries t.boundaries t.early
 
-pub some_cut : (p : List ℕ) (cuts : List Time) (h : ℕ) → 2 ≤ length p → map (λ (t : Time). t.seconds) cuts ++ h ∷ [] ≡ p → 0 < length cuts
-some_cut p [] h many same = absurd (omega (arith, many, ap length same))
-some_cut p (f ∷ cuts) h many same = omega arith
-
 -- the space of a partition is that of the plan
 pub space_of : (list : List Posting) (p : List ℕ) (cuts : List Time) (h n : ℕ) → 0 < length cuts → map (λ (t : Time). t.seconds) cuts ++ h ∷ [] ≡ p
     → n ≡ space list (slice_index p 0) (drop 1 p) → n ≡ plan_space list cuts h
@@ -52,12 +48,6 @@ pub few_cuts : (list : List Posting) (factor : Fraction) (horizon : ℕ) (table 
 few_cuts list factor horizon table cuts t many within least =
     let few = narrow list factor horizon table.boundaries (slice_index cuts 0) (drop 1 cuts) horizon t.boundaries least.first.is least.at_boundaries least.covers in
     omega (arith, few.1, within, length-drop 1 cuts)
-
--- cuts that are a least partition are a least plan
-pub least_plan_of : (list : List Posting) (factor : Fraction) (p : List ℕ) (cuts : List Time) (h : ℕ) → 0 < length cuts → map (λ (t : Time). t.seconds) cuts ++ h ∷ [] ≡ p
-    → IsLeast list factor (slice_index p 0) (drop 1 p) h → IsLeastPlan list factor cuts h
-least_plan_of list factor p [] h some same least = absurd (omega (arith, some))
-least_plan_of list factor p (f ∷ cuts) h some same least = subst (λ (p : List ℕ). IsLeast list factor (slice_index p 0) (drop 1 p) h) (sym same) least
 
 -- ---- best ones
 

@@ -7,7 +7,7 @@ use Rattle.time_base.proofs.Equal.{same_span}
 use Rattle.elementary.specs.Partitions.{space, Covers}
 use Rattle.proposals.specs.declared.proposal.Segment.{Segment}
 use Rattle.proposals.specs.Proposals.{pieces, bare_segment, AreSegments}
-use Rattle.proposals.specs.Laws.{EachLeastIsShown, ProposalsBeginOnce}
+use Rattle.proposals.specs.Laws.{EachLeastIsProposed, ProposalsBeginOnce}
 use Rattle.proposals.proofs.Pieces.{proposed, maps_same}
 
 begin_of : ℕ × ℕ × ℕ → ℕ
@@ -26,8 +26,8 @@ unfolding begin_of
 shown list factor f end cuts segments covers are =
     ap (λ (l : List ℕ). l ++ end ∷ []) (sym (map-map begin_of bare_segment segments) ∙ ap (λ (l : List (ℕ × ℕ × ℕ)). map begin_of l) are) ∙ begins list factor f end cuts covers
 
-pub each_least_is_shown : EachLeastIsShown
-each_least_is_shown list factor horizon first cuts now early least =
+pub each_least_is_proposed : EachLeastIsProposed
+each_least_is_proposed list factor horizon first cuts now early least =
     let (segments, (nodes, is)) = proposed list factor horizon first cuts now early least in
     (segments, (nodes, (space list first cuts, (is.0, shown list factor first horizon cuts segments least.covers is.1, refl))))
 

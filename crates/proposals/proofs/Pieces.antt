@@ -19,10 +19,6 @@ pub paired_pieces : (list : List Posting) (f : ℕ) (cuts : List ℕ) → paired
 paired_pieces list f [] = refl
 paired_pieces list f (g ∷ cuts) = ap (λ (l : List (ℕ × ℕ × ℕ)). (f, g, size f g list) ∷ l) (paired_pieces list g cuts)
 
-pub sizes_long : (list : List Posting) (f : ℕ) (cuts : List ℕ) → length (sizes list f cuts) ≡ length cuts
-sizes_long list f [] = refl
-sizes_long list f (g ∷ cuts) = ap suc (sizes_long list g cuts)
-
 -- a partition's segments as they are shown
 segmented : (list : List Posting) (factor : Fraction) (cuts : List ℕ) (f end : ℕ) → Covers list factor f cuts end → end ≤ 2 ^ 40 → (segments : List Segment) × AreSegments list f cuts segments
 segmented list factor [] f end c now = ([], refl)
@@ -112,28 +108,6 @@ segments_more cuts sizes k front s whole c l is e =
     ∙ append_assoc (map bare_segment front) (bare_segment s ∷ []) rest
     ∙ ap (λ (x : ℕ × ℕ × ℕ). map bare_segment front ++ x ∷ rest) is
     ∙ sym (ap (λ (x : List (ℕ × ℕ × ℕ)). map bare_segment front ++ x) (paired_more cuts sizes k c l)) ∙ e
-
-pub segments_end : (cuts sizes : List ℕ) (k f : ℕ) (front : List Segment) (whole : List (ℕ × ℕ × ℕ)) → length cuts ≤ k + 1
-    → map bare_segment front ++ paired f (drop (k + 1) cuts) (drop k sizes) ≡ whole → map bare_segment front ≡ whole
-segments_end cuts sizes k f front whole l e =
-    sym (append-nil (map bare_segment front)) ∙ sym (ap (λ (cs : List ℕ). map bare_segment front ++ paired f cs (drop k sizes)) (drop_all (k + 1) cuts l)) ∙ e
-
--- one node more
-pub nodes_more : (times numbers : List ℕ) (k : ℕ) (front : List Node) (n : Node) (whole : List (ℕ × ℕ)) → k < length times → k < length numbers
-    → bare_node n ≡ (slice_index times k, slice_index numbers k)
-    → map bare_node front ++ zip (drop k times) (drop k numbers) ≡ whole → map bare_node (front ++ n ∷ []) ++ zip (drop (k + 1) times) (drop (k + 1) numbers) ≡ whole
-nodes_more times numbers k front n whole t l is e =
-    let rest = zip (drop (k + 1) times) (drop (k + 1) numbers) in
-    ap (λ (x : List (ℕ × ℕ)). x ++ rest) (map-append bare_node front (n ∷ []))
-    ∙ append_assoc (map bare_node front) (bare_node n ∷ []) rest
-    ∙ ap (λ (x : ℕ × ℕ). map bare_node front ++ x ∷ rest) is
-    ∙ sym (ap (λ (ts : List ℕ). map bare_node front ++ zip ts (drop k numbers)) (drop_more times k 0 t) ∙ ap (λ (ns : List ℕ). map bare_node front ++ zip (slice_index times k ∷ drop (k + 1) times) ns) (drop_more numbers k 0 l))
-    ∙ e
-
-pub nodes_end : (times numbers : List ℕ) (k : ℕ) (front : List Node) (whole : List (ℕ × ℕ)) → length times ≤ k
-    → map bare_node front ++ zip (drop k times) (drop k numbers) ≡ whole → map bare_node front ≡ whole
-nodes_end times numbers k front whole l e =
-    sym (append-nil (map bare_node front)) ∙ sym (ap (λ (ts : List ℕ). map bare_node front ++ zip ts (drop k numbers)) (drop_all k times l)) ∙ e
 
 -- cuts that fit boundaries are times
 pub fitting_times : (times cuts : List ℕ) → IsFitting times cuts → All (λ x. x < 2 ^ 40) times → All (λ x. x < 2 ^ 40) cuts

@@ -20,8 +20,8 @@ ProposalsDifferInSegments =
     → IsProposal list factor horizon segments nodes total → IsProposal list factor horizon others those sum → (nodes ≡ those) × (total ≡ sum)
 
 -- Each least partition has a proposal that shows it: its segments begin at its cuts.
-abbrev pub EachLeastIsShown : Type 0
-EachLeastIsShown =
+abbrev pub EachLeastIsProposed : Type 0
+EachLeastIsProposed =
     (list : List Posting) (factor : Fraction) (horizon first : ℕ) (cuts : List ℕ) → horizon ≤ 2 ^ 40 → All (λ p. p.span.to ≤ horizon) list → IsLeast list factor first cuts horizon
     → (segments : List Segment) × ((nodes : List Node) × ((total : ℕ) × (IsProposal list factor horizon segments nodes total × (map (λ s. s.span.from) segments ++ horizon ∷ [] ≡ first ∷ cuts) × (total ≡ space list first cuts))))
 

@@ -11,7 +11,7 @@ mod laws;
 mod proposal;
 
 pub use laws::{
-    each_least_is_shown, each_list_has_a_proposal, proposals_begin_once,
+    each_least_is_proposed, each_list_has_a_proposal, proposals_begin_once,
     proposals_differ_in_segments,
 };
 pub use proposal::{Node, Proposal, Segment};

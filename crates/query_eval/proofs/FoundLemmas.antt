@@ -276,24 +276,3 @@ made-more f docs i doc rows new row l is before e n =
     go : (o : Option Row) → filter_map f (take i docs) ++ option_to_list o ≡ filter_map f (take i docs) ++ cons_option o []
     go None = refl
     go (Some r) = refl
-
--- a step of taking each once
-pub once-last : (rows : List Row) (i : ℕ) (d : Row) → i < length rows → i + 1 ≡ length rows → once (drop i rows) ≡ get_or rows i d ∷ once (drop (i + 1) rows)
-once-last rows i d l e = rw add-one (go rows i d l e)
-  where
-    go : (rows : List Row) (i : ℕ) (d : Row) → i < length rows → i + 1 ≡ length rows → once (drop i rows) ≡ get_or rows i d ∷ once (drop (suc i) rows)
-    go [] i d l e = absurd (omega (arith, l))
-    go (x ∷ []) zero d l e = refl
-    go (x ∷ y ∷ rows) zero d l e = absurd (omega (arith, e))
-    go (x ∷ rows) (suc i) d l e = go rows i d (omega (arith, l)) (omega (arith, e))
-
-pub once-next : (rows : List Row) (i : ℕ) (d : Row) (b : Bool) → i + 1 < length rows → same_row (get_or rows i d) (get_or rows (i + 1) d) ≡ b
-    → once (drop i rows) ≡ (if b then once (drop (i + 1) rows) else get_or rows i d ∷ once (drop (i + 1) rows))
-once-next rows i d b l e = rw add-one (go rows i d b l (rw add-one at e))
-  where
-    go : (rows : List Row) (i : ℕ) (d : Row) (b : Bool) → i + 1 < length rows → same_row (get_or rows i d) (get_or rows (suc i) d) ≡ b
-        → once (drop i rows) ≡ (if b then once (drop (suc i) rows) else get_or rows i d ∷ once (drop (suc i) rows))
-    go [] i d b l e = absurd (omega (arith, l))
-    go (x ∷ []) zero d b l e = absurd (omega (arith, l))
-    go (x ∷ y ∷ rows) zero d b l e = ap (λ c. if c then once (y ∷ rows) else x ∷ once (y ∷ rows)) e
-    go (x ∷ rows) (suc i) d b l e = go rows i d b (omega (arith, l)) e

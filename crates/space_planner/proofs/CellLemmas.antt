@@ -154,10 +154,6 @@ wider : (n : ℕ) (o : Option ℕ) → IfSome o (λ w. w ≤ n * 2 ^ 118) → If
 wider n None h = tt
 wider n (Some w) h = omega (arith, h)
 
-pub cells_fit : (n : ℕ) (o : Option ℕ) → n ≤ 128 → IfSome o (λ w. w ≤ n * 2 ^ 118) → IfSome o (λ w. w ≤ 2 ^ 126)
-cells_fit n None l h = tt
-cells_fit n (Some w) l h = omega (arith, h)
-
 pub cells_more : (charge cost : ℕ → ℕ → ℕ) (width n : ℕ) (cells row : List (Option ℕ)) (charges costs : List ℕ) → 0 < n → AreCells charge cost width cells n
     → ((j : ℕ) → j < n → slice_index charges j ≡ charge n j) → ((j : ℕ) → j < n → slice_index costs j ≡ cost n j) → All (λ w. w ≤ 2 ^ 118) costs → length costs ≡ n → IsRow cells width charges costs row (length costs)
     → AreCells charge cost width (cells ++ row) (n + 1)

@@ -8,9 +8,6 @@ use Rattle.std.proofs.Math.Nat.{mul-le-mul_right}
 use Rattle.space_planner.specs.Caps.{stride}
 use Rattle.space_planner.specs.Steps.{AreStops}
 
-pub min_below : (a b : ℕ) → min a b ≤ a
-min_below a b = grind arith
-
 pub min_to : (a b : ℕ) → min a b ≤ b
 min_to a b = grind arith
 

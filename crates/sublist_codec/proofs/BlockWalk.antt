@@ -109,9 +109,6 @@ lead_is before head behind e =
     either false true e one other = inr (other refl)
     either false false e one other = absurd cc
 
-all_true : (a b c d : Bool) → a ≡ true → b ≡ true → c ≡ true → d ≡ true → (a && b && c && d) ≡ true
-all_true a b c d p q r s = rw (p, q, r, s) refl
-
 lead_passes : (before : Option Fields) (head : Head) (behind : ℕ) → IsLead before head behind → may_lead before head behind ≡ true
 lead_passes before head behind lead =
     rw (

@@ -68,6 +68,3 @@ number_below w limit wide bytes fits = wide.below (take (byte_len w) bytes) (IsB
 -- a number that was spelled is in front, and the rest behind it
 pub number_again : (w : Width) (limit : ℕ) (wide : IsWide w limit) (n : ℕ) (rest : List ℕ) → n < limit → from_be_bytes w (take (byte_len w) (to_be_bytes w n ++ rest)) ≡ n
 number_again w limit wide n rest lt = rw (take_at (to_be_bytes w n) rest (byte_len w) (wide.len n)) (wide.again n lt)
-
-pub behind_again : (w : Width) (limit : ℕ) (wide : IsWide w limit) (n : ℕ) (rest : List ℕ) → drop (byte_len w) (to_be_bytes w n ++ rest) ≡ rest
-behind_again w limit wide n rest = drop_at (to_be_bytes w n) rest (byte_len w) (wide.len n)

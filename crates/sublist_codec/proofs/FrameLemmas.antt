@@ -108,6 +108,3 @@ framed_shorter rest h behind e = omega (arith, front_shorter rest h behind e)
 
 pub framed_fails : (bytes : List ℕ) (heads : List BlockHead) (starts : List ℕ) (rest : List ℕ) → IsFramed bytes heads starts rest → 0 < length rest → front_of rest ≡ None → frames_at bytes ≡ Err (length rest)
 framed_fails bytes heads starts rest f some e = ends frame_at (frames_at bytes) (map head_of heads) f.before rest (length rest) f.read some (frame_err f.before rest e)
-
-pub framed_ends : (bytes : List ℕ) (heads : List BlockHead) (starts : List ℕ) (rest : List ℕ) → IsFramed bytes heads starts rest → length rest ≡ 0 → frames_at bytes ≡ Ok (map head_of heads)
-framed_ends bytes heads starts rest f none = is_done frame_at (frames_at bytes) (map head_of heads) f.before rest f.read none

@@ -41,14 +41,6 @@ written_more old number out rest w le = go w.most w.some w.fits w.same
       same = append_assoc out ((rest % 128 + 128) ∷ []) (number_bytes (suc m) (rest / 128)) ∙ ap (λ (xs : List ℕ). out ++ xs) (sym (ap (λ b. cond b (rest ∷ []) ((rest % 128 + 128) ∷ number_bytes (suc m) (rest / 128))) (le-ltb rest 128 le))) ∙ same;
     }
 
-pub written_ends : (old : List ℕ) (number : ℕ) (out : List ℕ) (rest : ℕ) → IsWritten old number out rest → rest < 128 → out ++ rest ∷ [] ≡ old ++ number_bytes 6 number
-unfolding number_bytes
-written_ends old number out rest w lt = go w.most w.some w.same
-  where
-    go : (most : ℕ) → 1 ≤ most → out ++ number_bytes most rest ≡ old ++ number_bytes 6 number → out ++ rest ∷ [] ≡ old ++ number_bytes 6 number
-    go zero some same = absurd (omega arith)
-    go (suc m) some same = ap (λ (xs : List ℕ). out ++ xs) (sym (ap (λ b. cond b (rest ∷ []) ((rest % 128 + 128) ∷ number_bytes m (rest / 128))) (lt-ltb rest 128 lt))) ∙ same
-
 -- ---- what is read is spelled so
 
 pub record IsNumber (most : ℕ) (bytes : List ℕ) (read : ℕ × List ℕ) : Type 0 where

@@ -35,14 +35,6 @@ cut_more total out rest new cut some e = go cut.turns rest cut.enough cut.same s
           ∙ same;
     }
 
-pub cut_ends : (total out : List ℕ) (rest : List Posting) → IsCut total out rest → length rest ≡ 0 → out ≡ total
-cut_ends total out [] cut none = sym (append-nil out) ∙ (go cut.turns cut.same)
-  where
-    go : (turns : ℕ) → out ++ flat_map block (pieces turns []) ≡ total → out ++ [] ≡ total
-    go zero same = same
-    go (suc n) same = same
-cut_ends total out (p ∷ ps) cut none = absurd (omega arith)
-
 -- ---- parts of lists
 
 pub list-drop : (n : ℕ) (ps : List Posting) → IsList ps → IsList (drop n ps)

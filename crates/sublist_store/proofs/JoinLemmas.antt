@@ -161,9 +161,6 @@ in_turn lists all each joined = all_in_turn lists [] all each tt joined.ordered 
 
 -- ---- joined by halves
 
-pub none_joined : AreJoined [] []
-none_joined = record { ordered = tt; each = λ p. ((λ is. let (k, l, e) = is in absurd (omega (arith, l))), (λ is. absurd is)) }
-
 pub one_joined : (l : Paged) → IsList l.1 → AreJoined (l ∷ []) l.1
 one_joined l is = record { ordered = is; each = λ p. ((λ c. inl c), (λ c. elim c [ inl d ↦ d | inr d ↦ absurd d ])) }
 

@@ -18,10 +18,6 @@ pub with_placed : List Extent → List Extent → List Extent
 with_placed taken [] = taken
 with_placed taken (e ∷ es) = with_placed (e ∷ taken) es
 
-pub placed_nothing : (taken : List Extent) → with_placed taken [] ≡ taken
-unfolding with_placed
-placed_nothing taken = refl
-
 placed-push : (taken es : List Extent) (e : Extent) → with_placed taken (es ++ e ∷ []) ≡ e ∷ with_placed taken es
 unfolding with_placed
 placed-push taken [] e = refl

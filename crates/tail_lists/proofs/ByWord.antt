@@ -4,7 +4,7 @@ use Rattle.std.proofs.Common.{arith, ap, sym, ◌∙◌, subst, inl, inr}
 use Rattle.std.proofs.lemmas.Bool.{cases_eq}
 use Rattle.time_base.specs.declared.posting.Posting.{Posting}
 use Rattle.tail_lists.specs.declared.weight.Weight.{Weight}
-use Rattle.tail_lists.specs.Held.{Held}
+use Rattle.tail_lists.specs.States.{TailState}
 use Rattle.tail_lists.specs.Tails.{held_of, tail_of, room_of}
 use Rattle.tail_lists.specs.Turns.{IsTurned}
 use Rattle.tail_lists.specs.Weights.{weight_of}
@@ -12,14 +12,14 @@ use Rattle.tail_lists.specs.Passing.{first_of, behind, AreFrom, IsDone, IsLeft, 
 use Rattle.tail_lists.proofs.Passed.{turned-same}
 use Rattle.tail_lists.proofs.Words.{behind-words, first-weight, behind-none, behind-other, room-behind}
 
-same-tail : (x y : Held) → x ≡ y → x.list ≡ y.list
-same-tail x y e = ap {B = List Posting} (λ (h : Held). h.list) e
+same-tail : (x y : TailState) → x ≡ y → x.list ≡ y.list
+same-tail x y e = ap {B = List Posting} (λ (h : TailState). h.list) e
 
-same-room : (x y : Held) → x ≡ y → x.room ≡ y.room
-same-room x y e = ap {B = ℕ} (λ (h : Held). h.room) e
+same-room : (x y : TailState) → x ≡ y → x.room ≡ y.room
+same-room x y e = ap {B = ℕ} (λ (h : TailState). h.room) e
 
 -- a word for which the same is held, and which has the same weights to come
-stays : (doc at : ℕ) (old new lost gained less fewer : List Weight) (was mid now : List Held) (v : ℕ) → held_of now v ≡ held_of mid v → weight_of v less ≡ weight_of v lost → weight_of v fewer ≡ weight_of v gained
+stays : (doc at : ℕ) (old new lost gained less fewer : List Weight) (was mid now : List TailState) (v : ℕ) → held_of now v ≡ held_of mid v → weight_of v less ≡ weight_of v lost → weight_of v fewer ≡ weight_of v gained
     → IsDone doc at old new lost gained was mid v ⊎ IsLeft old new lost gained was mid v → IsDone doc at old new less fewer was now v ⊎ IsLeft old new less fewer was now v
 stays doc at old new lost gained less fewer was mid now v e l g (inl d) = inl (record {
   none_lost = l ∙ d.none_lost;
@@ -34,7 +34,7 @@ stays doc at old new lost gained less fewer was mid now v e l g (inl d) = inl (r
 stays doc at old new lost gained less fewer was mid now v e l g (inr d) = inr (record { held = e ∙ d.held; to_lose = l ∙ d.to_lose; to_gain = g ∙ d.to_gain })
 
 -- a word that is passed on
-passes : (doc at : ℕ) (old new lost gained less fewer : List Weight) (was mid now : List Held) (w before after : ℕ) → before ≡ weight_of w lost → after ≡ weight_of w gained → weight_of w less ≡ 0 → weight_of w fewer ≡ 0
+passes : (doc at : ℕ) (old new lost gained less fewer : List Weight) (was mid now : List TailState) (w before after : ℕ) → before ≡ weight_of w lost → after ≡ weight_of w gained → weight_of w less ≡ 0 → weight_of w fewer ≡ 0
     → IsTurned doc at before after (tail_of mid w) (tail_of now w) → (before ≡ after → held_of now w ≡ held_of mid w) → (length (tail_of now w) ≤ length (tail_of mid w) + 1) → (after ≡ 0 → length (tail_of now w) ≤ length (tail_of mid w)) → (after ≡ 0 → room_of mid w ≤ room_of now w) → room_of mid w ≤ room_of now w + 1
     → IsDone doc at old new lost gained was mid w ⊎ IsLeft old new lost gained was mid w → IsDone doc at old new less fewer was now w ⊎ IsLeft old new less fewer was now w
 passes doc at old new lost gained less fewer was mid now w before after b a l f turned same longer shorter none room (inl d) =
@@ -54,7 +54,7 @@ passes doc at old new lost gained less fewer was mid now w before after b a l f 
 })
 
 -- the turn goes on by the first word of both lists
-pub pass-word : (doc at : ℕ) (old new lost gained less fewer : List Weight) (was mid now : List Held) (w before after : ℕ) → before ≡ first_of w lost → after ≡ first_of w gained → less ≡ behind w lost → fewer ≡ behind w gained
+pub pass-word : (doc at : ℕ) (old new lost gained less fewer : List Weight) (was mid now : List TailState) (w before after : ℕ) → before ≡ first_of w lost → after ≡ first_of w gained → less ≡ behind w lost → fewer ≡ behind w gained
     → AreFrom w lost → AreFrom w gained → IsTurned doc at before after (tail_of mid w) (tail_of now w) → (before ≡ after → held_of now w ≡ held_of mid w) → ((v : ℕ) → v ≢ w → held_of now v ≡ held_of mid v)
     → (length (tail_of now w) ≤ length (tail_of mid w) + 1) → (after ≡ 0 → length (tail_of now w) ≤ length (tail_of mid w)) → (after ≡ 0 → room_of mid w ≤ room_of now w) → room_of mid w ≤ room_of now w + 1 → IsPassing doc at old new lost gained was mid → IsPassing doc at old new less fewer was now
 pass-word doc at old new lost gained less fewer was mid now w before after b a l f from also turned same others longer shorter none room p = rw (l, f) (record {
@@ -69,7 +69,7 @@ pass-word doc at old new lost gained less fewer was mid now w before after b a l
 })
 
 -- each word is passed on where none is left
-pub passed-all : (doc at : ℕ) (old new lost gained : List Weight) (was now : List Held) → lost ≡ [] → gained ≡ [] → IsPassing doc at old new lost gained was now → (w : ℕ) → IsTurned doc at (weight_of w old) (weight_of w new) (tail_of was w) (tail_of now w)
+pub passed-all : (doc at : ℕ) (old new lost gained : List Weight) (was now : List TailState) → lost ≡ [] → gained ≡ [] → IsPassing doc at old new lost gained was now → (w : ℕ) → IsTurned doc at (weight_of w old) (weight_of w new) (tail_of was w) (tail_of now w)
 passed-all doc at old new lost gained was now l g p w = go (p.each w)
   where
     go : IsDone doc at old new lost gained was now w ⊎ IsLeft old new lost gained was now w → IsTurned doc at (weight_of w old) (weight_of w new) (tail_of was w) (tail_of now w)
@@ -80,21 +80,21 @@ passed-all doc at old new lost gained was now l g p w = go (p.each w)
         rw (o, n, same-tail (held_of now w) (held_of was w) d.held) (turned-same doc at 0 (tail_of was w))
 
 -- and no tail is longer by more than one
-pub longer-all : (doc at : ℕ) (old new lost gained : List Weight) (was now : List Held) → IsPassing doc at old new lost gained was now → (w : ℕ) → length (tail_of now w) ≤ length (tail_of was w) + 1
+pub longer-all : (doc at : ℕ) (old new lost gained : List Weight) (was now : List TailState) → IsPassing doc at old new lost gained was now → (w : ℕ) → length (tail_of now w) ≤ length (tail_of was w) + 1
 longer-all doc at old new lost gained was now p w = go (p.each w)
   where
     go : IsDone doc at old new lost gained was now w ⊎ IsLeft old new lost gained was now w → length (tail_of now w) ≤ length (tail_of was w) + 1
     go (inl d) = d.longer
     go (inr d) = omega (arith, ap length (same-tail (held_of now w) (held_of was w) d.held))
 
-pub shorter-all : (doc at : ℕ) (old new lost gained : List Weight) (was now : List Held) → IsPassing doc at old new lost gained was now → (w : ℕ) → weight_of w new ≡ 0 → length (tail_of now w) ≤ length (tail_of was w)
+pub shorter-all : (doc at : ℕ) (old new lost gained : List Weight) (was now : List TailState) → IsPassing doc at old new lost gained was now → (w : ℕ) → weight_of w new ≡ 0 → length (tail_of now w) ≤ length (tail_of was w)
 shorter-all doc at old new lost gained was now p w z = go (p.each w)
   where
     go : IsDone doc at old new lost gained was now w ⊎ IsLeft old new lost gained was now w → length (tail_of now w) ≤ length (tail_of was w)
     go (inl d) = d.shorter z
     go (inr d) = omega (arith, ap length (same-tail (held_of now w) (held_of was w) d.held))
 
-pub none-all : (doc at : ℕ) (old new lost gained : List Weight) (was now : List Held) → IsPassing doc at old new lost gained was now → (w : ℕ) → weight_of w new ≡ 0 → room_of was w ≤ room_of now w
+pub none-all : (doc at : ℕ) (old new lost gained : List Weight) (was now : List TailState) → IsPassing doc at old new lost gained was now → (w : ℕ) → weight_of w new ≡ 0 → room_of was w ≤ room_of now w
 none-all doc at old new lost gained was now p w z = go (p.each w)
   where
     go : IsDone doc at old new lost gained was now w ⊎ IsLeft old new lost gained was now w → room_of was w ≤ room_of now w

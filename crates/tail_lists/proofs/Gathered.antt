@@ -139,14 +139,6 @@ open-other turns i last next e m l a b n s w =
     let f : next.doc.0 ≡ (get_or turns i e).doc.0 = ap {B = ℕ} (λ (x : Turn). x.doc.0) (get_or_read turns i next l b e) in
     sym (open-none turns e i w (get_or turns i e).doc.0 (omega (arith, l)) (λ j k. omega (arith, c, f, n, s j (i - 1) e (omega (arith, k)) (omega (arith, l)), s (i - 1) i e (omega arith) l)))
 
-pub open-same : (turns : List Turn) (i : ℕ) (last next e : Turn) → i ≢ 0 → i < length turns → last ≡ get_or turns (i - 1) last → next ≡ get_or turns i next → last.doc.0 ≡ next.doc.0 → (w : ℕ) → weight_of w last.weights.items ≡ open_after (acts_of (take i turns)) w (get_or turns i e).doc.0
-open-same turns i last next e m l a b n w =
-    let k : i ≡ i - 1 + 1 = omega (arith, m) in
-    let g : last ≡ get_or turns (i - 1) e = get_or_read turns (i - 1) last (omega (arith, l)) a e in
-    let f : next.doc.0 ≡ (get_or turns i e).doc.0 = ap {B = ℕ} (λ (x : Turn). x.doc.0) (get_or_read turns i next l b e) in
-    let more : acts_of (take i turns) ≡ act_of last ∷ acts_of (take (i - 1) turns) = ap (λ z. acts_of (take z turns)) k ∙ acts-more turns (i - 1) e (omega (arith, l)) ∙ ap (λ z. act_of z ∷ acts_of (take (i - 1) turns)) (sym g) in
-    sym (ap (λ z. open_after z w (get_or turns i e).doc.0) more ∙ open-here last.doc.0 last.at.seconds (λ v. weight_of v last.weights.items) (acts_of (take (i - 1) turns)) w (get_or turns i e).doc.0 (sym f ∙ sym n))
-
 -- the next turn's document passes on
 pub gather-more : (turns : List Turn) (i : ℕ) (x : Turn) (w o : ℕ) (was mid now : List Posting) → i < length turns → x ≡ get_or turns i x → AreInOrder (acts_of turns) → o ≡ open_after (acts_of (take i turns)) w x.doc.0 → mid ≡ was
     → IsTurned x.doc.0 x.at.seconds o (weight_of w x.weights.items) mid now → IsListOf (frequency_after (acts_of (take i turns)) w) 0 (2 ^ 40) was → IsListOf (frequency_after (acts_of (take (i + 1) turns)) w) 0 (2 ^ 40) now

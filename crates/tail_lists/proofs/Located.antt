@@ -88,9 +88,6 @@ longer-later later k x y l e n m =
     let b = ap length (joined-set later k y l) ∙ length-append (joined (take k later)) (y.items ++ joined (drop (k + 1) later)) in
     omega (arith, a, b, m, length-append x.items (joined (drop (k + 1) later)), length-append y.items (joined (drop (k + 1) later)))
 
-pub filled-but : (later : List Block) (k : ℕ) (y : Block) → AreFilled later → (i : ℕ) (d : Block) → i < length (set later k y) → i ≢ k → 0 < length (get_or (set later k y) i d).items
-filled-but later k y f i d m n = subst (λ w. 0 < length w.items) (sym (get_or-set_other later k i y d n)) (f i d (omega (arith, m, length-set later k y)))
-
 -- an empty block is removed
 pub joined-removed : (later : List Block) (k : ℕ) (x : Block) → k < length later → x ≡ get_or later k x → length x.items ≡ 0 → joined (remove later k) ≡ joined later
 joined-removed later k x l e n =

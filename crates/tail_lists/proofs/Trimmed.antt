@@ -51,9 +51,6 @@ zip-from R [] (y ∷ ys) e h = absurd (omega (arith, e))
 zip-from R (x ∷ xs) [] e h = absurd (omega (arith, e))
 zip-from R (x ∷ xs) (y ∷ ys) e h = (h 0 x (omega arith), zip-from R xs ys (omega (arith, e)) (λ k d l. h (suc k) d (omega (arith, l))))
 
-pub start-none : (h : ℕ) (list : List Posting) → IsStarting h 0 list list
-start-none h list = record { long = refl; done = λ k d l. absurd (omega (arith, l)); left = λ k d l. refl }
-
 pub start-more : (h i : ℕ) (was now : List Posting) (p q : Posting) → i < length now → p ≡ get_or now i p → (h < p.span.to → IsStartedAt h p q) → IsStarting h i was now → IsStarting h (i + 1) was (set now i q)
 start-more h i was now p q l e c s = record {
   long = length-set now i q ∙ s.long;

@@ -50,9 +50,6 @@ remove-within front block back j l =
 inside-within : (front block back : List Posting) (j : ℕ) → j < length block → length front + j < length (front ++ (block ++ back))
 inside-within front block back j l = omega (arith, l, length-append front (block ++ back), length-append block back)
 
-pub same-within : (doc at o : ℕ) (block : List Posting) → IsTurnedWithin doc at o o block block
-same-within doc at o block front back s = turned-same doc at o (front ++ (block ++ back))
-
 pub close-within : (doc at o : ℕ) (block now : List Posting) (j k : ℕ) (x y : Posting) → k ≡ j + 1 → j < length block → x ≡ get_or block j x → (IsList block → IsPlace doc block k) → at < 2 ^ 40 → 0 < o → IsClosed at x y → now ≡ set block j y → IsTurnedWithin doc at o 0 block now
 close-within doc at o block now j k x y v l e p lb n c w front back s =
     turned-close doc at o (front ++ (block ++ back)) (front ++ (now ++ back)) (length front + j) (length front + k) x y (omega (arith, v)) (inside-within front block back j l) (read-within front block back j x l e)

@@ -6,7 +6,7 @@ use Rattle.std.proofs.lemmas.Bool.Decides.{nat_tests}
 use Rattle.std.proofs.lemmas.List.Elements.{All-nil, All-cons, All-head, All-tail}
 use Rattle.postings.proofs.Order.{next-tail}
 use Rattle.tail_lists.specs.declared.weight.Weight.{Weight}
-use Rattle.tail_lists.specs.Held.{Held}
+use Rattle.tail_lists.specs.States.{TailState}
 use Rattle.tail_lists.specs.Tails.{held_of, room_of, HaveRoom}
 use Rattle.tail_lists.specs.Weights.{AreWeights, weight_of}
 use Rattle.tail_lists.specs.Passing.{first_of, behind, AreFrom}
@@ -90,7 +90,7 @@ behind-other (x ∷ weights) w v n = elim (cases_eq x.word.number w) [
 ]
 
 -- room for the words that are left, where what is held for the others stays
-pub room-behind : (weights : List Weight) (w : ℕ) (was now : List Held) → AreWeights weights → AreFrom w weights → ((v : ℕ) → v ≢ w → held_of now v ≡ held_of was v) → HaveRoom weights was → HaveRoom (behind w weights) now
+pub room-behind : (weights : List Weight) (w : ℕ) (was now : List TailState) → AreWeights weights → AreFrom w weights → ((v : ℕ) → v ≢ w → held_of now v ≡ held_of was v) → HaveRoom weights was → HaveRoom (behind w weights) now
 room-behind weights w was now a f same h = go (behind w weights) (behind-behind weights w a f) (left weights h)
   where
     left : (weights : List Weight) → HaveRoom weights was → HaveRoom (behind w weights) was
@@ -102,11 +102,11 @@ room-behind weights w was now a f same h = go (behind w weights) (behind-behind 
 
     go : (list : List Weight) → AreBehind w list → HaveRoom list was → HaveRoom list now
     go list b h k d l =
-        let e : room_of now (get_or list k d).word.number ≡ room_of was (get_or list k d).word.number = ap {B = ℕ} (λ (z : Held). z.room) (same (get_or list k d).word.number (λ u. omega (arith, u, b k d l))) in
+        let e : room_of now (get_or list k d).word.number ≡ room_of was (get_or list k d).word.number = ap {B = ℕ} (λ (z : TailState). z.room) (same (get_or list k d).word.number (λ u. omega (arith, u, b k d l))) in
         omega (arith, e, h k d l)
 
 -- a list that begins with the word has room for it
-pub room-first : (weights : List Weight) (w : ℕ) (tails : List Held) → first_of w weights ≢ 0 → HaveRoom weights tails → 1 ≤ room_of tails w
+pub room-first : (weights : List Weight) (w : ℕ) (tails : List TailState) → first_of w weights ≢ 0 → HaveRoom weights tails → 1 ≤ room_of tails w
 room-first [] w tails n h = absurd (n refl)
 room-first (x ∷ weights) w tails n h = elim (cases_eq x.word.number w) [
   | inl e ↦ subst (λ z. 1 ≤ room_of tails z) e (All-head (λ z. 1 ≤ room_of tails z.word.number) x weights h)

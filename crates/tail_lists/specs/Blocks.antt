@@ -5,7 +5,7 @@ use Rattle.std.specs.declared.alloc.Global.{Global}
 use Rattle.time_base.specs.declared.posting.Posting.{Posting}
 use Rattle.postings.specs.Lists.{IsList}
 use Rattle.tail_lists.specs.Turns.{IsTurned}
-use Rattle.tail_lists.specs.Held.{Held}
+use Rattle.tail_lists.specs.States.{TailState}
 
 -- the postings of all blocks, one block after another
 abbrev pub joined : List (Vec Posting Global) → List Posting
@@ -76,6 +76,6 @@ abbrev pub room_in : Vec Posting Global → Vec (Vec Posting Global) Global → 
 room_in first later spare = first_room first later + spare_room later spare
 
 -- What is held in blocks: nothing where there are none.
-abbrev pub held_in : Option (Box Held Global) → Held
+abbrev pub held_in : Option (Box TailState Global) → TailState
 held_in None = record { list = []; room = 0 }
 held_in (Some blocks) = box_value blocks

@@ -1,7 +1,7 @@
 pub mod Acts
 pub mod Blocks
 pub mod Gathered
-pub mod Held
+pub mod States
 pub mod Laws
 pub mod Passing
 pub mod Steps

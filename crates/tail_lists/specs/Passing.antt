@@ -1,7 +1,7 @@
 -- How far a turn of a document has come over the words of two lists of weights.
 use Rattle.std.specs.Prelude.{◌≡◌, ◌⊎◌, ℕ, ◌+◌, ◌≤◌, ◌==◌, if◌then◌else◌, List, [], ◌∷◌, length, All}
 use Rattle.tail_lists.specs.declared.weight.Weight.{Weight}
-use Rattle.tail_lists.specs.Held.{Held}
+use Rattle.tail_lists.specs.States.{TailState}
 use Rattle.tail_lists.specs.Tails.{held_of, tail_of, room_of, HaveRoom}
 use Rattle.tail_lists.specs.Turns.{IsTurned}
 use Rattle.tail_lists.specs.Weights.{AreWeights, weight_of}
@@ -21,7 +21,7 @@ abbrev pub AreFrom : ℕ → List Weight → Type 0
 AreFrom w weights = All (λ x. w ≤ x.word.number) weights
 
 -- Word w is passed on.
-pub record IsDone (doc at : ℕ) (old new lost gained : List Weight) (was now : List Held) (w : ℕ) : Type 0 where
+pub record IsDone (doc at : ℕ) (old new lost gained : List Weight) (was now : List TailState) (w : ℕ) : Type 0 where
   pub none_lost : weight_of w lost ≡ 0
   pub none_gained : weight_of w gained ≡ 0
   pub turned : IsTurned doc at (weight_of w old) (weight_of w new) (tail_of was w) (tail_of now w)
@@ -32,13 +32,13 @@ pub record IsDone (doc at : ℕ) (old new lost gained : List Weight) (was now : 
   pub room : room_of was w ≤ room_of now w + 1
 
 -- Word w stands as it was.
-pub record IsLeft (old new lost gained : List Weight) (was now : List Held) (w : ℕ) : Type 0 where
+pub record IsLeft (old new lost gained : List Weight) (was now : List TailState) (w : ℕ) : Type 0 where
   pub held : held_of now w ≡ held_of was w
   pub to_lose : weight_of w lost ≡ weight_of w old
   pub to_gain : weight_of w gained ≡ weight_of w new
 
 -- Each word is passed on or stands as it was; the words that may still change are those of the lists `lost` and `gained`.
-pub record IsPassing (doc at : ℕ) (old new lost gained : List Weight) (was now : List Held) : Type 0 where
+pub record IsPassing (doc at : ℕ) (old new lost gained : List Weight) (was now : List TailState) : Type 0 where
   pub lost_words : AreWeights lost
   pub gained_words : AreWeights gained
   pub gained_room : HaveRoom gained now

@@ -23,10 +23,10 @@ pub(crate) struct BlockList {
 
 impl Model for BlockList {
     ghost use Rattle.std.specs.Prelude.{◌++◌};
-    ghost use Rattle.tail_lists.specs.Held.{Held};
+    ghost use Rattle.tail_lists.specs.States.{TailState};
     ghost use Rattle.tail_lists.specs.Blocks.{joined, AreFilled, room_in};
 
-    ghost Value = { Held };
+    ghost Value = { TailState };
 
     ghost view = { λ t. record { list = t.first.items ++ joined t.later.items; room = room_in t.first t.later t.spare } };
 

@@ -20,10 +20,10 @@ pub struct Tail {
 }
 
 impl Model for Tail {
-    ghost use Rattle.tail_lists.specs.Held.{Held};
+    ghost use Rattle.tail_lists.specs.States.{TailState};
     ghost use Rattle.tail_lists.specs.Blocks.{held_in};
 
-    ghost Value = { Held };
+    ghost Value = { TailState };
 
     ghost view = { λ t. held_in t.blocks };
 }

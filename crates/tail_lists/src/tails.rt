@@ -21,9 +21,9 @@ pub struct Tails {
 
 impl Model for Tails {
     ghost use Rattle.std.specs.Prelude.{List};
-    ghost use Rattle.tail_lists.specs.Held.{Held};
+    ghost use Rattle.tail_lists.specs.States.{TailState};
 
-    ghost Value = { List Held };
+    ghost Value = { List TailState };
 
     ghost view = { λ t. t.tails.items };
 }

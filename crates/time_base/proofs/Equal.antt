@@ -26,13 +26,6 @@ same_span s r f e = λ i. record {
   in_time = is_prop→PathP (λ j. e j ≤ 2 ^ 40) (λ j. le_prop) s.in_time r.in_time i;
 }
 
--- words of the same number are one
-pub same_word : (v w : WordId) → v.number ≡ w.number → v ≡ w
-same_word v w n = λ i. record {
-  number = n i;
-  in_vocabulary = is_prop→PathP (λ j. n j < 2 ^ 20) (λ j. le_prop) v.in_vocabulary w.in_vocabulary i;
-}
-
 -- fractions that are written alike are one
 pub same_fraction : (a b : Fraction) → a.over ≡ b.over → a.under ≡ b.under → a ≡ b
 same_fraction a b o u = λ i. record {

@@ -3,7 +3,7 @@ use Rattle.std.specs.Prelude.{◌≡◌, ℕ, ◌+◌, ◌≤◌, ◌<◌, ◌^�
 use Rattle.time_base.specs.declared.ids.DocId.{DocId}
 use Rattle.version_store.specs.declared.change.Change.{Change}
 use Rattle.fold_tokens.specs.Words.{with_all}
-use Rattle.tail_lists.specs.Held.{Held}
+use Rattle.tail_lists.specs.States.{TailState}
 use Rattle.tail_lists.specs.Tails.{tail_of, HaveRoom}
 use Rattle.tail_lists.specs.Weights.{weight_of}
 use Rattle.tail_lists.specs.declared.weight.Weight.{Weight}
@@ -17,7 +17,7 @@ use Rattle.version_index.specs.Measuring.{IsMeasured}
 -- documents' newest versions, and how many more words and documents fit in without memory
 pub record IndexState : Type 0 where
   pub words : List (List ℕ)
-  pub tails : List Held
+  pub tails : List TailState
   pub turns : ℕ
   pub newest : List (DocId × List Weight)
   pub more_words : ℕ

@@ -49,16 +49,6 @@ IsLinked-push log c i doc link n h = let to = some_of (slice_get log link.jump) 
   same = rw (slice_get-grown log (c ∷ []) link.jump to.0 to.1) to.2;
 }
 
--- each place of the log has a link
-pub linked-at : (log : List (Change TextPlace)) (links : List Link) → AreLinked log links → (i : ℕ) (c : Change TextPlace) → slice_get log i ≡ Some c → (link : Link) × (slice_get links i ≡ Some link) × IsLinked log i c.doc link
-linked-at log links h i c e =
-    let n : i < length links = omega (arith, slice_get_within log i c e, h.as_many) in
-    go (slice_get links i) refl n
-  where
-    go : (o : Option Link) → slice_get links i ≡ o → i < length links → (link : Link) × (slice_get links i ≡ Some link) × IsLinked log i c.doc link
-    go (Some link) f n = (link, f, h.linked i c link e f)
-    go None f n = absurd (grind (arith, gets))
-
 -- where the document's latest change lies, as one more change comes
 pub found-push : (log : List (Change TextPlace)) (c : Change TextPlace) (m n : Places) → ((doc : DocId) → IsLatest doc log (get same m doc)) → Updates same m n c.doc (Some (length log)) → (doc : DocId) → IsLatest doc (log ++ c ∷ []) (get same n doc)
 found-push log c m n h u doc = rw (u.0 doc) (go (same c.doc doc) refl)

@@ -16,7 +16,7 @@ returns-in-Some-clause-not_journal g c = λ tells at is.
     let a = g.D.Disk.disk c.args.disk.now in
     let here : c.in-Some.at ≡ at = cc in
     subst (λ (n : ℕ). IsNotJournal a.holds.journal n) here (wrong_in_front c.piece.result.now a.holds.journal c.in-Some.at
-    (c.piece.ensures.stands a.holds.journal (c.in_ok-cover.ensures.view tells (c.new-window.ensures.view a.holds.journal)))
+    (c.piece.ensures.lies a.holds.journal (c.in_ok-cover.ensures.view tells (c.new-window.ensures.view a.holds.journal)))
     (omega (arith, g.met.D.Disk.reach_holds c.args.disk.now Journal tells)) c.in-Some.ensures.wrong)
 
 pub returns-clause-not_journal : goal.returns-clause-not_journal
@@ -25,7 +25,7 @@ returns-clause-not_journal g c = λ tells at is.
     let b = g.D.Disk.disk c.cover.new.disk in
     let view = view_read a b c.cover.new.self c.cover.ensures.same (c.in_ok-cover.ensures.view tells (c.new-window.ensures.view a.holds.journal)) in
     refused_cut a b at c.cover.ensures.same (omega (arith, g.met.D.Disk.reach_holds c.args.disk.now Journal tells))
-    (c.scan.ensures.not_journal tells view (right_in_front c.piece.result.now b.holds.journal (c.piece.ensures.stands b.holds.journal view) c.in_default.ensures.right) at is)
+    (c.scan.ensures.not_journal tells view (right_in_front c.piece.result.now b.holds.journal (c.piece.ensures.lies b.holds.journal view) c.in_default.ensures.right) at is)
 
 pub returns-clause-found : goal.returns-clause-found
 returns-clause-found g c = λ tells.
@@ -33,7 +33,7 @@ returns-clause-found g c = λ tells.
     let b = g.D.Disk.disk c.cover.new.disk in
     let view = view_read a b c.cover.new.self c.cover.ensures.same (c.in_ok-cover.ensures.view tells (c.new-window.ensures.view a.holds.journal)) in
     IfOk-weaker c.scan.result _ _ (λ p. found_before a b p.0.end p.1.items c.cover.ensures.same)
-    (c.scan.ensures.found tells view (right_in_front c.piece.result.now b.holds.journal (c.piece.ensures.stands b.holds.journal view) c.in_default.ensures.right))
+    (c.scan.ensures.found tells view (right_in_front c.piece.result.now b.holds.journal (c.piece.ensures.lies b.holds.journal view) c.in_default.ensures.right))
 
 pub returns-clause-in_step : goal.returns-clause-in_step
 returns-clause-in_step g c = λ tells one bodies spells.

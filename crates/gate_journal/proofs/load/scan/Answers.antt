@@ -3,7 +3,7 @@ use Rattle.machine_model.proofs.MomentLemmas.{reads_join}
 use Rattle.machine_model.specs.declared.area.Area.TheVariants.{Journal}
 use Rattle.gate_journal.specs.declared.gate.Gate.TheVariants.{Closed, CutShort}
 use Rattle.gate_journal.specs.Refused.{IsCutShort}
-use Rattle.gate_journal.proofs.ScanLemmas.{row_more, found_at, scanned_none, scanned_next, scanned_closed, scanned_cut, stands_before}
+use Rattle.gate_journal.proofs.ScanLemmas.{row_more, found_at, scanned_none, scanned_next, scanned_closed, scanned_cut, lies_before}
 use Rattle.gate_journal.proofs.WindowLemmas.{view_read, view_before}
 use Rattle.gate_journal.proofs.load.scan.Goals as goal
 
@@ -26,7 +26,7 @@ returns-in-Closed-clause-found g c = λ tells view right.
     let a = g.D.Disk.disk c.args.disk.now in
     let b = g.D.Disk.disk c.loop-heads.disk in
     found_at c.at.ensures.end (scanned_closed a.holds.journal _ _ (so_far.scanned tells view right)
-    (stands_before a b _ _ Closed so_far.same c.in-Closed.is (c.in_ok-gate_at.ensures.stands tells (view_read a b c.loop-heads.window so_far.same (so_far.view tells view)))))
+    (lies_before a b _ _ Closed so_far.same c.in-Closed.is (c.in_ok-gate_at.ensures.lies tells (view_read a b c.loop-heads.window so_far.same (so_far.view tells view)))))
 
 pub at-requires-clause-high : goal.at-requires-clause-high
 at-requires-clause-high g c = omega (arith, c.loop-heads.invariant.inside, g.met.D.Disk.reach_limit c.args.disk.now Journal)
@@ -38,7 +38,7 @@ returns-in-CutShort-clause-not_journal g c = λ tells view right at is.
     let b = g.D.Disk.disk c.loop-heads.disk in
     let here : c.loop-heads.gate ≡ at = cc in
     subst (λ (n : ℕ). IsCutShort a.holds.journal n) here (scanned_cut a.holds.journal _ _ (so_far.scanned tells view right)
-    (stands_before a b _ _ CutShort so_far.same c.in-CutShort.is (c.in_ok-gate_at.ensures.stands tells (view_read a b c.loop-heads.window so_far.same (so_far.view tells view)))))
+    (lies_before a b _ _ CutShort so_far.same c.in-CutShort.is (c.in_ok-gate_at.ensures.lies tells (view_read a b c.loop-heads.window so_far.same (so_far.view tells view)))))
 
 pub loop-heads-preserved : goal.loop-heads-preserved
 loop-heads-preserved g c =
@@ -57,6 +57,6 @@ loop-heads-preserved g c =
       row = row_more 16 c.loop-heads.gate c.in-Open.bytes _ c.loop-heads.heads.items _ so_far.row c.in_ok-push-in-Open.ensures.items (omega (arith, c.from.ensures));
       view = λ tells view. view_before a b c.gate_at.new.self so_far.same (c.in_ok-gate_at.ensures.view tells (view_read a b c.loop-heads.window so_far.same (so_far.view tells view)));
       scanned = λ tells view right. scanned_next fits (so_far.scanned tells view right)
-          (stands_before a b _ _ _ so_far.same c.in-Open.is (c.in_ok-gate_at.ensures.stands tells (view_read a b c.loop-heads.window so_far.same (so_far.view tells view))))
+          (lies_before a b _ _ _ so_far.same c.in-Open.is (c.in_ok-gate_at.ensures.lies tells (view_read a b c.loop-heads.window so_far.same (so_far.view tells view))))
           c.in_ok-push-in-Open.ensures.items (omega (arith, c.from.ensures));
     }

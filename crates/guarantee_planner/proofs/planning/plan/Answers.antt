@@ -2,7 +2,7 @@ use Rattle.std.proofs.Common.{arith, ap, sym, subst, List, ℕ, length}
 use Rattle.elementary.specs.Partitions.{IsFitting, AreBest}
 use Rattle.plan_certificate.specs.Certificates.{CertifiesCuts}
 use Rattle.guarantee_planner.proofs.Ways.{way_same, way_parts, way_fits, way_certified, settled_best, made_of}
-use Rattle.plan_certificate.proofs.Shown.{least_cuts}
+use Rattle.plan_certificate.proofs.Proved.{least_cuts}
 use Rattle.guarantee_planner.proofs.planning.plan.Goals as goal
 
 pub unwrap-partition-requires : goal.unwrap-partition-requires

@@ -4,7 +4,7 @@ use Rattle.std.proofs.lemmas.Result.{IfOk-weaker}
 use Rattle.time_base.specs.declared.posting.Posting.{Posting}
 use Rattle.elementary.specs.Counts.{Tabulates}
 use Rattle.plan_certificate.specs.Certificates.{CertifiesCuts}
-use Rattle.plan_certificate.proofs.Shown.{least_cuts}
+use Rattle.plan_certificate.proofs.Proved.{least_cuts}
 use Rattle.plan_certificate.proofs.checking.check.Goals as goal
 
 pub returns-clause-exact : goal.returns-clause-exact

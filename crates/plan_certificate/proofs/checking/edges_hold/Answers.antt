@@ -3,7 +3,7 @@ use Rattle.std.specs.Prelude.{slice_index}
 use Rattle.std.proofs.lemmas.Bool.{iff_false}
 use Rattle.std.proofs.lemmas.Grind.{get_or_default_zero}
 use Rattle.plan_certificate.proofs.Cheapest.{edge_is, edges_next}
-use Rattle.plan_certificate.proofs.Shown.{refused}
+use Rattle.plan_certificate.proofs.Proved.{refused}
 use Rattle.plan_certificate.proofs.checking.edges_hold.Goals as goal
 
 pub returns-then-not-is_edge : goal.returns-then-not-is_edge

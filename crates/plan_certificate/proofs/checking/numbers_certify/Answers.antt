@@ -1,6 +1,6 @@
 use Rattle.std.proofs.Common.{arith, ap, ◌≡◌, length}
 use Rattle.std.proofs.lemmas.Bool.{iff_false}
-use Rattle.plan_certificate.proofs.Shown.{refused, edges_back, certified, equal_iff}
+use Rattle.plan_certificate.proofs.Proved.{refused, edges_back, certified, equal_iff}
 use Rattle.plan_certificate.proofs.checking.numbers_certify.Goals as goal
 
 pub returns-then-not-holds : goal.returns-then-not-holds

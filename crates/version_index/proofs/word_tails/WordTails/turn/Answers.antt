@@ -1,5 +1,5 @@
 use Rattle.std.proofs.Common.{◌≡◌, List, ap, subst}
-use Rattle.tail_lists.specs.Held.{Held}
+use Rattle.tail_lists.specs.States.{TailState}
 use Rattle.tail_lists.specs.Tails.{tail_of}
 use Rattle.tail_lists.specs.Turns.{IsTurned}
 use Rattle.tail_lists.specs.Weights.{weight_of}
@@ -9,6 +9,6 @@ use Rattle.version_index.proofs.word_tails.WordTails.turn.Goals as goal
 pub returns : goal.returns
 returns c = record {
   turned = λ w.
-      let v : c.self.inside.tails ≡ c.args.self.now.tails = ap {B = List Held} (λ (t : Turned). t.tails) c.self.view_is in
+      let v : c.self.inside.tails ≡ c.args.self.now.tails = ap {B = List TailState} (λ (t : Turned). t.tails) c.self.view_is in
       subst (λ z. IsTurned c.args.doc.0 c.args.at.seconds (weight_of w c.args.old.now) (weight_of w c.args.new.now) (tail_of z w) (tail_of c.turn.new.self w)) v (c.turn.ensures.turned w);
 }

@@ -11,7 +11,7 @@ use Rattle.elementary.specs.Partitions.{IsAdmissible, Covers, IsLeast, IsFitting
 use Rattle.elementary.proofs.Cuts.{eq_from, is_eq}
 use Rattle.elementary.proofs.Tables.{some_time, first_le, last_is_horizon, size_is, admissible_from_counts, counts_from_admissible}
 use Rattle.elementary.proofs.Walk.{AreBounds, paths_cost}
-use Rattle.plan_certificate.specs.Certificates.{Certifies, CertifiesCuts, CertificateShowsLeast}
+use Rattle.plan_certificate.specs.Certificates.{Certifies, CertifiesCuts, CertificateProvesLeast}
 use Rattle.plan_certificate.specs.Edges.{EdgesBelow}
 
 pub first_is : (list : List Posting) (horizon : ℕ) (times : List ℕ) → AreBoundaries list horizon times → IsFirst list horizon (slice_index times 0)
@@ -20,8 +20,8 @@ first_is list horizon times b = record {
   none_before = λ t c. first_le times b.ascending t ((b.each t).1 c);
 }
 
-pub certificate_shows_least : CertificateShowsLeast
-certificate_shows_least list factor times pi cuts horizon c = record {
+pub certificate_proves_least : CertificateProvesLeast
+certificate_proves_least list factor times pi cuts horizon c = record {
   first = first_is list horizon times c.times_are;
   at_boundaries = c.at_boundaries;
   covers = c.covers;
@@ -74,7 +74,7 @@ certified list horizon table factor pi cuts b t long fits starts edges covers la
 )
 
 pub least_cuts : (list : List Posting) (factor : Fraction) (times pi cuts : List ℕ) (horizon : ℕ) → CertifiesCuts list factor times pi cuts horizon → IsLeast list factor (slice_index cuts 0) (drop 1 cuts) horizon
-least_cuts list factor times pi cuts horizon c = subst (λ f. IsLeast list factor f (drop 1 cuts) horizon) (sym c.fits.first) (certificate_shows_least list factor times pi (drop 1 cuts) horizon c.certifies)
+least_cuts list factor times pi cuts horizon c = subst (λ f. IsLeast list factor f (drop 1 cuts) horizon) (sym c.fits.first) (certificate_proves_least list factor times pi (drop 1 cuts) horizon c.certifies)
 
 pub equal_iff : (a b x y : ℕ) → a ≡ x → b ≡ y → IsTrue (nat_eq a b) ↔ (x ≡ y)
 equal_iff a b x y e f = (λ h. sym e ∙ (eq_from a b h ∙ f), λ h. is_eq a b (e ∙ (h ∙ sym f)))
