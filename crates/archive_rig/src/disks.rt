@@ -116,3 +116,21 @@ pub fn expect_held(pages: &[u8], segment: &Segment<'_>) -> Result<(), RowError> 
     }
     Ok(())
 }
+
+/// The disk's journal is these records, and its Pages hold the sublists of these segments.
+pub fn expect_left(
+    alloc: Global,
+    disk: &Image,
+    records: &[&[u8]],
+    segments: &[Segment<'_>],
+) -> Result<(), RowError> {
+    let journal = journal_of(alloc, records)?;
+    if disk.journal != journal {
+        let left = Vec::from_slice(alloc, &disk.journal)?;
+        return Err(RowError::OtherJournal { left });
+    }
+    for held in segments {
+        expect_held(&disk.pages, held)?;
+    }
+    Ok(())
+}

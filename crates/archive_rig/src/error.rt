@@ -48,6 +48,11 @@ pub enum RowError {
         /// The first page of its place.
         page: u32,
     },
+    /// The journal has other records.
+    OtherJournal {
+        /// Its bytes.
+        left: Vec<u8>,
+    },
     /// The archive is spent.
     Spent,
     /// An image that a stop may leave has too few entries, or too many.

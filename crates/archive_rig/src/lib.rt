@@ -13,6 +13,7 @@ mod changes;
 mod disks;
 mod error;
 mod journals;
+mod lives;
 mod machines;
 mod rows;
 mod scripts;
@@ -22,13 +23,14 @@ mod sublists;
 pub use changes::{Change, expect_change, expect_changes, made, refused, three_changes};
 pub use disks::{
     FIRST_CERTIFICATE, FIRST_PLAN, FOUR_CHANGES, disk_after, disk_after_all, disk_with,
-    expect_held, expect_on, expect_status, first_disk, flat_disk, new_disk,
+    expect_held, expect_left, expect_on, expect_status, first_disk, flat_disk, new_disk,
 };
 pub use error::RowError;
 pub use journals::{
     BLOCKS, FLAT, FOUR_END, FOUR_RECORDS, GUARANTEE, Plan, SINCE_30, Segment, UNIFORM,
     first_segments, flat_segments, journal_of, pages_of, plan_of_v, plan_record, segment_at,
 };
+pub use lives::many_lives;
 pub use machines::{
     copy_image, count_on, join, load_image, machine_on, make_machine, read_image, read_journal,
     run_on, run_with,

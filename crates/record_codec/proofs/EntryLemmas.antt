@@ -5,11 +5,13 @@ use Rattle.std.specs.Int.{w32, w64, to_be_bytes}
 use Rattle.record_codec.specs.declared.entry.Entry.{Entry}
 use Rattle.record_codec.specs.declared.entry.Entry.TheVariants.{Arrive, Delete, Planned}
 use Rattle.record_codec.specs.Spelling.{spelling, IsEntry}
-use Rattle.record_codec.specs.FieldReading.{◌>>=◌, end_at}
+use Rattle.time_base.specs.Reading.{◌>>=◌}
+use Rattle.record_codec.specs.FieldReading.{end_at}
 use Rattle.record_codec.specs.Reading.{change_at, text_at, arrive_at, delete_at, entry_at, IsFault}
 use Rattle.record_codec.specs.PlanReading.{plan_at}
-use Rattle.record_codec.proofs.Steps.{bind_ok, ok_is, Within, Within-more, Within-next, Within-err}
-use Rattle.record_codec.proofs.FieldLemmas.{IsBytes, change_takes, change_again, change_within, text_at-ok, text_takes, text_within, end_takes, end_within}
+use Rattle.time_base.proofs.Readings.{bind_ok, ok_is, Within, Within-more, Within-next, Within-err}
+use Rattle.time_base.proofs.Bytes.{IsBytes}
+use Rattle.record_codec.proofs.FieldLemmas.{change_takes, change_again, change_within, text_at-ok, text_takes, text_within, end_takes, end_within}
 use Rattle.record_codec.proofs.PlanLemmas.{plan_takes, plan_again, plan_within, plan_short, plan_long}
 
 IsBytes-rest : (b : ℕ) (bytes : List ℕ) → IsBytes (b ∷ bytes) → IsBytes bytes

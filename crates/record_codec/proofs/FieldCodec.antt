@@ -2,10 +2,13 @@
 use Rattle.std.specs.Prelude.{◌≡◌, ℕ, ◌<◌, ◌≤◌, List, ◌++◌, length, Option, Some, None, Result, Ok, refl}
 use Rattle.std.proofs.Common.{sym, ap, subst, ◌∙◌, arith}
 use Rattle.std.specs.Int.{Width, to_be_bytes}
-use Rattle.record_codec.specs.FieldReading.{◌>>=◌, number_at, value_or}
+use Rattle.time_base.specs.Reading.{◌>>=◌, value_or}
+use Rattle.record_codec.specs.FieldReading.{number_at}
 use Rattle.record_codec.specs.PlanReading.{named_at}
-use Rattle.record_codec.proofs.Steps.{bind_ok, ok_is, Within, Within-then, Within-next}
-use Rattle.record_codec.proofs.FieldLemmas.{IsBytes, Takes, IsWide, number_takes, number_again, number_within, value_or-ok}
+use Rattle.time_base.proofs.Readings.{bind_ok, ok_is, Within, Within-then, Within-next}
+use Rattle.time_base.proofs.Readings.{value_or-ok}
+use Rattle.time_base.proofs.Bytes.{IsBytes, IsWide}
+use Rattle.record_codec.proofs.FieldLemmas.{Takes, number_takes, number_again, number_within}
 
 -- a reading of a front, how its values are spelled, and which values have a spelling
 pub record IsField (A : Type 0) (read : List ℕ → Result (A × List ℕ) ℕ) (spelled : A → List ℕ) (Fits : A → Type 0) : Type 0 where

@@ -13,29 +13,12 @@ use Rattle.time_base.specs.declared.time.Time.{Time}
 use Rattle.time_base.specs.Times.{time_by, time_of}
 use Rattle.time_base.proofs.TimeLemmas.{time_of-seconds}
 use Rattle.record_codec.specs.Spelling.{most_text}
-use Rattle.record_codec.specs.FieldReading.{◌>>=◌, number_at, doc_at, value_or, time_at, end_at}
+use Rattle.time_base.specs.Reading.{◌>>=◌, value_or}
+use Rattle.record_codec.specs.FieldReading.{number_at, doc_at, time_at, end_at}
 use Rattle.record_codec.specs.Reading.{change_at, text_at}
-use Rattle.record_codec.proofs.Steps.{bind_ok, test_ok, guard_ok, ok_is, Within, Within-then, Within-next}
-
-abbrev pub IsBytes : List ℕ → Type 0
-IsBytes bytes = (i : ℕ) → get_or bytes i 0 < 256
-
-pub IsBytes-from_all : (bytes : List ℕ) → All (λ b. b < 256) bytes → IsBytes bytes
-IsBytes-from_all bytes all i =
-    elim (cases_lt i (length bytes)) [
-      | inl lt ↦ All-get_or (λ b. b < 256) bytes i 0 lt all
-      | inr le ↦ rw (get_or_past bytes i 0 le) (omega arith)
-    ]
-
-pub IsBytes-drop : (n : ℕ) (bytes : List ℕ) → IsBytes bytes → IsBytes (drop n bytes)
-IsBytes-drop n bytes h i = rw get_or-drop (h (n + i))
-
-pub IsBytes-take : (n : ℕ) (bytes : List ℕ) → IsBytes bytes → IsBytes (take n bytes)
-IsBytes-take n bytes h i =
-    elim (cases_lt i n) [
-      | inl lt ↦ rw (get_or-take n bytes i 0 lt) (h i)
-      | inr le ↦ rw (get_or_past (take n bytes) i 0 (omega (arith, length-take n bytes))) (omega arith)
-    ]
+use Rattle.time_base.proofs.Bytes.{IsBytes, IsBytes-take, IsBytes-drop, IsWide, wide32, wide64}
+use Rattle.time_base.proofs.Readings.{bind_ok, ok_is, value_or-ok, Within, Within-then, Within-next}
+use Rattle.record_codec.proofs.Steps.{test_ok, guard_ok}
 
 -- what a reader took from the front
 pub record Takes (bytes text rest : List ℕ) : Type 0 where
@@ -43,28 +26,6 @@ pub record Takes (bytes text rest : List ℕ) : Type 0 where
   pub rest_fits : IsBytes rest
 
 -- ---- numbers
-
-pub record IsWide (w : Width) (limit : ℕ) : Type 0 where
-  pub len : (n : ℕ) → length (to_be_bytes w n) ≡ byte_len w
-  pub back : (bytes : List ℕ) → length bytes ≡ byte_len w → IsBytes bytes → to_be_bytes w (from_be_bytes w bytes) ≡ bytes
-  pub again : (n : ℕ) → n < limit → from_be_bytes w (to_be_bytes w n) ≡ n
-  pub below : (bytes : List ℕ) → IsBytes bytes → from_be_bytes w bytes < limit
-
-pub wide32 : IsWide w32 (2 ^ 32)
-wide32 = record {
-  len = λ n. refl;
-  back = λ bytes len fits. be_bytes_4 bytes _ len fits refl;
-  again = λ n lt. from_be_bytes-to_be_bytes_4 n lt;
-  below = λ bytes fits. omega (arith, fits 0, fits 1, fits 2, fits 3);
-}
-
-pub wide64 : IsWide w64 (2 ^ 64)
-wide64 = record {
-  len = λ n. refl;
-  back = λ bytes len fits. be_bytes_8 bytes _ len fits refl;
-  again = λ n lt. from_be_bytes-to_be_bytes_8 n lt;
-  below = λ bytes fits. omega (arith, fits 0, fits 1, fits 2, fits 3, fits 4, fits 5, fits 6, fits 7);
-}
 
 pub number_takes : (w : Width) (limit : ℕ) (wide : IsWide w limit) (bytes : List ℕ) (n : ℕ) (rest : List ℕ) → IsBytes bytes → number_at w bytes ≡ Ok (n, rest) → Takes bytes (to_be_bytes w n) rest × (n < limit)
 number_takes w limit wide bytes n rest fits e =
@@ -101,10 +62,6 @@ seconds-time_of n t = go (nat_lt n (2 ^ 40)) refl
 -- a time is read from its seconds
 pub time_at-some : (bytes rest : List ℕ) (n : ℕ) (t : Time) → number_at w64 bytes ≡ Ok (n, rest) → t.seconds ≡ n → time_at bytes ≡ Ok (t, rest)
 time_at-some bytes rest n t e s = rw (e, ← s, time_of-seconds t.seconds t.before_now) refl
-
-pub value_or-ok : {A : Type 0} (left : ℕ) (o : Option A) (x : A) → value_or left o ≡ Ok x → o ≡ Some x
-value_or-ok left (Some y) x e = cc
-value_or-ok left None x e = absurd cc
 
 time_takes : (bytes : List ℕ) (x : Time × List ℕ) → IsBytes bytes → time_at bytes ≡ Ok x → Takes bytes (to_be_bytes w64 x.0.seconds) x.1
 time_takes bytes x fits e =

@@ -21,8 +21,10 @@ use Rattle.record_codec.specs.Numbers.{fraction_of, extent_of}
 use Rattle.record_codec.specs.PlanSpelling.{layout_byte, kind_bytes, segment_bytes, IsDigest, IsWord}
 use Rattle.record_codec.specs.FieldReading.{number_at, time_at}
 use Rattle.record_codec.specs.PlanReading.{named_at, if_within, number_in, layout_at, kind_at, fraction_at, word_at, key_at, extent_at, digest_at, place_at, cut_at, segment_at}
-use Rattle.record_codec.proofs.Steps.{bind_ok, test_ok, guard_ok, ok_is, Within, Within-more, Within-then}
-use Rattle.record_codec.proofs.FieldLemmas.{IsBytes, IsBytes-take, IsBytes-drop, Takes, wide32, wide64, seconds-time_of}
+use Rattle.time_base.proofs.Readings.{bind_ok, ok_is, Within, Within-more, Within-then}
+use Rattle.record_codec.proofs.Steps.{test_ok, guard_ok}
+use Rattle.time_base.proofs.Bytes.{IsBytes, IsBytes-take, IsBytes-drop, wide32, wide64}
+use Rattle.record_codec.proofs.FieldLemmas.{Takes, seconds-time_of}
 use Rattle.record_codec.proofs.FieldCodec.{IsField, named, both}
 use Rattle.record_codec.proofs.NumberLemmas.{fraction_of-is, fraction_of-some, extent_of-is, extent_of-some}
 

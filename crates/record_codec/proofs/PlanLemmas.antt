@@ -11,8 +11,9 @@ use Rattle.record_codec.specs.declared.plan.PlanEntry.{PlanEntry}
 use Rattle.record_codec.specs.PlanSpelling.{most_segments, layout_byte, kind_bytes, segments_bytes, plan_spelling, kind_length, plan_length, IsWord, IsPlanEntry}
 use Rattle.record_codec.specs.FieldReading.{time_at, end_at}
 use Rattle.record_codec.specs.PlanReading.{number_in, layout_at, kind_at, fraction_at, key_at, segments_at, plan_at}
-use Rattle.record_codec.proofs.Steps.{bind_ok, ok_is, Within, Within-next}
-use Rattle.record_codec.proofs.FieldLemmas.{IsBytes, end_takes, end_within}
+use Rattle.time_base.proofs.Readings.{bind_ok, ok_is, Within, Within-next}
+use Rattle.time_base.proofs.Bytes.{IsBytes}
+use Rattle.record_codec.proofs.FieldLemmas.{end_takes, end_within}
 use Rattle.record_codec.proofs.FieldCodec.{IsField}
 use Rattle.record_codec.proofs.PlanFieldLemmas.{time_field, number_field, layout_field, kind_field, fraction_field, key_field}
 use Rattle.record_codec.proofs.SegmentLemmas.{increasing, rising, AreSegments, segments_field, segments_length}

@@ -10,9 +10,9 @@ use Rattle.record_codec.specs.declared.fields.FieldError.{FieldError}
 use Rattle.record_codec.specs.declared.fields.FieldError.TheVariants.{Form, Memory}
 use Rattle.record_codec.specs.Fields.{Fails}
 use Rattle.record_codec.specs.PlanSpelling.{segment_bytes, segments_bytes, cut_seconds, IsDigest}
-use Rattle.record_codec.specs.FieldReading.{◌>>=◌}
+use Rattle.time_base.specs.Reading.{◌>>=◌}
 use Rattle.record_codec.specs.PlanReading.{segment_at, segments_at}
-use Rattle.record_codec.proofs.Steps.{ok_is}
+use Rattle.time_base.proofs.Readings.{ok_is}
 use Rattle.record_codec.proofs.FieldLemmas.{Takes}
 use Rattle.record_codec.proofs.FieldCodec.{IsField, both}
 use Rattle.record_codec.proofs.PlanFieldLemmas.{IsSegment, segment_field}

@@ -2,15 +2,10 @@
 -- the field begins that is cut short or not allowed, or at the first surplus byte.
 use Rattle.std.specs.Prelude.{ℕ, ◌+◌, List, [], ◌∷◌, length, take, drop, Option, Some, None, Result, Ok, Err, nat_lt, if◌then◌else◌}
 use Rattle.std.specs.Int.{Width, w32, w64, byte_len, from_be_bytes}
+use Rattle.time_base.specs.Reading.{◌>>=◌, value_or}
 use Rattle.time_base.specs.declared.ids.DocId.{DocId}
 use Rattle.time_base.specs.declared.time.Time.{Time}
 use Rattle.time_base.specs.Times.{time_of}
-
--- one step after another, up to the first that fails
-infixl 10 ◌>>=◌
-abbrev pub ◌>>=◌ : {A B : Type 0} → Result A ℕ → (A → Result B ℕ) → Result B ℕ
-(Ok x) >>= f = f x
-(Err left) >>= f = Err left
 
 -- a number of so many bytes, and the bytes after it
 abbrev pub number_at : Width → List ℕ → Result (ℕ × List ℕ) ℕ
@@ -24,11 +19,6 @@ abbrev pub doc_at : List ℕ → Result (DocId × List ℕ) ℕ
 doc_at bytes = do
   n ← number_at w32 bytes
   Ok (record { 0 = n.0 }, n.1)
-
--- this value if there is one, where so many bytes are left
-abbrev pub value_or : {A : Type 0} → ℕ → Option A → Result A ℕ
-value_or left (Some x) = Ok x
-value_or left None = Err left
 
 -- a time, and the bytes after it
 abbrev pub time_at : List ℕ → Result (Time × List ℕ) ℕ

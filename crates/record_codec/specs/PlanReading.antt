@@ -13,7 +13,8 @@ use Rattle.record_codec.specs.declared.place.Place.{Place}
 use Rattle.record_codec.specs.declared.plan.PlanEntry.{PlanEntry}
 use Rattle.record_codec.specs.Numbers.{fraction_of, extent_of}
 use Rattle.record_codec.specs.PlanSpelling.{most_segments}
-use Rattle.record_codec.specs.FieldReading.{◌>>=◌, number_at, value_or, time_at, end_at}
+use Rattle.time_base.specs.Reading.{◌>>=◌, value_or}
+use Rattle.record_codec.specs.FieldReading.{number_at, time_at, end_at}
 
 -- a value that a number of so many bytes names, and the bytes after it; the number is the fault where it names none
 abbrev pub named_at : {A : Type 0} → Width → (ℕ → Option A) → List ℕ → Result (A × List ℕ) ℕ

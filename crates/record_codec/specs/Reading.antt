@@ -7,7 +7,8 @@ use Rattle.time_base.specs.declared.time.Time.{Time}
 use Rattle.record_codec.specs.declared.entry.Entry.{Entry}
 use Rattle.record_codec.specs.declared.entry.Entry.TheVariants.{Arrive, Delete, Planned}
 use Rattle.record_codec.specs.Spelling.{most_text}
-use Rattle.record_codec.specs.FieldReading.{◌>>=◌, doc_at, time_at, end_at}
+use Rattle.time_base.specs.Reading.{◌>>=◌}
+use Rattle.record_codec.specs.FieldReading.{doc_at, time_at, end_at}
 use Rattle.record_codec.specs.PlanReading.{plan_at}
 
 -- a text that takes all the bytes

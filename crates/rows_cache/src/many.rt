@@ -1,6 +1,6 @@
 //! More pages than are kept, and sublists of more than one page.
 use crate::steps::{Step, expect_run, expect_same, step_of};
-use archive_rig::{Row, disk_after, new_disk};
+use archive_rig::{Row, disk_after, many_lives, new_disk};
 use machine_model::Image;
 use std::alloc::{AllocError, Global};
 use std::test::Fail;
@@ -14,19 +14,7 @@ fn add(both: &mut (Vec<u8>, Vec<u8>), script: &[u8], replies: &[u8]) -> Result<(
 /// A disk where document 1 has the word in [2i, 2i + 1) for each i from 1 to 1,025, with a plan. Each life has a
 /// page of its own.
 fn lives_disk(alloc: Global) -> Result<Image, Fail> {
-    let mut both = (Vec::new(alloc), Vec::new(alloc));
-    let mut length = 0u64;
-    for _ in 0..1025 {
-        let (one, two, three) = (
-            length.saturating_add(1),
-            length.saturating_add(2),
-            length.saturating_add(3),
-        );
-        let changes = format!(in alloc; "arrive 1 {two} 1\nv\ndelete 1 {three}\n")?;
-        let told = format!(in alloc; "ok {one}\nok {two}\n")?;
-        add(&mut both, changes.as_bytes(), told.as_bytes())?;
-        length = two;
-    }
+    let mut both = many_lives(alloc, 1025)?;
     add(
         &mut both,
         b"plan v guarantee 1/1\n",

@@ -1,7 +1,9 @@
 //! Plans of thousands of segments.
-use archive_rig::{Row, Sublist, disk_after, expect_held, expect_on, new_disk, segment_at};
+use archive_rig::{
+    Row, Sublist, disk_after, expect_held, expect_on, many_lives, new_disk, segment_at,
+};
 use machine_model::Image;
-use std::alloc::{AllocError, Global};
+use std::alloc::Global;
 use std::test::Fail;
 
 /// Document 1 has the word once in [4096, 4097).
@@ -11,31 +13,11 @@ const LAST_OF_2048: Sublist<'static> = Sublist {
         \x01\x88\xca\x4a\x82\xee\x11\x01\xf4\x22\xec\x32\x35\xb7\xa4\x01",
 };
 
-/// Document 1 has the word in [2i, 2i + 1) for each i from 1 to so many, and then comes a plan.
-fn lives(alloc: Global, times: u64, reply: &[u8]) -> Result<(Vec<u8>, Vec<u8>), AllocError> {
-    let mut script = Vec::new(alloc);
-    let mut replies = Vec::new(alloc);
-    let mut length = 0u64;
-    for _ in 0..times {
-        let (one, two, three) = (
-            length.saturating_add(1),
-            length.saturating_add(2),
-            length.saturating_add(3),
-        );
-        let changes = format!(in alloc; "arrive 1 {two} 1\nv\ndelete 1 {three}\n")?;
-        script.extend_from_slice(changes.as_bytes())?;
-        let told = format!(in alloc; "ok {one}\nok {two}\n")?;
-        replies.extend_from_slice(told.as_bytes())?;
-        length = two;
-    }
-    script.extend_from_slice(b"plan v guarantee 1/1\n")?;
-    replies.extend_from_slice(reply)?;
-    Ok((script, replies))
-}
-
 /// The disk that a plan of so many lives leaves, which has this reply. It is read and answers.
 fn expect_many(alloc: Global, times: u64, reply: &[u8]) -> Result<Image, Fail> {
-    let (script, replies) = lives(alloc, times, reply)?;
+    let (mut script, mut replies) = many_lives(alloc, times)?;
+    script.extend_from_slice(b"plan v guarantee 1/1\n")?;
+    replies.extend_from_slice(reply)?;
     let row = Row {
         script: &script,
         replies: &replies,

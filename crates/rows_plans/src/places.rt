@@ -2,12 +2,9 @@
 use crate::journals::{FOURTH_ARRIVES, THIRD_ARRIVES, THIRD_ENDS, two_words_journal};
 use archive_rig::{
     FIRST_LIFE, FIRST_PLAN, FOUR_CHANGES, FOUR_RECORDS, LIFE_OF_1, LIFE_OF_3, LIVES_OF_1_AND_2,
-    NOTHING, Plan, Row, SECOND_LIFE, Segment, disk_after, disk_after_all, expect_held, first_disk,
-    first_segments, journal_of, new_disk, plan_of_v, plan_record, segment_at,
+    NOTHING, Plan, Row, SECOND_LIFE, Segment, disk_after, disk_after_all, expect_held, expect_left,
+    first_disk, first_segments, new_disk, plan_of_v, plan_record, segment_at,
 };
-use machine_model::Image;
-use std::alloc::Global;
-use std::process::Abort;
 use std::test::Fail;
 
 /// A second plan behind the life of document 3. The first one lives while it is written.
@@ -43,22 +40,6 @@ const GOES_FURTHER: Row<'static> = Row {
     replies: b"ok 9\nplan 10 segments 5 space 5 full 3 horizon 70\n",
 };
 
-/// The disk's journal is these records, and its Pages hold the sublists of these segments.
-fn expect_left(
-    rt: &impl Abort,
-    alloc: Global,
-    disk: &Image,
-    records: &[&[u8]],
-    segments: &[Segment<'_>],
-) -> Result<(), Fail> {
-    let journal = journal_of(alloc, records)?;
-    assert_eq!(rt; disk.journal.as_slice(), journal.as_slice());
-    for held in segments {
-        expect_held(&disk.pages, held)?;
-    }
-    Ok(())
-}
-
 #[test]
 fn a_plan_lies_in_the_lowest_pages_and_its_entry_is_the_journals_last(
     rt: HostRuntime,
@@ -67,7 +48,8 @@ fn a_plan_lies_in_the_lowest_pages_and_its_entry_is_the_journals_last(
     let disk = first_disk(alloc)?;
     assert_eq!(rt; disk.journal.len(), 277);
     let plan = plan_record(alloc, &plan_of_v(40, &first_segments()))?;
-    expect_left(&rt, alloc, &disk, &[FOUR_RECORDS, &plan], &first_segments())
+    expect_left(alloc, &disk, &[FOUR_RECORDS, &plan], &first_segments())?;
+    Ok(())
 }
 
 #[test]
@@ -84,7 +66,8 @@ fn a_plan_of_one_segment_holds_the_whole_list(rt: HostRuntime) -> Result<(), Fai
         ..plan_of_v(40, &segments)
     };
     let record = plan_record(alloc, &plan)?;
-    expect_left(&rt, alloc, &disk, &[FOUR_RECORDS, &record], &segments)
+    expect_left(alloc, &disk, &[FOUR_RECORDS, &record], &segments)?;
+    Ok(())
 }
 
 #[test]
@@ -110,7 +93,8 @@ fn an_empty_sublist_has_no_bytes_and_the_digest_of_nothing(rt: HostRuntime) -> R
         \xa5\x00\x00\x00\x0d\x02\x00\x00\x00\x01\x00\x00\x00\x00\x00\x00\x00\x14\
         \xa5\x00\x00\x00\x0e\x01\x00\x00\x00\x01\x00\x00\x00\x00\x00\x00\x00\x1ev\
         \xa5\x00\x00\x00\x0d\x02\x00\x00\x00\x01\x00\x00\x00\x00\x00\x00\x00\x28";
-    expect_left(&rt, alloc, &disk, &[changes, &record], &segments)
+    expect_left(alloc, &disk, &[changes, &record], &segments)?;
+    Ok(())
 }
 
 #[test]
@@ -130,13 +114,13 @@ fn a_later_plan_takes_the_lowest_pages_that_are_free(rt: HostRuntime) -> Result<
         &third,
     ];
     let disk = disk_after(alloc, &first_disk(alloc)?, &GOES_ON)?;
-    expect_left(&rt, alloc, &disk, &eight, &second_segments())?;
+    expect_left(alloc, &disk, &eight, &second_segments())?;
     // the first plan's pages are free, and nothing is written there
     for held in first_segments() {
         expect_held(&disk.pages, &held)?;
     }
     let disk = disk_after(alloc, &disk, &GOES_FURTHER)?;
-    expect_left(&rt, alloc, &disk, &ten, &third_segments())?;
+    expect_left(alloc, &disk, &ten, &third_segments())?;
     // and in one run
     let mut script = Vec::new(alloc);
     let mut replies = Vec::new(alloc);
@@ -149,7 +133,8 @@ fn a_later_plan_takes_the_lowest_pages_that_are_free(rt: HostRuntime) -> Result<
         replies: &replies,
     };
     let disk = disk_after(alloc, &new_disk(alloc), &row)?;
-    expect_left(&rt, alloc, &disk, &ten, &third_segments())
+    expect_left(alloc, &disk, &ten, &third_segments())?;
+    Ok(())
 }
 
 #[test]

@@ -1,33 +1,12 @@
 //! Lists with as many boundaries as may all be cuts, and with more.
-use archive_rig::{Row, disk_after, expect_on, new_disk};
-use std::alloc::{AllocError, Global};
+use archive_rig::{Row, disk_after, expect_on, many_lives, new_disk};
+use std::alloc::Global;
 use std::test::Fail;
-
-/// Document 1 has the word in [2i, 2i + 1) for each i from 1 to so many. What is told of the changes comes
-/// beside.
-fn lives(alloc: Global, times: u64) -> Result<(Vec<u8>, Vec<u8>), AllocError> {
-    let mut script = Vec::new(alloc);
-    let mut replies = Vec::new(alloc);
-    let mut length = 0u64;
-    for _ in 0..times {
-        let (one, two, three) = (
-            length.saturating_add(1),
-            length.saturating_add(2),
-            length.saturating_add(3),
-        );
-        let changes = format!(in alloc; "arrive 1 {two} 1\nv\ndelete 1 {three}\n")?;
-        script.extend_from_slice(changes.as_bytes())?;
-        let told = format!(in alloc; "ok {one}\nok {two}\n")?;
-        replies.extend_from_slice(told.as_bytes())?;
-        length = two;
-    }
-    Ok((script, replies))
-}
 
 /// A plan behind so many lives has its reply, and the questions of a row have its answers on the disk that it
 /// leaves.
 fn expect_plan(alloc: Global, times: u64, plan: &Row<'_>, questions: Row<'_>) -> Result<(), Fail> {
-    let (mut script, mut replies) = lives(alloc, times)?;
+    let (mut script, mut replies) = many_lives(alloc, times)?;
     script.extend_from_slice(plan.script)?;
     replies.extend_from_slice(plan.replies)?;
     let row = Row {

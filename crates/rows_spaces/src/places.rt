@@ -2,40 +2,18 @@
 use crate::plans::{four_disk, plan_of};
 use archive_rig::{
     FIRST_LIFE, FOUR_RECORDS, GUARANTEE, LIFE_OF_1, LIVES_OF_1_AND_2, NOTHING, Plan, Row,
-    SECOND_LIFE, SINCE_30, Segment, UNIFORM, disk_after, disk_after_all, expect_held,
-    first_segments, join, journal_of, new_disk, plan_record, segment_at,
+    SECOND_LIFE, SINCE_30, UNIFORM, disk_after, disk_after_all, expect_left, first_segments, join,
+    new_disk, plan_record, segment_at,
 };
-use machine_model::Image;
 use std::alloc::Global;
-use std::process::Abort;
 use std::test::Fail;
 
-/// The disk's journal is these records, and its Pages hold the sublists of these segments.
-fn expect_left(
-    rt: &impl Abort,
-    alloc: Global,
-    disk: &Image,
-    records: &[&[u8]],
-    segments: &[Segment<'_>],
-) -> Result<(), Fail> {
-    let journal = journal_of(alloc, records)?;
-    assert_eq!(rt; disk.journal.as_slice(), journal.as_slice());
-    for held in segments {
-        expect_held(&disk.pages, held)?;
-    }
-    Ok(())
-}
-
 /// A plan behind the four changes has its reply, and leaves this entry and its sublists.
-fn expect_entry(
-    rt: &impl Abort,
-    alloc: Global,
-    row: &Row<'_>,
-    plan: &Plan<'_>,
-) -> Result<(), Fail> {
+fn expect_entry(alloc: Global, row: &Row<'_>, plan: &Plan<'_>) -> Result<(), Fail> {
     let disk = disk_after(alloc, &four_disk(alloc)?, row)?;
     let record = plan_record(alloc, plan)?;
-    expect_left(rt, alloc, &disk, &[FOUR_RECORDS, &record], plan.segments)
+    expect_left(alloc, &disk, &[FOUR_RECORDS, &record], plan.segments)?;
+    Ok(())
 }
 
 #[test]
@@ -78,7 +56,7 @@ fn a_plan_is_an_entry_with_its_kind_and_factor(rt: HostRuntime) -> Result<(), Fa
             plan_of(UNIFORM, 4, 2, &three),
         ),
     ] {
-        expect_entry(&rt, alloc, &row, &plan)?;
+        expect_entry(alloc, &row, &plan)?;
     }
     Ok(())
 }
@@ -102,7 +80,8 @@ fn a_gap_has_no_bytes_and_the_digest_of_nothing(rt: HostRuntime) -> Result<(), F
         \xa5\x00\x00\x00\x0d\x02\x00\x00\x00\x01\x00\x00\x00\x00\x00\x00\x00\x14\
         \xa5\x00\x00\x00\x0e\x01\x00\x00\x00\x01\x00\x00\x00\x00\x00\x00\x00\x1ev\
         \xa5\x00\x00\x00\x0d\x02\x00\x00\x00\x01\x00\x00\x00\x00\x00\x00\x00\x28";
-    expect_left(&rt, alloc, &disk, &[changes, &record], &segments)
+    expect_left(alloc, &disk, &[changes, &record], &segments)?;
+    Ok(())
 }
 
 /// Plans behind the four changes, each in the place of the one before it.
@@ -158,7 +137,7 @@ fn the_pages_of_a_plan_of_another_kind_are_free_again(rt: HostRuntime) -> Result
         disk = disk_after(alloc, &disk, &row)?;
         let record = plan_record(alloc, &plan)?;
         records.extend_from_slice(&record)?;
-        expect_left(&rt, alloc, &disk, &[&records], plan.segments)?;
+        expect_left(alloc, &disk, &[&records], plan.segments)?;
     }
     // and in one run
     let mut script = Vec::new(alloc);
@@ -172,7 +151,8 @@ fn the_pages_of_a_plan_of_another_kind_are_free_again(rt: HostRuntime) -> Result
         replies: &replies,
     };
     let left = disk_after(alloc, &four_disk(alloc)?, &row)?;
-    expect_left(&rt, alloc, &left, &[&records], &ninth)
+    expect_left(alloc, &left, &[&records], &ninth)?;
+    Ok(())
 }
 
 // What is left can be planned further.
@@ -195,5 +175,6 @@ fn a_plan_in_the_place_of_its_like_takes_turns_with_it(rt: HostRuntime) -> Resul
     let fifth = plan_record(alloc, &plan_of(UNIFORM, 1, 1, &even))?;
     let sixth = plan_record(alloc, &plan_of(SINCE_30, 1, 1, &odd))?;
     let records = join(alloc, &[FOUR_RECORDS, &fifth, &sixth, &fifth])?;
-    expect_left(&rt, alloc, &disk, &[&records], &even)
+    expect_left(alloc, &disk, &[&records], &even)?;
+    Ok(())
 }

@@ -9,7 +9,7 @@ use Rattle.time_base.specs.declared.posting.Posting.{Posting}
 use Rattle.postings.specs.Lists.{IsList}
 use Rattle.sublist_codec.specs.Fields.{Fields, fields, may_follow}
 use Rattle.sublist_codec.specs.Blocks.{block, pieces, block_spelling, block_at, blocks_at}
-use Rattle.sublist_codec.proofs.Bytes.{IsBytes}
+use Rattle.time_base.proofs.Bytes.{IsBytes}
 use Rattle.sublist_codec.proofs.AllAt.{all_left}
 use Rattle.sublist_codec.proofs.FieldLemmas.{AreBehind, list-behind, behind-list}
 use Rattle.sublist_codec.proofs.LayoutLemmas.{IsCodec}

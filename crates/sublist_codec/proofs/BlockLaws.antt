@@ -6,11 +6,12 @@ use Rattle.std.proofs.lemmas.Bool.{and_parts, leb-true, ltb-true, le-leb, lt-ltb
 use Rattle.std.proofs.lemmas.Grind.{flat_map-append}
 use Rattle.std.proofs.lemmas.List.{append-nil}
 use Rattle.sublist_codec.specs.Fields.{Fields}
-use Rattle.sublist_codec.specs.Steps.{value_or}
+use Rattle.time_base.specs.Reading.{value_or}
 use Rattle.sublist_codec.specs.Numbers.{number_bytes, number_at}
 use Rattle.sublist_codec.specs.Blocks.{span_numbers, base_behind, other_numbers, inside, least_start, if_within, number_in, span_at, next_at, others_at, postings_at}
-use Rattle.sublist_codec.proofs.Steps.{ok_is, bind_ok, value_or-ok, test_some}
-use Rattle.sublist_codec.proofs.Bytes.{IsBytes}
+use Rattle.time_base.proofs.Readings.{ok_is, bind_ok, value_or-ok}
+use Rattle.sublist_codec.proofs.Steps.{test_some}
+use Rattle.time_base.proofs.Bytes.{IsBytes}
 use Rattle.sublist_codec.proofs.NumberLemmas.{number_taken, number_again}
 
 within_parts : (least limit : ℕ) (o : Option (ℕ × List ℕ)) (read : ℕ × List ℕ) → if_within least limit o ≡ Some read → (o ≡ Some read) × (least ≤ read.0) × (read.0 < limit)

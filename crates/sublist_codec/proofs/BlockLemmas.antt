@@ -8,11 +8,12 @@ use Rattle.time_base.specs.declared.posting.Posting.{Posting}
 use Rattle.sublist_codec.specs.declared.error.ReadError.{ReadError}
 use Rattle.sublist_codec.specs.declared.error.ReadError.TheVariants.{Form, Memory}
 use Rattle.sublist_codec.specs.Fields.{Fields, fields}
-use Rattle.sublist_codec.specs.Steps.{◌>>=◌, value_or, last_of}
+use Rattle.time_base.specs.Reading.{◌>>=◌, value_or}
+use Rattle.sublist_codec.specs.Steps.{last_of}
 use Rattle.sublist_codec.specs.Numbers.{with_low, number_at}
 use Rattle.sublist_codec.specs.Gives.{Fails, with_front}
 use Rattle.sublist_codec.specs.Blocks.{top_of, last_doc, if_within, number_in, base_behind, least_start, span_at, next_at, others_at, postings_at, Head, head_front, may_lead, is_true, before_more, body_at, block_at, blocks_at}
-use Rattle.sublist_codec.proofs.Steps.{Within, Within-then, Within-next, Within-err, Within-ok}
+use Rattle.time_base.proofs.Readings.{Within, Within-then, Within-next, Within-err, Within-ok}
 use Rattle.sublist_codec.proofs.AllAt.{IsRead, begins}
 
 -- ---- the greatest frequency and the last document

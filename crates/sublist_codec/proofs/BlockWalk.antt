@@ -6,10 +6,12 @@ use Rattle.std.specs.Int.{w16, w32, to_be_bytes}
 use Rattle.std.proofs.lemmas.Bool.{cases_lt, and_parts, eqb-true, ltb-false, leb-true, le-ltb, le-leb, eq-eqb}
 use Rattle.std.proofs.lemmas.List.{append-nil, length-append, length-take, length-drop, take-append-drop, take_at, drop_at, take_all, drop_all}
 use Rattle.sublist_codec.specs.Fields.{Fields}
-use Rattle.sublist_codec.specs.Steps.{◌>>=◌, last_of, all_at}
+use Rattle.time_base.specs.Reading.{◌>>=◌}
+use Rattle.sublist_codec.specs.Steps.{last_of, all_at}
 use Rattle.sublist_codec.specs.Blocks.{inside, Head, top_of, last_doc, head_bytes, head_for, block, pieces, head_front, doc_before, may_lead, is_true, before_more, postings_at, body_at, block_at}
-use Rattle.sublist_codec.proofs.Steps.{ok_is, bind_ok, guard_ok, test_ok}
-use Rattle.sublist_codec.proofs.Bytes.{IsBytes, IsBytes-take, IsBytes-drop, wide16, wide32, number_back, number_below, number_again}
+use Rattle.time_base.proofs.Readings.{ok_is, bind_ok}
+use Rattle.sublist_codec.proofs.Steps.{guard_ok, test_ok}
+use Rattle.time_base.proofs.Bytes.{IsBytes, IsBytes-take, IsBytes-drop, wide16, wide32, number_back, number_below, number_again}
 use Rattle.sublist_codec.proofs.AllAt.{all_step}
 use Rattle.sublist_codec.proofs.WriteLemmas.{inside_length}
 use Rattle.sublist_codec.proofs.BlockLaws.{AreNext, IsFirst, postings_taken, postings_again}

@@ -8,10 +8,12 @@ use Rattle.std.proofs.lemmas.Grind.{flat_map-append}
 use Rattle.time_base.specs.declared.posting.Posting.{Posting}
 use Rattle.postings.specs.Lists.{IsList}
 use Rattle.sublist_codec.specs.Fields.{Fields, fields, is_allowed, may_follow}
-use Rattle.sublist_codec.specs.Steps.{◌>>=◌, value_or, last_of, all_at}
+use Rattle.time_base.specs.Reading.{◌>>=◌, value_or}
+use Rattle.sublist_codec.specs.Steps.{last_of, all_at}
 use Rattle.sublist_codec.specs.Flat.{spelled, spelling, fields_front, if_allowed, posting_at, front_at, list_at}
-use Rattle.sublist_codec.proofs.Steps.{ok_is, bind_ok, value_or-ok, test_some, guard_some}
-use Rattle.sublist_codec.proofs.Bytes.{IsBytes, IsBytes-drop, wide32, wide64, number_back, number_below, number_again}
+use Rattle.time_base.proofs.Readings.{ok_is, bind_ok, value_or-ok}
+use Rattle.sublist_codec.proofs.Steps.{test_some, guard_some}
+use Rattle.time_base.proofs.Bytes.{IsBytes, IsBytes-drop, wide32, wide64, number_back, number_below, number_again}
 use Rattle.sublist_codec.proofs.FieldLemmas.{allowed_parts, is_allowed-fields, AreBehind, list-behind, behind-list}
 use Rattle.sublist_codec.proofs.LayoutLemmas.{IsCodec}
 use Rattle.sublist_codec.proofs.AllAt.{IsRead, begins, all_step, all_left}

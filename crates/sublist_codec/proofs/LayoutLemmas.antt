@@ -5,8 +5,9 @@ use Rattle.time_base.specs.declared.posting.Posting.{Posting}
 use Rattle.postings.specs.Lists.{IsList}
 use Rattle.sublist_codec.specs.Fields.{Fields, fields}
 use Rattle.sublist_codec.specs.Layouts.{IsFaultOf, IsLayout}
-use Rattle.sublist_codec.proofs.Steps.{ok_is, failed}
-use Rattle.sublist_codec.proofs.Bytes.{IsBytes, IsBytes-from_all}
+use Rattle.time_base.proofs.Readings.{ok_is}
+use Rattle.sublist_codec.proofs.Steps.{failed}
+use Rattle.time_base.proofs.Bytes.{IsBytes, IsBytes-from_all}
 use Rattle.sublist_codec.proofs.FieldLemmas.{same_all}
 
 pub record IsCodec (spelling : List Posting → List ℕ) (reading : List ℕ → Result (List Fields) ℕ) : Type 0 where

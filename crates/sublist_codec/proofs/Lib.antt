@@ -1,4 +1,3 @@
-mod Bytes
 mod Steps
 mod AllAt
 mod FieldLemmas

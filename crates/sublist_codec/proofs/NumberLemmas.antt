@@ -4,7 +4,7 @@ use Rattle.std.proofs.Common.{sym, ap, subst, ◌∙◌, arith, append_assoc, in
 use Rattle.std.proofs.lemmas.Bool.{cases_lt, lt-ltb, le-ltb, eqb-false, ne_eqb}
 use Rattle.std.proofs.Math.Nat.{pow-succ', one-le-pow}
 use Rattle.sublist_codec.proofs.Steps.{guard_some}
-use Rattle.sublist_codec.proofs.Bytes.{IsBytes}
+use Rattle.time_base.proofs.Bytes.{IsBytes}
 use Rattle.sublist_codec.specs.Numbers.{number_bytes, with_low, number_at}
 
 -- what was written, and the bytes of what is left of the number, are the whole

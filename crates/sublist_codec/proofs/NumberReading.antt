@@ -5,7 +5,7 @@ use Rattle.std.proofs.lemmas.Bool.{lt-ltb, le-ltb, ne_eqb, eqb-false}
 use Rattle.std.proofs.lemmas.List.{take_rest}
 use Rattle.std.proofs.Math.Nat.{pow-succ', pow-le-pow_right, mul-add, mul_assoc, mul-le-mul}
 use Rattle.sublist_codec.specs.Numbers.{with_low, number_at}
-use Rattle.sublist_codec.proofs.Bytes.{IsBytes}
+use Rattle.time_base.proofs.Bytes.{IsBytes}
 
 -- a number of which the lowest bits were read: behind others its rest may not be 0
 abbrev pub with_sum : ℕ → ℕ → ℕ → Option (ℕ × List ℕ) → Option (ℕ × List ℕ)

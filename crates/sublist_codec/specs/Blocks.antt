@@ -4,7 +4,8 @@ use Rattle.std.specs.Int.{w8, w16, w32, to_be_bytes}
 use Rattle.std.specs.List.{flat_map}
 use Rattle.time_base.specs.declared.posting.Posting.{Posting}
 use Rattle.sublist_codec.specs.Fields.{Fields, fields}
-use Rattle.sublist_codec.specs.Steps.{◌>>=◌, value_or, all_at}
+use Rattle.time_base.specs.Reading.{◌>>=◌, value_or}
+use Rattle.sublist_codec.specs.Steps.{all_at}
 use Rattle.sublist_codec.specs.Flat.{number_front}
 use Rattle.sublist_codec.specs.Numbers.{number_bytes, number_at}
 

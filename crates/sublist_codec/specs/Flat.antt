@@ -4,7 +4,8 @@ use Rattle.std.specs.Int.{Width, w32, w64, byte_len, from_be_bytes, to_be_bytes}
 use Rattle.std.specs.List.{flat_map}
 use Rattle.time_base.specs.declared.posting.Posting.{Posting}
 use Rattle.sublist_codec.specs.Fields.{Fields, fields, is_allowed, may_follow}
-use Rattle.sublist_codec.specs.Steps.{◌>>=◌, value_or, all_at}
+use Rattle.time_base.specs.Reading.{◌>>=◌, value_or}
+use Rattle.sublist_codec.specs.Steps.{all_at}
 
 -- the 24 bytes of a posting: document, frequency, and the ends of the span
 abbrev pub spelled : Fields → List ℕ

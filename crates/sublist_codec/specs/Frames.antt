@@ -1,7 +1,8 @@
 -- The blocks of bytes by their headers alone.
 use Rattle.std.specs.Prelude.{◌≡◌, ℕ, ◌+◌, ◌-◌, ◌<◌, ◌≤◌, Bool, List, [], ◌∷◌, length, take, drop, sum_by, slice_index, Option, Some, None, Result, Ok, nat_lt, nat_le, ◌&&◌, if◌then◌else◌}
 use Rattle.sublist_codec.specs.declared.head.BlockHead.{BlockHead}
-use Rattle.sublist_codec.specs.Steps.{◌>>=◌, value_or, all_at}
+use Rattle.time_base.specs.Reading.{◌>>=◌, value_or}
+use Rattle.sublist_codec.specs.Steps.{all_at}
 use Rattle.sublist_codec.specs.Blocks.{Head, head_front}
 
 -- a header has 1 to 128 postings, and its block doesn't pass the end of so many bytes behind it

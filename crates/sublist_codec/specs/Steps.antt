@@ -1,17 +1,7 @@
 -- Reading from left to right. A reading gives what it read, or how many bytes are left at the place
 -- of the first fault.
 use Rattle.std.specs.Prelude.{ℕ, zero, suc, ◌+◌, List, [], ◌∷◌, ◌++◌, length, Option, Some, None, Result, Ok, Err}
-
--- one step after another, up to the first that fails
-infixl 10 ◌>>=◌
-abbrev pub ◌>>=◌ : {A B : Type 0} → Result A ℕ → (A → Result B ℕ) → Result B ℕ
-(Ok x) >>= f = f x
-(Err left) >>= f = Err left
-
--- this value if there is one, where so many bytes are left
-abbrev pub value_or : {A : Type 0} → ℕ → Option A → Result A ℕ
-value_or left (Some x) = Ok x
-value_or left None = Err left
+use Rattle.time_base.specs.Reading.{◌>>=◌}
 
 -- the last of these values, or the one before them
 abbrev pub last_of : {A : Type 0} → Option A → List A → Option A

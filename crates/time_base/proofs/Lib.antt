@@ -1,3 +1,5 @@
 pub mod Equal
 mod Counting
 pub mod TimeLemmas
+pub mod Bytes
+pub mod Readings

@@ -1,6 +1,6 @@
 use Rattle.record_codec.specs.Spelling.{spelling}
 use Rattle.record_codec.proofs.EntryLemmas.{one_entry, entry_none, a_fault, entry_long, entry_short}
-use Rattle.record_codec.proofs.FieldLemmas.{IsBytes-from_all}
+use Rattle.time_base.proofs.Bytes.{IsBytes-from_all}
 use Rattle.std.specs.Prelude.{refl}
 use Rattle.record_codec.proofs.laws.spelling_laws.Goals as goal
 
