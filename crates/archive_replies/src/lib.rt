@@ -17,6 +17,3 @@ pub use laws::replies_have_bytes;
 pub use page::{REPLY_ROOM, ReplyPage, Summary};
 pub use showing::show;
 pub use tally::Tally;
-
-#[cfg(test)]
-mod tests;

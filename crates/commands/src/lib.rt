@@ -10,8 +10,6 @@
 
 mod command;
 mod phrase;
-#[cfg(test)]
-mod tests;
 mod text;
 
 pub use command::{Command, Item, Kind};

@@ -29,6 +29,3 @@ pub use laws::{
 pub use runs::one_term;
 pub use vocabulary::{NumberError, Vocabulary};
 pub use weigh::{Places, Weighed};
-
-#[cfg(test)]
-mod tests;

@@ -11,6 +11,3 @@ mod planning;
 mod steps;
 
 pub use planning::{PlanError, WIDEST, plan};
-
-#[cfg(test)]
-mod tests;

@@ -30,6 +30,3 @@ pub use faults::{CallKind, Fault};
 pub use machine::MemMachine;
 pub use picks::{Fill, Pick, Picked, Tail};
 pub use slice_source::SliceSource;
-
-#[cfg(test)]
-mod tests;

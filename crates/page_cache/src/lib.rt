@@ -19,6 +19,3 @@ pub use laws::{
     asked_is_first, asked_lie_in_taken, asked_twice_misses_once, asking_stands, askings_join,
     few_are_kept, given_back_leave, left_lie_in_rest, misses_are_by_sizes, writes_apart_stand,
 };
-
-#[cfg(test)]
-mod tests;

@@ -19,6 +19,3 @@ pub use laws::{
 pub use live::LiveError;
 pub use pages::{Pages, TakeError};
 pub use run::Run;
-
-#[cfg(test)]
-mod tests;

@@ -13,6 +13,3 @@ mod parts;
 
 pub use choice::{Choice, ChoiceError};
 pub use choosing::choose;
-
-#[cfg(test)]
-mod tests;

@@ -17,6 +17,3 @@ pub use laws::{
 };
 pub use merge::{MergeError, merge_distinct};
 pub use parts::{as_of, clip, overlap};
-
-#[cfg(test)]
-mod tests;

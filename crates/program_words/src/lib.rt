@@ -14,8 +14,6 @@ mod laws;
 mod number;
 mod reading;
 mod task;
-#[cfg(test)]
-mod tests;
 
 pub use error::WordsError;
 pub use laws::{plain_forms, words_ask_for_one_thing, words_ask_or_do_not};

@@ -22,10 +22,3 @@ pub use laws::{an_answer_is_one, each_query_has_an_answer, only_hits_matter, onl
 pub use part::{EvalError, Lists, Part};
 pub use span_laws::{a_span_answer_is_one, each_window_has_an_answer, span_rows_are_the_longest};
 pub use spans::{SpanAnswer, SpanRow, answer_between, answer_over, parts_between};
-
-#[cfg(test)]
-mod span_tests;
-#[cfg(test)]
-mod tests;
-#[cfg(test)]
-mod tree_tests;

@@ -23,6 +23,3 @@ pub use error::QueryError;
 pub use laws::{each_text_is_read_one_way, words_decide};
 pub use pile::Pile;
 pub use query::{MOST_QUERY_BYTES, Query};
-
-#[cfg(test)]
-mod tests;

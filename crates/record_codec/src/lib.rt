@@ -31,8 +31,3 @@ pub use reading::decode;
 pub use tags::MOST_SEGMENTS;
 pub use text::{MOST_TEXT_BYTES, VersionText};
 pub use writing::{encode, encode_arrival, encode_deletion};
-
-#[cfg(test)]
-mod plan_tests;
-#[cfg(test)]
-mod tests;

@@ -11,8 +11,6 @@
 mod laws;
 mod place;
 mod sample;
-#[cfg(test)]
-mod tests;
 mod writing;
 
 pub use laws::{

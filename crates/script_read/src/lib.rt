@@ -18,8 +18,6 @@ mod laws;
 mod line;
 mod passing;
 mod reader;
-#[cfg(test)]
-mod tests;
 mod values;
 mod words;
 

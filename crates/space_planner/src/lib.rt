@@ -25,6 +25,3 @@ pub use laws::{
 pub use load::Load;
 pub use planning::{front, plan};
 pub use point::Point;
-
-#[cfg(test)]
-mod tests;

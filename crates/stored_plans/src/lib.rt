@@ -17,6 +17,3 @@ pub use laws::{
     each_good_plan_has_a_cost, each_list_has_a_good_plan, fit_plans_are_well_cut,
     good_plans_are_fit, good_plans_are_short, good_plans_cost_the_same,
 };
-
-#[cfg(test)]
-mod tests;

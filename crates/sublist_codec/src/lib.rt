@@ -23,6 +23,3 @@ pub use flat::{POSTING_BYTES, decode_list, encode_list};
 pub use frames::Frames;
 pub use head::{BLOCK_POSTINGS, BlockHead, HEAD_BYTES};
 pub use laws::{block_laws, flat_laws};
-
-#[cfg(test)]
-mod tests;

@@ -1,7 +1,7 @@
 mod Longer
 mod GatherLemmas
 mod AskLemmas
-mod KeptLemmas
+pub mod KeptLemmas
 pub mod PlaceLemmas
 pub mod WriteLemmas
 pub mod HoldLemmas

@@ -29,6 +29,3 @@ pub use laws::{
 pub use prepared::Prepared;
 pub use store::Sublists;
 pub use why::{Damage, FetchError, Why};
-
-#[cfg(test)]
-mod tests;

@@ -25,6 +25,3 @@ pub use laws::{frequency_of_last_turn, frequency_of_no_turn, tails_of_acts};
 pub use tail::Tail;
 pub use tails::Tails;
 pub use weight::Weight;
-
-#[cfg(test)]
-mod tests;

@@ -24,6 +24,3 @@ pub use posting::Posting;
 pub use text_place::TextPlace;
 pub use time::{NOW, Span, Time};
 pub use which::{MOST_DOCUMENTS, MOST_JOURNAL_BYTES, MOST_VERSIONS, MOST_WORDS, Which};
-
-#[cfg(test)]
-mod tests;

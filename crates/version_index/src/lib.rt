@@ -22,6 +22,3 @@ pub use index::Index;
 pub use loader::Loader;
 pub use part::ListPart;
 pub use prepared::Prepared;
-
-#[cfg(test)]
-mod tests;

@@ -13,8 +13,6 @@ mod laws;
 mod link;
 mod lives;
 mod refusal;
-#[cfg(test)]
-mod tests;
 mod walk;
 
 pub use change::Change;

@@ -6,7 +6,5 @@
 #![tactic(auto)]
 
 mod list;
-#[cfg(test)]
-mod tests;
 
 pub use list::list_of;

@@ -1,5 +1,0 @@
-//! Rows of sublists in pages.
-mod gathering;
-mod given;
-mod keeping;
-mod storing;

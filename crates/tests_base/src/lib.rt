@@ -1,0 +1,11 @@
+//! The tests of the lowest crates: of `time_base`, `commands` and `machine_mem`.
+//!
+//! They stand apart since a library with tests inside is proved twice, once with them.
+#![tactic(auto)]
+
+#[cfg(test)]
+mod items;
+#[cfg(test)]
+mod machine;
+#[cfg(test)]
+mod times;

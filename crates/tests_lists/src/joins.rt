@@ -1,0 +1,54 @@
+//! The shortest list of the same rows.
+ghost use Rattle.std.specs.Prelude.{IfSome};
+ghost use Rattle.postings.specs.Lists.{IsList};
+
+use coalesce::coalesce;
+use postings::merge_distinct;
+use std::alloc::Global;
+use std::test::Fail;
+use time_base::{DocId, NOW, Posting, Span};
+
+/// The list of one document's postings by start, end and frequency.
+fn listed(alloc: Global, parts: &[(u64, u64, u32)]) -> Option<Vec<Posting>>
+    ensures { IfSome result (λ v. IsList v.items) }
+{
+    let mut list = Vec::new(alloc);
+    for (from, to, tf) in parts {
+        if *tf == 0 {
+            return None;
+        }
+        let span = Span::new(*from, *to)?;
+        let p = Posting {
+            doc: DocId(1),
+            span,
+            tf: *tf,
+        };
+        list = merge_distinct(alloc, &list, &[p]).ok()?;
+    }
+    Some(list)
+}
+
+#[test]
+fn postings_of_one_frequency_that_touch_become_one(rt: HostRuntime) -> Result<(), Fail> {
+    let alloc = rt.alloc();
+    for (parts, joined) in [
+        // three versions of one frequency
+        (
+            &[(10, 20, 2), (20, 30, 2), (30, NOW, 2)][..],
+            &[(10, NOW, 2)][..],
+        ),
+        // a gap
+        (&[(10, 20, 1), (21, 30, 1)], &[(10, 20, 1), (21, 30, 1)]),
+        // another frequency between
+        (
+            &[(10, 20, 1), (20, 30, 2), (30, 40, 1)],
+            &[(10, 20, 1), (20, 30, 2), (30, 40, 1)],
+        ),
+        (&[], &[]),
+    ] {
+        let list = listed(alloc, parts).ok_or("a list")?;
+        let wanted = listed(alloc, joined).ok_or("the coalesced list")?;
+        assert_eq!(rt; coalesce(alloc, &list)?, wanted);
+    }
+    Ok(())
+}

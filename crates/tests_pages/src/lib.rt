@@ -1,0 +1,14 @@
+//! The tests of what stands in pages: of `page_store`, `page_cache`, `sublist_codec` and `sublist_store`.
+//!
+//! They stand apart since a library with tests inside is proved twice, once with them. What a test wants
+//! is worked out from the formats, by counting pages and bytes.
+#![tactic(auto)]
+
+#[cfg(test)]
+mod free_pages;
+#[cfg(test)]
+mod kept_pages;
+#[cfg(test)]
+mod lists_as_bytes;
+#[cfg(test)]
+mod sublists;

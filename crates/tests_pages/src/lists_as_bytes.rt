@@ -1,0 +1,368 @@
+//! Lists as bytes in both layouts, and bytes that spell no list.
+ghost use Rattle.std.specs.Prelude.{IfOk};
+ghost use Rattle.postings.specs.Lists.{IsList};
+
+use std::alloc::{AllocError, Global};
+use std::test::Fail;
+use sublist_codec::{Frames, ListError, decode_blocks, decode_list, encode_blocks, encode_list};
+use time_base::Posting;
+
+/// The bytes that hexadecimal digits spell.
+fn bytes_of(alloc: Global, digits: &str) -> Result<Vec<u8>, AllocError> {
+    let mut bytes = Vec::new(alloc);
+    let mut high = None;
+    for digit in digits.bytes() {
+        let value = if digit >= b'a' {
+            digit.saturating_sub(87)
+        } else {
+            digit.saturating_sub(48)
+        };
+        match high {
+            None => high = Some(value % 16),
+            Some(first) => {
+                bytes.push(first.wrapping_mul(16).wrapping_add(value % 16))?;
+                high = None;
+            }
+        }
+    }
+    Ok(bytes)
+}
+
+/// The place that a reading names.
+fn place(read: Result<Vec<Posting>, ListError>) -> Option<u64> {
+    match read {
+        Err(ListError::Form { at }) => Some(at),
+        _ => None,
+    }
+}
+
+/// Document 1 from 10 to 40, and document 2 from 20 to 30.
+const FIRST: &str = "0000000100000001000000000000000a0000000000000028";
+
+const SECOND: &str = "00000002000000010000000000000014000000000000001e";
+
+/// The flat bytes of both.
+fn both(alloc: Global) -> Result<Vec<u8>, AllocError> {
+    let mut bytes = bytes_of(alloc, FIRST)?;
+    let second = bytes_of(alloc, SECOND)?;
+    bytes.extend_from_slice(&second)?;
+    Ok(bytes)
+}
+
+#[test]
+fn a_list_of_two_postings_in_both_layouts(rt: HostRuntime) -> Result<(), Fail> {
+    let wanted = both(rt.alloc())?;
+    let list = decode_list(rt.alloc(), &wanted)?;
+    let flat = encode_list(rt.alloc(), &list)?;
+    assert_eq!(rt; flat.as_slice(), wanted.as_slice());
+    let mut read = Vec::new(rt.alloc());
+    for posting in &list {
+        read.push((
+            posting.doc.0,
+            posting.tf,
+            posting.span.from,
+            posting.span.to,
+        ))?;
+    }
+    assert_eq!(rt;
+        read.as_slice(),
+        [(1, 1, 10, 40), (2, 1, 20, 30)].as_slice()
+    );
+    let blocks = encode_blocks(rt.alloc(), &list)?;
+    let wanted = bytes_of(rt.alloc(), "020007000000010000000100000002010a1e0101140a")?;
+    assert_eq!(rt; blocks.as_slice(), wanted.as_slice());
+    assert_eq!(rt;
+        decode_blocks(rt.alloc(), &blocks)?.as_slice(),
+        list.as_slice()
+    );
+    Ok(())
+}
+
+#[test]
+fn a_block_of_one_posting_has_eighteen_bytes(rt: HostRuntime) -> Result<(), Fail> {
+    let flat = bytes_of(rt.alloc(), FIRST)?;
+    let list = decode_list(rt.alloc(), &flat)?;
+    let blocks = encode_blocks(rt.alloc(), &list)?;
+    let wanted = bytes_of(rt.alloc(), "010003000000010000000100000001010a1e")?;
+    assert_eq!(rt; blocks.as_slice(), wanted.as_slice());
+    let second = bytes_of(rt.alloc(), SECOND)?;
+    let behind = decode_list(rt.alloc(), &second)?;
+    let blocks = encode_blocks(rt.alloc(), &behind)?;
+    let wanted = bytes_of(rt.alloc(), "01000300000001000000020000000201140a")?;
+    assert_eq!(rt; blocks.as_slice(), wanted.as_slice());
+    Ok(())
+}
+
+#[test]
+fn the_empty_list_has_no_bytes(rt: HostRuntime) -> Result<(), Fail> {
+    assert_eq!(rt; encode_list(rt.alloc(), &[])?.len(), 0);
+    assert_eq!(rt; encode_blocks(rt.alloc(), &[])?.len(), 0);
+    assert_eq!(rt; decode_list(rt.alloc(), &[])?.len(), 0);
+    assert_eq!(rt; decode_blocks(rt.alloc(), &[])?.len(), 0);
+    Ok(())
+}
+
+#[test]
+fn the_posting_at_fault_is_named(rt: HostRuntime) -> Result<(), Fail> {
+    let list = both(rt.alloc())?;
+    for (at, byte, named) in [
+        // Document 0 behind document 1.
+        (27, 0, 24),
+        // A frequency of 0.
+        (7, 0, 0),
+        // An end at the start, and one behind the end of time.
+        (23, 10, 0),
+        (42, 2, 24),
+        // The same document again, while the first posting lasts.
+        (27, 1, 24),
+    ] {
+        let mut changed = Vec::from_slice(rt.alloc(), &list)?;
+        if let Some(old) = changed.get_mut(at) {
+            *old = byte;
+        }
+        assert_eq!(rt;
+            place(decode_list(rt.alloc(), &changed)),
+            Some(named),
+            "byte {at} as {byte}"
+        );
+    }
+    for (bytes, named) in [(47, 24), (1, 0)] {
+        let mut short = Vec::from_slice(rt.alloc(), &list)?;
+        short.truncate(bytes);
+        assert_eq!(rt; place(decode_list(rt.alloc(), &short)), Some(named));
+    }
+    Ok(())
+}
+
+/// Bytes that are no blocks, and the place that is named.
+const FAULTS: [(&str, u64); 25] = [
+    // The header is cut short.
+    ("0100030000000100000001000000", 0),
+    // No posting, and more than 128.
+    ("000003000000010000000100000001010a1e", 0),
+    ("810003000000010000000100000001010a1e", 0),
+    // More bytes than there are, and a block behind one of fewer than 128.
+    ("010004000000010000000100000001010a1e", 0),
+    ("010003000000010000000100000001010a1e00", 0),
+    // A frequency of 0, and one of 2^32.
+    ("010003000000010000000100000001000a1e", 15),
+    ("01000700000001000000010000000180808080100a1e", 15),
+    // A number with a last byte of 0, and one of seven bytes.
+    ("01000400000001000000010000000181000a1e", 15),
+    ("01000900000001000000010000000101808080808080011e", 16),
+    // A start at the end of time.
+    ("010008000000010000000100000001018080808080201e", 16),
+    // An empty span, and one that passes the end of time.
+    ("010003000000010000000100000001010a00", 17),
+    ("010008000000010000000100000001010af7ffffffff1f", 17),
+    // No bytes for the last number, and not all of them.
+    ("010002000000010000000100000001010a", 17),
+    ("010003000000010000000100000001010a9e", 17),
+    // A document above the last there is.
+    ("02000700000001ffffffffffffffff010a1e0101140a", 18),
+    // A posting of the document whose last one is open.
+    ("02000c000000010000000100000001010af6ffffffff1f00010101", 25),
+    // Fewer postings than the header says, and bytes behind them.
+    ("020003000000010000000100000001010a1e", 18),
+    ("010007000000010000000100000001010a1e0101140a", 0),
+    // The greatest frequency, the last document and the first one of the header.
+    ("010003000000020000000100000001010a1e", 0),
+    ("010003000000010000000100000002010a1e", 0),
+    ("010003000000010000000200000001010a1e", 0),
+    ("020007000000020000000100000003010a1e0102140a", 0),
+    ("020007000000010000000100000002010a1e0102140a", 0),
+    // A frequency of 0 comes before the greatest frequency.
+    ("010003000000020000000100000001000a1e", 15),
+    ("00", 0),
+];
+
+#[test]
+fn the_place_at_fault_in_blocks_is_named(rt: HostRuntime) -> Result<(), Fail> {
+    for (digits, at) in FAULTS {
+        let bytes = bytes_of(rt.alloc(), digits)?;
+        assert_eq!(rt;
+            place(decode_blocks(rt.alloc(), &bytes)),
+            Some(at),
+            "{digits}"
+        );
+    }
+    Ok(())
+}
+
+/// Adds the flat bytes of a posting of frequency 1.
+fn put_flat(bytes: &mut Vec<u8>, doc: u32, from: u64, to: u64) -> Result<(), AllocError> {
+    bytes.extend_from_slice(&doc.to_be_bytes())?;
+    bytes.extend_from_slice(&1u32.to_be_bytes())?;
+    bytes.extend_from_slice(&from.to_be_bytes())?;
+    bytes.extend_from_slice(&to.to_be_bytes())?;
+    Ok(())
+}
+
+/// So many postings from 10 to 20, one a document.
+fn long(alloc: Global, count: u32) -> Result<Vec<Posting>, ListError>
+    ensures { IfOk result (λ v. IsList v.items) }
+{
+    let mut bytes = Vec::new(alloc);
+    for doc in 0..count {
+        put_flat(&mut bytes, doc, 10, 20)?;
+    }
+    decode_list(alloc, &bytes)
+}
+
+#[test]
+fn a_block_has_128_postings(rt: HostRuntime) -> Result<(), Fail> {
+    for (count, bytes) in [
+        (0, 0),
+        (1, 18),
+        (127, 522),
+        (128, 526),
+        (129, 544),
+        (1000, 4112),
+    ] {
+        let list = long(rt.alloc(), count)?;
+        let blocks = encode_blocks(rt.alloc(), &list)?;
+        assert_eq!(rt; blocks.len(), bytes);
+        let again = decode_blocks(rt.alloc(), &blocks)?;
+        assert_eq!(rt; again.as_slice(), list.as_slice());
+    }
+    Ok(())
+}
+
+/// Starts, and how many bytes a block of one posting with that start has: 17, and one to six for the start.
+const STARTS: [(u64, usize); 12] = [
+    (0, 18),
+    (127, 18),
+    (128, 19),
+    (16_383, 19),
+    (16_384, 20),
+    (2_097_151, 20),
+    (2_097_152, 21),
+    (268_435_455, 21),
+    (268_435_456, 22),
+    (34_359_738_367, 22),
+    (34_359_738_368, 23),
+    (1_099_511_627_775, 23),
+];
+
+#[test]
+fn a_number_has_one_to_six_bytes(rt: HostRuntime) -> Result<(), Fail> {
+    for (from, bytes) in STARTS {
+        let mut flat = Vec::new(rt.alloc());
+        put_flat(&mut flat, 1, from, from.saturating_add(1))?;
+        let list = decode_list(rt.alloc(), &flat)?;
+        let blocks = encode_blocks(rt.alloc(), &list)?;
+        assert_eq!(rt; blocks.len(), bytes, "{from}");
+        assert_eq!(rt;
+            decode_blocks(rt.alloc(), &blocks)?.as_slice(),
+            list.as_slice()
+        );
+    }
+    Ok(())
+}
+
+/// Bits that are turned in each byte of three blocks in turn, how many of these altered bytes are a
+/// list's, and the sum of the places that the others have: by a decoder in another language.
+const ALTERED: [(u8, u64, u64); 2] = [(1, 514, 229_321), (128, 0, 834_031)];
+
+#[test]
+fn an_altered_byte_is_refused_or_makes_another_list(rt: HostRuntime) -> Result<(), Fail> {
+    let list = long(rt.alloc(), 257)?;
+    let blocks = encode_blocks(rt.alloc(), &list)?;
+    for (bit, lists, places) in ALTERED {
+        let mut read = 0u64;
+        let mut named = 0u64;
+        for at in 0..blocks.len() {
+            let mut altered = Vec::from_slice(rt.alloc(), &blocks)?;
+            altered[at] ^= bit;
+            match decode_blocks(rt.alloc(), &altered) {
+                Ok(other) => {
+                    assert_eq!(rt;
+                        encode_blocks(rt.alloc(), &other)?.as_slice(),
+                        altered.as_slice()
+                    );
+                    read = read.saturating_add(1);
+                }
+                Err(ListError::Form { at }) => named = named.saturating_add(at),
+                Err(ListError::Memory) => assert!(rt; false),
+            }
+        }
+        assert_eq!(rt; (read, named), (lists, places));
+    }
+    Ok(())
+}
+
+#[test]
+fn a_block_whose_first_document_is_below_the_one_before_is_refused(
+    rt: HostRuntime,
+) -> Result<(), Fail> {
+    let list = long(rt.alloc(), 257)?;
+    let mut blocks = encode_blocks(rt.alloc(), &list)?;
+    // The first block ends with document 127, and the second one's header, at 526, now says 126.
+    if let Some(first) = blocks.get_mut(536) {
+        *first = 126;
+    }
+    assert_eq!(rt; place(decode_blocks(rt.alloc(), &blocks)), Some(526));
+    Ok(())
+}
+
+#[test]
+fn blocks_are_opened_one_by_one(rt: HostRuntime) -> Result<(), Fail> {
+    let list = long(rt.alloc(), 257)?;
+    let blocks = encode_blocks(rt.alloc(), &list)?;
+    let whole = Vec::from_slice(rt.alloc(), &blocks)?;
+    let frames = Frames::read(rt.alloc(), whole)?;
+    let mut heads = Vec::new(rt.alloc());
+    for head in frames.heads() {
+        heads.push((head.count, head.size, head.top, head.first.0, head.last.0))?;
+    }
+    let wanted = [
+        (128, 511, 1, 0, 127),
+        (128, 511, 1, 128, 255),
+        (1, 3, 1, 256, 256),
+    ];
+    assert_eq!(rt; heads.as_slice(), wanted.as_slice());
+    let mut together = Vec::new(rt.alloc());
+    for block in 0..frames.heads().len() {
+        together.extend_from_slice(&frames.open(rt.alloc(), block)?)?;
+    }
+    assert_eq!(rt; together.as_slice(), list.as_slice());
+    Ok(())
+}
+
+/// Places in three blocks, a byte put there, the place that the headers name, and the place that the
+/// second block names.
+const BLOCK_FAULTS: [(usize, u8, Option<u64>, Option<u64>); 6] = [
+    // A second header of 0 and of 129 postings, and of more bytes than there are.
+    (526, 0, Some(526), None),
+    (526, 129, Some(526), None),
+    (527, 255, Some(526), None),
+    // A third header of no posting.
+    (1052, 0, Some(1052), None),
+    // Its greatest frequency, and the frequency of its first posting.
+    (532, 9, None, Some(526)),
+    (541, 0, None, Some(541)),
+];
+
+#[test]
+fn the_place_at_fault_is_counted_from_the_first_byte(rt: HostRuntime) -> Result<(), Fail> {
+    let list = long(rt.alloc(), 257)?;
+    let blocks = encode_blocks(rt.alloc(), &list)?;
+    for (at, byte, header, inner) in BLOCK_FAULTS {
+        let mut altered = Vec::from_slice(rt.alloc(), &blocks)?;
+        if let Some(old) = altered.get_mut(at) {
+            *old = byte;
+        }
+        match Frames::read(rt.alloc(), altered) {
+            Ok(frames) => {
+                assert_eq!(rt; header, None);
+                assert!(rt; frames.heads().len() == 3);
+                if 1 < frames.heads().len() {
+                    assert_eq!(rt; place(frames.open(rt.alloc(), 1)), inner);
+                }
+            }
+            Err(ListError::Form { at }) => assert_eq!(rt; header, Some(at)),
+            Err(ListError::Memory) => assert!(rt; false),
+        }
+    }
+    Ok(())
+}

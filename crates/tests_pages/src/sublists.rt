@@ -1,0 +1,6 @@
+//! Sublists of plans in pages: stored, gathered and kept.
+
+mod gathering;
+mod given;
+mod keeping;
+mod storing;

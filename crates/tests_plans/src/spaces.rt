@@ -1,0 +1,6 @@
+//! Plans under a bound on space.
+
+mod brute_force;
+mod calls;
+mod given;
+mod rows;

@@ -1,0 +1,418 @@
+//! Random queries over random lists and lives, beside a look at each document and each second.
+use query_eval::{Part, answer_from, answer_over};
+use query_lang::Query;
+use std::alloc::{AllocError, Global};
+use std::string::String;
+use std::test::Fail;
+use stretches::Life;
+use time_base::{DocId, Posting, Span, Time};
+
+/// The documents are 0, 1 and 2, and the seconds those below this one.
+const DOCS: u32 = 3;
+
+const END: u64 = 12;
+
+/// A part of a query, over parts before it.
+#[derive(Clone, Copy, Debug)]
+enum Node {
+    Word(u32),
+    Not(usize),
+    And(usize, usize),
+    Or(usize, usize),
+}
+
+/// What a part of a query says of a document: whether it matches, and which words stand in it under
+/// an even and under an odd number of `not`, as sums of powers of two.
+#[derive(Clone, Copy, Debug)]
+struct Said {
+    matches: bool,
+    even: u32,
+    odd: u32,
+}
+
+/// Numbers that look random: a linear congruential generator (D. Knuth, The Art of Computer
+/// Programming, 2, 3.3.4).
+#[derive(Drop)]
+struct Numbers {
+    state: u64,
+}
+
+impl Numbers {
+    /// The next number, below `bound`, or 0 where that is 0.
+    fn below(&mut self, bound: u32) -> u32 {
+        self.state = self
+            .state
+            .wrapping_mul(6364136223846793005)
+            .wrapping_add(1442695040888963407);
+        if bound == 0 {
+            return 0;
+        }
+        u32::try_from(self.state >> 33).unwrap_or(0) % bound
+    }
+
+    /// A span that begins before the end and lasts for at most 8 seconds.
+    fn span(&mut self) -> Option<Span> {
+        let from = u64::from(self.below(12));
+        let length = u64::from(self.below(8));
+        Span::new(from, from.saturating_add(length).saturating_add(1))
+    }
+
+    /// A part over some of so many parts before it.
+    fn node(&mut self, before: u32) -> Node {
+        let kind = if before == 0 { 0 } else { self.below(5) };
+        let left = self.below(before) as usize;
+        let right = self.below(before) as usize;
+        match kind {
+            0 => Node::Word(self.below(3)),
+            1 => Node::Not(left),
+            2 => Node::Or(left, right),
+            _ => Node::And(left, right),
+        }
+    }
+}
+
+fn name(word: u32) -> &'static str {
+    match word {
+        0 => "red",
+        1 => "blue",
+        _ => "green",
+    }
+}
+
+/// A query of at most seven parts; the last is the whole.
+fn random_query(alloc: Global, numbers: &mut Numbers) -> Result<Vec<Node>, AllocError> {
+    let mut nodes = Vec::new(alloc);
+    for before in 0..numbers.below(7).saturating_add(1) {
+        nodes.push(numbers.node(before))?;
+    }
+    Ok(nodes)
+}
+
+fn part_of(texts: &[String], place: usize) -> &str {
+    match texts.get(place) {
+        Some(text) => text.as_str(),
+        None => "",
+    }
+}
+
+/// The query as a text, with parentheses around whatever joins.
+fn text_of(alloc: Global, nodes: &[Node]) -> Result<String, AllocError> {
+    let mut texts = Vec::new(alloc);
+    for node in nodes {
+        let text = match *node {
+            Node::Word(word) => String::from_str(alloc, name(word))?,
+            Node::Not(a) => format!(in alloc; "not {}", part_of(&texts, a))?,
+            Node::And(a, b) if a < b => {
+                format!(in alloc; "({} {})", part_of(&texts, a), part_of(&texts, b))?
+            }
+            Node::And(a, b) => {
+                format!(in alloc; "({} and {})", part_of(&texts, a), part_of(&texts, b))?
+            }
+            Node::Or(a, b) => {
+                format!(in alloc; "({} or {})", part_of(&texts, a), part_of(&texts, b))?
+            }
+        };
+        texts.push(text)?;
+    }
+    match texts.pop() {
+        Some(text) => Ok(text),
+        None => Ok(String::new(alloc)),
+    }
+}
+
+fn said_of(all: &[Said], place: usize) -> Said {
+    match all.get(place) {
+        Some(said) => *said,
+        None => Said {
+            matches: false,
+            even: 0,
+            odd: 0,
+        },
+    }
+}
+
+/// What the query says of a document that has each word so often.
+fn says(alloc: Global, nodes: &[Node], often: [u64; 3]) -> Result<Said, AllocError> {
+    let mut all = Vec::new(alloc);
+    for node in nodes {
+        let said = match *node {
+            Node::Word(word) => Said {
+                matches: count(often, word) > 0,
+                even: bit(word),
+                odd: 0,
+            },
+            Node::Not(a) => {
+                let a = said_of(&all, a);
+                Said {
+                    matches: !a.matches,
+                    even: a.odd,
+                    odd: a.even,
+                }
+            }
+            Node::And(a, b) => {
+                let (a, b) = (said_of(&all, a), said_of(&all, b));
+                Said {
+                    matches: a.matches && b.matches,
+                    even: a.even | b.even,
+                    odd: a.odd | b.odd,
+                }
+            }
+            Node::Or(a, b) => {
+                let (a, b) = (said_of(&all, a), said_of(&all, b));
+                Said {
+                    matches: a.matches || b.matches,
+                    even: a.even | b.even,
+                    odd: a.odd | b.odd,
+                }
+            }
+        };
+        all.push(said)?;
+    }
+    Ok(said_of(&all, nodes.len().saturating_sub(1)))
+}
+
+fn bit(word: u32) -> u32 {
+    match word {
+        0 => 1,
+        1 => 2,
+        _ => 4,
+    }
+}
+
+fn count(often: [u64; 3], word: u32) -> u64 {
+    let [red, blue, green] = often;
+    match word {
+        0 => red,
+        1 => blue,
+        _ => green,
+    }
+}
+
+/// Lists and lives.
+#[derive(Drop)]
+struct World {
+    lives: Vec<Life>,
+    red: Vec<Posting>,
+    blue: Vec<Posting>,
+    green: Vec<Posting>,
+}
+
+impl World {
+    fn new(alloc: Global) -> World {
+        World {
+            lives: Vec::new(alloc),
+            red: Vec::new(alloc),
+            blue: Vec::new(alloc),
+            green: Vec::new(alloc),
+        }
+    }
+
+    /// One with random lives and postings, which may overlap.
+    fn random(alloc: Global, numbers: &mut Numbers) -> Result<World, AllocError> {
+        let mut world = World::new(alloc);
+        for _ in 0..numbers.below(7) {
+            let doc = DocId(numbers.below(DOCS));
+            if let Some(span) = numbers.span() {
+                world.lives.push(Life { doc, span })?;
+            }
+        }
+        for _ in 0..numbers.below(16) {
+            let doc = DocId(numbers.below(DOCS));
+            let tf = numbers.below(3).saturating_add(1);
+            let word = numbers.below(3);
+            if let Some(span) = numbers.span() {
+                world.list_mut(word).push(Posting { doc, span, tf })?;
+            }
+        }
+        Ok(world)
+    }
+
+    fn list_mut(&mut self, word: u32) -> &mut Vec<Posting> {
+        match word {
+            0 => &mut self.red,
+            1 => &mut self.blue,
+            _ => &mut self.green,
+        }
+    }
+
+    fn list(&self, word: &str) -> &[Posting] {
+        match word {
+            "red" => &self.red,
+            "blue" => &self.blue,
+            _ => &self.green,
+        }
+    }
+
+    fn is_alive(&self, doc: u32, second: u64) -> bool {
+        for l in self.lives.as_slice() {
+            if l.doc.0 == doc && l.span.from <= second && second < l.span.to {
+                return true;
+            }
+        }
+        false
+    }
+
+    /// How often the first posting of the document that holds the second says.
+    fn often(&self, word: &str, doc: u32, second: u64) -> u64 {
+        for p in self.list(word) {
+            if p.doc.0 == doc && p.span.from <= second && second < p.span.to {
+                return u64::from(p.tf);
+            }
+        }
+        0
+    }
+
+    /// The score of a document at a second, where it is alive and matches.
+    fn score(
+        &self,
+        alloc: Global,
+        nodes: &[Node],
+        doc: u32,
+        second: u64,
+    ) -> Result<Option<u64>, AllocError> {
+        let often = [
+            self.often("red", doc, second),
+            self.often("blue", doc, second),
+            self.often("green", doc, second),
+        ];
+        let said = says(alloc, nodes, often)?;
+        if !said.matches || !self.is_alive(doc, second) {
+            return Ok(None);
+        }
+        let mut score: u64 = 0;
+        for word in 0..3 {
+            if said.even & bit(word) != 0 {
+                score = score.saturating_add(count(often, word));
+            }
+        }
+        Ok(Some(score))
+    }
+
+    /// The parts of the lists of a query's words.
+    fn parts(&self, alloc: Global, query: &Query) -> Result<Vec<Part>, AllocError> {
+        let mut parts = Vec::new(alloc);
+        for word in query.words() {
+            let list = Vec::from_slice(alloc, self.list(word.as_str()))?;
+            parts.push(Part { list, read: 3 })?;
+        }
+        Ok(parts)
+    }
+
+    /// The rows at a second, by a look at each document.
+    fn looked_at(
+        &self,
+        alloc: Global,
+        nodes: &[Node],
+        second: u64,
+    ) -> Result<Vec<(u32, u64)>, AllocError> {
+        let mut rows = Vec::new(alloc);
+        for below in 0..10u64 {
+            let wanted = 9u64.saturating_sub(below);
+            for doc in 0..DOCS {
+                if self.score(alloc, nodes, doc, second)? == Some(wanted) {
+                    rows.push((doc, wanted))?;
+                }
+            }
+        }
+        Ok(rows)
+    }
+
+    /// The rows over a window, by a look at each second of each document.
+    fn looked_over(
+        &self,
+        alloc: Global,
+        nodes: &[Node],
+        span: Span,
+    ) -> Result<Vec<(u32, u64, u64, u64)>, AllocError> {
+        let mut rows = Vec::new(alloc);
+        for doc in 0..DOCS {
+            let mut open: Option<(u64, u64)> = None;
+            for second in span.from..span.to {
+                let now = self.score(alloc, nodes, doc, second)?;
+                if let Some((since, held)) = open {
+                    if now != Some(held) {
+                        rows.push((doc, since, second, held))?;
+                        open = None;
+                    }
+                }
+                if let (Some(held), None) = (now, open) {
+                    open = Some((second, held));
+                }
+            }
+            if let Some((since, held)) = open {
+                rows.push((doc, since, span.to, held))?;
+            }
+        }
+        Ok(rows)
+    }
+}
+
+#[test]
+fn answers_are_those_of_a_look_at_each_document(rt: HostRuntime) -> Result<(), Fail> {
+    let alloc = rt.alloc();
+    let mut numbers = Numbers { state: 2007 };
+    for _ in 0..300 {
+        let nodes = random_query(alloc, &mut numbers)?;
+        let world = World::random(alloc, &mut numbers)?;
+        let text = text_of(alloc, &nodes)?;
+        if text.len() > 4096 {
+            return Err("a shorter query".into());
+        }
+        let query = Query::read(alloc, text.as_str()).ok().ok_or("a query")?;
+        let parts = world.parts(alloc, &query)?;
+        if parts.len() != query.words().len() {
+            return Err("a part for each word".into());
+        }
+        for second in 0..END {
+            let t = Time::new(second).ok_or("a time")?;
+            let mut alive = Vec::new(alloc);
+            for doc in 0..DOCS {
+                if world.is_alive(doc, second) {
+                    alive.push(DocId(doc))?;
+                }
+            }
+            let mut rows = Vec::new(alloc);
+            for row in answer_from(alloc, &query, t, &parts, &alive)?.rows {
+                rows.push((row.doc.0, row.score))?;
+            }
+            let wanted = world.looked_at(alloc, &nodes, second)?;
+            assert_eq!(rt; rows.as_slice(), wanted.as_slice(), "{text} at {second}");
+        }
+    }
+    Ok(())
+}
+
+#[test]
+fn windows_are_those_of_a_look_at_each_second(rt: HostRuntime) -> Result<(), Fail> {
+    let alloc = rt.alloc();
+    let mut numbers = Numbers { state: 1997 };
+    for _ in 0..300 {
+        let nodes = random_query(alloc, &mut numbers)?;
+        let world = World::random(alloc, &mut numbers)?;
+        let text = text_of(alloc, &nodes)?;
+        if text.len() > 4096 {
+            return Err("a shorter query".into());
+        }
+        let query = Query::read(alloc, text.as_str()).ok().ok_or("a query")?;
+        let parts = world.parts(alloc, &query)?;
+        if parts.len() != query.words().len() {
+            return Err("a part for each word".into());
+        }
+        for from in 0..END {
+            for to in from.saturating_add(1)..END {
+                let span = Span::new(from, to).ok_or("a window")?;
+                let mut rows = Vec::new(alloc);
+                for row in answer_over(alloc, &query, span, &parts, &world.lives)?.rows {
+                    rows.push((row.doc.0, row.span.from, row.span.to, row.score))?;
+                }
+                let wanted = world.looked_over(alloc, &nodes, span)?;
+                assert_eq!(rt;
+                    rows.as_slice(),
+                    wanted.as_slice(),
+                    "{text} in [{from}, {to})"
+                );
+            }
+        }
+    }
+    Ok(())
+}

@@ -1,0 +1,21 @@
+//! The tests of what is written and read: of entries as bytes (`record_codec`), scripts (`script_read`),
+//! samples (`sample_commands`), the words of a command line (`program_words`) and of a text
+//! (`fold_tokens`), and replies (`archive_replies`).
+//!
+//! They stand apart since a library with tests inside is proved twice, once with them.
+#![tactic(auto)]
+
+#[cfg(test)]
+mod command_lines;
+#[cfg(test)]
+mod entries;
+#[cfg(test)]
+mod plan_entries;
+#[cfg(test)]
+mod replies;
+#[cfg(test)]
+mod samples;
+#[cfg(test)]
+mod scripts;
+#[cfg(test)]
+mod words;

@@ -1,0 +1,222 @@
+//! Stored plans as bytes, and bytes that spell none.
+use commands::Kind;
+use record_codec::{CodecError, Entry, Layout, Places, decode, encode, encode_plan};
+use std::alloc::{AllocError, Global};
+use std::test::Fail;
+
+/// The bytes that hexadecimal digits spell.
+fn bytes_of(alloc: Global, digits: &str) -> Result<Vec<u8>, AllocError> {
+    let mut bytes = Vec::new(alloc);
+    let mut high = None;
+    for digit in digits.bytes() {
+        let value = if digit >= b'a' {
+            digit.saturating_sub(87)
+        } else {
+            digit.saturating_sub(48)
+        };
+        match high {
+            None => high = Some(value % 16),
+            Some(first) => {
+                bytes.push(first.wrapping_mul(16).wrapping_add(value % 16))?;
+                high = None;
+            }
+        }
+    }
+    Ok(bytes)
+}
+
+/// A plan of the word `v`: guarantee 1/1, horizon 40, cuts 10, 20 and 30, in blocks of 18, 22 and 18
+/// bytes.
+const IN_BLOCKS: [&str; 4] = [
+    "03020100000001000000010000000000000028017600000003",
+    "000000000000000a000000000000000000000012a1a1a1a1a1a1a1a1a1a1a1a1a1a1a1a1a1a1a1a1a1a1a1a1a1a1a1a1a1a1a1a1",
+    "0000000000000014000000010000000000000016b2b2b2b2b2b2b2b2b2b2b2b2b2b2b2b2b2b2b2b2b2b2b2b2b2b2b2b2b2b2b2b2",
+    "000000000000001e000000020000000000000012c3c3c3c3c3c3c3c3c3c3c3c3c3c3c3c3c3c3c3c3c3c3c3c3c3c3c3c3c3c3c3c3",
+];
+
+/// The same plan as an archive stored it, with flat sublists of 24, 48 and 24 bytes.
+const WITH_FLAT_LISTS: [&str; 4] = [
+    "03010100000001000000010000000000000028017600000003",
+    "000000000000000a000000000000000000000018713c5858835bfef5e179036b9757c8265872cca3294c9370120459ca084c3449",
+    "00000000000000140000000100000000000000309e7b1995ab058b2026323f96cd0a8db4478114b14e82663ad26c1167dc590018",
+    "000000000000001e000000020000000000000018713c5858835bfef5e179036b9757c8265872cca3294c9370120459ca084c3449",
+];
+
+/// A plan of the word `v` for the seconds from 5 on, of one segment.
+const FROM_A_TIME_ON: [&str; 2] = [
+    "030203000000000000000500000003000000020000000000000028017600000001",
+    "000000000000000a000000000000000000000012a1a1a1a1a1a1a1a1a1a1a1a1a1a1a1a1a1a1a1a1a1a1a1a1a1a1a1a1a1a1a1a1",
+];
+
+/// The bytes of a plan in parts.
+fn joined(alloc: Global, parts: &[&str]) -> Result<Vec<u8>, AllocError> {
+    let mut bytes = Vec::new(alloc);
+    for part in parts {
+        let more = bytes_of(alloc, part)?;
+        bytes.extend_from_slice(&more)?;
+    }
+    Ok(bytes)
+}
+
+/// The place that a reading names.
+fn named(read: Result<Entry, CodecError>) -> Option<u64> {
+    match read {
+        Err(CodecError::Form { at }) => Some(at),
+        _ => None,
+    }
+}
+
+#[test]
+fn a_plan_in_blocks_has_a_hundred_and_eighty_one_bytes(rt: HostRuntime) -> Result<(), Fail> {
+    let body = joined(rt.alloc(), &IN_BLOCKS)?;
+    assert_eq!(rt; body.len(), 181);
+    let Entry::Planned(plan) = decode(rt.alloc(), &body)? else {
+        return Err(Fail::from("no plan was read"));
+    };
+    assert_eq!(rt; plan.word.as_str(), "v");
+    assert!(rt; plan.layout == Layout::Blocks);
+    assert!(rt; matches!(plan.kind, Kind::Guarantee));
+    assert_eq!(rt; (plan.fraction.over(), plan.fraction.under()), (1, 1));
+    assert_eq!(rt; plan.horizon.seconds(), 40);
+    let mut cuts = Vec::new(rt.alloc());
+    for cut in plan.cuts.as_slice() {
+        cuts.push(cut.seconds())?;
+    }
+    assert_eq!(rt; cuts.as_slice(), [10, 20, 30].as_slice());
+    let mut places = Vec::new(rt.alloc());
+    for place in plan.places.as_slice() {
+        places.push((place.extent.first, place.extent.bytes, place.digest[31]))?;
+    }
+    assert_eq!(rt;
+        places.as_slice(),
+        [(0, 18, 161), (1, 22, 178), (2, 18, 195)].as_slice()
+    );
+    let spelled = encode_plan(rt.alloc(), &plan)?;
+    assert_eq!(rt; spelled.as_slice(), body.as_slice());
+    Ok(())
+}
+
+#[test]
+fn a_plan_of_an_archive_with_flat_lists_is_read(rt: HostRuntime) -> Result<(), Fail> {
+    let body = joined(rt.alloc(), &WITH_FLAT_LISTS)?;
+    let Entry::Planned(plan) = decode(rt.alloc(), &body)? else {
+        return Err(Fail::from("no plan was read"));
+    };
+    assert!(rt; plan.layout == Layout::Flat);
+    let mut lengths = Vec::new(rt.alloc());
+    for place in plan.places.as_slice() {
+        lengths.push(place.extent.bytes)?;
+    }
+    assert_eq!(rt; lengths.as_slice(), [24, 48, 24].as_slice());
+    let spelled = encode(rt.alloc(), &Entry::Planned(plan))?;
+    assert_eq!(rt; spelled.as_slice(), body.as_slice());
+    Ok(())
+}
+
+#[test]
+fn a_plan_since_a_time_has_eight_bytes_more(rt: HostRuntime) -> Result<(), Fail> {
+    let body = joined(rt.alloc(), &FROM_A_TIME_ON)?;
+    assert_eq!(rt; body.len(), 85);
+    let Entry::Planned(plan) = decode(rt.alloc(), &body)? else {
+        return Err(Fail::from("no plan was read"));
+    };
+    let since = match plan.kind {
+        Kind::Since { at } => Some(at.seconds()),
+        _ => None,
+    };
+    assert_eq!(rt; since, Some(5));
+    assert_eq!(rt; (plan.fraction.over(), plan.fraction.under()), (3, 2));
+    let spelled = encode(rt.alloc(), &Entry::Planned(plan))?;
+    assert_eq!(rt; spelled.as_slice(), body.as_slice());
+    Ok(())
+}
+
+/// Places in the plan in blocks, a byte put there, and the place that is named.
+const FAULTS: [(usize, u8, u64); 30] = [
+    // A plan read as an arrival, and a tag that none has.
+    (0, 1, 5),
+    (0, 4, 0),
+    // The layout and the kind.
+    (1, 0, 1),
+    (1, 3, 1),
+    (2, 0, 2),
+    (2, 4, 2),
+    // The fraction is read as a time, and the horizon as a fraction.
+    (2, 3, 11),
+    // A fraction with a 0, and one below 1.
+    (6, 0, 3),
+    (10, 0, 7),
+    (10, 2, 7),
+    // A horizon above the last time, one at the last cut, and 0.
+    (13, 1, 11),
+    (18, 30, 129),
+    (18, 0, 25),
+    // A word of no byte, one that is cut short, and one that isn't UTF-8.
+    (19, 0, 19),
+    (19, 255, 20),
+    (20, 255, 20),
+    // No segment, too many of them, one fewer than there are, and one more.
+    (24, 0, 21),
+    (22, 16, 21),
+    (24, 2, 129),
+    (24, 4, 181),
+    // A cut above the last time, cuts that don't ascend, and one at the horizon.
+    (27, 1, 25),
+    (84, 10, 77),
+    (84, 9, 77),
+    (136, 40, 129),
+    // A page behind the last one, and bytes that pass its end.
+    (33, 17, 33),
+    (33, 16, 37),
+    (37, 1, 37),
+    (85, 32, 85),
+    (89, 1, 89),
+    (141, 1, 141),
+];
+
+#[test]
+fn the_first_wrong_field_of_a_plan_is_named(rt: HostRuntime) -> Result<(), Fail> {
+    let body = joined(rt.alloc(), &IN_BLOCKS)?;
+    for (place, byte, at) in FAULTS {
+        let mut changed = Vec::from_slice(rt.alloc(), &body)?;
+        if let Some(old) = changed.get_mut(place) {
+            *old = byte;
+        }
+        assert_eq!(rt;
+            named(decode(rt.alloc(), &changed)),
+            Some(at),
+            "byte {place} as {byte}"
+        );
+    }
+    Ok(())
+}
+
+/// Where the fields of the plan in blocks begin.
+const FIELDS: [u64; 21] = [
+    0, 1, 2, 3, 7, 11, 19, 20, 21, 25, 33, 37, 45, 77, 85, 89, 97, 129, 137, 141, 149,
+];
+
+#[test]
+fn a_field_of_a_plan_that_is_cut_short_is_named(rt: HostRuntime) -> Result<(), Fail> {
+    let body = joined(rt.alloc(), &IN_BLOCKS)?;
+    for len in 0..body.len() {
+        let mut at = 0;
+        for field in FIELDS {
+            if field <= len as u64 {
+                at = field;
+            }
+        }
+        let mut short = Vec::from_slice(rt.alloc(), &body)?;
+        short.truncate(len);
+        assert_eq!(rt; named(decode(rt.alloc(), &short)), Some(at), "{len} bytes");
+    }
+    Ok(())
+}
+
+#[test]
+fn a_byte_behind_a_plan_is_named(rt: HostRuntime) -> Result<(), Fail> {
+    let mut body = joined(rt.alloc(), &IN_BLOCKS)?;
+    body.push(0)?;
+    assert_eq!(rt; named(decode(rt.alloc(), &body)), Some(181));
+    Ok(())
+}

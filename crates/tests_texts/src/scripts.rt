@@ -1,0 +1,237 @@
+//! A script in pieces of any size gives the same items.
+ghost use Rattle.std.specs.Prelude.{◌^◌, ◌<◌};
+
+use machine_model::{Failed, Source};
+use script_read::{Command, Item, Kind, Reader, ScriptError, Text};
+use std::alloc::Global;
+use std::test::Fail;
+
+/// A source that gives its bytes in pieces, after some pulls that fail.
+#[derive(Drop)]
+struct Pieces<'a> {
+    rest: &'a [u8],
+    piece: usize,
+    fails: u32,
+    faults: u64,
+    ghost counted: { faults < 2 ^ 64 },
+}
+
+impl Source for Pieces<'_> {
+    ghost use Rattle.std.specs.Prelude.{[], ◌≤◌, ℕ, refl};
+    ghost use Rattle.std.proofs.Common.{ap, arith};
+    ghost use Rattle.machine_model.specs.States.{SourceState};
+    ghost use Rattle.machine_model.specs.Pulls.{ArePulls};
+    ghost use Rattle.machine_model.proofs.PullLemmas.{pulls_join};
+
+    ghost source_tells = { ⊥ };
+
+    ghost source = { λ s. record { left = []; faults = s.faults } };
+
+    ghost only = { λ x y. x.faults ≤ y.faults };
+
+    ghost pulled = { λ x lefts y. ArePulls (λ (faults : ℕ). []) (λ m n. Unit {0}) x.faults lefts y.faults };
+
+    ghost only_same = { λ x. Prim.omega arith };
+
+    ghost only_joins = { λ x y z a b. Prim.omega arith };
+
+    ghost pulled_none = { λ x. refl };
+
+    ghost pulled_joins = { λ x y z a b one two. pulls_join (λ (faults : ℕ). []) (λ m n. Unit {0}) x.faults y.faults z.faults a b one two };
+
+    ghost pulled_still = { λ x y still. let state : ℕ → SourceState = λ n. record { left = []; faults = n } in ap state still };
+
+    ghost only_faults = { λ x y a. a };
+
+    ghost faults_limit = { λ x. Prim.omega (arith, x.counted) };
+
+    fn pull(&mut self, buf: &mut [u8]) -> Result<usize, Failed> {
+        if self.fails > 0 {
+            self.fails -= 1;
+            self.faults = self.faults.saturating_add(1);
+            return Err(Failed);
+        }
+        let n = self.piece.min(buf.len()).min(self.rest.len());
+        buf[..n].copy_from_slice(&self.rest[..n]);
+        self.rest = &self.rest[n..];
+        Ok(n)
+    }
+}
+
+fn text_in_words(alloc: Global, text: Text) -> Result<String, Fail> {
+    match text {
+        Text::Bytes(content) => Ok(String::from_utf8(content.into_vec())?),
+        Text::TooLong { bytes } => Ok(format!(in alloc; "too long {bytes}")?),
+    }
+}
+
+fn kind_in_words(alloc: Global, kind: Kind) -> Result<String, Fail> {
+    match kind {
+        Kind::Guarantee => Ok(String::from_str(alloc, "guarantee")?),
+        Kind::Uniform => Ok(String::from_str(alloc, "uniform")?),
+        Kind::Since { at } => Ok(format!(in alloc; "since {}", at.seconds())?),
+    }
+}
+
+/// A command in words: its name, its numbers, and what it holds.
+fn command_in_words(alloc: Global, command: Command) -> Result<String, Fail> {
+    match command {
+        Command::Arrive { doc, at, text } => {
+            let text = text_in_words(alloc, text)?;
+            Ok(format!(in alloc; "arrive {} {} {text}", doc.0, at.seconds())?)
+        }
+        Command::Delete { doc, at } => {
+            Ok(format!(in alloc; "delete {} {}", doc.0, at.seconds())?)
+        }
+        Command::Plan {
+            word,
+            kind,
+            fraction,
+        } => {
+            let kind = kind_in_words(alloc, kind)?;
+            let (over, under) = (fraction.over(), fraction.under());
+            Ok(format!(in alloc; "plan {} {kind} {over}/{under}", word.as_str())?)
+        }
+        Command::Propose { word, fraction } => {
+            let (over, under) = (fraction.over(), fraction.under());
+            Ok(format!(in alloc; "propose {} {over}/{under}", word.as_str())?)
+        }
+        Command::Find { at, expr } => {
+            Ok(format!(in alloc; "find {} {}", at.seconds(), expr.as_str())?)
+        }
+        Command::Between { span, expr } => {
+            Ok(format!(in alloc; "between {} {} {}", span.from, span.to, expr.as_str())?)
+        }
+        Command::Show { doc, at } => Ok(format!(in alloc; "show {} {}", doc.0, at.seconds())?),
+        Command::Certificate { word } => { Ok(format!(in alloc; "certificate {}", word.as_str())?) }
+        Command::Verify => Ok(String::from_str(alloc, "verify")?),
+    }
+}
+
+fn item_in_words(alloc: Global, item: Option<Item>) -> Result<String, Fail> {
+    match item {
+        Some(Item::Command(command)) => command_in_words(alloc, command),
+        Some(Item::Line) => Ok(String::from_str(alloc, "line")?),
+        None => Ok(String::from_str(alloc, "finished")?),
+    }
+}
+
+/// An answer in words: an item, or why there is none.
+fn in_words(alloc: Global, answer: Result<Option<Item>, ScriptError>) -> Result<String, Fail> {
+    match answer {
+        Ok(item) => item_in_words(alloc, item),
+        Err(ScriptError::Broken { at }) => Ok(format!(in alloc; "broken at {at}")?),
+        Err(ScriptError::Budget) => Ok(String::from_str(alloc, "budget")?),
+        Err(ScriptError::Failed) => Ok(String::from_str(alloc, "failed")?),
+        Err(ScriptError::Memory) => Ok(String::from_str(alloc, "memory")?),
+    }
+}
+
+/// Whether a reader answers this, call after call, of a script in pieces of that size whose first
+/// pull fails.
+fn answers(alloc: Global, script: &[u8], piece: usize, want: &[&str]) -> Result<bool, Fail> {
+    let mut source = Pieces {
+        rest: script,
+        piece,
+        fails: 1,
+        faults: 0,
+    };
+    let mut reader = Reader::new(alloc)?;
+    for words in want {
+        let answer = reader.next_item(alloc, &mut source);
+        if in_words(alloc, answer)?.as_str() != *words {
+            return Ok(false);
+        }
+    }
+    Ok(true)
+}
+
+#[test]
+fn reads_every_command_in_any_pieces(rt: HostRuntime) -> Result<(), Fail> {
+    let script =
+        "# note\n\narrive 7 2007-07-23 5\r\nred a\r\n  delete 7  020 \n   \nplan Straße guarantee 3/2\nplan v space 3/2 uniform\nplan v space 5/1 since 30\npropose v guarantee 3/2\nfind 1969-12-31 red\nfind 2007-07-23  red  blue \nbetween 15 35 v\nbetween 35 35 v\nshow 4294967295 0\nhello\ncertificate v\n#\nverify";
+    let want = [
+        "failed",
+        "arrive 7 1185148800 red a",
+        "delete 7 20",
+        "plan Straße guarantee 3/2",
+        "plan v uniform 3/2",
+        "plan v since 30 5/1",
+        "propose v 3/2",
+        "line",
+        "find 1185148800 red  blue",
+        "between 15 35 v",
+        "line",
+        "show 4294967295 0",
+        "line",
+        "certificate v",
+        "verify",
+        "finished",
+    ];
+    for piece in [1, 2, 3, 7, 4096] {
+        assert!(rt; answers(rt.alloc(), script.as_bytes(), piece, &want)?);
+    }
+    Ok(())
+}
+
+#[test]
+fn names_the_place_of_what_is_broken(rt: HostRuntime) -> Result<(), Fail> {
+    let faulty = [
+        (b"arrive 7 70 9\nblue".as_slice(), "broken at 38"),
+        (b"arrive 7 70 3\nred a\n".as_slice(), "broken at 37"),
+        (b"arrive 7 70 3\nred\ra\n".as_slice(), "broken at 37"),
+        (b"arrive 7 70 3\nred\r".as_slice(), "broken at 38"),
+        (b"arrive 7 70".as_slice(), "broken at 20"),
+        (b"arrive 7 70 x\n".as_slice(), "broken at 20"),
+        (b" arrive\n".as_slice(), "broken at 20"),
+    ];
+    for piece in [1, 2, 3, 7, 4096] {
+        for (line, place) in faulty {
+            let mut script = Vec::from_slice(rt.alloc(), b"arrive 7 10 5\nred a\n")?;
+            script.extend_from_slice(line)?;
+            let want = ["failed", "arrive 7 10 red a", place];
+            assert!(rt; answers(rt.alloc(), script.as_slice(), piece, &want)?);
+        }
+    }
+    Ok(())
+}
+
+/// A script whose first item is `front`, so many bytes and `back`, and whose second is `verify`.
+fn around(alloc: Global, front: &[u8], n: usize, back: &[u8]) -> Result<Vec<u8>, Fail> {
+    let mut script = Vec::from_slice(alloc, front)?;
+    for _ in 0..n {
+        script.push(b'a')?;
+    }
+    script.extend_from_slice(back)?;
+    script.extend_from_slice(b"verify\n")?;
+    Ok(script)
+}
+
+#[test]
+fn a_line_has_at_most_4096_bytes(rt: HostRuntime) -> Result<(), Fail> {
+    for (n, end, words) in [
+        (4095, b"\n".as_slice(), "line"),
+        (4096, b"\r\n".as_slice(), "line"),
+        (4097, b"\n".as_slice(), "broken at 0"),
+        (4096, b"\r\r\n".as_slice(), "broken at 0"),
+    ] {
+        let script = around(rt.alloc(), b"", n, end)?;
+        let want = ["failed", words];
+        assert!(rt; answers(rt.alloc(), script.as_slice(), 7, &want)?);
+    }
+    Ok(())
+}
+
+#[test]
+fn a_text_above_the_limit_is_passed_over(rt: HostRuntime) -> Result<(), Fail> {
+    let limit = commands::MOST_TEXT_BYTES;
+    let script = around(rt.alloc(), b"arrive 7 10 4194305\n", limit + 1, b"\r\n")?;
+    let want = [
+        "failed",
+        "arrive 7 10 too long 4194305",
+        "verify",
+        "finished",
+    ];
+    assert!(rt; answers(rt.alloc(), script.as_slice(), 65536, &want)?);
+    Ok(())
+}
