@@ -1,11 +1,11 @@
 -- The laws of the calls of one trait, and what the calls of one leave of the others.
 use Rattle.std.proofs.Common.{◌≡◌, ◌≤◌, ◌∙◌, refl, sym, ap, subst, arith}
 use Rattle.machine_model.specs.Areas.{part}
-use Rattle.machine_model.specs.States.{DiskState}
+use Rattle.machine_model.specs.States.{DiskState, MachineState}
 use Rattle.machine_model.specs.Pushes.{IsSameBeside}
 use Rattle.machine_model.specs.declared.area.Area.{Area}
 use Rattle.machine_model.specs.declared.area.Area.TheVariants.{Journal, Pages}
-use Rattle.machine_files.specs.Telling.{MachineState, OnlySource, OnlySink, OnlyDisk}
+use Rattle.machine_files.specs.Telling.{OnlySource, OnlySink, OnlyDisk}
 
 pub OnlySource-same : (x : MachineState) → OnlySource x x
 OnlySource-same x = record { sink = refl; disk = refl; faults = omega arith }

@@ -1,7 +1,7 @@
 -- What a machine on files means.
-use Rattle.machine_model.specs.States.{SourceState, SinkState, DiskState}
+use Rattle.machine_model.specs.States.{SourceState, SinkState, DiskState, MachineState}
 use Rattle.machine_files.specs.Stores.{lengths}
-use Rattle.machine_files.specs.Telling.{MachineState, source_from, sink_from, disk_from}
+use Rattle.machine_files.specs.Telling.{source_from, sink_from, disk_from}
 use Rattle.machine_files.specs.declared.machine.FileMachine.{FileMachine}
 
 abbrev pub source_state : {F I O : Type 0} → FileMachine F I O → SourceState

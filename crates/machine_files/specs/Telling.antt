@@ -1,14 +1,8 @@
 -- What a machine tells that tells no content: its lengths, and how often the calls of each trait failed.
 use Rattle.std.specs.Prelude.{◌≡◌, ℕ, ◌≤◌, []}
 use Rattle.machine_model.specs.Areas.{Both}
-use Rattle.machine_model.specs.States.{SourceState, SinkState, DiskState}
+use Rattle.machine_model.specs.States.{SourceState, SinkState, DiskState, MachineState}
 use Rattle.machine_model.specs.Pulls.{Pull}
-
--- the three meanings
-pub record MachineState : Type 0 where
-  pub source : SourceState
-  pub sink : SinkState
-  pub disk : DiskState
 
 -- a pull of a machine in this state
 abbrev pub IsBefore : MachineState → Pull → Type 0

@@ -9,7 +9,7 @@ use Rattle.machine_model.specs.declared.area.Area.{Area}
 use Rattle.machine_model.specs.declared.area.Area.TheVariants.{Journal, Pages}
 use Rattle.machine_model.specs.declared.range.Range.{Range}
 use Rattle.machine_model.proofs.MomentLemmas.{goes_on_reads, since_now}
-use Rattle.machine_mem.specs.Machines.{MachineState, OnlyDisk, wrote, synced, passed}
+use Rattle.machine_mem.specs.Machines.{MemoryState, OnlyDisk, wrote, synced, passed}
 use Rattle.machine_mem.proofs.GrowthLemmas.{Grows, grown, left_since}
 
 -- the state before a call is remembered
@@ -128,7 +128,7 @@ Syncs-starved old new same =
     }
 
 -- no length, count or moment fell
-pub OnlyDisk-recorded : (x y : MachineState) → y.source ≡ x.source → y.sink ≡ x.sink → x.disk.faults ≤ y.disk.faults
+pub OnlyDisk-recorded : (x y : MemoryState) → y.source ≡ x.source → y.sink ≡ x.sink → x.disk.faults ≤ y.disk.faults
     → ((area : Area) → part x.disk.reach area ≤ part y.disk.reach area) → y.disk.bytes_read ≡ x.disk.bytes_read → y.disk.now.beside ≡ x.disk.now.beside
     → y.disk.past ≡ x.disk.past ++ x.disk.now ∷ [] → OnlyDisk x y
 OnlyDisk-recorded x y source sink faults reach read beside past = record {
@@ -141,7 +141,7 @@ OnlyDisk-recorded x y source sink faults reach read beside past = record {
   goes_on = goes_on_by_now x.disk y.disk past;
 }
 
-pub OnlyDisk-reads : (x y : MachineState) → y.source ≡ x.source → y.sink ≡ x.sink → x.disk.faults ≤ y.disk.faults → OnlyReads x.disk y.disk
+pub OnlyDisk-reads : (x y : MemoryState) → y.source ≡ x.source → y.sink ≡ x.sink → x.disk.faults ≤ y.disk.faults → OnlyReads x.disk y.disk
     → ((area : Area) → part x.disk.bytes_read area ≤ part y.disk.bytes_read area) → OnlyDisk x y
 OnlyDisk-reads x y source sink faults same read = record {
   source = source;
@@ -153,7 +153,7 @@ OnlyDisk-reads x y source sink faults same read = record {
   goes_on = goes_on_reads x.disk y.disk same;
 }
 
-pub OnlyDisk-fails : (x y : MachineState) → y.source ≡ x.source → y.sink ≡ x.sink → x.disk.faults ≤ y.disk.faults → OnlyFails x.disk y.disk → OnlyDisk x y
+pub OnlyDisk-fails : (x y : MemoryState) → y.source ≡ x.source → y.sink ≡ x.sink → x.disk.faults ≤ y.disk.faults → OnlyFails x.disk y.disk → OnlyDisk x y
 OnlyDisk-fails x y source sink faults same =
     OnlyDisk-reads x y source sink faults (OnlyReads-fails x.disk y.disk same) (λ area. let e = ap (λ d. part d.bytes_read area) same in omega arith)
 
@@ -163,7 +163,7 @@ pub allowed_by_area : (m : Moment) (image : Bytes) → IsAllowed m.stable.journa
 allowed_by_area m image journal pages = elim [ Journal ↦ journal | Pages ↦ pages ]
 
 -- a machine whose disk failed so often
-abbrev pub with_faults : ℕ → MachineState → MachineState
+abbrev pub with_faults : ℕ → MemoryState → MemoryState
 with_faults n x = record x { disk = record x.disk { faults = n } }
 
 grows_reach : (area : Area) (n : ℕ) (reach : Both ℕ) → (other : Area) → part reach other ≤ part (replaced reach area (max (part reach area) n)) other
@@ -171,59 +171,59 @@ grows_reach Journal n reach = elim [ Journal ↦ omega arith | Pages ↦ omega a
 grows_reach Pages n reach = elim [ Journal ↦ omega arith | Pages ↦ omega arith ]
 
 -- each call's outcome: the state after it is one of these, with some count of faults
-pub OnlyDisk-wrote : (x y : MachineState) (area : Area) (at : ℕ) (bytes : List ℕ) (kept n : ℕ) → y ≡ wrote area at bytes kept x → y.disk.faults ≤ n
+pub OnlyDisk-wrote : (x y : MemoryState) (area : Area) (at : ℕ) (bytes : List ℕ) (kept n : ℕ) → y ≡ wrote area at bytes kept x → y.disk.faults ≤ n
     → OnlyDisk x (with_faults n y)
 OnlyDisk-wrote x y area at bytes kept n is risen =
-    let P : MachineState → Type 0 = λ z. OnlyDisk x (with_faults n z) in
+    let P : MemoryState → Type 0 = λ z. OnlyDisk x (with_faults n z) in
     let same = ap (λ z. z.disk.faults) is in
     let later : x.disk.faults ≤ n = omega arith in
     let z = with_faults n (wrote area at bytes kept x) in
     subst P (sym is) (OnlyDisk-recorded x z refl refl later (grows_reach area (at + kept) x.disk.reach) refl refl refl)
 
-pub Writes-wrote : (x y : MachineState) (area : Area) (at : ℕ) (bytes : List ℕ) (kept n : ℕ) → y ≡ wrote area at bytes kept x
+pub Writes-wrote : (x y : MemoryState) (area : Area) (at : ℕ) (bytes : List ℕ) (kept n : ℕ) → y ≡ wrote area at bytes kept x
     → Writes area at (length bytes) x.disk (with_faults n y).disk
 Writes-wrote x y area at bytes kept n is =
-    let P : MachineState → Type 0 = λ z. Writes area at (length bytes) x.disk (with_faults n z).disk in
+    let P : MemoryState → Type 0 = λ z. Writes area at (length bytes) x.disk (with_faults n z).disk in
     let z = with_faults n (wrote area at bytes kept x) in
     subst P (sym is) (Writes-recorded area at (length bytes) x.disk z.disk refl refl)
 
-pub OnlyDisk-stayed : (x y : MachineState) (n : ℕ) → y ≡ x → y.disk.faults ≤ n → OnlyDisk x (with_faults n y)
+pub OnlyDisk-stayed : (x y : MemoryState) (n : ℕ) → y ≡ x → y.disk.faults ≤ n → OnlyDisk x (with_faults n y)
 OnlyDisk-stayed x y n is risen =
-    let P : MachineState → Type 0 = λ z. OnlyDisk x (with_faults n z) in
+    let P : MemoryState → Type 0 = λ z. OnlyDisk x (with_faults n z) in
     let same = ap (λ z. z.disk.faults) is in
     let later : x.disk.faults ≤ n = omega arith in
     subst P (sym is) (OnlyDisk-fails x (with_faults n x) refl refl later refl)
 
-pub Writes-stayed : (x y : MachineState) (area : Area) (at count n : ℕ) → y ≡ x → Writes area at count x.disk (with_faults n y).disk
+pub Writes-stayed : (x y : MemoryState) (area : Area) (at count n : ℕ) → y ≡ x → Writes area at count x.disk (with_faults n y).disk
 Writes-stayed x y area at count n is =
-    let P : MachineState → Type 0 = λ z. Writes area at count x.disk (with_faults n z).disk in
+    let P : MemoryState → Type 0 = λ z. Writes area at count x.disk (with_faults n z).disk in
     subst P (sym is) (Writes-starved area at count x.disk (with_faults n x).disk refl)
 
-pub OnlyDisk-synced : (x y : MachineState) (n : ℕ) → y ≡ synced x → y.disk.faults ≤ n → OnlyDisk x (with_faults n y)
+pub OnlyDisk-synced : (x y : MemoryState) (n : ℕ) → y ≡ synced x → y.disk.faults ≤ n → OnlyDisk x (with_faults n y)
 OnlyDisk-synced x y n is risen =
-    let P : MachineState → Type 0 = λ z. OnlyDisk x (with_faults n z) in
+    let P : MemoryState → Type 0 = λ z. OnlyDisk x (with_faults n z) in
     let same = ap (λ z. z.disk.faults) is in
     let later : x.disk.faults ≤ n = omega arith in
     subst P (sym is) (OnlyDisk-recorded x (with_faults n (synced x)) refl refl later (λ area. omega arith) refl refl refl)
 
-pub Syncs-synced : (x y : MachineState) (n : ℕ) → y ≡ synced x → MayLeave x.disk.now x.disk.holds → Syncs x.disk (with_faults n y).disk
+pub Syncs-synced : (x y : MemoryState) (n : ℕ) → y ≡ synced x → MayLeave x.disk.now x.disk.holds → Syncs x.disk (with_faults n y).disk
 Syncs-synced x y n is may =
-    let P : MachineState → Type 0 = λ z. Syncs x.disk (with_faults n z).disk in
+    let P : MemoryState → Type 0 = λ z. Syncs x.disk (with_faults n z).disk in
     subst P (sym is) (Syncs-durable x.disk (with_faults n (synced x)).disk refl refl may refl)
 
-pub OnlyDisk-passed : (x y : MachineState) (n : ℕ) → y ≡ passed x → y.disk.faults ≤ n → OnlyDisk x (with_faults n y)
+pub OnlyDisk-passed : (x y : MemoryState) (n : ℕ) → y ≡ passed x → y.disk.faults ≤ n → OnlyDisk x (with_faults n y)
 OnlyDisk-passed x y n is risen =
-    let P : MachineState → Type 0 = λ z. OnlyDisk x (with_faults n z) in
+    let P : MemoryState → Type 0 = λ z. OnlyDisk x (with_faults n z) in
     let same = ap (λ z. z.disk.faults) is in
     let later : x.disk.faults ≤ n = omega arith in
     subst P (sym is) (OnlyDisk-recorded x (with_faults n (passed x)) refl refl later (λ area. omega arith) refl refl refl)
 
-pub Syncs-passed : (x y : MachineState) (n : ℕ) → y ≡ passed x → Syncs x.disk (with_faults n y).disk
+pub Syncs-passed : (x y : MemoryState) (n : ℕ) → y ≡ passed x → Syncs x.disk (with_faults n y).disk
 Syncs-passed x y n is =
-    let P : MachineState → Type 0 = λ z. Syncs x.disk (with_faults n z).disk in
+    let P : MemoryState → Type 0 = λ z. Syncs x.disk (with_faults n z).disk in
     subst P (sym is) (Syncs-failed x.disk (with_faults n (passed x)).disk refl refl refl)
 
-pub Syncs-stayed : (x y : MachineState) (n : ℕ) → y ≡ x → Syncs x.disk (with_faults n y).disk
+pub Syncs-stayed : (x y : MemoryState) (n : ℕ) → y ≡ x → Syncs x.disk (with_faults n y).disk
 Syncs-stayed x y n is =
-    let P : MachineState → Type 0 = λ z. Syncs x.disk (with_faults n z).disk in
+    let P : MemoryState → Type 0 = λ z. Syncs x.disk (with_faults n z).disk in
     subst P (sym is) (Syncs-starved x.disk (with_faults n x).disk refl)

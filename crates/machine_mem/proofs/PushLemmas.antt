@@ -7,7 +7,7 @@ use Rattle.machine_model.specs.Pushes.{IsPrefix, IsSameBeside, OnlyShows, IsShow
 use Rattle.machine_model.specs.declared.area.Failed.{Failed}
 use Rattle.machine_model.proofs.MomentLemmas.{goes_on_same, since_now}
 use Rattle.machine_mem.specs.Moments.{along}
-use Rattle.machine_mem.specs.Machines.{MachineState, OnlySink, Pushed, showed, passed}
+use Rattle.machine_mem.specs.Machines.{MemoryState, OnlySink, Pushed, showed, passed}
 use Rattle.machine_mem.proofs.GrowthLemmas.{Grows, grown, left_since, since_left, left_along, leaves_along}
 
 -- a push of a part of a piece, recorded
@@ -76,7 +76,7 @@ OnlyShows-by_piece before piece count old new by = record {
 }
 
 -- one push of a piece, as the sink's law and the machine's ask
-pub OnlySink-pushed : (x y : MachineState) (piece : List ℕ) (answer : Result ℕ Failed) → Pushed x piece answer y
+pub OnlySink-pushed : (x y : MemoryState) (piece : List ℕ) (answer : Result ℕ Failed) → Pushed x piece answer y
     → y.source ≡ x.source → IsSameBeside x.disk y.disk → x.sink.faults ≤ y.sink.faults → OnlySink x y
 OnlySink-pushed x y piece answer by source beside faults =
     let P : List ℕ → Type 0 = λ shown. OnlyShows x.disk y.disk x.sink.shown shown in
@@ -88,15 +88,15 @@ OnlySink-pushed x y piece answer by source beside faults =
     }
 
 -- a machine whose sink failed so often
-abbrev pub with_sink_faults : ℕ → MachineState → MachineState
+abbrev pub with_sink_faults : ℕ → MemoryState → MemoryState
 with_sink_faults n x = record x { sink = record x.sink { faults = n } }
 
 -- each push's outcome: the state after it is one of these, with some count of faults
-pub Pushed-showed : (x y : MachineState) (piece : List ℕ) (n : ℕ) → y ≡ showed piece x → x.disk.now.beside ≡ x.sink.shown
+pub Pushed-showed : (x y : MemoryState) (piece : List ℕ) (n : ℕ) → y ≡ showed piece x → x.disk.now.beside ≡ x.sink.shown
     → Pushed x piece (Ok (length piece)) (with_sink_faults n y)
 Pushed-showed x y piece n is beside =
     let all : take (length piece) piece ≡ piece = take_all (length piece) piece (omega arith) in
-    let P : MachineState → Type 0 = λ z. Pushed x piece (Ok (length piece)) (with_sink_faults n z) in
+    let P : MemoryState → Type 0 = λ z. Pushed x piece (Ok (length piece)) (with_sink_faults n z) in
     let Q : List ℕ → Type 0 = λ before. IsShownByPiece before piece (length piece) x.disk (showed piece x).disk in
     subst P (sym is) (record {
       shown = ap (λ (l : List ℕ). x.sink.shown ++ l) (sym all);
@@ -107,10 +107,10 @@ Pushed-showed x y piece n is beside =
       }));
     })
 
-pub Pushed-passed : (x y : MachineState) (piece : List ℕ) (failed : Failed) (n : ℕ) → y ≡ passed x → x.disk.now.beside ≡ x.sink.shown
+pub Pushed-passed : (x y : MemoryState) (piece : List ℕ) (failed : Failed) (n : ℕ) → y ≡ passed x → x.disk.now.beside ≡ x.sink.shown
     → Pushed x piece (Err failed) (with_sink_faults n y)
 Pushed-passed x y piece failed n is beside =
-    let P : MachineState → Type 0 = λ z. Pushed x piece (Err failed) (with_sink_faults n z) in
+    let P : MemoryState → Type 0 = λ z. Pushed x piece (Err failed) (with_sink_faults n z) in
     let Q : List ℕ → Type 0 = λ before. IsShownByPiece before piece 0 x.disk (passed x).disk in
     subst P (sym is) (record {
       shown = sym (append-nil x.sink.shown);
@@ -121,36 +121,36 @@ Pushed-passed x y piece failed n is beside =
       }));
     })
 
-pub Pushed-stayed : (x y : MachineState) (piece : List ℕ) (failed : Failed) (n : ℕ) → y ≡ x → x.disk.now.beside ≡ x.sink.shown
+pub Pushed-stayed : (x y : MemoryState) (piece : List ℕ) (failed : Failed) (n : ℕ) → y ≡ x → x.disk.now.beside ≡ x.sink.shown
     → Pushed x piece (Err failed) (with_sink_faults n y)
 Pushed-stayed x y piece failed n is beside =
-    let P : MachineState → Type 0 = λ z. Pushed x piece (Err failed) (with_sink_faults n z) in
+    let P : MemoryState → Type 0 = λ z. Pushed x piece (Err failed) (with_sink_faults n z) in
     let Q : List ℕ → Type 0 = λ before. IsShownByPiece before piece 0 x.disk x.disk in
     subst P (sym is) (record {
       shown = sym (append-nil x.sink.shown);
       moments = subst Q beside (IsShownByPiece-starved piece x.disk);
     })
 
-pub OnlySink-showed : (x y : MachineState) (piece : List ℕ) (n : ℕ) → y ≡ showed piece x → x.disk.now.beside ≡ x.sink.shown
+pub OnlySink-showed : (x y : MemoryState) (piece : List ℕ) (n : ℕ) → y ≡ showed piece x → x.disk.now.beside ≡ x.sink.shown
     → y.sink.faults ≤ n → OnlySink x (with_sink_faults n y)
 OnlySink-showed x y piece n is beside risen =
     let same = ap (λ z. z.sink.faults) is in
     OnlySink-pushed x (with_sink_faults n y) piece (Ok (length piece)) (Pushed-showed x y piece n is beside) (ap (λ z. z.source) is)
-    (let P : MachineState → Type 0 = λ z. IsSameBeside x.disk z.disk in subst P (sym is) (record { same = refl; stable = refl; pending = refl }))
+    (let P : MemoryState → Type 0 = λ z. IsSameBeside x.disk z.disk in subst P (sym is) (record { same = refl; stable = refl; pending = refl }))
     (omega arith)
 
-pub OnlySink-passed : (x y : MachineState) (n : ℕ) → y ≡ passed x → x.disk.now.beside ≡ x.sink.shown → y.sink.faults ≤ n
+pub OnlySink-passed : (x y : MemoryState) (n : ℕ) → y ≡ passed x → x.disk.now.beside ≡ x.sink.shown → y.sink.faults ≤ n
     → OnlySink x (with_sink_faults n y)
 OnlySink-passed x y n is beside risen =
     let same = ap (λ z. z.sink.faults) is in
     OnlySink-pushed x (with_sink_faults n y) [] (Err (record {})) (Pushed-passed x y [] (record {}) n is beside) (ap (λ z. z.source) is)
-    (let P : MachineState → Type 0 = λ z. IsSameBeside x.disk z.disk in subst P (sym is) (record { same = refl; stable = refl; pending = refl }))
+    (let P : MemoryState → Type 0 = λ z. IsSameBeside x.disk z.disk in subst P (sym is) (record { same = refl; stable = refl; pending = refl }))
     (omega arith)
 
-pub OnlySink-stayed : (x y : MachineState) (n : ℕ) → y ≡ x → x.disk.now.beside ≡ x.sink.shown → y.sink.faults ≤ n
+pub OnlySink-stayed : (x y : MemoryState) (n : ℕ) → y ≡ x → x.disk.now.beside ≡ x.sink.shown → y.sink.faults ≤ n
     → OnlySink x (with_sink_faults n y)
 OnlySink-stayed x y n is beside risen =
     let same = ap (λ z. z.sink.faults) is in
     OnlySink-pushed x (with_sink_faults n y) [] (Err (record {})) (Pushed-stayed x y [] (record {}) n is beside) (ap (λ z. z.source) is)
-    (let P : MachineState → Type 0 = λ z. IsSameBeside x.disk z.disk in subst P (sym is) (record { same = refl; stable = refl; pending = refl }))
+    (let P : MemoryState → Type 0 = λ z. IsSameBeside x.disk z.disk in subst P (sym is) (record { same = refl; stable = refl; pending = refl }))
     (omega arith)

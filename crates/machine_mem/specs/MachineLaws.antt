@@ -7,18 +7,18 @@ use Rattle.machine_model.specs.Images.{IsAllowed, MayLeave}
 use Rattle.machine_model.specs.Pushes.{IsPrefix, IsSameBeside, OnlyShows}
 use Rattle.machine_model.specs.declared.range.Range.{Range}
 use Rattle.machine_model.proofs.MomentLemmas.{joined, goes_on_joins, goes_on_same, left_now}
-use Rattle.machine_mem.specs.Machines.{MachineState, OnlySource, OnlySink, OnlyDisk}
+use Rattle.machine_mem.specs.Machines.{MemoryState, OnlySource, OnlySink, OnlyDisk}
 
-pub OnlySource-same : (x : MachineState) → OnlySource x x
+pub OnlySource-same : (x : MemoryState) → OnlySource x x
 OnlySource-same x = record { sink = refl; disk = refl; faults = omega arith }
 
-pub OnlySource-joins : (x y z : MachineState) → OnlySource x y → OnlySource y z → OnlySource x z
+pub OnlySource-joins : (x y z : MemoryState) → OnlySource x y → OnlySource y z → OnlySource x z
 OnlySource-joins x y z one two = record { sink = two.sink ∙ one.sink; disk = two.disk ∙ one.disk; faults = omega (arith, one.faults, two.faults) }
 
-pub OnlyDisk-same : (x : MachineState) → OnlyDisk x x
+pub OnlyDisk-same : (x : MemoryState) → OnlyDisk x x
 OnlyDisk-same x = record { source = refl; sink = refl; faults = omega arith; reach = λ area. omega arith; read = λ area. omega arith; beside = refl; goes_on = goes_on_same x.disk }
 
-pub OnlyDisk-joins : (x y z : MachineState) → OnlyDisk x y → OnlyDisk y z → OnlyDisk x z
+pub OnlyDisk-joins : (x y z : MemoryState) → OnlyDisk x y → OnlyDisk y z → OnlyDisk x z
 OnlyDisk-joins x y z one two = record {
   source = two.source ∙ one.source;
   sink = two.sink ∙ one.sink;
@@ -67,7 +67,7 @@ IsSameBeside-joins a b c one two = record {
   pending = two.pending ∙ one.pending;
 }
 
-pub OnlySink-joins : (x y z : MachineState) → OnlySink x y → OnlySink y z → OnlySink x z
+pub OnlySink-joins : (x y z : MemoryState) → OnlySink x y → OnlySink y z → OnlySink x z
 OnlySink-joins x y z one two = record {
   source = two.source ∙ one.source;
   beside = IsSameBeside-joins x.disk y.disk z.disk one.beside two.beside;
@@ -75,7 +75,7 @@ OnlySink-joins x y z one two = record {
   faults = omega (arith, one.faults, two.faults);
 }
 
-pub OnlySink-same : (x : MachineState) → x.disk.now.beside ≡ x.sink.shown → OnlySink x x
+pub OnlySink-same : (x : MemoryState) → x.disk.now.beside ≡ x.sink.shown → OnlySink x x
 OnlySink-same x is = record {
   source = refl;
   beside = record { same = refl; stable = refl; pending = refl };

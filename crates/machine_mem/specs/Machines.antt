@@ -11,7 +11,7 @@ use Rattle.machine_model.specs.declared.area.Area.{Area}
 use Rattle.machine_model.specs.declared.area.Failed.{Failed}
 
 -- the meanings of the three traits, the bytes of both areas as last written, by failed writes too, and the most bytes that one pull gives
-pub record MachineState : Type 0 where
+pub record MemoryState : Type 0 where
   pub source : SourceState
   pub sink : SinkState
   pub disk : DiskState
@@ -19,24 +19,24 @@ pub record MachineState : Type 0 where
   pub pull_limit : ℕ
 
 -- a pull of a machine in this state
-abbrev pub IsBefore : MachineState → Pull → Type 0
+abbrev pub IsBefore : MemoryState → Pull → Type 0
 IsBefore x pull = (x.source.left ≡ pull.left) × (x.sink.shown ≡ pull.shown)
 
 -- the calls of the source alone
-pub record OnlySource (x y : MachineState) : Type 0 where
+pub record OnlySource (x y : MemoryState) : Type 0 where
   pub sink : y.sink ≡ x.sink
   pub disk : y.disk ≡ x.disk
   pub faults : x.source.faults ≤ y.source.faults
 
 -- the calls of the sink alone
-pub record OnlySink (x y : MachineState) : Type 0 where
+pub record OnlySink (x y : MemoryState) : Type 0 where
   pub source : y.source ≡ x.source
   pub beside : IsSameBeside x.disk y.disk
   pub shows : OnlyShows x.disk y.disk x.sink.shown y.sink.shown
   pub faults : x.sink.faults ≤ y.sink.faults
 
 -- the calls of the disk alone
-pub record OnlyDisk (x y : MachineState) : Type 0 where
+pub record OnlyDisk (x y : MemoryState) : Type 0 where
   pub source : y.source ≡ x.source
   pub sink : y.sink ≡ x.sink
   pub faults : x.disk.faults ≤ y.disk.faults
@@ -46,20 +46,20 @@ pub record OnlyDisk (x y : MachineState) : Type 0 where
   pub goes_on : GoesOn x.disk y.disk
 
 -- one push
-pub record Pushed (x : MachineState) (piece : List ℕ) (answer : Result ℕ Failed) (y : MachineState) : Type 0 where
+pub record Pushed (x : MemoryState) (piece : List ℕ) (answer : Result ℕ Failed) (y : MemoryState) : Type 0 where
   pub shown : y.sink.shown ≡ x.sink.shown ++ take (taken answer) piece
   pub moments : IsShownByPiece x.sink.shown piece (taken answer) x.disk y.disk
 
 -- a machine after so many bytes were pulled
-abbrev pub pulled : ℕ → MachineState → MachineState
+abbrev pub pulled : ℕ → MemoryState → MemoryState
 pulled n x = record x { source = record x.source { left = drop n x.source.left } }
 
 -- a machine after so many bytes of an area were read
-abbrev pub did_read : Area → ℕ → MachineState → MachineState
+abbrev pub did_read : Area → ℕ → MemoryState → MemoryState
 did_read area n x = record x { disk = record x.disk { bytes_read = replaced x.disk.bytes_read area (part x.disk.bytes_read area + n) } }
 
 -- a machine after a write of which so many bytes came through
-abbrev pub wrote : Area → ℕ → List ℕ → ℕ → MachineState → MachineState
+abbrev pub wrote : Area → ℕ → List ℕ → ℕ → MemoryState → MemoryState
 wrote area at bytes kept x = record x {
   disk = record x.disk {
     reach = replaced x.disk.reach area (max (part x.disk.reach area) (at + kept));
@@ -71,7 +71,7 @@ wrote area at bytes kept x = record x {
 }
 
 -- a machine after a good sync
-abbrev pub synced : MachineState → MachineState
+abbrev pub synced : MemoryState → MemoryState
 synced x = record x {
   disk = record x.disk {
     past = x.disk.past ++ x.disk.now ∷ [];
@@ -81,7 +81,7 @@ synced x = record x {
 }
 
 -- a machine after a piece was shown
-abbrev pub showed : List ℕ → MachineState → MachineState
+abbrev pub showed : List ℕ → MemoryState → MemoryState
 showed piece x = record x {
   sink = record x.sink { shown = x.sink.shown ++ piece };
   disk = record x.disk {
@@ -91,7 +91,7 @@ showed piece x = record x {
 }
 
 -- a machine after a call that failed and may have changed nothing
-abbrev pub passed : MachineState → MachineState
+abbrev pub passed : MemoryState → MemoryState
 passed x = record x { disk = record x.disk { past = x.disk.past ++ x.disk.now ∷ [] } }
 
 -- a count after one more; it stays at its last value
@@ -99,11 +99,11 @@ abbrev pub risen : ℕ → ℕ
 risen n = min (n + 1) (2 ^ 64 - 1)
 
 -- a machine after a call of one trait failed once more
-abbrev pub failed_source : MachineState → MachineState
+abbrev pub failed_source : MemoryState → MemoryState
 failed_source x = record x { source = record x.source { faults = risen x.source.faults } }
 
-abbrev pub failed_sink : MachineState → MachineState
+abbrev pub failed_sink : MemoryState → MemoryState
 failed_sink x = record x { sink = record x.sink { faults = risen x.sink.faults } }
 
-abbrev pub failed_disk : MachineState → MachineState
+abbrev pub failed_disk : MemoryState → MemoryState
 failed_disk x = record x { disk = record x.disk { faults = risen x.disk.faults } }

@@ -3,7 +3,7 @@ use Rattle.std.specs.Prelude.{ℕ, List, length, sum}
 use Rattle.machine_model.specs.Areas.{Both}
 use Rattle.machine_model.specs.States.{SourceState, SinkState, Moment, DiskState}
 use Rattle.machine_mem.specs.Inputs.{bytes_left}
-use Rattle.machine_mem.specs.Machines.{MachineState}
+use Rattle.machine_mem.specs.Machines.{MemoryState}
 use Rattle.machine_mem.specs.Snapshots.{Snapshot}
 use Rattle.machine_mem.specs.Differences.{Holding, holding_of, first_of, snapshot_at, moments_of}
 use Rattle.machine_mem.specs.declared.machine.MemMachine.{MemMachine}
@@ -38,5 +38,5 @@ disk_state x = disk_from (moments_of (first_of x.history.first) x.history.differ
     (record { journal = sum x.read_journal.parts.items; pages = sum x.read_pages.parts.items })
 
 -- all of these, with the bytes as last written and the limit of a pull
-abbrev pub meaning : MemMachine → MachineState
+abbrev pub meaning : MemMachine → MemoryState
 meaning x = record { source = source_state x; sink = sink_state x; disk = disk_state x; last = (snapshot_of x).last; pull_limit = x.input.limit }

@@ -5,7 +5,7 @@ use Rattle.machine_mem.specs.declared.faults.CallKind.{CallKind}
 use Rattle.machine_mem.specs.declared.faults.Script.{Script}
 use Rattle.machine_mem.specs.declared.machine.MemMachine.{MemMachine}
 use Rattle.machine_mem.specs.Faults.{next_of, counts_with, IsNamed}
-use Rattle.machine_mem.specs.Machines.{MachineState}
+use Rattle.machine_mem.specs.Machines.{MemoryState}
 use Rattle.machine_mem.specs.Meaning.{meaning, after_calls}
 
 -- the faults of a machine, and how many calls of each kind there were
@@ -25,12 +25,12 @@ abbrev pub called : CallKind → Script → Script
 called kind script = record script { counts = counts_with script.counts kind (next_of script.counts kind) }
 
 -- a call found memory: the machine is what this makes of it
-pub record Serves (after : MachineState → MachineState) (x y : MemMachine) : Type 0 where
+pub record Serves (after : MemoryState → MemoryState) (x y : MemMachine) : Type 0 where
   pub state : meaning y ≡ after (meaning x)
   pub starved : starved_of y ≡ starved_of x
 
 -- a call found no memory: the machine is what this makes of it
-pub record Starves (after : MachineState → MachineState) (x y : MemMachine) : Type 0 where
+pub record Starves (after : MemoryState → MemoryState) (x y : MemMachine) : Type 0 where
   pub state : meaning y ≡ after (meaning x)
   pub starved : Rose (starved_of x) (starved_of y)
 

@@ -1,4 +1,4 @@
--- What a source, a sink and a disk have, as plain records.
+-- What a source, a sink and a disk have, and a machine of all three, as plain records.
 use Rattle.std.specs.Prelude.{List, ℕ, length}
 use Rattle.machine_model.specs.Areas.{Both, Bytes}
 use Rattle.machine_model.specs.declared.range.Range.{Range}
@@ -27,6 +27,16 @@ pub record DiskState : Type 0 where
   pub bytes_read : Both ℕ
   pub past : List Moment
   pub now : Moment
+
+-- a machine: its source, its sink and its disk
+pub record MachineState : Type 0 where
+  pub source : SourceState
+  pub sink : SinkState
+  pub disk : DiskState
+
+-- the state of a machine of any type, by the meanings of its three traits
+abbrev pub state_by : {M : Type 0} → (M → SourceState) → (M → SinkState) → (M → DiskState) → M → MachineState
+state_by source sink disk m = record { source = source m; sink = sink m; disk = disk m }
 
 -- the number of the moment now
 abbrev pub moment : DiskState → ℕ

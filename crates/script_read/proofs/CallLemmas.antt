@@ -7,12 +7,12 @@ use Rattle.script_read.specs.declared.first.First.TheVariants.{Whole, Broken, Mo
 use Rattle.script_read.specs.declared.error.ScriptError.{ScriptError}
 use Rattle.script_read.specs.declared.error.ScriptError.TheVariants as errors
 use Rattle.script_read.specs.Items.{first, Items, Waits}
-use Rattle.script_read.specs.Reading.{Held, StandsFor, StandsBy, gone, taken, found, given, Finds, Says, IsCalm, IsAwaited, IsPullError}
+use Rattle.script_read.specs.Reading.{ReaderState, StandsFor, StandsBy, gone, taken, found, given, Finds, Says, IsCalm, IsAwaited, IsPullError}
 use Rattle.script_read.proofs.Joins.{items-join, items-append}
-use Rattle.script_read.proofs.HeldLemmas.{found-is, length-since, stands-more, stands-drop}
+use Rattle.script_read.proofs.ReaderLemmas.{found-is, length-since, stands-more, stands-drop}
 
 -- Of the bytes since the last item and those pulled since, these items were taken, with lines that are skipped.
-pub record Goes (Tells : Type 0) (before after : List ℕ) (old new : Held) (since : List ℕ) (items : List Item) : Type 0 where
+pub record Goes (Tells : Type 0) (before after : List ℕ) (old new : ReaderState) (since : List ℕ) (items : List Item) : Type 0 where
   pub pulled : List ℕ
   pub gave : Tells → before ≡ pulled ++ after
   pub rest : List ℕ
@@ -21,7 +21,7 @@ pub record Goes (Tells : Type 0) (before after : List ℕ) (old new : Held) (sin
   pub place : new.passed + length rest ≡ old.passed + length (since ++ pulled)
   pub calm : IsCalm since old pulled new
 
-pub goes-start : (Tells : Type 0) (left : List ℕ) (old : Held) (since : List ℕ) → StandsFor old since → Goes Tells left left old old since []
+pub goes-start : (Tells : Type 0) (left : List ℕ) (old : ReaderState) (since : List ℕ) → StandsFor old since → Goes Tells left left old old since []
 goes-start Tells left old since stands = record {
   pulled = [];
   gave = λ tells. refl;
@@ -33,7 +33,7 @@ goes-start Tells left old since stands = record {
 }
 
 -- what is held is seen in another way, as where a part of a text is let go
-pub goes-front : (Tells : Type 0) (before after : List ℕ) (old new next : Held) (since : List ℕ) (items : List Item) → Goes Tells before after old new since items
+pub goes-front : (Tells : Type 0) (before after : List ℕ) (old new next : ReaderState) (since : List ℕ) (items : List Item) → Goes Tells before after old new since items
     → ((since : List ℕ) → StandsFor new since → StandsFor next since) → next.passed ≡ new.passed → next.ended ≡ new.ended → Goes Tells before after old next since items
 goes-front Tells before after old new next since items g stands passed ended = record {
   pulled = g.pulled;
@@ -46,7 +46,7 @@ goes-front Tells before after old new next since items g stands passed ended = r
 }
 
 -- a piece is taken
-pub goes-piece : (Tells : Type 0) (before after : List ℕ) (old new next : Held) (since : List ℕ) (p : Option Item) (n : ℕ) → Goes Tells before after old new since []
+pub goes-piece : (Tells : Type 0) (before after : List ℕ) (old new next : ReaderState) (since : List ℕ) (p : Option Item) (n : ℕ) → Goes Tells before after old new since []
     → Whole p n ≡ found new → gone new.over < n → n ≤ gone new.over + length new.bytes
     → next ≡ record { bytes = drop (n - gone new.over) new.bytes; passed = new.passed + n; ended = new.ended; over = None }
     → Goes Tells before after old next since (option_to_list p)
@@ -66,7 +66,7 @@ goes-piece Tells before after old new next since p n g whole some within is =
     one (Some i) e = record { pieces = Some i ∷ []; items_are = refl; in_turn = (n, e, refl) }
 
 -- where more is wanted, what was taken before the call has no item in it unless something was pulled
-pub wanted : (Tells : Type 0) (before after : List ℕ) (old new : Held) (since : List ℕ) → Goes Tells before after old new since [] → More ≡ found new
+pub wanted : (Tells : Type 0) (before after : List ℕ) (old new : ReaderState) (since : List ℕ) → Goes Tells before after old new since [] → More ≡ found new
     → ¬ (Waits old.ended since) → ⊥
 wanted Tells before after old new since g more quiet =
     let calm = g.calm quiet in
@@ -76,7 +76,7 @@ wanted Tells before after old new since g more quiet =
     quiet (subst P calm.1 (g.rest, items, open_rest))
 
 -- bytes are pulled
-pub goes-pull : (Tells : Type 0) (before after last : List ℕ) (old new next : Held) (since p : List ℕ) → Goes Tells before after old new since [] → More ≡ found new
+pub goes-pull : (Tells : Type 0) (before after last : List ℕ) (old new next : ReaderState) (since p : List ℕ) → Goes Tells before after old new since [] → More ≡ found new
     → new.ended ≡ false → (Tells → after ≡ p ++ last) → next.bytes ≡ new.bytes ++ p → next.passed ≡ new.passed → next.over ≡ new.over
     → Goes Tells before last old next since []
 goes-pull Tells before after last old new next since p g more going gave bytes passed over = record {
@@ -91,49 +91,49 @@ goes-pull Tells before after last old new next since p g more going gave bytes p
 }
 
 -- and this pull was made where no item was at hand
-pub awaited-one : (Tells : Type 0) (before after : List ℕ) (old new : Held) (since : List ℕ) → Goes Tells before after old new since [] → More ≡ found new → new.ended ≡ false
+pub awaited-one : (Tells : Type 0) (before after : List ℕ) (old new : ReaderState) (since : List ℕ) → Goes Tells before after old new since [] → More ≡ found new → new.ended ≡ false
     → Tells → (left : List ℕ) → left ≡ after → IsAwaited since before left
 awaited-one Tells before after old new since g more going tells left is =
     let P : Bool → Type 0 = λ e. Waits e (since ++ g.pulled) in
     (g.pulled, g.gave tells ∙ ap (λ l. g.pulled ++ l) (sym is), subst P going (g.rest, g.taken_are, found-is new g.rest g.stands ∙ sym more))
 
-pub awaited-more : (Tells : Type 0) (before after : List ℕ) (old new : Held) (since : List ℕ) → Goes Tells before after old new since [] → More ≡ found new → new.ended ≡ false
+pub awaited-more : (Tells : Type 0) (before after : List ℕ) (old new : ReaderState) (since : List ℕ) → Goes Tells before after old new since [] → More ≡ found new → new.ended ≡ false
     → (a b : List (List ℕ)) → (Tells → All (IsAwaited since before) a) → All (λ left. left ≡ after) b → Tells → All (IsAwaited since before) (a ++ b)
 awaited-more Tells before after old new since g more going a b earlier now tells =
     All-append (IsAwaited since before) a b (earlier tells)
     (All-weaker (λ left. left ≡ after) (IsAwaited since before) (λ left is. awaited-one Tells before after old new since g more going tells left is) b now)
 
 -- What the call says in the end.
-abbrev pub Ends : Type 0 → List ℕ → List ℕ → Held → Held → List ℕ → Result (Option Item) ScriptError → Type 0
+abbrev pub Ends : Type 0 → List ℕ → List ℕ → ReaderState → ReaderState → List ℕ → Result (Option Item) ScriptError → Type 0
 Ends Tells before after old new since result = (pulled : List ℕ) × (Tells → before ≡ pulled ++ after) × IsCalm since old pulled new × Says old.passed (since ++ pulled) result new
 
-pub says-of : (Tells : Type 0) (before after : List ℕ) (old new : Held) (since : List ℕ) (r : Result (Option Item) ScriptError)
+pub says-of : (Tells : Type 0) (before after : List ℕ) (old new : ReaderState) (since : List ℕ) (r : Result (Option Item) ScriptError)
     → (g : Goes Tells before after old new since (given r)) → Finds r new.passed (length g.rest) (first new.ended g.rest) → Ends Tells before after old new since r
 says-of Tells before after old new since r g finds =
     (g.pulled, g.gave, g.calm, record { rest = g.rest; items = g.taken_are; stands = g.stands; place = g.place; finds = finds })
 
 -- nothing is there, and no more will come
-pub says-none : (Tells : Type 0) (before after : List ℕ) (old new : Held) (since : List ℕ) → Goes Tells before after old new since [] → End ≡ found new
+pub says-none : (Tells : Type 0) (before after : List ℕ) (old new : ReaderState) (since : List ℕ) → Goes Tells before after old new since [] → End ≡ found new
     → Ends Tells before after old new since (Ok None)
 says-none Tells before after old new since g e = says-of Tells before after old new since (Ok None) g (found-is new g.rest g.stands ∙ sym e)
 
-pub says-broken : (Tells : Type 0) (before after : List ℕ) (old new : Held) (since : List ℕ) (n at : ℕ) → Goes Tells before after old new since [] → Broken n ≡ found new
+pub says-broken : (Tells : Type 0) (before after : List ℕ) (old new : ReaderState) (since : List ℕ) (n at : ℕ) → Goes Tells before after old new since [] → Broken n ≡ found new
     → at ≡ new.passed + n → Ends Tells before after old new since (Err (errors.Broken at))
 says-broken Tells before after old new since n at g e place = says-of Tells before after old new since (Err (errors.Broken at)) g (n, found-is new g.rest g.stands ∙ sym e, place)
 
 -- an item is taken, or a line is skipped
-pub says-piece : (Tells : Type 0) (before after : List ℕ) (old new : Held) (since : List ℕ) (p : Option Item) → is_some p ≡ true
+pub says-piece : (Tells : Type 0) (before after : List ℕ) (old new : ReaderState) (since : List ℕ) (p : Option Item) → is_some p ≡ true
     → Goes Tells before after old new since (option_to_list p) → Ends Tells before after old new since (Ok p)
 says-piece Tells before after old new since (Some i) e g = says-of Tells before after old new since (Ok (Some i)) g tt
 says-piece Tells before after old new since None e g = cc
 
-pub goes-skipped : (Tells : Type 0) (before after : List ℕ) (old new : Held) (since : List ℕ) (p : Option Item) → is_some p ≡ false
+pub goes-skipped : (Tells : Type 0) (before after : List ℕ) (old new : ReaderState) (since : List ℕ) (p : Option Item) → is_some p ≡ false
     → Goes Tells before after old new since (option_to_list p) → Goes Tells before after old new since []
 goes-skipped Tells before after old new since None e g = g
 goes-skipped Tells before after old new since (Some i) e g = cc
 
 -- a pull that failed
-pub says-failed : (Tells : Type 0) (before after : List ℕ) (old new : Held) (since : List ℕ) (r : Result (Unit {0}) ScriptError) (e : ScriptError)
+pub says-failed : (Tells : Type 0) (before after : List ℕ) (old new : ReaderState) (since : List ℕ) (r : Result (Unit {0}) ScriptError) (e : ScriptError)
     → Goes Tells before after old new since [] → More ≡ found new → r ≡ Err e → IfErr r IsPullError
     → (r ≡ Err errors.Failed → taken new < 2 ^ 40) → (r ≡ Err errors.Budget → taken new ≡ 2 ^ 40) → Ends Tells before after old new since (Err e)
 says-failed Tells before after old new since r e g more was why failed spent = go e was

@@ -8,7 +8,7 @@ mod LineLemmas
 mod PassedOver
 mod LongTexts
 pub mod Joins
-mod HeldLemmas
+mod ReaderLemmas
 mod CallLemmas
 pub mod Splitting
 pub mod RunLemmas

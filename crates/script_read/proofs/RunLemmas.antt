@@ -3,7 +3,7 @@ use Rattle.std.specs.Prelude.{◌≡◌, ℕ, ◌+◌, ◌<◌, ◌^◌, Bool, t
 use Rattle.std.proofs.Common.{arith, ap, sym, ◌∙◌, subst, append_assoc, append-nil, length-append}
 use Rattle.commands.specs.declared.command.Item.{Item}
 use Rattle.script_read.specs.Items.{first, Items, IsNoPiece, Splits, Waits}
-use Rattle.script_read.specs.Reading.{Held, fresh, given, Finds, Says, IsCalm, MayFollow, Reads, EndsWith, IsAwaited}
+use Rattle.script_read.specs.Reading.{ReaderState, fresh, given, Finds, Says, IsCalm, MayFollow, Reads, EndsWith, IsAwaited}
 use Rattle.script_read.specs.declared.first.First.TheVariants.{Whole, Broken, More, End}
 use Rattle.script_read.specs.declared.error.ScriptError.{ScriptError}
 use Rattle.script_read.specs.declared.error.ScriptError.TheVariants as errors
@@ -15,7 +15,7 @@ pub reads_start : Reads [] [] [] fresh
 reads_start = record { stands = refl; split = λ ended more ok. record { pieces = []; items_are = refl; in_turn = refl }; before = refl }
 
 -- once the end was told nothing was pulled, and it stays told
-told : (since : List ℕ) (old : Held) (more : List ℕ) (new : Held) → IsCalm since old more new → old.ended ≡ true → (more ≡ []) × (new.ended ≡ true)
+told : (since : List ℕ) (old : ReaderState) (more : List ℕ) (new : ReaderState) → IsCalm since old more new → old.ended ≡ true → (more ≡ []) × (new.ended ≡ true)
 told since old more new calm e =
     let never : Waits old.ended since → ⊥ = λ waits. (let P : Bool → Type 0 = λ b. Waits b since in let there = subst P e waits in never-more there.0 there.2) in
     let still = calm never in (still.0, still.1 ∙ e)
@@ -39,7 +39,7 @@ stay true ended bs x rest items ok are =
     subst P (sym ok.1) (subst Q (sym (append-nil bs)) (subst R (sym (append-nil rest)) (subst E (sym ok.0) are)))
 
 -- After any answer the bytes pulled are the items given out and then those that the reader stands for.
-pub reads_on : (pulled : List ℕ) (items : List Item) (since : List ℕ) (old : Held) (more : List ℕ) (r : Result (Option Item) ScriptError) (new : Held)
+pub reads_on : (pulled : List ℕ) (items : List Item) (since : List ℕ) (old : ReaderState) (more : List ℕ) (r : Result (Option Item) ScriptError) (new : ReaderState)
     → Reads pulled items since old → IsCalm since old more new → (says : Says old.passed (since ++ more) r new) → Reads (pulled ++ more) (items ++ given r) says.rest new
 reads_on pulled items since old more r new run calm says = record {
   stands = says.stands;
@@ -53,7 +53,7 @@ reads_on pulled items since old more r new run calm says = record {
 }
 
 -- the bytes pulled so far are the items given out and then those since
-pub read_so_far : {pulled : List ℕ} {items : List Item} {since : List ℕ} {held : Held} → Reads pulled items since held → Items held.ended pulled items since
+pub read_so_far : {pulled : List ℕ} {items : List Item} {since : List ℕ} {held : ReaderState} → Reads pulled items since held → Items held.ended pulled items since
 read_so_far {pulled} {items} {since} {held} reads =
     let I : List ℕ → List ℕ → Type 0 = λ p s. Items held.ended p items s in
     subst (λ p. I p since) (append-nil pulled) (subst (λ s. I (pulled ++ []) s) (append-nil since) (reads.split held.ended [] (go held.ended)))
@@ -63,7 +63,7 @@ read_so_far {pulled} {items} {since} {held} reads =
     go true = (refl, refl)
 
 -- What the last answer of a run says of all bytes pulled and of the items given out.
-pub reads_end : (pulled : List ℕ) (items : List Item) (rest : List ℕ) (held : Held) (r : Result (Option Item) ScriptError) → Reads pulled items rest held
+pub reads_end : (pulled : List ℕ) (items : List Item) (rest : List ℕ) (held : ReaderState) (r : Result (Option Item) ScriptError) → Reads pulled items rest held
     → Finds r held.passed (length rest) (first held.ended rest) → EndsWith r held.ended pulled items rest
 reads_end pulled items rest held (Ok (Some item)) run finds = tt
 reads_end pulled items rest held (Ok None) run finds =
@@ -81,7 +81,7 @@ reads_end pulled items rest held (Err errors.Failed) run finds = ((read_so_far r
 reads_end pulled items rest held (Err errors.Memory) run finds = read_so_far run
 
 -- where a pull is made, what was pulled by then is the items given out and a rest in which no item is whole
-pub pulled_by_then : (pulled : List ℕ) (items : List Item) (since : List ℕ) (held : Held) (all left : List ℕ) → Reads pulled items since held → IsAwaited since all left → held.ended ≡ false
+pub pulled_by_then : (pulled : List ℕ) (items : List Item) (since : List ℕ) (held : ReaderState) (all left : List ℕ) → Reads pulled items since held → IsAwaited since all left → held.ended ≡ false
     → (given : List ℕ) × (all ≡ given ++ left) × (rest : List ℕ) × Splits false (pulled ++ given) items rest
 pulled_by_then pulled items since held all left run awaited open_end =
     let M : Bool → Type 0 = λ b. MayFollow b false awaited.0 in

@@ -16,14 +16,14 @@ use Rattle.script_read.specs.Items.{first, Items, Splits, IsBrokenAt, Waits, wit
 
 -- The bytes at hand, how many came before the item that they belong to, whether the end of the input was told, and a text above the limit
 -- that is being passed over: its line and the part of it that is gone belong to the item too.
-pub record Held : Type 0 where
+pub record ReaderState : Type 0 where
   pub bytes : List ℕ
   pub passed : ℕ
   pub ended : Bool
   pub over : Option Over
 
 -- A reader that has taken nothing.
-abbrev pub fresh : Held
+abbrev pub fresh : ReaderState
 fresh = record { bytes = []; passed = 0; ended = false; over = None }
 
 -- How many bytes of an item are gone.
@@ -32,7 +32,7 @@ gone None = 0
 gone (Some over) = over.line + over.gone
 
 -- How many bytes a reader has taken.
-abbrev pub taken : Held → ℕ
+abbrev pub taken : ReaderState → ℕ
 taken held = held.passed + gone held.over + length held.bytes
 
 -- These bytes are one line with its LF, which asks for such a text.
@@ -59,7 +59,7 @@ StandsBy None at_hand since = at_hand ≡ since
 StandsBy (Some over) at_hand since = StandsForLong over at_hand since
 
 -- What a reader holds stands for these bytes since the last item.
-abbrev pub StandsFor : Held → List ℕ → Type 0
+abbrev pub StandsFor : ReaderState → List ℕ → Type 0
 StandsFor held since = StandsBy held.over held.bytes since
 
 -- The arrival of a text that is passed over.
@@ -77,7 +77,7 @@ abbrev pub found_by : Bool → Option Over → List ℕ → First
 found_by ended None bytes = first ended bytes
 found_by ended (Some over) bytes = long_piece ended over bytes
 
-abbrev pub found : Held → First
+abbrev pub found : ReaderState → First
 found held = found_by held.ended held.over held.bytes
 
 -- Such a text has a number of bytes that a line may name, of which no more are gone, behind a line within the limit and its end.
@@ -102,7 +102,7 @@ Finds (Err errors.Memory) passed len found = Unit {0}
 
 -- What an answer says of the bytes since the last item, those pulled in the call among them, with so many before them: lines that are
 -- skipped and the item that is given out, if one is, and then the rest, for which the reader stands from now on.
-pub record Says (passed : ℕ) (bytes : List ℕ) (result : Result (Option Item) ScriptError) (new : Held) : Type 0 where
+pub record Says (passed : ℕ) (bytes : List ℕ) (result : Result (Option Item) ScriptError) (new : ReaderState) : Type 0 where
   pub rest : List ℕ
   pub items : Items new.ended bytes (given result) rest
   pub stands : StandsFor new rest
@@ -110,7 +110,7 @@ pub record Says (passed : ℕ) (bytes : List ℕ) (result : Result (Option Item)
   pub finds : Finds result new.passed (length rest) (first new.ended rest)
 
 -- Where an item, a fault or the end stood in the bytes since the last item, a call pulled nothing and learned nothing.
-abbrev pub IsCalm : List ℕ → Held → List ℕ → Held → Type 0
+abbrev pub IsCalm : List ℕ → ReaderState → List ℕ → ReaderState → Type 0
 IsCalm since old pulled new = ¬ (Waits old.ended since) → (pulled ≡ []) × (new.ended ≡ old.ended)
 
 -- A pull with this left of what was left as the call began: what was given by then, behind the bytes since the last item, has no item, no
@@ -126,8 +126,8 @@ IsWithin least most More = Unit {0}
 IsWithin least most End = Unit {0}
 
 -- How often a reader may still pull or skip a line, at most: a byte that is pulled may be let go, and the end is told once.
-abbrev pub turns : Held → ℕ
-turns held = 2 * (2 ^ 40 - taken held) + length held.bytes + (if held.ended then 0 else 1)
+abbrev pub rounds : ReaderState → ℕ
+rounds held = 2 * (2 ^ 40 - taken held) + length held.bytes + (if held.ended then 0 else 1)
 
 -- Why a block may be missing.
 abbrev pub IsMissing : ScriptError → Type 0
@@ -149,7 +149,7 @@ MayFollow false ended more = Unit {0}
 MayFollow true ended more = (ended ≡ true) × (more ≡ [])
 
 -- A run of calls so far: whatever comes behind the bytes pulled, they are these items and then what is held.
-pub record Reads (pulled : List ℕ) (items : List Item) (since : List ℕ) (held : Held) : Type 0 where
+pub record Reads (pulled : List ℕ) (items : List Item) (since : List ℕ) (held : ReaderState) : Type 0 where
   pub stands : StandsFor held since
   pub split : (ended : Bool) (more : List ℕ) → MayFollow held.ended ended more → Items ended (pulled ++ more) items (since ++ more)
   pub before : held.passed + length since ≡ length pulled

@@ -2,7 +2,7 @@
 ghost use Rattle.std.specs.Prelude.{◌≡◌, ◌≤◌, ◌+◌, ◌-◌, ◌<◌, ◌^◌, ◌++◌, List, [], ℕ, true, false, length, vec_len, vec_capacity, drop, All, None, Some, IsSome, IfOk, IfErr, OnOk, OnErr, IsErrOf};
 ghost use Rattle.machine_model.specs.Causes.{Rose};
 ghost use Rattle.script_read.specs.Items.{first, Waits};
-ghost use Rattle.script_read.specs.Reading.{Held, fresh, gone, taken, found, StandsFor, Says, IsCalm, IsAwaited, IsSmall, IsWithin, IsPullError, IsMissing, turns};
+ghost use Rattle.script_read.specs.Reading.{ReaderState, fresh, gone, taken, found, StandsFor, Says, IsCalm, IsAwaited, IsSmall, IsWithin, IsPullError, IsMissing, rounds};
 
 use crate::error::ScriptError;
 use crate::first::{First, first_of};
@@ -36,9 +36,9 @@ pub struct Reader {
 
 impl Model for Reader {
     ghost use Rattle.std.specs.Prelude.{◌≡◌, ◌≤◌, ◌+◌, ◌^◌, drop, length};
-    ghost use Rattle.script_read.specs.Reading.{Held, IsSmall, gone};
+    ghost use Rattle.script_read.specs.Reading.{ReaderState, IsSmall, gone};
 
-    ghost Value = { Held };
+    ghost Value = { ReaderState };
 
     ghost view = { λ r. record { bytes = drop r.start r.buffer.items; passed = r.passed; ended = r.ended; over = r.over } };
 
@@ -94,7 +94,7 @@ impl Reader {
         // The end, once told, is the source's.
         ensures end { S.source_tells → (self.old.ended ≡ true → (S.source source.old).left ≡ []) → self.new.ended ≡ true → (S.source source.new).left ≡ [] }
     {
-        'turns: loop {
+        'rounds: loop {
             match self.front(alloc)? {
                 First::Whole(piece, n) => {
                     self.advance(n);
@@ -250,7 +250,7 @@ impl Reader {
         ensures passed { self.new.passed ≡ self.old.passed }
         ensures over { self.new.over ≡ self.old.over }
         ensures bound { taken self.new ≤ 2 ^ 40 }
-        ensures nearer { OnOk result (turns self.new < turns self.old) }
+        ensures nearer { OnOk result (rounds self.new < rounds self.old) }
         ensures end { S.source_tells → self.new.ended ≡ true → (S.source source.new).left ≡ [] }
         ensures err { OnErr result (self.new ≡ self.old) }
         ensures failed { IsErrOf result ScriptError.Failed → taken self.new < 2 ^ 40 }

@@ -1,5 +1,5 @@
 use Rattle.std.proofs.Common.{ap}
-use Rattle.script_read.proofs.HeldLemmas.{stands-begun}
+use Rattle.script_read.proofs.ReaderLemmas.{stands-begun}
 use Rattle.script_read.proofs.reader.Reader.begin_text.Goals as goal
 
 pub returns-clause-stands : goal.returns-clause-stands

@@ -1,5 +1,5 @@
 use Rattle.std.proofs.lemmas.Result.{IfOk-weaker}
-use Rattle.script_read.proofs.HeldLemmas.{within-of}
+use Rattle.script_read.proofs.ReaderLemmas.{within-of}
 use Rattle.script_read.proofs.reader.Reader.front.Goals as goal
 
 pub returns-in-Some-clause-within : goal.returns-in-Some-clause-within

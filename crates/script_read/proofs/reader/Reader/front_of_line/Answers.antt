@@ -1,5 +1,5 @@
 use Rattle.std.proofs.Common.{ap}
-use Rattle.script_read.proofs.HeldLemmas.{more-found, line-found}
+use Rattle.script_read.proofs.ReaderLemmas.{more-found, line-found}
 use Rattle.script_read.proofs.reader.Reader.front_of_line.Goals as goal
 
 pub returns-in_ok-begin_text-in-More-clause-value : goal.returns-in_ok-begin_text-in-More-clause-value

@@ -1,6 +1,6 @@
 use Rattle.std.proofs.Common.{◌∙◌, ap, subst, min, ◌-◌, length}
 use Rattle.script_read.specs.Reading.{IsSmall}
-use Rattle.script_read.proofs.HeldLemmas.{stands-on}
+use Rattle.script_read.proofs.ReaderLemmas.{stands-on}
 use Rattle.script_read.proofs.reader.Reader.let_go.Goals as goal
 
 pub returns-clause-stands : goal.returns-clause-stands

@@ -1,11 +1,11 @@
 use Rattle.std.proofs.Common.{◌≡◌, ◌≤◌, true, List, [], ℕ, All}
 use Rattle.script_read.specs.Items.{Waits}
-use Rattle.script_read.specs.Reading.{StandsFor, IsAwaited, turns}
+use Rattle.script_read.specs.Reading.{StandsFor, IsAwaited, rounds}
 use Rattle.script_read.proofs.CallLemmas.{Goes}
 use Rattle.script_read.proofs.reader.Reader.next_item.Given as goal
 
-abbrev pub invariant-turns : goal.invariant-turns
-invariant-turns g l = record {
+abbrev pub invariant-rounds : goal.invariant-rounds
+invariant-rounds g l = record {
   only : g.S.Source.only l.initial.source l.source;
   went : (since : List ℕ) → StandsFor l.initial.self since
       → Goes g.S.Source.source_tells (g.S.Source.source l.initial.source).left (g.S.Source.source l.source).left l.initial.self l.self since [];
@@ -16,5 +16,5 @@ invariant-turns g l = record {
   end : g.S.Source.source_tells → (l.initial.self.ended ≡ true → (g.S.Source.source l.initial.source).left ≡ []) → l.self.ended ≡ true → (g.S.Source.source l.source).left ≡ [];
 }
 
-abbrev pub decreases-turns : goal.decreases-turns
-decreases-turns g l = turns l.self
+abbrev pub decreases-rounds : goal.decreases-rounds
+decreases-rounds g l = rounds l.self

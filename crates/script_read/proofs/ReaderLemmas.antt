@@ -14,7 +14,7 @@ use Rattle.commands.specs.declared.command.Item.TheVariants.{Command}
 use Rattle.std.specs.List.{position_or_len}
 use Rattle.script_read.specs.Items.{first, short, text_end, text_at, piece_of, last_piece, open_line, closed_line, without_cr}
 use Rattle.script_read.specs.Lines.{meaning}
-use Rattle.script_read.specs.Reading.{Held, AsksFor, StandsForLong, StandsBy, StandsFor, IsSmall, IsWithin, gone, long_piece, passed_item, found_by, found}
+use Rattle.script_read.specs.Reading.{ReaderState, AsksFor, StandsForLong, StandsBy, StandsFor, IsSmall, IsWithin, gone, long_piece, passed_item, found_by, found}
 use Rattle.script_read.proofs.Cuts.{first_by-within, text_end-within}
 use Rattle.script_read.proofs.LongTexts.{goes_on, found-long}
 
@@ -23,7 +23,7 @@ by : (ended : Bool) (over : Option Over) (bytes since : List ℕ) → StandsBy o
 by ended None bytes since same = ap (first ended) (sym same)
 by ended (Some over) bytes since s = found-long over ended bytes since s
 
-pub found-is : (h : Held) (since : List ℕ) → StandsFor h since → first h.ended since ≡ found h
+pub found-is : (h : ReaderState) (since : List ℕ) → StandsFor h since → first h.ended since ≡ found h
 found-is h since stands = by h.ended h.over h.bytes since stands
 
 length-by : (over : Option Over) (bytes since : List ℕ) → StandsBy over bytes since → length since ≡ gone over + length bytes
@@ -31,7 +31,7 @@ length-by None bytes since same = omega (arith, ap length same)
 length-by (Some over) bytes since s =
     omega (arith, ap length s.joined, length-append s.line (s.text ++ bytes), length-append s.text bytes, s.are_gone, s.asks.length_is)
 
-pub length-since : (h : Held) (since : List ℕ) → StandsFor h since → length since ≡ gone h.over + length h.bytes
+pub length-since : (h : ReaderState) (since : List ℕ) → StandsFor h since → length since ≡ gone h.over + length h.bytes
 length-since h since stands = length-by h.over h.bytes since stands
 
 -- more bytes come behind those at hand
@@ -55,7 +55,7 @@ stands-drop (Some over) bytes since n h s =
     ∙ drop-append-add (s.line ++ s.text) bytes (n - (over.line + over.gone)))
 
 -- what is at hand of a text is let go
-pub stands-on : (now : Held) (over : Over) (start n : ℕ) (items : List ℕ) → drop start items ≡ now.bytes → now.over ≡ Some over → IsSmall now.over
+pub stands-on : (now : ReaderState) (over : Over) (start n : ℕ) (items : List ℕ) → drop start items ≡ now.bytes → now.over ≡ Some over → IsSmall now.over
     → n ≡ min (length now.bytes) (over.size - over.gone) → (since : List ℕ) → StandsFor now since
     → StandsForLong (record { doc = over.doc; at = over.at; size = over.size; line = over.line; gone = over.gone + n }) (drop (start + n) items) since
 stands-on now over start n items view is small k since stands =
@@ -81,12 +81,12 @@ stands-begun r over start items now hand is asks start_at same view =
     }
 
 -- where more is wanted, it still is once a text is begun
-pub more-found : (old new : Held) (f : First) (e : Bool) (hand : List ℕ) → f ≡ More → f ≡ first e hand → hand ≡ old.bytes → e ≡ old.ended → new.ended ≡ old.ended
+pub more-found : (old new : ReaderState) (f : First) (e : Bool) (hand : List ℕ) → f ≡ More → f ≡ first e hand → hand ≡ old.bytes → e ≡ old.ended → new.ended ≡ old.ended
     → StandsFor new old.bytes → More ≡ found new
 more-found old new f e hand is value same told keeps stands =
     sym is ∙ value ∙ ap (first e) same ∙ ap (λ b. first b old.bytes) (told ∙ sym keeps) ∙ found-is new old.bytes stands
 
-pub line-found : (old : Held) (f : First) (e : Bool) (hand : List ℕ) → old.over ≡ None → f ≡ first e hand → hand ≡ old.bytes → e ≡ old.ended → f ≡ found old
+pub line-found : (old : ReaderState) (f : First) (e : Bool) (hand : List ℕ) → old.over ≡ None → f ≡ first e hand → hand ≡ old.bytes → e ≡ old.ended → f ≡ found old
 line-found old f e hand none value same told =
     value ∙ ap (first e) same ∙ ap (λ b. first b old.bytes) told ∙ ap (λ o. found_by old.ended o old.bytes) (sym none)
 
@@ -114,7 +114,7 @@ found-within ended None bytes small =
     let P : ℕ → Type 0 = λ len. IsWithin 0 len (first ended bytes) in subst P (omega arith) (first_by-within meaning ended bytes)
 found-within ended (Some over) bytes small = long-within ended over bytes small.0
 
-pub within-of : (h : Held) (f : First) → IsSmall h.over → f ≡ found h → IsWithin (gone h.over) (gone h.over + length h.bytes) f
+pub within-of : (h : ReaderState) (f : First) → IsSmall h.over → f ≡ found h → IsWithin (gone h.over) (gone h.over + length h.bytes) f
 within-of h f small value = let P : First → Type 0 = λ f. IsWithin (gone h.over) (gone h.over + length h.bytes) f in subst P (sym value) (found-within h.ended h.over h.bytes small)
 
 -- at the end of the input nothing is left open
@@ -194,5 +194,5 @@ open-by true None bytes e = absurd (first-told bytes (sym e))
 open-by true (Some over) bytes e = absurd (long-told over bytes (sym e))
 
 -- where more is wanted the end was not told
-pub still-open : (h : Held) → More ≡ found h → h.ended ≡ false
+pub still-open : (h : ReaderState) → More ≡ found h → h.ended ≡ false
 still-open h e = open-by h.ended h.over h.bytes e
