@@ -8,7 +8,7 @@ use Rattle.std.proofs.lemmas.List.Sorted.{All-permutation}
 use Rattle.fold_tokens.specs.Words.{number_of}
 use Rattle.fold_tokens.proofs.WordLemmas.{absent-none, new_place}
 use Rattle.archive_state.specs.declared.stored.StoredPlan.{StoredPlan}
-use Rattle.archive_check.specs.declared.ordering.Turn.{Turn}
+use Rattle.archive_check.specs.declared.ordering.Ranked.{Ranked}
 use Rattle.archive_check.specs.Orders.{place_of, AreByNumber}
 use Rattle.archive_check.proofs.Sorting.{ascends, rises, in_order, in_order-up, in_order-same, in_order-swaps, one_order, shown-of, shown-up}
 
@@ -47,16 +47,16 @@ place_is word words n is = go (position_or_len (bytes_eq word) words) (length wo
 pub no_place : (word : List ℕ) (words : List (List ℕ)) → None ≡ number_of word words → length words ≡ position_or_len (bytes_eq word) words
 no_place word words is = sym (new_place word words (absent-none word words (sym is)))
 
--- ---- turns
+-- ---- plans as they are ranked
 
-abbrev plan_in : Turn → StoredPlan
-plan_in turn = turn.stored.now
+abbrev plan_in : Ranked → StoredPlan
+plan_in one = one.stored.now
 
-pub turns_stand : (words : List (List ℕ)) (plans : List StoredPlan) (old new : List Turn) → map (λ t. t.stored.now) old ≡ plans → All (λ t. t.place ≡ place_of words t.stored.now) old → IsPermutation old new
+pub ranked_stand : (words : List (List ℕ)) (plans : List StoredPlan) (old new : List Ranked) → map (λ t. t.stored.now) old ≡ plans → All (λ t. t.place ≡ place_of words t.stored.now) old → IsPermutation old new
     → IsNonDecreasingBy (λ t. t.place) new → ((n : ℕ) → filter (λ t. t.place == n) new ≡ filter (λ t. t.place == n) old) → AreByNumber words plans (map (λ t. t.stored.now) new)
-turns_stand words plans old new are placed moved up stable =
-    let P : Turn → Type 0 = λ t. t.place ≡ place_of words t.stored.now in
-    let place : Turn → ℕ = λ t. t.place in
+ranked_stand words plans old new are placed moved up stable =
+    let P : Ranked → Type 0 = λ t. t.place ≡ place_of words t.stored.now in
+    let place : Ranked → ℕ = λ t. t.place in
     let there : All P new = All-permutation P old new moved placed in
     record {
       ascending = rises (place_of words) (map plan_in new) (shown-up plan_in place (place_of words) new there (ascends place new up));
@@ -65,14 +65,14 @@ turns_stand words plans old new are placed moved up stable =
           ∙ ap (λ (l : List StoredPlan). filter (λ s. place_of words s == n) l) are;
     }
 
--- what holds of plans holds of them in turn
-pub each_in_turn : (P : StoredPlan → Type 0) (turns : List Turn) → All P (map (λ t. t.stored.now) turns) → All (λ t. P t.stored.now) turns
-each_in_turn P [] all = All-nil (λ t. P t.stored.now)
-each_in_turn P (t ∷ turns) all = All-cons (λ u. P u.stored.now) t turns (All-head P t.stored.now (map plan_in turns) all) (each_in_turn P turns (All-tail P t.stored.now (map plan_in turns) all))
+-- what holds of plans holds of them as they are ranked
+pub each_ranked : (P : StoredPlan → Type 0) (ranked : List Ranked) → All P (map (λ t. t.stored.now) ranked) → All (λ t. P t.stored.now) ranked
+each_ranked P [] all = All-nil (λ t. P t.stored.now)
+each_ranked P (t ∷ ranked) all = All-cons (λ u. P u.stored.now) t ranked (All-head P t.stored.now (map plan_in ranked) all) (each_ranked P ranked (All-tail P t.stored.now (map plan_in ranked) all))
 
--- the plan of a turn, among the plans in turn
-pub plans_within : (turns : List Turn) (i : ℕ) → i < length turns → i < length (map (λ t. t.stored.now) turns)
-plans_within turns i within = omega (arith, within, length-map turns plan_in)
+-- the plan of one that is ranked, among the plans so
+pub plans_within : (ranked : List Ranked) (i : ℕ) → i < length ranked → i < length (map (λ t. t.stored.now) ranked)
+plans_within ranked i within = omega (arith, within, length-map ranked plan_in)
 
-pub plan_at : (turns : List Turn) (i : ℕ) (turn : Turn) → i < length turns → turn ≡ get_or turns i turn → turn.stored.now ≡ get_or (map (λ t. t.stored.now) turns) i turn.stored.now
-plan_at turns i turn within is = ap plan_in is ∙ sym (get_or-map plan_in turns i turn turn.stored.now within)
+pub plan_at : (ranked : List Ranked) (i : ℕ) (one : Ranked) → i < length ranked → one ≡ get_or ranked i one → one.stored.now ≡ get_or (map (λ t. t.stored.now) ranked) i one.stored.now
+plan_at ranked i one within is = ap plan_in is ∙ sym (get_or-map plan_in ranked i one one.stored.now within)

@@ -12,7 +12,7 @@ use version_index::Index;
 
 /// A plan with the place of its word among those of the texts.
 #[derive(Clone, Copy)]
-pub(crate) struct Turn<'a> {
+pub(crate) struct Ranked<'a> {
     pub(crate) place: u32,
     pub(crate) stored: &'a StoredPlan,
 }
@@ -23,12 +23,12 @@ pub(crate) fn by_number<'a>(
     alloc: Global,
     index: &Index,
     plans: &'a [StoredPlan],
-) -> Result<Vec<Turn<'a>>, AllocError>
+) -> Result<Vec<Ranked<'a>>, AllocError>
     ensures ordered { IfOk result (λ v. AreByNumber (state_of index.now).words plans.now (map (λ t. t.stored.now) v.items)) }
 {
-    let mut turns = placed(alloc, index, plans)?;
-    sort_by_place(&mut turns)?;
-    Ok(turns)
+    let mut ranked = placed(alloc, index, plans)?;
+    sort_by_place(&mut ranked)?;
+    Ok(ranked)
 }
 
 /// The plans with the places of their words.
@@ -36,16 +36,16 @@ fn placed<'a>(
     alloc: Global,
     index: &Index,
     plans: &'a [StoredPlan],
-) -> Result<Vec<Turn<'a>>, AllocError>
+) -> Result<Vec<Ranked<'a>>, AllocError>
     ensures plans { IfOk result (λ v. map (λ t. t.stored.now) v.items ≡ plans.now) }
     ensures places { IfOk result (λ v. All (λ t. t.place ≡ place_of (state_of index.now).words t.stored.now) v.items) }
 {
-    let mut turns = Vec::new(alloc);
+    let mut ranked = Vec::new(alloc);
     for stored in plans {
         let place = place_of(index, &stored.plan.word);
-        turns.push(Turn { place, stored })?;
+        ranked.push(Ranked { place, stored })?;
     }
-    Ok(turns)
+    Ok(ranked)
 }
 
 /// The number of a word; how many words there are, where it has none.
@@ -58,12 +58,12 @@ fn place_of(index: &Index, word: &Key) -> u32
     }
 }
 
-/// Sorts turns by place; those of one place keep their order.
-fn sort_by_place(turns: &mut Vec<Turn>) -> Result<(), AllocError>
-    ensures permutation { IsPermutation turns.old.items turns.new.items }
-    ensures sorted { OnOk result (IsNonDecreasingBy (λ t. t.place) turns.new.items) }
-    ensures stable { (n : ℕ) → filter (λ t. t.place == n) turns.new.items ≡ filter (λ t. t.place == n) turns.old.items }
+/// Sorts ranked plans by place; those of one place keep their order.
+fn sort_by_place(ranked: &mut Vec<Ranked>) -> Result<(), AllocError>
+    ensures permutation { IsPermutation ranked.old.items ranked.new.items }
+    ensures sorted { OnOk result (IsNonDecreasingBy (λ t. t.place) ranked.new.items) }
+    ensures stable { (n : ℕ) → filter (λ t. t.place == n) ranked.new.items ≡ filter (λ t. t.place == n) ranked.old.items }
 {
-    turns.sort_by_key(|turn| turn.place)?;
+    ranked.sort_by_key(|one| one.place)?;
     Ok(())
 }

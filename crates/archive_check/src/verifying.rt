@@ -12,7 +12,7 @@ ghost use Rattle.archive_check.specs.Checking.{IsExcess, IsFaultOf};
 
 use crate::error::VerifyError;
 use crate::least::{Excess, excess_of};
-use crate::ordering::{Turn, by_number};
+use crate::ordering::{Ranked, by_number};
 use crate::segments::first_wrong;
 use crate::texts::{Texts, read_texts};
 use archive_replay::list_up_to;
@@ -85,8 +85,8 @@ fn check_by_number<D: Disk>(
     ensures verdict { D.disk_tells → (texts : List (PlainChange (List ℕ))) → Indexes (state_of index.now) texts → All IsText texts →
         IfOk result (λ v. Tells v texts (D.disk disk.old).holds.pages plans.now) }
 {
-    let turns = by_number(alloc, index, plans)?;
-    check_plans(alloc, disk, index, &turns)
+    let ranked = by_number(alloc, index, plans)?;
+    check_plans(alloc, disk, index, &ranked)
 }
 
 /// Checks plans in turn.
@@ -94,26 +94,26 @@ fn check_plans<D: Disk>(
     alloc: Global,
     disk: &mut D,
     index: &Index,
-    turns: &[Turn],
+    ranked: &[Ranked],
 ) -> Result<Verdict, VerifyError>
     requires texts { (texts : List (PlainChange (List ℕ))) × Indexes (state_of index.now) texts }
-    requires places { All (λ t. LiesInside (D.disk disk.old).reach.pages t.stored.now.plan) turns.now }
+    requires places { All (λ t. LiesInside (D.disk disk.old).reach.pages t.stored.now.plan) ranked.now }
     ensures only { D.Disk.only disk.old disk.new }
     ensures same { OnlyReads (D.disk disk.old) (D.disk disk.new) }
     ensures failed { IsErrOf result VerifyError.Failed → Rose (D.disk disk.old).faults (D.disk disk.new).faults }
     ensures verdict { D.disk_tells → (texts : List (PlainChange (List ℕ))) → Indexes (state_of index.now) texts → All IsText texts →
-        IfOk result (λ v. Says v texts (D.disk disk.old).holds.pages (map (λ t. t.stored.now) turns.now)) }
+        IfOk result (λ v. Says v texts (D.disk disk.old).holds.pages (map (λ t. t.stored.now) ranked.now)) }
 {
     let mut segments = 0;
-    for turn in turns {
-        let plan = &turn.stored.plan;
+    for one in ranked {
+        let plan = &one.stored.plan;
         if let Some(fault) = fault_of(alloc, disk, index, plan)? {
             return Ok(fault);
         }
         segments = with_segments(segments, plan)?;
     }
     Ok(Verdict::Sound {
-        words: turns.len() as u64,
+        words: ranked.len() as u64,
         segments,
     })
 }

@@ -35,7 +35,7 @@ use Rattle.archive_state.specs.declared.refusal.Refusal.TheVariants.{Full}
 use Rattle.version_store.specs.Tests.{first_of}
 use Rattle.archive_state.specs.Steps.{full_journal}
 use Rattle.archive_state.proofs.RefusalLemmas.{cause, cause-allowed, cause-full, cause-none}
-use Rattle.archive_core.specs.States.{ArchiveState, StandsFor, CacheStands, IsKept, Reaches}
+use Rattle.archive_core.specs.States.{ArchiveState, StandsFor, CacheStands, AreInStep, Reaches}
 use Rattle.plan_shelf.specs.Shelves.{ShelfState, extents_all}
 use Rattle.archive_replay.specs.Places.{ArePlaced}
 use Rattle.time_base.specs.declared.time.Time.{Time}
@@ -90,7 +90,7 @@ pub is_more : (inside a b : ArchiveState) (mid : IndexState) (x : Change ℕ) (p
     → ((texts : List (Change (List ℕ))) (doc : DocId) (text : Option (List ℕ)) → Indexes mid texts → IsPreparedFor mid doc text words
     → ComesLater texts (record { doc = doc; at = x.at; held = text }) → Indexes b.index (texts ++ record { doc = doc; at = x.at; held = text } ∷ []))
     → IsMore a b x body words
-is_more inside a b mid x p body frame words early place is same end length_is at held doc time kept pushed shelf index indexed =
+is_more inside a b mid x p body frame words early place is same end length_is at held doc time before pushed shelf index indexed =
     let P : ArchiveState → Type 0 = λ s. IsMore s b x body words in
     let H : ℕ → Type 0 = λ n. IsHeld n x.held p.held in
     subst P is (record {
@@ -98,7 +98,7 @@ is_more inside a b mid x p body frame words early place is same end length_is at
       length_is = length_is;
       held = p.held;
       held_is = subst H (omega (arith, at)) held;
-      changes_are = pushed ∙ ap (λ (l : List (Change TextPlace)). l ++ p ∷ []) kept
+      changes_are = pushed ∙ ap (λ (l : List (Change TextPlace)). l ++ p ∷ []) before
           ∙ ap (λ (d : DocId). inside.changes ++ record { doc = d; at = p.at; held = p.held } ∷ []) doc
           ∙ ap (λ (t : Time). inside.changes ++ record { doc = x.doc; at = t; held = p.held } ∷ []) time;
       shelf_is = shelf;
@@ -119,9 +119,9 @@ stands_on a b x body words next stands more =
 abbrev pub EachHolds : DiskState → History → Type 0
 EachHolds d h = (image : Bytes) → MayLeave d.now image → HoldsPlans h image.pages
 
--- where pages are kept, they hold what they held
-pub holds_kept : (h : History) (old new : DiskState) → EachHolds old h → KeepsPages old new → EachHolds new h
-holds_kept h old new held pages = λ image allowed.
+-- where pages stay, they hold what they held
+pub still_holds : (h : History) (old new : DiskState) → EachHolds old h → KeepsPages old new → EachHolds new h
+still_holds h old new held pages = λ image allowed.
     let was = pages.images image new.now.beside (allowed_left new (moment old) image allowed) in
     let P : List ℕ → Type 0 = λ l. HoldsPlans h l in
     subst P (sym was.2) (held was.0 was.1)
@@ -137,14 +137,14 @@ leads_more h e body old new legal next same held more appends pages = record {
   goes_on = appends.goes_on;
   images = λ image beside left.
       let was = appends.images image beside left in
-      let kept = pages.images image beside left in
+      let on = pages.images image beside left in
       let P : List (List ℕ) → Type 0 = λ l. Spells image.journal l in
       let H : List ℕ → Type 0 = λ l. HoldsPlans h l in
       let N : List ℕ → Type 0 = λ l. HoldsPlans (h ++ e ∷ []) l in
       let bodies : bodies_of h ++ body ∷ [] ≡ bodies_of (h ++ e ∷ []) = ap (λ (l : List ℕ). bodies_of h ++ l ∷ []) same ∙ sym (bodies_of-push h e) in (
         elim was.0 [
-          | inl spelled ↦ inl (record { spelled = spelled; legal = legal; held = subst H (sym kept.2) (held kept.0 kept.1) })
-          | inr spelled ↦ inr (record { spelled = subst P bodies spelled; legal = legal-push h e legal next; held = subst N (sym kept.2) (more kept.0 kept.1) })
+          | inl spelled ↦ inl (record { spelled = spelled; legal = legal; held = subst H (sym on.2) (held on.0 on.1) })
+          | inr spelled ↦ inr (record { spelled = subst P bodies spelled; legal = legal-push h e legal next; held = subst N (sym on.2) (more on.0 on.1) })
         ],
         was.1,
       );
@@ -162,14 +162,14 @@ step_stands d end h step legal held = λ image allowed.
     let is = step.images image allowed in
     record { spelled = inr (record { gate = step.gate; rest = is.0; shut = step.shut; fit = step.fit; whole = is.1 }); legal = legal; held = held image allowed }
 
-pub kept_stands : (d : DiskState) (a : ArchiveState) (h : History) → IsKept d a h → EachStands d h
-kept_stands d a h kept = step_stands d a.end h kept.in_step kept.legal kept.held
+pub in_step_stands : (d : DiskState) (a : ArchiveState) (h : History) → AreInStep d a h → EachStands d h
+in_step_stands d a h in_step = step_stands d a.end h in_step.journal in_step.legal in_step.held
 
 -- where no call is made, each image still stands for the history before
-pub leads_nowhere : (d : DiskState) (a : ArchiveState) (h after : History) → IsKept d a h → LeadsTo h after d d
-leads_nowhere d a h after kept = record {
+pub leads_nowhere : (d : DiskState) (a : ArchiveState) (h after : History) → AreInStep d a h → LeadsTo h after d d
+leads_nowhere d a h after in_step = record {
   goes_on = goes_on_same d;
-  images = left_now d (λ image beside. (Stands h image ⊎ Stands after image) × (beside ≡ d.now.beside)) (λ image allowed. (inl (kept_stands d a h kept image allowed), refl));
+  images = left_now d (λ image beside. (Stands h image ⊎ Stands after image) × (beside ≡ d.now.beside)) (λ image allowed. (inl (in_step_stands d a h in_step image allowed), refl));
 }
 
 pub pages_nowhere : (d : DiskState) → KeepsPages d d
@@ -179,12 +179,12 @@ pages_nowhere d = record {
 }
 
 -- after Ok the archive is in step with the history and the entry
-pub kept_more : (d : DiskState) (b : ArchiveState) (h : History) (e : Entry) (body : List ℕ) → StandsFor b (h ++ e ∷ []) → body ≡ spelling e
-    → IsLegal (h ++ e ∷ []) → EachHolds d (h ++ e ∷ []) → CacheStands d b → IsInStep d b.end (bodies_of h ++ body ∷ []) → IsKept d b (h ++ e ∷ [])
-kept_more d b h e body stands same legal held cached in_step =
+pub in_step_more : (d : DiskState) (b : ArchiveState) (h : History) (e : Entry) (body : List ℕ) → StandsFor b (h ++ e ∷ []) → body ≡ spelling e
+    → IsLegal (h ++ e ∷ []) → EachHolds d (h ++ e ∷ []) → CacheStands d b → IsInStep d b.end (bodies_of h ++ body ∷ []) → AreInStep d b (h ++ e ∷ [])
+in_step_more d b h e body stands same legal held cached step =
     let bodies : bodies_of h ++ body ∷ [] ≡ bodies_of (h ++ e ∷ []) = ap (λ (l : List ℕ). bodies_of h ++ l ∷ []) same ∙ sym (bodies_of-push h e) in
     let P : List (List ℕ) → Type 0 = λ l. IsInStep d b.end l in
-    record { stands = stands; in_step = subst P bodies in_step; legal = legal; held = held; cached = cached }
+    record { stands = stands; journal = subst P bodies step; legal = legal; held = held; cached = cached }
 
 pub appends_nowhere : (d : DiskState) (end : ℕ) (bodies : List (List ℕ)) (body : List ℕ) → IsInStep d end bodies → Appends bodies body d d
 appends_nowhere d end bodies body step = record {
@@ -225,16 +225,16 @@ adds_entry r a b h e refusal x body words stands next prepared cause_is full roo
 
 -- and of its images
 pub leads_entry : (r : Result ℕ ChangeError) (a b : ArchiveState) (old new : DiskState) (h : History) (e : Entry) (x : Change ℕ) (body : List ℕ) (words : Words)
-    → IsKept old a h → IsNext h e x body → IsPreparedFor a.index (document_of e) (text_of e) words → IfOk r (λ n. IsMore a b x body words × (n ≡ b.length)) → Appends (bodies_of h) body old new
-    → KeepsPages old new → OnOk r (IsInStep new b.end (bodies_of h ++ body ∷ [])) → (IsOk r → CacheStands new b) → LeadsTo h (h ++ e ∷ []) old new × OnOk r (IsKept new b (h ++ e ∷ []))
-leads_entry r a b old new h e x body words kept next prepared more appends pages step cached = (leads_to h e body old new change kept.legal next.legal next.spelled kept.held appends pages, go r more step cached)
+    → AreInStep old a h → IsNext h e x body → IsPreparedFor a.index (document_of e) (text_of e) words → IfOk r (λ n. IsMore a b x body words × (n ≡ b.length)) → Appends (bodies_of h) body old new
+    → KeepsPages old new → OnOk r (IsInStep new b.end (bodies_of h ++ body ∷ [])) → (IsOk r → CacheStands new b) → LeadsTo h (h ++ e ∷ []) old new × OnOk r (AreInStep new b (h ++ e ∷ []))
+leads_entry r a b old new h e x body words in_step next prepared more appends pages step cached = (leads_to h e body old new change in_step.legal next.legal next.spelled in_step.held appends pages, go r more step cached)
   where
     change : IsChange e
-    change = (change_comes h e x kept.stands.loadable next.legal.allowed next.makes).0
+    change = (change_comes h e x in_step.stands.loadable next.legal.allowed next.makes).0
 
-    go : (r : Result ℕ ChangeError) → IfOk r (λ n. IsMore a b x body words × (n ≡ b.length)) → OnOk r (IsInStep new b.end (bodies_of h ++ body ∷ [])) → (IsOk r → CacheStands new b) → OnOk r (IsKept new b (h ++ e ∷ []))
-    go (Ok n) more step cached = kept_more new b h e body (stands_more a b h e x body words kept.stands next prepared more.0) next.spelled (legal-push h e kept.legal next.legal)
-        (holds_kept (h ++ e ∷ []) old new (held_change h e old change kept.legal next.legal kept.held) pages) (cached refl) step
+    go : (r : Result ℕ ChangeError) → IfOk r (λ n. IsMore a b x body words × (n ≡ b.length)) → OnOk r (IsInStep new b.end (bodies_of h ++ body ∷ [])) → (IsOk r → CacheStands new b) → OnOk r (AreInStep new b (h ++ e ∷ []))
+    go (Ok n) more step cached = in_step_more new b h e body (stands_more a b h e x body words in_step.stands next prepared more.0) next.spelled (legal-push h e in_step.legal next.legal)
+        (still_holds (h ++ e ∷ []) old new (held_change h e old change in_step.legal next.legal in_step.held) pages) (cached refl) step
     go (Err error) more step cached = tt
 
 -- what is known of an entry that was not prepared

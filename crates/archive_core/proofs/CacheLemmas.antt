@@ -22,7 +22,7 @@ use Rattle.archive_state.specs.Plans.{plan_of}
 use Rattle.archive_state.specs.Chosen.{pieces_chosen, pieces_for}
 use Rattle.archive_state.specs.Stands.{bodies_of}
 use Rattle.archive_core.specs.Answering.{HasAsked}
-use Rattle.archive_core.specs.States.{ArchiveState, StandsFor, CacheStands, IsSameButCache, IsKept, Reaches}
+use Rattle.archive_core.specs.States.{ArchiveState, StandsFor, CacheStands, IsSameButCache, AreInStep, Reaches}
 use Rattle.archive_core.specs.Takes.{Ending, Replied, Starved, Faulted, Spoiled, EndsBy, Takes}
 
 -- ---- the cache alone changes
@@ -45,12 +45,12 @@ pub reaches_but_cache : (reach : Both ℕ) (a b : ArchiveState) → IsSameButCac
 reaches_but_cache reach a b same within = let R : ArchiveState → Type 0 = λ x. Reaches reach x in subst R (sym same) within
 
 -- a disk that it may change stays one, where what it keeps now is what reads give
-pub kept_but_cache : (d : DiskState) (a b : ArchiveState) (h : History) → IsSameButCache a b → CacheStands d b → IsKept d a h → IsKept d b h
-kept_but_cache d a b h same cached kept = record {
-  stands = stands_but_cache a b h same kept.stands;
-  in_step = (let P : ArchiveState → Type 0 = λ x. IsInStep d x.end (bodies_of h) in subst P (sym same) kept.in_step);
-  legal = kept.legal;
-  held = kept.held;
+pub in_step_but_cache : (d : DiskState) (a b : ArchiveState) (h : History) → IsSameButCache a b → CacheStands d b → AreInStep d a h → AreInStep d b h
+in_step_but_cache d a b h same cached in_step = record {
+  stands = stands_but_cache a b h same in_step.stands;
+  journal = (let P : ArchiveState → Type 0 = λ x. IsInStep d x.end (bodies_of h) in subst P (sym same) in_step.journal);
+  legal = in_step.legal;
+  held = in_step.held;
   cached = cached;
 }
 
@@ -61,10 +61,10 @@ but_cache_joins a b c x y = y ∙ ap (λ (s : ArchiveState). record s { shelf = 
 pub takes_but_cache : (h : History) (item : Item) (ending : Ending) (old new : DiskState) (a b : ArchiveState) → IsSameButCache a b → CacheStands new b → Takes h item ending old new a
     → Takes h item ending old new b
 takes_but_cache h item ending old new a b same cached takes =
-    record { turn = takes.turn; step = takes.step; leads = takes.leads; ends = go ending takes.ends }
+    record { outcome = takes.outcome; step = takes.step; leads = takes.leads; ends = go ending takes.ends }
   where
-    go : (x : Ending) → EndsBy h takes.turn new a x → EndsBy h takes.turn new b x
-    go (Replied reply) (is, kept) = (is, kept_but_cache new a b takes.turn.next same cached kept)
+    go : (x : Ending) → EndsBy h takes.outcome new a x → EndsBy h takes.outcome new b x
+    go (Replied reply) (is, in_step) = (is, in_step_but_cache new a b takes.outcome.next.history same cached in_step)
     go Starved ends = ends
     go Faulted ends = ends
     go (Spoiled damage) ends = ends

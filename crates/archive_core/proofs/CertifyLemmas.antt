@@ -32,10 +32,10 @@ use Rattle.archive_state.specs.Legal.{MayBePlanned, IsLegal}
 use Rattle.archive_state.specs.Planning.{IsKnown, IsListUpTo, OfTerm}
 use Rattle.archive_state.specs.declared.stored.StoredPlan.{StoredPlan}
 use Rattle.archive_state.specs.Plans.{is_another, plan_of, live_plans}
-use Rattle.archive_state.specs.Steps.{Reply, Refused, Proposed, IsCertificate, ShowsPlan, ShowsLive, Certifies}
+use Rattle.archive_state.specs.Steps.{Reply, Refused, Proposed, IsCertificate, CertifiesPlan, CertifiesLive, Certifies}
 use Rattle.archive_state.proofs.CertifyingLemmas.{live_has, each_certifies}
 use Rattle.archive_state.proofs.LiveLemmas.{live_planned}
-use Rattle.archive_core.specs.States.{ArchiveState, StandsFor, IsKept}
+use Rattle.archive_core.specs.States.{ArchiveState, StandsFor, AreInStep}
 use Rattle.archive_replay.specs.Live.{IsPlanAt}
 use Rattle.archive_core.specs.Takes.{Starved, Faulted, Takes, proposed}
 use Rattle.sublist_store.specs.declared.why.Damage.{Damage}
@@ -65,7 +65,7 @@ few_fit times (x ∷ cuts) up rise inside =
     let (j, (le, (within, is))) = place_behind times (x ∷ cuts) up rise inside (length cuts) (omega arith) in
     omega (arith, le, within)
 
--- ---- what is shown of a plan
+-- ---- what is certified of a plan
 
 begin_of : ℕ × ℕ × ℕ → ℕ
 begin_of piece = piece.0
@@ -81,13 +81,13 @@ unfolding begin_of
 segments_begin list f cuts h segments are =
     sym (map-map begin_of bare_segment segments) ∙ ap (λ (l : List (ℕ × ℕ × ℕ)). map begin_of l) are ∙ pieces_begin list f cuts h
 
--- a stored plan that is least, as it is shown
-shown_by : (list : List Posting) (factor : Fraction) (cuts : List Time) (horizon : Time) (table : Counts) (part numbers : List ℕ) (p : Proposal) → part ≡ map (λ (t : Time). t.seconds) (cuts ++ horizon ∷ [])
+-- a stored plan that is least, as it is certified
+certified_by : (list : List Posting) (factor : Fraction) (cuts : List Time) (horizon : Time) (table : Counts) (part numbers : List ℕ) (p : Proposal) → part ≡ map (λ (t : Time). t.seconds) (cuts ++ horizon ∷ [])
     → AreBest list factor horizon.seconds table.boundaries numbers → AreSegments list (slice_index part 0) (drop 1 part) p.segments.items → AreNodes table.boundaries numbers p.nodes.items
     → p.space ≡ space list (slice_index part 0) (drop 1 part) → IsLeastPlan list factor cuts horizon.seconds
     → IsProposal list factor horizon.seconds p.segments.items p.nodes.items p.space × (map (λ (s : Segment). s.span.from) p.segments.items ≡ seconds cuts)
-shown_by list factor [] horizon table part numbers p same best segments nodes total least = absurd least
-shown_by list factor (f ∷ cuts) horizon table part numbers p same best segments nodes total least =
+certified_by list factor [] horizon table part numbers p same best segments nodes total least = absurd least
+certified_by list factor (f ∷ cuts) horizon table part numbers p same best segments nodes total least =
     let here : part ≡ f.seconds ∷ later cuts horizon.seconds = same ∙ sym (seconds_are f cuts horizon) in
     let are = subst (λ (c : List ℕ). AreSegments list (slice_index c 0) (drop 1 c) p.segments.items) here segments in (
       record {
@@ -108,7 +108,7 @@ pub is_certificate : (list : List Posting) (plan : PlanEntry) (table : Counts) (
     → AreBest list plan.fraction plan.horizon.seconds table.boundaries numbers → AreSegments list (slice_index part 0) (drop 1 part) p.segments.items → AreNodes table.boundaries numbers p.nodes.items
     → p.space ≡ space list (slice_index part 0) (drop 1 part) → IsLeastPlan list plan.fraction plan.cuts plan.horizon.seconds → IsCertificate plan list p.segments.items p.nodes.items p.space
 is_certificate list plan table part numbers p same best segments nodes total least =
-    let (proposal, stored) = shown_by list plan.fraction plan.cuts plan.horizon table part numbers p same best segments nodes total least in
+    let (proposal, stored) = certified_by list plan.fraction plan.cuts plan.horizon table part numbers p same best segments nodes total least in
     record { proposal = proposal; stored = stored }
 
 -- a live plan that keeps to a guarantee is least for its word's list
@@ -120,30 +120,30 @@ live_least h plan list legal live kind is =
     let one = one_list_of (λ d t. frequency_at h plan.word (record { 0 = d }) t) 0 plan.horizon.seconds may.list list may.list_is is in
     subst (λ (l : List Posting). IsLeastPlan l plan.fraction plan.cuts plan.horizon.seconds) one suits.1
 
-pub plan_shown : {E : Type 0} (h : History) (plan : PlanEntry) (list here : List Posting) (r : Result Proposal E) → IsLegal h → plan_of h plan.word ≡ Some plan → plan.kind ≡ Guarantee
+pub plan_certified : {E : Type 0} (h : History) (plan : PlanEntry) (list here : List Posting) (r : Result Proposal E) → IsLegal h → plan_of h plan.word ≡ Some plan → plan.kind ≡ Guarantee
     → IsListUpTo h plan.word plan.horizon.seconds list → here ≡ list
     → IfOk r (λ p. IsLeastPlan here plan.fraction plan.cuts plan.horizon.seconds → IsCertificate plan here p.segments.items p.nodes.items p.space)
-    → IfOk r (λ p. ShowsPlan h plan Guarantee (Proposed p.segments.items p.nodes.items p.space))
-plan_shown h plan list here (Ok p) legal live kind is same shows =
+    → IfOk r (λ p. CertifiesPlan h plan Guarantee (Proposed p.segments.items p.nodes.items p.space))
+plan_certified h plan list here (Ok p) legal live kind is same certifies =
     let least = live_least h plan list legal live kind is in
-    let certificate = subst (λ (l : List Posting). IsLeastPlan l plan.fraction plan.cuts plan.horizon.seconds → IsCertificate plan l p.segments.items p.nodes.items p.space) same shows least in
+    let certificate = subst (λ (l : List Posting). IsLeastPlan l plan.fraction plan.cuts plan.horizon.seconds → IsCertificate plan l p.segments.items p.nodes.items p.space) same certifies least in
     (list, is, (p.segments.items, p.nodes.items, p.space, certificate, refl))
-plan_shown h plan list here (Err e) legal live kind is same shows = tt
+plan_certified h plan list here (Err e) legal live kind is same certifies = tt
 
 -- ---- what is certified for a phrase
 
 pub no_word : (h : History) (phrase word : List ℕ) (reply : Reply) → one_term phrase ≡ Some word → (IsKnown h word → ⊥) → reply ≡ Refused refusals.UnknownWord → Certifies h phrase reply
 no_word h phrase word reply term unknown is =
-    let P : Option (List ℕ) → Type 0 = λ key. OfTerm h key (λ why. reply ≡ Refused why) (λ word. ShowsLive h (plan_of h word) reply) in subst P (sym term) (inl (unknown, is))
+    let P : Option (List ℕ) → Type 0 = λ key. OfTerm h key (λ why. reply ≡ Refused why) (λ word. CertifiesLive h (plan_of h word) reply) in subst P (sym term) (inl (unknown, is))
 
-pub live_certifies : (h : History) (phrase word : List ℕ) (reply : Reply) → one_term phrase ≡ Some word → IsKnown h word → ShowsLive h (plan_of h word) reply → Certifies h phrase reply
-live_certifies h phrase word reply term known shows =
-    let P : Option (List ℕ) → Type 0 = λ key. OfTerm h key (λ why. reply ≡ Refused why) (λ word. ShowsLive h (plan_of h word) reply) in subst P (sym term) (inr (known, shows))
+pub live_certifies : (h : History) (phrase word : List ℕ) (reply : Reply) → one_term phrase ≡ Some word → IsKnown h word → CertifiesLive h (plan_of h word) reply → Certifies h phrase reply
+live_certifies h phrase word reply term known certifies =
+    let P : Option (List ℕ) → Type 0 = λ key. OfTerm h key (λ why. reply ≡ Refused why) (λ word. CertifiesLive h (plan_of h word) reply) in subst P (sym term) (inr (known, certifies))
 
 pub ok_certifies : {E : Type 0} (h : History) (phrase word : List ℕ) (r : Result Proposal E) → one_term phrase ≡ Some word → IsKnown h word
-    → IfOk r (λ p. ShowsLive h (plan_of h word) (Proposed p.segments.items p.nodes.items p.space)) → IfOk r (λ p. Certifies h phrase (Proposed p.segments.items p.nodes.items p.space))
-ok_certifies h phrase word (Ok p) term known shows = live_certifies h phrase word (Proposed p.segments.items p.nodes.items p.space) term known shows
-ok_certifies h phrase word (Err e) term known shows = tt
+    → IfOk r (λ p. CertifiesLive h (plan_of h word) (Proposed p.segments.items p.nodes.items p.space)) → IfOk r (λ p. Certifies h phrase (Proposed p.segments.items p.nodes.items p.space))
+ok_certifies h phrase word (Ok p) term known certifies = live_certifies h phrase word (Proposed p.segments.items p.nodes.items p.space) term known certifies
+ok_certifies h phrase word (Err e) term known certifies = tt
 
 -- the live plan of a word, as a search finds it among those in hand
 pub found_live : (a : ArchiveState) (h : History) (word : List ℕ) (plans : List StoredPlan) (s : StoredPlan) → plans ≡ a.shelf.plans → StandsFor a h → (at : ℕ) × IsPlanAt plans word at × (s ≡ get_or plans at s)
@@ -158,37 +158,37 @@ pub none_live : (a : ArchiveState) (h : History) (word : List ℕ) (plans : List
 none_live a h word plans same stands others =
     none_found h word (subst (λ (l : List StoredPlan). All (λ s. is_another word s ≡ true) l) (same ∙ stands.plans_are) others)
 
--- what is shown of it, by its kind
+-- what is certified of it, by its kind
 pub live_as : {E : Type 0} (h : History) (o : Option PlanEntry) (plan : PlanEntry) (kind : Kind) (r : Result Proposal E) → o ≡ Some plan → plan.kind ≡ kind
-    → IfOk r (λ p. ShowsPlan h plan kind (Proposed p.segments.items p.nodes.items p.space)) → IfOk r (λ p. ShowsLive h o (Proposed p.segments.items p.nodes.items p.space))
-live_as h o plan kind (Ok p) is kind_is shows =
-    let P : Option PlanEntry → Type 0 = λ o. ShowsLive h o (Proposed p.segments.items p.nodes.items p.space) in
-    let K : Kind → Type 0 = λ k. ShowsPlan h plan k (Proposed p.segments.items p.nodes.items p.space) in
-    subst P (sym is) (subst K (sym kind_is) shows)
-live_as h o plan kind (Err e) is kind_is shows = tt
+    → IfOk r (λ p. CertifiesPlan h plan kind (Proposed p.segments.items p.nodes.items p.space)) → IfOk r (λ p. CertifiesLive h o (Proposed p.segments.items p.nodes.items p.space))
+live_as h o plan kind (Ok p) is kind_is certifies =
+    let P : Option PlanEntry → Type 0 = λ o. CertifiesLive h o (Proposed p.segments.items p.nodes.items p.space) in
+    let K : Kind → Type 0 = λ k. CertifiesPlan h plan k (Proposed p.segments.items p.nodes.items p.space) in
+    subst P (sym is) (subst K (sym kind_is) certifies)
+live_as h o plan kind (Err e) is kind_is certifies = tt
 
-pub no_live : (h : History) (o : Option PlanEntry) (reply : Reply) → o ≡ None → reply ≡ Refused refusals.NoPlan → ShowsLive h o reply
-no_live h o reply none is = let P : Option PlanEntry → Type 0 = λ o. ShowsLive h o reply in subst P (sym none) is
+pub no_live : (h : History) (o : Option PlanEntry) (reply : Reply) → o ≡ None → reply ≡ Refused refusals.NoPlan → CertifiesLive h o reply
+no_live h o reply none is = let P : Option PlanEntry → Type 0 = λ o. CertifiesLive h o reply in subst P (sym none) is
 
-pub other_live : (h : History) (o : Option PlanEntry) (plan : PlanEntry) (kind : Kind) (reply : Reply) → o ≡ Some plan → plan.kind ≡ kind → ShowsPlan h plan kind reply → ShowsLive h o reply
-other_live h o plan kind reply is kind_is shows =
-    let P : Option PlanEntry → Type 0 = λ o. ShowsLive h o reply in
-    let K : Kind → Type 0 = λ k. ShowsPlan h plan k reply in
-    subst P (sym is) (subst K (sym kind_is) shows)
+pub other_live : (h : History) (o : Option PlanEntry) (plan : PlanEntry) (kind : Kind) (reply : Reply) → o ≡ Some plan → plan.kind ≡ kind → CertifiesPlan h plan kind reply → CertifiesLive h o reply
+other_live h o plan kind reply is kind_is certifies =
+    let P : Option PlanEntry → Type 0 = λ o. CertifiesLive h o reply in
+    let K : Kind → Type 0 = λ k. CertifiesPlan h plan k reply in
+    subst P (sym is) (subst K (sym kind_is) certifies)
 
 -- a certificate that was asked for
 pub takes_certificate : (h : History) (phrase : List ℕ) (r : Result Proposal AskError) (d : DiskState) (a : ArchiveState)
     → ((why : Refusal) → r ≡ Err (asks.Refused why) → Certifies h phrase (Refused why)) → ((damage : Damage) → r ≡ Err (asks.Damaged damage) → ⊥)
     → IfOk r (λ p. Certifies h phrase (Proposed p.segments.items p.nodes.items p.space))
-    → IsKept d a h → Takes h (items.Command (commands.Certificate phrase)) (proposed r) d d a
-takes_certificate h phrase (Ok p) d a refused undamaged shows kept =
-    takes_question h (items.Command (commands.Certificate phrase)) (Proposed p.segments.items p.nodes.items p.space) (proposed (Ok p)) d d a (refl, shows) refl kept refl
-takes_certificate h phrase (Err (asks.Refused why)) d a refused undamaged shows kept =
-    takes_question h (items.Command (commands.Certificate phrase)) (Refused why) (proposed (Err (asks.Refused why))) d d a (refl, refused why refl) refl kept refl
-takes_certificate h phrase (Err asks.Failed) d a refused undamaged shows kept =
-    let any = each_certifies h phrase kept.legal in
-    takes_question h (items.Command (commands.Certificate phrase)) any.0 Faulted d d a (refl, any.1) refl kept tt
-takes_certificate h phrase (Err (asks.Damaged damage)) d a refused undamaged shows kept = absurd (undamaged damage refl)
-takes_certificate h phrase (Err asks.Memory) d a refused undamaged shows kept =
-    let any = each_certifies h phrase kept.legal in
-    takes_question h (items.Command (commands.Certificate phrase)) any.0 Starved d d a (refl, any.1) refl kept tt
+    → AreInStep d a h → Takes h (items.Command (commands.Certificate phrase)) (proposed r) d d a
+takes_certificate h phrase (Ok p) d a refused undamaged certifies in_step =
+    takes_question h (items.Command (commands.Certificate phrase)) (Proposed p.segments.items p.nodes.items p.space) (proposed (Ok p)) d d a (refl, certifies) refl in_step refl
+takes_certificate h phrase (Err (asks.Refused why)) d a refused undamaged certifies in_step =
+    takes_question h (items.Command (commands.Certificate phrase)) (Refused why) (proposed (Err (asks.Refused why))) d d a (refl, refused why refl) refl in_step refl
+takes_certificate h phrase (Err asks.Failed) d a refused undamaged certifies in_step =
+    let any = each_certifies h phrase in_step.legal in
+    takes_question h (items.Command (commands.Certificate phrase)) any.0 Faulted d d a (refl, any.1) refl in_step tt
+takes_certificate h phrase (Err (asks.Damaged damage)) d a refused undamaged certifies in_step = absurd (undamaged damage refl)
+takes_certificate h phrase (Err asks.Memory) d a refused undamaged certifies in_step =
+    let any = each_certifies h phrase in_step.legal in
+    takes_question h (items.Command (commands.Certificate phrase)) any.0 Starved d d a (refl, any.1) refl in_step tt

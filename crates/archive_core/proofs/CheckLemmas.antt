@@ -17,11 +17,11 @@ use Rattle.archive_check.specs.Checked.{IsChecked}
 use Rattle.archive_check.specs.Verdicts.{AreInOrder, IsVerdict, LiesInside}
 use Rattle.archive_check.proofs.LawLemmas.{loaded_in_order}
 use Rattle.archive_check.proofs.SoundLemmas.{stands_sound}
-use Rattle.archive_core.specs.States.{ArchiveState, StandsFor, IsKept, Reaches}
+use Rattle.archive_core.specs.States.{ArchiveState, StandsFor, AreInStep, Reaches}
 use Rattle.archive_core.specs.Takes.{Faulted, Starved, Takes, verified}
 use Rattle.archive_core.specs.declared.error.AskError.{AskError}
 use Rattle.archive_core.specs.declared.error.AskError.TheVariants as asks
-use Rattle.archive_core.proofs.AddLemmas.{kept_stands}
+use Rattle.archive_core.proofs.AddLemmas.{in_step_stands}
 use Rattle.archive_core.proofs.ChosenLemmas.{readable}
 use Rattle.archive_core.proofs.TakeLemmas.{takes_question}
 
@@ -42,14 +42,14 @@ is_checked a h image verdict stands told =
     let V : List StoredPlan → Type 0 = λ l. IsVerdict image.journal a.changes image.pages l verdict in
     (a.changes, stands.changes_are, subst V stands.plans_are told)
 
--- a check of an archive that is kept
+-- a check of an archive that is in step with its disk
 pub takes_verify : (h : History) (r : Result Verdict AskError) (old new : DiskState) (a : ArchiveState) → MayLeave old.now old.holds
     → ((why : Refusal) → r ≡ Err (asks.Refused why) → ⊥) → ((damage : Damage) → r ≡ Err (asks.Damaged damage) → ⊥) → IfOk r (IsChecked h old.holds)
-    → OnlyReads old new → IsKept old a h → Takes h (items.Command commands.Verify) (verified r) old new a
-takes_verify h (Ok verdict) old new a allowed never undamaged checked same kept =
-    takes_question h (items.Command commands.Verify) (Verified (sound_of h)) (verified (Ok verdict)) old new a (refl, refl) same kept
-    (ap Verified (sym (stands_sound h old.holds verdict (kept_stands old a h kept old.holds allowed) checked)))
-takes_verify h (Err (asks.Refused why)) old new a allowed never undamaged checked same kept = absurd (never why refl)
-takes_verify h (Err asks.Failed) old new a allowed never undamaged checked same kept = takes_question h (items.Command commands.Verify) (Verified (sound_of h)) Faulted old new a (refl, refl) same kept tt
-takes_verify h (Err (asks.Damaged damage)) old new a allowed never undamaged checked same kept = absurd (undamaged damage refl)
-takes_verify h (Err asks.Memory) old new a allowed never undamaged checked same kept = takes_question h (items.Command commands.Verify) (Verified (sound_of h)) Starved old new a (refl, refl) same kept tt
+    → OnlyReads old new → AreInStep old a h → Takes h (items.Command commands.Verify) (verified r) old new a
+takes_verify h (Ok verdict) old new a allowed never undamaged checked same in_step =
+    takes_question h (items.Command commands.Verify) (Verified (sound_of h)) (verified (Ok verdict)) old new a (refl, refl) same in_step
+    (ap Verified (sym (stands_sound h old.holds verdict (in_step_stands old a h in_step old.holds allowed) checked)))
+takes_verify h (Err (asks.Refused why)) old new a allowed never undamaged checked same in_step = absurd (never why refl)
+takes_verify h (Err asks.Failed) old new a allowed never undamaged checked same in_step = takes_question h (items.Command commands.Verify) (Verified (sound_of h)) Faulted old new a (refl, refl) same in_step tt
+takes_verify h (Err (asks.Damaged damage)) old new a allowed never undamaged checked same in_step = absurd (undamaged damage refl)
+takes_verify h (Err asks.Memory) old new a allowed never undamaged checked same in_step = takes_question h (items.Command commands.Verify) (Verified (sound_of h)) Starved old new a (refl, refl) same in_step tt

@@ -149,9 +149,9 @@ pub reads_join : (a b c : DiskState) → OnlyReads a b → OnlyReads b c → Onl
 reads_join a b c x y = y ∙ ap (λ (d : DiskState). record d { faults = c.faults; bytes_read = c.bytes_read }) x
 
 pub reaches_on : (a b : DiskState) (x y : ArchiveState) → OnlyReads a b → IsSameButCache x y → Reaches a.reach x → Reaches b.reach y
-reaches_on a b x y same kept within =
+reaches_on a b x y same but_cache within =
     let R : Both ℕ → Type 0 = λ r. Reaches r y in
-    subst R (sym (ap (λ (d : DiskState). d.reach) same)) (reaches_but_cache a.reach x y kept within)
+    subst R (sym (ap (λ (d : DiskState). d.reach) same)) (reaches_but_cache a.reach x y but_cache within)
 
 -- a question's error that was handed on
 pub handed_on : {T : Type 0} (r : Result T AskError) (e : AskError) (d : Damage) → IsErrAnd r (λ x. x ≡ e) → r ≡ Err (asks.Damaged d) → e ≡ asks.Damaged d

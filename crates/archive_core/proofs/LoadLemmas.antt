@@ -26,7 +26,7 @@ use Rattle.archive_state.specs.Holding.{HoldsPlan, HoldsPlans}
 use Rattle.archive_state.specs.Stands.{bodies_of, Stands, EachStands, IsNotArchive}
 use Rattle.archive_state.proofs.HistoryLemmas.{end_of_is, end_of-least, legal_loads}
 use Rattle.archive_state.proofs.StandsLemmas.{spells_one_history}
-use Rattle.archive_core.specs.States.{ArchiveState, StandsFor, IsKept}
+use Rattle.archive_core.specs.States.{ArchiveState, StandsFor, AreInStep}
 use Rattle.archive_replay.specs.Places.{ArePlaced}
 use Rattle.plan_shelf.specs.Shelves.{extents_all}
 use Rattle.plan_shelf.specs.Shelves.{IsBadShelf}
@@ -45,10 +45,10 @@ stands_spells d h each = λ image allowed. (each image allowed).spelled
 
 -- where each image left spells the bodies of a history for which each image stood, and has the pages of one of these, it stands for the history
 keeps_history : (h : History) (old new : DiskState) → EachStands old h → IsLegal h → KeepsBodies (bodies_of h) old new → KeepsPages old new → KeepsHistory h old new
-keeps_history h old new each legal kept pages = record {
-  goes_on = kept.goes_on;
+keeps_history h old new each legal keeps pages = record {
+  goes_on = keeps.goes_on;
   images = λ image beside left.
-      let is = kept.images image beside left in
+      let is = keeps.images image beside left in
       let was = pages.images image beside left in
       let H : List ℕ → Type 0 = λ l. HoldsPlans h l in
       (record { spelled = is.0; legal = legal; held = subst H (sym was.2) (each was.0 was.1).held }, is.1);
@@ -56,25 +56,25 @@ keeps_history h old new each legal kept pages = record {
 
 -- reads leave what they find
 history_reads : (h : History) (a b c : DiskState) → KeepsHistory h a b → OnlyReads b c → KeepsHistory h a c
-history_reads h a b c kept same =
+history_reads h a b c keeps same =
     let P : DiskState → Type 0 = λ d. KeepsHistory h a d in
     subst P (sym same) (record {
-      goes_on = let g = kept.goes_on in record { later = g.later; nothing_else = g.nothing_else; keeps = g.keeps };
-      images = kept.images;
+      goes_on = let g = keeps.goes_on in record { later = g.later; nothing_else = g.nothing_else; keeps = g.keeps };
+      images = keeps.images;
     })
 
 -- and so does a load
 pub history_loaded : (h : History) (old mid new : DiskState) → MayLeave old.now old.holds → EachStands old h → (EachSpells old (bodies_of h) → KeepsBodies (bodies_of h) old mid) → KeepsPages old mid → OnlyReads mid new
     → KeepsHistory h old new
-history_loaded h old mid new allowed each kept pages same =
-    history_reads h old mid new (keeps_history h old mid each (each old.holds allowed).legal (kept (stands_spells old h each)) pages) same
+history_loaded h old mid new allowed each keeps pages same =
+    history_reads h old mid new (keeps_history h old mid each (each old.holds allowed).legal (keeps (stands_spells old h each)) pages) same
 
 pub pages_reads : (a b c : DiskState) → KeepsPages a b → OnlyReads b c → KeepsPages a c
-pages_reads a b c kept same =
+pages_reads a b c keeps same =
     let P : DiskState → Type 0 = λ d. KeepsPages a d in
     subst P (sym same) (record {
-      goes_on = let g = kept.goes_on in record { later = g.later; nothing_else = g.nothing_else; keeps = g.keeps };
-      images = kept.images;
+      goes_on = let g = keeps.goes_on in record { later = g.later; nothing_else = g.nothing_else; keeps = g.keeps };
+      images = keeps.images;
     })
 
 pub step_reads : (b c : DiskState) (end : ℕ) (bodies : List (List ℕ)) → IsInStep b end bodies → OnlyReads b c → IsInStep c end bodies
@@ -167,10 +167,10 @@ held_loaded h image old mid new stands one same now allowed =
         of_none (nil_from_length h (omega (arith, short, ap length long.whole, length-append (front (bodies_of h)) (long.gate ∷ long.rest), end_of_is h, end_of-least h)))
 
 -- the archive is in step with the disk for the history for which the bytes stood
-pub kept_loaded : (a : ArchiveState) (mid new : DiskState) (old : Bytes) (end : ℕ) (bodies : List (List ℕ)) (g h : History)
+pub in_step_loaded : (a : ArchiveState) (mid new : DiskState) (old : Bytes) (end : ℕ) (bodies : List (List ℕ)) (g h : History)
     → StandsFor a g → a.shelf.cache ≡ [] → a.end ≡ end → bodies_of g ≡ bodies → Spells old.journal bodies → IsInStep mid end bodies → new.now ≡ mid.now
-    → (17 < length old.journal → Only mid.holds mid) → mid.holds.pages ≡ old.pages → Stands h old → IsKept new a h
-kept_loaded a mid new old end bodies g h stands empty end_is same spelled step now one pages stood =
+    → (17 < length old.journal → Only mid.holds mid) → mid.holds.pages ≡ old.pages → Stands h old → AreInStep new a h
+in_step_loaded a mid new old end bodies g h stands empty end_is same spelled step now one pages stood =
     let R : List (List ℕ) → Type 0 = λ l. Spells old.journal l in
     let one_history : g ≡ h = spells_one_history old.journal g h (subst R (sym same) spelled) stands.loadable stood.spelled (legal_loads h stood.legal) in
     let S : History → Type 0 = λ x. StandsFor a x in
@@ -180,7 +180,7 @@ kept_loaded a mid new old end bodies g h stands empty end_is same spelled step n
     let there : IsInStep new end bodies = record { gate = step.gate; shut = step.shut; fit = step.fit; end_is = step.end_is; images = subst M (sym now) step.images } in
     record {
       stands = subst S one_history stands;
-      in_step = subst P (sym same ∙ ap bodies_of one_history) (subst Q (sym end_is) there);
+      journal = subst P (sym same ∙ ap bodies_of one_history) (subst Q (sym end_is) there);
       legal = stood.legal;
       held = λ image allowed. held_loaded h image old mid new stood one pages now allowed;
       cached = none_cached new a empty;

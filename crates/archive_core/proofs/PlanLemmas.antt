@@ -28,8 +28,8 @@ use Rattle.archive_state.specs.declared.refusal.Refusal.TheVariants as refusals
 use Rattle.archive_state.specs.Histories.{History, changes}
 use Rattle.archive_state.specs.Planning.{IsKnown, IsListUpTo, OfBoundaries, OfWidth, OfList, OfWord, OfPhrase, last_second}
 use Rattle.archive_state.specs.Steps.{Refused, Proposed, Proposes, ProposesPlan}
-use Rattle.archive_state.proofs.TurnLemmas.{each_proposes}
-use Rattle.archive_core.specs.States.{ArchiveState, StandsFor, IsKept}
+use Rattle.archive_state.proofs.OutcomeLemmas.{each_proposes}
+use Rattle.archive_core.specs.States.{ArchiveState, StandsFor, AreInStep}
 use Rattle.archive_core.specs.Sealing.{IsSealed}
 use Rattle.archive_replay.specs.Texts.{nothing}
 use Rattle.archive_core.specs.Takes.{Starved, Faulted, Takes, proposed}
@@ -155,18 +155,18 @@ phrase_refused h phrase factor why of =
 pub takes_propose : (h : History) (phrase : List ℕ) (factor : Fraction) (r : Result Proposal AskError) (d : DiskState) (a : ArchiveState)
     → ((why : Refusal) → r ≡ Err (asks.Refused why) → Proposes h phrase factor (Refused why))
     → ((damage : Damage) → r ≡ Err (asks.Damaged damage) → ⊥) → IfOk r (λ p. Proposes h phrase factor (Proposed p.segments.items p.nodes.items p.space))
-    → IsKept d a h → Takes h (items.Command (commands.Propose phrase factor)) (proposed r) d d a
-takes_propose h phrase factor (Ok p) d a refused undamaged proposes kept =
-    takes_question h (items.Command (commands.Propose phrase factor)) (Proposed p.segments.items p.nodes.items p.space) (proposed (Ok p)) d d a (refl, proposes) refl kept refl
-takes_propose h phrase factor (Err (asks.Refused why)) d a refused undamaged proposes kept =
-    takes_question h (items.Command (commands.Propose phrase factor)) (Refused why) (proposed (Err (asks.Refused why))) d d a (refl, refused why refl) refl kept refl
-takes_propose h phrase factor (Err asks.Failed) d a refused undamaged proposes kept =
-    let any = each_proposes h phrase factor kept.legal in
-    takes_question h (items.Command (commands.Propose phrase factor)) any.0 Faulted d d a (refl, any.1) refl kept tt
-takes_propose h phrase factor (Err (asks.Damaged damage)) d a refused undamaged proposes kept = absurd (undamaged damage refl)
-takes_propose h phrase factor (Err asks.Memory) d a refused undamaged proposes kept =
-    let any = each_proposes h phrase factor kept.legal in
-    takes_question h (items.Command (commands.Propose phrase factor)) any.0 Starved d d a (refl, any.1) refl kept tt
+    → AreInStep d a h → Takes h (items.Command (commands.Propose phrase factor)) (proposed r) d d a
+takes_propose h phrase factor (Ok p) d a refused undamaged proposes in_step =
+    takes_question h (items.Command (commands.Propose phrase factor)) (Proposed p.segments.items p.nodes.items p.space) (proposed (Ok p)) d d a (refl, proposes) refl in_step refl
+takes_propose h phrase factor (Err (asks.Refused why)) d a refused undamaged proposes in_step =
+    takes_question h (items.Command (commands.Propose phrase factor)) (Refused why) (proposed (Err (asks.Refused why))) d d a (refl, refused why refl) refl in_step refl
+takes_propose h phrase factor (Err asks.Failed) d a refused undamaged proposes in_step =
+    let any = each_proposes h phrase factor in_step.legal in
+    takes_question h (items.Command (commands.Propose phrase factor)) any.0 Faulted d d a (refl, any.1) refl in_step tt
+takes_propose h phrase factor (Err (asks.Damaged damage)) d a refused undamaged proposes in_step = absurd (undamaged damage refl)
+takes_propose h phrase factor (Err asks.Memory) d a refused undamaged proposes in_step =
+    let any = each_proposes h phrase factor in_step.legal in
+    takes_question h (items.Command (commands.Propose phrase factor)) any.0 Starved d d a (refl, any.1) refl in_step tt
 
 -- errors that are the same in two results
 abbrev error_of : {T : Type 0} → AskError → Result T AskError → AskError

@@ -28,7 +28,7 @@ use Rattle.archive_state.proofs.HoldLemmas.{held_stays, held_more, piece_extents
 use Rattle.archive_state.proofs.HistoryLemmas.{bodies_of-push}
 use Rattle.archive_core.specs.Changing.{LeadsTo, KeepsHistory}
 use Rattle.archive_core.specs.Storing.{IsStorable}
-use Rattle.archive_core.proofs.AddLemmas.{EachHolds, holds_kept, step_stands, leads_more}
+use Rattle.archive_core.proofs.AddLemmas.{EachHolds, still_holds, step_stands, leads_more}
 
 -- writes to places that are apart from the live ones: each image stands for the history as before
 pub writes_keep : (h : History) (plan : PlanEntry) (prepared : PreparedState) (frame : List ℕ) (old new : DiskState) → IsStorable h plan prepared frame → EachStands old h
@@ -51,8 +51,8 @@ writes_keep h plan prepared frame old new ready each changes = record {
 }
 
 -- the journal stays in step over writes to pages
-pub step_kept : (ranges : List Range) (old new : DiskState) (end : ℕ) (bodies : List (List ℕ)) → ChangesOnly ranges old new → IsInStep old end bodies → IsInStep new end bodies
-step_kept ranges old new end bodies changes step = record {
+pub step_stays : (ranges : List Range) (old new : DiskState) (end : ℕ) (bodies : List (List ℕ)) → ChangesOnly ranges old new → IsInStep old end bodies → IsInStep new end bodies
+step_stays ranges old new end bodies changes step = record {
   gate = step.gate;
   shut = step.shut;
   fit = step.fit;
@@ -95,7 +95,7 @@ stored_leads h plan prepared frame end old mid new ready legal step held allowed
     let keeps = writes_keep h plan prepared frame old mid ready (step_stands old end h step legal held) changes in
     let still : EachHolds mid h = λ image left. (keeps.images image mid.now.beside (allowed_left mid (moment old) image left)).0.held in
     let leads = leads_more h (Planned plan) frame mid new legal ready.entry ready.framed still (stored_holds h plan prepared frame old mid ready legal (held old.holds allowed) stored)
-    (appends (bodies_of h) (step_kept (ranges_of (pieces prepared)) old mid end (bodies_of h) changes step)) pages in
+    (appends (bodies_of h) (step_stays (ranges_of (pieces prepared)) old mid end (bodies_of h) changes step)) pages in
     record {
       goes_on = goes_on_joins keeps.goes_on leads.goes_on;
       images = joined (λ image beside. (Stands h image ⊎ Stands next image) × (beside ≡ old.now.beside)) keeps.goes_on
@@ -104,11 +104,11 @@ stored_leads h plan prepared frame end old mid new ready legal step held allowed
     }
 
 -- after Ok the journal has the entry and each image holds what it needs
-pub stored_kept : (h : History) (plan : PlanEntry) (prepared : PreparedState) (frame : List ℕ) (end : ℕ) (old mid new : DiskState) → IsStorable h plan prepared frame → IsLegal h
+pub stored_in_step : (h : History) (plan : PlanEntry) (prepared : PreparedState) (frame : List ℕ) (end : ℕ) (old mid new : DiskState) → IsStorable h plan prepared frame → IsLegal h
     → EachHolds old h → MayLeave old.now old.holds → Stored (pieces prepared) old mid → IsInStep new end (bodies_of h ++ frame ∷ []) → KeepsPages mid new
     → IsInStep new end (bodies_of (h ++ Planned plan ∷ [])) × EachHolds new (h ++ Planned plan ∷ [])
-stored_kept h plan prepared frame end old mid new ready legal held allowed stored step pages =
+stored_in_step h plan prepared frame end old mid new ready legal held allowed stored step pages =
     let B : List (List ℕ) → Type 0 = λ l. IsInStep new end l in (
       subst B (ap (λ (l : List ℕ). bodies_of h ++ l ∷ []) ready.framed ∙ sym (bodies_of-push h (Planned plan))) step,
-      holds_kept (h ++ Planned plan ∷ []) mid new (stored_holds h plan prepared frame old mid ready legal (held old.holds allowed) stored) pages,
+      still_holds (h ++ Planned plan ∷ []) mid new (stored_holds h plan prepared frame old mid ready legal (held old.holds allowed) stored) pages,
     )

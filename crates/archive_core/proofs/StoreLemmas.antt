@@ -34,6 +34,7 @@ use Rattle.archive_state.specs.Histories.{History, end_of}
 use Rattle.archive_state.specs.Legal.{IsLegalEntry}
 use Rattle.archive_state.specs.Planning.{IsKnown, IsListUpTo, OfWidth, OfList, OfPhrase, last_second}
 use Rattle.archive_state.specs.Plans.{with_plan, live_plans, live_extents}
+use Rattle.archive_state.specs.Worlds.{world_of}
 use Rattle.archive_state.specs.Stands.{EachStands}
 use Rattle.archive_state.specs.Steps as steps
 use Rattle.archive_state.specs.Steps.{Reply, Refused, Summary, Declines, AddsPlan, StoresCuts, StoresPlan, Plans, full_journal, spelled_key}
@@ -41,10 +42,10 @@ use Rattle.archive_state.proofs.HistoryLemmas.{end_of-push, loadable-push, entry
 use Rattle.archive_state.proofs.LiveLemmas.{live_plans-push}
 use Rattle.archive_state.proofs.RefusalLemmas.{when_true, when_false}
 use Rattle.archive_state.proofs.StoringLemmas.{plan_legal}
-use Rattle.archive_state.proofs.TurnLemmas.{each_plans}
+use Rattle.archive_state.proofs.OutcomeLemmas.{each_plans}
 use Rattle.archive_core.specs.Adding.{HasSameShelf}
 use Rattle.archive_core.specs.Changing.{LeadsTo}
-use Rattle.archive_core.specs.States.{ArchiveState, StandsFor, CacheStands, IsKept, Reaches}
+use Rattle.archive_core.specs.States.{ArchiveState, StandsFor, CacheStands, AreInStep, Reaches}
 use Rattle.plan_shelf.specs.Shelves.{ShelfState, extents_all}
 use Rattle.plan_shelf.specs.Readying.{HasPlaces, IsFull, IsReady, plan_with, tells_of}
 use Rattle.archive_core.specs.Storing.{IsDraft, IsStorable, IsStoredAs, NotDrafted, NotReady}
@@ -59,7 +60,7 @@ use Rattle.archive_replay.specs.declared.preparing.Unprepared.TheVariants as unp
 use Rattle.plan_shelf.specs.declared.readying.Draft.{Draft}
 use Rattle.plan_shelf.specs.declared.readying.PlanReport.{PlanReport}
 use Rattle.plan_shelf.specs.declared.readying.Ready.{Ready}
-use Rattle.archive_core.proofs.AddLemmas.{inside_on, kept_stands, leads_nowhere, step_at}
+use Rattle.archive_core.proofs.AddLemmas.{inside_on, in_step_stands, leads_nowhere, step_at}
 use Rattle.archive_replay.proofs.IndexLemmas.{changes_still}
 use Rattle.archive_replay.proofs.PlaceLemmas.{placed_plan}
 use Rattle.archive_core.proofs.CacheLemmas.{cached_on}
@@ -261,37 +262,37 @@ pub record IsWritten (h : History) (phrase : List ℕ) (kind : Kind) (factor : F
   pub next : History
   pub plans : Plans h phrase kind factor (steps.Planned told) next
   pub leads : LeadsTo h next old new
-  pub kept : IfOk r (λ report. (summary_of report ≡ told) × IsKept new b next)
+  pub in_step : IfOk r (λ report. (summary_of report ≡ told) × AreInStep new b next)
 
-pub takes_plan : (h : History) (phrase : List ℕ) (kind : Kind) (factor : Fraction) (r : Result PlanReport ChangeError) (old new : DiskState) (a b : ArchiveState) → IsKept old a h
+pub takes_plan : (h : History) (phrase : List ℕ) (kind : Kind) (factor : Fraction) (r : Result PlanReport ChangeError) (old new : DiskState) (a b : ArchiveState) → AreInStep old a h
     → ((why : Refusal) → r ≡ Err (changes.Refused why) → Plans h phrase kind factor (Refused why) h × StandsFor b h) → ((why : Refusal) → r ≡ Err (changes.Refused why) → new ≡ old) → (r ≡ Err changes.Memory → new ≡ old)
     → (IsOk r ⊎ (r ≡ Err changes.Failed) → IsWritten h phrase kind factor r old new b) → (IsOk r ⊎ ((why : Refusal) × (r ≡ Err (changes.Refused why))) → CacheStands new b)
     → Takes h (items.Command (commands.Plan phrase kind factor)) (planned r) old new b
-takes_plan h phrase kind factor (Ok report) old new a b kept refused same memory written cached =
+takes_plan h phrase kind factor (Ok report) old new a b in_step refused same memory written cached =
     let is = written (inl refl) in
-    record { turn = record { reply = steps.Planned is.told; next = is.next }; step = is.plans; leads = is.leads; ends = (ap steps.Planned (sym is.kept.0), is.kept.1) }
-takes_plan h phrase kind factor (Err (changes.Refused why)) old new a b kept refused same memory written cached =
+    record { outcome = record { reply = steps.Planned is.told; next = world_of is.next }; step = is.plans; leads = is.leads; ends = (ap steps.Planned (sym is.in_step.0), is.in_step.1) }
+takes_plan h phrase kind factor (Err (changes.Refused why)) old new a b in_step refused same memory written cached =
     let is = refused why refl in
     let still = same why refl in
     let L : DiskState → Type 0 = λ d. LeadsTo h h old d in
-    let K : DiskState → Type 0 = λ d. IsKept d b h in
+    let K : DiskState → Type 0 = λ d. AreInStep d b h in
     let C : DiskState → Type 0 = λ d. CacheStands d b in
     record {
-      turn = record { reply = Refused why; next = h };
+      outcome = record { reply = Refused why; next = world_of h };
       step = is.0;
-      leads = subst L (sym still) (leads_nowhere old a h h kept);
-      ends = (refl, subst K (sym still) (record { stands = is.1; in_step = step_at b.end (kept.stands.end_is ∙ sym is.1.end_is) kept.in_step; legal = kept.legal; held = kept.held; cached = subst C still (cached (inr (why, refl))) }));
+      leads = subst L (sym still) (leads_nowhere old a h h in_step);
+      ends = (refl, subst K (sym still) (record { stands = is.1; journal = step_at b.end (in_step.stands.end_is ∙ sym is.1.end_is) in_step.journal; legal = in_step.legal; held = in_step.held; cached = subst C still (cached (inr (why, refl))) }));
     }
-takes_plan h phrase kind factor (Err changes.Failed) old new a b kept refused same memory written cached =
+takes_plan h phrase kind factor (Err changes.Failed) old new a b in_step refused same memory written cached =
     let is = written (inr refl) in
-    record { turn = record { reply = steps.Planned is.told; next = is.next }; step = is.plans; leads = is.leads; ends = tt }
-takes_plan h phrase kind factor (Err changes.Memory) old new a b kept refused same memory written cached =
-    let (turn, step) = each_plans h phrase kind factor kept.legal in
-    let L : DiskState → Type 0 = λ d. LeadsTo h turn.next old d in
+    record { outcome = record { reply = steps.Planned is.told; next = world_of is.next }; step = is.plans; leads = is.leads; ends = tt }
+takes_plan h phrase kind factor (Err changes.Memory) old new a b in_step refused same memory written cached =
+    let (outcome, step) = each_plans h phrase kind factor in_step.legal in
+    let L : DiskState → Type 0 = λ d. LeadsTo h outcome.next old d in
     let E : DiskState → Type 0 = λ d. EachStands d h in
     record {
-      turn = turn;
+      outcome = record { reply = outcome.reply; next = world_of outcome.next };
       step = step;
-      leads = subst L (sym (memory refl)) (leads_nowhere old a h turn.next kept);
-      ends = subst E (sym (memory refl)) (kept_stands old a h kept);
+      leads = subst L (sym (memory refl)) (leads_nowhere old a h outcome.next in_step);
+      ends = subst E (sym (memory refl)) (in_step_stands old a h in_step);
     }

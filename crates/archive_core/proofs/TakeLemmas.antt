@@ -25,90 +25,91 @@ use Rattle.archive_state.specs.declared.refusal.Refusal.{Refusal}
 use Rattle.archive_state.specs.declared.refusal.Refusal.TheVariants as refusals
 use Rattle.archive_state.specs.Histories.{History, text_at}
 use Rattle.archive_state.specs.Steps as machine
-use Rattle.archive_state.specs.Steps.{Reply, Accepted, Refused, Found, Spanned, Shown, Finds, Spans, Step}
+use Rattle.archive_state.specs.Steps.{Reply, Accepted, Refused, Found, Spanned, Version, Finds, Spans, Step}
 use Rattle.archive_state.specs.Stands.{EachStands, bodies_of}
-use Rattle.archive_state.proofs.TurnLemmas.{adds_turn, each_finds, each_spans}
+use Rattle.archive_state.specs.Worlds.{world_of}
+use Rattle.archive_state.proofs.OutcomeLemmas.{adds_outcome, each_finds, each_spans}
 use Rattle.archive_core.specs.Answering.{IsNoQuery}
-use Rattle.archive_core.specs.States.{ArchiveState, StandsFor, IsKept}
+use Rattle.archive_core.specs.States.{ArchiveState, StandsFor, AreInStep}
 use Rattle.archive_core.specs.Storing.{NotDrafted}
 use Rattle.plan_shelf.specs.declared.readying.PlanReport.{PlanReport}
 use Rattle.record_codec.specs.declared.plan.PlanEntry.{PlanEntry}
 use Rattle.record_codec.specs.declared.entry.Entry.TheVariants as entries
 use Rattle.archive_core.specs.Adding.{Adds}
 use Rattle.archive_core.specs.Changing.{LeadsTo}
-use Rattle.archive_core.specs.Takes.{Ending, Replied, Starved, Faulted, Spoiled, Takes, changed, found, spanned, shown}
+use Rattle.archive_core.specs.Takes.{Ending, Replied, Starved, Faulted, Spoiled, Takes, changed, found, spanned, version_shown}
 use Rattle.archive_core.specs.declared.error.ChangeError.{ChangeError}
 use Rattle.archive_core.specs.declared.error.ChangeError.TheVariants as changes
 use Rattle.archive_core.specs.declared.error.AskError.{AskError}
 use Rattle.archive_core.specs.declared.error.AskError.TheVariants as asks
-use Rattle.archive_core.proofs.AddLemmas.{kept_stands, leads_nowhere}
+use Rattle.archive_core.proofs.AddLemmas.{in_step_stands, leads_nowhere}
 use Rattle.archive_core.proofs.CacheLemmas.{cache_reads}
 use Rattle.archive_core.proofs.LoadLemmas.{step_reads}
 
 -- an item that adds an entry, or is refused
 pub takes_entry : (h : History) (item : Item) (e : Entry) (refusal : Option Refusal) (r : Result ℕ ChangeError) (old new : DiskState) (a b : ArchiveState)
-    → ((reply : Reply) (next : History) → machine.Adds h e refusal reply next → Step h item reply next)
-    → IsKept old a h → Adds h e refusal r b → ((why : Refusal) → r ≡ Err (changes.Refused why) → (b ≡ a) × (new ≡ old)) → (r ≡ Err changes.Memory → new ≡ old)
-    → LeadsTo h (h ++ e ∷ []) old new × OnOk r (IsKept new b (h ++ e ∷ [])) → Takes h item (changed r) old new b
-takes_entry h item e refusal (Ok n) old new a b step kept adds same memory leads =
+    → ((reply : Reply) (next : History) → machine.Adds h e refusal reply next → Step (world_of h) item reply (world_of next))
+    → AreInStep old a h → Adds h e refusal r b → ((why : Refusal) → r ≡ Err (changes.Refused why) → (b ≡ a) × (new ≡ old)) → (r ≡ Err changes.Memory → new ≡ old)
+    → LeadsTo h (h ++ e ∷ []) old new × OnOk r (AreInStep new b (h ++ e ∷ [])) → Takes h item (changed r) old new b
+takes_entry h item e refusal (Ok n) old new a b step in_step adds same memory leads =
     let P : Option Refusal → Type 0 = λ o. machine.Adds h e o (Accepted (length (h ++ e ∷ []))) (h ++ e ∷ []) in
     record {
-      turn = record { reply = Accepted (length (h ++ e ∷ [])); next = h ++ e ∷ [] };
+      outcome = record { reply = Accepted (length (h ++ e ∷ [])); next = world_of (h ++ e ∷ []) };
       step = step (Accepted (length (h ++ e ∷ []))) (h ++ e ∷ []) (subst P (sym (adds.allowed (inl refl))) (refl, refl));
       leads = leads.0;
       ends = (ap Accepted (omega (arith, adds.stands.1, length-append h (e ∷ []))), leads.1);
     }
-takes_entry h item e refusal (Err (changes.Refused why)) old new a b step kept adds same memory leads =
+takes_entry h item e refusal (Err (changes.Refused why)) old new a b step in_step adds same memory leads =
     let P : Option Refusal → Type 0 = λ o. machine.Adds h e o (Refused why) h in
     let still = same why refl in
     let L : DiskState → Type 0 = λ d. LeadsTo h h old d in
-    let K : DiskState → Type 0 = λ d. IsKept d b h in
-    let A : ArchiveState → Type 0 = λ x. IsKept old x h in
+    let K : DiskState → Type 0 = λ d. AreInStep d b h in
+    let A : ArchiveState → Type 0 = λ x. AreInStep old x h in
     record {
-      turn = record { reply = Refused why; next = h };
+      outcome = record { reply = Refused why; next = world_of h };
       step = step (Refused why) h (subst P (sym (adds.refused why refl)) (refl, refl));
-      leads = subst L (sym still.1) (leads_nowhere old a h h kept);
-      ends = (refl, subst K (sym still.1) (subst A (sym still.0) kept));
+      leads = subst L (sym still.1) (leads_nowhere old a h h in_step);
+      ends = (refl, subst K (sym still.1) (subst A (sym still.0) in_step));
     }
-takes_entry h item e refusal (Err changes.Failed) old new a b step kept adds same memory leads =
+takes_entry h item e refusal (Err changes.Failed) old new a b step in_step adds same memory leads =
     let P : Option Refusal → Type 0 = λ o. machine.Adds h e o (Accepted (length (h ++ e ∷ []))) (h ++ e ∷ []) in
     record {
-      turn = record { reply = Accepted (length (h ++ e ∷ [])); next = h ++ e ∷ [] };
+      outcome = record { reply = Accepted (length (h ++ e ∷ [])); next = world_of (h ++ e ∷ []) };
       step = step (Accepted (length (h ++ e ∷ []))) (h ++ e ∷ []) (subst P (sym (adds.allowed (inr refl))) (refl, refl));
       leads = leads.0;
       ends = tt;
     }
-takes_entry h item e refusal (Err changes.Memory) old new a b step kept adds same memory leads =
-    let turn = adds_turn h e refusal in
-    let L : DiskState → Type 0 = λ d. LeadsTo h turn.0.next old d in
+takes_entry h item e refusal (Err changes.Memory) old new a b step in_step adds same memory leads =
+    let outcome = adds_outcome h e refusal in
+    let L : DiskState → Type 0 = λ d. LeadsTo h outcome.0.next old d in
     let E : DiskState → Type 0 = λ d. EachStands d h in
     record {
-      turn = turn.0;
-      step = step turn.0.reply turn.0.next turn.1;
-      leads = subst L (sym (memory refl)) (leads_nowhere old a h turn.0.next kept);
-      ends = subst E (sym (memory refl)) (kept_stands old a h kept);
+      outcome = record { reply = outcome.0.reply; next = world_of outcome.0.next };
+      step = step outcome.0.reply outcome.0.next outcome.1;
+      leads = subst L (sym (memory refl)) (leads_nowhere old a h outcome.0.next in_step);
+      ends = subst E (sym (memory refl)) (in_step_stands old a h in_step);
     }
 
 -- reads leave what they find
-reads_lead : (h : History) (old new : DiskState) (a : ArchiveState) → IsKept old a h → OnlyReads old new → LeadsTo h h old new
-reads_lead h old new a kept same =
+reads_lead : (h : History) (old new : DiskState) (a : ArchiveState) → AreInStep old a h → OnlyReads old new → LeadsTo h h old new
+reads_lead h old new a in_step same =
     let P : DiskState → Type 0 = λ d. LeadsTo h h old d in
-    let still = leads_nowhere old a h h kept in
+    let still = leads_nowhere old a h h in_step in
     subst P (sym same) (record {
       goes_on = let g = still.goes_on in record { later = g.later; nothing_else = g.nothing_else; keeps = g.keeps };
       images = still.images;
     })
 
-pub reads_keep : (h : History) (old new : DiskState) (a : ArchiveState) → IsKept old a h → OnlyReads old new → IsKept new a h
-reads_keep h old new a kept same = record {
-  stands = kept.stands;
-  in_step = step_reads old new a.end (bodies_of h) kept.in_step same;
-  legal = kept.legal;
-  held = (let P : DiskState → Type 0 = λ d. (image : Bytes) → MayLeave d.now image → HoldsPlans h image.pages in subst P (sym same) kept.held);
-  cached = cache_reads old new a same kept.cached;
+pub reads_keep : (h : History) (old new : DiskState) (a : ArchiveState) → AreInStep old a h → OnlyReads old new → AreInStep new a h
+reads_keep h old new a in_step same = record {
+  stands = in_step.stands;
+  journal = step_reads old new a.end (bodies_of h) in_step.journal same;
+  legal = in_step.legal;
+  held = (let P : DiskState → Type 0 = λ d. (image : Bytes) → MayLeave d.now image → HoldsPlans h image.pages in subst P (sym same) in_step.held);
+  cached = cache_reads old new a same in_step.cached;
 }
 
--- the reply of a turn is the one that was given, if one was
+-- the reply of an outcome is the one that was given, if one was
 abbrev pub Gives : Reply → Ending → Type 0
 Gives reply (Replied given) = reply ≡ given
 Gives reply Starved = Unit {0}
@@ -117,63 +118,63 @@ Gives reply (Spoiled damage) = ⊥
 
 -- a question, which leaves the history as it is
 pub takes_question : (h : History) (item : Item) (reply : Reply) (ending : Ending) (old new : DiskState) (a : ArchiveState)
-    → Step h item reply h → OnlyReads old new → IsKept old a h → Gives reply ending → Takes h item ending old new a
-takes_question h item reply (Replied given) old new a step same kept gives =
-    record { turn = record { reply = reply; next = h }; step = step; leads = reads_lead h old new a kept same; ends = (gives, reads_keep h old new a kept same) }
-takes_question h item reply Starved old new a step same kept gives =
-    record { turn = record { reply = reply; next = h }; step = step; leads = reads_lead h old new a kept same; ends = kept_stands new a h (reads_keep h old new a kept same) }
-takes_question h item reply (Spoiled damage) old new a step same kept gives = absurd gives
-takes_question h item reply Faulted old new a step same kept gives =
-    record { turn = record { reply = reply; next = h }; step = step; leads = reads_lead h old new a kept same; ends = tt }
+    → Step (world_of h) item reply (world_of h) → OnlyReads old new → AreInStep old a h → Gives reply ending → Takes h item ending old new a
+takes_question h item reply (Replied given) old new a step same in_step gives =
+    record { outcome = record { reply = reply; next = world_of h }; step = step; leads = reads_lead h old new a in_step same; ends = (gives, reads_keep h old new a in_step same) }
+takes_question h item reply Starved old new a step same in_step gives =
+    record { outcome = record { reply = reply; next = world_of h }; step = step; leads = reads_lead h old new a in_step same; ends = in_step_stands new a h (reads_keep h old new a in_step same) }
+takes_question h item reply (Spoiled damage) old new a step same in_step gives = absurd gives
+takes_question h item reply Faulted old new a step same in_step gives =
+    record { outcome = record { reply = reply; next = world_of h }; step = step; leads = reads_lead h old new a in_step same; ends = tt }
 
 -- a query that was asked
 pub takes_find : (h : History) (at : Time) (text : List ℕ) (r : Result Answer AskError) (old new : DiskState) (a : ArchiveState)
     → ((why : Refusal) → r ≡ Err (asks.Refused why) → IsNoQuery text why)
     → ((damage : Damage) → r ≡ Err (asks.Damaged damage) → ⊥) → IfOk r (λ answer. Finds h at text (Found answer.rows.items answer.read))
-    → OnlyReads old new → IsKept old a h → Takes h (items.Command (commands.Find at text)) (found r) old new a
-takes_find h at text (Ok answer) old new a refused undamaged finds same kept =
-    takes_question h (items.Command (commands.Find at text)) (Found answer.rows.items answer.read) (found (Ok answer)) old new a (refl, finds) same kept refl
-takes_find h at text (Err (asks.Refused why)) old new a refused undamaged finds same kept =
+    → OnlyReads old new → AreInStep old a h → Takes h (items.Command (commands.Find at text)) (found r) old new a
+takes_find h at text (Ok answer) old new a refused undamaged finds same in_step =
+    takes_question h (items.Command (commands.Find at text)) (Found answer.rows.items answer.read) (found (Ok answer)) old new a (refl, finds) same in_step refl
+takes_find h at text (Err (asks.Refused why)) old new a refused undamaged finds same in_step =
     let (place, read, is) = refused why refl in
-    takes_question h (items.Command (commands.Find at text)) (Refused (refusals.BadQuery place)) (found (Err (asks.Refused why))) old new a (refl, (Err place, read, refl)) same kept (sym (ap Refused is))
-takes_find h at text (Err (asks.Damaged damage)) old new a refused undamaged finds same kept = absurd (undamaged damage refl)
-takes_find h at text (Err asks.Failed) old new a refused undamaged finds same kept =
-    let any = each_finds h at text kept.legal in
-    takes_question h (items.Command (commands.Find at text)) any.0 Faulted old new a (refl, any.1) same kept tt
-takes_find h at text (Err asks.Memory) old new a refused undamaged finds same kept =
-    let any = each_finds h at text kept.legal in
-    takes_question h (items.Command (commands.Find at text)) any.0 Starved old new a (refl, any.1) same kept tt
+    takes_question h (items.Command (commands.Find at text)) (Refused (refusals.BadQuery place)) (found (Err (asks.Refused why))) old new a (refl, (Err place, read, refl)) same in_step (sym (ap Refused is))
+takes_find h at text (Err (asks.Damaged damage)) old new a refused undamaged finds same in_step = absurd (undamaged damage refl)
+takes_find h at text (Err asks.Failed) old new a refused undamaged finds same in_step =
+    let any = each_finds h at text in_step.legal in
+    takes_question h (items.Command (commands.Find at text)) any.0 Faulted old new a (refl, any.1) same in_step tt
+takes_find h at text (Err asks.Memory) old new a refused undamaged finds same in_step =
+    let any = each_finds h at text in_step.legal in
+    takes_question h (items.Command (commands.Find at text)) any.0 Starved old new a (refl, any.1) same in_step tt
 
 -- a query that was asked over a window
 pub takes_between : (h : History) (span : Span) (text : List ℕ) (r : Result SpanAnswer AskError) (old new : DiskState) (a : ArchiveState)
     → ((why : Refusal) → r ≡ Err (asks.Refused why) → IsNoQuery text why)
     → ((damage : Damage) → r ≡ Err (asks.Damaged damage) → ⊥) → IfOk r (λ answer. Spans h span text (Spanned answer.rows.items answer.read))
-    → OnlyReads old new → IsKept old a h → Takes h (items.Command (commands.Between span text)) (spanned r) old new a
-takes_between h span text (Ok answer) old new a refused undamaged spans same kept =
-    takes_question h (items.Command (commands.Between span text)) (Spanned answer.rows.items answer.read) (spanned (Ok answer)) old new a (refl, spans) same kept refl
-takes_between h span text (Err (asks.Refused why)) old new a refused undamaged spans same kept =
+    → OnlyReads old new → AreInStep old a h → Takes h (items.Command (commands.Between span text)) (spanned r) old new a
+takes_between h span text (Ok answer) old new a refused undamaged spans same in_step =
+    takes_question h (items.Command (commands.Between span text)) (Spanned answer.rows.items answer.read) (spanned (Ok answer)) old new a (refl, spans) same in_step refl
+takes_between h span text (Err (asks.Refused why)) old new a refused undamaged spans same in_step =
     let (place, read, is) = refused why refl in
-    takes_question h (items.Command (commands.Between span text)) (Refused (refusals.BadQuery place)) (spanned (Err (asks.Refused why))) old new a (refl, (Err place, read, refl)) same kept (sym (ap Refused is))
-takes_between h span text (Err (asks.Damaged damage)) old new a refused undamaged spans same kept = absurd (undamaged damage refl)
-takes_between h span text (Err asks.Failed) old new a refused undamaged spans same kept =
-    let any = each_spans h span text kept.legal in
-    takes_question h (items.Command (commands.Between span text)) any.0 Faulted old new a (refl, any.1) same kept tt
-takes_between h span text (Err asks.Memory) old new a refused undamaged spans same kept =
-    let any = each_spans h span text kept.legal in
-    takes_question h (items.Command (commands.Between span text)) any.0 Starved old new a (refl, any.1) same kept tt
+    takes_question h (items.Command (commands.Between span text)) (Refused (refusals.BadQuery place)) (spanned (Err (asks.Refused why))) old new a (refl, (Err place, read, refl)) same in_step (sym (ap Refused is))
+takes_between h span text (Err (asks.Damaged damage)) old new a refused undamaged spans same in_step = absurd (undamaged damage refl)
+takes_between h span text (Err asks.Failed) old new a refused undamaged spans same in_step =
+    let any = each_spans h span text in_step.legal in
+    takes_question h (items.Command (commands.Between span text)) any.0 Faulted old new a (refl, any.1) same in_step tt
+takes_between h span text (Err asks.Memory) old new a refused undamaged spans same in_step =
+    let any = each_spans h span text in_step.legal in
+    takes_question h (items.Command (commands.Between span text)) any.0 Starved old new a (refl, any.1) same in_step tt
 
 -- a version that was asked for
 pub takes_show : {T : Type 0} (bytes : T → List ℕ) (h : History) (doc : DocId) (at : Time) (r : Result (Option T) AskError) (old new : DiskState) (a : ArchiveState)
     → ((why : Refusal) → r ≡ Err (asks.Refused why) → ⊥) → ((damage : Damage) → r ≡ Err (asks.Damaged damage) → ⊥) → IfOk r (λ text. option_map bytes text ≡ text_at h doc at.seconds)
-    → OnlyReads old new → IsKept old a h → Takes h (items.Command (commands.Show doc at)) (shown bytes r) old new a
-takes_show bytes h doc at (Ok text) old new a never undamaged is same kept =
-    takes_question h (items.Command (commands.Show doc at)) (Shown (text_at h doc at.seconds)) (shown bytes (Ok text)) old new a (refl, refl) same kept (ap Shown (sym is))
-takes_show bytes h doc at (Err (asks.Refused why)) old new a never undamaged is same kept = absurd (never why refl)
-takes_show bytes h doc at (Err asks.Failed) old new a never undamaged is same kept =
-    takes_question h (items.Command (commands.Show doc at)) (Shown (text_at h doc at.seconds)) Faulted old new a (refl, refl) same kept tt
-takes_show bytes h doc at (Err (asks.Damaged damage)) old new a never undamaged is same kept = absurd (undamaged damage refl)
-takes_show bytes h doc at (Err asks.Memory) old new a never undamaged is same kept =
-    takes_question h (items.Command (commands.Show doc at)) (Shown (text_at h doc at.seconds)) Starved old new a (refl, refl) same kept tt
+    → OnlyReads old new → AreInStep old a h → Takes h (items.Command (commands.Show doc at)) (version_shown bytes r) old new a
+takes_show bytes h doc at (Ok text) old new a never undamaged is same in_step =
+    takes_question h (items.Command (commands.Show doc at)) (Version (text_at h doc at.seconds)) (version_shown bytes (Ok text)) old new a (refl, refl) same in_step (ap Version (sym is))
+takes_show bytes h doc at (Err (asks.Refused why)) old new a never undamaged is same in_step = absurd (never why refl)
+takes_show bytes h doc at (Err asks.Failed) old new a never undamaged is same in_step =
+    takes_question h (items.Command (commands.Show doc at)) (Version (text_at h doc at.seconds)) Faulted old new a (refl, refl) same in_step tt
+takes_show bytes h doc at (Err (asks.Damaged damage)) old new a never undamaged is same in_step = absurd (undamaged damage refl)
+takes_show bytes h doc at (Err asks.Memory) old new a never undamaged is same in_step =
+    takes_question h (items.Command (commands.Show doc at)) (Version (text_at h doc at.seconds)) Starved old new a (refl, refl) same in_step tt
 
 -- an answer that was made from the lists chosen, in pages that hold the live plans
 pub finds_made : (h : History) (pages : List ℕ) (at : Time) (text : List ℕ) (B : Answer → Query → Type 0) (r : Result Answer AskError) → IsLoadable h → HoldsPlans h pages

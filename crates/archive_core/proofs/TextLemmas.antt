@@ -17,23 +17,23 @@ use Rattle.record_codec.specs.declared.entry.Entry.{Entry}
 use Rattle.record_codec.specs.declared.entry.Entry.TheVariants.{Arrive, Delete, Planned}
 use Rattle.archive_state.specs.Histories.{History, text_at}
 use Rattle.archive_state.specs.Stands.{bodies_of}
-use Rattle.archive_core.specs.States.{ArchiveState, StandsFor, IsKept}
+use Rattle.archive_core.specs.States.{ArchiveState, StandsFor, AreInStep}
 use Rattle.archive_replay.specs.Places.{pair_of, placed_by, places}
 use Rattle.archive_replay.specs.Texts.{text_in, LiesIn}
 use Rattle.archive_replay.proofs.TextLemmas.{texts_are}
 
--- what reads give spells the bodies of a history that is kept
-pub kept_spelled : (d : DiskState) (a : ArchiveState) (h : History) → MayLeave d.now d.holds → IsKept d a h → Spells d.holds.journal (bodies_of h)
-kept_spelled d a h allowed kept =
-    let is = kept.in_step.images d.holds allowed in
-    inr (record { gate = kept.in_step.gate; rest = is.0; shut = kept.in_step.shut; fit = kept.in_step.fit; whole = is.1 })
+-- what reads give spells the bodies of the history that is in step with them
+pub in_step_spelled : (d : DiskState) (a : ArchiveState) (h : History) → MayLeave d.now d.holds → AreInStep d a h → Spells d.holds.journal (bodies_of h)
+in_step_spelled d a h allowed in_step =
+    let is = in_step.journal.images d.holds allowed in
+    inr (record { gate = in_step.journal.gate; rest = is.0; shut = in_step.journal.shut; fit = in_step.journal.fit; whole = is.1 })
 
 -- the text of a document that is alive at a time, by its place
-pub text_is : (d : DiskState) (a : ArchiveState) (h : History) (doc : DocId) (t : ℕ) → MayLeave d.now d.holds → IsKept d a h
+pub text_is : (d : DiskState) (a : ArchiveState) (h : History) (doc : DocId) (t : ℕ) → MayLeave d.now d.holds → AreInStep d a h
     → option_map (text_in d.holds.journal) (held_at doc t a.changes) ≡ text_at h doc t
-text_is d a h doc t allowed kept =
+text_is d a h doc t allowed in_step =
     sym (held_at-mapped (text_in d.holds.journal) doc t a.changes)
-    ∙ ap (held_at doc t) (texts_are d.holds.journal h a.changes (kept_spelled d a h allowed kept) kept.stands.changes_are)
+    ∙ ap (held_at doc t) (texts_are d.holds.journal h a.changes (in_step_spelled d a h allowed in_step) in_step.stands.changes_are)
 
 -- each place lies in front of the end
 abbrev LiesBy : ℕ → Option (ℕ × ℕ) → Type 0

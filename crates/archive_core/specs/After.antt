@@ -39,7 +39,7 @@ pub record AfterQuestion {T : Type 0} (tells : Type 0) (phrase : List ℕ) (resu
   -- no image changes, no byte and no length
   pub same : OnlyReads d e
   -- nor does the archive, but for which pages it keeps
-  pub kept : IsSameButCache old new
+  pub but_cache : IsSameButCache old new
   -- and these go on being what reads give, whatever is answered
   pub cached : tells → CacheStands d old → CacheStands e new
   -- it failed only where a call of the disk failed

@@ -52,9 +52,9 @@ IsSameButCache old new = new ≡ record old { shelf = record (old.shelf) { cache
 
 -- what a disk is that an archive in hand may change: all its images have the history's journal, and the history is legal, and in all images
 -- the pages hold what its live plans need; the pages that it keeps are as reads give them
-pub record IsKept (d : DiskState) (archive : ArchiveState) (history : History) : Type 0 where
+pub record AreInStep (d : DiskState) (archive : ArchiveState) (history : History) : Type 0 where
   pub stands : StandsFor archive history
-  pub in_step : IsInStep d archive.end (bodies_of history)
+  pub journal : IsInStep d archive.end (bodies_of history)
   pub legal : IsLegal history
   pub held : (image : Bytes) → MayLeave d.now image → HoldsPlans history image.pages
   pub cached : CacheStands d archive

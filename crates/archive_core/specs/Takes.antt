@@ -9,10 +9,11 @@ use Rattle.query_eval.specs.declared.answer.Answer.{Answer}
 use Rattle.query_eval.specs.declared.spans.SpanAnswer.{SpanAnswer}
 use Rattle.archive_state.specs.Histories.{History}
 use Rattle.archive_state.specs.declared.verdict.Verdict.{Verdict}
-use Rattle.archive_state.specs.Steps.{Reply, Accepted, Refused, Found, Spanned, Shown, Proposed, Planned, Verified, Step}
-use Rattle.archive_state.specs.Runs.{Turn}
+use Rattle.archive_state.specs.Steps.{Reply, Accepted, Refused, Found, Spanned, Version, Proposed, Planned, Verified, Step}
+use Rattle.archive_state.specs.Runs.{Outcome}
 use Rattle.archive_state.specs.Stands.{EachStands}
-use Rattle.archive_core.specs.States.{ArchiveState, IsKept}
+use Rattle.archive_state.specs.Worlds.{World, world_of}
+use Rattle.archive_core.specs.States.{ArchiveState, AreInStep}
 use Rattle.archive_core.specs.Changing.{LeadsTo}
 use Rattle.plan_shelf.specs.declared.readying.PlanReport.{PlanReport}
 use Rattle.plan_shelf.specs.Readying.{summary_of}
@@ -60,26 +61,26 @@ abbrev pub proposed : Result Proposal AskError → Ending
 proposed (Ok proposal) = Replied (Proposed proposal.segments.items proposal.nodes.items proposal.space)
 proposed (Err error) = declined error
 
-abbrev pub shown : {T : Type 0} → (T → List ℕ) → Result (Option T) AskError → Ending
-shown bytes (Ok text) = Replied (Shown (option_map bytes text))
-shown bytes (Err error) = declined error
+abbrev pub version_shown : {T : Type 0} → (T → List ℕ) → Result (Option T) AskError → Ending
+version_shown bytes (Ok text) = Replied (Version (option_map bytes text))
+version_shown bytes (Err error) = declined error
 
 abbrev pub verified : Result Verdict AskError → Ending
 verified (Ok verdict) = Replied (Verified verdict)
 verified (Err error) = declined error
 
--- Where a reply was given it is that of the turn, and the archive stands for the history after the turn; where memory ran out, each image
+-- Where a reply was given it is that of the outcome, and the archive stands for the history after the outcome; where memory ran out, each image
 -- stands for the history before it. Nothing is damaged.
-abbrev pub EndsBy : History → Turn Reply History → DiskState → ArchiveState → Ending → Type 0
-EndsBy before turn new archive_now (Replied reply) = (turn.reply ≡ reply) × IsKept new archive_now turn.next
-EndsBy before turn new archive_now Starved = EachStands new before
-EndsBy before turn new archive_now Faulted = Unit {0}
-EndsBy before turn new archive_now (Spoiled damage) = ⊥
+abbrev pub EndsBy : History → Outcome Reply World → DiskState → ArchiveState → Ending → Type 0
+EndsBy before outcome new archive_now (Replied reply) = (outcome.reply ≡ reply) × AreInStep new archive_now outcome.next.history
+EndsBy before outcome new archive_now Starved = EachStands new before
+EndsBy before outcome new archive_now Faulted = Unit {0}
+EndsBy before outcome new archive_now (Spoiled damage) = ⊥
 
--- The item has a turn of the abstract machine from this history. Each image left since the start of the call stands for the history before
--- the turn or after it.
+-- The item has an outcome of the abstract machine from this history. Each image left since the start of the call stands for the history before
+-- the outcome or after it.
 pub record Takes (history : History) (item : Item) (ending : Ending) (old new : DiskState) (archive_now : ArchiveState) : Type 0 where
-  pub turn : Turn Reply History
-  pub step : Step history item turn.reply turn.next
-  pub leads : LeadsTo history turn.next old new
-  pub ends : EndsBy history turn new archive_now ending
+  pub outcome : Outcome Reply World
+  pub step : Step (world_of history) item outcome.reply outcome.next
+  pub leads : LeadsTo history outcome.next.history old new
+  pub ends : EndsBy history outcome new archive_now ending

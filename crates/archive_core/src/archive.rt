@@ -15,7 +15,7 @@ ghost use Rattle.record_codec.specs.declared.plan.PlanEntry.{PlanEntry};
 ghost use Rattle.archive_core.specs.Storing.{IsDraft, IsStoredAs, NotDrafted, NotReady};
 ghost use Rattle.plan_shelf.specs.Readying.{IsFull, tells_of};
 ghost use Rattle.archive_core.specs.Answering.{HasAsked};
-ghost use Rattle.archive_core.specs.States.{StandsFor, CacheStands, IsSameButCache, IsKept, Reaches};
+ghost use Rattle.archive_core.specs.States.{StandsFor, CacheStands, IsSameButCache, AreInStep, Reaches};
 ghost use Rattle.archive_core.specs.Changing.{LeadsTo};
 ghost use Rattle.archive_core.specs.Takes.{Takes, changed, planned};
 ghost use Rattle.plan_shelf.specs.Readying.{summary_of};
@@ -160,7 +160,7 @@ impl Archive {
         ensures only { D.Disk.only disk.old disk.new }
         ensures failed { IfErr result (IfFailed (Rose (D.disk disk.old).faults (D.disk disk.new).faults)) }
         ensures same { OnlyReads (D.disk disk.old) (D.disk disk.new) }
-        ensures kept { IsSameButCache self.old self.new }
+        ensures but_cache { IsSameButCache self.old self.new }
         ensures cached { D.disk_tells → CacheStands (D.disk disk.old) self.old → CacheStands (D.disk disk.new) self.new }
         ensures asked { D.disk_tells → CacheStands (D.disk disk.old) self.old → (s : PlainStored) → s ≡ get_or self.old.shelf.plans at s →
             OnOk result (HasAsked (pieces_chosen (D.disk disk.old).holds.pages (Some s.plan) span.from span.to) self.old.shelf.cache self.new.shelf.cache (D.disk disk.old) (D.disk disk.new)) }
@@ -197,7 +197,7 @@ impl Archive {
         // What it stands for then begins with what it stood for.
         ensures follows { (h : History) → StandsFor self.old h → IsDone result → (more : History) × StandsFor self.new (h ++ more) }
         // In step, it is a step of the abstract machine; each image left since stands for the history before it or after it.
-        ensures takes { D.disk_tells → (h : History) → IsKept (D.disk disk.old) self.old h → Takes h (items.Command (commands.Arrive doc at (texts.Bytes text.now))) (changed result) (D.disk disk.old) (D.disk disk.new) self.new }
+        ensures takes { D.disk_tells → (h : History) → AreInStep (D.disk disk.old) self.old h → Takes h (items.Command (commands.Arrive doc at (texts.Bytes text.now))) (changed result) (D.disk disk.old) (D.disk disk.new) self.new }
         ensures pages { D.disk_tells → KeepsPages (D.disk disk.old) (D.disk disk.new) }
     {
         let prepared = prepare_arrival(alloc, &self.directory, &mut self.index, doc, at, text);
@@ -231,7 +231,7 @@ impl Archive {
         // What it stands for then begins with what it stood for.
         ensures follows { (h : History) → StandsFor self.old h → IsDone result → (more : History) × StandsFor self.new (h ++ more) }
         // In step, it is a step of the abstract machine; each image left since stands for the history before it or after it.
-        ensures takes { D.disk_tells → (h : History) → IsKept (D.disk disk.old) self.old h → Takes h (items.Command (commands.Delete doc at)) (changed result) (D.disk disk.old) (D.disk disk.new) self.new }
+        ensures takes { D.disk_tells → (h : History) → AreInStep (D.disk disk.old) self.old h → Takes h (items.Command (commands.Delete doc at)) (changed result) (D.disk disk.old) (D.disk disk.new) self.new }
         ensures pages { D.disk_tells → KeepsPages (D.disk disk.old) (D.disk disk.new) }
     {
         let prepared = prepare_deletion(alloc, &self.directory, &mut self.index, doc, at);
@@ -269,7 +269,7 @@ impl Archive {
         // What it stands for then begins with what it stood for.
         ensures follows { (h : History) → StandsFor self.old h → IsDone result → (more : History) × StandsFor self.new (h ++ more) }
         // In step, it is a step of the abstract machine; each image left since stands for the history before it or after it.
-        ensures takes { D.disk_tells → (h : History) → IsKept (D.disk disk.old) self.old h → Takes h (items.Command (commands.Plan word.now kind factor)) (planned result) (D.disk disk.old) (D.disk disk.new) self.new }
+        ensures takes { D.disk_tells → (h : History) → AreInStep (D.disk disk.old) self.old h → Takes h (items.Command (commands.Plan word.now kind factor)) (planned result) (D.disk disk.old) (D.disk disk.new) self.new }
     {
         match self.draft(alloc, word, kind, factor) {
             Ok(draft) => self.store(alloc, disk, draft),
@@ -310,9 +310,9 @@ impl Archive {
         ensures spent { (IsErrOf result ChangeError.Memory ⊎ IsErrOf result ChangeError.Failed) → IsSpent self.old self.new }
         ensures refused { (h : History) → StandsFor self.old h → (why : Refusal) → IsErrOf result (ChangeError.Refused why) → IsFull draft (live_extents h) self.old.end why × StandsFor self.new h }
         ensures stores { (h : History) → StandsFor self.old h → IfOk result (λ r. (plan : PlanEntry) × (IsStoredAs h draft plan × (summary_of r ≡ tells_of draft (length h + 1)) × StandsFor self.new (h ++ entries.Planned plan ∷ []))) }
-        ensures leads { D.disk_tells → (h : History) → IsKept (D.disk disk.old) self.old h → IsOk result ⊎ IsErrOf result ChangeError.Failed →
+        ensures leads { D.disk_tells → (h : History) → AreInStep (D.disk disk.old) self.old h → IsOk result ⊎ IsErrOf result ChangeError.Failed →
             (plan : PlanEntry) × (IsStoredAs h draft plan × LeadsTo h (h ++ entries.Planned plan ∷ []) (D.disk disk.old) (D.disk disk.new)
-            × IfOk result (λ r. (summary_of r ≡ tells_of draft (length h + 1)) × IsKept (D.disk disk.new) self.new (h ++ entries.Planned plan ∷ []))) }
+            × IfOk result (λ r. (summary_of r ≡ tells_of draft (length h + 1)) × AreInStep (D.disk disk.new) self.new (h ++ entries.Planned plan ∷ []))) }
         ensures stays { (h : History) → StandsFor self.old h → ((why : Refusal) × IsErrOf result (ChangeError.Refused why)) ⊎ IsErrOf result ChangeError.Memory → StandsFor self.new h }
     {
         let ready = match make_ready(
@@ -364,8 +364,8 @@ impl Archive {
         ensures only { D.Disk.only disk.old disk.new }
         ensures after { AfterChange D.disk_tells ((self.new ≡ self.old) × (disk.new ≡ disk.old)) (disk.new ≡ disk.old) result (D.disk disk.old) (D.disk disk.new) self.old self.new }
         ensures adds { (h : History) (entry : Entry) (refusal : Option Refusal) → StandsFor self.old h → IsPrepared h self.old.index entry refusal prepared → Adds h entry refusal result self.new }
-        ensures leads { D.disk_tells → (h : History) (entry : Entry) (refusal : Option Refusal) → IsKept (D.disk disk.old) self.old h → IsPrepared h self.old.index entry refusal prepared →
-            LeadsTo h (h ++ entry ∷ []) (D.disk disk.old) (D.disk disk.new) × OnOk result (IsKept (D.disk disk.new) self.new (h ++ entry ∷ [])) }
+        ensures leads { D.disk_tells → (h : History) (entry : Entry) (refusal : Option Refusal) → AreInStep (D.disk disk.old) self.old h → IsPrepared h self.old.index entry refusal prepared →
+            LeadsTo h (h ++ entry ∷ []) (D.disk disk.old) (D.disk disk.new) × OnOk result (AreInStep (D.disk disk.new) self.new (h ++ entry ∷ [])) }
         ensures pages { D.disk_tells → KeepsPages (D.disk disk.old) (D.disk disk.new) }
     {
         match prepared {

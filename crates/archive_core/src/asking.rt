@@ -14,8 +14,8 @@ ghost use Rattle.archive_state.specs.Plans.{is_another};
 ghost use Rattle.archive_state.specs.Chosen.{AreChosen, SpoilsAnswer};
 ghost use Rattle.archive_core.specs.After.{AfterQuestion};
 ghost use Rattle.archive_core.specs.Answering.{AnswersAt, IsNoQuery};
-ghost use Rattle.archive_core.specs.States.{StandsFor, CacheStands, IsKept, Reaches};
-ghost use Rattle.archive_core.specs.Takes.{Takes, found, shown};
+ghost use Rattle.archive_core.specs.States.{StandsFor, CacheStands, AreInStep, Reaches};
+ghost use Rattle.archive_core.specs.Takes.{Takes, found, version_shown};
 ghost use Rattle.commands.specs.declared.command.Command.TheVariants as commands;
 ghost use Rattle.commands.specs.declared.command.Item.TheVariants as items;
 
@@ -61,7 +61,7 @@ impl Archive {
         ensures damaged { D.disk_tells → (h : History) → StandsFor self.old h → CacheStands (D.disk disk.old) self.old → (d : Damage) → IsErrOf result (AskError.Damaged d) →
             SpoilsAnswer h (D.disk disk.old).holds.pages at.seconds (at.seconds + 1) expr.now d }
         // In step, it is a step of the abstract machine.
-        ensures takes { D.disk_tells → (h : History) → IsKept (D.disk disk.old) self.old h →
+        ensures takes { D.disk_tells → (h : History) → AreInStep (D.disk disk.old) self.old h →
             Takes h (items.Command (commands.Find at expr.now)) (found result) (D.disk disk.old) (D.disk disk.new) self.new }
     {
         self.answer_of(alloc, disk, at, expr)
@@ -155,8 +155,8 @@ impl Archive {
         ensures never { (why : Refusal) → IsErrOf result (AskError.Refused why) → ⊥ }
         ensures undamaged { (d : Damage) → IsErrOf result (AskError.Damaged d) → ⊥ }
         // In step, it is a step of the abstract machine.
-        ensures takes { D.disk_tells → (h : History) → IsKept (D.disk disk.old) self.now h →
-            Takes h (items.Command (commands.Show doc at)) (shown (λ v. v.items) result) (D.disk disk.old) (D.disk disk.new) self.now }
+        ensures takes { D.disk_tells → (h : History) → AreInStep (D.disk disk.old) self.now h →
+            Takes h (items.Command (commands.Show doc at)) (version_shown (λ v. v.items) result) (D.disk disk.old) (D.disk disk.new) self.now }
     {
         self.text_of(alloc, disk, doc, at)
     }
@@ -175,7 +175,7 @@ impl Archive {
         ensures failed { IsErrOf result AskError.Failed → Rose (D.disk disk.old).faults (D.disk disk.new).faults }
         ensures never { (why : Refusal) → IsErrOf result (AskError.Refused why) → ⊥ }
         ensures undamaged { (d : Damage) → IsErrOf result (AskError.Damaged d) → ⊥ }
-        ensures shown { D.disk_tells → (h : History) → IsKept (D.disk disk.old) self.now h → IfOk result (λ text. option_map (λ v. v.items) text ≡ text_at h doc at.seconds) }
+        ensures text { D.disk_tells → (h : History) → AreInStep (D.disk disk.old) self.now h → IfOk result (λ text. option_map (λ v. v.items) text ≡ text_at h doc at.seconds) }
     {
         let Some(place) = self.directory().place(doc, at) else {
             return Ok(None);

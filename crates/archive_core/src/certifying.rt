@@ -5,8 +5,8 @@ ghost use Rattle.stored_plans.specs.Plans.{IsLeastPlan};
 ghost use Rattle.archive_state.specs.Histories.{History};
 ghost use Rattle.archive_state.specs.Legal.{IsLegal};
 ghost use Rattle.archive_state.specs.Plans.{plan_of};
-ghost use Rattle.archive_state.specs.Steps.{Certifies, IsCertificate, Proposed, Refused, ShowsLive, ShowsPlan};
-ghost use Rattle.archive_core.specs.States.{StandsFor, IsKept};
+ghost use Rattle.archive_state.specs.Steps.{Certifies, IsCertificate, Proposed, Refused, CertifiesLive, CertifiesPlan};
+ghost use Rattle.archive_core.specs.States.{StandsFor, AreInStep};
 ghost use Rattle.archive_core.specs.Takes.{Takes, proposed};
 ghost use Rattle.commands.specs.declared.command.Command.TheVariants as commands;
 ghost use Rattle.commands.specs.declared.command.Item.TheVariants as items;
@@ -28,7 +28,7 @@ use time_base::{Key, Posting};
 
 impl Archive {
     /// The stored plan of a word, if it keeps to a guarantee: its segments with their sizes, and the least
-    /// space up to each boundary of the list, so that its own space shows that it is least. Nothing is
+    /// space up to each boundary of the list, so that its own space tells that it is least. Nothing is
     /// changed, and no disk is asked.
     ///
     /// `Refused`: for the first cause in order, the phrase isn't one term, no text has the word, or it has
@@ -37,12 +37,12 @@ impl Archive {
     pub fn certificate(&self, alloc: Global, word: &Phrase) -> Result<Proposal, AskError>
         ensures failed { IsErrOf result AskError.Failed → ⊥ }
         ensures undamaged { (d : Damage) → IsErrOf result (AskError.Damaged d) → ⊥ }
-        // Whatever history it stands for, a refusal comes exactly where that has the cause (but for want of memory); what is shown is the stored
+        // Whatever history it stands for, a refusal comes exactly where that has the cause (but for want of memory); what is told is the stored
         // plan, where the history is legal.
         ensures refused { (h : History) → StandsFor self.now h → (why : Refusal) → IsErrOf result (AskError.Refused why) → Certifies h word.now (Refused why) }
-        ensures shows { (h : History) → StandsFor self.now h → IsLegal h → IfOk result (λ p. Certifies h word.now (Proposed p.segments.items p.nodes.items p.space)) }
+        ensures certifies { (h : History) → StandsFor self.now h → IsLegal h → IfOk result (λ p. Certifies h word.now (Proposed p.segments.items p.nodes.items p.space)) }
         // In step with a disk, it is a step of the abstract machine.
-        ensures takes { (d : DiskState) (h : History) → IsKept d self.now h → Takes h (items.Command (commands.Certificate word.now)) (proposed result) d d self.now }
+        ensures takes { (d : DiskState) (h : History) → AreInStep d self.now h → Takes h (items.Command (commands.Certificate word.now)) (proposed result) d d self.now }
     {
         self.certificate_of(alloc, word)
     }
@@ -52,7 +52,7 @@ impl Archive {
         ensures failed { IsErrOf result AskError.Failed → ⊥ }
         ensures undamaged { (d : Damage) → IsErrOf result (AskError.Damaged d) → ⊥ }
         ensures refused { (h : History) → StandsFor self.now h → (why : Refusal) → IsErrOf result (AskError.Refused why) → Certifies h word.now (Refused why) }
-        ensures shows { (h : History) → StandsFor self.now h → IsLegal h → IfOk result (λ p. Certifies h word.now (Proposed p.segments.items p.nodes.items p.space)) }
+        ensures certifies { (h : History) → StandsFor self.now h → IsLegal h → IfOk result (λ p. Certifies h word.now (Proposed p.segments.items p.nodes.items p.space)) }
     {
         let Some(key) = one_term(alloc, word.as_str())? else {
             return Err(AskError::Refused(Refusal::NotOneTerm));
@@ -60,34 +60,34 @@ impl Archive {
         if !self.index().knows(&key) {
             return Err(AskError::Refused(Refusal::UnknownWord));
         }
-        self.shown_of(alloc, &key)
+        self.certificate_of_word(alloc, &key)
     }
 
     /// The certificate of a word's live plan.
-    fn shown_of(&self, alloc: Global, word: &Key) -> Result<Proposal, AskError>
+    fn certificate_of_word(&self, alloc: Global, word: &Key) -> Result<Proposal, AskError>
         ensures failed { IsErrOf result AskError.Failed → ⊥ }
         ensures undamaged { (d : Damage) → IsErrOf result (AskError.Damaged d) → ⊥ }
-        ensures refused { (h : History) → StandsFor self.now h → (why : Refusal) → IsErrOf result (AskError.Refused why) → ShowsLive h (plan_of h word.now) (Refused why) }
-        ensures shows { (h : History) → StandsFor self.now h → IsLegal h → IfOk result (λ p. ShowsLive h (plan_of h word.now) (Proposed p.segments.items p.nodes.items p.space)) }
+        ensures refused { (h : History) → StandsFor self.now h → (why : Refusal) → IsErrOf result (AskError.Refused why) → CertifiesLive h (plan_of h word.now) (Refused why) }
+        ensures certifies { (h : History) → StandsFor self.now h → IsLegal h → IfOk result (λ p. CertifiesLive h (plan_of h word.now) (Proposed p.segments.items p.nodes.items p.space)) }
     {
         let Some(stored) = self.shelf().plan_of(word) else {
             return Err(AskError::Refused(Refusal::NoPlan));
         };
         match stored.plan.kind {
-            Kind::Guarantee => self.plan_shown(alloc, &stored.plan),
+            Kind::Guarantee => self.certificate_of_plan(alloc, &stored.plan),
             Kind::Uniform => Err(AskError::Refused(Refusal::NoPlan)),
             Kind::Since { .. } => Err(AskError::Refused(Refusal::NoPlan)),
         }
     }
 
-    /// A live plan that keeps to a guarantee, as it is shown.
-    fn plan_shown(&self, alloc: Global, plan: &PlanEntry) -> Result<Proposal, AskError>
+    /// The certificate of a live plan that keeps to a guarantee.
+    fn certificate_of_plan(&self, alloc: Global, plan: &PlanEntry) -> Result<Proposal, AskError>
         requires live { (h : History) → StandsFor self.now h → plan_of h plan.now.word ≡ Some plan.now }
         requires kind { plan.now.kind ≡ Kind.Guarantee }
         ensures failed { IsErrOf result AskError.Failed → ⊥ }
         ensures undamaged { (d : Damage) → IsErrOf result (AskError.Damaged d) → ⊥ }
         ensures refused { (why : Refusal) → IsErrOf result (AskError.Refused why) → ⊥ }
-        ensures shows { (h : History) → StandsFor self.now h → IsLegal h → IfOk result (λ p. ShowsPlan h plan.now Kind.Guarantee (Proposed p.segments.items p.nodes.items p.space)) }
+        ensures certifies { (h : History) → StandsFor self.now h → IsLegal h → IfOk result (λ p. CertifiesPlan h plan.now Kind.Guarantee (Proposed p.segments.items p.nodes.items p.space)) }
     {
         let whole = self.index().list(alloc, &plan.word)?;
         let list = list_up_to(alloc, &whole, plan.horizon)?;
@@ -107,7 +107,7 @@ fn certified(alloc: Global, list: &[Posting], plan: &PlanEntry) -> Result<Propos
     ensures failed { IsErrOf result AskError.Failed → ⊥ }
     ensures undamaged { (d : Damage) → IsErrOf result (AskError.Damaged d) → ⊥ }
     ensures refused { (why : Refusal) → IsErrOf result (AskError.Refused why) → ⊥ }
-    ensures shows { IfOk result (λ p. IsLeastPlan list.now plan.now.fraction plan.now.cuts plan.now.horizon.seconds → IsCertificate plan.now list.now p.segments.items p.nodes.items p.space) }
+    ensures certifies { IfOk result (λ p. IsLeastPlan list.now plan.now.fraction plan.now.cuts plan.now.horizon.seconds → IsCertificate plan.now list.now p.segments.items p.nodes.items p.space) }
 {
     let table = Table::new(alloc, list, plan.horizon)?;
     let Ok((_, certificate)) = planned(alloc, &table, plan.fraction) else {

@@ -4,7 +4,7 @@ ghost use Rattle.machine_model.specs.Causes.{Rose};
 ghost use Rattle.machine_model.specs.Calls.{OnlyReads};
 ghost use Rattle.archive_state.specs.Histories.{History};
 ghost use Rattle.archive_check.specs.Checked.{IsChecked};
-ghost use Rattle.archive_core.specs.States.{StandsFor, IsKept, Reaches};
+ghost use Rattle.archive_core.specs.States.{StandsFor, AreInStep, Reaches};
 ghost use Rattle.archive_core.specs.Takes.{Takes, verified};
 ghost use Rattle.commands.specs.declared.command.Command.TheVariants as commands;
 ghost use Rattle.commands.specs.declared.command.Item.TheVariants as items;
@@ -36,7 +36,7 @@ impl Archive {
         // Whatever the disk holds, if it tells: the verdict is by what reads give, and by where the entries say that texts and sublists lie.
         ensures checked { D.disk_tells → (h : History) → StandsFor self.now h → IfOk result (IsChecked h (D.disk disk.old).holds) }
         // In step, it is a step of the abstract machine: all is sound.
-        ensures takes { D.disk_tells → (h : History) → IsKept (D.disk disk.old) self.now h → Takes h (items.Command commands.Verify) (verified result) (D.disk disk.old) (D.disk disk.new) self.now }
+        ensures takes { D.disk_tells → (h : History) → AreInStep (D.disk disk.old) self.now h → Takes h (items.Command commands.Verify) (verified result) (D.disk disk.old) (D.disk disk.new) self.now }
     {
         self.verdict(alloc, disk)
     }

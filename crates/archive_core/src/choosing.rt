@@ -40,7 +40,7 @@ impl Archive {
         requires within { Reaches (D.disk disk.old).reach self.old }
         ensures only { D.Disk.only disk.old disk.new }
         ensures same { OnlyReads (D.disk disk.old) (D.disk disk.new) }
-        ensures kept { IsSameButCache self.old self.new }
+        ensures but_cache { IsSameButCache self.old self.new }
         ensures cached { D.disk_tells → CacheStands (D.disk disk.old) self.old → CacheStands (D.disk disk.new) self.new }
         ensures failed { IsErrOf result AskError.Failed → Rose (D.disk disk.old).faults (D.disk disk.new).faults }
         ensures never { (why : Refusal) → IsErrOf result (AskError.Refused why) → ⊥ }
@@ -69,7 +69,7 @@ impl Archive {
         requires within { Reaches (D.disk disk.old).reach self.old }
         ensures only { D.Disk.only disk.old disk.new }
         ensures same { OnlyReads (D.disk disk.old) (D.disk disk.new) }
-        ensures kept { IsSameButCache self.old self.new }
+        ensures but_cache { IsSameButCache self.old self.new }
         ensures cached { D.disk_tells → CacheStands (D.disk disk.old) self.old → CacheStands (D.disk disk.new) self.new }
         ensures failed { IsErrOf result AskError.Failed → Rose (D.disk disk.old).faults (D.disk disk.new).faults }
         ensures never { (why : Refusal) → IsErrOf result (AskError.Refused why) → ⊥ }
@@ -101,7 +101,7 @@ impl Archive {
         requires there { IsPlanAt self.old.shelf.plans word.now at }
         ensures only { D.Disk.only disk.old disk.new }
         ensures same { OnlyReads (D.disk disk.old) (D.disk disk.new) }
-        ensures kept { IsSameButCache self.old self.new }
+        ensures but_cache { IsSameButCache self.old self.new }
         ensures cached { D.disk_tells → CacheStands (D.disk disk.old) self.old → CacheStands (D.disk disk.new) self.new }
         ensures failed { IsErrOf result AskError.Failed → Rose (D.disk disk.old).faults (D.disk disk.new).faults }
         ensures never { (why : Refusal) → IsErrOf result (AskError.Refused why) → ⊥ }

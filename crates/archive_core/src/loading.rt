@@ -8,7 +8,7 @@ ghost use Rattle.gate_journal.specs.Spelled.{Spells};
 ghost use Rattle.gate_journal.specs.Crash.{KeepsPages};
 ghost use Rattle.archive_state.specs.Histories.{History};
 ghost use Rattle.archive_state.specs.Stands.{Stands, EachStands, IsNotArchive, bodies_of};
-ghost use Rattle.archive_core.specs.States.{StandsFor, IsKept, Reaches};
+ghost use Rattle.archive_core.specs.States.{StandsFor, AreInStep, Reaches};
 ghost use Rattle.archive_core.specs.Changing.{KeepsHistory};
 
 use crate::archive::Archive;
@@ -41,7 +41,7 @@ impl Archive {
         // What it answers of the bytes that reads gave at the start; where they stand for a history, it is the one loaded.
         ensures not_archive { D.disk_tells → (at : ℕ) → IsErrOf result (LoadError.NotArchive at) → IsNotArchive (D.disk disk.old).holds at }
         ensures found { D.disk_tells → IfOk result (λ a. (h : History) × (StandsFor a h × Spells (D.disk disk.old).holds.journal (bodies_of h))) }
-        ensures kept { D.disk_tells → (h : History) → Stands h (D.disk disk.old).holds → IfOk result (λ a. IsKept (D.disk disk.new) a h) }
+        ensures in_step { D.disk_tells → (h : History) → Stands h (D.disk disk.old).holds → IfOk result (λ a. AreInStep (D.disk disk.new) a h) }
         ensures exact { D.disk_tells → OnOk result ((at : ℕ) → IsNotArchive (D.disk disk.old).holds at → ⊥) }
         // Where each image stands for one history, each image left since stands for it.
         ensures crash { D.disk_tells → (h : History) → EachStands (D.disk disk.old) h → KeepsHistory h (D.disk disk.old) (D.disk disk.new) }

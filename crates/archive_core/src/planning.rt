@@ -10,7 +10,7 @@ ghost use Rattle.record_codec.specs.PlanSpelling.{IsWord};
 ghost use Rattle.archive_state.specs.Histories.{History};
 ghost use Rattle.archive_state.specs.Planning.{IsKnown, IsListUpTo, OfBoundaries, OfPhrase, OfWord, last_second};
 ghost use Rattle.archive_state.specs.Steps.{Proposed, Proposes, Refused, spelled_key};
-ghost use Rattle.archive_core.specs.States.{StandsFor, IsKept};
+ghost use Rattle.archive_core.specs.States.{StandsFor, AreInStep};
 ghost use Rattle.archive_core.specs.Sealing.{IsSealed};
 ghost use Rattle.archive_core.specs.Takes.{Takes, proposed};
 ghost use Rattle.commands.specs.declared.command.Command.TheVariants as commands;
@@ -60,7 +60,7 @@ impl Archive {
         ensures refused { (h : History) → StandsFor self.now h → (why : Refusal) → IsErrOf result (AskError.Refused why) → Proposes h word.now factor (Refused why) }
         ensures proposes { (h : History) → StandsFor self.now h → IfOk result (λ p. Proposes h word.now factor (Proposed p.segments.items p.nodes.items p.space)) }
         // In step with a disk, it is a step of the abstract machine.
-        ensures takes { (d : DiskState) (h : History) → IsKept d self.now h → Takes h (items.Command (commands.Propose word.now factor)) (proposed result) d d self.now }
+        ensures takes { (d : DiskState) (h : History) → AreInStep d self.now h → Takes h (items.Command (commands.Propose word.now factor)) (proposed result) d d self.now }
     {
         self.proposal_of(alloc, word, factor)
     }

@@ -136,7 +136,7 @@ pub(crate) fn write_ready<D: Disk>(
     ensures spent { OnErr result ((journal.new.end ≡ journal.old.end) × (shelf.new.plans ≡ shelf.old.plans) × HasTaken shelf.new.pages (extents_all shelf.old.plans) × (shelf.new.cache ≡ shelf.old.cache)) }
     ensures crash { D.disk_tells → (h : History) → IsInStep (D.disk disk.old) journal.old.end (bodies_of h) → ((image : Bytes) → MayLeave (D.disk disk.old).now image → HoldsPlans h image.pages) → IsLegal h →
         IsStorable h ready.stored.plan ready.prepared ready.frame → LeadsTo h (h ++ entries.Planned ready.stored.plan ∷ []) (D.disk disk.old) (D.disk disk.new) }
-    ensures kept { D.disk_tells → (h : History) → IsInStep (D.disk disk.old) journal.old.end (bodies_of h) → ((image : Bytes) → MayLeave (D.disk disk.old).now image → HoldsPlans h image.pages) → IsLegal h →
+    ensures in_step { D.disk_tells → (h : History) → IsInStep (D.disk disk.old) journal.old.end (bodies_of h) → ((image : Bytes) → MayLeave (D.disk disk.old).now image → HoldsPlans h image.pages) → IsLegal h →
         IsStorable h ready.stored.plan ready.prepared ready.frame → OnOk result (IsInStep (D.disk disk.new) journal.new.end (bodies_of (h ++ entries.Planned ready.stored.plan ∷ []))
         × ((image : Bytes) → MayLeave (D.disk disk.new).now image → HoldsPlans (h ++ entries.Planned ready.stored.plan ∷ []) image.pages)) }
 {
@@ -180,7 +180,7 @@ fn put_down<D: Disk>(
     ensures cached { D.disk_tells → IsCacheOf sublists.now.cache (D.disk disk.old).holds.pages → OnOk result (IsCacheOf sublists.now.cache (D.disk disk.new).holds.pages) }
     ensures crash { D.disk_tells → (h : History) (plan : PlainPlan) → IsInStep (D.disk disk.old) journal.old.end (bodies_of h) → ((image : Bytes) → MayLeave (D.disk disk.old).now image → HoldsPlans h image.pages) → IsLegal h →
         IsStorable h plan prepared.now frame.now → LeadsTo h (h ++ entries.Planned plan ∷ []) (D.disk disk.old) (D.disk disk.new) }
-    ensures kept { D.disk_tells → (h : History) (plan : PlainPlan) → IsInStep (D.disk disk.old) journal.old.end (bodies_of h) → ((image : Bytes) → MayLeave (D.disk disk.old).now image → HoldsPlans h image.pages) → IsLegal h →
+    ensures in_step { D.disk_tells → (h : History) (plan : PlainPlan) → IsInStep (D.disk disk.old) journal.old.end (bodies_of h) → ((image : Bytes) → MayLeave (D.disk disk.old).now image → HoldsPlans h image.pages) → IsLegal h →
         IsStorable h plan prepared.now frame.now → OnOk result (IsInStep (D.disk disk.new) journal.new.end (bodies_of (h ++ entries.Planned plan ∷ []))
         × ((image : Bytes) → MayLeave (D.disk disk.new).now image → HoldsPlans (h ++ entries.Planned plan ∷ []) image.pages)) }
 {

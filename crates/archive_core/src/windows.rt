@@ -10,7 +10,7 @@ ghost use Rattle.archive_state.specs.Histories.{History, text_at};
 ghost use Rattle.archive_state.specs.Chosen.{SpoilsAnswer};
 ghost use Rattle.archive_core.specs.After.{AfterQuestion};
 ghost use Rattle.archive_core.specs.Answering.{AnswersOver};
-ghost use Rattle.archive_core.specs.States.{StandsFor, CacheStands, IsKept, Reaches};
+ghost use Rattle.archive_core.specs.States.{StandsFor, CacheStands, AreInStep, Reaches};
 ghost use Rattle.archive_core.specs.Takes.{Takes, spanned};
 ghost use Rattle.commands.specs.declared.command.Command.TheVariants as commands;
 ghost use Rattle.commands.specs.declared.command.Item.TheVariants as items;
@@ -57,7 +57,7 @@ impl Archive {
         ensures damaged { D.disk_tells → (h : History) → StandsFor self.old h → CacheStands (D.disk disk.old) self.old → (d : Damage) → IsErrOf result (AskError.Damaged d) →
             SpoilsAnswer h (D.disk disk.old).holds.pages span.from span.to expr.now d }
         // In step, it is a step of the abstract machine.
-        ensures takes { D.disk_tells → (h : History) → IsKept (D.disk disk.old) self.old h →
+        ensures takes { D.disk_tells → (h : History) → AreInStep (D.disk disk.old) self.old h →
             Takes h (items.Command (commands.Between span expr.now)) (spanned result) (D.disk disk.old) (D.disk disk.new) self.new }
     {
         self.span_answer_of(alloc, disk, span, expr)

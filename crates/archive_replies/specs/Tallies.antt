@@ -3,7 +3,7 @@ use Rattle.std.specs.Prelude.{ℕ, Bool, true, false, List, [], ◌∷◌, ◌++
 use Rattle.std.specs.Fmt.{decimal}
 use Rattle.archive_state.specs.declared.verdict.Verdict.{Verdict}
 use Rattle.archive_state.specs.Replies.{reply_text}
-use Rattle.archive_state.specs.Steps.{Reply, Accepted, Refused, Found, Spanned, Shown, Proposed, Planned, Verified}
+use Rattle.archive_state.specs.Steps.{Reply, Accepted, Refused, Found, Spanned, Version, Proposed, Planned, Verified}
 use Rattle.archive_replies.specs.declared.tally.Tally.{Tally}
 
 -- a change was accepted, or a plan stored
@@ -13,7 +13,7 @@ is_accepted (Planned summary) = true
 is_accepted (Refused why) = false
 is_accepted (Found rows read) = false
 is_accepted (Spanned rows read) = false
-is_accepted (Shown text) = false
+is_accepted (Version text) = false
 is_accepted (Proposed segments nodes total) = false
 is_accepted (Verified verdict) = false
 
@@ -24,7 +24,7 @@ is_refused (Accepted count) = false
 is_refused (Planned summary) = false
 is_refused (Found rows read) = false
 is_refused (Spanned rows read) = false
-is_refused (Shown text) = false
+is_refused (Version text) = false
 is_refused (Proposed segments nodes total) = false
 is_refused (Verified verdict) = false
 
@@ -35,7 +35,7 @@ hits_of (Accepted count) = 0
 hits_of (Planned summary) = 0
 hits_of (Refused why) = 0
 hits_of (Spanned rows read) = 0
-hits_of (Shown text) = 0
+hits_of (Version text) = 0
 hits_of (Proposed segments nodes total) = 0
 hits_of (Verified verdict) = 0
 
@@ -45,7 +45,7 @@ read_of (Accepted count) = 0
 read_of (Planned summary) = 0
 read_of (Refused why) = 0
 read_of (Spanned rows read) = 0
-read_of (Shown text) = 0
+read_of (Version text) = 0
 read_of (Proposed segments nodes total) = 0
 read_of (Verified verdict) = 0
 

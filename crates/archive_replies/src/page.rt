@@ -2,7 +2,7 @@
 ghost use Rattle.std.specs.Prelude.{◌≡◌, ◌+◌, ◌≤◌, [], ◌++◌, length, codes, decimal, Some, None, IfOk, OnOk, OnErr};
 ghost use Rattle.archive_replies.specs.Pages.{reply_room};
 ghost use Rattle.archive_state.specs.Replies.{cost_text, detail_text, end_text, node_text, reply_text, row_text, segment_text, space_text, span_text, which_text};
-ghost use Rattle.archive_state.specs.Steps.{Accepted, Refused, Found, Spanned, Shown, Proposed, Planned};
+ghost use Rattle.archive_state.specs.Steps.{Accepted, Refused, Found, Spanned, Version, Proposed, Planned};
 
 use archive_state::Refusal;
 use itoa::Buffer;
@@ -162,8 +162,8 @@ impl ReplyPage {
 
     /// Writes a text that was asked for, in place of what the page held. It takes memory; an error
     /// means that there was none, and leaves the page empty. The cost is linear in the text.
-    pub fn shown(&mut self, text: &[u8]) -> Result<(), AllocError>
-        ensures text { OnOk result (self.new.bytes ≡ reply_text (Shown (Some text.now))) }
+    pub fn version(&mut self, text: &[u8]) -> Result<(), AllocError>
+        ensures text { OnOk result (self.new.bytes ≡ reply_text (Version (Some text.now))) }
         ensures empty { OnErr result (self.new.bytes ≡ []) }
     {
         self.clear();
@@ -178,7 +178,7 @@ impl ReplyPage {
     /// Writes that there is no text, in place of what the page held. It takes no memory. Constant
     /// cost.
     pub fn none(&mut self)
-        ensures { self.new.bytes ≡ reply_text (Shown None) }
+        ensures { self.new.bytes ≡ reply_text (Version None) }
     {
         self.clear();
         self.put(b"none\n");

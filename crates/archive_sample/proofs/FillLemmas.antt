@@ -12,194 +12,185 @@ use Rattle.commands.specs.declared.command.Item.{Item}
 use Rattle.commands.specs.declared.command.Item.TheVariants as items
 use Rattle.sample_commands.specs.Samples.{changes, plans, questions, sample_of}
 use Rattle.archive_state.specs.declared.verdict.Verdict.{Verdict}
-use Rattle.archive_state.specs.Histories.{History}
 use Rattle.archive_state.specs.Legal.{IsLegal}
-use Rattle.archive_state.specs.Steps.{Reply, Accepted, Refused, Found, Spanned, Shown, Proposed, Planned, Verified, Step}
-use Rattle.archive_state.specs.Runs.{Turn, IsRun, state_after}
+use Rattle.archive_state.specs.Steps.{Reply, Accepted, Refused, Found, Spanned, Version, Proposed, Planned, Verified, Step}
+use Rattle.archive_state.specs.Runs.{Outcome, IsRun, state_after}
 use Rattle.archive_state.specs.Standing.{last_state}
-use Rattle.archive_state.specs.Stands.{Stands, EachStands}
+use Rattle.archive_state.specs.Stands.{EachStands, StandsIn}
+use Rattle.archive_state.specs.Worlds.{World}
 use Rattle.archive_state.proofs.RunLemmas.{runs_join, last_state_joins, state_after_all, state_after_front}
-use Rattle.archive_state.proofs.TurnLemmas.{each_turn, step_legal}
+use Rattle.archive_state.proofs.OutcomeLemmas.{run_on, step_legal}
 use Rattle.archive_replies.specs.Tallies.{tally_of}
 use Rattle.archive_replies.specs.declared.tally.Tally.{Tally}
-use Rattle.archive_core.specs.States.{ArchiveState, IsKept}
+use Rattle.archive_core.specs.States.{ArchiveState, AreInStep}
 use Rattle.archive_core.specs.Changing.{LeadsTo}
-use Rattle.archive_core.proofs.AddLemmas.{kept_stands}
+use Rattle.archive_core.proofs.AddLemmas.{in_step_stands}
 use Rattle.archive_sample.specs.declared.error.FillError.{FillError}
 use Rattle.archive_sample.specs.declared.error.FillError.TheVariants as errors
-use Rattle.archive_sample.specs.declared.outcome.Outcome.{Outcome}
-use Rattle.archive_sample.specs.declared.outcome.Outcome.TheVariants as outcomes
+use Rattle.archive_sample.specs.declared.note.Note.{Note}
+use Rattle.archive_sample.specs.declared.note.Note.TheVariants as notes
 use Rattle.archive_sample.specs.Filling.{EndsFilled, Fills, IsFilled, StandsAmong, replies_of}
 use Rattle.archive_sample.specs.Carrying.{CarriesOut, ComesToCheck, Counts, EndsIn, Goes, IsLast, IsTold, verdict_of}
 
--- what holds of the last history holds of one of the run's
-at_last : (P : History → Type 0) (h : History) (turns : List (Turn Reply History)) → P (last_state h turns) → (j : ℕ) × (j ≤ length turns) × P (state_after h turns j)
-at_last P h turns holds = (length turns, omega arith, subst P (sym (state_after_all h turns)) holds)
+-- what holds of the last state holds of one of the run's
+at_last : (P : World → Type 0) (w : World) (outcomes : List (Outcome Reply World)) → P (last_state w outcomes) → (j : ℕ) × (j ≤ length outcomes) × P (state_after w outcomes j)
+at_last P w outcomes holds = (length outcomes, omega arith, subst P (sym (state_after_all w outcomes)) holds)
 
 -- and what holds of one of the run's holds of one of a longer run's
-still_among : (P : History → Type 0) (h : History) (turns further : List (Turn Reply History)) → (j : ℕ) × (j ≤ length turns) × P (state_after h turns j)
-    → (j : ℕ) × (j ≤ length (turns ++ further)) × P (state_after h (turns ++ further) j)
-still_among P h turns further (j, within, holds) = (j, omega (arith, within, length-append turns further), subst P (sym (state_after_front h turns further j within)) holds)
+still_among : (P : World → Type 0) (w : World) (outcomes further : List (Outcome Reply World)) → (j : ℕ) × (j ≤ length outcomes) × P (state_after w outcomes j)
+    → (j : ℕ) × (j ≤ length (outcomes ++ further)) × P (state_after w (outcomes ++ further) j)
+still_among P w outcomes further (j, within, holds) = (j, omega (arith, within, length-append outcomes further), subst P (sym (state_after_front w outcomes further j within)) holds)
 
 -- where nothing was done, each image stands for the history
-fills_nowhere : (h : History) (d : DiskState) → EachStands d h → Fills h [] d d
-fills_nowhere h d each = record {
+fills_nowhere : (w : World) (d : DiskState) → EachStands d w.history → Fills w [] d d
+fills_nowhere w d each = record {
   goes_on = goes_on_same d;
-  images = left_now d (λ image beside. StandsAmong h [] image × (beside ≡ d.now.beside)) (λ image allowed. ((0, omega arith, each image allowed), refl));
+  images = left_now d (λ image beside. StandsAmong w [] image × (beside ≡ d.now.beside)) (λ image allowed. ((0, omega arith, each image allowed), refl));
 }
 
--- one turn more
-fills_next : (h : History) (turns : List (Turn Reply History)) (turn : Turn Reply History) (old mid new : DiskState) → Fills h turns old mid → LeadsTo (last_state h turns) turn.next mid new
-    → mid.now.beside ≡ old.now.beside → Fills h (turns ++ turn ∷ []) old new
-fills_next h turns turn old mid new was leads beside = record {
+-- one outcome more
+fills_next : (w : World) (outcomes : List (Outcome Reply World)) (outcome : Outcome Reply World) (old mid new : DiskState) → Fills w outcomes old mid → LeadsTo (last_state w outcomes).history outcome.next.history mid new
+    → mid.now.beside ≡ old.now.beside → Fills w (outcomes ++ outcome ∷ []) old new
+fills_next w outcomes outcome old mid new was leads beside = record {
   goes_on = goes_on_joins was.goes_on leads.goes_on;
-  images = joined (λ image other. StandsAmong h (turns ++ turn ∷ []) image × (other ≡ old.now.beside))
-      was.goes_on (λ image other left. let is = was.images image other left in (still_among (λ s. Stands s image) h turns (turn ∷ []) is.0, is.1))
+  images = joined (λ image other. StandsAmong w (outcomes ++ outcome ∷ []) image × (other ≡ old.now.beside))
+      was.goes_on (λ image other left. let is = was.images image other left in (still_among (λ s. StandsIn s image) w outcomes (outcome ∷ []) is.0, is.1))
       leads.goes_on (λ image other left. let is = leads.images image other left in (one image is.0, is.1 ∙ beside));
 }
   where
-    one : (image : Bytes) → Stands (last_state h turns) image ⊎ Stands turn.next image → StandsAmong h (turns ++ turn ∷ []) image
-    one image (inl before) = still_among (λ s. Stands s image) h turns (turn ∷ []) (at_last (λ s. Stands s image) h turns before)
-    one image (inr after) = at_last (λ s. Stands s image) h (turns ++ turn ∷ []) (let S : History → Type 0 = λ s. Stands s image in subst S (sym (last_state_joins h turns (turn ∷ []))) after)
+    one : (image : Bytes) → StandsIn (last_state w outcomes) image ⊎ StandsIn outcome.next image → StandsAmong w (outcomes ++ outcome ∷ []) image
+    one image (inl before) = still_among (λ s. StandsIn s image) w outcomes (outcome ∷ []) (at_last (λ s. StandsIn s image) w outcomes before)
+    one image (inr after) = at_last (λ s. StandsIn s image) w (outcomes ++ outcome ∷ []) (let S : World → Type 0 = λ s. StandsIn s image in subst S (sym (last_state_joins w outcomes (outcome ∷ []))) after)
 
--- turns that were not carried out
-fills_on : (h : History) (turns further : List (Turn Reply History)) (old new : DiskState) → Fills h turns old new → Fills h (turns ++ further) old new
-fills_on h turns further old new fills = record {
+-- outcomes that were not carried out
+fills_on : (w : World) (outcomes further : List (Outcome Reply World)) (old new : DiskState) → Fills w outcomes old new → Fills w (outcomes ++ further) old new
+fills_on w outcomes further old new fills = record {
   goes_on = fills.goes_on;
-  images = λ image beside left. let is = fills.images image beside left in (still_among (λ s. Stands s image) h turns further is.0, is.1);
+  images = λ image beside left. let is = fills.images image beside left in (still_among (λ s. StandsIn s image) w outcomes further is.0, is.1);
 }
 
--- a run goes on over any items whose documents are in range
-run_on : (h : History) (commands : List Item) → IsLegal h → All HasDocument commands → (turns : List (Turn Reply History)) × IsRun Step h commands turns
-run_on h [] legal range = ([], tt)
-run_on h (item ∷ commands) legal range =
-    let turn = each_turn h item legal in
-    let next = step_legal h item turn.0.reply turn.0.next legal (All-head HasDocument item commands range) turn.1 in
-    let further = run_on turn.0.next commands next (All-tail HasDocument item commands range) in
-    (turn.0 ∷ further.0, (turn.1, further.1))
-
 -- commands that were carried out, and more
-run_joins : (h : History) (commands done rest : List Command) (turns further : List (Turn Reply History)) → commands ≡ done ++ rest → IsRun Step h (map items.Command done) turns
-    → IsRun Step (last_state h turns) (map items.Command rest) further → IsRun Step h (map items.Command commands) (turns ++ further)
-run_joins h commands done rest turns further are one two =
-    let R : List Item → Type 0 = λ l. IsRun Step h l (turns ++ further) in
-    subst R (sym (ap (map items.Command) are ∙ map-append items.Command done rest)) (runs_join Step h (map items.Command done) (map items.Command rest) turns further one two)
+run_joins : (w : World) (commands done rest : List Command) (outcomes further : List (Outcome Reply World)) → commands ≡ done ++ rest → IsRun Step w (map items.Command done) outcomes
+    → IsRun Step (last_state w outcomes) (map items.Command rest) further → IsRun Step w (map items.Command commands) (outcomes ++ further)
+run_joins w commands done rest outcomes further are one two =
+    let R : List Item → Type 0 = λ l. IsRun Step w l (outcomes ++ further) in
+    subst R (sym (ap (map items.Command) are ∙ map-append items.Command done rest)) (runs_join Step w (map items.Command done) (map items.Command rest) outcomes further one two)
 
 -- how it was ended stays so in a longer run
-ends_on : (h : History) (turns further : List (Turn Reply History)) (new : DiskState) (archive : ArchiveState) (error : FillError)
-    → EndsFilled h turns new archive (Err error) → EndsFilled h (turns ++ further) new archive (Err error)
-ends_on h turns further new archive errors.Failed ends = tt
-ends_on h turns further new archive (errors.Damaged damage) ends = ends
-ends_on h turns further new archive errors.Memory ends = still_among (λ s. EachStands new s) h turns further ends
+ends_on : (w : World) (outcomes further : List (Outcome Reply World)) (new : DiskState) (archive : ArchiveState) (error : FillError)
+    → EndsFilled w outcomes new archive (Err error) → EndsFilled w (outcomes ++ further) new archive (Err error)
+ends_on w outcomes further new archive errors.Failed ends = tt
+ends_on w outcomes further new archive (errors.Damaged damage) ends = ends
+ends_on w outcomes further new archive errors.Memory ends = still_among (λ s. EachStands new s.history) w outcomes further ends
 
 -- A sample that was ended early: the abstract machine goes on over the commands that were not reached.
-ended_early : (h : History) (commands done rest : List Command) (turns : List (Turn Reply History)) (old new : DiskState) (archive : ArchiveState) (error : FillError)
-    → commands ≡ done ++ rest → IsRun Step h (map items.Command done) turns → IsLegal (last_state h turns) → All HasDocument (map items.Command rest)
-    → Fills h turns old new → EndsFilled h turns new archive (Err error) → IsFilled h commands (Err error) old new archive
-ended_early h commands done rest turns old new archive error are run legal range fills ends =
-    let further = run_on (last_state h turns) (map items.Command rest) legal range in
+ended_early : (w : World) (commands done rest : List Command) (outcomes : List (Outcome Reply World)) (old new : DiskState) (archive : ArchiveState) (error : FillError)
+    → commands ≡ done ++ rest → IsRun Step w (map items.Command done) outcomes → IsLegal (last_state w outcomes).history → All HasDocument (map items.Command rest)
+    → Fills w outcomes old new → EndsFilled w outcomes new archive (Err error) → IsFilled w.history commands (Err error) old new archive
+ended_early w commands done rest outcomes old new archive error are run legal range fills ends =
+    let further = run_on (last_state w outcomes) (map items.Command rest) legal range in
     record {
-      turns = turns ++ further.0;
-      run = run_joins h commands done rest turns further.0 are run further.1;
-      fills = fills_on h turns further.0 old new fills;
-      ends = ends_on h turns further.0 new archive error ends;
+      outcomes = outcomes ++ further.0;
+      run = run_joins w commands done rest outcomes further.0 are run further.1;
+      fills = fills_on w outcomes further.0 old new fills;
+      ends = ends_on w outcomes further.0 new archive error ends;
     }
 
 -- the replies with one more
-replies_next : (turns : List (Turn Reply History)) (turn : Turn Reply History) → replies_of (turns ++ turn ∷ []) ≡ replies_of turns ++ turn.reply ∷ []
-replies_next turns turn = map-append (λ (t : Turn Reply History). t.reply) turns (turn ∷ [])
+replies_next : (outcomes : List (Outcome Reply World)) (outcome : Outcome Reply World) → replies_of (outcomes ++ outcome ∷ []) ≡ replies_of outcomes ++ outcome.reply ∷ []
+replies_next outcomes outcome = map-append (λ (t : Outcome Reply World). t.reply) outcomes (outcome ∷ [])
 
 -- of a reply that told a verdict
-told_verdict : (reply : Reply) (verdict : Verdict) → IsTold reply (Ok (outcomes.Checked verdict)) → reply ≡ Verified verdict
+told_verdict : (reply : Reply) (verdict : Verdict) → IsTold reply (Ok (notes.Checked verdict)) → reply ≡ Verified verdict
 told_verdict (Accepted count) verdict is = cc
 told_verdict (Planned summary) verdict is = cc
 told_verdict (Refused why) verdict is = cc
 told_verdict (Found rows read) verdict is = cc
 told_verdict (Verified other) verdict is = cc
 told_verdict (Spanned rows read) verdict is = absurd is
-told_verdict (Shown text) verdict is = absurd is
+told_verdict (Version text) verdict is = absurd is
 told_verdict (Proposed segments nodes total) verdict is = absurd is
 
-last_next : (turns : List (Turn Reply History)) (turn : Turn Reply History) (outcome : Outcome) → IsTold turn.reply (Ok outcome) → IsLast (replies_of (turns ++ turn ∷ [])) (verdict_of outcome)
-last_next turns turn outcomes.Accepted told = tt
-last_next turns turn outcomes.Refused told = tt
-last_next turns turn (outcomes.Found hits read) told = tt
-last_next turns turn (outcomes.Checked verdict) told =
-    (replies_of turns, replies_next turns turn ∙ ap (λ (r : Reply). replies_of turns ++ r ∷ []) (told_verdict turn.reply verdict told))
+last_next : (outcomes : List (Outcome Reply World)) (outcome : Outcome Reply World) (note : Note) → IsTold outcome.reply (Ok note) → IsLast (replies_of (outcomes ++ outcome ∷ [])) (verdict_of note)
+last_next outcomes outcome notes.Accepted told = tt
+last_next outcomes outcome notes.Refused told = tt
+last_next outcomes outcome (notes.Found hits read) told = tt
+last_next outcomes outcome (notes.Checked verdict) told =
+    (replies_of outcomes, replies_next outcomes outcome ∙ ap (λ (r : Reply). replies_of outcomes ++ r ∷ []) (told_verdict outcome.reply verdict told))
 
 -- commands that were carried out, as a list and the next one
 done_next : (commands done rest further : List Command) (command : Command) → commands ≡ done ++ rest → rest ≡ command ∷ further → commands ≡ (done ++ command ∷ []) ++ further
 done_next commands done rest further command are is = are ∙ ap (λ (l : List Command). done ++ l) is ∙ sym (append_assoc done (command ∷ []) further)
 
--- the run with the turn of the next command
-run_next : (h : History) (done : List Command) (command : Command) (turns : List (Turn Reply History)) (turn : Turn Reply History) → IsRun Step h (map items.Command done) turns
-    → Step (last_state h turns) (items.Command command) turn.reply turn.next → IsRun Step h (map items.Command (done ++ command ∷ [])) (turns ++ turn ∷ [])
-run_next h done command turns turn run step = run_joins h (done ++ command ∷ []) done (command ∷ []) turns (turn ∷ []) refl run (step, tt)
+-- the run with the outcome of the next command
+run_next : (w : World) (done : List Command) (command : Command) (outcomes : List (Outcome Reply World)) (outcome : Outcome Reply World) → IsRun Step w (map items.Command done) outcomes
+    → Step (last_state w outcomes) (items.Command command) outcome.reply outcome.next → IsRun Step w (map items.Command (done ++ command ∷ [])) (outcomes ++ outcome ∷ [])
+run_next w done command outcomes outcome run step = run_joins w (done ++ command ∷ []) done (command ∷ []) outcomes (outcome ∷ []) refl run (step, tt)
 
 -- at the start
-pub counts_first : (h : History) (commands : List Command) (d : DiskState) (archive : ArchiveState) (tally : Tally) → tally ≡ tally_of [] → IsKept d archive h → Counts h commands commands tally None d d archive
-counts_first h commands d archive tally is kept = record {
-  turns = [];
-  goes = record { done = []; commands_are = refl; run = tt; fills = fills_nowhere h d (kept_stands d archive h kept); kept = kept };
+pub counts_first : (w : World) (commands : List Command) (d : DiskState) (archive : ArchiveState) (tally : Tally) → tally ≡ tally_of [] → AreInStep d archive w.history → Counts w commands commands tally None d d archive
+counts_first w commands d archive tally is in_step = record {
+  outcomes = [];
+  goes = record { done = []; commands_are = refl; run = tt; fills = fills_nowhere w d (in_step_stands d archive w.history in_step); in_step = in_step };
   tally_is = is;
   last_is = tt;
 }
 
 -- the next command was carried out
-pub goes_next : (h : History) (commands rest further : List Command) (command : Command) (outcome : Outcome) (turns : List (Turn Reply History)) (old mid new : DiskState) (a b : ArchiveState)
-    → Goes h commands rest turns old mid a → rest ≡ command ∷ further → (out : CarriesOut (last_state h turns) command (Ok outcome) mid new b)
-    → mid.now.beside ≡ old.now.beside → Goes h commands further (turns ++ out.turn ∷ []) old new b
-goes_next h commands rest further command outcome turns old mid new a b goes is out beside = record {
+pub goes_next : (w : World) (commands rest further : List Command) (command : Command) (note : Note) (outcomes : List (Outcome Reply World)) (old mid new : DiskState) (a b : ArchiveState)
+    → Goes w commands rest outcomes old mid a → rest ≡ command ∷ further → (out : CarriesOut (last_state w outcomes).history command (Ok note) mid new b)
+    → mid.now.beside ≡ old.now.beside → Goes w commands further (outcomes ++ out.outcome ∷ []) old new b
+goes_next w commands rest further command note outcomes old mid new a b goes is out beside = record {
   done = goes.done ++ command ∷ [];
   commands_are = done_next commands goes.done rest further command goes.commands_are is;
-  run = run_next h goes.done command turns out.turn goes.run out.step;
-  fills = fills_next h turns out.turn old mid new goes.fills out.leads beside;
-  kept = (let K : History → Type 0 = λ s. IsKept new b s in subst K (sym (last_state_joins h turns (out.turn ∷ []))) out.ends.1);
+  run = run_next w goes.done command outcomes out.outcome goes.run out.step;
+  fills = fills_next w outcomes out.outcome old mid new goes.fills out.leads beside;
+  in_step = (let K : World → Type 0 = λ s. AreInStep new b s.history in subst K (sym (last_state_joins w outcomes (out.outcome ∷ []))) out.ends.1);
 }
 
 -- and counted
-pub counts_next : (h : History) (commands rest further : List Command) (command : Command) (outcome : Outcome) (tally more : Tally) (last next : Option Verdict) (old mid new : DiskState) (a b : ArchiveState)
-    → (counts : Counts h commands rest tally last old mid a) → rest ≡ command ∷ further → CarriesOut (last_state h counts.turns) command (Ok outcome) mid new b
+pub counts_next : (w : World) (commands rest further : List Command) (command : Command) (note : Note) (tally more : Tally) (last next : Option Verdict) (old mid new : DiskState) (a b : ArchiveState)
+    → (counts : Counts w commands rest tally last old mid a) → rest ≡ command ∷ further → CarriesOut (last_state w counts.outcomes).history command (Ok note) mid new b
     → mid.now.beside ≡ old.now.beside
-    → ((replies : List Reply) (reply : Reply) → tally ≡ tally_of replies → IsTold reply (Ok outcome) → more ≡ tally_of (replies ++ reply ∷ []))
-    → next ≡ verdict_of outcome → Counts h commands further more next old new b
-counts_next h commands rest further command outcome tally more last next old mid new a b counts is out beside counted told =
-    let turns = counts.turns in
-    let L : Option Verdict → Type 0 = λ v. IsLast (replies_of (turns ++ out.turn ∷ [])) v in
+    → ((replies : List Reply) (reply : Reply) → tally ≡ tally_of replies → IsTold reply (Ok note) → more ≡ tally_of (replies ++ reply ∷ []))
+    → next ≡ verdict_of note → Counts w commands further more next old new b
+counts_next w commands rest further command note tally more last next old mid new a b counts is out beside counted told =
+    let outcomes = counts.outcomes in
+    let L : Option Verdict → Type 0 = λ v. IsLast (replies_of (outcomes ++ out.outcome ∷ [])) v in
     record {
-      turns = turns ++ out.turn ∷ [];
-      goes = goes_next h commands rest further command outcome turns old mid new a b counts.goes is out beside;
-      tally_is = counted (replies_of turns) out.turn.reply counts.tally_is out.ends.0 ∙ ap tally_of (sym (replies_next turns out.turn));
-      last_is = subst L (sym told) (last_next turns out.turn outcome out.ends.0);
+      outcomes = outcomes ++ out.outcome ∷ [];
+      goes = goes_next w commands rest further command note outcomes old mid new a b counts.goes is out beside;
+      tally_is = counted (replies_of outcomes) out.outcome.reply counts.tally_is out.ends.0 ∙ ap tally_of (sym (replies_next outcomes out.outcome));
+      last_is = subst L (sym told) (last_next outcomes out.outcome note out.ends.0);
     }
 
 -- the run ended for want of memory, between two commands
-pub filled_between : (h : History) (commands rest : List Command) (turns : List (Turn Reply History)) (old now : DiskState) (archive : ArchiveState) → Goes h commands rest turns old now archive
-    → All HasDocument (map items.Command rest) → IsFilled h commands (Err errors.Memory) old now archive
-filled_between h commands rest turns old now archive goes range =
-    ended_early h commands goes.done rest turns old now archive errors.Memory goes.commands_are goes.run goes.kept.legal range goes.fills
-    (at_last (λ s. EachStands now s) h turns (kept_stands now archive (last_state h turns) goes.kept))
+pub filled_between : (w : World) (commands rest : List Command) (outcomes : List (Outcome Reply World)) (old now : DiskState) (archive : ArchiveState) → Goes w commands rest outcomes old now archive
+    → All HasDocument (map items.Command rest) → IsFilled w.history commands (Err errors.Memory) old now archive
+filled_between w commands rest outcomes old now archive goes range =
+    ended_early w commands goes.done rest outcomes old now archive errors.Memory goes.commands_are goes.run goes.in_step.legal range goes.fills
+    (at_last (λ s. EachStands now s.history) w outcomes (in_step_stands now archive (last_state w outcomes).history goes.in_step))
 
--- how a command ended that was not carried out, in the run with its turn
-ends_at : (h : History) (turns : List (Turn Reply History)) (turn : Turn Reply History) (new : DiskState) (archive : ArchiveState) (error : FillError)
-    → EndsIn (last_state h turns) turn new archive (Err error) → EndsFilled h (turns ++ turn ∷ []) new archive (Err error)
-ends_at h turns turn new archive errors.Failed ends = tt
-ends_at h turns turn new archive (errors.Damaged damage) ends = ends
-ends_at h turns turn new archive errors.Memory ends = still_among (λ s. EachStands new s) h turns (turn ∷ []) (at_last (λ s. EachStands new s) h turns ends)
+-- how a command ended that was not carried out, in the run with its outcome
+ends_at : (w : World) (outcomes : List (Outcome Reply World)) (outcome : Outcome Reply World) (new : DiskState) (archive : ArchiveState) (error : FillError)
+    → EndsIn (last_state w outcomes).history outcome new archive (Err error) → EndsFilled w (outcomes ++ outcome ∷ []) new archive (Err error)
+ends_at w outcomes outcome new archive errors.Failed ends = tt
+ends_at w outcomes outcome new archive (errors.Damaged damage) ends = ends
+ends_at w outcomes outcome new archive errors.Memory ends = still_among (λ s. EachStands new s.history) w outcomes (outcome ∷ []) (at_last (λ s. EachStands new s.history) w outcomes ends)
 
 -- or at a command
-pub filled_at : (h : History) (commands rest further : List Command) (command : Command) (error : FillError) (turns : List (Turn Reply History)) (old mid new : DiskState) (a b : ArchiveState)
-    → Goes h commands rest turns old mid a → rest ≡ command ∷ further → CarriesOut (last_state h turns) command (Err error) mid new b → mid.now.beside ≡ old.now.beside
-    → All HasDocument (map items.Command rest) → IsFilled h commands (Err error) old new b
-filled_at h commands rest further command error turns old mid new a b goes is out beside range =
+pub filled_at : (w : World) (commands rest further : List Command) (command : Command) (error : FillError) (outcomes : List (Outcome Reply World)) (old mid new : DiskState) (a b : ArchiveState)
+    → Goes w commands rest outcomes old mid a → rest ≡ command ∷ further → CarriesOut (last_state w outcomes).history command (Err error) mid new b → mid.now.beside ≡ old.now.beside
+    → All HasDocument (map items.Command rest) → IsFilled w.history commands (Err error) old new b
+filled_at w commands rest further command error outcomes old mid new a b goes is out beside range =
     let D : List Command → Type 0 = λ l. All HasDocument (map items.Command l) in
     let here = subst D is range in
-    let E : History → Type 0 = λ s. IsLegal s in
-    let legal : IsLegal out.turn.next = step_legal (last_state h turns) (items.Command command) out.turn.reply out.turn.next goes.kept.legal (All-head HasDocument (items.Command command) (map items.Command further) here) out.step in
-    ended_early h commands (goes.done ++ command ∷ []) further (turns ++ out.turn ∷ []) old new b error (done_next commands goes.done rest further command goes.commands_are is)
-    (run_next h goes.done command turns out.turn goes.run out.step) (subst E (sym (last_state_joins h turns (out.turn ∷ []))) legal)
-    (All-tail HasDocument (items.Command command) (map items.Command further) here) (fills_next h turns out.turn old mid new goes.fills out.leads beside)
-    (ends_at h turns out.turn new b error out.ends)
+    let E : World → Type 0 = λ s. IsLegal s.history in
+    let legal : IsLegal out.outcome.next.history = step_legal (last_state w outcomes) (items.Command command) out.outcome.reply out.outcome.next goes.in_step.legal (All-head HasDocument (items.Command command) (map items.Command further) here) out.step in
+    ended_early w commands (goes.done ++ command ∷ []) further (outcomes ++ out.outcome ∷ []) old new b error (done_next commands goes.done rest further command goes.commands_are is)
+    (run_next w goes.done command outcomes out.outcome goes.run out.step) (subst E (sym (last_state_joins w outcomes (out.outcome ∷ []))) legal)
+    (All-tail HasDocument (items.Command command) (map items.Command further) here) (fills_next w outcomes out.outcome old mid new goes.fills out.leads beside)
+    (ends_at w outcomes out.outcome new b error out.ends)
 
 -- a sample ends with a check
 pub sample_ends : (seed count : ℕ) → (front : List Command) × (sample_of seed count ≡ front ++ plain.Verify ∷ [])

@@ -5,9 +5,9 @@ use Rattle.commands.specs.declared.command.Command.{Command}
 use Rattle.commands.specs.declared.command.Command.TheVariants as plain
 use Rattle.commands.specs.declared.command.Item.TheVariants as items
 use Rattle.archive_state.specs.declared.verdict.Verdict.{Verdict}
-use Rattle.archive_state.specs.Histories.{History}
 use Rattle.archive_state.specs.Steps.{Reply, Verified, Step, sound_of}
-use Rattle.archive_state.specs.Runs.{Turn, IsRun}
+use Rattle.archive_state.specs.Runs.{Outcome, IsRun}
+use Rattle.archive_state.specs.Worlds.{World}
 use Rattle.archive_replies.specs.Tallies.{tally_of}
 use Rattle.archive_replies.specs.declared.tally.Tally.{Tally}
 use Rattle.archive_sample.specs.Filling.{replies_of}
@@ -15,22 +15,22 @@ use Rattle.archive_sample.specs.Laws.{ReportsAreOne, RunsHaveReports}
 use Rattle.archive_sample.proofs.FillLemmas.{sample_ends}
 
 -- the last reply of a run whose last command is a check
-checked_last : (front : List Command) (h : History) (turns : List (Turn Reply History)) → IsRun Step h (map items.Command (front ++ plain.Verify ∷ [])) turns
-    → (before : List Reply) × (verdict : Verdict) × (replies_of turns ≡ before ++ Verified verdict ∷ [])
-checked_last [] h [] run = absurd run
-checked_last [] h (turn ∷ []) run = ([], sound_of h, ap (λ (r : Reply). r ∷ []) run.0.1)
-checked_last [] h (turn ∷ next ∷ turns) run = absurd run.1
-checked_last (command ∷ front) h [] run = absurd run
-checked_last (command ∷ front) h (turn ∷ turns) run =
-    let is = checked_last front turn.next turns run.1 in
-    (turn.reply ∷ is.0, is.1, ap (λ (l : List Reply). turn.reply ∷ l) is.2)
+checked_last : (front : List Command) (w : World) (outcomes : List (Outcome Reply World)) → IsRun Step w (map items.Command (front ++ plain.Verify ∷ [])) outcomes
+    → (before : List Reply) × (verdict : Verdict) × (replies_of outcomes ≡ before ++ Verified verdict ∷ [])
+checked_last [] w [] run = absurd run
+checked_last [] w (outcome ∷ []) run = ([], sound_of w.history, ap (λ (r : Reply). r ∷ []) run.0.1)
+checked_last [] w (outcome ∷ next ∷ outcomes) run = absurd run.1
+checked_last (command ∷ front) w [] run = absurd run
+checked_last (command ∷ front) w (outcome ∷ outcomes) run =
+    let is = checked_last front outcome.next outcomes run.1 in
+    (outcome.reply ∷ is.0, is.1, ap (λ (l : List Reply). outcome.reply ∷ l) is.2)
 
 pub reports : RunsHaveReports
-reports seed count h turns run =
+reports seed count w outcomes run =
     let ends = sample_ends seed count in
-    let R : List Command → Type 0 = λ l. IsRun Step h (map items.Command l) turns in
-    let is = checked_last ends.0 h turns (subst R ends.1 run) in
-    (record { tally = tally_of (replies_of turns); verdict = is.1 }, record { tally_is = refl; front = is.0; ends = is.2 })
+    let R : List Command → Type 0 = λ l. IsRun Step w (map items.Command l) outcomes in
+    let is = checked_last ends.0 w outcomes (subst R ends.1 run) in
+    (record { tally = tally_of (replies_of outcomes); verdict = is.1 }, record { tally_is = refl; front = is.0; ends = is.2 })
 
 pub one_report : ReportsAreOne
 one_report replies one other is was =

@@ -4,11 +4,11 @@ ghost use Rattle.machine_model.specs.Causes.{Rose};
 ghost use Rattle.commands.specs.declared.command.Command.TheVariants as plain;
 ghost use Rattle.sample_commands.specs.Laws.{MayBeSampled};
 ghost use Rattle.archive_state.specs.Histories.{History};
-ghost use Rattle.archive_core.specs.States.{IsKept, Reaches};
+ghost use Rattle.archive_core.specs.States.{AreInStep, Reaches};
 ghost use Rattle.archive_sample.specs.Carrying.{CarriesOut, verdict_of};
 
 use crate::error::FillError;
-use crate::outcome::{Outcome, of_change, of_check, of_plan, of_question};
+use crate::note::{Note, of_change, of_check, of_plan, of_question};
 use archive_core::Archive;
 use commands::{Command, Text};
 use machine_model::Disk;
@@ -20,7 +20,7 @@ pub(crate) fn carry_out<D: Disk>(
     disk: &mut D,
     archive: &mut Archive,
     command: Command,
-) -> Result<Outcome, FillError>
+) -> Result<Note, FillError>
     requires live { IsTrue archive.old.live }
     requires within { Reaches (D.disk disk.old).reach archive.old }
     requires sampled { MayBeSampled command }
@@ -28,8 +28,8 @@ pub(crate) fn carry_out<D: Disk>(
     ensures failed { IsErrOf result FillError.Failed → Rose (D.disk disk.old).faults (D.disk disk.new).faults }
     ensures live { OnOk result (IsTrue archive.new.live) }
     ensures within { OnOk result (Reaches (D.disk disk.new).reach archive.new) }
-    ensures checked { command ≡ plain.Verify → IfOk result (λ outcome. IsSome (verdict_of outcome)) }
-    ensures turn { D.disk_tells → (h : History) → IsKept (D.disk disk.old) archive.old h →
+    ensures checked { command ≡ plain.Verify → IfOk result (λ note. IsSome (verdict_of note)) }
+    ensures outcome { D.disk_tells → (h : History) → AreInStep (D.disk disk.old) archive.old h →
         CarriesOut h command result (D.disk disk.old) (D.disk disk.new) archive.new }
 {
     match command {

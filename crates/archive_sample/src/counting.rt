@@ -5,7 +5,7 @@ ghost use Rattle.archive_replies.specs.Tallies.{tally_of};
 ghost use Rattle.archive_sample.specs.Carrying.{IsTold};
 
 use crate::error::FillError;
-use crate::outcome::Outcome;
+use crate::note::Note;
 use archive_replies::Tally;
 
 /// The counts over no command.
@@ -16,27 +16,27 @@ pub(crate) const NOTHING: Tally = Tally {
     read: 0,
 };
 
-/// The counts with the outcome of one command more. It is `Memory` where a count would pass
+/// The counts with the note of one command more. It is `Memory` where a count would pass
 /// 2^64 - 1. Constant cost.
-pub(crate) fn with_outcome(tally: Tally, outcome: &Outcome) -> Result<Tally, FillError>
-    ensures counts { (replies : List Reply) (reply : Reply) → tally ≡ tally_of replies → IsTold reply (Ok outcome.now) → IfOk result (λ t. t ≡ tally_of (replies ++ reply ∷ [])) }
+pub(crate) fn with_note(tally: Tally, note: &Note) -> Result<Tally, FillError>
+    ensures counts { (replies : List Reply) (reply : Reply) → tally ≡ tally_of replies → IsTold reply (Ok note.now) → IfOk result (λ t. t ≡ tally_of (replies ++ reply ∷ [])) }
     ensures full { IfErr result (λ error. error ≡ FillError.Memory) }
 {
-    match outcome {
-        Outcome::Accepted => Ok(Tally {
+    match note {
+        Note::Accepted => Ok(Tally {
             accepted: sum(tally.accepted, 1)?,
             ..tally
         }),
-        Outcome::Refused => Ok(Tally {
+        Note::Refused => Ok(Tally {
             refused: sum(tally.refused, 1)?,
             ..tally
         }),
-        Outcome::Found { hits, read } => Ok(Tally {
+        Note::Found { hits, read } => Ok(Tally {
             hits: sum(tally.hits, *hits)?,
             read: sum(tally.read, *read)?,
             ..tally
         }),
-        Outcome::Checked(_) => Ok(tally),
+        Note::Checked(_) => Ok(tally),
     }
 }
 

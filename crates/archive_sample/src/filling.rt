@@ -3,11 +3,11 @@ ghost use Rattle.std.specs.Prelude.{◌≡◌, ℕ, OnOk, IsErrOf, IsTrue};
 ghost use Rattle.machine_model.specs.Causes.{Rose};
 ghost use Rattle.sample_commands.specs.Samples.{sample_of};
 ghost use Rattle.archive_state.specs.Histories.{History};
-ghost use Rattle.archive_core.specs.States.{IsKept, Reaches};
+ghost use Rattle.archive_core.specs.States.{AreInStep, Reaches};
 ghost use Rattle.archive_sample.specs.Filling.{IsFilled};
 
 use crate::carrying::carry_out;
-use crate::counting::{NOTHING, with_outcome};
+use crate::counting::{NOTHING, with_note};
 use crate::error::FillError;
 use crate::report::Report;
 use archive_core::Archive;
@@ -38,15 +38,15 @@ pub fn fill<D: Disk>(
     ensures within { OnOk result (Reaches (D.disk disk.new).reach archive.new) }
     // In step with a disk that tells, it is one run of the abstract machine over the commands. Each image left since stands for a history of that
     // run; at Ok the counts and the verdict are those of the run, and the archive stands for its last history.
-    ensures filled { D.disk_tells → (h : History) → IsKept (D.disk disk.old) archive.old h → IsFilled h sample result (D.disk disk.old) (D.disk disk.new) archive.new }
+    ensures filled { D.disk_tells → (h : History) → AreInStep (D.disk disk.old) archive.old h → IsFilled h sample result (D.disk disk.old) (D.disk disk.new) archive.new }
 {
     let mut rest = sample;
     let mut tally = NOTHING;
     let mut last = None;
     'commands: while let Some(command) = rest.next_command(alloc)? {
-        let outcome = carry_out(alloc, disk, archive, command)?;
-        tally = with_outcome(tally, &outcome)?;
-        last = outcome.verdict();
+        let note = carry_out(alloc, disk, archive, command)?;
+        tally = with_note(tally, &note)?;
+        last = note.verdict();
     }
     Ok(Report {
         tally,

@@ -14,7 +14,7 @@ mod counting;
 mod error;
 mod filling;
 mod laws;
-mod outcome;
+mod note;
 mod report;
 
 pub use error::FillError;

@@ -1,10 +1,9 @@
 -- What is left of a machine and its archive, over items in a row.
 use Rattle.std.proofs.Common.{◌++◌, sym, subst, arith}
 use Rattle.machine_model.specs.Pushes.{IsSameBeside}
-use Rattle.machine_model.specs.States.{DiskState}
+use Rattle.machine_model.specs.States.{DiskState, MachineState}
 use Rattle.archive_core.specs.States.{ArchiveState}
 use Rattle.archive_shell.specs.Causes.{IsLater, IsLeft, MayEnd}
-use Rattle.archive_shell.specs.Headline.{MachineState}
 use Rattle.archive_shell.specs.declared.status.Status.{Status}
 use Rattle.archive_shell.proofs.DamageLemmas.{goes_on_further}
 

@@ -8,7 +8,7 @@ use Rattle.record_codec.specs.declared.entry.Entry.{Entry}
 use Rattle.sublist_store.specs.declared.why.Damage.{Damage}
 use Rattle.archive_state.specs.Histories.{History}
 use Rattle.script_read.specs.Items.{Splits}
-use Rattle.script_read.specs.Reading.{Held}
+use Rattle.script_read.specs.Reading.{ReaderState}
 use Rattle.script_read.proofs.Joins.{items-join}
 use Rattle.script_read.proofs.RunLemmas.{read_so_far}
 use Rattle.script_read.proofs.Splitting.{each_splits}
@@ -22,7 +22,7 @@ use Rattle.archive_shell.specs.declared.stop.Halt.{Halt}
 use Rattle.archive_shell.specs.declared.stop.Halt.TheVariants as halts
 use Rattle.archive_shell.specs.declared.stop.Stop.{Stop}
 use Rattle.archive_shell.specs.declared.stop.Stop.TheVariants as stops
-use Rattle.archive_shell.specs.Turns.{GoesOnFrom}
+use Rattle.archive_shell.specs.Outcomes.{GoesOnFrom}
 
 -- some entries came, and then more
 pub goes_on_further : (history : History) (more : List Entry) (archive : ArchiveState) → GoesOnFrom (history ++ more) archive → GoesOnFrom history archive
@@ -55,7 +55,7 @@ stopped_at stops.Sink damage is = absurd cc
 stopped_at stops.Memory damage is = absurd cc
 
 -- the last item that the reader gave is one of the bytes pulled
-pub last_pulled : (old new : SourceState) (held : Held) (item : Item) (before : List Item) (pulling : Pulling old new held) → pulling.items ≡ before ++ item ∷ [] → IsPulled old new item
+pub last_pulled : (old new : SourceState) (held : ReaderState) (item : Item) (before : List Item) (pulling : Pulling old new held) → pulling.items ≡ before ++ item ∷ [] → IsPulled old new item
 last_pulled old new held item before pulling are =
     let behind = each_splits held.ended pulling.since in
     let I : List Item → Type 0 = λ items. Splits held.ended pulling.pulled items behind.1 in

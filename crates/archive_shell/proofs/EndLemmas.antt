@@ -7,33 +7,34 @@ use Rattle.machine_model.specs.Calls.{Syncs}
 use Rattle.machine_model.specs.Causes.{Rose}
 use Rattle.machine_model.specs.Images.{Leaves}
 use Rattle.machine_model.specs.Pulls.{Pull}
-use Rattle.machine_model.specs.States.{SourceState, SinkState, DiskState}
+use Rattle.machine_model.specs.States.{SourceState, SinkState, DiskState, MachineState}
 use Rattle.machine_model.proofs.MomentLemmas.{goes_on_same, left_now}
-use Rattle.script_read.specs.Reading.{Held, fresh}
+use Rattle.script_read.specs.Reading.{ReaderState, fresh}
 use Rattle.archive_state.specs.Histories.{History}
 use Rattle.archive_state.specs.Holding.{HoldsPlan}
 use Rattle.archive_state.specs.Steps.{Reply}
 use Rattle.archive_state.specs.Replies.{reply_text}
 use Rattle.archive_state.specs.Standing.{Carried}
-use Rattle.archive_state.specs.Stands.{Stands, EachStands}
+use Rattle.archive_state.specs.Stands.{Stands, EachStands, StandsIn}
+use Rattle.archive_state.specs.Worlds.{World, world_of}
 use Rattle.archive_state.proofs.RunLemmas.{carried_joins, reopens, state_after_all}
-use Rattle.archive_core.specs.States.{ArchiveState, IsKept}
+use Rattle.archive_core.specs.States.{ArchiveState, AreInStep}
 use Rattle.archive_core.specs.Changing.{KeepsHistory}
 use Rattle.archive_replay.specs.declared.error.LoadError.{LoadError}
 use Rattle.archive_replay.specs.declared.error.LoadError.TheVariants as loads
-use Rattle.archive_core.proofs.AddLemmas.{kept_stands}
+use Rattle.archive_core.proofs.AddLemmas.{in_step_stands}
 use Rattle.sublist_store.specs.declared.why.Damage.{Damage}
-use Rattle.archive_shell.specs.Headline.{EndsEarly, Headline, IsInTurn, MachineState}
+use Rattle.archive_shell.specs.Headline.{EndsEarly, Headline, ComesAfterReplies}
 use Rattle.archive_shell.specs.Serving.{Serving, Serves}
 use Rattle.archive_shell.specs.Statuses.{status_of_load}
 use Rattle.archive_shell.specs.declared.status.Status.{Status}
 use Rattle.archive_shell.specs.declared.status.Status.TheVariants.{Done, NotArchive, Damaged, Disk, Memory}
-use Rattle.archive_shell.proofs.PullLemmas.{not_early, pulling_first, stood_early}
+use Rattle.archive_shell.proofs.PullLemmas.{not_early, pulling_first, input_early}
 use Rattle.archive_shell.proofs.ShowLemmas.{some_bytes}
 
--- calls that keep a history are no turn of it
-no_turn : (history : History) (before : List ℕ) (old new : DiskState) → old.now.beside ≡ before → KeepsHistory history old new → Carried {R = Reply} reply_text Stands history [] before old new
-no_turn history before old new beside keeps = record {
+-- calls that keep a history are no event
+no_event : (history : History) (before : List ℕ) (old new : DiskState) → old.now.beside ≡ before → KeepsHistory history old new → Carried {R = Reply} reply_text StandsIn (world_of history) [] before old new
+no_event history before old new beside keeps = record {
   goes_on = keeps.goes_on;
   images = λ image other left. let was = keeps.images image other left in ([], was.1 ∙ beside ∙ sym (append-nil before), (was.0, refl));
 }
@@ -66,47 +67,47 @@ not_begun history status old sink disk early undamaged same beside keeps = recor
     items = [];
     rest = [];
     split = (record { pieces = []; items_are = refl; in_turn = refl }, tt);
-    stood = stood_early status false [] [] early;
-    turns = [];
+    input_at = input_early status false [] [] early;
+    outcomes = [];
     run = tt;
     shown = [];
     shown_is = ap (λ (s : SinkState). s.shown) same ∙ sym (append-nil old.sink.shown);
     front = ([], refl);
     whole = λ all. absurd (not_early status early all);
     unfinished = λ fault. inl refl;
-    in_turn = All-nil (IsInTurn old.source old.sink [] []);
+    after_replies = All-nil (ComesAfterReplies old.source old.sink [] []);
   };
-  images = λ each. reopens reply_text some_bytes Stands history [] old.sink.shown old.disk disk (no_turn history old.sink.shown old.disk disk beside (keeps each));
+  images = λ each. reopens reply_text some_bytes StandsIn (world_of history) [] old.sink.shown old.disk disk (no_event history old.sink.shown old.disk disk beside (keeps each));
   last = λ all. absurd (not_early status early all);
   steady = λ each not_disk. (0, omega arith, keeps_now history old.disk disk (keeps each));
   undamaged = undamaged;
 }
 
 -- a run at its start, behind the load
-pub serving_start : (history : History) (m : MachineState) (archive : ArchiveState) (held : Held) → held ≡ fresh → m.disk.now.beside ≡ m.sink.shown → IsKept m.disk archive history → Serving history m m archive held []
-serving_start history m archive held is beside kept =
-    let H : Held → Type 0 = λ r. Serving history m m archive r [] in
+pub serving_start : (history : History) (m : MachineState) (archive : ArchiveState) (held : ReaderState) → held ≡ fresh → m.disk.now.beside ≡ m.sink.shown → AreInStep m.disk archive history → Serving (world_of history) m m archive held []
+serving_start history m archive held is beside in_step =
+    let H : ReaderState → Type 0 = λ r. Serving (world_of history) m m archive r [] in
     subst H (sym is) (record {
-      legal = kept.legal;
+      legal = in_step.legal;
       pulling = pulling_first m.source;
-      turns = [];
+      outcomes = [];
       run = tt;
       each = refl;
       shown = sym (append-nil m.sink.shown);
-      carried = no_turn history m.sink.shown m.disk m.disk beside (keeps_still history m.disk (kept_stands m.disk archive history kept));
-      kept = kept;
-      in_turn = All-nil (IsInTurn m.source m.sink [] []);
+      carried = no_event history m.sink.shown m.disk m.disk beside (keeps_still history m.disk (in_step_stands m.disk archive history in_step));
+      in_step = in_step;
+      after_replies = All-nil (ComesAfterReplies m.source m.sink [] []);
     })
 
 -- the load and the items
 pub whole_run : (history : History) (status : Status) (old : MachineState) (mid : DiskState) (new : MachineState) (pulls : List Pull) → old.disk.now.beside ≡ old.sink.shown
-    → (EachStands old.disk history → KeepsHistory history old.disk mid) → Serves history status (record { source = old.source; sink = old.sink; disk = mid }) new pulls → Headline history status old new pulls
+    → (EachStands old.disk history → KeepsHistory history old.disk mid) → Serves (world_of history) status (record { source = old.source; sink = old.sink; disk = mid }) new pulls → Headline history status old new pulls
 whole_run history status old mid new pulls beside keeps serves = record {
   ran = serves.ran;
-  images = λ each. (let C : List ℕ → Type 0 = λ b. Carried reply_text Stands history serves.ran.turns b mid new.disk in
-      reopens reply_text some_bytes Stands history serves.ran.turns old.sink.shown old.disk new.disk
-      (carried_joins serves.ran.turns new.disk (no_turn history old.sink.shown old.disk mid beside (keeps each)) (subst C (sym (append-nil old.sink.shown)) serves.carried)));
-  last = λ all. (let L : History → Type 0 = λ h. EachStands new.disk h in subst L (sym (state_after_all history serves.ran.turns)) (serves.last all));
+  images = λ each. (let C : List ℕ → Type 0 = λ b. Carried reply_text StandsIn (world_of history) serves.ran.outcomes b mid new.disk in
+      reopens reply_text some_bytes StandsIn (world_of history) serves.ran.outcomes old.sink.shown old.disk new.disk
+      (carried_joins serves.ran.outcomes new.disk (no_event history old.sink.shown old.disk mid beside (keeps each)) (subst C (sym (append-nil old.sink.shown)) serves.carried)));
+  last = λ all. (let L : World → Type 0 = λ w. EachStands new.disk w.history in subst L (sym (state_after_all (world_of history) serves.ran.outcomes)) (serves.last all));
   steady = λ each. serves.steady;
   undamaged = serves.undamaged;
 }
@@ -140,9 +141,9 @@ pub rose_earlier : (a b c : ℕ) → a ≤ b → Rose b c → Rose a c
 rose_earlier a b c early rose = omega (arith, rose)
 
 -- what was served of equal states was served of these
-pub serves_of : (history : History) (status : Status) (one other : SourceState) (output third : SinkState) (disk : DiskState) (new : MachineState) (pulls : List Pull) → one ≡ other → output ≡ third
-    → Serves history status (record { source = one; sink = output; disk = disk }) new pulls → Serves history status (record { source = other; sink = third; disk = disk }) new pulls
-serves_of history status one other output third disk new pulls source sink serves =
+pub serves_of : (world : World) (status : Status) (one other : SourceState) (output third : SinkState) (disk : DiskState) (new : MachineState) (pulls : List Pull) → one ≡ other → output ≡ third
+    → Serves world status (record { source = one; sink = output; disk = disk }) new pulls → Serves world status (record { source = other; sink = third; disk = disk }) new pulls
+serves_of world status one other output third disk new pulls source sink serves =
     let S : SourceState → Type 0 = λ s. Serves history status (record { source = s; sink = output; disk = disk }) new pulls in
-    let T : SinkState → Type 0 = λ s. Serves history status (record { source = other; sink = s; disk = disk }) new pulls in
+    let T : SinkState → Type 0 = λ s. Serves world status (record { source = other; sink = s; disk = disk }) new pulls in
     subst T sink (subst S source serves)

@@ -27,10 +27,10 @@ use Rattle.archive_core.specs.declared.error.AskError.TheVariants as asks
 use Rattle.archive_shell.specs.Asking.{Fetches, HasFetched}
 use Rattle.archive_shell.specs.Fetching.{AllAskFor, ArePiecesOf, AsksFor, IsAsking}
 use Rattle.archive_shell.specs.Questions.{IsQuestion}
-use Rattle.archive_shell.specs.Turns.{Writes}
+use Rattle.archive_shell.specs.Outcomes.{Writes}
 use Rattle.archive_shell.specs.declared.stop.Halt.{Halt}
 use Rattle.archive_shell.specs.declared.stop.Halt.TheVariants as halts
-use Rattle.archive_shell.proofs.TurnLemmas.{anyway, halted}
+use Rattle.archive_shell.proofs.OutcomeLemmas.{anyway, halted}
 
 -- what is asked is a question
 pub asking_question : (item : Item) → IsAsking item → IsQuestion item

@@ -8,5 +8,5 @@ mod PullLemmas
 mod ServeLemmas
 mod ShowLemmas
 mod StepLemmas
-mod TurnLemmas
+mod OutcomeLemmas
 mod SampleLemmas

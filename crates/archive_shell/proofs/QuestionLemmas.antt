@@ -3,7 +3,7 @@ use Rattle.std.proofs.Common.{◌≡◌, ℕ, Bool, false, true, List, [], ◌�
 use Rattle.std.specs.List.{AllZip, flat_map}
 use Rattle.std.proofs.lemmas.Grind.{flat_map-append}
 use Rattle.std.proofs.lemmas.List.{append-nil, get_or_append_left, length-append}
-use Rattle.machine_model.specs.States.{SourceState, SinkState, DiskState}
+use Rattle.machine_model.specs.States.{SourceState, SinkState, DiskState, MachineState}
 use Rattle.time_base.specs.declared.time.Span.{Span}
 use Rattle.time_base.specs.declared.time.Time.{Time}
 use Rattle.commands.specs.declared.command.Command.TheVariants as commands
@@ -29,21 +29,20 @@ use Rattle.sublist_store.specs.declared.why.Damage.{Damage}
 use Rattle.archive_shell.specs.Damages.{Spoils}
 use Rattle.archive_shell.specs.Asking.{Asking, Fetches, HasAsked, HasStopped, IsAsked, IsOnPage}
 use Rattle.archive_shell.specs.Fetching.{IsAsking}
-use Rattle.archive_shell.specs.Headline.{MachineState}
 use Rattle.archive_core.specs.States.{ArchiveState, CacheStands, IsSameButCache, StandsFor}
 use Rattle.machine_model.specs.Calls.{OnlyReads}
 use Rattle.machine_model.specs.Pushes.{IsSameBeside}
 use Rattle.script_read.specs.Items.{Items, Splits}
-use Rattle.script_read.specs.Reading.{Held, MayFollow, fresh}
+use Rattle.script_read.specs.Reading.{ReaderState, MayFollow, fresh}
 use Rattle.script_read.proofs.Joins.{items-join}
 use Rattle.script_read.proofs.Splitting.{each_splits, one_split}
 use Rattle.archive_shell.proofs.FetchLemmas.{asking_question, asking_questions, fetched_beside, fetched_more}
-use Rattle.archive_shell.proofs.TurnLemmas.{halted}
+use Rattle.archive_shell.proofs.OutcomeLemmas.{halted}
 use Rattle.archive_shell.proofs.PullLemmas.{Gives, pulling_first, pulling_next, whole_done}
 use Rattle.page_cache.specs.Caches.{Kept, IsHeld, StandsFor as IsCacheOf}
 use Rattle.std.proofs.lemmas.List.Elements.{All-nil}
 use Rattle.archive_shell.specs.Questions.{AreMade, AreMadeUpTo, IsMadeReply, IsQuestion}
-use Rattle.archive_shell.specs.Turns.{Writes}
+use Rattle.archive_shell.specs.Outcomes.{Writes}
 use Rattle.archive_shell.specs.Statuses.{status_of_script, status_of_stop}
 use Rattle.archive_shell.specs.declared.status.Status.TheVariants.{Done, Damaged}
 use Rattle.archive_shell.specs.declared.stop.Stop.{Stop}
@@ -98,8 +97,8 @@ made_verify h image (Err asks.Memory) result page checked never writes = halted 
 pub shown_so : (h : History) (item : Item) (page piece before mid after : List ℕ) (old disk new : DiskState) (archive archive_now : ArchiveState) → OnlyReads old disk → IsSameButCache archive archive_now → IsOnPage h old.holds item page
     → (IsAsking item → Fetches h item archive.shelf.cache archive_now.shelf.cache old disk)
     → IsSameBeside disk new → mid ≡ before → piece ≡ page → after ≡ mid ++ piece → IsAsked h item before after old new archive archive_now
-shown_so h item page piece before mid after old disk new archive archive_now reads kept on fetched still same is shown = record {
-  kept = kept;
+shown_so h item page piece before mid after old disk new archive archive_now reads but_cache on fetched still same is shown = record {
+  but_cache = but_cache;
   holds = ap (λ (d : DiskState). d.holds) still.same ∙ ap (λ (d : DiskState). d.holds) reads;
   asked = record {
     replies = on.reply ∷ [];
@@ -153,9 +152,9 @@ cached_first d archive none =
     let C : List Kept → Type 0 = λ cache. IsCacheOf cache d.holds.pages in
     subst C (sym none) (All-nil (IsHeld d.holds.pages))
 
-pub asking_start : (h : History) (now : MachineState) (archive : ArchiveState) (held : Held) → held ≡ fresh → StandsFor archive h → archive.shelf.cache ≡ [] → Asking h now.disk.holds now now archive held
+pub asking_start : (h : History) (now : MachineState) (archive : ArchiveState) (held : ReaderState) → held ≡ fresh → StandsFor archive h → archive.shelf.cache ≡ [] → Asking h now.disk.holds now now archive held
 asking_start h now archive held is stands none =
-    let A : Held → Type 0 = λ x. Asking h now.disk.holds now now archive x in
+    let A : ReaderState → Type 0 = λ x. Asking h now.disk.holds now now archive x in
     subst A (sym is) (record {
       pulling = pulling_first now.source;
       all_asked = λ all. record { stands = stands; cached = cached_first now.disk archive none; holds_are = refl; made = none_asked h now.disk.holds now.sink.shown };
@@ -176,7 +175,7 @@ all_last : (P : Item → Type 0) (items : List Item) (item : Item) → All P (it
 all_last P items item all = subst P (last_there items item item) (all (length items) item (omega (arith, length-append items (item ∷ []))))
 
 -- the next item was carried out
-pub asking_next : (h : History) (image : Bytes) (old now : MachineState) (source : SourceState) (sink : SinkState) (disk : DiskState) (archive archive_now : ArchiveState) (held held_now : Held) (item : Item)
+pub asking_next : (h : History) (image : Bytes) (old now : MachineState) (source : SourceState) (sink : SinkState) (disk : DiskState) (archive archive_now : ArchiveState) (held held_now : ReaderState) (item : Item)
     → (asking : Asking h image old now archive held) → Gives held held_now asking.pulling.since (Ok (Some item)) now.source source
     → (StandsFor archive h → CacheStands now.disk archive → IsQuestion item → IsAsked h item now.sink.shown sink.shown now.disk disk archive archive_now) → (CacheStands now.disk archive → CacheStands disk archive_now)
     → Asking h image old (record { source = source; sink = sink; disk = disk }) archive_now held_now
@@ -188,7 +187,7 @@ asking_next h image old now source sink disk archive archive_now held held_now i
       let next = out was.stands was.cached (all_last IsQuestion items item all) in
       let P : Bytes → Type 0 = λ b. AreMade h b (item ∷ []) now.sink.shown sink.shown in
       record {
-        stands = stands_still h archive archive_now next.kept was.stands;
+        stands = stands_still h archive archive_now next.but_cache was.stands;
         cached = cached was.cached;
         holds_are = next.holds ∙ was.holds_are;
         made = one_more h image items item old.sink.shown now.sink.shown sink.shown was.made (subst P was.holds_are next.asked);
@@ -203,11 +202,11 @@ asking_next h image old now source sink disk archive archive_now held held_now i
 }
 
 -- the input is at its end
-pub asked_all : (h : History) (image : Bytes) (old now : MachineState) (source : SourceState) (archive : ArchiveState) (held held_now : Held) (asking : Asking h image old now archive held)
+pub asked_all : (h : History) (image : Bytes) (old now : MachineState) (source : SourceState) (archive : ArchiveState) (held held_now : ReaderState) (asking : Asking h image old now archive held)
     → Gives held held_now asking.pulling.since (Ok None) now.source source → HasAsked h image old (record { source = source; sink = now.sink; disk = now.disk })
 asked_all h image old now source archive held held_now asking gives =
     let whole = whole_done old.source now.source source held held_now asking.pulling gives in
-    let done = whole.ends.stood.done refl in
+    let done = whole.ends.input_at.done refl in
     let all : old.source.left ≡ whole.ends.pulled = whole.ends.pulled_are ∙ ap (λ (l : List ℕ). whole.ends.pulled ++ l) (whole.ends.ended_is done.0) ∙ append-nil whole.ends.pulled in
     let E : Bool → Type 0 = λ e. Splits e whole.ends.pulled asking.pulling.items whole.ends.rest in
     let R : List ℕ → Type 0 = λ r. Splits true whole.ends.pulled asking.pulling.items r in
@@ -224,7 +223,7 @@ asked_before : (ended : Bool) (left : List ℕ) → (ended ≡ true → left ≡
 asked_before false left told = tt
 asked_before true left told = (refl, told refl)
 
-pub asking_stops : (h : History) (image : Bytes) (old now : MachineState) (source : SourceState) (sink : SinkState) (disk : DiskState) (archive : ArchiveState) (held held_now : Held) (item : Item) (damage : Damage)
+pub asking_stops : (h : History) (image : Bytes) (old now : MachineState) (source : SourceState) (sink : SinkState) (disk : DiskState) (archive : ArchiveState) (held held_now : ReaderState) (item : Item) (damage : Damage)
     → (asking : Asking h image old now archive held) → Gives held held_now asking.pulling.since (Ok (Some item)) now.source source
     → (StandsFor archive h → CacheStands now.disk archive → Spoils h now.disk.holds.pages item damage × (sink.shown ≡ now.sink.shown))
     → HasStopped h image old (record { source = source; sink = sink; disk = disk }) damage
@@ -248,7 +247,7 @@ asking_stops h image old now source sink disk archive held held_now item damage 
     }
 
 -- a run goes on where neither what was shown nor the disk changed
-pub asking_along : (h : History) (image : Bytes) (old : MachineState) (source : SourceState) (one other : SinkState) (now then : DiskState) (archive : ArchiveState) (held : Held) → other ≡ one → then ≡ now
+pub asking_along : (h : History) (image : Bytes) (old : MachineState) (source : SourceState) (one other : SinkState) (now then : DiskState) (archive : ArchiveState) (held : ReaderState) → other ≡ one → then ≡ now
     → Asking h image old (record { source = source; sink = one; disk = now }) archive held → Asking h image old (record { source = source; sink = other; disk = then }) archive held
 asking_along h image old source one other now then archive held shown disk asking =
     let S : SinkState → Type 0 = λ s. Asking h image old (record { source = source; sink = s; disk = now }) archive held in

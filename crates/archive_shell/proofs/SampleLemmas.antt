@@ -12,17 +12,18 @@ use Rattle.program_words.specs.Words.{AreNoWords, AreWords}
 use Rattle.program_words.specs.declared.task.Task.{Task}
 use Rattle.sample_commands.specs.Samples.{sample_of}
 use Rattle.archive_state.specs.Histories.{History}
-use Rattle.archive_state.specs.Legal.{IsLegal}
 use Rattle.archive_state.specs.Steps.{Reply, Step}
-use Rattle.archive_state.specs.Runs.{Turn, IsRun}
+use Rattle.archive_state.specs.Runs.{Outcome, IsRun}
 use Rattle.archive_state.specs.Standing.{last_state}
 use Rattle.archive_state.specs.Holding.{HoldsPlan}
-use Rattle.archive_state.specs.Stands.{Stands, EachStands, bodies_of}
+use Rattle.archive_state.specs.Stands.{Stands, StandsIn, EachStands, bodies_of}
+use Rattle.archive_state.specs.Worlds.{World, world_of}
 use Rattle.gate_journal.specs.Spelled.{Spells}
 use Rattle.archive_replay.specs.declared.error.LoadError.{LoadError}
 use Rattle.archive_replay.specs.declared.error.LoadError.TheVariants as loads
 use Rattle.std.proofs.lemmas.List.Elements.{All-nil}
 use Rattle.archive_state.proofs.RunLemmas.{state_after_all}
+use Rattle.archive_state.proofs.OutcomeLemmas.{run_on}
 use Rattle.archive_replies.specs.Tallies.{sample_text}
 use Rattle.archive_sample.specs.Filling.{EndsFilled, Fills, IsFilled}
 use Rattle.archive_sample.proofs.LawLemmas.{reports}
@@ -31,44 +32,43 @@ use Rattle.archive_sample.specs.declared.error.FillError.TheVariants as fills
 use Rattle.archive_sample.specs.declared.report.Report.{Report}
 use Rattle.archive_core.specs.States.{ArchiveState}
 use Rattle.archive_core.specs.Changing.{KeepsHistory}
-use Rattle.archive_core.proofs.AddLemmas.{kept_stands}
+use Rattle.archive_core.proofs.AddLemmas.{in_step_stands}
 use Rattle.sublist_store.specs.declared.why.Damage.{Damage}
 use Rattle.archive_shell.specs.Sampling.{EndsSample, Reached, Sampled}
 use Rattle.archive_shell.specs.Statuses.{status_of_fill, status_of_load}
 use Rattle.archive_shell.specs.declared.status.Status.{Status}
 use Rattle.archive_shell.specs.declared.status.Status.TheVariants.{Done, Usage, NotArchive, Disk, Source, Sink, Script, Damaged, Budget, NotEmpty, Memory}
-use Rattle.archive_shell.proofs.ServeLemmas.{run_on}
 use Rattle.archive_shell.proofs.ShowLemmas.{same_images}
 
 -- what was left while the commands were carried out
-filled_reaches : (turns : List (Turn Reply History)) (before : List ℕ) (old new : DiskState) → old.now.beside ≡ before → Fills [] turns old new → LeavesOnly old new (Reached turns before)
-filled_reaches turns before old new beside filled = λ image other left.
+filled_reaches : (outcomes : List (Outcome Reply World)) (before : List ℕ) (old new : DiskState) → old.now.beside ≡ before → Fills (world_of []) outcomes old new → LeavesOnly old new (Reached outcomes before)
+filled_reaches outcomes before old new beside filled = λ image other left.
     let was = filled.images image other left in
     record { j = was.0.0; within = was.0.1; holds = was.0.2; shown = inl (was.1 ∙ beside) }
 
--- where each image stands for the last history, what is left while the lines are shown does
-shown_reaches : (turns : List (Turn Reply History)) (before after : List ℕ) (old new : DiskState) → EachStands old (last_state [] turns) → OnlyShows old new before after → LeavesOnly old new (Reached turns before)
-shown_reaches turns before after old new each shows = λ image beside left.
+-- where each image stands for the last state, what is left while the lines are shown does
+shown_reaches : (outcomes : List (Outcome Reply World)) (before after : List ℕ) (old new : DiskState) → EachStands old (last_state (world_of []) outcomes).history → OnlyShows old new before after → LeavesOnly old new (Reached outcomes before)
+shown_reaches outcomes before after old new each shows = λ image beside left.
     let was = shows.since image beside left in
-    let S : History → Type 0 = λ h. Stands h image in
-    record { j = length turns; within = omega arith; holds = subst S (sym (state_after_all [] turns)) (each image was.0); shown = inr refl }
+    let S : World → Type 0 = λ w. StandsIn w image in
+    record { j = length outcomes; within = omega arith; holds = subst S (sym (state_after_all (world_of []) outcomes)) (each image was.0); shown = inr refl }
 
 -- what was left while the archive was loaded
-load_reaches : (turns : List (Turn Reply History)) (before : List ℕ) (old new : DiskState) → old.now.beside ≡ before → KeepsHistory [] old new → LeavesOnly old new (Reached turns before)
-load_reaches turns before old new beside keeps = λ image other left.
+load_reaches : (outcomes : List (Outcome Reply World)) (before : List ℕ) (old new : DiskState) → old.now.beside ≡ before → KeepsHistory [] old new → LeavesOnly old new (Reached outcomes before)
+load_reaches outcomes before old new beside keeps = λ image other left.
     let was = keeps.images image other left in
     record { j = 0; within = omega arith; holds = was.0; shown = inl (was.1 ∙ beside) }
 
 -- ---- the ends of a run
 
 -- a run that showed nothing
-pub unshown : (seed count : ℕ) (status : Status) (output output_now : SinkState) (old new : DiskState) (turns : List (Turn Reply History)) → IsRun Step [] (map items.Command (sample_of seed count)) turns
-    → output_now.shown ≡ output.shown → (status ≡ Done → ⊥) → ((damage : Damage) → status ≡ Damaged damage → ⊥) → GoesOn old new → (EachStands old [] → LeavesOnly old new (Reached turns output.shown))
+pub unshown : (seed count : ℕ) (status : Status) (output output_now : SinkState) (old new : DiskState) (outcomes : List (Outcome Reply World)) → IsRun Step (world_of []) (map items.Command (sample_of seed count)) outcomes
+    → output_now.shown ≡ output.shown → (status ≡ Done → ⊥) → ((damage : Damage) → status ≡ Damaged damage → ⊥) → GoesOn old new → (EachStands old [] → LeavesOnly old new (Reached outcomes output.shown))
     → Sampled seed count status output output_now old new
-unshown seed count status output output_now old new turns run same not_done undamaged on images =
-    let has = reports seed count [] turns run in
+unshown seed count status output output_now old new outcomes run same not_done undamaged on images =
+    let has = reports seed count (world_of []) outcomes run in
     record {
-      turns = turns;
+      outcomes = outcomes;
       run = run;
       report = has.0;
       report_is = has.1;
@@ -87,23 +87,23 @@ fill_not_done fills.Failed is = cc
 fill_not_done (fills.Damaged damage) is = cc
 fill_not_done fills.Memory is = cc
 
-pub fill_undamaged : (turns : List (Turn Reply History)) (new : DiskState) (archive_now : ArchiveState) (error : FillError) → EndsFilled [] turns new archive_now (Err error) → (damage : Damage) → status_of_fill error ≡ Damaged damage → ⊥
-fill_undamaged turns new archive_now fills.Failed ends damage is = cc
-fill_undamaged turns new archive_now (fills.Damaged other) ends damage is = ends
-fill_undamaged turns new archive_now fills.Memory ends damage is = cc
+pub fill_undamaged : (outcomes : List (Outcome Reply World)) (new : DiskState) (archive_now : ArchiveState) (error : FillError) → EndsFilled (world_of []) outcomes new archive_now (Err error) → (damage : Damage) → status_of_fill error ≡ Damaged damage → ⊥
+fill_undamaged outcomes new archive_now fills.Failed ends damage is = cc
+fill_undamaged outcomes new archive_now (fills.Damaged other) ends damage is = ends
+fill_undamaged outcomes new archive_now fills.Memory ends damage is = cc
 
 -- the commands were carried out up to an error
 pub filled_to_error : (seed count : ℕ) (error : FillError) (output output_now : SinkState) (old new : DiskState) (archive_now : ArchiveState) → old.now.beside ≡ output.shown → output_now ≡ output
     → IsFilled [] (sample_of seed count) (Err error) old new archive_now → Sampled seed count (status_of_fill error) output output_now old new
 filled_to_error seed count error output output_now old new archive_now beside same filled =
-    unshown seed count (status_of_fill error) output output_now old new filled.turns filled.run (ap (λ (s : SinkState). s.shown) same) (fill_not_done error) (fill_undamaged filled.turns new archive_now error filled.ends) filled.fills.goes_on
-    (λ each. filled_reaches filled.turns output.shown old new beside filled.fills)
+    unshown seed count (status_of_fill error) output output_now old new filled.outcomes filled.run (ap (λ (s : SinkState). s.shown) same) (fill_not_done error) (fill_undamaged filled.outcomes new archive_now error filled.ends) filled.fills.goes_on
+    (λ each. filled_reaches filled.outcomes output.shown old new beside filled.fills)
 
 -- they were carried out, and there was no memory for the lines
 pub filled_unshown : (seed count : ℕ) (report : Report) (output output_now : SinkState) (old new : DiskState) (archive_now : ArchiveState) → old.now.beside ≡ output.shown → output_now ≡ output
     → IsFilled [] (sample_of seed count) (Ok report) old new archive_now → Sampled seed count Memory output output_now old new
 filled_unshown seed count report output output_now old new archive_now beside same filled =
-    unshown seed count Memory output output_now old new filled.turns filled.run (ap (λ (s : SinkState). s.shown) same) (λ is. cc) (λ damage is. cc) filled.fills.goes_on (λ each. filled_reaches filled.turns output.shown old new beside filled.fills)
+    unshown seed count Memory output output_now old new filled.outcomes filled.run (ap (λ (s : SinkState). s.shown) same) (λ is. cc) (λ damage is. cc) filled.fills.goes_on (λ each. filled_reaches filled.outcomes output.shown old new beside filled.fills)
 
 -- the lines were shown, or a front of them
 pub filled_shown : (seed count : ℕ) (status : Status) (report : Report) (output output_now : SinkState) (old mid new : DiskState) (archive_now : ArchiveState) (page : List ℕ) → old.now.beside ≡ output.shown
@@ -111,10 +111,10 @@ pub filled_shown : (seed count : ℕ) (status : Status) (report : Report) (outpu
     → IsPrefix output_now.shown (output.shown ++ page) → (status ≡ Done → output_now.shown ≡ output.shown ++ page) → ((damage : Damage) → status ≡ Damaged damage → ⊥)
     → Sampled seed count status output output_now old new
 filled_shown seed count status report output output_now old mid new archive_now page beside filled text shows same front whole undamaged =
-    let turns = filled.turns in
-    let each : EachStands mid (last_state [] turns) = kept_stands mid archive_now (last_state [] turns) filled.ends.1 in
+    let outcomes = filled.outcomes in
+    let each : EachStands mid (last_state (world_of []) outcomes).history = in_step_stands mid archive_now (last_state (world_of []) outcomes).history filled.ends.1 in
     record {
-      turns = turns;
+      outcomes = outcomes;
       run = filled.run;
       report = report;
       report_is = filled.ends.0;
@@ -127,7 +127,7 @@ filled_shown seed count status report output output_now old mid new archive_now 
       );
       whole = λ is. append_cancel_left output.shown shows.grows.0 (sample_text count report.tally report.verdict) (sym shows.grows.1 ∙ whole is ∙ ap (λ (l : List ℕ). output.shown ++ l) text);
       goes_on = goes_on_joins filled.fills.goes_on shows.goes_on;
-      images = λ start. joined (Reached turns output.shown) filled.fills.goes_on (filled_reaches turns output.shown old mid beside filled.fills) shows.goes_on (shown_reaches turns output.shown output_now.shown mid new each shows);
+      images = λ start. joined (Reached outcomes output.shown) filled.fills.goes_on (filled_reaches outcomes output.shown old mid beside filled.fills) shows.goes_on (shown_reaches outcomes output.shown output_now.shown mid new each shows);
       last = λ is image allowed. each image (same_images mid new same image allowed);
       undamaged = undamaged;
     }
@@ -136,7 +136,7 @@ filled_shown seed count status report output output_now old mid new archive_now 
 pub loaded_then : (seed count : ℕ) (status : Status) (output output_now : SinkState) (old mid new : DiskState) → old.now.beside ≡ output.shown → GoesOn old mid → (EachStands old [] → KeepsHistory [] old mid) → EachStands mid []
     → Sampled seed count status output output_now mid new → Sampled seed count status output output_now old new
 loaded_then seed count status output output_now old mid new beside on keeps start sampled = record {
-  turns = sampled.turns;
+  outcomes = sampled.outcomes;
   run = sampled.run;
   report = sampled.report;
   report_is = sampled.report_is;
@@ -145,7 +145,7 @@ loaded_then seed count status output output_now old mid new beside on keeps star
   front = sampled.front;
   whole = sampled.whole;
   goes_on = goes_on_joins on sampled.goes_on;
-  images = λ each. joined (Reached sampled.turns output.shown) on (load_reaches sampled.turns output.shown old mid beside (keeps each)) sampled.goes_on (sampled.images start);
+  images = λ each. joined (Reached sampled.outcomes output.shown) on (load_reaches sampled.outcomes output.shown old mid beside (keeps each)) sampled.goes_on (sampled.images start);
   last = sampled.last;
   undamaged = sampled.undamaged;
 }
@@ -154,8 +154,7 @@ loaded_then seed count status output output_now old mid new beside on keeps star
 pub not_loaded : (seed count : ℕ) (status : Status) (output output_now : SinkState) (old new : DiskState) → All HasDocument (map items.Command (sample_of seed count)) → old.now.beside ≡ output.shown → output_now ≡ output
     → (status ≡ Done → ⊥) → ((damage : Damage) → status ≡ Damaged damage → ⊥) → GoesOn old new → (EachStands old [] → KeepsHistory [] old new) → Sampled seed count status output output_now old new
 not_loaded seed count status output output_now old new range beside same not_done undamaged going keeps =
-    let start : IsLegal [] = tt in
-    let on = run_on [] (map items.Command (sample_of seed count)) start range in
+    let on = run_on (world_of []) (map items.Command (sample_of seed count)) tt range in
     unshown seed count status output output_now old new on.0 on.1 (ap (λ (s : SinkState). s.shown) same) not_done undamaged going (λ each. load_reaches on.0 output.shown old new beside (keeps each))
 
 -- ---- the load

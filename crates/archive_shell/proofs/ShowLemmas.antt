@@ -9,14 +9,15 @@ use Rattle.machine_model.specs.Pushes.{IsPrefix, IsSameBeside, OnlyShows}
 use Rattle.machine_model.specs.declared.range.Range.{Range}
 use Rattle.commands.specs.declared.command.Item.{Item}
 use Rattle.archive_state.specs.Histories.{History}
-use Rattle.archive_state.specs.Steps.{Reply, Accepted, Refused, Found, Spanned, Shown, Proposed, Planned, Verified}
+use Rattle.archive_state.specs.Steps.{Reply, Accepted, Refused, Found, Spanned, Version, Proposed, Planned, Verified}
 use Rattle.archive_state.specs.Replies.{end_text, reply_text, row_text, span_text, node_text, segment_text, space_text, verdict_text}
-use Rattle.archive_state.specs.Stands.{Stands}
-use Rattle.archive_state.proofs.RunLemmas.{one_turn}
-use Rattle.archive_core.specs.States.{ArchiveState, CacheStands, IsKept}
-use Rattle.archive_core.proofs.AddLemmas.{kept_stands}
+use Rattle.archive_state.specs.Stands.{StandsIn}
+use Rattle.archive_state.specs.Worlds.{world_of}
+use Rattle.archive_state.proofs.RunLemmas.{one_outcome}
+use Rattle.archive_core.specs.States.{ArchiveState, CacheStands, AreInStep}
+use Rattle.archive_core.proofs.AddLemmas.{in_step_stands}
 use Rattle.archive_shell.specs.Statuses.{stop_of_halt}
-use Rattle.archive_shell.specs.Turns.{AnsweredBy, Answers, CarriesOut, EndsAt, StopsAt}
+use Rattle.archive_shell.specs.Outcomes.{AnsweredBy, Answers, CarriesOut, EndsAt, StopsAt}
 use Rattle.archive_shell.specs.declared.stop.Halt.{Halt}
 use Rattle.archive_shell.specs.declared.stop.Halt.TheVariants as halts
 use Rattle.archive_shell.specs.declared.stop.Stop.{Stop}
@@ -39,8 +40,8 @@ some_bytes (Found rows read) = behind (flat_map row_text rows) (end_text (length
 some_bytes (Spanned rows read) = behind (flat_map span_text rows) (end_text (length rows) read) (some_end (length rows) read)
 some_bytes (Proposed segments nodes total) =
     behind (flat_map segment_text segments ++ flat_map node_text nodes) (space_text (length segments) total) (some_space (length segments) total)
-some_bytes (Shown None) = omega arith
-some_bytes (Shown (Some text)) = omega arith
+some_bytes (Version None) = omega arith
+some_bytes (Version (Some text)) = omega arith
 some_bytes (Planned summary) = omega arith
 some_bytes (Verified verdict) = behind (verdict_text verdict) (10 ∷ []) (omega arith)
 
@@ -56,42 +57,42 @@ pub cached_beside : (old new : DiskState) (archive : ArchiveState) → IsSameBes
 cached_beside old new archive same cached = let C : DiskState → Type 0 = λ d. CacheStands d archive in subst C (sym same.same) cached
 
 -- so an archive stays in step over them
-pub kept_beside : (old new : DiskState) (archive : ArchiveState) (history : History) → IsSameBeside old new → IsKept old archive history → IsKept new archive history
-kept_beside old new archive history same kept = record {
-  stands = kept.stands;
-  in_step = record {
-    gate = kept.in_step.gate;
-    shut = kept.in_step.shut;
-    fit = kept.in_step.fit;
-    end_is = kept.in_step.end_is;
-    images = λ image allowed. kept.in_step.images image (same_images old new same image allowed);
+pub in_step_beside : (old new : DiskState) (archive : ArchiveState) (history : History) → IsSameBeside old new → AreInStep old archive history → AreInStep new archive history
+in_step_beside old new archive history same in_step = record {
+  stands = in_step.stands;
+  journal = record {
+    gate = in_step.journal.gate;
+    shut = in_step.journal.shut;
+    fit = in_step.journal.fit;
+    end_is = in_step.journal.end_is;
+    images = λ image allowed. in_step.journal.images image (same_images old new same image allowed);
   };
-  legal = kept.legal;
-  held = λ image allowed. kept.held image (same_images old new same image allowed);
-  cached = cached_beside old new archive same kept.cached;
+  legal = in_step.legal;
+  held = λ image allowed. in_step.held image (same_images old new same image allowed);
+  cached = cached_beside old new archive same in_step.cached;
 }
 
 -- the run was stopped before the reply
 pub cut_short : (history : History) (item : Item) (halt : Halt) (stop : Stop) (before : List ℕ) (old new : DiskState) (archive_now : ArchiveState) (page : List ℕ)
     → Answers history item (Err halt) old new archive_now page → stop ≡ stop_of_halt halt → old.now.beside ≡ before → CarriesOut history item (Err stop) before before old new archive_now
 cut_short history item halt stop before old new archive_now page answered is beside =
-    let turn = answered.turn in
-    let S : Stop → Type 0 = λ s. StopsAt history turn new s in
+    let outcome = answered.outcome in
+    let S : Stop → Type 0 = λ s. StopsAt history outcome new s in
     record {
-      turn = turn;
+      outcome = outcome;
       step = answered.step;
       carried = record {
         goes_on = answered.leads.goes_on;
         images = λ image other left. let was = answered.leads.images image other left in
-            ([], was.1 ∙ beside ∙ sym (append-nil before), elim was.0 [ inl still ↦ inl (still, refl) | inr next ↦ inr (inl (next, (reply_text turn.reply, refl))) ]);
+            ([], was.1 ∙ beside ∙ sym (append-nil before), elim was.0 [ inl still ↦ inl (still, refl) | inr next ↦ inr (inl (next, (reply_text outcome.reply, refl))) ]);
       };
       shown = [];
       shown_is = sym (append-nil before);
-      front = (reply_text turn.reply, refl);
-      ends = (omega (arith, some_bytes turn.reply), subst S (sym is) (stops_at halt answered.ends));
+      front = (reply_text outcome.reply, refl);
+      ends = (omega (arith, some_bytes outcome.reply), subst S (sym is) (stops_at halt answered.ends));
     }
   where
-    stops_at : (h : Halt) → AnsweredBy history answered.turn new archive_now page (Err h) → StopsAt history answered.turn new (stop_of_halt h)
+    stops_at : (h : Halt) → AnsweredBy history answered.outcome new archive_now page (Err h) → StopsAt history answered.outcome new (stop_of_halt h)
     stops_at halts.Disk ends = tt
     stops_at (halts.Damaged damage) ends = absurd ends
     stops_at halts.Memory ends = ends
@@ -109,30 +110,30 @@ pub carried_out : (history : History) (item : Item) (result : Result (Unit {0}) 
     → Answers history item (Ok tt) old mid archive_now page → old.now.beside ≡ before → OnlyShows mid new before after → IsSameBeside mid new
     → IsPrefix after (before ++ page) → ShownTo before after page result → CarriesOut history item result before after old new archive_now
 carried_out history item result before after old mid new archive_now page answered beside shows same front to =
-    let turn = answered.turn in
-    let kept = answered.ends.0 in
-    let text : page ≡ reply_text turn.reply = answered.ends.1 in
+    let outcome = answered.outcome in
+    let in_step = answered.ends.0 in
+    let text : page ≡ reply_text outcome.reply = answered.ends.1 in
     let F : List ℕ → Type 0 = λ t. IsPrefix after (before ++ t) in
     let reply = subst F text front in
     record {
-      turn = turn;
+      outcome = outcome;
       step = answered.step;
-      carried = one_turn reply_text Stands history turn before after old mid new answered.leads.goes_on
-          (λ image other left. let was = answered.leads.images image other left in (was.0, was.1 ∙ beside)) shows (kept_stands mid archive_now turn.next kept) reply;
+      carried = one_outcome reply_text StandsIn (world_of history) outcome before after old mid new answered.leads.goes_on
+          (λ image other left. let was = answered.leads.images image other left in (was.0, was.1 ∙ beside)) shows (in_step_stands mid archive_now outcome.next.history in_step) reply;
       shown = shows.grows.0;
       shown_is = shows.grows.1;
-      front = (reply.0, append_cancel_left before (reply_text turn.reply) (shows.grows.0 ++ reply.0) (reply.1 ∙ ap (λ (l : List ℕ). l ++ reply.0) shows.grows.1 ∙ append_assoc before shows.grows.0 reply.0));
+      front = (reply.0, append_cancel_left before (reply_text outcome.reply) (shows.grows.0 ++ reply.0) (reply.1 ∙ ap (λ (l : List ℕ). l ++ reply.0) shows.grows.1 ∙ append_assoc before shows.grows.0 reply.0));
       ends = ends result to;
     }
   where
-    still : IsKept new archive_now answered.turn.next
-    still = kept_beside mid new archive_now answered.turn.next same answered.ends.0
+    still : AreInStep new archive_now answered.outcome.next.history
+    still = in_step_beside mid new archive_now answered.outcome.next.history same answered.ends.0
 
-    ends : (r : Result (Unit {0}) Stop) → ShownTo before after page r → EndsAt history answered.turn new archive_now shows.grows.0 r
-    ends (Ok done) all = (append_cancel_left before shows.grows.0 (reply_text answered.turn.reply) (sym shows.grows.1 ∙ all ∙ ap (λ (t : List ℕ). before ++ t) answered.ends.1), still)
+    ends : (r : Result (Unit {0}) Stop) → ShownTo before after page r → EndsAt history answered.outcome new archive_now shows.grows.0 r
+    ends (Ok done) all = (append_cancel_left before shows.grows.0 (reply_text answered.outcome.reply) (sym shows.grows.1 ∙ all ∙ ap (λ (t : List ℕ). before ++ t) answered.ends.1), still)
     ends (Err stops.Sink) short = (
       omega (arith, short, ap length answered.ends.1, ap length shows.grows.1, length-append before shows.grows.0),
-      kept_stands new archive_now answered.turn.next still,
+      in_step_stands new archive_now answered.outcome.next.history still,
     )
     ends (Err stops.Disk) never = absurd never
     ends (Err (stops.Damaged damage)) never = absurd never

@@ -2,42 +2,42 @@
 use Rattle.std.proofs.Common.{◌≡◌, ℕ, ◌≤◌, Bool, true, false, List, [], ◌∷◌, ◌++◌, length, map, All, Some, None, Ok, Err, refl, inl, inr, ap, subst, sym, ◌∙◌, arith, append_assoc}
 use Rattle.std.proofs.lemmas.List.{append-nil, length-append}
 use Rattle.std.proofs.lemmas.List.Elements.{All-nil, All-append, All-map, All-weaker}
-use Rattle.machine_model.specs.States.{SourceState, SinkState, DiskState}
+use Rattle.machine_model.specs.States.{SourceState, SinkState, DiskState, MachineState}
 use Rattle.machine_model.specs.Pulls.{Pull}
 use Rattle.commands.specs.declared.command.Item.{Item}
 use Rattle.script_read.specs.Items.{Waits}
-use Rattle.script_read.specs.Reading.{Held, IsAwaited}
+use Rattle.script_read.specs.Reading.{ReaderState, IsAwaited}
 use Rattle.script_read.specs.declared.error.ScriptError.{ScriptError}
 use Rattle.script_read.specs.declared.error.ScriptError.TheVariants as errors
 use Rattle.script_read.proofs.Splitting.{never-more}
 use Rattle.script_read.proofs.RunLemmas.{pulled_by_then}
-use Rattle.archive_state.specs.Histories.{History}
 use Rattle.archive_state.specs.Steps.{Reply, Step}
 use Rattle.archive_state.specs.Replies.{reply_text}
-use Rattle.archive_state.specs.Runs.{Turn, shown_by, state_after}
+use Rattle.archive_state.specs.Runs.{Outcome, shown_by, state_after}
 use Rattle.archive_state.specs.Standing.{last_state, Carried}
-use Rattle.archive_state.specs.Stands.{Stands, EachStands}
+use Rattle.archive_state.specs.Stands.{EachStands, StandsIn}
+use Rattle.archive_state.specs.Worlds.{World}
 use Rattle.archive_state.proofs.RunLemmas.{runs_join, last_state_joins, shown_by_joins, carried_joins, state_after_all, state_after_front}
-use Rattle.archive_core.specs.States.{ArchiveState, IsKept}
-use Rattle.archive_core.proofs.AddLemmas.{kept_stands}
+use Rattle.archive_core.specs.States.{ArchiveState, AreInStep}
+use Rattle.archive_core.proofs.AddLemmas.{in_step_stands}
 use Rattle.sublist_store.specs.declared.why.Damage.{Damage}
-use Rattle.archive_shell.specs.Headline.{IsInTurn, MachineState}
+use Rattle.archive_shell.specs.Headline.{ComesAfterReplies}
 use Rattle.archive_shell.specs.Serving.{Serving, Serves}
 use Rattle.archive_shell.specs.Statuses.{status_of_script, status_of_stop}
-use Rattle.archive_shell.specs.Turns.{CarriesOut, StopsAt}
+use Rattle.archive_shell.specs.Outcomes.{CarriesOut, StopsAt}
 use Rattle.archive_shell.specs.declared.stop.Stop.{Stop}
 use Rattle.archive_shell.specs.declared.stop.Stop.TheVariants as stops
 use Rattle.archive_shell.specs.declared.status.Status.{Status}
 use Rattle.archive_shell.specs.declared.status.Status.TheVariants.{Done, Damaged, Disk, Sink, Source, Budget, Script, Memory}
 use Rattle.archive_shell.proofs.PullLemmas.{EndsWhole, Gives, pulling_next, pulling_still, stops_early, whole_by, whole_done}
-use Rattle.archive_shell.proofs.ServeLemmas.{ended_early, all_in_turn}
+use Rattle.archive_shell.proofs.ServeLemmas.{ended_early, all_after_replies}
 
 -- what was left before each pull of a call: nothing waited, and the end was not told
-abbrev pub AreAwaited : Held → List ℕ → List ℕ → List (List ℕ) → Type 0
+abbrev pub AreAwaited : ReaderState → List ℕ → List ℕ → List (List ℕ) → Type 0
 AreAwaited held since all lefts = All (λ left. IsAwaited since all left × (held.ended ≡ false)) lefts
 
 -- pulls of a call: none once the end was told
-pub pulls_in : (held : Held) (since all : List ℕ) (P : List (List ℕ) → Type 0) → ((Waits held.ended since → ⊥) → P [])
+pub pulls_in : (held : ReaderState) (since all : List ℕ) (P : List (List ℕ) → Type 0) → ((Waits held.ended since → ⊥) → P [])
     → ((lefts : List (List ℕ)) × P lefts × All (IsAwaited since all) lefts) → (lefts : List (List ℕ)) × P lefts × AreAwaited held since all lefts
 pulls_in held since all P calm made = go held.ended refl
   where
@@ -51,10 +51,10 @@ pulls_in held since all P calm made = go held.ended refl
 abbrev pub pulls_beside : List ℕ → List (List ℕ) → List Pull
 pulls_beside shown lefts = map (λ left. record { left = left; shown = shown }) lefts
 
--- a pull in which nothing waited is in turn
-awaited_in_turn : (history : History) (old now : MachineState) (archive : ArchiveState) (held : Held) (pulls : List Pull) (serving : Serving history old now archive held pulls) (left : List ℕ)
-    → IsAwaited serving.pulling.since now.source.left left × (held.ended ≡ false) → IsInTurn old.source old.sink serving.pulling.items serving.turns (record { left = left; shown = now.sink.shown })
-awaited_in_turn history old now archive held pulls serving left awaited =
+-- a pull in which nothing waited comes after the replies
+awaited_after_replies : (world : World) (old now : MachineState) (archive : ArchiveState) (held : ReaderState) (pulls : List Pull) (serving : Serving world old now archive held pulls) (left : List ℕ)
+    → IsAwaited serving.pulling.since now.source.left left × (held.ended ≡ false) → ComesAfterReplies old.source old.sink serving.pulling.items serving.outcomes (record { left = left; shown = now.sink.shown })
+awaited_after_replies world old now archive held pulls serving left awaited =
     let p = serving.pulling in
     let there = pulled_by_then p.pulled p.items p.since held now.source.left left p.reads awaited.0 awaited.1 in
     record {
@@ -65,29 +65,29 @@ awaited_in_turn history old now archive held pulls serving left awaited =
       items_are = sym (append-nil p.items);
       rest = there.2;
       split = there.3;
-      answered = serving.turns;
+      answered = serving.outcomes;
       to_come = [];
-      turns_are = sym (append-nil serving.turns);
+      outcomes_are = sym (append-nil serving.outcomes);
       each = serving.each;
       shown = serving.shown;
     }
 
-all_pulls : (history : History) (old now : MachineState) (archive : ArchiveState) (held : Held) (before : List Pull) (lefts : List (List ℕ)) (serving : Serving history old now archive held before)
-    → AreAwaited held serving.pulling.since now.source.left lefts → All (IsInTurn old.source old.sink serving.pulling.items serving.turns) (before ++ pulls_beside now.sink.shown lefts)
-all_pulls history old now archive held before lefts serving awaited =
-    let P : Pull → Type 0 = IsInTurn old.source old.sink serving.pulling.items serving.turns in
-    All-append P before (pulls_beside now.sink.shown lefts) serving.in_turn
+all_pulls : (world : World) (old now : MachineState) (archive : ArchiveState) (held : ReaderState) (before : List Pull) (lefts : List (List ℕ)) (serving : Serving world old now archive held before)
+    → AreAwaited held serving.pulling.since now.source.left lefts → All (ComesAfterReplies old.source old.sink serving.pulling.items serving.outcomes) (before ++ pulls_beside now.sink.shown lefts)
+all_pulls world old now archive held before lefts serving awaited =
+    let P : Pull → Type 0 = ComesAfterReplies old.source old.sink serving.pulling.items serving.outcomes in
+    All-append P before (pulls_beside now.sink.shown lefts) serving.after_replies
     (All-map P (λ left. record { left = left; shown = now.sink.shown }) lefts
     (All-weaker (λ left. IsAwaited serving.pulling.since now.source.left left × (held.ended ≡ false)) (λ left. P (record { left = left; shown = now.sink.shown }))
-    (λ left one. awaited_in_turn history old now archive held before serving left one) lefts awaited))
+    (λ left one. awaited_after_replies world old now archive held before serving left one) lefts awaited))
 
 -- a run in which all items are carried out ends
-ended_whole : (history : History) (status : Status) (old now : MachineState) (archive : ArchiveState) (held : Held) (before : List Pull) (source : SourceState) (lefts : List (List ℕ)) (serving : Serving history old now archive held before)
+ended_whole : (world : World) (status : Status) (old now : MachineState) (archive : ArchiveState) (held : ReaderState) (before : List Pull) (source : SourceState) (lefts : List (List ℕ)) (serving : Serving world old now archive held before)
     → AreAwaited held serving.pulling.since now.source.left lefts → EndsWhole status old.source source serving.pulling.items → (status ≡ Disk → ⊥) → (status ≡ Sink → ⊥) → ((damage : Damage) → status ≡ Damaged damage → ⊥)
-    → Serves history status old (record { source = source; sink = now.sink; disk = now.disk }) (before ++ pulls_beside now.sink.shown lefts)
-ended_whole history status old now archive held before source lefts serving awaited whole no_disk no_sink no_damage =
-    let E : History → Type 0 = λ h. EachStands now.disk h in
-    let all = kept_stands now.disk archive (last_state history serving.turns) serving.kept in
+    → Serves world status old (record { source = source; sink = now.sink; disk = now.disk }) (before ++ pulls_beside now.sink.shown lefts)
+ended_whole world status old now archive held before source lefts serving awaited whole no_disk no_sink no_damage =
+    let E : World → Type 0 = λ w. EachStands now.disk w.history in
+    let all = in_step_stands now.disk archive (last_state world serving.outcomes).history serving.in_step in
     record {
       ran = record {
         pulled = whole.ends.pulled;
@@ -97,146 +97,146 @@ ended_whole history status old now archive held before source lefts serving awai
         items = serving.pulling.items;
         rest = whole.ends.rest;
         split = whole.split;
-        stood = whole.ends.stood;
-        turns = serving.turns;
+        input_at = whole.ends.input_at;
+        outcomes = serving.outcomes;
         run = serving.run;
-        shown = shown_by reply_text serving.turns;
+        shown = shown_by reply_text serving.outcomes;
         shown_is = serving.shown;
-        front = ([], sym (append-nil (shown_by reply_text serving.turns)));
+        front = ([], sym (append-nil (shown_by reply_text serving.outcomes)));
         whole = λ carried. refl;
         unfinished = λ fault. absurd (elim fault [ inl is ↦ no_disk is | inr is ↦ no_sink is ]);
-        in_turn = all_pulls history old now archive held before lefts serving awaited;
+        after_replies = all_pulls world old now archive held before lefts serving awaited;
       };
       carried = serving.carried;
       undamaged = no_damage;
       last = λ carried. all;
-      steady = λ not_disk. (length serving.turns, omega arith, subst E (sym (state_after_all history serving.turns)) all);
+      steady = λ not_disk. (length serving.outcomes, omega arith, subst E (sym (state_after_all world serving.outcomes)) all);
     }
 
 -- the reader has no next item
-pub ended_by : (history : History) (old now : MachineState) (archive : ArchiveState) (held held_now : Held) (before : List Pull) (error : ScriptError) (source : SourceState) (lefts : List (List ℕ)) (serving : Serving history old now archive held before)
+pub ended_by : (world : World) (old now : MachineState) (archive : ArchiveState) (held held_now : ReaderState) (before : List Pull) (error : ScriptError) (source : SourceState) (lefts : List (List ℕ)) (serving : Serving world old now archive held before)
     → AreAwaited held serving.pulling.since now.source.left lefts → Gives held held_now serving.pulling.since (Err error) now.source source
-    → Serves history (status_of_script error) old (record { source = source; sink = now.sink; disk = now.disk }) (before ++ pulls_beside now.sink.shown lefts)
-ended_by history old now archive held held_now before (errors.Broken at) source lefts serving awaited gives =
-    ended_whole history (Script at) old now archive held before source lefts serving awaited (whole_by old.source now.source source held held_now (errors.Broken at) (λ is. cc) serving.pulling gives) (λ is. cc) (λ is. cc) (λ damage is. cc)
-ended_by history old now archive held held_now before errors.Budget source lefts serving awaited gives =
-    ended_whole history Budget old now archive held before source lefts serving awaited (whole_by old.source now.source source held held_now errors.Budget (λ is. cc) serving.pulling gives) (λ is. cc) (λ is. cc) (λ damage is. cc)
-ended_by history old now archive held held_now before errors.Failed source lefts serving awaited gives =
-    ended_whole history Source old now archive held before source lefts serving awaited (whole_by old.source now.source source held held_now errors.Failed (λ is. cc) serving.pulling gives) (λ is. cc) (λ is. cc) (λ damage is. cc)
-ended_by history old now archive held held_now before errors.Memory source lefts serving awaited gives =
-    let E : History → Type 0 = λ h. EachStands now.disk h in
-    ended_early history Memory old (record { source = source; sink = now.sink; disk = now.disk }) held_now (before ++ pulls_beside now.sink.shown lefts) (record {
+    → Serves world (status_of_script error) old (record { source = source; sink = now.sink; disk = now.disk }) (before ++ pulls_beside now.sink.shown lefts)
+ended_by world old now archive held held_now before (errors.Broken at) source lefts serving awaited gives =
+    ended_whole world (Script at) old now archive held before source lefts serving awaited (whole_by old.source now.source source held held_now (errors.Broken at) (λ is. cc) serving.pulling gives) (λ is. cc) (λ is. cc) (λ damage is. cc)
+ended_by world old now archive held held_now before errors.Budget source lefts serving awaited gives =
+    ended_whole world Budget old now archive held before source lefts serving awaited (whole_by old.source now.source source held held_now errors.Budget (λ is. cc) serving.pulling gives) (λ is. cc) (λ is. cc) (λ damage is. cc)
+ended_by world old now archive held held_now before errors.Failed source lefts serving awaited gives =
+    ended_whole world Source old now archive held before source lefts serving awaited (whole_by old.source now.source source held held_now errors.Failed (λ is. cc) serving.pulling gives) (λ is. cc) (λ is. cc) (λ damage is. cc)
+ended_by world old now archive held held_now before errors.Memory source lefts serving awaited gives =
+    let E : World → Type 0 = λ w. EachStands now.disk w.history in
+    ended_early world Memory old (record { source = source; sink = now.sink; disk = now.disk }) held_now (before ++ pulls_beside now.sink.shown lefts) (record {
       legal = serving.legal;
       early = inr (inr (inl refl));
       undamaged = λ damage is. cc;
       pulling = pulling_still old.source now.source source held held_now (Err errors.Memory) refl serving.pulling gives;
-      turns = serving.turns;
+      outcomes = serving.outcomes;
       run = serving.run;
-      shown = shown_by reply_text serving.turns;
+      shown = shown_by reply_text serving.outcomes;
       shown_is = serving.shown;
-      front = ([], sym (append-nil (shown_by reply_text serving.turns)));
+      front = ([], sym (append-nil (shown_by reply_text serving.outcomes)));
       unfinished = λ fault. absurd (elim fault [ inl is ↦ cc | inr is ↦ cc ]);
-      in_turn = all_pulls history old now archive held before lefts serving awaited;
+      after_replies = all_pulls world old now archive held before lefts serving awaited;
       carried = serving.carried;
-      steady = λ not_disk. (length serving.turns, omega arith, subst E (sym (state_after_all history serving.turns)) (kept_stands now.disk archive (last_state history serving.turns) serving.kept));
+      steady = λ not_disk. (length serving.outcomes, omega arith, subst E (sym (state_after_all world serving.outcomes)) (in_step_stands now.disk archive (last_state world serving.outcomes).history serving.in_step));
     })
 
 -- the input is at its end
-pub ended_done : (history : History) (old now : MachineState) (archive : ArchiveState) (held held_now : Held) (before : List Pull) (source : SourceState) (lefts : List (List ℕ)) (serving : Serving history old now archive held before)
+pub ended_done : (world : World) (old now : MachineState) (archive : ArchiveState) (held held_now : ReaderState) (before : List Pull) (source : SourceState) (lefts : List (List ℕ)) (serving : Serving world old now archive held before)
     → AreAwaited held serving.pulling.since now.source.left lefts → Gives held held_now serving.pulling.since (Ok None) now.source source
-    → Serves history Done old (record { source = source; sink = now.sink; disk = now.disk }) (before ++ pulls_beside now.sink.shown lefts)
-ended_done history old now archive held held_now before source lefts serving awaited gives =
-    ended_whole history Done old now archive held before source lefts serving awaited (whole_done old.source now.source source held held_now serving.pulling gives) (λ is. cc) (λ is. cc) (λ damage is. cc)
+    → Serves world Done old (record { source = source; sink = now.sink; disk = now.disk }) (before ++ pulls_beside now.sink.shown lefts)
+ended_done world old now archive held held_now before source lefts serving awaited gives =
+    ended_whole world Done old now archive held before source lefts serving awaited (whole_done old.source now.source source held held_now serving.pulling gives) (λ is. cc) (λ is. cc) (λ damage is. cc)
 
--- what the texts of the turns so far and of one more show
-shown_turned : (turns : List (Turn Reply History)) (turn : Turn Reply History) → shown_by reply_text (turns ++ turn ∷ []) ≡ shown_by reply_text turns ++ reply_text turn.reply
-shown_turned turns turn = shown_by_joins reply_text turns (turn ∷ []) ∙ ap (λ (l : List ℕ). shown_by reply_text turns ++ l) (append-nil (reply_text turn.reply))
+-- what the texts of the outcomes so far and of one more show
+shown_next : (outcomes : List (Outcome Reply World)) (outcome : Outcome Reply World) → shown_by reply_text (outcomes ++ outcome ∷ []) ≡ shown_by reply_text outcomes ++ reply_text outcome.reply
+shown_next outcomes outcome = shown_by_joins reply_text outcomes (outcome ∷ []) ∙ ap (λ (l : List ℕ). shown_by reply_text outcomes ++ l) (append-nil (reply_text outcome.reply))
 
 -- the next item was carried out and its reply shown
-pub serving_next : (history : History) (old now : MachineState) (sink : SinkState) (disk : DiskState) (archive archive_new : ArchiveState) (held held_now : Held) (before : List Pull) (item : Item) (source : SourceState) (lefts : List (List ℕ))
-    → (serving : Serving history old now archive held before) → AreAwaited held serving.pulling.since now.source.left lefts → Gives held held_now serving.pulling.since (Ok (Some item)) now.source source
-    → CarriesOut (last_state history serving.turns) item (Ok tt) now.sink.shown sink.shown now.disk disk archive_new
-    → Serving history old (record { source = source; sink = sink; disk = disk }) archive_new held_now (before ++ pulls_beside now.sink.shown lefts)
-serving_next history old now sink disk archive archive_new held held_now before item source lefts serving awaited gives out =
+pub serving_next : (world : World) (old now : MachineState) (sink : SinkState) (disk : DiskState) (archive archive_new : ArchiveState) (held held_now : ReaderState) (before : List Pull) (item : Item) (source : SourceState) (lefts : List (List ℕ))
+    → (serving : Serving world old now archive held before) → AreAwaited held serving.pulling.since now.source.left lefts → Gives held held_now serving.pulling.since (Ok (Some item)) now.source source
+    → CarriesOut (last_state world serving.outcomes).history item (Ok tt) now.sink.shown sink.shown now.disk disk archive_new
+    → Serving world old (record { source = source; sink = sink; disk = disk }) archive_new held_now (before ++ pulls_beside now.sink.shown lefts)
+serving_next world old now sink disk archive archive_new held held_now before item source lefts serving awaited gives out =
     let items = serving.pulling.items in
-    let turn = out.turn in
+    let outcome = out.outcome in
     let start : List ℕ = old.sink.shown in
     record {
       legal = serving.legal;
       pulling = pulling_next old.source now.source source held held_now item serving.pulling gives;
-      turns = serving.turns ++ turn ∷ [];
-      run = runs_join Step history items (item ∷ []) serving.turns (turn ∷ []) serving.run (out.step, tt);
-      each = omega (arith, serving.each, length-append serving.turns (turn ∷ []), length-append items (item ∷ []));
-      shown = out.shown_is ∙ ap (λ (l : List ℕ). now.sink.shown ++ l) out.ends.0 ∙ ap (λ (l : List ℕ). l ++ reply_text turn.reply) serving.shown
-          ∙ append_assoc start (shown_by reply_text serving.turns) (reply_text turn.reply) ∙ ap (λ (l : List ℕ). start ++ l) (sym (shown_turned serving.turns turn));
-      carried = (let C : List ℕ → Type 0 = λ b. Carried reply_text Stands (last_state history serving.turns) (turn ∷ []) b now.disk disk in
-          carried_joins (turn ∷ []) disk serving.carried (subst C serving.shown out.carried));
-      kept = (let K : History → Type 0 = λ h. IsKept disk archive_new h in subst K (sym (last_state_joins history serving.turns (turn ∷ []))) out.ends.1);
-      in_turn = all_in_turn old.source old.sink items (item ∷ []) serving.turns (turn ∷ []) (before ++ pulls_beside now.sink.shown lefts) (all_pulls history old now archive held before lefts serving awaited);
+      outcomes = serving.outcomes ++ outcome ∷ [];
+      run = runs_join Step world items (item ∷ []) serving.outcomes (outcome ∷ []) serving.run (out.step, tt);
+      each = omega (arith, serving.each, length-append serving.outcomes (outcome ∷ []), length-append items (item ∷ []));
+      shown = out.shown_is ∙ ap (λ (l : List ℕ). now.sink.shown ++ l) out.ends.0 ∙ ap (λ (l : List ℕ). l ++ reply_text outcome.reply) serving.shown
+          ∙ append_assoc start (shown_by reply_text serving.outcomes) (reply_text outcome.reply) ∙ ap (λ (l : List ℕ). start ++ l) (sym (shown_next serving.outcomes outcome));
+      carried = (let C : List ℕ → Type 0 = λ b. Carried reply_text StandsIn (last_state world serving.outcomes) (outcome ∷ []) b now.disk disk in
+          carried_joins (outcome ∷ []) disk serving.carried (subst C serving.shown out.carried));
+      in_step = (let K : World → Type 0 = λ w. AreInStep disk archive_new w.history in subst K (sym (last_state_joins world serving.outcomes (outcome ∷ []))) out.ends.1);
+      after_replies = all_after_replies old.source old.sink items (item ∷ []) serving.outcomes (outcome ∷ []) (before ++ pulls_beside now.sink.shown lefts) (all_pulls world old now archive held before lefts serving awaited);
     }
 
 -- the run was stopped at the next item
-pub stopped : (history : History) (old now : MachineState) (sink : SinkState) (disk : DiskState) (archive archive_new : ArchiveState) (held held_now : Held) (before : List Pull) (item : Item) (stop : Stop) (source : SourceState) (lefts : List (List ℕ))
-    → (serving : Serving history old now archive held before) → AreAwaited held serving.pulling.since now.source.left lefts → Gives held held_now serving.pulling.since (Ok (Some item)) now.source source
-    → CarriesOut (last_state history serving.turns) item (Err stop) now.sink.shown sink.shown now.disk disk archive_new
-    → Serves history (status_of_stop stop) old (record { source = source; sink = sink; disk = disk }) (before ++ pulls_beside now.sink.shown lefts)
-stopped history old now sink disk archive archive_new held held_now before item stop source lefts serving awaited gives out =
+pub stopped : (world : World) (old now : MachineState) (sink : SinkState) (disk : DiskState) (archive archive_new : ArchiveState) (held held_now : ReaderState) (before : List Pull) (item : Item) (stop : Stop) (source : SourceState) (lefts : List (List ℕ))
+    → (serving : Serving world old now archive held before) → AreAwaited held serving.pulling.since now.source.left lefts → Gives held held_now serving.pulling.since (Ok (Some item)) now.source source
+    → CarriesOut (last_state world serving.outcomes).history item (Err stop) now.sink.shown sink.shown now.disk disk archive_new
+    → Serves world (status_of_stop stop) old (record { source = source; sink = sink; disk = disk }) (before ++ pulls_beside now.sink.shown lefts)
+stopped world old now sink disk archive archive_new held held_now before item stop source lefts serving awaited gives out =
     let items = serving.pulling.items in
-    let turn = out.turn in
+    let outcome = out.outcome in
     let start : List ℕ = old.sink.shown in
-    let earlier = shown_by reply_text serving.turns in
-    ended_early history (status_of_stop stop) old (record { source = source; sink = sink; disk = disk }) held_now (before ++ pulls_beside now.sink.shown lefts) (record {
+    let earlier = shown_by reply_text serving.outcomes in
+    ended_early world (status_of_stop stop) old (record { source = source; sink = sink; disk = disk }) held_now (before ++ pulls_beside now.sink.shown lefts) (record {
       legal = serving.legal;
       early = stops_early stop;
       undamaged = λ damage is. undamaged stop out.ends.1 damage is;
       pulling = pulling_next old.source now.source source held held_now item serving.pulling gives;
-      turns = serving.turns ++ turn ∷ [];
-      run = runs_join Step history items (item ∷ []) serving.turns (turn ∷ []) serving.run (out.step, tt);
+      outcomes = serving.outcomes ++ outcome ∷ [];
+      run = runs_join Step world items (item ∷ []) serving.outcomes (outcome ∷ []) serving.run (out.step, tt);
       shown = earlier ++ out.shown;
       shown_is = out.shown_is ∙ ap (λ (l : List ℕ). l ++ out.shown) serving.shown ∙ append_assoc start earlier out.shown;
-      front = (out.front.0, shown_turned serving.turns turn ∙ ap (λ (l : List ℕ). earlier ++ l) out.front.1 ∙ sym (append_assoc earlier out.shown out.front.0));
-      unfinished = λ fault. omega (arith, out.ends.0, length-append earlier out.shown, ap length (shown_turned serving.turns turn), length-append earlier (reply_text turn.reply));
-      in_turn = all_in_turn old.source old.sink items (item ∷ []) serving.turns (turn ∷ []) (before ++ pulls_beside now.sink.shown lefts) (all_pulls history old now archive held before lefts serving awaited);
-      carried = (let C : List ℕ → Type 0 = λ b. Carried reply_text Stands (last_state history serving.turns) (turn ∷ []) b now.disk disk in
-          carried_joins (turn ∷ []) disk serving.carried (subst C serving.shown out.carried));
+      front = (out.front.0, shown_next serving.outcomes outcome ∙ ap (λ (l : List ℕ). earlier ++ l) out.front.1 ∙ sym (append_assoc earlier out.shown out.front.0));
+      unfinished = λ fault. omega (arith, out.ends.0, length-append earlier out.shown, ap length (shown_next serving.outcomes outcome), length-append earlier (reply_text outcome.reply));
+      after_replies = all_after_replies old.source old.sink items (item ∷ []) serving.outcomes (outcome ∷ []) (before ++ pulls_beside now.sink.shown lefts) (all_pulls world old now archive held before lefts serving awaited);
+      carried = (let C : List ℕ → Type 0 = λ b. Carried reply_text StandsIn (last_state world serving.outcomes) (outcome ∷ []) b now.disk disk in
+          carried_joins (outcome ∷ []) disk serving.carried (subst C serving.shown out.carried));
       steady = λ not_disk. steady stop out.ends.1 not_disk;
     })
   where
-    before_it : EachStands disk (last_state history serving.turns) → (j : ℕ) × (j ≤ length (serving.turns ++ out.turn ∷ [])) × EachStands disk (state_after history (serving.turns ++ out.turn ∷ []) j)
+    before_it : EachStands disk (last_state world serving.outcomes).history → (j : ℕ) × (j ≤ length (serving.outcomes ++ out.outcome ∷ [])) × EachStands disk (state_after world (serving.outcomes ++ out.outcome ∷ []) j).history
     before_it each =
-        let E : History → Type 0 = λ h. EachStands disk h in (
-          length serving.turns,
-          omega (arith, length-append serving.turns (out.turn ∷ [])),
-          subst E (sym (state_after_front history serving.turns (out.turn ∷ []) (length serving.turns) (omega arith) ∙ state_after_all history serving.turns)) each,
+        let E : World → Type 0 = λ w. EachStands disk w.history in (
+          length serving.outcomes,
+          omega (arith, length-append serving.outcomes (out.outcome ∷ [])),
+          subst E (sym (state_after_front world serving.outcomes (out.outcome ∷ []) (length serving.outcomes) (omega arith) ∙ state_after_all world serving.outcomes)) each,
         )
 
-    after_it : EachStands disk out.turn.next → (j : ℕ) × (j ≤ length (serving.turns ++ out.turn ∷ [])) × EachStands disk (state_after history (serving.turns ++ out.turn ∷ []) j)
+    after_it : EachStands disk out.outcome.next.history → (j : ℕ) × (j ≤ length (serving.outcomes ++ out.outcome ∷ [])) × EachStands disk (state_after world (serving.outcomes ++ out.outcome ∷ []) j).history
     after_it each =
-        let E : History → Type 0 = λ h. EachStands disk h in
-        (length (serving.turns ++ out.turn ∷ []), omega arith, subst E (sym (state_after_all history (serving.turns ++ out.turn ∷ []) ∙ last_state_joins history serving.turns (out.turn ∷ []))) each)
+        let E : World → Type 0 = λ w. EachStands disk w.history in
+        (length (serving.outcomes ++ out.outcome ∷ []), omega arith, subst E (sym (state_after_all world (serving.outcomes ++ out.outcome ∷ []) ∙ last_state_joins world serving.outcomes (out.outcome ∷ []))) each)
 
-    steady : (stop : Stop) → StopsAt (last_state history serving.turns) out.turn disk stop → (status_of_stop stop ≡ Disk → ⊥)
-        → (j : ℕ) × (j ≤ length (serving.turns ++ out.turn ∷ [])) × EachStands disk (state_after history (serving.turns ++ out.turn ∷ []) j)
+    steady : (stop : Stop) → StopsAt (last_state world serving.outcomes).history out.outcome disk stop → (status_of_stop stop ≡ Disk → ⊥)
+        → (j : ℕ) × (j ≤ length (serving.outcomes ++ out.outcome ∷ [])) × EachStands disk (state_after world (serving.outcomes ++ out.outcome ∷ []) j).history
     steady stops.Disk ends not_disk = absurd (not_disk refl)
     steady (stops.Damaged damage) ends not_disk = absurd ends
     steady stops.Sink ends not_disk = after_it ends
     steady stops.Memory (inl each) not_disk = before_it each
     steady stops.Memory (inr each) not_disk = after_it each
 
-    undamaged : (stop : Stop) → StopsAt (last_state history serving.turns) out.turn disk stop → (damage : Damage) → status_of_stop stop ≡ Damaged damage → ⊥
+    undamaged : (stop : Stop) → StopsAt (last_state world serving.outcomes).history out.outcome disk stop → (damage : Damage) → status_of_stop stop ≡ Damaged damage → ⊥
     undamaged stops.Disk ends damage is = cc
     undamaged (stops.Damaged other) ends damage is = absurd ends
     undamaged stops.Sink ends damage is = cc
     undamaged stops.Memory ends damage is = cc
 
 -- a run goes on where neither what was shown nor the disk changed
-pub serving_along : (history : History) (old : MachineState) (source : SourceState) (one other : SinkState) (now then : DiskState) (archive : ArchiveState) (held : Held) (pulls : List Pull) → other ≡ one → then ≡ now
-    → Serving history old (record { source = source; sink = one; disk = now }) archive held pulls → Serving history old (record { source = source; sink = other; disk = then }) archive held pulls
-serving_along history old source one other now then archive held pulls shown disk serving =
-    let S : SinkState → Type 0 = λ s. Serving history old (record { source = source; sink = s; disk = now }) archive held pulls in
-    let D : DiskState → Type 0 = λ d. Serving history old (record { source = source; sink = other; disk = d }) archive held pulls in
+pub serving_along : (world : World) (old : MachineState) (source : SourceState) (one other : SinkState) (now then : DiskState) (archive : ArchiveState) (held : ReaderState) (pulls : List Pull) → other ≡ one → then ≡ now
+    → Serving world old (record { source = source; sink = one; disk = now }) archive held pulls → Serving world old (record { source = source; sink = other; disk = then }) archive held pulls
+serving_along world old source one other now then archive held pulls shown disk serving =
+    let S : SinkState → Type 0 = λ s. Serving world old (record { source = source; sink = s; disk = now }) archive held pulls in
+    let D : DiskState → Type 0 = λ d. Serving world old (record { source = source; sink = other; disk = d }) archive held pulls in
     subst D (sym disk) (subst S (sym shown) serving)
 
 -- a run that ended in one way ended in an equal one
-pub serves_as : (history : History) (status other : Status) (old new : MachineState) (pulls : List Pull) → other ≡ status → Serves history status old new pulls → Serves history other old new pulls
-serves_as history status other old new pulls same serves = let P : Status → Type 0 = λ s. Serves history s old new pulls in subst P (sym same) serves
+pub serves_as : (world : World) (status other : Status) (old new : MachineState) (pulls : List Pull) → other ≡ status → Serves world status old new pulls → Serves world other old new pulls
+serves_as world status other old new pulls same serves = let P : Status → Type 0 = λ s. Serves world s old new pulls in subst P (sym same) serves

@@ -1,10 +1,10 @@
 -- A run of questions alone while it goes on, whatever the disk holds.
 use Rattle.std.specs.Prelude.{◌≡◌, ℕ, ◌+◌, true, List, [], ◌∷◌, ◌++◌, Result, Err, OnOk, All}
 use Rattle.machine_model.specs.Areas.{Bytes}
-use Rattle.machine_model.specs.States.{DiskState}
+use Rattle.machine_model.specs.States.{DiskState, MachineState}
 use Rattle.commands.specs.declared.command.Item.{Item}
 use Rattle.script_read.specs.Items.{Items, Splits}
-use Rattle.script_read.specs.Reading.{Held}
+use Rattle.script_read.specs.Reading.{ReaderState}
 use Rattle.page_cache.specs.Caches.{Kept, after_asking_all, missed_by_all}
 use Rattle.archive_state.specs.Histories.{History}
 use Rattle.archive_state.specs.Replies.{reply_text}
@@ -13,7 +13,6 @@ use Rattle.archive_core.specs.States.{ArchiveState, CacheStands, IsSameButCache,
 use Rattle.sublist_store.specs.declared.why.Damage.{Damage}
 use Rattle.archive_shell.specs.Damages.{Spoils}
 use Rattle.archive_shell.specs.Fetching.{AllAskFor, AsksFor, IsAsking, ReadsMissed}
-use Rattle.archive_shell.specs.Headline.{MachineState}
 use Rattle.archive_shell.specs.Questions.{AreMade, IsMadeReply, IsQuestion}
 use Rattle.archive_shell.specs.Serving.{Pulling}
 use Rattle.archive_shell.specs.declared.status.Status.{Status}
@@ -52,7 +51,7 @@ pub record IsByReads (history : History) (item : Item) (result : Result (Unit {0
 
 -- a question was carried out and its reply shown: the archive but for its cache is as it was, and so are the bytes
 pub record IsAsked (history : History) (item : Item) (before after : List ℕ) (old new : DiskState) (archive archive_now : ArchiveState) : Type 0 where
-  pub kept : IsSameButCache archive archive_now
+  pub but_cache : IsSameButCache archive archive_now
   pub holds : new.holds ≡ old.holds
   pub asked : AreMade history old.holds (item ∷ []) before after
   pub fetched : IsAsking item → Fetches history item archive.shelf.cache archive_now.shelf.cache old new
@@ -65,7 +64,7 @@ pub record AllAsked (history : History) (image : Bytes) (items : List Item) (old
   pub made : AreMade history image items old.sink.shown now.sink.shown
 
 -- a run that goes on: the bytes pulled so far, and what is known where all their items were questions, and where all ask what is found
-pub record Asking (history : History) (image : Bytes) (old now : MachineState) (archive : ArchiveState) (held : Held) : Type 0 where
+pub record Asking (history : History) (image : Bytes) (old now : MachineState) (archive : ArchiveState) (held : ReaderState) : Type 0 where
   pub pulling : Pulling old.source now.source held
   pub all_asked : All IsQuestion pulling.items → AllAsked history image pulling.items old now archive
   pub all_fetched : All IsAsking pulling.items → HasFetched history image.pages pulling.items archive.shelf.cache old.disk now.disk

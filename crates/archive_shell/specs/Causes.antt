@@ -1,11 +1,10 @@
 -- What is left of a machine and its archive while items are gone over, and with which statuses that may end.
 use Rattle.std.specs.Prelude.{◌≡◌, ℕ, ◌≤◌}
 use Rattle.machine_model.specs.Causes.{Rose}
-use Rattle.machine_model.specs.States.{DiskState}
+use Rattle.machine_model.specs.States.{DiskState, MachineState}
 use Rattle.archive_state.specs.Histories.{History}
 use Rattle.archive_core.specs.States.{ArchiveState, CacheStands, StandsFor}
-use Rattle.archive_shell.specs.Headline.{MachineState}
-use Rattle.archive_shell.specs.Turns.{CanGoOn, GoesOnFrom}
+use Rattle.archive_shell.specs.Outcomes.{CanGoOn, GoesOnFrom}
 use Rattle.archive_shell.specs.declared.status.Status.{Status}
 use Rattle.archive_shell.specs.declared.status.Status.TheVariants.{Usage, NotArchive, Disk, Source, Sink, NotEmpty}
 

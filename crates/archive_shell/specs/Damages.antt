@@ -1,4 +1,4 @@
--- What a run shows that ends at a damaged sublist, whatever the disk holds: which question it was, and what it read.
+-- What a run tells that ends at a damaged sublist, whatever the disk holds: which question it was, and what it read.
 use Rattle.std.specs.Prelude.{◌≡◌, ℕ, ◌+◌, Bool, true, List, [], ◌∷◌, ◌++◌}
 use Rattle.machine_model.specs.States.{DiskState, SourceState}
 use Rattle.commands.specs.declared.command.Command.TheVariants as commands
@@ -38,8 +38,8 @@ pub record IsPulled (old new : SourceState) (item : Item) : Type 0 where
 
 -- Reads of Pages give now, after the run, that what is read for this item is damaged: by the history for which the journal stood, with entries
 -- behind it. (Which these are, it doesn't say.)
-pub record ShowsDamage (old new : DiskState) (item : Item) (damage : Damage) : Type 0 where
+pub record TellsDamage (old new : DiskState) (item : Item) (damage : Damage) : Type 0 where
   pub loaded : History
   pub spelled : Spells old.holds.journal (bodies_of loaded)
   pub added : List Entry
-  pub shown : Spoils (loaded ++ added) new.holds.pages item damage
+  pub spoiled : Spoils (loaded ++ added) new.holds.pages item damage

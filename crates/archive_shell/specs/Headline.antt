@@ -1,7 +1,7 @@
 -- What a run of the program without words is: one run of the abstract machine over the items of the bytes pulled, what was shown of it and
--- when, what each image left at any moment stands for, and where the input stood at the end.
+-- when, what each image left at any moment stands for, and where the input was at the end.
 use Rattle.std.specs.Prelude.{◌≡◌, ◌⊎◌, ℕ, ◌^◌, ◌<◌, ◌≤◌, Bool, true, false, List, [], ◌++◌, length, All}
-use Rattle.machine_model.specs.States.{SourceState, SinkState, DiskState}
+use Rattle.machine_model.specs.States.{SourceState, SinkState, MachineState}
 use Rattle.machine_model.specs.Moments.{LeavesOnly}
 use Rattle.machine_model.specs.Pulls.{Pull}
 use Rattle.machine_model.specs.Pushes.{IsPrefix}
@@ -11,17 +11,12 @@ use Rattle.script_read.specs.declared.first.First.TheVariants.{More}
 use Rattle.archive_state.specs.Histories.{History}
 use Rattle.archive_state.specs.Steps.{Reply, Step}
 use Rattle.archive_state.specs.Replies.{reply_text}
-use Rattle.archive_state.specs.Runs.{Turn, IsRun, state_after, shown_by, Reopens}
-use Rattle.archive_state.specs.Stands.{Stands, EachStands}
+use Rattle.archive_state.specs.Runs.{Outcome, IsRun, state_after, shown_by, Reopens}
+use Rattle.archive_state.specs.Stands.{EachStands, StandsIn}
+use Rattle.archive_state.specs.Worlds.{World, world_of}
 use Rattle.sublist_store.specs.declared.why.Damage.{Damage}
 use Rattle.archive_shell.specs.declared.status.Status.{Status}
 use Rattle.archive_shell.specs.declared.status.Status.TheVariants.{Done, Usage, NotArchive, Disk, Source, Sink, Script, Damaged, Budget, NotEmpty, Memory}
-
--- a machine's meanings
-pub record MachineState : Type 0 where
-  pub source : SourceState
-  pub sink : SinkState
-  pub disk : DiskState
 
 -- the statuses before which each whole item of the bytes pulled is carried out and its reply shown
 abbrev pub CarriesOutAll : Status → Type 0
@@ -41,8 +36,8 @@ CarriesOutAll Memory = ⊥
 abbrev pub EndsEarly : Status → Type 0
 EndsEarly status = (status ≡ Disk) ⊎ ((status ≡ Sink) ⊎ ((status ≡ Memory) ⊎ ((damage : Damage) × (status ≡ Damaged damage))))
 
--- Where the input stood when the run ended: whether its end was told, the bytes pulled, and what is left of them behind the last whole item.
-pub record StoodAt (status : Status) (ended : Bool) (pulled rest : List ℕ) : Type 0 where
+-- Where the input was when the run ended: whether its end was told, the bytes pulled, and what is left of them behind the last whole item.
+pub record InputAt (status : Status) (ended : Bool) (pulled rest : List ℕ) : Type 0 where
   -- the end was told, and nothing is left
   pub done : status ≡ Done → (ended ≡ true) × (rest ≡ [])
   -- no item is whole in what is left, and it isn't broken so far
@@ -52,9 +47,9 @@ pub record StoodAt (status : Status) (ended : Bool) (pulled rest : List ℕ) : T
   pub script : (at : ℕ) → status ≡ Script at → IsBrokenAt ended pulled at
   pub broken : (at : ℕ) → IsBrokenAt ended pulled at → (status ≡ Script at) ⊎ EndsEarly status
 
--- A pull was in turn: no whole item waited for its reply. What had been pulled by then is some of the items and a rest that begins with no
+-- A pull comes after the replies: no whole item waited for its own. What had been pulled by then is some of the items and a rest that begins with no
 -- whole one, and the replies to all of these had been shown.
-pub record IsInTurn (input : SourceState) (output : SinkState) (items : List Item) (turns : List (Turn Reply History)) (pull : Pull) : Type 0 where
+pub record ComesAfterReplies (input : SourceState) (output : SinkState) (items : List Item) (outcomes : List (Outcome Reply World)) (pull : Pull) : Type 0 where
   pub pulled : List ℕ
   pub pulled_are : input.left ≡ pulled ++ pull.left
   pub before : List Item
@@ -62,14 +57,14 @@ pub record IsInTurn (input : SourceState) (output : SinkState) (items : List Ite
   pub items_are : items ≡ before ++ behind
   pub rest : List ℕ
   pub split : Splits false pulled before rest
-  pub answered : List (Turn Reply History)
-  pub to_come : List (Turn Reply History)
-  pub turns_are : turns ≡ answered ++ to_come
+  pub answered : List (Outcome Reply World)
+  pub to_come : List (Outcome Reply World)
+  pub outcomes_are : outcomes ≡ answered ++ to_come
   pub each : length answered ≡ length before
   pub shown : pull.shown ≡ output.shown ++ shown_by reply_text answered
 
--- One run of the abstract machine from this history over the items of the bytes pulled, and what was shown of it.
-pub record Ran (history : History) (status : Status) (input input_now : SourceState) (output output_now : SinkState) (pulls : List Pull) : Type 0 where
+-- One run of the abstract machine from this state over the items of the bytes pulled, and what was shown of it.
+pub record Ran (world : World) (status : Status) (input input_now : SourceState) (output output_now : SinkState) (pulls : List Pull) : Type 0 where
   -- the bytes pulled, and whether the end of the input was told
   pub pulled : List ℕ
   pub pulled_are : input.left ≡ pulled ++ input_now.left
@@ -79,28 +74,28 @@ pub record Ran (history : History) (status : Status) (input input_now : SourceSt
   pub items : List Item
   pub rest : List ℕ
   pub split : Splits ended pulled items rest
-  pub stood : StoodAt status ended pulled rest
+  pub input_at : InputAt status ended pulled rest
   -- one run of the abstract machine over all these items
-  pub turns : List (Turn Reply History)
-  pub run : IsRun Step history items turns
+  pub outcomes : List (Outcome Reply World)
+  pub run : IsRun Step world items outcomes
   -- what was shown is a front of the joined texts of its replies, and all of them where all items are carried out
   pub shown : List ℕ
   pub shown_is : output_now.shown ≡ output.shown ++ shown
-  pub front : IsPrefix shown (shown_by reply_text turns)
-  pub whole : CarriesOutAll status → shown ≡ shown_by reply_text turns
+  pub front : IsPrefix shown (shown_by reply_text outcomes)
+  pub whole : CarriesOutAll status → shown ≡ shown_by reply_text outcomes
   -- a fault of the disk or the sink leaves a reply unshown, or came before anything was pulled
-  pub unfinished : (status ≡ Disk) ⊎ (status ≡ Sink) → (pulled ≡ []) ⊎ (length shown < length (shown_by reply_text turns))
+  pub unfinished : (status ≡ Disk) ⊎ (status ≡ Sink) → (pulled ≡ []) ⊎ (length shown < length (shown_by reply_text outcomes))
   -- each pull was made when the replies to all items that were whole by then had been shown
-  pub in_turn : All (IsInTurn input output items turns) pulls
+  pub after_replies : All (ComesAfterReplies input output items outcomes) pulls
 
 -- A run from this history: its status, the machine before and after, and the pulls among its calls.
 pub record Headline (history : History) (status : Status) (old new : MachineState) (pulls : List Pull) : Type 0 where
-  pub ran : Ran history status old.source new.source old.sink new.sink pulls
-  -- each image left since, with the bytes shown then, stands for the history after as many turns as these acknowledge, or one more
-  pub images : EachStands old.disk history → LeavesOnly old.disk new.disk (Reopens reply_text Stands history ran.turns old.sink.shown)
+  pub ran : Ran (world_of history) status old.source new.source old.sink new.sink pulls
+  -- each image left since, with the bytes shown then, stands for the history after as many outcomes as these acknowledge, or one more
+  pub images : EachStands old.disk history → LeavesOnly old.disk new.disk (Reopens reply_text StandsIn (world_of history) ran.outcomes old.sink.shown)
   -- where all items are carried out, each image stands for the last history
-  pub last : CarriesOutAll status → EachStands new.disk (state_after history ran.turns (length ran.turns))
+  pub last : CarriesOutAll status → EachStands new.disk (state_after (world_of history) ran.outcomes (length ran.outcomes)).history
   -- where the disk didn't fail, all images stand for one history
-  pub steady : EachStands old.disk history → (status ≡ Disk → ⊥) → (j : ℕ) × (j ≤ length ran.turns) × EachStands new.disk (state_after history ran.turns j)
+  pub steady : EachStands old.disk history → (status ≡ Disk → ⊥) → (j : ℕ) × (j ≤ length ran.outcomes) × EachStands new.disk (state_after (world_of history) ran.outcomes j).history
   -- nothing is damaged
   pub undamaged : (damage : Damage) → status ≡ Damaged damage → ⊥

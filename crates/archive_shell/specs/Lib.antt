@@ -6,5 +6,5 @@ pub mod Headline
 pub mod Questions
 pub mod Serving
 pub mod Statuses
-pub mod Turns
+pub mod Outcomes
 pub mod Sampling

@@ -7,11 +7,11 @@ use Rattle.machine_model.specs.Pushes.{IsPrefix}
 use Rattle.machine_model.specs.States.{DiskState, SinkState}
 use Rattle.commands.specs.declared.command.Item.TheVariants as items
 use Rattle.sample_commands.specs.Samples.{sample_of}
-use Rattle.archive_state.specs.Histories.{History}
 use Rattle.archive_state.specs.Steps.{Reply, Step}
-use Rattle.archive_state.specs.Runs.{Turn, IsRun, state_after}
+use Rattle.archive_state.specs.Runs.{Outcome, IsRun, state_after}
 use Rattle.archive_state.specs.Standing.{last_state}
-use Rattle.archive_state.specs.Stands.{Stands, EachStands}
+use Rattle.archive_state.specs.Stands.{EachStands, StandsIn}
+use Rattle.archive_state.specs.Worlds.{World, world_of}
 use Rattle.archive_replies.specs.Tallies.{sample_text}
 use Rattle.archive_sample.specs.Filling.{IsReport, replies_of}
 use Rattle.archive_sample.specs.declared.report.Report.{Report}
@@ -33,29 +33,29 @@ EndsSample (Script at) = ⊥
 EndsSample Budget = ⊥
 EndsSample (NotEmpty length) = ⊥
 
--- An image that was left, with the bytes shown then: it stands for the history after some of the turns, and once a byte of the lines was shown,
+-- An image that was left, with the bytes shown then: it stands for the state after some of the outcomes, and once a byte of the lines was shown,
 -- after all of them.
-pub record Reached (turns : List (Turn Reply History)) (before : List ℕ) (image : Bytes) (beside : List ℕ) : Type 0 where
+pub record Reached (outcomes : List (Outcome Reply World)) (before : List ℕ) (image : Bytes) (beside : List ℕ) : Type 0 where
   pub j : ℕ
-  pub within : j ≤ length turns
-  pub holds : Stands (state_after [] turns j) image
-  pub shown : (beside ≡ before) ⊎ (j ≡ length turns)
+  pub within : j ≤ length outcomes
+  pub holds : StandsIn (state_after (world_of []) outcomes j) image
+  pub shown : (beside ≡ before) ⊎ (j ≡ length outcomes)
 
 -- One run of the abstract machine from the empty history over the commands of a sample, and what was shown of it.
 pub record Sampled (seed count : ℕ) (status : Status) (output output_now : SinkState) (old new : DiskState) : Type 0 where
-  pub turns : List (Turn Reply History)
-  pub run : IsRun Step [] (map items.Command (sample_of seed count)) turns
+  pub outcomes : List (Outcome Reply World)
+  pub run : IsRun Step (world_of []) (map items.Command (sample_of seed count)) outcomes
   -- a front of its two lines is shown, and at status 0 both of them
   pub report : Report
-  pub report_is : IsReport (replies_of turns) report
+  pub report_is : IsReport (replies_of outcomes) report
   pub shown : List ℕ
   pub shown_is : output_now.shown ≡ output.shown ++ shown
   pub front : IsPrefix shown (sample_text count report.tally report.verdict)
   pub whole : status ≡ Done → shown ≡ sample_text count report.tally report.verdict
   pub goes_on : GoesOn old new
-  -- each image left since, with the bytes shown then, stands for one of the histories of the run
-  pub images : EachStands old [] → LeavesOnly old new (Reached turns output.shown)
+  -- each image left since, with the bytes shown then, stands for one of the states of the run
+  pub images : EachStands old [] → LeavesOnly old new (Reached outcomes output.shown)
   -- at status 0 each image stands for the last one
-  pub last : status ≡ Done → EachStands new (last_state [] turns)
+  pub last : status ≡ Done → EachStands new (last_state (world_of []) outcomes).history
   -- nothing is damaged
   pub undamaged : (damage : Damage) → status ≡ Damaged damage → ⊥

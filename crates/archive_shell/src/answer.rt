@@ -4,15 +4,15 @@ ghost use Rattle.machine_model.specs.Causes.{Rose};
 ghost use Rattle.archive_state.specs.Histories.{History};
 ghost use Rattle.archive_state.specs.Replies.{reply_text};
 ghost use Rattle.archive_state.specs.Steps.{Refused};
-ghost use Rattle.archive_core.specs.States.{CacheStands, IsKept, IsSameButCache, StandsFor};
-ghost use Rattle.archive_core.specs.Takes.{changed, declined, found, planned, proposed, shown, spanned, unchanged, verified};
+ghost use Rattle.archive_core.specs.States.{CacheStands, AreInStep, IsSameButCache, StandsFor};
+ghost use Rattle.archive_core.specs.Takes.{changed, declined, found, planned, proposed, version_shown, spanned, unchanged, verified};
 ghost use Rattle.commands.specs.declared.command.Item.TheVariants as items;
 ghost use Rattle.commands.specs.declared.command.Command.TheVariants as plain;
 ghost use Rattle.machine_model.specs.Calls.{OnlyReads};
 ghost use Rattle.archive_shell.specs.Asking.{IsByReads};
 ghost use Rattle.archive_shell.specs.Causes.{IsLeft};
 ghost use Rattle.archive_shell.specs.Questions.{IsQuestion};
-ghost use Rattle.archive_shell.specs.Turns.{Answers, CanGoOn, Writes};
+ghost use Rattle.archive_shell.specs.Outcomes.{Answers, CanGoOn, Writes};
 
 use crate::stop::Halt;
 use archive_core::{Archive, AskError, ChangeError, PlanReport};
@@ -42,7 +42,7 @@ pub(crate) fn answer<D: Disk>(
     ensures still { IsQuestion item → OnlyReads (D.disk disk.old) (D.disk disk.new) × IsSameButCache archive.old archive.new }
     ensures by_reads { D.disk_tells → (h : History) → StandsFor archive.old h → CacheStands (D.disk disk.old) archive.old →
         IsByReads h item result (D.disk disk.old) (D.disk disk.new) archive.old archive.new page.new.bytes }
-    ensures turn { D.disk_tells → (h : History) → IsKept (D.disk disk.old) archive.old h →
+    ensures outcome { D.disk_tells → (h : History) → AreInStep (D.disk disk.old) archive.old h →
         Answers h item result (D.disk disk.old) (D.disk disk.new) archive.new page.new.bytes }
 {
     match item {
@@ -67,7 +67,7 @@ fn carry_out<D: Disk>(
     ensures still { IsQuestion (items.Command command) → OnlyReads (D.disk disk.old) (D.disk disk.new) × IsSameButCache archive.old archive.new }
     ensures by_reads { D.disk_tells → (h : History) → StandsFor archive.old h → CacheStands (D.disk disk.old) archive.old →
         IsByReads h (items.Command command) result (D.disk disk.old) (D.disk disk.new) archive.old archive.new page.new.bytes }
-    ensures turn { D.disk_tells → (h : History) → IsKept (D.disk disk.old) archive.old h →
+    ensures outcome { D.disk_tells → (h : History) → AreInStep (D.disk disk.old) archive.old h →
         Answers h (items.Command command) result (D.disk disk.old) (D.disk disk.new) archive.new page.new.bytes }
 {
     match command {
@@ -86,7 +86,7 @@ fn carry_out<D: Disk>(
         }
         Command::Show { doc, at } => {
             let result = archive.show(alloc, disk, doc, at);
-            write_shown(page, result)
+            write_version(page, result)
         }
         Command::Propose { word, fraction } => {
             let result = archive.propose(alloc, &word, fraction);
@@ -126,7 +126,7 @@ fn arrive<D: Disk>(
     ensures disk_fault { IsErrOf result Halt.Disk → Rose (D.disk disk.old).faults (D.disk disk.new).faults }
     ensures left { OnOk result (IsLeft D.disk_tells (D.disk disk.old) (D.disk disk.new) archive.old archive.new) }
     ensures undamaged { (d : Damage) → IsErrOf result (Halt.Damaged d) → ⊥ }
-    ensures turn { D.disk_tells → (h : History) → IsKept (D.disk disk.old) archive.old h →
+    ensures outcome { D.disk_tells → (h : History) → AreInStep (D.disk disk.old) archive.old h →
         Answers h (items.Command (plain.Arrive doc at text)) result (D.disk disk.old) (D.disk disk.new) archive.new page.new.bytes }
 {
     match text {
@@ -266,8 +266,8 @@ fn write_verified(page: &mut ReplyPage, verdict: Result<Verdict, AskError>) -> R
 }
 
 /// Writes the text of a version on the page, or that there is none, or halts the run.
-fn write_shown(page: &mut ReplyPage, text: Result<Option<Vec<u8>>, AskError>) -> Result<(), Halt>
-    ensures writes { Writes (shown (λ v. v.items) text) result page.new.bytes }
+fn write_version(page: &mut ReplyPage, text: Result<Option<Vec<u8>>, AskError>) -> Result<(), Halt>
+    ensures writes { Writes (version_shown (λ v. v.items) text) result page.new.bytes }
     ensures fault { IsErrOf result Halt.Disk → IsErrOf text AskError.Failed }
     ensures damage { (d : Damage) → IsErrOf result (Halt.Damaged d) → IsErrOf text (AskError.Damaged d) }
 {
@@ -279,7 +279,7 @@ fn write_shown(page: &mut ReplyPage, text: Result<Option<Vec<u8>>, AskError>) ->
 
 /// Writes a text on the page, or that there is none.
 fn write_text(page: &mut ReplyPage, text: Option<Vec<u8>>) -> Result<(), Halt>
-    ensures writes { Writes (shown (λ v. v.items) (Ok text)) result page.new.bytes }
+    ensures writes { Writes (version_shown (λ v. v.items) (Ok text)) result page.new.bytes }
     ensures fault { IsErrOf result Halt.Disk → ⊥ }
     ensures undamaged { (d : Damage) → IsErrOf result (Halt.Damaged d) → ⊥ }
 {
@@ -287,7 +287,7 @@ fn write_text(page: &mut ReplyPage, text: Option<Vec<u8>>) -> Result<(), Halt>
         page.none();
         return Ok(());
     };
-    match page.shown(&text) {
+    match page.version(&text) {
         Ok(()) => Ok(()),
         Err(_) => Err(Halt::Memory),
     }

@@ -3,6 +3,7 @@ ghost use Rattle.std.specs.Prelude.{◌≡◌, ◌⊎◌, ◌<◌, ◌≤◌, �
 ghost use Rattle.machine_model.specs.Calls.{Syncs};
 ghost use Rattle.machine_model.specs.Causes.{Rose};
 ghost use Rattle.machine_model.specs.Pulls.{Pull};
+ghost use Rattle.machine_model.specs.States.{state_by};
 ghost use Rattle.script_read.specs.Items.{IsScript, Splits};
 ghost use Rattle.archive_state.specs.Histories.{History};
 ghost use Rattle.archive_state.specs.Legal.{IsLoadable};
@@ -14,10 +15,10 @@ ghost use Rattle.program_words.specs.Words.{AreNoWords, AreWords, texts};
 ghost use Rattle.program_words.specs.declared.task.Task.{Task as PlainTask};
 ghost use Rattle.program_words.specs.declared.task.Task.TheVariants as tasks;
 ghost use Rattle.program_words.specs.declared.task.SampleNumbers.{SampleNumbers as PlainNumbers};
-ghost use Rattle.archive_shell.specs.Damages.{IsPulled, ShowsDamage};
+ghost use Rattle.archive_shell.specs.Damages.{IsPulled, TellsDamage};
 ghost use Rattle.archive_shell.specs.Fetching.{IsAsking, ReadsMissed};
 ghost use Rattle.archive_shell.specs.Questions.{AreMade, AreMadeUpTo, IsQuestion};
-ghost use Rattle.archive_shell.specs.Headline.{Headline, MachineState};
+ghost use Rattle.archive_shell.specs.Headline.{Headline};
 ghost use Rattle.archive_shell.specs.Sampling.{EndsSample, Sampled};
 
 use crate::sampling::run_sample;
@@ -81,7 +82,7 @@ pub fn run<M: Machine>(alloc: Global, words: &[String], machine: &mut M) -> Stat
         × Syncs (M.disk machine.old) (M.disk machine.new) }
     // A damaged sublist is told only of a question of the input, and only where it is the first damage of what is read for that question, as
     // reads of Pages show, whatever the disk holds.
-    ensures damaged { M.disk_tells → (d : Damage) → result ≡ Status.Damaged d → (item : Item) × ShowsDamage (M.disk machine.old) (M.disk machine.new) item d
+    ensures damaged { M.disk_tells → (d : Damage) → result ≡ Status.Damaged d → (item : Item) × TellsDamage (M.disk machine.old) (M.disk machine.new) item d
         × (M.source_tells → IsPulled (M.source machine.old) (M.source machine.new) item) }
     // Where the script is questions alone, and whatever the disk holds: each reply shown at status 0 is by the history for which the journal stands
     // and by what reads gave at entry. An answer is made from the lists that are chosen; a verdict is that of the texts and of the sublists' bytes.
@@ -99,11 +100,11 @@ pub fn run<M: Machine>(alloc: Global, words: &[String], machine: &mut M) -> Stat
         All IsAsking asked → result ≡ Status.Done → (loaded : History) × Spells (M.disk machine.old).holds.journal (bodies_of loaded)
         × ReadsMissed loaded (M.disk machine.old).holds.pages asked (M.disk machine.old).bytes_read.pages (M.disk machine.new).bytes_read.pages }
     // From the history that the journal stands for: one run of the abstract machine over the items of the bytes pulled, what is shown of it
-    // and when, what each image left at any moment stands for, and where the input stood.
+    // and when, what each image left at any moment stands for, and where the input was.
     ensures headline { M.source_tells → M.sink_tells → M.disk_tells → AreWords (texts words.now) tasks.Script → (h : History) → Stands h (M.disk machine.old).holds →
         (pulls : List Pull) × M.asked machine.old pulls machine.new
-        × Headline h result (record { source = M.source machine.old; sink = M.sink machine.old; disk = M.disk machine.old })
-        (record { source = M.source machine.new; sink = M.sink machine.new; disk = M.disk machine.new }) pulls }
+        × Headline h result (state_by M.source M.sink M.disk machine.old)
+        (state_by M.source M.sink M.disk machine.new) pulls }
     // Where nothing is wrong, the run comes to the end of the input, unless memory runs out or a sublist is damaged.
     ensures complete { M.source_tells → M.sink_tells → M.disk_tells → AreWords (texts words.now) tasks.Script →
         ((at : ℕ) → IsNotArchive (M.disk machine.old).holds at → ⊥) →

@@ -6,7 +6,7 @@ ghost use Rattle.gate_journal.specs.Spelled.{Spells};
 ghost use Rattle.archive_state.specs.Histories.{History};
 ghost use Rattle.archive_state.specs.Legal.{IsLoadable};
 ghost use Rattle.archive_state.specs.Stands.{Stands, EachStands, IsNotArchive, bodies_of};
-ghost use Rattle.archive_core.specs.States.{IsKept, Reaches};
+ghost use Rattle.archive_core.specs.States.{AreInStep, Reaches};
 ghost use Rattle.archive_core.specs.Changing.{KeepsHistory};
 ghost use Rattle.archive_shell.specs.Sampling.{EndsSample, Sampled};
 
@@ -79,8 +79,8 @@ fn fill_and_show<M: Machine>(
     ensures disk_later { (M.disk machine.old).faults ≤ (M.disk machine.new).faults }
     ensures disk_fault { result ≡ Status.Disk → Rose (M.disk machine.old).faults (M.disk machine.new).faults }
     ensures sink_fault { result ≡ Status.Sink → Rose (M.sink machine.old).faults (M.sink machine.new).faults }
-    ensures undamaged { M.disk_tells → IsKept (M.disk machine.old) archive.old [] → (d : Damage) → result ≡ Status.Damaged d → ⊥ }
-    ensures sampled { M.sink_tells → M.disk_tells → IsKept (M.disk machine.old) archive.old [] →
+    ensures undamaged { M.disk_tells → AreInStep (M.disk machine.old) archive.old [] → (d : Damage) → result ≡ Status.Damaged d → ⊥ }
+    ensures sampled { M.sink_tells → M.disk_tells → AreInStep (M.disk machine.old) archive.old [] →
         Sampled numbers.seed numbers.count result (M.sink machine.old) (M.sink machine.new) (M.disk machine.old) (M.disk machine.new) }
 {
     let sample = Sample::new(numbers.seed, numbers.count);

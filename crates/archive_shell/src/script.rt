@@ -3,15 +3,16 @@ ghost use Rattle.std.specs.Prelude.{◌≡◌, ◌⊎◌, ◌<◌, ◌≤◌, �
 ghost use Rattle.machine_model.specs.Calls.{Syncs};
 ghost use Rattle.machine_model.specs.Causes.{Rose};
 ghost use Rattle.machine_model.specs.Pulls.{Pull};
+ghost use Rattle.machine_model.specs.States.{state_by};
 ghost use Rattle.script_read.specs.Items.{IsScript, Splits};
 ghost use Rattle.archive_state.specs.Histories.{History};
 ghost use Rattle.archive_state.specs.Stands.{Stands, IsNotArchive, bodies_of};
 ghost use Rattle.gate_journal.specs.Spelled.{Spells};
 ghost use Rattle.commands.specs.declared.command.Item.{Item};
-ghost use Rattle.archive_shell.specs.Damages.{IsPulled, ShowsDamage};
+ghost use Rattle.archive_shell.specs.Damages.{IsPulled, TellsDamage};
 ghost use Rattle.archive_shell.specs.Fetching.{IsAsking, ReadsMissed};
 ghost use Rattle.archive_shell.specs.Questions.{AreMade, AreMadeUpTo, IsQuestion};
-ghost use Rattle.archive_shell.specs.Headline.{Headline, MachineState};
+ghost use Rattle.archive_shell.specs.Headline.{Headline};
 
 use crate::desk::Desk;
 use crate::serve::serve;
@@ -31,7 +32,7 @@ pub(crate) fn run_script<M: Machine>(alloc: Global, machine: &mut M) -> Status
     ensures not_archive { M.disk_tells → (at : ℕ) → result ≡ Status.NotArchive at → IsNotArchive (M.disk machine.old).holds at }
     ensures refused { M.disk_tells → (at : ℕ) → IsNotArchive (M.disk machine.old).holds at →
         (result ≡ Status.NotArchive at) ⊎ ((result ≡ Status.Disk) ⊎ (result ≡ Status.Memory)) }
-    ensures damaged { M.disk_tells → (d : Damage) → result ≡ Status.Damaged d → (item : Item) × ShowsDamage (M.disk machine.old) (M.disk machine.new) item d
+    ensures damaged { M.disk_tells → (d : Damage) → result ≡ Status.Damaged d → (item : Item) × TellsDamage (M.disk machine.old) (M.disk machine.new) item d
         × (M.source_tells → IsPulled (M.source machine.old) (M.source machine.new) item) }
     ensures questions { M.source_tells → M.sink_tells → M.disk_tells → (asked : List Item) → Splits true (M.source machine.old).left asked [] →
         All IsQuestion asked → result ≡ Status.Done → (loaded : History) × Spells (M.disk machine.old).holds.journal (bodies_of loaded)
@@ -47,8 +48,8 @@ pub(crate) fn run_script<M: Machine>(alloc: Global, machine: &mut M) -> Status
         × Syncs (M.disk machine.old) (M.disk machine.new) }
     ensures headline { M.source_tells → M.sink_tells → M.disk_tells → (h : History) → Stands h (M.disk machine.old).holds →
         (pulls : List Pull) × M.asked machine.old pulls machine.new
-        × Headline h result (record { source = M.source machine.old; sink = M.sink machine.old; disk = M.disk machine.old })
-        (record { source = M.source machine.new; sink = M.sink machine.new; disk = M.disk machine.new }) pulls }
+        × Headline h result (state_by M.source M.sink M.disk machine.old)
+        (state_by M.source M.sink M.disk machine.new) pulls }
     ensures complete { M.source_tells → M.sink_tells → M.disk_tells →
         ((at : ℕ) → IsNotArchive (M.disk machine.old).holds at → ⊥) →
         IsScript (M.source machine.old).left → length (M.source machine.old).left < 2 ^ 40 →

@@ -2,17 +2,17 @@
 ghost use Rattle.std.specs.Prelude.{◌≡◌, ◌<◌, ◌≤◌, ◌^◌, ◌++◌, [], List, OnOk, IfErr, IsErrOf, MatchResult, ℕ};
 ghost use Rattle.machine_model.specs.Areas.{Bytes};
 ghost use Rattle.machine_model.specs.Pulls.{Pull};
-ghost use Rattle.machine_model.specs.States.{SourceState};
+ghost use Rattle.machine_model.specs.States.{SourceState, MachineState, state_by};
 ghost use Rattle.commands.specs.declared.command.Item.{Item};
 ghost use Rattle.record_codec.specs.declared.entry.Entry.{Entry};
 ghost use Rattle.archive_state.specs.Histories.{History};
+ghost use Rattle.archive_state.specs.Worlds.{World};
 ghost use Rattle.archive_core.specs.States.{CacheStands, StandsFor};
 ghost use Rattle.archive_shell.specs.Damages.{IsPulled, Spoils};
-ghost use Rattle.archive_shell.specs.Headline.{MachineState};
 ghost use Rattle.archive_shell.specs.Asking.{Asking, HasEnded};
 ghost use Rattle.archive_shell.specs.Causes.{IsLater, IsLeft, MayEnd};
 ghost use Rattle.archive_shell.specs.Serving.{Pulling, Ends, Serving, Serves};
-ghost use Rattle.archive_shell.specs.Turns.{CanGoOn};
+ghost use Rattle.archive_shell.specs.Outcomes.{CanGoOn};
 
 use crate::carry_out::carry_out;
 use crate::status::Status;
@@ -32,10 +32,10 @@ pub(crate) fn step<M: Machine>(
     page: &mut ReplyPage,
 ) -> Result<(), Status>
     requires ready { CanGoOn archive.old (M.disk machine.old).reach }
-    ensures later { IsLater (record { source = M.source machine.old; sink = M.sink machine.old; disk = M.disk machine.old })
-        (record { source = M.source machine.new; sink = M.sink machine.new; disk = M.disk machine.new }) }
-    ensures cause { IfErr result (λ status. MayEnd status (record { source = M.source machine.old; sink = M.sink machine.old; disk = M.disk machine.old })
-        (record { source = M.source machine.new; sink = M.sink machine.new; disk = M.disk machine.new })) }
+    ensures later { IsLater (state_by M.source M.sink M.disk machine.old)
+        (state_by M.source M.sink M.disk machine.new) }
+    ensures cause { IfErr result (λ status. MayEnd status (state_by M.source M.sink M.disk machine.old)
+        (state_by M.source M.sink M.disk machine.new)) }
     ensures left { OnOk result (IsLeft M.disk_tells (M.disk machine.old) (M.disk machine.new) archive.old archive.new) }
     ensures damaged { M.disk_tells → (h : History) → StandsFor archive.old h → CacheStands (M.disk machine.old) archive.old → (d : Damage) → IsErrOf result (Status.Damaged d) →
         (item : Item) × Spoils h (M.disk machine.new).holds.pages item d
@@ -44,15 +44,15 @@ pub(crate) fn step<M: Machine>(
     ensures bound { reader.new.passed ≤ 2 ^ 40 }
     ensures pulls { M.source_tells → (began : SourceState) → Pulling began (M.source machine.old) reader.old →
         MatchResult result (λ _. Pulling began (M.source machine.new) reader.new) (λ status. Ends status began (M.source machine.new)) }
-    ensures goes_on { M.source_tells → M.sink_tells → M.disk_tells → (h : History) (began : MachineState) (before : List Pull) →
-        Serving h began (record { source = M.source machine.old; sink = M.sink machine.old; disk = M.disk machine.old }) archive.old reader.old before →
+    ensures goes_on { M.source_tells → M.sink_tells → M.disk_tells → (w : World) (began : MachineState) (before : List Pull) →
+        Serving w began (state_by M.source M.sink M.disk machine.old) archive.old reader.old before →
         (pulls : List Pull) × M.asked machine.old pulls machine.new × MatchResult result
-        (λ _. Serving h began (record { source = M.source machine.new; sink = M.sink machine.new; disk = M.disk machine.new }) archive.new reader.new (before ++ pulls))
-        (λ status. Serves h status began (record { source = M.source machine.new; sink = M.sink machine.new; disk = M.disk machine.new }) (before ++ pulls)) }
+        (λ _. Serving w began (state_by M.source M.sink M.disk machine.new) archive.new reader.new (before ++ pulls))
+        (λ status. Serves w status began (state_by M.source M.sink M.disk machine.new) (before ++ pulls)) }
     ensures asks { M.source_tells → M.sink_tells → M.disk_tells → (h : History) (image : Bytes) (began : MachineState) →
-        Asking h image began (record { source = M.source machine.old; sink = M.sink machine.old; disk = M.disk machine.old }) archive.old reader.old → MatchResult result
-        (λ _. Asking h image began (record { source = M.source machine.new; sink = M.sink machine.new; disk = M.disk machine.new }) archive.new reader.new)
-        (λ status. HasEnded h image status began (record { source = M.source machine.new; sink = M.sink machine.new; disk = M.disk machine.new })) }
+        Asking h image began (state_by M.source M.sink M.disk machine.old) archive.old reader.old → MatchResult result
+        (λ _. Asking h image began (state_by M.source M.sink M.disk machine.new) archive.new reader.new)
+        (λ status. HasEnded h image status began (state_by M.source M.sink M.disk machine.new)) }
 {
     let item = match reader.next_item(alloc, machine) {
         Ok(item) => item,
@@ -76,25 +76,25 @@ pub(crate) fn serve<M: Machine>(
     page: &mut ReplyPage,
 ) -> Status
     requires ready { CanGoOn archive.old (M.disk machine.old).reach }
-    ensures later { IsLater (record { source = M.source machine.old; sink = M.sink machine.old; disk = M.disk machine.old })
-        (record { source = M.source machine.new; sink = M.sink machine.new; disk = M.disk machine.new }) }
-    ensures cause { MayEnd result (record { source = M.source machine.old; sink = M.sink machine.old; disk = M.disk machine.old })
-        (record { source = M.source machine.new; sink = M.sink machine.new; disk = M.disk machine.new }) }
+    ensures later { IsLater (state_by M.source M.sink M.disk machine.old)
+        (state_by M.source M.sink M.disk machine.new) }
+    ensures cause { MayEnd result (state_by M.source M.sink M.disk machine.old)
+        (state_by M.source M.sink M.disk machine.new) }
     ensures damaged { M.disk_tells → (h : History) → StandsFor archive.old h → CacheStands (M.disk machine.old) archive.old → (d : Damage) → result ≡ Status.Damaged d →
         (item : Item) × ((more : List Entry) × Spoils (h ++ more) (M.disk machine.new).holds.pages item d)
         × (M.source_tells → Pulling (M.source machine.old) (M.source machine.old) reader.old → IsPulled (M.source machine.old) (M.source machine.new) item) }
     ensures ends { M.source_tells → Pulling (M.source machine.old) (M.source machine.old) reader.old → Ends result (M.source machine.old) (M.source machine.new) }
-    ensures served { M.source_tells → M.sink_tells → M.disk_tells → (h : History) →
-        Serving h (record { source = M.source machine.old; sink = M.sink machine.old; disk = M.disk machine.old })
-        (record { source = M.source machine.old; sink = M.sink machine.old; disk = M.disk machine.old }) archive.old reader.old [] →
+    ensures served { M.source_tells → M.sink_tells → M.disk_tells → (w : World) →
+        Serving w (state_by M.source M.sink M.disk machine.old)
+        (state_by M.source M.sink M.disk machine.old) archive.old reader.old [] →
         (pulls : List Pull) × M.asked machine.old pulls machine.new
-        × Serves h result (record { source = M.source machine.old; sink = M.sink machine.old; disk = M.disk machine.old })
-        (record { source = M.source machine.new; sink = M.sink machine.new; disk = M.disk machine.new }) pulls }
+        × Serves w result (state_by M.source M.sink M.disk machine.old)
+        (state_by M.source M.sink M.disk machine.new) pulls }
     ensures asks { M.source_tells → M.sink_tells → M.disk_tells → (h : History) (image : Bytes) →
-        Asking h image (record { source = M.source machine.old; sink = M.sink machine.old; disk = M.disk machine.old })
-        (record { source = M.source machine.old; sink = M.sink machine.old; disk = M.disk machine.old }) archive.old reader.old →
-        HasEnded h image result (record { source = M.source machine.old; sink = M.sink machine.old; disk = M.disk machine.old })
-        (record { source = M.source machine.new; sink = M.sink machine.new; disk = M.disk machine.new }) }
+        Asking h image (state_by M.source M.sink M.disk machine.old)
+        (state_by M.source M.sink M.disk machine.old) archive.old reader.old →
+        HasEnded h image result (state_by M.source M.sink M.disk machine.old)
+        (state_by M.source M.sink M.disk machine.new) }
 {
     'items: loop {
         match step(alloc, machine, reader, archive, page) {

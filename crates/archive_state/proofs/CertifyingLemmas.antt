@@ -1,4 +1,4 @@
--- A certificate is shown in one way.
+-- There is one certificate of a plan.
 use Rattle.std.proofs.Common.{◌≡◌, ℕ, ◌<◌, ◌≤◌, ◌^◌, Bool, true, false, cond, bytes_eq, List, [], ◌∷◌, ◌++◌, length, map, filter, drop, get_or, All, Option, Some, None, inl, inr, refl, ap, sym, subst, ◌∙◌, arith}
 use Rattle.std.proofs.lemmas.List.Elements.{All-head, All-tail, All-weaker}
 use Rattle.time_base.specs.declared.fraction.Fraction.{Fraction}
@@ -23,7 +23,7 @@ use Rattle.archive_state.specs.Answers.{frequency_at}
 use Rattle.archive_state.specs.Legal.{MayBePlanned, IsLegal}
 use Rattle.archive_state.specs.Planning.{OfTerm}
 use Rattle.archive_state.specs.Plans.{first_plan, live_plans, plan_of}
-use Rattle.archive_state.specs.Steps.{Reply, Refused, Proposed, IsCertificate, ShowsPlan, ShowsLive, Certifies}
+use Rattle.archive_state.specs.Steps.{Reply, Refused, Proposed, IsCertificate, CertifiesPlan, CertifiesLive, Certifies}
 use Rattle.archive_state.proofs.LiveLemmas.{live_planned}
 use Rattle.archive_state.proofs.PlanningLemmas.{known_or_not}
 
@@ -48,62 +48,62 @@ last_cancels (y ∷ a) (z ∷ b) x same =
     let rest : a ≡ b = last_cancels a b x (ap (λ (l : List ℕ). drop 1 l) same) in
     ap (λ (n : ℕ). n ∷ a) first ∙ ap (λ (l : List ℕ). z ∷ l) rest
 
--- a least plan is shown
-shown : (list : List Posting) (factor : Fraction) (cuts : List Time) (horizon : Time) → All (λ p. p.span.to ≤ horizon.seconds) list → IsLeastPlan list factor cuts horizon.seconds
+-- a least plan is certified
+certified : (list : List Posting) (factor : Fraction) (cuts : List Time) (horizon : Time) → All (λ p. p.span.to ≤ horizon.seconds) list → IsLeastPlan list factor cuts horizon.seconds
     → (segments : List Segment) × ((nodes : List Node) × ((total : ℕ) × (IsProposal list factor horizon.seconds segments nodes total × (map (λ (s : Segment). s.span.from) segments ≡ seconds cuts))))
-shown list factor [] horizon early least = absurd least
-shown list factor (f ∷ cuts) horizon early least =
+certified list factor [] horizon early least = absurd least
+certified list factor (f ∷ cuts) horizon early least =
     let now : horizon.seconds < 2 ^ 40 = horizon.before_now in
     let (segments, (nodes, (total, (proposal, begins, space)))) = each_least_is_proposed list factor horizon.seconds f.seconds (later cuts horizon.seconds) (omega (arith, now)) early least in
     (segments, (nodes, (total, (proposal, last_cancels (map (λ (s : Segment). s.span.from) segments) (seconds (f ∷ cuts)) horizon.seconds begins))))
 
-plan_shown : (h : History) (plan : PlanEntry) (kind : Kind) → MayBePlanned IsGoodPlan h plan
-    → ((list : List Posting) → IsGoodPlan plan.kind list plan.fraction plan.cuts plan.horizon.seconds → IsGoodPlan kind list plan.fraction plan.cuts plan.horizon.seconds) → (reply : Reply) × ShowsPlan h plan kind reply
-plan_shown h plan Guarantee may suits =
+plan_certified : (h : History) (plan : PlanEntry) (kind : Kind) → MayBePlanned IsGoodPlan h plan
+    → ((list : List Posting) → IsGoodPlan plan.kind list plan.fraction plan.cuts plan.horizon.seconds → IsGoodPlan kind list plan.fraction plan.cuts plan.horizon.seconds) → (reply : Reply) × CertifiesPlan h plan kind reply
+plan_certified h plan Guarantee may suits =
     let (narrow, least) = suits may.list may.suits in
     let early = All-weaker (λ (p : Posting). (0 ≤ p.span.from) × (p.span.to ≤ plan.horizon.seconds)) (λ (p : Posting). p.span.to ≤ plan.horizon.seconds) (λ p in_it. in_it.1) may.list may.list_is.inside in
-    let (segments, (nodes, (total, (proposal, stored)))) = shown may.list plan.fraction plan.cuts plan.horizon early least in
+    let (segments, (nodes, (total, (proposal, stored)))) = certified may.list plan.fraction plan.cuts plan.horizon early least in
     (Proposed segments nodes total, (may.list, may.list_is, (segments, nodes, total, record { proposal = proposal; stored = stored }, refl)))
-plan_shown h plan Uniform may suits = (Refused refusals.NoPlan, refl)
-plan_shown h plan (Since at) may suits = (Refused refusals.NoPlan, refl)
+plan_certified h plan Uniform may suits = (Refused refusals.NoPlan, refl)
+plan_certified h plan (Since at) may suits = (Refused refusals.NoPlan, refl)
 
-live_shown : (h : History) (o : Option PlanEntry) → ((plan : PlanEntry) → o ≡ Some plan → MayBePlanned IsGoodPlan h plan) → (reply : Reply) × ShowsLive h o reply
-live_shown h None may = (Refused refusals.NoPlan, refl)
-live_shown h (Some plan) may = plan_shown h plan plan.kind (may plan refl) (λ list suits. suits)
+live_certified : (h : History) (o : Option PlanEntry) → ((plan : PlanEntry) → o ≡ Some plan → MayBePlanned IsGoodPlan h plan) → (reply : Reply) × CertifiesLive h o reply
+live_certified h None may = (Refused refusals.NoPlan, refl)
+live_certified h (Some plan) may = plan_certified h plan plan.kind (may plan refl) (λ list suits. suits)
 
 pub each_certifies : (h : History) (phrase : List ℕ) → IsLegal h → (reply : Reply) × Certifies h phrase reply
 each_certifies h phrase legal = go (one_term phrase)
   where
-    go : (key : Option (List ℕ)) → (reply : Reply) × OfTerm h key (λ why. reply ≡ Refused why) (λ word. ShowsLive h (plan_of h word) reply)
+    go : (key : Option (List ℕ)) → (reply : Reply) × OfTerm h key (λ why. reply ≡ Refused why) (λ word. CertifiesLive h (plan_of h word) reply)
     go None = (Refused refusals.NotOneTerm, refl)
     go (Some word) = elim (known_or_not (vocabulary h) word) [
       | inr unknown ↦ (Refused refusals.UnknownWord, inl (unknown, refl))
       | inl known ↦
-          let (reply, shows) = live_shown h (plan_of h word) (λ plan is. live_has (λ p. MayBePlanned IsGoodPlan h p) (λ stored. bytes_eq stored.plan.word word) (live_plans h) plan (live_planned IsGoodPlan h legal) is) in
-          (reply, inr (known, shows))
+          let (reply, certifies) = live_certified h (plan_of h word) (λ plan is. live_has (λ p. MayBePlanned IsGoodPlan h p) (λ stored. bytes_eq stored.plan.word word) (live_plans h) plan (live_planned IsGoodPlan h legal) is) in
+          (reply, inr (known, certifies))
     ]
 
 -- two certificates of one plan are one
-one_shown : (h : History) (plan : PlanEntry) (kind : Kind) (reply other : Reply) → ShowsPlan h plan kind reply → ShowsPlan h plan kind other → reply ≡ other
-one_shown h plan Guarantee reply other (list, is, (segments, nodes, total, one, reply_is)) (those, are, (others, rest, sum, two, other_is)) =
+one_certified : (h : History) (plan : PlanEntry) (kind : Kind) (reply other : Reply) → CertifiesPlan h plan kind reply → CertifiesPlan h plan kind other → reply ≡ other
+one_certified h plan Guarantee reply other (list, is, (segments, nodes, total, one, reply_is)) (those, are, (others, rest, sum, two, other_is)) =
     let same = one_list_of (λ d t. frequency_at h plan.word (record { 0 = d }) t) 0 plan.horizon.seconds list those is are in
     let C : List Posting → Type 0 = λ l. IsCertificate plan l segments nodes total in
     let here = subst C same one in
     let begins = begin_once those plan.fraction plan.horizon.seconds segments others nodes rest total sum here.proposal two.proposal (here.stored ∙ sym two.stored) in
     let numbers = differ_in_segments those plan.fraction plan.horizon.seconds segments others nodes rest total sum here.proposal two.proposal in
     reply_is ∙ ap (λ (s : List Segment). Proposed s nodes total) begins ∙ ap (λ (n : List Node). Proposed others n total) numbers.0 ∙ ap (λ (n : ℕ). Proposed others rest n) numbers.1 ∙ sym other_is
-one_shown h plan Uniform reply other a b = a ∙ sym b
-one_shown h plan (Since at) reply other a b = a ∙ sym b
+one_certified h plan Uniform reply other a b = a ∙ sym b
+one_certified h plan (Since at) reply other a b = a ∙ sym b
 
-one_live : (h : History) (o : Option PlanEntry) (reply other : Reply) → ShowsLive h o reply → ShowsLive h o other → reply ≡ other
+one_live : (h : History) (o : Option PlanEntry) (reply other : Reply) → CertifiesLive h o reply → CertifiesLive h o other → reply ≡ other
 one_live h None reply other a b = a ∙ sym b
-one_live h (Some plan) reply other a b = one_shown h plan plan.kind reply other a b
+one_live h (Some plan) reply other a b = one_certified h plan plan.kind reply other a b
 
 pub one_certifies : (h : History) (phrase : List ℕ) (reply other : Reply) → Certifies h phrase reply → Certifies h phrase other → reply ≡ other
 one_certifies h phrase reply other = go (one_term phrase)
   where
-    go : (key : Option (List ℕ)) → OfTerm h key (λ why. reply ≡ Refused why) (λ word. ShowsLive h (plan_of h word) reply)
-        → OfTerm h key (λ why. other ≡ Refused why) (λ word. ShowsLive h (plan_of h word) other) → reply ≡ other
+    go : (key : Option (List ℕ)) → OfTerm h key (λ why. reply ≡ Refused why) (λ word. CertifiesLive h (plan_of h word) reply)
+        → OfTerm h key (λ why. other ≡ Refused why) (λ word. CertifiesLive h (plan_of h word) other) → reply ≡ other
     go None a b = a ∙ sym b
     go (Some word) (inl x) (inl y) = x.1 ∙ sym y.1
     go (Some word) (inl x) (inr y) = absurd (x.0 y.0)

@@ -22,7 +22,7 @@ use Rattle.query_eval.specs.declared.part.Part.{Part}
 use Rattle.query_eval.proofs.GivenLemmas.{only_words_matter}
 use Rattle.record_codec.specs.declared.plan.PlanEntry.{PlanEntry}
 use Rattle.sublist_store.specs.Segments.{seconds, EachSegment, HoldsSublist, AreCutsOf}
-use Rattle.sublist_store.specs.Gathering.{Outcome, stored_size}
+use Rattle.sublist_store.specs.Gathering.{Outcome as Gathered, stored_size}
 use Rattle.sublist_store.specs.Laws.{IsGathered}
 use Rattle.sublist_store.proofs.HeldLemmas.{held_gathered}
 use Rattle.archive_state.specs.Histories.{History, text_at}
@@ -34,7 +34,7 @@ use Rattle.archive_state.specs.Legal.{IsLoadable}
 use Rattle.archive_state.specs.Planning.{IsListUpTo}
 use Rattle.archive_state.specs.Plans.{plan_of}
 use Rattle.archive_state.proofs.BoundLemmas.{of_word, word_has, word_planned, are_cuts}
-use Rattle.archive_state.proofs.TurnLemmas.{has_word}
+use Rattle.archive_state.proofs.OutcomeLemmas.{has_word}
 
 -- ---- parts of a list
 
@@ -109,14 +109,14 @@ held_for h pages word plan loads held_all live =
       each = subst H same held.each;
     }
 
-held_gives : (h : History) (pages : List ℕ) (word : List ℕ) (plan : PlanEntry) (a b : ℕ) (outcome : Outcome) → (held : IsHeld h pages word plan) → GathersOf pages plan a b outcome
-    → IsGathered held.list (seconds plan.cuts) a b plan.horizon.seconds outcome
-held_gives h pages word plan a b outcome held gathers = held_gathered plan.layout held.list pages (seconds plan.cuts) plan.horizon.seconds plan.places a b outcome held.cuts held.each gathers
+held_gives : (h : History) (pages : List ℕ) (word : List ℕ) (plan : PlanEntry) (a b : ℕ) (gathered : Gathered) → (held : IsHeld h pages word plan) → GathersOf pages plan a b gathered
+    → IsGathered held.list (seconds plan.cuts) a b plan.horizon.seconds gathered
+held_gives h pages word plan a b gathered held gathers = held_gathered plan.layout held.list pages (seconds plan.cuts) plan.horizon.seconds plan.places a b gathered held.cuts held.each gathers
 
 pub held_undamaged : HeldIsUndamaged
 held_undamaged h pages word a b damage loads held_all damaged =
     let held = held_for h pages word damaged.plan loads held_all damaged.live in
-    let gathered = held_gives h pages word damaged.plan a b (Err damage) held damaged.shown in
+    let gathered = held_gives h pages word damaged.plan a b (Err damage) held damaged.told in
     let is = gathered.is in
     cc
 

@@ -8,6 +8,6 @@ mod PlanningLemmas
 pub mod StoringLemmas
 mod ToldLemmas
 pub mod CertifyingLemmas
-pub mod TurnLemmas
+pub mod OutcomeLemmas
 mod BoundLemmas
 pub mod ChosenLemmas

@@ -1,4 +1,4 @@
--- A plan that is to be stored has a turn, which leads from a legal history to a legal one.
+-- A plan that is to be stored has an outcome, which leads from a legal history to a legal one.
 use Rattle.std.proofs.Common.{◌≡◌, ◌⊎◌, ℕ, zero, suc, ◌/◌, ◌%◌, ◌<◌, ◌≤◌, Bool, true, false, if◌then◌else◌, nat_le, List, [], ◌∷◌, ◌++◌, length, All, Option, Some, None, inl, inr, refl, ap, sym, subst, ◌∙◌, arith, chars}
 use Rattle.std.specs.List.{AllZip}
 use Rattle.std.specs.Option.{option_map}
@@ -42,7 +42,7 @@ use Rattle.archive_state.specs.Legal.{IsLegal, IsLegalEntry}
 use Rattle.archive_state.specs.Planning.{last_second, IsListUpTo}
 use Rattle.archive_state.specs.Plans.{live_extents}
 use Rattle.archive_state.specs.Steps.{Reply, Refused, Planned, Declines, AddsPlan, StoresCuts, StoresPlan, Plans, in_blocks, spelled_key, full_journal}
-use Rattle.archive_state.specs.Runs.{Turn}
+use Rattle.archive_state.specs.Runs.{Outcome}
 use Rattle.archive_state.proofs.HistoryLemmas.{legal-push}
 use Rattle.archive_state.proofs.PlanningLemmas.{of_phrase}
 
@@ -142,9 +142,9 @@ digested taken (bytes ∷ all) (e ∷ es) p =
       (ap (λ (l : List Extent). e ∷ l) same, (record { size = p.0; digest = refl; empty = λ none. lowest_none taken (length bytes) e.first (omega (arith, none, p.0)) p.1 }, zip)),
     )
 
-adds_plan_turn : (h : History) (plan : PlanEntry) (refusal : Option Refusal) (list : List Posting) (cost : Option ℕ) → IsCostOf plan.kind list plan.cuts plan.horizon.seconds cost
-    → (turn : Turn Reply History) × AddsPlan h plan refusal list turn.reply turn.next
-adds_plan_turn h plan None list cost costs = (
+adds_plan_outcome : (h : History) (plan : PlanEntry) (refusal : Option Refusal) (list : List Posting) (cost : Option ℕ) → IsCostOf plan.kind list plan.cuts plan.horizon.seconds cost
+    → (outcome : Outcome Reply History) × AddsPlan h plan refusal list outcome.reply outcome.next
+adds_plan_outcome h plan None list cost costs = (
   record {
     reply = Planned (record {
       length = length (h ++ entries.Planned plan ∷ []);
@@ -158,23 +158,23 @@ adds_plan_turn h plan None list cost costs = (
   },
   (refl, (cost, costs, refl)),
 )
-adds_plan_turn h plan (Some why) list cost costs = (record { reply = Refused why; next = h }, (refl, refl))
+adds_plan_outcome h plan (Some why) list cost costs = (record { reply = Refused why; next = h }, (refl, refl))
 
-cuts_turn : (h : History) (word : List ℕ) (kind : Kind) (factor : Fraction) (horizon : Time) (cuts : List Time) (list : List Posting) (cost : Option ℕ) → IsCostOf kind list cuts horizon.seconds cost
-    → (turn : Turn Reply History) × StoresCuts h word kind factor horizon cuts list turn.reply turn.next
-cuts_turn h word kind factor horizon cuts list cost costs = go (placed_or_not (live_extents h) (sizes all))
+cuts_outcome : (h : History) (word : List ℕ) (kind : Kind) (factor : Fraction) (horizon : Time) (cuts : List Time) (list : List Posting) (cost : Option ℕ) → IsCostOf kind list cuts horizon.seconds cost
+    → (outcome : Outcome Reply History) × StoresCuts h word kind factor horizon cuts list outcome.reply outcome.next
+cuts_outcome h word kind factor horizon cuts list cost costs = go (placed_or_not (live_extents h) (sizes all))
   where
     all : List (List ℕ)
     all = spellings Blocks list (seconds cuts) horizon.seconds
 
-    go : ((es : List Extent) × ArePlaced (live_extents h) (sizes all) es) ⊎ HaveNoRoom (live_extents h) (sizes all) → (turn : Turn Reply History) × StoresCuts h word kind factor horizon cuts list turn.reply turn.next
+    go : ((es : List Extent) × ArePlaced (live_extents h) (sizes all) es) ⊎ HaveNoRoom (live_extents h) (sizes all) → (outcome : Outcome Reply History) × StoresCuts h word kind factor horizon cuts list outcome.reply outcome.next
     go (inr none) = (record { reply = Refused (refusals.Full Pages (limit_of Pages)); next = h }, inl (none, (refl, refl)))
     go (inl (es, placed)) =
         let (places, (same, zip)) = digested (live_extents h) all es placed in
         let plan = in_blocks word kind factor horizon cuts places in
-        let (turn, adds) = adds_plan_turn h plan (full_journal h (entries.Planned plan)) list cost costs in
+        let (outcome, adds) = adds_plan_outcome h plan (full_journal h (entries.Planned plan)) list cost costs in
         let A : List Extent → Type 0 = λ l. ArePlaced (live_extents h) (sizes all) l in
-        (turn, inr (places, subst A (sym same) placed, zip, adds))
+        (outcome, inr (places, subst A (sym same) placed, zip, adds))
 
 -- the last time, where there is a time before it
 last_is : (h : History) → 0 < last_second h → (t : Time) × (t.seconds ≡ last_second h)
@@ -192,17 +192,17 @@ list_behind (p ∷ list) h some inside =
     let order : p.span.from < p.span.to = p.span.ordered in
     omega (arith, here.1, order)
 
-pub plan_turn : (h : History) (kind : Kind) (factor : Fraction) (word : List ℕ) (list : List Posting) → IsListUpTo h word (last_second h) list → 0 < length list
-    → (kind ≡ Guarantee → IsNarrow list (last_second h)) → (turn : Turn Reply History) × StoresPlan h kind factor word list turn.reply turn.next
-plan_turn h kind factor word list is some narrow =
+pub plan_outcome : (h : History) (kind : Kind) (factor : Fraction) (word : List ℕ) (list : List Posting) → IsListUpTo h word (last_second h) list → 0 < length list
+    → (kind ≡ Guarantee → IsNarrow list (last_second h)) → (outcome : Outcome Reply History) × StoresPlan h kind factor word list outcome.reply outcome.next
+plan_outcome h kind factor word list is some narrow =
     let (horizon, last) = last_is h (list_behind list (last_second h) some is.inside) in
     let early : All (λ (p : Posting). p.span.to ≤ horizon.seconds) list =
     All-weaker (λ (p : Posting). (0 ≤ p.span.from) × (p.span.to ≤ last_second h)) (λ (p : Posting). p.span.to ≤ horizon.seconds) (λ p in_it. omega (arith, in_it.1, last)) list is.inside in
     let N : ℕ → Type 0 = λ n. IsNarrow list n in
     let (cuts, good) = each_has_a_good_plan kind list factor horizon some early (λ e. subst N (sym last) (narrow e)) in
     let (cost, costs) = each_has_a_cost kind list factor cuts horizon good in
-    let (turn, stores) = cuts_turn h word kind factor horizon cuts list cost costs in
-    (turn, record { horizon = horizon; horizon_is = last; cuts = cuts; good = good; stores = stores })
+    let (outcome, stores) = cuts_outcome h word kind factor horizon cuts list cost costs in
+    (outcome, record { horizon = horizon; horizon_is = last; cuts = cuts; good = good; stores = stores })
 
 -- ---- what is stored is legal
 

@@ -1,4 +1,4 @@
--- What the abstract machine is free to choose: which least plan it shows, and which least or best plan it stores.
+-- What the abstract machine is free to choose: which least plan it proposes, and which least or best plan it stores.
 use Rattle.std.specs.Prelude.{◌≡◌, ◌⊎◌, ℕ, List, None}
 use Rattle.commands.specs.declared.command.Command.TheVariants as commands
 use Rattle.commands.specs.declared.command.Item.{Item}
@@ -7,7 +7,7 @@ use Rattle.proposals.specs.declared.proposal.Node.{Node}
 use Rattle.proposals.specs.declared.proposal.Segment.{Segment}
 use Rattle.archive_state.specs.Steps.{Reply, Proposed, Summary}
 
--- the item asks for a plan, to be shown or to be stored: only such an item may have several turns
+-- the item asks for a plan, to be proposed or to be stored: only such an item may have several outcomes
 abbrev pub IsChoice : Item → Type 0
 IsChoice (items.Command (commands.Propose word fraction)) = Unit {0}
 IsChoice (items.Command (commands.Arrive doc at text)) = ⊥

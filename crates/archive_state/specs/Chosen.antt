@@ -8,7 +8,7 @@ use Rattle.page_cache.specs.Caches.{Kept}
 use Rattle.postings.specs.Lists.{sublist}
 use Rattle.record_codec.specs.declared.plan.PlanEntry.{PlanEntry}
 use Rattle.sublist_store.specs.Segments.{seconds}
-use Rattle.sublist_store.specs.Gathering.{Outcome, Gathers, chosen, stored_size}
+use Rattle.sublist_store.specs.Gathering.{Outcome as Gathered, Gathers, chosen, stored_size}
 use Rattle.sublist_store.specs.Caching.{pieces_of_all}
 use Rattle.sublist_store.specs.declared.why.Damage.{Damage}
 use Rattle.query_lang.specs.Grammar.{Query, IsRead}
@@ -48,9 +48,9 @@ IsReadFor history a b (word ∷ words) read =
 -- ---- the lists that are chosen, by the history and by what reads of Pages give
 
 -- what is gathered from the places of a plan for [a, b)
-abbrev pub GathersOf : List ℕ → PlanEntry → ℕ → ℕ → Outcome → Type 0
-GathersOf pages plan a b outcome = let h = plan.horizon.seconds in
-    Gathers plan.layout h pages (chosen a b h true (seconds plan.cuts) plan.places) [] 0 outcome
+abbrev pub GathersOf : List ℕ → PlanEntry → ℕ → ℕ → Gathered → Type 0
+GathersOf pages plan a b gathered = let h = plan.horizon.seconds in
+    Gathers plan.layout h pages (chosen a b h true (seconds plan.cuts) plan.places) [] 0 gathered
 
 -- the list that is chosen of a word for [a, b), and how many postings are read for it
 abbrev pub IsChosenOf : History → List ℕ → List ℕ → Option PlanEntry → ℕ → ℕ → List Posting → ℕ → Type 0
@@ -68,11 +68,11 @@ AreChosen history pages a b (word ∷ words) (part ∷ parts) =
 AreChosen history pages a b [] (part ∷ parts) = ⊥
 AreChosen history pages a b (word ∷ words) [] = ⊥
 
--- this is damaged of what is read for a word over [a, b): it has a plan, and what is gathered from the plan's places shows it
+-- this is damaged of what is read for a word over [a, b): it has a plan, and what is gathered from the plan's places tells it
 pub record IsDamagedFor (history : History) (pages : List ℕ) (word : List ℕ) (a b : ℕ) (damage : Damage) : Type 0 where
   pub plan : PlanEntry
   pub live : plan_of history word ≡ Some plan
-  pub shown : GathersOf pages plan a b (Err damage)
+  pub told : GathersOf pages plan a b (Err damage)
 
 -- this is the first that is damaged of what is read for some words over [a, b), in their order: of those in front all is chosen
 pub record IsFirstDamage (history : History) (pages : List ℕ) (a b : ℕ) (words : List (List ℕ)) (damage : Damage) : Type 0 where
@@ -82,7 +82,7 @@ pub record IsFirstDamage (history : History) (pages : List ℕ) (a b : ℕ) (wor
   pub words_are : words ≡ front ++ word ∷ back
   pub parts : List Part
   pub are_chosen : AreChosen history pages a b front parts
-  pub shown : IsDamagedFor history pages word a b damage
+  pub damaged : IsDamagedFor history pages word a b damage
 
 -- the phrase is a query, and this is the first that is damaged of what is read for its words over [a, b)
 pub record SpoilsAnswer (history : History) (pages : List ℕ) (a b : ℕ) (phrase : List ℕ) (damage : Damage) : Type 0 where

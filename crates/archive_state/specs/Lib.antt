@@ -14,3 +14,4 @@ pub mod Runs
 pub mod Standing
 pub mod Stands
 pub mod Steps
+pub mod Worlds

@@ -13,7 +13,7 @@ use Rattle.archive_state.specs.declared.refusal.Refusal.TheVariants as refusals
 use Rattle.archive_state.specs.declared.verdict.Verdict.{Verdict}
 use Rattle.archive_state.specs.declared.verdict.Verdict.TheVariants.{Sound, Differs, NotLeast, BadText}
 use Rattle.archive_state.specs.Refusals.{number_of}
-use Rattle.archive_state.specs.Steps.{Reply, Accepted, Refused, Found, Spanned, Shown, Proposed, Planned, Verified, Summary}
+use Rattle.archive_state.specs.Steps.{Reply, Accepted, Refused, Found, Spanned, Version, Proposed, Planned, Verified, Summary}
 
 -- the name of a limit in a reply
 abbrev pub which_text : Which → List ℕ
@@ -65,9 +65,9 @@ abbrev pub spans_text : List SpanRow → ℕ → List ℕ
 spans_text rows read = flat_map span_text rows ++ end_text (length rows) read
 
 -- a line with the text's length, and the text; or that there is none
-abbrev pub shown_text : Option (List ℕ) → List ℕ
-shown_text None = codes "none" ++ 10 ∷ []
-shown_text (Some text) = codes "text " ++ decimal (length text) ++ 10 ∷ text ++ 10 ∷ []
+abbrev pub version_text : Option (List ℕ) → List ℕ
+version_text None = codes "none" ++ 10 ∷ []
+version_text (Some text) = codes "text " ++ decimal (length text) ++ 10 ∷ text ++ 10 ∷ []
 
 -- the line of a segment: its first second and the one behind its last, and the size of its sublist
 abbrev pub segment_text : Segment → List ℕ
@@ -119,7 +119,7 @@ reply_text (Accepted count) = codes "ok " ++ decimal count ++ 10 ∷ []
 reply_text (Refused why) = refusal_text why
 reply_text (Found rows read) = answer_text rows read
 reply_text (Spanned rows read) = spans_text rows read
-reply_text (Shown text) = shown_text text
+reply_text (Version text) = version_text text
 reply_text (Proposed segments nodes total) = proposal_text segments nodes total
 reply_text (Planned summary) = summary_text summary
 reply_text (Verified verdict) = verdict_text verdict ++ 10 ∷ []

@@ -24,6 +24,7 @@ use Rattle.commands.specs.declared.command.Kind.TheVariants.{Guarantee}
 use Rattle.commands.specs.declared.text.Text.TheVariants.{Bytes}
 use Rattle.archive_state.specs.Steps.{Accepted, Refused, Planned, Verified, Step}
 use Rattle.archive_state.specs.Replies.{reply_text}
+use Rattle.archive_state.specs.Worlds.{World, world_of}
 use Rattle.archive_state.specs.declared.verdict.Verdict.TheVariants.{Sound, Differs, NotLeast, BadText}
 
 abbrev doc : ℕ → DocId
@@ -36,6 +37,9 @@ arrival n at text = items.Command (Arrive (doc n) at (Bytes text))
 abbrev one_arrival : History
 one_arrival = entries.Arrive (doc 7) (record { seconds = 10; before_now = lit< tt }) (codes "red a") ∷ []
 
+abbrev arrived : World
+arrived = world_of one_arrival
+
 -- one arrival takes 18 bytes, and the journal ends at 40
 spelled : spelling (entries.Arrive (doc 7) (record { seconds = 10; before_now = lit< tt }) (codes "red a"))
     ≡ 1 ∷ 0 ∷ 0 ∷ 0 ∷ 7 ∷ 0 ∷ 0 ∷ 0 ∷ 0 ∷ 0 ∷ 0 ∷ 0 ∷ 10 ∷ 114 ∷ 101 ∷ 100 ∷ 32 ∷ 97 ∷ []
@@ -45,16 +49,16 @@ ends_at_40 : end_of one_arrival ≡ 40
 ends_at_40 = refl
 
 -- what arrived is refused when it comes again, and a document that is new may have an earlier version's time but none before the last
-same_time_refused : Step one_arrival (arrival 7 (record { seconds = 10; before_now = lit< tt }) (codes "red a")) (Refused refusals.SameTime) one_arrival
+same_time_refused : Step arrived (arrival 7 (record { seconds = 10; before_now = lit< tt }) (codes "red a")) (Refused refusals.SameTime) arrived
 unfolding is_utf8 chars encode
 same_time_refused = (refl, refl)
 
-time_back_refused : Step one_arrival (arrival 8 (record { seconds = 5; before_now = lit< tt }) (codes "red")) (Refused (refusals.TimeBack (record { seconds = 10; before_now = lit< tt }))) one_arrival
+time_back_refused : Step arrived (arrival 8 (record { seconds = 5; before_now = lit< tt }) (codes "red")) (Refused (refusals.TimeBack (record { seconds = 10; before_now = lit< tt }))) arrived
 unfolding is_utf8 chars encode
 time_back_refused = (refl, refl)
 
 -- bytes that aren't UTF-8 are refused first, at the length of the front that is
-bad_text_refused : Step one_arrival (arrival 9 (record { seconds = 5; before_now = lit< tt }) (97 ∷ 195 ∷ 40 ∷ [])) (Refused (refusals.BadText 1)) one_arrival
+bad_text_refused : Step arrived (arrival 9 (record { seconds = 5; before_now = lit< tt }) (97 ∷ 195 ∷ 40 ∷ [])) (Refused (refusals.BadText 1)) arrived
 unfolding is_utf8 chars encode utf8_valid_len
 bad_text_refused = (refl, refl)
 

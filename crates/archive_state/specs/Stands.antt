@@ -14,6 +14,7 @@ use Rattle.archive_state.specs.Histories.{History}
 use Rattle.archive_state.specs.Legal.{IsLegal, IsLoadable, IsLoadableEntry}
 use Rattle.archive_state.specs.Plans.{live_extents, live_gates}
 use Rattle.archive_state.specs.Holding.{HoldsPlans}
+use Rattle.archive_state.specs.Worlds.{World}
 
 -- the bodies of a history's journal
 abbrev pub bodies_of : History → List (List ℕ)
@@ -25,6 +26,10 @@ pub record Stands (history : History) (image : Bytes) : Type 0 where
   pub spelled : Spells image.journal (bodies_of history)
   pub legal : IsLegal history
   pub held : HoldsPlans history image.pages
+
+-- an image stands for a state of the abstract machine: by the state's history
+abbrev pub StandsIn : World → Bytes → Type 0
+StandsIn world image = Stands world.history image
 
 -- each image that a stop may leave now stands for this history
 abbrev pub EachStands : DiskState → History → Type 0

@@ -47,6 +47,7 @@ use Rattle.archive_state.specs.Answers.{IsAnswerAt, IsSpanAnswerAt}
 use Rattle.archive_state.specs.Chosen.{IsReadFor}
 use Rattle.archive_state.specs.Planning.{OfPhrase, OfTerm, IsListUpTo, last_second}
 use Rattle.archive_state.specs.Plans.{live_extents, live_plans, plan_of, segments_of}
+use Rattle.archive_state.specs.Worlds.{World}
 
 -- what is told of a plan that is stored: how many entries the history has now, how many segments the plan has, how many postings their sublists
 -- have together, how many postings the word's list has up to the horizon, and the horizon in seconds; and of a plan under a space bound, what its
@@ -70,7 +71,7 @@ pub data Reply : Type 0 where
   -- the same of a window of time
   Spanned : List SpanRow → ℕ → Reply
   -- the text, if the document is alive then
-  Shown : Option (List ℕ) → Reply
+  Version : Option (List ℕ) → Reply
   -- the segments of a plan with their sizes, the boundaries with the least space up to each, and the plan's space
   Proposed : List Segment → List Node → ℕ → Reply
   -- a plan is stored
@@ -105,7 +106,7 @@ abbrev pub Adds : History → Entry → Option Refusal → Reply → History →
 Adds old entry None reply new = (new ≡ old ++ entry ∷ []) × (reply ≡ Accepted (length new))
 Adds old entry (Some why) reply new = (new ≡ old) × (reply ≡ Refused why)
 
--- what a query is answered; or the place where a text shows that it is none
+-- what a query is answered; or the place at which a text is told to be none
 abbrev pub IsRepliedBy : (Query → Reply → Type 0) → Result Query ℕ → Reply → Type 0
 IsRepliedBy Finds (Ok query) reply = Finds query reply
 IsRepliedBy Finds (Err place) reply = reply ≡ Refused (refusals.BadQuery place)
@@ -137,31 +138,31 @@ abbrev pub ProposesPlan : Fraction → ℕ → List Posting → Reply → Type 0
 ProposesPlan factor horizon list reply =
     (segments : List Segment) × (nodes : List Node) × (total : ℕ) × IsProposal list factor horizon segments nodes total × (reply ≡ Proposed segments nodes total)
 
--- what is proposed for a phrase: it is refused, or a least plan of its word's list up to the last time is shown
+-- what is proposed for a phrase: it is refused, or a least plan of its word's list up to the last time is told
 abbrev pub Proposes : History → List ℕ → Fraction → Reply → Type 0
 Proposes history phrase factor reply =
     OfPhrase Guarantee history (one_term phrase) (λ why. reply ≡ Refused why) (λ word list. ProposesPlan factor (last_second history) list reply)
 
--- the stored plan of a word's list, as it is shown: a proposal whose segments begin at the plan's cuts
+-- the stored plan of a word's list, as it is certified: a proposal whose segments begin at the plan's cuts
 pub record IsCertificate (plan : PlanEntry) (list : List Posting) (segments : List Segment) (nodes : List Node) (total : ℕ) : Type 0 where
   pub proposal : IsProposal list plan.fraction plan.horizon.seconds segments nodes total
   pub stored : map (λ s. s.span.from) segments ≡ seconds plan.cuts
 
--- what is shown of a live plan, by its kind: only one that keeps to a guarantee has a certificate
-abbrev pub ShowsPlan : History → PlanEntry → Kind → Reply → Type 0
-ShowsPlan history plan Guarantee reply = (list : List Posting) × IsListUpTo history plan.word plan.horizon.seconds list
+-- what is certified of a live plan, by its kind: only one that keeps to a guarantee has a certificate
+abbrev pub CertifiesPlan : History → PlanEntry → Kind → Reply → Type 0
+CertifiesPlan history plan Guarantee reply = (list : List Posting) × IsListUpTo history plan.word plan.horizon.seconds list
     × ((segments : List Segment) × (nodes : List Node) × (total : ℕ) × IsCertificate plan list segments nodes total × (reply ≡ Proposed segments nodes total))
-ShowsPlan history plan Uniform reply = reply ≡ Refused refusals.NoPlan
-ShowsPlan history plan (Since at) reply = reply ≡ Refused refusals.NoPlan
+CertifiesPlan history plan Uniform reply = reply ≡ Refused refusals.NoPlan
+CertifiesPlan history plan (Since at) reply = reply ≡ Refused refusals.NoPlan
 
--- what is shown of a word's live plan, if it has one
-abbrev pub ShowsLive : History → Option PlanEntry → Reply → Type 0
-ShowsLive history None reply = reply ≡ Refused refusals.NoPlan
-ShowsLive history (Some plan) reply = ShowsPlan history plan plan.kind reply
+-- what is certified of a word's live plan, if it has one
+abbrev pub CertifiesLive : History → Option PlanEntry → Reply → Type 0
+CertifiesLive history None reply = reply ≡ Refused refusals.NoPlan
+CertifiesLive history (Some plan) reply = CertifiesPlan history plan plan.kind reply
 
--- what is certified for a phrase: it is refused, or its word's live plan is shown
+-- what is certified for a phrase: it is refused, or its word's live plan is certified
 abbrev pub Certifies : History → List ℕ → Reply → Type 0
-Certifies history phrase reply = OfTerm history (one_term phrase) (λ why. reply ≡ Refused why) (λ word. ShowsLive history (plan_of history word) reply)
+Certifies history phrase reply = OfTerm history (one_term phrase) (λ why. reply ≡ Refused why) (λ word. CertifiesLive history (plan_of history word) reply)
 
 -- a command that is refused changes nothing
 abbrev pub Declines : History → Refusal → Reply → History → Type 0
@@ -212,7 +213,7 @@ abbrev pub Plans : History → List ℕ → Kind → Fraction → Reply → Hist
 Plans old phrase kind factor reply new =
     OfPhrase kind old (spelled_key (one_term phrase)) (λ why. Declines old why reply new) (λ word list. StoresPlan old kind factor word list reply new)
 
--- a version arrives, with a text that was kept, or with one that is too long to be
+-- a version arrives, with a text that was held, or with one that is too long to be
 abbrev pub Arrives : History → DocId → Time → Text → Reply → History → Type 0
 Arrives old doc at (texts.Bytes text) reply new = Adds old (entries.Arrive doc at text) (arrival_refusal old doc at text) reply new
 Arrives old doc at (texts.TooLong bytes) reply new = Declines old (refusals.TooLong most_text) reply new
@@ -226,14 +227,14 @@ abbrev pub CarriesOut : History → Command → Reply → History → Type 0
 CarriesOut old (commands.Arrive doc at text) reply new = Arrives old doc at text reply new
 CarriesOut old (commands.Delete doc at) reply new = Adds old (entries.Delete doc at) (deletion_refusal old doc at) reply new
 CarriesOut old (commands.Find at expr) reply new = (new ≡ old) × Finds old at expr reply
-CarriesOut old (commands.Show doc at) reply new = (new ≡ old) × (reply ≡ Shown (text_at old doc at.seconds))
+CarriesOut old (commands.Show doc at) reply new = (new ≡ old) × (reply ≡ Version (text_at old doc at.seconds))
 CarriesOut old (commands.Plan word kind fraction) reply new = Plans old word kind fraction reply new
 CarriesOut old (commands.Propose word fraction) reply new = (new ≡ old) × Proposes old word fraction reply
 CarriesOut old (commands.Between span expr) reply new = (new ≡ old) × Spans old span expr reply
 CarriesOut old (commands.Certificate word) reply new = (new ≡ old) × Certifies old word reply
 CarriesOut old commands.Verify reply new = (new ≡ old) × (reply ≡ Verified (sound_of old))
 
--- the step of the machine: a command is carried out, and a line that is none is refused
-abbrev pub Step : History → Item → Reply → History → Type 0
-Step old (items.Command command) reply new = CarriesOut old command reply new
-Step old items.Line reply new = Declines old refusals.Line reply new
+-- The step of the machine, over an item of the input: a command is carried out, and a line that is none is refused.
+abbrev pub Step : World → Item → Reply → World → Type 0
+Step old (items.Command command) reply new = CarriesOut old.history command reply new.history
+Step old items.Line reply new = Declines old.history refusals.Line reply new.history

@@ -9,8 +9,9 @@ ghost use Rattle.commands.specs.Documents.{HasDocument};
 ghost use Rattle.commands.specs.declared.command.Item.{Item};
 ghost use Rattle.archive_state.specs.Choices.{IsChoice, IsStoring, SameButSegments, SamePlanned};
 ghost use Rattle.archive_state.specs.Steps.{Reply, Planned, Summary, Step};
-ghost use Rattle.archive_state.specs.Runs.{Turn};
+ghost use Rattle.archive_state.specs.Runs.{Outcome};
 ghost use Rattle.archive_state.specs.Stands.{Stands, IsNotArchive, bodies_of};
+ghost use Rattle.archive_state.specs.Worlds.{World};
 ghost use Rattle.archive_state.specs.Bounds.{PlannedReadsAreBounded, PlannedSpaceIsCapped, MadeAtStands, MadeOverStands, HeldIsUndamaged, UnplannedHitsAreAlive};
 
 /// A history is legal exactly where each of its entries is legal after those before it, and a load
@@ -24,17 +25,17 @@ pub fn a_history_is_legal_entry_by_entry()
 {}
 
 /// The abstract machine never gets stuck, and chooses nothing but which least plan it proposes, and
-/// which least or best plan it stores. From a legal history each item has a turn. It is the only one
-/// where no plan is asked for; two turns that propose a plan differ in its segments alone; and where
-/// two turns of one item each store a plan, their replies are the same but for the number of segments
+/// which least or best plan it stores. From a legal history each item has an outcome. It is the only one
+/// where no plan is asked for; two outcomes that propose a plan differ in its segments alone; and where
+/// two outcomes of one item each store a plan, their replies are the same but for the number of segments
 /// and, under a space bound, the space. (By its choice the one may find room in Pages where the other
-/// is refused.) Where the item's document is in range, a turn leads to a legal history. Does nothing.
-pub fn each_item_has_one_turn()
-    ensures turn { (h : History) (item : Item) → IsLegal h → (turn : Turn Reply History) × Step h item turn.reply turn.next }
-    ensures one { (h : History) (item : Item) (reply other : Reply) (next then : History) → (IsChoice item → ⊥) → Step h item reply next → Step h item other then → (reply ≡ other) × (next ≡ then) }
-    ensures but_segments { (h : History) (item : Item) (reply other : Reply) (next then : History) → (IsStoring item → ⊥) → Step h item reply next → Step h item other then → SameButSegments reply other × (next ≡ then) }
-    ensures plans { (h : History) (item : Item) (one other : Summary) (next then : History) → Step h item (Planned one) next → Step h item (Planned other) then → SamePlanned one other }
-    ensures legal { (h : History) (item : Item) (reply : Reply) (next : History) → IsLegal h → HasDocument item → Step h item reply next → IsLegal next }
+/// is refused.) Where the item's document is in range, an outcome leads to a legal history. Does nothing.
+pub fn each_item_has_one_outcome()
+    ensures outcome { (w : World) (item : Item) → IsLegal w.history → (outcome : Outcome Reply World) × Step w item outcome.reply outcome.next }
+    ensures one { (w : World) (item : Item) (reply other : Reply) (next then : World) → (IsChoice item → ⊥) → Step w item reply next → Step w item other then → (reply ≡ other) × (next ≡ then) }
+    ensures but_segments { (w : World) (item : Item) (reply other : Reply) (next then : World) → (IsStoring item → ⊥) → Step w item reply next → Step w item other then → SameButSegments reply other × (next ≡ then) }
+    ensures plans { (w : World) (item : Item) (one other : Summary) (next then : World) → Step w item (Planned one) next → Step w item (Planned other) then → SamePlanned one other }
+    ensures legal { (w : World) (item : Item) (reply : Reply) (next : World) → IsLegal w.history → HasDocument item → Step w item reply next → IsLegal next.history }
 {}
 
 /// An image stands for one history at most, and one that stands for a history isn't refused at any

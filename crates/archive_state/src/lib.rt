@@ -4,10 +4,10 @@
 //! where each entry may come after those before it (`specs/Legal.antt`). Of each word the plan stored
 //! last is live (`specs/Plans.antt`). An image of a disk stands for a legal history where its journal
 //! spells the entries (`specs/Stands.antt`) and its pages hold what the live plans need
-//! (`specs/Holding.antt`). An abstract machine carries out commands on a history, one step after
-//! another (`specs/Steps.antt`), and each reply has a text (`specs/Replies.antt`). What a stopped run
-//! has acknowledged, and what the images that it left stand for, is said of any such machine
-//! (`specs/Runs.antt`).
+//! (`specs/Holding.antt`). An abstract machine, whose state has a history (`specs/Worlds.antt`),
+//! carries out commands, one step after another (`specs/Steps.antt`), and each reply has a text
+//! (`specs/Replies.antt`). What a stopped run has acknowledged, and what the images that it left stand
+//! for, is said of any such machine (`specs/Runs.antt`).
 #![tactic(auto)]
 
 mod laws;
@@ -17,7 +17,7 @@ mod verdict;
 
 pub use laws::{
     a_history_is_legal_entry_by_entry, an_archive_is_refused_at_one_place,
-    an_image_stands_for_one_history, each_item_has_one_turn, planned_reads_are_bounded,
+    an_image_stands_for_one_history, each_item_has_one_outcome, planned_reads_are_bounded,
     planned_space_is_capped, what_is_made_of_held_pages_stands,
 };
 pub use refusal::Refusal;

@@ -13,7 +13,6 @@ ghost use Rattle.postings.specs.Joins.{IsJoined};
 use std::alloc::{AllocError, Global};
 use time_base::{Posting, Span};
 
-
 /// The coalesced list: the same rows at each time, and no two neighbours of one document that touch
 /// have one frequency. One pass over the list.
 pub fn coalesce(alloc: Global, list: &[Posting]) -> Result<Vec<Posting>, AllocError>

@@ -14,7 +14,7 @@ const PIECES: [usize; 6] = [1, 2, 3, 7, 4096, usize::MAX];
 
 /// What a script does on a new archive.
 #[derive(Clone, Copy, Debug)]
-struct Outcome<'a> {
+struct Wanted<'a> {
     status: Status,
     replies: &'a [u8],
     journal: &'a [u8],
@@ -25,7 +25,7 @@ fn expect_alike(
     rt: &impl Abort,
     alloc: Global,
     script: &[u8],
-    want: &Outcome<'_>,
+    want: &Wanted<'_>,
 ) -> Result<(), Fail> {
     for piece in PIECES {
         assert!(rt; piece >= 1);
@@ -40,7 +40,7 @@ fn expect_alike(
 
 #[test]
 fn arrivals_and_deletions_in_any_pieces(rt: HostRuntime) -> Result<(), Fail> {
-    let want = Outcome {
+    let want = Wanted {
         status: Status::Done,
         replies: MIXED_REPLIES,
         journal: MIXED_JOURNAL,
@@ -59,7 +59,7 @@ fn a_broken_script_in_any_pieces(rt: HostRuntime) -> Result<(), Fail> {
             b"arrive 7 30 4\nblue?\narrive 7 40 4\nblue\n",
         ],
     )?;
-    let want = Outcome {
+    let want = Wanted {
         status: Status::Script { at: 62 },
         replies: b"ok 1\nno 4 NoDocument\nok 2\n",
         journal: b"TIMETRAVELTEXT\x00\x01\
@@ -110,7 +110,7 @@ fn texts_that_cross_blocks_in_any_pieces(rt: HostRuntime) -> Result<(), Fail> {
             b"\x00",
         ],
     )?;
-    let want = Outcome {
+    let want = Wanted {
         status: Status::Done,
         replies: b"ok 1\nok 2\nok 3\nok 4\n",
         journal: &journal,
@@ -156,7 +156,7 @@ fn skipped_lines_refused_lines_and_line_ends_in_any_pieces(rt: HostRuntime) -> R
             b"#\narrive 9 20 2\n\xc3\x28\nverify",
         ],
     )?;
-    let want = Outcome {
+    let want = Wanted {
         status: Status::Done,
         replies: b"ok 1\nno 1 Line\nok 2\nno 6 BadText 0\nsound 0 0\n",
         journal: b"TIMETRAVELTEXT\x00\x01\

@@ -34,8 +34,9 @@ use Rattle.archive_state.specs.Answers.{frequency_at, IsAnswerAt, IsSpanAnswerAt
 use Rattle.commands.specs.declared.command.Command.TheVariants.{Arrive, Between, Find, Show}
 use Rattle.commands.specs.declared.command.Item.TheVariants.{Command}
 use Rattle.commands.specs.declared.text.Text.TheVariants.{Bytes}
-use Rattle.archive_state.specs.Steps.{Accepted, Refused, Found, Spanned, Shown, Step}
+use Rattle.archive_state.specs.Steps.{Accepted, Refused, Found, Spanned, Version, Step}
 use Rattle.archive_state.specs.Replies.{reply_text}
+use Rattle.archive_state.specs.Worlds.{World, world_of}
 
 abbrev doc : ℕ → DocId
 doc n = record { 0 = n }
@@ -49,8 +50,11 @@ ten = record { seconds = 10; before_now = lit< tt }
 abbrev one_arrival : History
 one_arrival = entries.Arrive (doc 7) ten (codes "red a") ∷ []
 
+abbrev arrived : World
+arrived = world_of one_arrival
+
 -- the first arrival is accepted
-accepted : Step [] (Command (Arrive (doc 7) ten (Bytes (codes "red a")))) (Accepted 1) one_arrival
+accepted : Step (world_of []) (Command (Arrive (doc 7) ten (Bytes (codes "red a")))) (Accepted 1) arrived
 unfolding ucd_category caseless unicode_normalization chars encode is_utf8
 accepted = (refl, refl)
 
@@ -77,17 +81,17 @@ red_or : read key_of (codes "red or") ≡ Err 6
 unfolding ucd_category caseless unicode_normalization chars encode is_utf8
 red_or = refl
 
-refused : Step one_arrival (Command (Find ten (codes "red or"))) (Refused (refusals.BadQuery 6)) one_arrival
+refused : Step arrived (Command (Find ten (codes "red or"))) (Refused (refusals.BadQuery 6)) arrived
 refused =
     let R : Result Query ℕ → Type 0 = λ r. IsRead key_of (codes "red or") r in
     (refl, (Err 6, subst R red_or (is_read key_of (codes "red or")), refl))
 
-shown : Step one_arrival (Command (Show (doc 7) ten)) (Shown (Some (codes "red a"))) one_arrival × Step one_arrival (Command (Show (doc 7) nine)) (Shown None) one_arrival
+shown : Step arrived (Command (Show (doc 7) ten)) (Version (Some (codes "red a"))) arrived × Step arrived (Command (Show (doc 7) nine)) (Version None) arrived
 shown = ((refl, refl), (refl, refl))
 
 -- the texts of the replies
 texts : (reply_text (Found (record { doc = doc 7; score = 1 } ∷ []) 1) ≡ codes "hit 7 1" ++ 10 ∷ codes "end 1 read 1" ++ 10 ∷ [])
-    × (reply_text (Shown (Some (codes "red a"))) ≡ codes "text 5" ++ 10 ∷ codes "red a" ++ 10 ∷ []) × (reply_text (Shown None) ≡ codes "none" ++ 10 ∷ [])
+    × (reply_text (Version (Some (codes "red a"))) ≡ codes "text 5" ++ 10 ∷ codes "red a" ++ 10 ∷ []) × (reply_text (Version None) ≡ codes "none" ++ 10 ∷ [])
 unfolding digits
 texts = (refl, refl, refl)
 
@@ -157,7 +161,7 @@ is_red : read key_of (codes "red") ≡ Ok (Has red)
 unfolding ucd_category caseless unicode_normalization chars encode is_utf8
 is_red = refl
 
-found : Step one_arrival (Command (Find ten (codes "red"))) (Found (hit ∷ []) 1) one_arrival
+found : Step arrived (Command (Find ten (codes "red"))) (Found (hit ∷ []) 1) arrived
 found =
     let R : Result Query ℕ → Type 0 = λ r. IsRead key_of (codes "red") r in
     (refl, (Ok (Has red), subst R is_red (is_read key_of (codes "red")), (hit ∷ [], 1, one_row, (1, 0, (posting ∷ [], one_posting, refl), refl, refl), refl)))
@@ -224,7 +228,7 @@ one_span = record { ordered = tt; longest = λ r there. longest r there; covered
     covered : (d t v : ℕ) → t < 20 → scored d t ≡ Some v → (r : SpanRow) × Contains (span_row ∷ []) r × (r.doc.0 ≡ d) × (r.span.from ≤ t) × (t < r.span.to)
     covered d t v to is = let at = where_scored d t v is in (span_row, here span_row [], sym at.0, at.1, to)
 
-spanned : Step one_arrival (Command (Between window (codes "red"))) (Spanned (span_row ∷ []) 1) one_arrival
+spanned : Step arrived (Command (Between window (codes "red"))) (Spanned (span_row ∷ []) 1) arrived
 spanned =
     let R : Result Query ℕ → Type 0 = λ r. IsRead key_of (codes "red") r in
     (refl, (Ok (Has red), subst R is_red (is_read key_of (codes "red")), (span_row ∷ [], 1, one_span, (1, 0, (posting ∷ [], one_posting, refl), refl, refl), refl)))

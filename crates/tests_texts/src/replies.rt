@@ -196,14 +196,14 @@ fn a_new_page_has_room_for_the_greatest_numbers(rt: HostRuntime) -> Result<(), F
 #[test]
 fn texts_stand_behind_their_length(rt: HostRuntime) -> Result<(), Fail> {
     let mut page = ReplyPage::new(rt.alloc())?;
-    page.shown(b"red a")?;
+    page.version(b"red a")?;
     assert_eq!(rt; page.as_bytes(), "text 5\nred a\n".as_bytes());
     page.none();
     assert_eq!(rt; page.as_bytes(), "none\n".as_bytes());
-    page.shown(b"")?;
+    page.version(b"")?;
     assert_eq!(rt; page.as_bytes(), "text 0\n\n".as_bytes());
     let long = [b'x'; 1000];
-    page.shown(&long)?;
+    page.version(&long)?;
     assert_eq!(rt; page.as_bytes().len(), 1011);
     page.accepted(1);
     assert_eq!(rt; page.as_bytes(), "ok 1\n".as_bytes());

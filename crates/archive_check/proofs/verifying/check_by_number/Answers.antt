@@ -3,28 +3,28 @@ use Rattle.std.proofs.lemmas.List.Sorted.{All-permutation}
 use Rattle.std.proofs.lemmas.Result.{IfOk-weaker}
 use Rattle.version_index.specs.Indexes.{state_of}
 use Rattle.archive_state.specs.declared.stored.StoredPlan.{StoredPlan}
-use Rattle.archive_check.specs.declared.ordering.Turn.{Turn}
+use Rattle.archive_check.specs.declared.ordering.Ranked.{Ranked}
 use Rattle.archive_check.specs.Orders.{AreByNumber}
 use Rattle.archive_check.specs.Verdicts.{LiesInside, Says, Tells}
-use Rattle.archive_check.proofs.OrderLemmas.{are_moved, each_in_turn}
+use Rattle.archive_check.proofs.OrderLemmas.{are_moved, each_ranked}
 use Rattle.archive_check.proofs.verifying.check_by_number.Goals as goal
 
 pub check_plans-requires-clause-places : goal.check_plans-requires-clause-places
 check_plans-requires-clause-places g c =
     let words = (state_of c.args.index.now).words in
-    let turns = c.in_ok-turns.turns.items in
+    let ranked = c.in_ok-ranked.ranked.items in
     let plans = c.args.plans.now in
     let P : StoredPlan → Type 0 = λ s. LiesInside (g.D.Disk.disk c.args.disk.now).reach.pages s.plan in
-    let T : List Turn → Type 0 = λ l. All (λ t. P t.stored.now) l in
-    subst T (sym c.deref.ensures.value) (each_in_turn P turns (All-permutation P plans (map (λ t. t.stored.now) turns) (are_moved words plans (map (λ t. t.stored.now) turns) c.in_ok-turns.ensures.ordered) c.requires.places))
+    let T : List Ranked → Type 0 = λ l. All (λ t. P t.stored.now) l in
+    subst T (sym c.deref.ensures.value) (each_ranked P ranked (All-permutation P plans (map (λ t. t.stored.now) ranked) (are_moved words plans (map (λ t. t.stored.now) ranked) c.in_ok-ranked.ensures.ordered) c.requires.places))
 
 pub returns-clause-verdict : goal.returns-clause-verdict
 returns-clause-verdict g c = λ told texts indexes utf8.
     let pages = (g.D.Disk.disk c.args.disk.now).holds.pages in
     let plans = c.args.plans.now in
-    let turns = c.deref.result.now in
-    let ordered = map (λ t. t.stored.now) turns in
+    let ranked = c.deref.result.now in
+    let ordered = map (λ t. t.stored.now) ranked in
     let W : List (List ℕ) → Type 0 = λ words. AreByNumber words plans ordered in
-    let T : List Turn → Type 0 = λ l. AreByNumber (state_of c.args.index.now).words plans (map (λ t. t.stored.now) l) in
-    let by_number = subst W indexes.words_are (subst T (sym c.deref.ensures.value) c.in_ok-turns.ensures.ordered) in
+    let T : List Ranked → Type 0 = λ l. AreByNumber (state_of c.args.index.now).words plans (map (λ t. t.stored.now) l) in
+    let by_number = subst W indexes.words_are (subst T (sym c.deref.ensures.value) c.in_ok-ranked.ensures.ordered) in
     IfOk-weaker c.check_plans.result (λ v. Says v texts pages ordered) (λ v. Tells v texts pages plans) (λ v says. (ordered, by_number, says)) (c.check_plans.ensures.verdict told texts indexes utf8)

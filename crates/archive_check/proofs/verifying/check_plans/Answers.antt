@@ -14,34 +14,34 @@ use Rattle.archive_check.proofs.verifying.check_plans.Goals as goal
 pub returns-in-Some-clause-verdict : goal.returns-in-Some-clause-verdict
 returns-in-Some-clause-verdict g c = λ told texts indexes utf8.
     let pages = (g.D.Disk.disk c.args.disk.now).holds.pages in
-    let turns = c.args.turns.now in
-    let i = c.loop-turn.turn-index in
-    let turn = c.turn-item.result in
-    let stored = turn.stored.now in
-    let plans = map (λ t. t.stored.now) turns in
+    let ranked = c.args.ranked.now in
+    let i = c.loop-one.one-index in
+    let one = c.one-item.result in
+    let stored = one.stored.now in
+    let plans = map (λ t. t.stored.now) ranked in
     let P : List ℕ → Type 0 = λ l. MatchOption c.in_ok-fault.field-0 (IsSound texts l stored.plan) (IsFaultOf texts l stored.plan) in
     let O : Option Verdict → Type 0 = λ o. MatchOption o (IsSound texts pages stored.plan) (IsFaultOf texts pages stored.plan) in
-    let there = subst P (pages_on (g.D.Disk.disk c.args.disk.now) (g.D.Disk.disk c.loop-turn.disk) c.loop-turn.invariant.same) (c.in_ok-fault.ensures.fault told texts indexes) in
-    says_fault texts pages plans i stored c.in-Some.fault (plans_within turns i c.loop-turn-test.true) (plan_at turns i turn c.loop-turn-test.true c.turn-item.is) utf8 (c.loop-turn.invariant.sound told texts indexes) (subst O c.in-Some.is there)
+    let there = subst P (pages_on (g.D.Disk.disk c.args.disk.now) (g.D.Disk.disk c.loop-one.disk) c.loop-one.invariant.same) (c.in_ok-fault.ensures.fault told texts indexes) in
+    says_fault texts pages plans i stored c.in-Some.fault (plans_within ranked i c.loop-one-test.true) (plan_at ranked i one c.loop-one-test.true c.one-item.is) utf8 (c.loop-one.invariant.sound told texts indexes) (subst O c.in-Some.is there)
 
-pub loop-turn-preserved : goal.loop-turn-preserved
-loop-turn-preserved g c =
+pub loop-one-preserved : goal.loop-one-preserved
+loop-one-preserved g c =
     let pages = (g.D.Disk.disk c.args.disk.now).holds.pages in
-    let turns = c.args.turns.now in
-    let i = c.loop-turn.turn-index in
-    let turn = c.turn-item.result in
-    let stored = turn.stored.now in
-    let plans = map (λ t. t.stored.now) turns in
-    let within = plans_within turns i c.loop-turn-test.true in
-    let at = plan_at turns i turn c.loop-turn-test.true c.turn-item.is in
+    let ranked = c.args.ranked.now in
+    let i = c.loop-one.one-index in
+    let one = c.one-item.result in
+    let stored = one.stored.now in
+    let plans = map (λ t. t.stored.now) ranked in
+    let within = plans_within ranked i c.loop-one-test.true in
+    let at = plan_at ranked i one c.loop-one-test.true c.one-item.is in
     record {
-      only = g.met.D.Disk.only_joins _ _ _ c.loop-turn.invariant.only c.fault_of.ensures.only;
-      same = reads_join (g.D.Disk.disk c.args.disk.now) (g.D.Disk.disk c.loop-turn.disk) (g.D.Disk.disk c.fault_of.new.disk) c.loop-turn.invariant.same c.fault_of.ensures.same;
+      only = g.met.D.Disk.only_joins _ _ _ c.loop-one.invariant.only c.fault_of.ensures.only;
+      same = reads_join (g.D.Disk.disk c.args.disk.now) (g.D.Disk.disk c.loop-one.disk) (g.D.Disk.disk c.fault_of.new.disk) c.loop-one.invariant.same c.fault_of.ensures.same;
       sound = λ told texts indexes.
           let P : List ℕ → Type 0 = λ l. MatchOption c.in_ok-fault.field-0 (IsSound texts l stored.plan) (IsFaultOf texts l stored.plan) in
           let O : Option Verdict → Type 0 = λ o. MatchOption o (IsSound texts pages stored.plan) (IsFaultOf texts pages stored.plan) in
-          let there = subst P (pages_on (g.D.Disk.disk c.args.disk.now) (g.D.Disk.disk c.loop-turn.disk) c.loop-turn.invariant.same) (c.in_ok-fault.ensures.fault told texts indexes) in
+          let there = subst P (pages_on (g.D.Disk.disk c.args.disk.now) (g.D.Disk.disk c.loop-one.disk) c.loop-one.invariant.same) (c.in_ok-fault.ensures.fault told texts indexes) in
           let S : StoredPlan → Type 0 = λ s. IsSound texts pages s.plan in
-          All-more S plans i stored within (c.loop-turn.invariant.sound told texts indexes) (subst S at (subst O c.in_default.is there));
-      segments_are = segments_more plans i stored c.loop-turn.segments c.in_ok-segments.segments within at c.loop-turn.invariant.segments_are c.in_ok-segments.ensures.sum;
+          All-more S plans i stored within (c.loop-one.invariant.sound told texts indexes) (subst S at (subst O c.in_default.is there));
+      segments_are = segments_more plans i stored c.loop-one.segments c.in_ok-segments.segments within at c.loop-one.invariant.segments_are c.in_ok-segments.ensures.sum;
     }

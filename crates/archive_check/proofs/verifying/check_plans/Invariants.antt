@@ -7,10 +7,10 @@ use Rattle.archive_state.specs.declared.stored.StoredPlan.{StoredPlan}
 use Rattle.archive_check.specs.Verdicts.{IsSound}
 use Rattle.archive_check.proofs.verifying.check_plans.Given as goal
 
-abbrev pub invariant-loop-turn : goal.invariant-loop-turn
-invariant-loop-turn g l = record {
+abbrev pub invariant-loop-one : goal.invariant-loop-one
+invariant-loop-one g l = record {
   only : g.D.Disk.only l.fn.disk l.disk;
   same : OnlyReads (g.D.Disk.disk l.fn.disk) (g.D.Disk.disk l.disk);
-  sound : g.D.Disk.disk_tells → (texts : List (Change (List ℕ))) → Indexes (state_of l.index) texts → All (λ s. IsSound texts (g.D.Disk.disk l.fn.disk).holds.pages s.plan) (take l.turn-index (map (λ t. t.stored.now) l.turns));
-  segments_are : l.segments ≡ sum_by (λ (s : StoredPlan). length s.plan.cuts) (take l.turn-index (map (λ t. t.stored.now) l.turns));
+  sound : g.D.Disk.disk_tells → (texts : List (Change (List ℕ))) → Indexes (state_of l.index) texts → All (λ s. IsSound texts (g.D.Disk.disk l.fn.disk).holds.pages s.plan) (take l.one-index (map (λ t. t.stored.now) l.ranked));
+  segments_are : l.segments ≡ sum_by (λ (s : StoredPlan). length s.plan.cuts) (take l.one-index (map (λ t. t.stored.now) l.ranked));
 }

@@ -15,8 +15,8 @@ put_down-requires-clause-unkept g c =
     let U : SublistsState → Type 0 = λ s. All (λ k. IsTaken (extents places) k.page → ⊥) s.cache in
     subst U (sym c.sublists.ensures.value) (kept_apart shelf.pages (extents places) (extents_all shelf.plans) shelf.cache c.requires.taken c.sublists.ensures.lie)
 
-pub returns-in-Ok-clause-kept : goal.returns-in-Ok-clause-kept
-returns-in-Ok-clause-kept g c = λ tells h step held legal ready. c.in-Ok.ensures.kept tells h c.args.ready.stored.plan step held legal ready
+pub returns-in-Ok-clause-in_step : goal.returns-in-Ok-clause-in_step
+returns-in-Ok-clause-in_step g c = λ tells h step held legal ready. c.in-Ok.ensures.in_step tells h c.args.ready.stored.plan step held legal ready
 
 pub returns-in-Ok-clause-cached : goal.returns-in-Ok-clause-cached
 returns-in-Ok-clause-cached g c = λ tells cached.

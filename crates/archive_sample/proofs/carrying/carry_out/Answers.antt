@@ -8,32 +8,32 @@ use Rattle.archive_sample.specs.Carrying.{CarriesOut}
 use Rattle.archive_sample.proofs.CarryLemmas.{carries_out}
 use Rattle.archive_sample.proofs.carrying.carry_out.Goals as goal
 
-pub returns-in-Arrive-default-default-Bytes-clause-turn : goal.returns-in-Arrive-default-default-Bytes-clause-turn
-returns-in-Arrive-default-default-Bytes-clause-turn g c = λ tells h kept.
+pub returns-in-Arrive-default-default-Bytes-clause-outcome : goal.returns-in-Arrive-default-default-Bytes-clause-outcome
+returns-in-Arrive-default-default-Bytes-clause-outcome g c = λ tells h in_step.
     let doc = c.in-Arrive-default-default-Bytes.doc in
     let at = c.in-Arrive-default-default-Bytes.at in
     let is : c.args.command ≡ plain.Arrive doc at (texts.Bytes c.in-Arrive-default-default-Bytes.content) = cc in
     let C : Command → Type 0 = λ d. CarriesOut h d c.of_change.result (g.D.Disk.disk c.args.disk.now) (g.D.Disk.disk c.arrive.new.disk) c.arrive.new.self in
     let B : List ℕ → Type 0 = λ b. Takes h (items.Command (plain.Arrive doc at (texts.Bytes b))) (changed c.arrive.result) (g.D.Disk.disk c.args.disk.now) (g.D.Disk.disk c.arrive.new.disk) c.arrive.new.self in
     subst C (sym is) (carries_out h (plain.Arrive doc at (texts.Bytes c.in-Arrive-default-default-Bytes.content)) (changed c.arrive.result) c.of_change.result _ _ c.arrive.new.self
-    (subst B c.as_slice.ensures.value (c.arrive.ensures.takes tells h kept)) c.of_change.ensures.tells)
+    (subst B c.as_slice.ensures.value (c.arrive.ensures.takes tells h in_step)) c.of_change.ensures.tells)
 
-pub returns-in-Delete-clause-turn : goal.returns-in-Delete-clause-turn
-returns-in-Delete-clause-turn g c = λ tells h kept.
+pub returns-in-Delete-clause-outcome : goal.returns-in-Delete-clause-outcome
+returns-in-Delete-clause-outcome g c = λ tells h in_step.
     let C : Command → Type 0 = λ d. CarriesOut h d c.of_change-in-Delete.result (g.D.Disk.disk c.args.disk.now) (g.D.Disk.disk c.delete.new.disk) c.delete.new.self in
-    subst C (sym c.in-Delete.is) (carries_out h (plain.Delete c.in-Delete.doc c.in-Delete.at) (changed c.delete.result) c.of_change-in-Delete.result _ _ c.delete.new.self (c.delete.ensures.takes tells h kept) c.of_change-in-Delete.ensures.tells)
+    subst C (sym c.in-Delete.is) (carries_out h (plain.Delete c.in-Delete.doc c.in-Delete.at) (changed c.delete.result) c.of_change-in-Delete.result _ _ c.delete.new.self (c.delete.ensures.takes tells h in_step) c.of_change-in-Delete.ensures.tells)
 
-pub returns-in-Plan-clause-turn : goal.returns-in-Plan-clause-turn
-returns-in-Plan-clause-turn g c = λ tells h kept.
+pub returns-in-Plan-clause-outcome : goal.returns-in-Plan-clause-outcome
+returns-in-Plan-clause-outcome g c = λ tells h in_step.
     let C : Command → Type 0 = λ d. CarriesOut h d c.of_plan.result (g.D.Disk.disk c.args.disk.now) (g.D.Disk.disk c.plan.new.disk) c.plan.new.self in
-    subst C (sym c.in-Plan.is) (carries_out h (plain.Plan c.in-Plan.word c.in-Plan.kind c.in-Plan.fraction) (planned c.plan.result) c.of_plan.result _ _ c.plan.new.self (c.plan.ensures.takes tells h kept) c.of_plan.ensures.tells)
+    subst C (sym c.in-Plan.is) (carries_out h (plain.Plan c.in-Plan.word c.in-Plan.kind c.in-Plan.fraction) (planned c.plan.result) c.of_plan.result _ _ c.plan.new.self (c.plan.ensures.takes tells h in_step) c.of_plan.ensures.tells)
 
-pub returns-in-Find-clause-turn : goal.returns-in-Find-clause-turn
-returns-in-Find-clause-turn g c = λ tells h kept.
+pub returns-in-Find-clause-outcome : goal.returns-in-Find-clause-outcome
+returns-in-Find-clause-outcome g c = λ tells h in_step.
     let C : Command → Type 0 = λ d. CarriesOut h d c.of_question.result (g.D.Disk.disk c.args.disk.now) (g.D.Disk.disk c.find.new.disk) c.find.new.self in
-    subst C (sym c.in-Find.is) (carries_out h (plain.Find c.in-Find.at c.in-Find.expr) (found c.find.result) c.of_question.result _ _ c.find.new.self (c.find.ensures.takes tells h kept) c.of_question.ensures.tells)
+    subst C (sym c.in-Find.is) (carries_out h (plain.Find c.in-Find.at c.in-Find.expr) (found c.find.result) c.of_question.result _ _ c.find.new.self (c.find.ensures.takes tells h in_step) c.of_question.ensures.tells)
 
-pub returns-in-Verify-clause-turn : goal.returns-in-Verify-clause-turn
-returns-in-Verify-clause-turn g c = λ tells h kept.
+pub returns-in-Verify-clause-outcome : goal.returns-in-Verify-clause-outcome
+returns-in-Verify-clause-outcome g c = λ tells h in_step.
     let C : Command → Type 0 = λ d. CarriesOut h d c.of_check.result (g.D.Disk.disk c.args.disk.now) (g.D.Disk.disk c.verify.new.disk) c.args.archive.now in
-    subst C (sym c.in-Verify.is) (carries_out h plain.Verify (verified c.verify.result) c.of_check.result _ _ c.args.archive.now (c.verify.ensures.takes tells h kept) c.of_check.ensures.tells)
+    subst C (sym c.in-Verify.is) (carries_out h plain.Verify (verified c.verify.result) c.of_check.result _ _ c.args.archive.now (c.verify.ensures.takes tells h in_step) c.of_check.ensures.tells)

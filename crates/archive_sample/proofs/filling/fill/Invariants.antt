@@ -3,7 +3,8 @@ use Rattle.commands.specs.Documents.{HasDocument}
 use Rattle.commands.specs.declared.command.Item.TheVariants as items
 use Rattle.sample_commands.specs.Laws.{MayBeSampled}
 use Rattle.archive_state.specs.Histories.{History}
-use Rattle.archive_core.specs.States.{IsKept, Reaches}
+use Rattle.archive_state.specs.Worlds.{world_of}
+use Rattle.archive_core.specs.States.{AreInStep, Reaches}
 use Rattle.archive_sample.specs.Carrying.{ComesToCheck, Counts}
 use Rattle.archive_sample.proofs.filling.fill.Given as goal
 
@@ -15,8 +16,8 @@ invariant-commands g l = record {
   sampled : All MayBeSampled l.rest;
   documents : All HasDocument (map items.Command l.rest);
   comes : ComesToCheck l.rest l.last;
-  counts : g.D.Disk.disk_tells → (h : History) → IsKept (g.D.Disk.disk l.fn.disk) l.fn.archive h
-      → Counts h l.fn.sample l.rest l.tally l.last (g.D.Disk.disk l.fn.disk) (g.D.Disk.disk l.disk) l.archive;
+  counts : g.D.Disk.disk_tells → (h : History) → AreInStep (g.D.Disk.disk l.fn.disk) l.fn.archive h
+      → Counts (world_of h) l.fn.sample l.rest l.tally l.last (g.D.Disk.disk l.fn.disk) (g.D.Disk.disk l.disk) l.archive;
 }
 
 abbrev pub decreases-commands : goal.decreases-commands

@@ -1,6 +1,6 @@
 use Rattle.std.proofs.Common.{◌≡◌, List, ℕ, [], Ok, Err, ap, sym, subst, ◌∙◌}
 use Rattle.machine_model.specs.States.{DiskState, SinkState}
-use Rattle.archive_shell.specs.Turns.{Answers, CarriesOut}
+use Rattle.archive_shell.specs.Outcomes.{Answers, CarriesOut}
 use Rattle.archive_shell.specs.declared.stop.Stop.TheVariants.{Damaged, Sink}
 use Rattle.archive_shell.proofs.CauseLemmas.{left_beside}
 use Rattle.archive_shell.proofs.DamageLemmas.{halted_at, is_question}
@@ -11,12 +11,12 @@ use Rattle.archive_shell.proofs.carry_out.carry_out.Goals as goal
 pub returns-in-Err-clause-asked : goal.returns-in-Err-clause-asked
 returns-in-Err-clause-asked g c = g.met.M.Machine.disk_asks_nothing c.args.machine.now c.answer.new.disk c.answer.ensures.only
 
-pub returns-in-Err-clause-turn : goal.returns-in-Err-clause-turn
-returns-in-Err-clause-turn g c = λ disk_tells sink_tells h kept.
+pub returns-in-Err-clause-outcome : goal.returns-in-Err-clause-outcome
+returns-in-Err-clause-outcome g c = λ disk_tells sink_tells h in_step.
     let m = g.met.M.Machine in
     let alone = m.disk_alone c.args.machine.now c.answer.new.disk c.answer.ensures.only in
     let shown : (g.M.Sink.sink c.answer.new.disk).shown ≡ (g.M.Sink.sink c.args.machine.now).shown = ap (λ (s : SinkState). s.shown) alone.1 in
-    let cut = cut_short h c.args.item c.in-Err.halt c.from.result (g.M.Sink.sink c.args.machine.now).shown _ _ _ _ (c.in-Err.ensures.turn disk_tells h kept) c.from.ensures (m.beside_shown c.args.machine.now sink_tells disk_tells) in
+    let cut = cut_short h c.args.item c.in-Err.halt c.from.result (g.M.Sink.sink c.args.machine.now).shown _ _ _ _ (c.in-Err.ensures.outcome disk_tells h in_step) c.from.ensures (m.beside_shown c.args.machine.now sink_tells disk_tells) in
     let P : List ℕ → Type 0 = λ after. CarriesOut h c.args.item (Err c.from.result) (g.M.Sink.sink c.args.machine.now).shown after (g.M.Disk.disk c.args.machine.now) (g.M.Disk.disk c.answer.new.disk) c.answer.new.archive in
     subst P (sym shown) cut
 
@@ -25,8 +25,8 @@ returns-in-Ok-show-clause-asked g c =
     g.M.Machine.asked_joins c.args.machine.now c.answer.new.disk c.show.new.sink [] [] (g.met.M.Machine.disk_asks_nothing c.args.machine.now c.answer.new.disk c.answer.ensures.only)
     (g.met.M.Machine.sink_asks_nothing c.answer.new.disk c.show.new.sink c.show.ensures.only)
 
-pub returns-in-Ok-show-clause-turn : goal.returns-in-Ok-show-clause-turn
-returns-in-Ok-show-clause-turn g c = λ disk_tells sink_tells h kept.
+pub returns-in-Ok-show-clause-outcome : goal.returns-in-Ok-show-clause-outcome
+returns-in-Ok-show-clause-outcome g c = λ disk_tells sink_tells h in_step.
     let m = g.met.M.Machine in
     let mid = c.answer.new.disk in
     let alone = m.disk_alone c.args.machine.now mid c.answer.ensures.only in
@@ -35,7 +35,7 @@ returns-in-Ok-show-clause-turn g c = λ disk_tells sink_tells h kept.
     let out = carried_out h c.args.item (Ok tt) (g.M.Sink.sink mid).shown after
     (g.M.Disk.disk c.args.machine.now) (g.M.Disk.disk mid) (g.M.Disk.disk c.show.new.sink) c.answer.new.archive c.as_bytes.result.now
     (let A : List ℕ → Type 0 = λ page. Answers h c.args.item (Ok tt) (g.M.Disk.disk c.args.machine.now) (g.M.Disk.disk mid) c.answer.new.archive page in
-    subst A (sym c.as_bytes.ensures) (c.in-Ok.ensures.turn disk_tells h kept))
+    subst A (sym c.as_bytes.ensures) (c.in-Ok.ensures.outcome disk_tells h in_step))
     (m.beside_shown c.args.machine.now sink_tells disk_tells ∙ sym shown)
     (m.shows mid c.show.new.sink sink_tells disk_tells c.show.ensures.only) (m.sink_alone mid c.show.new.sink c.show.ensures.only).1
     (c.in-Ok-show.ensures.front sink_tells) (c.in-Ok-show.ensures.whole sink_tells) in
@@ -47,8 +47,8 @@ returns-in-Err-show-clause-asked g c =
     g.M.Machine.asked_joins c.args.machine.now c.answer.new.disk c.show.new.sink [] [] (g.met.M.Machine.disk_asks_nothing c.args.machine.now c.answer.new.disk c.answer.ensures.only)
     (g.met.M.Machine.sink_asks_nothing c.answer.new.disk c.show.new.sink c.show.ensures.only)
 
-pub returns-in-Err-show-clause-turn : goal.returns-in-Err-show-clause-turn
-returns-in-Err-show-clause-turn g c = λ disk_tells sink_tells h kept.
+pub returns-in-Err-show-clause-outcome : goal.returns-in-Err-show-clause-outcome
+returns-in-Err-show-clause-outcome g c = λ disk_tells sink_tells h in_step.
     let m = g.met.M.Machine in
     let mid = c.answer.new.disk in
     let alone = m.disk_alone c.args.machine.now mid c.answer.ensures.only in
@@ -57,7 +57,7 @@ returns-in-Err-show-clause-turn g c = λ disk_tells sink_tells h kept.
     let out = carried_out h c.args.item (Err Sink) (g.M.Sink.sink mid).shown after
     (g.M.Disk.disk c.args.machine.now) (g.M.Disk.disk mid) (g.M.Disk.disk c.show.new.sink) c.answer.new.archive c.as_bytes.result.now
     (let A : List ℕ → Type 0 = λ page. Answers h c.args.item (Ok tt) (g.M.Disk.disk c.args.machine.now) (g.M.Disk.disk mid) c.answer.new.archive page in
-    subst A (sym c.as_bytes.ensures) (c.in-Ok.ensures.turn disk_tells h kept))
+    subst A (sym c.as_bytes.ensures) (c.in-Ok.ensures.outcome disk_tells h in_step))
     (m.beside_shown c.args.machine.now sink_tells disk_tells ∙ sym shown)
     (m.shows mid c.show.new.sink sink_tells disk_tells c.show.ensures.only) (m.sink_alone mid c.show.new.sink c.show.ensures.only).1
     (c.in-Err-show.ensures.front sink_tells) (c.in-Err-show.ensures.short sink_tells) in

@@ -1,11 +1,12 @@
 use Rattle.std.proofs.Common.{◌≡◌, ◌⊎◌, ℕ, [], length, refl, inl, inr, subst}
 use Rattle.machine_model.proofs.MomentLemmas.{goes_on_same}
+use Rattle.machine_model.specs.States.{MachineState, state_by}
 use Rattle.program_words.specs.Words.{AreWords, texts}
 use Rattle.program_words.specs.declared.task.Task.{Task}
 use Rattle.program_words.specs.declared.task.Task.TheVariants as tasks
 use Rattle.sample_commands.proofs.LawLemmas.{documents}
 use Rattle.sublist_store.specs.declared.why.Damage.{Damage}
-use Rattle.archive_shell.specs.Headline.{Headline, MachineState}
+use Rattle.archive_shell.specs.Headline.{Headline}
 use Rattle.archive_shell.specs.Sampling.{EndsSample, Sampled}
 use Rattle.archive_shell.specs.declared.status.Status.{Status}
 use Rattle.archive_shell.specs.declared.status.Status.TheVariants.{Done, NotArchive, Disk, Damaged, NotEmpty, Memory}
@@ -16,7 +17,7 @@ use Rattle.archive_shell.proofs.program.run.Goals as goal
 pub returns-in-Err-clause-headline : goal.returns-in-Err-clause-headline
 returns-in-Err-clause-headline g c = λ source_tells sink_tells disk_tells are h stands.
     let m = c.args.machine.now in
-    let state : MachineState = record { source = g.M.Source.source m; sink = g.M.Sink.sink m; disk = g.M.Disk.disk m } in
+    let state : MachineState = state_by g.M.Source.source g.M.Sink.sink g.M.Disk.disk m in
     let P : Status → Type 0 = λ s. Headline h s state state [] in (
       [],
       g.met.M.Machine.disk_asks_nothing m m (g.met.M.Disk.only_same m),

@@ -9,38 +9,38 @@ use Rattle.archive_shell.proofs.SampleLemmas.{fill_undamaged, filled_to_error, f
 use Rattle.archive_shell.proofs.sampling.fill_and_show.Goals as goal
 
 pub returns-in-Err-clause-undamaged : goal.returns-in-Err-clause-undamaged
-returns-in-Err-clause-undamaged g c = λ disk_tells kept d is.
-    let filled = c.in-Err.ensures.filled disk_tells [] kept in
-    fill_undamaged filled.turns (g.M.Disk.disk c.fill.new.disk) c.fill.new.archive c.in-Err.error filled.ends d (sym c.from.ensures ∙ is)
+returns-in-Err-clause-undamaged g c = λ disk_tells in_step d is.
+    let filled = c.in-Err.ensures.filled disk_tells [] in_step in
+    fill_undamaged filled.outcomes (g.M.Disk.disk c.fill.new.disk) c.fill.new.archive c.in-Err.error filled.ends d (sym c.from.ensures ∙ is)
 
 pub returns-in-Err-clause-sampled : goal.returns-in-Err-clause-sampled
-returns-in-Err-clause-sampled g c = λ sink_tells disk_tells kept.
+returns-in-Err-clause-sampled g c = λ sink_tells disk_tells in_step.
     let m = c.args.machine.now in
     let mid = c.fill.new.disk in
     let alone = g.met.M.Machine.disk_alone m mid c.fill.ensures.only in
     let F : List Command → Type 0 = λ l. IsFilled [] l (Err c.in-Err.error) (g.M.Disk.disk m) (g.M.Disk.disk mid) c.fill.new.archive in
-    let filled = subst F c.new-sample.ensures (c.in-Err.ensures.filled disk_tells [] kept) in
+    let filled = subst F c.new-sample.ensures (c.in-Err.ensures.filled disk_tells [] in_step) in
     let S : Status → Type 0 = λ s. Sampled c.args.numbers.seed c.args.numbers.count s (g.M.Sink.sink m) (g.M.Sink.sink mid) (g.M.Disk.disk m) (g.M.Disk.disk mid) in
     subst S (sym c.from.ensures)
     (filled_to_error c.args.numbers.seed c.args.numbers.count c.in-Err.error (g.M.Sink.sink m) (g.M.Sink.sink mid) (g.M.Disk.disk m) (g.M.Disk.disk mid) c.fill.new.archive (g.met.M.Machine.beside_shown m sink_tells disk_tells) alone.1 filled)
 
 pub returns-in-Err-generated-clause-sampled : goal.returns-in-Err-generated-clause-sampled
-returns-in-Err-generated-clause-sampled g c = λ sink_tells disk_tells kept.
+returns-in-Err-generated-clause-sampled g c = λ sink_tells disk_tells in_step.
     let m = c.args.machine.now in
     let mid = c.fill.new.disk in
     let alone = g.met.M.Machine.disk_alone m mid c.fill.ensures.only in
     let F : List Command → Type 0 = λ l. IsFilled [] l (Ok c.in-Ok.report) (g.M.Disk.disk m) (g.M.Disk.disk mid) c.fill.new.archive in
-    let filled = subst F c.new-sample.ensures (c.in-Ok.ensures.filled disk_tells [] kept) in
+    let filled = subst F c.new-sample.ensures (c.in-Ok.ensures.filled disk_tells [] in_step) in
     filled_unshown c.args.numbers.seed c.args.numbers.count c.in-Ok.report (g.M.Sink.sink m) (g.M.Sink.sink mid) (g.M.Disk.disk m) (g.M.Disk.disk mid) c.fill.new.archive (g.met.M.Machine.beside_shown m sink_tells disk_tells) alone.1 filled
 
 pub returns-in-Ok-show-clause-sampled : goal.returns-in-Ok-show-clause-sampled
-returns-in-Ok-show-clause-sampled g c = λ sink_tells disk_tells kept.
+returns-in-Ok-show-clause-sampled g c = λ sink_tells disk_tells in_step.
     let m = c.args.machine.now in
     let mid = c.fill.new.disk in
     let last = c.show.new.sink in
     let alone = g.met.M.Machine.disk_alone m mid c.fill.ensures.only in
     let F : List Command → Type 0 = λ l. IsFilled [] l (Ok c.in-Ok.report) (g.M.Disk.disk m) (g.M.Disk.disk mid) c.fill.new.archive in
-    let filled = subst F c.new-sample.ensures (c.in-Ok.ensures.filled disk_tells [] kept) in
+    let filled = subst F c.new-sample.ensures (c.in-Ok.ensures.filled disk_tells [] in_step) in
     let S : SinkState → Type 0 = λ s. Sampled c.args.numbers.seed c.args.numbers.count Done s (g.M.Sink.sink last) (g.M.Disk.disk m) (g.M.Disk.disk last) in
     subst S alone.1
     (filled_shown c.args.numbers.seed c.args.numbers.count Done c.in-Ok.report (g.M.Sink.sink mid) (g.M.Sink.sink last) (g.M.Disk.disk m) (g.M.Disk.disk mid) (g.M.Disk.disk last) c.fill.new.archive c.as_bytes.result.now
@@ -49,13 +49,13 @@ returns-in-Ok-show-clause-sampled g c = λ sink_tells disk_tells kept.
     (c.in-Ok-show.ensures.front sink_tells) (λ is. c.in-Ok-show.ensures.whole sink_tells) (λ damage is. cc))
 
 pub returns-clause-sampled : goal.returns-clause-sampled
-returns-clause-sampled g c = λ sink_tells disk_tells kept.
+returns-clause-sampled g c = λ sink_tells disk_tells in_step.
     let m = c.args.machine.now in
     let mid = c.fill.new.disk in
     let last = c.show.new.sink in
     let alone = g.met.M.Machine.disk_alone m mid c.fill.ensures.only in
     let F : List Command → Type 0 = λ l. IsFilled [] l (Ok c.in-Ok.report) (g.M.Disk.disk m) (g.M.Disk.disk mid) c.fill.new.archive in
-    let filled = subst F c.new-sample.ensures (c.in-Ok.ensures.filled disk_tells [] kept) in
+    let filled = subst F c.new-sample.ensures (c.in-Ok.ensures.filled disk_tells [] in_step) in
     let S : SinkState → Type 0 = λ s. Sampled c.args.numbers.seed c.args.numbers.count Sink s (g.M.Sink.sink last) (g.M.Disk.disk m) (g.M.Disk.disk last) in
     subst S alone.1
     (filled_shown c.args.numbers.seed c.args.numbers.count Sink c.in-Ok.report (g.M.Sink.sink mid) (g.M.Sink.sink last) (g.M.Disk.disk m) (g.M.Disk.disk mid) (g.M.Disk.disk last) c.fill.new.archive c.as_bytes.result.now

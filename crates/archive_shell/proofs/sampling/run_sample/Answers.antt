@@ -7,7 +7,7 @@ use Rattle.sample_commands.proofs.LawLemmas.{documents}
 use Rattle.archive_state.specs.Histories.{History}
 use Rattle.archive_state.proofs.HistoryLemmas.{legal_loads}
 use Rattle.archive_state.proofs.StandsLemmas.{spells_one_history, stands_is_archive, not_archive_once}
-use Rattle.archive_core.proofs.AddLemmas.{kept_stands}
+use Rattle.archive_core.proofs.AddLemmas.{in_step_stands}
 use Rattle.archive_shell.specs.Sampling.{Sampled}
 use Rattle.archive_shell.specs.declared.status.Status.{Status}
 use Rattle.archive_shell.specs.declared.status.Status.TheVariants.{Done, NotArchive, Disk, Memory, NotEmpty}
@@ -115,7 +115,7 @@ returns-clause-undamaged g c = λ disk_tells d is.
     let found = c.in-Ok-load.ensures.found disk_tells in
     let none : length found.0 ≡ 0 = omega (arith, c.if-length-gt0.false, c.length-length.ensures, found.1.0.length_is) in
     let stands = empty_stands found.0 (g.M.Disk.disk c.args.machine.now).holds none found.1.1 in
-    c.fill_and_show.ensures.undamaged disk_tells (c.in-Ok-load.ensures.kept disk_tells [] stands) d is
+    c.fill_and_show.ensures.undamaged disk_tells (c.in-Ok-load.ensures.in_step disk_tells [] stands) d is
 
 pub returns-clause-occupied : goal.returns-clause-occupied
 returns-clause-occupied g c = λ disk_tells h spelled loads some.
@@ -137,11 +137,11 @@ returns-clause-sampled g c = λ sink_tells disk_tells stands.
     let n = c.load.new.disk in
     let last = c.fill_and_show.new.machine in
     let alone = g.met.M.Machine.disk_alone m n c.load.ensures.only in
-    let kept = c.in-Ok-load.ensures.kept disk_tells [] stands in
+    let in_step = c.in-Ok-load.ensures.in_step disk_tells [] stands in
     let S : SinkState → Type 0 = λ s. Sampled c.args.numbers.seed c.args.numbers.count c.fill_and_show.result s (g.M.Sink.sink last) (g.M.Disk.disk n) (g.M.Disk.disk last) in
     loaded_then c.args.numbers.seed c.args.numbers.count c.fill_and_show.result (g.M.Sink.sink m) (g.M.Sink.sink last) (g.M.Disk.disk m) (g.M.Disk.disk n) (g.M.Disk.disk last) (g.met.M.Machine.beside_shown m sink_tells disk_tells)
-    (g.met.M.Disk.only_goes_on m n disk_tells c.load.ensures.only) (λ each. c.in-Ok-load.ensures.crash disk_tells [] each) (kept_stands (g.M.Disk.disk n) c.in-Ok-load.archive [] kept)
-    (subst S alone.1 (c.fill_and_show.ensures.sampled sink_tells disk_tells kept))
+    (g.met.M.Disk.only_goes_on m n disk_tells c.load.ensures.only) (λ each. c.in-Ok-load.ensures.crash disk_tells [] each) (in_step_stands (g.M.Disk.disk n) c.in-Ok-load.archive [] in_step)
+    (subst S alone.1 (c.fill_and_show.ensures.sampled sink_tells disk_tells in_step))
 
 pub returns-clause-complete : goal.returns-clause-complete
 returns-clause-complete g c = λ disk_tells stands disk sink.
@@ -149,8 +149,8 @@ returns-clause-complete g c = λ disk_tells stands disk sink.
     let n = c.load.new.disk in
     let last = c.fill_and_show.new.machine in
     let alone = g.met.M.Machine.disk_alone m n c.load.ensures.only in
-    let kept = c.in-Ok-load.ensures.kept disk_tells [] stands in
+    let in_step = c.in-Ok-load.ensures.in_step disk_tells [] stands in
     let T : SinkState → Type 0 = λ s. Rose s.faults (g.M.Sink.sink last).faults in
     sample_completes c.fill_and_show.result c.fill_and_show.ensures.ends
     (λ is. disk (rose_earlier (g.M.Disk.disk m).faults (g.M.Disk.disk n).faults (g.M.Disk.disk last).faults (g.met.M.Disk.only_faults m n c.load.ensures.only) (c.fill_and_show.ensures.disk_fault is)))
-    (λ is. sink (subst T alone.1 (c.fill_and_show.ensures.sink_fault is))) (λ d is. c.fill_and_show.ensures.undamaged disk_tells kept d is)
+    (λ is. sink (subst T alone.1 (c.fill_and_show.ensures.sink_fault is))) (λ d is. c.fill_and_show.ensures.undamaged disk_tells in_step d is)

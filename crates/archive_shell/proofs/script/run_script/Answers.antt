@@ -2,8 +2,9 @@ use Rattle.std.proofs.Common.{◌≡◌, ◌⊎◌, ℕ, true, List, [], length,
 use Rattle.std.proofs.lemmas.Bool.{cases_lt}
 use Rattle.machine_model.specs.Calls.{Syncs}
 use Rattle.machine_model.specs.Causes.{Rose}
-use Rattle.machine_model.specs.States.{SourceState, SinkState}
+use Rattle.machine_model.specs.States.{SourceState, SinkState, state_by}
 use Rattle.archive_state.proofs.StandsLemmas.{stands_is_archive, not_archive_once}
+use Rattle.archive_state.specs.Worlds.{world_of}
 use Rattle.sublist_store.specs.declared.why.Damage.{Damage}
 use Rattle.archive_shell.specs.Headline.{Headline, EndsEarly}
 use Rattle.archive_shell.specs.Serving.{Ends}
@@ -29,7 +30,7 @@ returns-in-Err-clause-headline g c = λ source_tells sink_tells disk_tells h sta
     let m = c.args.machine.now in (
       [],
       g.met.M.Machine.disk_asks_nothing m m (g.met.M.Disk.only_same m),
-      not_begun h Memory (record { source = g.M.Source.source m; sink = g.M.Sink.sink m; disk = g.M.Disk.disk m }) (g.M.Sink.sink m) (g.M.Disk.disk m) (inr (inr (inl refl))) (λ damage is. cc) refl
+      not_begun h Memory (state_by g.M.Source.source g.M.Sink.sink g.M.Disk.disk m) (g.M.Sink.sink m) (g.M.Disk.disk m) (inr (inr (inl refl))) (λ damage is. cc) refl
           (g.met.M.Machine.beside_shown m sink_tells disk_tells) (λ each. keeps_still h (g.M.Disk.disk m) each),
     )
 
@@ -59,10 +60,10 @@ returns-in-Err-load-clause-headline g c = λ source_tells sink_tells disk_tells 
     let early = load_early c.in-Err-load.error (λ at is. stands_is_archive h (g.M.Disk.disk m).holds at stands (c.in-Err-load.ensures.not_archive disk_tells at (ap Err is))) in
     let E : Status → Type 0 = λ s. EndsEarly s in
     let U : Status → Type 0 = λ s. (damage : Damage) → s ≡ Damaged damage → ⊥ in
-    let S : SourceState → Type 0 = λ s. Headline h c.from.result (record { source = g.M.Source.source m; sink = g.M.Sink.sink m; disk = g.M.Disk.disk m }) (record { source = s; sink = g.M.Sink.sink n; disk = g.M.Disk.disk n }) [] in (
+    let S : SourceState → Type 0 = λ s. Headline h c.from.result (state_by g.M.Source.source g.M.Sink.sink g.M.Disk.disk m) (record { source = s; sink = g.M.Sink.sink n; disk = g.M.Disk.disk n }) [] in (
       [],
       g.met.M.Machine.disk_asks_nothing m n c.load.ensures.only,
-      subst S (sym alone.0) (not_begun h c.from.result (record { source = g.M.Source.source m; sink = g.M.Sink.sink m; disk = g.M.Disk.disk m }) (g.M.Sink.sink n) (g.M.Disk.disk n) (subst E (sym c.from.ensures) early) (subst U (sym c.from.ensures) (load_undamaged c.in-Err-load.error)) alone.1
+      subst S (sym alone.0) (not_begun h c.from.result (state_by g.M.Source.source g.M.Sink.sink g.M.Disk.disk m) (g.M.Sink.sink n) (g.M.Disk.disk n) (subst E (sym c.from.ensures) early) (subst U (sym c.from.ensures) (load_undamaged c.in-Err-load.error)) alone.1
           (g.met.M.Machine.beside_shown m sink_tells disk_tells) (λ each. c.in-Err-load.ensures.crash disk_tells h each)),
     )
 
@@ -94,12 +95,12 @@ returns-clause-not_archive g c = λ disk_tells at is. absurd (c.serve.ensures.ca
 pub returns-clause-damaged : goal.returns-clause-damaged
 returns-clause-damaged g c = λ disk_tells d is.
     let found = c.in-Ok-load.ensures.found disk_tells in
-    let (item, shown, pulled) = c.serve.ensures.damaged disk_tells found.0 found.1.0 (cached_first (g.M.Disk.disk c.load.new.disk) c.in-Ok-load.archive c.in-Ok-load.ensures.empty) d is in
+    let (item, spoiled, pulled) = c.serve.ensures.damaged disk_tells found.0 found.1.0 (cached_first (g.M.Disk.disk c.load.new.disk) c.in-Ok-load.archive c.in-Ok-load.ensures.empty) d is in
     let m = c.args.machine.now in
     let n = c.load.new.disk in
     let S : SourceState → Type 0 = λ s. IsPulled s (g.M.Source.source c.serve.new.machine) item in (
       item,
-      record { loaded = found.0; spelled = found.1.1; added = shown.0; shown = shown.1 },
+      record { loaded = found.0; spelled = found.1.1; added = spoiled.0; spoiled = spoiled.1 },
       λ source_tells. subst S (g.met.M.Machine.disk_alone m n c.load.ensures.only).0 (pulled source_tells (pulling_start (g.M.Source.source n) c.in-Ok.desk.reader c.in-Ok.ensures)),
     )
 
@@ -115,15 +116,15 @@ returns-clause-headline g c = λ source_tells sink_tells disk_tells h stands.
     let n = c.load.new.disk in
     let last = c.serve.new.machine in
     let alone = g.met.M.Machine.disk_alone m n c.load.ensures.only in
-    let served = c.serve.ensures.served source_tells sink_tells disk_tells h
-    (serving_start h (record { source = g.M.Source.source n; sink = g.M.Sink.sink n; disk = g.M.Disk.disk n }) c.in-Ok-load.archive c.in-Ok.desk.reader c.in-Ok.ensures (g.met.M.Machine.beside_shown n sink_tells disk_tells)
-    (c.in-Ok-load.ensures.kept disk_tells h stands)) in
-    let here = serves_of h c.serve.result (g.M.Source.source n) (g.M.Source.source m) (g.M.Sink.sink n) (g.M.Sink.sink m) (g.M.Disk.disk n)
-    (record { source = g.M.Source.source last; sink = g.M.Sink.sink last; disk = g.M.Disk.disk last }) served.0 alone.0 alone.1 served.2 in (
+    let served = c.serve.ensures.served source_tells sink_tells disk_tells (world_of h)
+    (serving_start h (state_by g.M.Source.source g.M.Sink.sink g.M.Disk.disk n) c.in-Ok-load.archive c.in-Ok.desk.reader c.in-Ok.ensures (g.met.M.Machine.beside_shown n sink_tells disk_tells)
+    (c.in-Ok-load.ensures.in_step disk_tells h stands)) in
+    let here = serves_of (world_of h) c.serve.result (g.M.Source.source n) (g.M.Source.source m) (g.M.Sink.sink n) (g.M.Sink.sink m) (g.M.Disk.disk n)
+    (state_by g.M.Source.source g.M.Sink.sink g.M.Disk.disk last) served.0 alone.0 alone.1 served.2 in (
       served.0,
       g.M.Machine.asked_joins m n last [] served.0 (g.met.M.Machine.disk_asks_nothing m n c.load.ensures.only) served.1,
-      whole_run h c.serve.result (record { source = g.M.Source.source m; sink = g.M.Sink.sink m; disk = g.M.Disk.disk m }) (g.M.Disk.disk n)
-          (record { source = g.M.Source.source last; sink = g.M.Sink.sink last; disk = g.M.Disk.disk last }) served.0
+      whole_run h c.serve.result (state_by g.M.Source.source g.M.Sink.sink g.M.Disk.disk m) (g.M.Disk.disk n)
+          (state_by g.M.Source.source g.M.Sink.sink g.M.Disk.disk last) served.0
           (g.met.M.Machine.beside_shown m sink_tells disk_tells) (λ each. c.in-Ok-load.ensures.crash disk_tells h each) here,
     )
 
@@ -150,7 +151,7 @@ returns-clause-questions g c = λ source_tells sink_tells disk_tells asked split
     let found = c.in-Ok-load.ensures.found disk_tells in
     let image = (g.M.Disk.disk n).holds in
     let ended = c.serve.ensures.asks source_tells sink_tells disk_tells found.0 image
-    (asking_start found.0 (record { source = g.M.Source.source n; sink = g.M.Sink.sink n; disk = g.M.Disk.disk n }) c.in-Ok-load.archive c.in-Ok.desk.reader c.in-Ok.ensures found.1.0 c.in-Ok-load.ensures.empty) in
+    (asking_start found.0 (state_by g.M.Source.source g.M.Sink.sink g.M.Disk.disk n) c.in-Ok-load.archive c.in-Ok.desk.reader c.in-Ok.ensures found.1.0 c.in-Ok-load.ensures.empty) in
     let has = ended.done is in
     let S : SourceState → Type 0 = λ s. Splits true s.left asked [] in
     let same : has.items ≡ asked = (one_split true (g.M.Source.source n).left has.items asked [] [] has.split (subst S (sym alone.0) split)).0 in
@@ -169,7 +170,7 @@ returns-clause-stopped g c = λ source_tells sink_tells disk_tells asked split a
     let found = c.in-Ok-load.ensures.found disk_tells in
     let image = (g.M.Disk.disk n).holds in
     let ended = c.serve.ensures.asks source_tells sink_tells disk_tells found.0 image
-    (asking_start found.0 (record { source = g.M.Source.source n; sink = g.M.Sink.sink n; disk = g.M.Disk.disk n }) c.in-Ok-load.archive c.in-Ok.desk.reader c.in-Ok.ensures found.1.0 c.in-Ok-load.ensures.empty) in
+    (asking_start found.0 (state_by g.M.Source.source g.M.Sink.sink g.M.Disk.disk n) c.in-Ok-load.archive c.in-Ok.desk.reader c.in-Ok.ensures found.1.0 c.in-Ok-load.ensures.empty) in
     let S : SourceState → Type 0 = λ s. Splits true s.left asked [] in
     let stopped = stopped_among found.0 image _ _ d asked (ended.damaged d is) (subst S (sym alone.0) split) all in
     let K : SinkState → Type 0 = λ s. AreMadeUpTo found.0 image asked d s.shown (g.M.Sink.sink last).shown in
@@ -184,7 +185,7 @@ returns-clause-reads g c = λ source_tells sink_tells disk_tells asked split all
     let found = c.in-Ok-load.ensures.found disk_tells in
     let image = (g.M.Disk.disk n).holds in
     let ended = c.serve.ensures.asks source_tells sink_tells disk_tells found.0 image
-    (asking_start found.0 (record { source = g.M.Source.source n; sink = g.M.Sink.sink n; disk = g.M.Disk.disk n }) c.in-Ok-load.archive c.in-Ok.desk.reader c.in-Ok.ensures found.1.0 c.in-Ok-load.ensures.empty) in
+    (asking_start found.0 (state_by g.M.Source.source g.M.Sink.sink g.M.Disk.disk n) c.in-Ok-load.archive c.in-Ok.desk.reader c.in-Ok.ensures found.1.0 c.in-Ok-load.ensures.empty) in
     let has = ended.done is in
     let S : SourceState → Type 0 = λ s. Splits true s.left asked [] in
     let same : has.items ≡ asked = (one_split true (g.M.Source.source n).left has.items asked [] [] has.split (subst S (sym alone.0) split)).0 in

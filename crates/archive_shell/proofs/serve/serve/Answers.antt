@@ -11,9 +11,9 @@ items-preserved g c =
       left = left_joins _ _ _ _ _ _ _ was.left now.left;
       asking = λ source_tells sink_tells disk_tells h image start. now.asks source_tells sink_tells disk_tells h image _ (was.asking source_tells sink_tells disk_tells h image start);
       pulling = λ source_tells start. now.pulls source_tells _ (was.pulling source_tells start);
-      serving = λ source_tells sink_tells disk_tells h start.
-          let so_far = was.serving source_tells sink_tells disk_tells h start in
-          let next = now.goes_on source_tells sink_tells disk_tells h _ so_far.0 so_far.2 in
+      serving = λ source_tells sink_tells disk_tells w start.
+          let so_far = was.serving source_tells sink_tells disk_tells w start in
+          let next = now.goes_on source_tells sink_tells disk_tells w _ so_far.0 so_far.2 in
           (so_far.0 ++ next.0, g.M.Machine.asked_joins _ _ _ so_far.0 next.0 so_far.1 next.1, next.2);
     }
 
@@ -27,9 +27,9 @@ pub returns-in-Err-clause-ends : goal.returns-in-Err-clause-ends
 returns-in-Err-clause-ends g c = λ source_tells start. c.in-Err.ensures.pulls source_tells _ (c.items.invariant.pulling source_tells start)
 
 pub returns-in-Err-clause-served : goal.returns-in-Err-clause-served
-returns-in-Err-clause-served g c = λ source_tells sink_tells disk_tells h start.
-    let so_far = c.items.invariant.serving source_tells sink_tells disk_tells h start in
-    let next = c.in-Err.ensures.goes_on source_tells sink_tells disk_tells h _ so_far.0 so_far.2 in
+returns-in-Err-clause-served g c = λ source_tells sink_tells disk_tells w start.
+    let so_far = c.items.invariant.serving source_tells sink_tells disk_tells w start in
+    let next = c.in-Err.ensures.goes_on source_tells sink_tells disk_tells w _ so_far.0 so_far.2 in
     (so_far.0 ++ next.0, g.M.Machine.asked_joins _ _ _ so_far.0 next.0 so_far.1 next.1, next.2)
 
 pub returns-in-Err-clause-asks : goal.returns-in-Err-clause-asks

@@ -1,7 +1,9 @@
 use Rattle.std.proofs.Common.{◌-◌, ◌^◌, List, []}
 use Rattle.machine_model.specs.Areas.{Bytes}
 use Rattle.machine_model.specs.Pulls.{Pull}
+use Rattle.machine_model.specs.States.{state_by}
 use Rattle.archive_state.specs.Histories.{History}
+use Rattle.archive_state.specs.Worlds.{World}
 use Rattle.archive_shell.specs.Asking.{Asking}
 use Rattle.archive_shell.specs.Causes.{IsLater, IsLeft}
 use Rattle.archive_shell.specs.Serving.{Pulling, Serving}
@@ -9,18 +11,18 @@ use Rattle.archive_shell.proofs.serve.serve.Given as goal
 
 abbrev pub invariant-items : goal.invariant-items
 invariant-items g l = record {
-  later : IsLater (record { source = g.M.Source.source l.fn.machine; sink = g.M.Sink.sink l.fn.machine; disk = g.M.Disk.disk l.fn.machine }) (record { source = g.M.Source.source l.machine; sink = g.M.Sink.sink l.machine; disk = g.M.Disk.disk l.machine });
+  later : IsLater (state_by g.M.Source.source g.M.Sink.sink g.M.Disk.disk l.fn.machine) (state_by g.M.Source.source g.M.Sink.sink g.M.Disk.disk l.machine);
   left : IsLeft g.M.Disk.disk_tells (g.M.Disk.disk l.fn.machine) (g.M.Disk.disk l.machine) l.fn.archive l.archive;
   asking : g.M.Source.source_tells → g.M.Sink.sink_tells → g.M.Disk.disk_tells → (h : History) (image : Bytes)
-      → Asking h image (record { source = g.M.Source.source l.fn.machine; sink = g.M.Sink.sink l.fn.machine; disk = g.M.Disk.disk l.fn.machine }) (record { source = g.M.Source.source l.fn.machine; sink = g.M.Sink.sink l.fn.machine; disk = g.M.Disk.disk l.fn.machine }) l.fn.archive l.fn.reader
-      → Asking h image (record { source = g.M.Source.source l.fn.machine; sink = g.M.Sink.sink l.fn.machine; disk = g.M.Disk.disk l.fn.machine }) (record { source = g.M.Source.source l.machine; sink = g.M.Sink.sink l.machine; disk = g.M.Disk.disk l.machine }) l.archive l.reader;
+      → Asking h image (state_by g.M.Source.source g.M.Sink.sink g.M.Disk.disk l.fn.machine) (state_by g.M.Source.source g.M.Sink.sink g.M.Disk.disk l.fn.machine) l.fn.archive l.fn.reader
+      → Asking h image (state_by g.M.Source.source g.M.Sink.sink g.M.Disk.disk l.fn.machine) (state_by g.M.Source.source g.M.Sink.sink g.M.Disk.disk l.machine) l.archive l.reader;
   pulling : g.M.Source.source_tells → Pulling (g.M.Source.source l.fn.machine) (g.M.Source.source l.fn.machine) l.fn.reader → Pulling (g.M.Source.source l.fn.machine) (g.M.Source.source l.machine) l.reader;
-  serving : g.M.Source.source_tells → g.M.Sink.sink_tells → g.M.Disk.disk_tells → (h : History)
-      → Serving h (record { source = g.M.Source.source l.fn.machine; sink = g.M.Sink.sink l.fn.machine; disk = g.M.Disk.disk l.fn.machine })
-      (record { source = g.M.Source.source l.fn.machine; sink = g.M.Sink.sink l.fn.machine; disk = g.M.Disk.disk l.fn.machine }) l.fn.archive l.fn.reader []
+  serving : g.M.Source.source_tells → g.M.Sink.sink_tells → g.M.Disk.disk_tells → (w : World)
+      → Serving w (state_by g.M.Source.source g.M.Sink.sink g.M.Disk.disk l.fn.machine)
+      (state_by g.M.Source.source g.M.Sink.sink g.M.Disk.disk l.fn.machine) l.fn.archive l.fn.reader []
       → (pulls : List Pull) × g.M.Machine.asked l.fn.machine pulls l.machine
-      × Serving h (record { source = g.M.Source.source l.fn.machine; sink = g.M.Sink.sink l.fn.machine; disk = g.M.Disk.disk l.fn.machine })
-      (record { source = g.M.Source.source l.machine; sink = g.M.Sink.sink l.machine; disk = g.M.Disk.disk l.machine }) l.archive l.reader pulls;
+      × Serving w (state_by g.M.Source.source g.M.Sink.sink g.M.Disk.disk l.fn.machine)
+      (state_by g.M.Source.source g.M.Sink.sink g.M.Disk.disk l.machine) l.archive l.reader pulls;
 }
 
 abbrev pub decreases-items : goal.decreases-items

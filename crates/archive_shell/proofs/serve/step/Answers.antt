@@ -58,11 +58,11 @@ returns-in-Err-carry_out-clause-pulls g c = λ tells began p.
     (record { more = says.0; gave = says.1 tells; calm = says.2; says = says.3; told = c.in-Ok.ensures.end tells p.told })))))
 
 pub returns-in-Err-clause-goes_on : goal.returns-in-Err-clause-goes_on
-returns-in-Err-clause-goes_on g c = λ source_tells sink_tells disk_tells h began before serving.
+returns-in-Err-clause-goes_on g c = λ source_tells sink_tells disk_tells w began before serving.
     let m = c.args.machine.now in
     let mid = c.next_item.new.source in
     let alone = g.met.M.Machine.source_alone m mid c.next_item.ensures.only in
-    let here = serving_along h began (g.M.Source.source m) (g.M.Sink.sink m) (g.M.Sink.sink mid) (g.M.Disk.disk m) (g.M.Disk.disk mid) c.args.archive.now c.args.reader.now before alone.0 alone.1 serving in
+    let here = serving_along w began (g.M.Source.source m) (g.M.Sink.sink m) (g.M.Sink.sink mid) (g.M.Disk.disk m) (g.M.Disk.disk mid) c.args.archive.now c.args.reader.now before alone.0 alone.1 serving in
     let p = here.pulling in
     let P : List (List ℕ) → Type 0 = λ lefts. g.M.Source.pulled m lefts mid in
     let made = c.in-Err.ensures.awaited p.since p.reads.stands in
@@ -72,17 +72,17 @@ returns-in-Err-clause-goes_on g c = λ source_tells sink_tells disk_tells h bega
     let A : List ℕ → Type 0 = λ shown. g.M.Machine.asked m (pulls_beside shown pulls.0) mid in (
       pulls_beside (g.M.Sink.sink mid).shown pulls.0,
       subst A (sym (ap (λ s. s.shown) alone.0)) (g.met.M.Machine.asked_by m mid pulls.0 pulls.1),
-      serves_as h (status_of_script c.in-Err.error) c.from.result began _ _ c.from.ensures
-          (ended_by h began (record { source = g.M.Source.source m; sink = g.M.Sink.sink mid; disk = g.M.Disk.disk mid }) c.args.archive.now c.args.reader.now c.next_item.new.self before c.in-Err.error (g.M.Source.source mid) pulls.0 here pulls.2
+      serves_as w (status_of_script c.in-Err.error) c.from.result began _ _ c.from.ensures
+          (ended_by w began (record { source = g.M.Source.source m; sink = g.M.Sink.sink mid; disk = g.M.Disk.disk mid }) c.args.archive.now c.args.reader.now c.next_item.new.self before c.in-Err.error (g.M.Source.source mid) pulls.0 here pulls.2
           (record { more = says.0; gave = says.1 source_tells; calm = says.2; says = says.3; told = c.in-Err.ensures.end source_tells p.told })),
     )
 
 pub returns-in_default-clause-goes_on : goal.returns-in_default-clause-goes_on
-returns-in_default-clause-goes_on g c = λ source_tells sink_tells disk_tells h began before serving.
+returns-in_default-clause-goes_on g c = λ source_tells sink_tells disk_tells w began before serving.
     let m = c.args.machine.now in
     let mid = c.next_item.new.source in
     let alone = g.met.M.Machine.source_alone m mid c.next_item.ensures.only in
-    let here = serving_along h began (g.M.Source.source m) (g.M.Sink.sink m) (g.M.Sink.sink mid) (g.M.Disk.disk m) (g.M.Disk.disk mid) c.args.archive.now c.args.reader.now before alone.0 alone.1 serving in
+    let here = serving_along w began (g.M.Source.source m) (g.M.Sink.sink m) (g.M.Sink.sink mid) (g.M.Disk.disk m) (g.M.Disk.disk mid) c.args.archive.now c.args.reader.now before alone.0 alone.1 serving in
     let p = here.pulling in
     let P : List (List ℕ) → Type 0 = λ lefts. g.M.Source.pulled m lefts mid in
     let made = c.in-Ok.ensures.awaited p.since p.reads.stands in
@@ -92,18 +92,18 @@ returns-in_default-clause-goes_on g c = λ source_tells sink_tells disk_tells h 
     let A : List ℕ → Type 0 = λ shown. g.M.Machine.asked m (pulls_beside shown pulls.0) mid in (
       pulls_beside (g.M.Sink.sink mid).shown pulls.0,
       subst A (sym (ap (λ s. s.shown) alone.0)) (g.met.M.Machine.asked_by m mid pulls.0 pulls.1),
-      ended_done h began (record { source = g.M.Source.source m; sink = g.M.Sink.sink mid; disk = g.M.Disk.disk mid }) c.args.archive.now c.args.reader.now c.next_item.new.self before (g.M.Source.source mid) pulls.0 here pulls.2
+      ended_done w began (record { source = g.M.Source.source m; sink = g.M.Sink.sink mid; disk = g.M.Disk.disk mid }) c.args.archive.now c.args.reader.now c.next_item.new.self before (g.M.Source.source mid) pulls.0 here pulls.2
           (gives_as c.args.reader.now c.next_item.new.self p.since (Ok c.in-Ok.item) (Ok None) (g.M.Source.source m) (g.M.Source.source mid) (ap Ok c.in_default.is)
           (record { more = says.0; gave = says.1 source_tells; calm = says.2; says = says.3; told = c.in-Ok.ensures.end source_tells p.told })),
     )
 
 pub returns-in-Ok-carry_out-clause-goes_on : goal.returns-in-Ok-carry_out-clause-goes_on
-returns-in-Ok-carry_out-clause-goes_on g c = λ source_tells sink_tells disk_tells h began before serving.
+returns-in-Ok-carry_out-clause-goes_on g c = λ source_tells sink_tells disk_tells w began before serving.
     let m = c.args.machine.now in
     let mid = c.next_item.new.source in
     let last = c.carry_out.new.machine in
     let alone = g.met.M.Machine.source_alone m mid c.next_item.ensures.only in
-    let here = serving_along h began (g.M.Source.source m) (g.M.Sink.sink m) (g.M.Sink.sink mid) (g.M.Disk.disk m) (g.M.Disk.disk mid) c.args.archive.now c.args.reader.now before alone.0 alone.1 serving in
+    let here = serving_along w began (g.M.Source.source m) (g.M.Sink.sink m) (g.M.Sink.sink mid) (g.M.Disk.disk m) (g.M.Disk.disk mid) c.args.archive.now c.args.reader.now before alone.0 alone.1 serving in
     let p = here.pulling in
     let P : List (List ℕ) → Type 0 = λ lefts. g.M.Source.pulled m lefts mid in
     let made = c.in-Ok.ensures.awaited p.since p.reads.stands in
@@ -113,23 +113,23 @@ returns-in-Ok-carry_out-clause-goes_on g c = λ source_tells sink_tells disk_tel
     let A : List ℕ → Type 0 = λ shown. g.M.Machine.asked m (pulls_beside shown pulls.0) mid in
     let asked : g.M.Machine.asked m (pulls_beside (g.M.Sink.sink mid).shown pulls.0) mid = subst A (sym (ap (λ s. s.shown) alone.0)) (g.met.M.Machine.asked_by m mid pulls.0 pulls.1) in
     let J : List Pull → Type 0 = λ l. g.M.Machine.asked m l last in
-    let S : SourceState → Type 0 = λ s. Serving h began (record { source = s; sink = g.M.Sink.sink last; disk = g.M.Disk.disk last }) c.carry_out.new.archive c.next_item.new.self (before ++ pulls_beside (g.M.Sink.sink mid).shown pulls.0) in (
+    let S : SourceState → Type 0 = λ s. Serving w began (record { source = s; sink = g.M.Sink.sink last; disk = g.M.Disk.disk last }) c.carry_out.new.archive c.next_item.new.self (before ++ pulls_beside (g.M.Sink.sink mid).shown pulls.0) in (
       pulls_beside (g.M.Sink.sink mid).shown pulls.0,
       subst J (append-nil (pulls_beside (g.M.Sink.sink mid).shown pulls.0)) (g.M.Machine.asked_joins m mid last (pulls_beside (g.M.Sink.sink mid).shown pulls.0) [] asked c.carry_out.ensures.asked),
       subst S (sym c.carry_out.ensures.source)
-          (serving_next h began (record { source = g.M.Source.source m; sink = g.M.Sink.sink mid; disk = g.M.Disk.disk mid }) (g.M.Sink.sink last) (g.M.Disk.disk last) c.args.archive.now c.carry_out.new.archive c.args.reader.now c.next_item.new.self before c.in-Some.item (g.M.Source.source mid) pulls.0 here pulls.2
+          (serving_next w began (record { source = g.M.Source.source m; sink = g.M.Sink.sink mid; disk = g.M.Disk.disk mid }) (g.M.Sink.sink last) (g.M.Disk.disk last) c.args.archive.now c.carry_out.new.archive c.args.reader.now c.next_item.new.self before c.in-Some.item (g.M.Source.source mid) pulls.0 here pulls.2
           (gives_as c.args.reader.now c.next_item.new.self p.since (Ok c.in-Ok.item) (Ok (Some c.in-Some.item)) (g.M.Source.source m) (g.M.Source.source mid) (ap Ok c.in-Some.is)
           (record { more = says.0; gave = says.1 source_tells; calm = says.2; says = says.3; told = c.in-Ok.ensures.end source_tells p.told }))
-          (c.in-Ok-carry_out.ensures.turn disk_tells sink_tells (last_state h here.turns) here.kept)),
+          (c.in-Ok-carry_out.ensures.outcome disk_tells sink_tells (last_state w here.outcomes).history here.in_step)),
     )
 
 pub returns-in-Err-carry_out-clause-goes_on : goal.returns-in-Err-carry_out-clause-goes_on
-returns-in-Err-carry_out-clause-goes_on g c = λ source_tells sink_tells disk_tells h began before serving.
+returns-in-Err-carry_out-clause-goes_on g c = λ source_tells sink_tells disk_tells w began before serving.
     let m = c.args.machine.now in
     let mid = c.next_item.new.source in
     let last = c.carry_out.new.machine in
     let alone = g.met.M.Machine.source_alone m mid c.next_item.ensures.only in
-    let here = serving_along h began (g.M.Source.source m) (g.M.Sink.sink m) (g.M.Sink.sink mid) (g.M.Disk.disk m) (g.M.Disk.disk mid) c.args.archive.now c.args.reader.now before alone.0 alone.1 serving in
+    let here = serving_along w began (g.M.Source.source m) (g.M.Sink.sink m) (g.M.Sink.sink mid) (g.M.Disk.disk m) (g.M.Disk.disk mid) c.args.archive.now c.args.reader.now before alone.0 alone.1 serving in
     let p = here.pulling in
     let P : List (List ℕ) → Type 0 = λ lefts. g.M.Source.pulled m lefts mid in
     let made = c.in-Ok.ensures.awaited p.since p.reads.stands in
@@ -139,14 +139,14 @@ returns-in-Err-carry_out-clause-goes_on g c = λ source_tells sink_tells disk_te
     let A : List ℕ → Type 0 = λ shown. g.M.Machine.asked m (pulls_beside shown pulls.0) mid in
     let asked : g.M.Machine.asked m (pulls_beside (g.M.Sink.sink mid).shown pulls.0) mid = subst A (sym (ap (λ s. s.shown) alone.0)) (g.met.M.Machine.asked_by m mid pulls.0 pulls.1) in
     let J : List Pull → Type 0 = λ l. g.M.Machine.asked m l last in
-    let S : SourceState → Type 0 = λ s. Serves h c.from-in-Err-carry_out.result began (record { source = s; sink = g.M.Sink.sink last; disk = g.M.Disk.disk last }) (before ++ pulls_beside (g.M.Sink.sink mid).shown pulls.0) in (
+    let S : SourceState → Type 0 = λ s. Serves w c.from-in-Err-carry_out.result began (record { source = s; sink = g.M.Sink.sink last; disk = g.M.Disk.disk last }) (before ++ pulls_beside (g.M.Sink.sink mid).shown pulls.0) in (
       pulls_beside (g.M.Sink.sink mid).shown pulls.0,
       subst J (append-nil (pulls_beside (g.M.Sink.sink mid).shown pulls.0)) (g.M.Machine.asked_joins m mid last (pulls_beside (g.M.Sink.sink mid).shown pulls.0) [] asked c.carry_out.ensures.asked),
-      subst S (sym c.carry_out.ensures.source) (serves_as h (status_of_stop c.in-Err-carry_out.stop) c.from-in-Err-carry_out.result began _ _ c.from-in-Err-carry_out.ensures
-          (stopped h began (record { source = g.M.Source.source m; sink = g.M.Sink.sink mid; disk = g.M.Disk.disk mid }) (g.M.Sink.sink last) (g.M.Disk.disk last) c.args.archive.now c.carry_out.new.archive c.args.reader.now c.next_item.new.self before c.in-Some.item c.in-Err-carry_out.stop (g.M.Source.source mid) pulls.0 here pulls.2
+      subst S (sym c.carry_out.ensures.source) (serves_as w (status_of_stop c.in-Err-carry_out.stop) c.from-in-Err-carry_out.result began _ _ c.from-in-Err-carry_out.ensures
+          (stopped w began (record { source = g.M.Source.source m; sink = g.M.Sink.sink mid; disk = g.M.Disk.disk mid }) (g.M.Sink.sink last) (g.M.Disk.disk last) c.args.archive.now c.carry_out.new.archive c.args.reader.now c.next_item.new.self before c.in-Some.item c.in-Err-carry_out.stop (g.M.Source.source mid) pulls.0 here pulls.2
           (gives_as c.args.reader.now c.next_item.new.self p.since (Ok c.in-Ok.item) (Ok (Some c.in-Some.item)) (g.M.Source.source m) (g.M.Source.source mid) (ap Ok c.in-Some.is)
           (record { more = says.0; gave = says.1 source_tells; calm = says.2; says = says.3; told = c.in-Ok.ensures.end source_tells p.told }))
-          (c.in-Err-carry_out.ensures.turn disk_tells sink_tells (last_state h here.turns) here.kept))),
+          (c.in-Err-carry_out.ensures.outcome disk_tells sink_tells (last_state w here.outcomes).history here.in_step))),
     )
 
 pub returns-in-Err-clause-asks : goal.returns-in-Err-clause-asks

@@ -19,11 +19,11 @@ returns-in-Ok-clause-adds g c = λ h entry refusal stands prepared.
     adds_entry c.commit.result c.args.self.now c.commit.new.self h entry refusal c.in-Ok.prepared.change c.in-Ok.prepared.body.items c.in-Ok.prepared.words stands is.0 is.1 is.2 c.commit.ensures.refused c.commit.ensures.allowed c.commit.ensures.more
 
 pub returns-in-Ok-clause-leads : goal.returns-in-Ok-clause-leads
-returns-in-Ok-clause-leads g c = λ tells h entry refusal kept prepared.
+returns-in-Ok-clause-leads g c = λ tells h entry refusal in_step prepared.
     let P : Result Prepared Unprepared → Type 0 = λ p. IsPrepared h c.args.self.now.index entry refusal p in
     let is = subst P c.in-Ok.is prepared in
-    leads_entry c.commit.result c.args.self.now c.commit.new.self _ _ h entry c.in-Ok.prepared.change c.in-Ok.prepared.body.items c.in-Ok.prepared.words kept is.0 is.1 c.commit.ensures.more (c.commit.ensures.crash tells _ kept.in_step) (c.commit.ensures.pages tells) (c.commit.ensures.in_step tells _ kept.in_step)
-    (λ ok. c.commit.ensures.cached tells kept.cached (inl ok))
+    leads_entry c.commit.result c.args.self.now c.commit.new.self _ _ h entry c.in-Ok.prepared.change c.in-Ok.prepared.body.items c.in-Ok.prepared.words in_step is.0 is.1 c.commit.ensures.more (c.commit.ensures.crash tells _ in_step.journal) (c.commit.ensures.pages tells) (c.commit.ensures.in_step tells _ in_step.journal)
+    (λ ok. c.commit.ensures.cached tells in_step.cached (inl ok))
 
 pub returns-in-Err-clause-adds : goal.returns-in-Err-clause-adds
 returns-in-Err-clause-adds g c = λ h entry refusal stands prepared.
@@ -31,8 +31,8 @@ returns-in-Err-clause-adds g c = λ h entry refusal stands prepared.
     adds_none c.in-Err.why c.give_up.result c.args.self.now c.give_up.new.self h entry refusal (subst P c.in-Err.is prepared) c.give_up.ensures
 
 pub returns-in-Err-clause-leads : goal.returns-in-Err-clause-leads
-returns-in-Err-clause-leads g c = λ tells h entry refusal kept prepared.
-    (leads_nowhere _ c.args.self.now h _ kept, gives_no_ok _ c.in-Err.why c.give_up.result c.args.self.now c.give_up.new.self c.give_up.ensures)
+returns-in-Err-clause-leads g c = λ tells h entry refusal in_step prepared.
+    (leads_nowhere _ c.args.self.now h _ in_step, gives_no_ok _ c.in-Err.why c.give_up.result c.args.self.now c.give_up.new.self c.give_up.ensures)
 
 pub returns-in-Err-clause-pages : goal.returns-in-Err-clause-pages
 returns-in-Err-clause-pages g c = λ tells. pages_nowhere _

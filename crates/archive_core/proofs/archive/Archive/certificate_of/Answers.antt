@@ -19,10 +19,10 @@ pub returns-clause-refused : goal.returns-clause-refused
 returns-clause-refused c = λ h stands why e.
     let I : IndexState → Type 0 = λ i. Indexes i (changes h) in
     let known = known_is h c.in-Some.key ((c.knows.ensures (λ word. 0) (changes h) (subst I (sym c.index.ensures) stands.index_is)).0 c.if-not-knows.false) in
-    live_certifies h c.args.word.now c.in-Some.key (Refused why) (ap one_term (sym c.as_str.ensures.value) ∙ sym c.in_ok-key.ensures ∙ c.in-Some.is) known (c.shown_of.ensures.refused h stands why e)
+    live_certifies h c.args.word.now c.in-Some.key (Refused why) (ap one_term (sym c.as_str.ensures.value) ∙ sym c.in_ok-key.ensures ∙ c.in-Some.is) known (c.certificate_of_word.ensures.refused h stands why e)
 
-pub returns-clause-shows : goal.returns-clause-shows
-returns-clause-shows c = λ h stands legal.
+pub returns-clause-certifies : goal.returns-clause-certifies
+returns-clause-certifies c = λ h stands legal.
     let I : IndexState → Type 0 = λ i. Indexes i (changes h) in
     let known = known_is h c.in-Some.key ((c.knows.ensures (λ word. 0) (changes h) (subst I (sym c.index.ensures) stands.index_is)).0 c.if-not-knows.false) in
-    ok_certifies h c.args.word.now c.in-Some.key c.shown_of.result (ap one_term (sym c.as_str.ensures.value) ∙ sym c.in_ok-key.ensures ∙ c.in-Some.is) known (c.shown_of.ensures.shows h stands legal)
+    ok_certifies h c.args.word.now c.in-Some.key c.certificate_of_word.result (ap one_term (sym c.as_str.ensures.value) ∙ sym c.in_ok-key.ensures ∙ c.in-Some.is) known (c.certificate_of_word.ensures.certifies h stands legal)

@@ -6,7 +6,7 @@ use Rattle.version_index.specs.Indexes.{IndexState, Indexes, state_of}
 use Rattle.archive_state.specs.Histories.{changes}
 use Rattle.archive_state.specs.Steps.{deletion_refusal}
 use Rattle.archive_core.specs.After.{AfterChange}
-use Rattle.archive_core.specs.States.{ArchiveState, StandsFor, IsKept}
+use Rattle.archive_core.specs.States.{ArchiveState, StandsFor, AreInStep}
 use Rattle.archive_replay.specs.Entries.{IsPrepared}
 use Rattle.archive_core.proofs.TakeLemmas.{adds_follow, takes_entry}
 use Rattle.archive_core.proofs.archive.Archive.delete.Goals as goal
@@ -36,17 +36,17 @@ returns-clause-adds g c = λ h stands.
     c.add.ensures.adds h (entries.Delete c.args.doc c.args.at) (deletion_refusal h c.args.doc c.args.at) before (subst P (sym same) (c.prepare_deletion-prepared.ensures.prepared h before.changes_are (subst I same before.index_is)))
 
 pub returns-clause-takes : goal.returns-clause-takes
-returns-clause-takes g c = λ tells h kept.
+returns-clause-takes g c = λ tells h in_step.
     let A : IndexState → ArchiveState = λ i. record { end = c.self.inside.journal.end; live = c.self.inside.live; length = c.self.inside.entries; changes = c.self.inside.directory.changes; index = i; shelf = c.self.inside.shelf } in
     let same = c.prepare_deletion-prepared.ensures.same in
     let here : A (state_of c.prepare_deletion-prepared.new.index) ≡ c.args.self.now = ap A same ∙ c.self.view_is in
-    let K : ArchiveState → Type 0 = λ a. IsKept (g.D.Disk.disk c.args.disk.now) a h in
+    let K : ArchiveState → Type 0 = λ a. AreInStep (g.D.Disk.disk c.args.disk.now) a h in
     let I : IndexState → Type 0 = λ i. Indexes i (changes h) in
     let P : IndexState → Type 0 = λ i. IsPrepared h i (entries.Delete c.args.doc c.args.at) (deletion_refusal h c.args.doc c.args.at) c.prepare_deletion-prepared.result in
-    let before = subst K (sym here) kept in
+    let before = subst K (sym here) in_step in
     let prepared = subst P (sym same) (c.prepare_deletion-prepared.ensures.prepared h before.stands.changes_are (subst I same before.stands.index_is)) in
     takes_entry h (items.Command (commands.Delete c.args.doc c.args.at)) (entries.Delete c.args.doc c.args.at) (deletion_refusal h c.args.doc c.args.at) c.add.result _ _ c.args.self.now c.add.new.self
-    (λ reply next adds. adds) kept (c.add.ensures.adds h (entries.Delete c.args.doc c.args.at) (deletion_refusal h c.args.doc c.args.at) before.stands prepared)
+    (λ reply next adds. adds) in_step (c.add.ensures.adds h (entries.Delete c.args.doc c.args.at) (deletion_refusal h c.args.doc c.args.at) before.stands prepared)
     (λ why is. (let still = c.add.ensures.after.same why is in (still.0 ∙ here, ap g.D.Disk.disk still.1))) (λ is. ap g.D.Disk.disk (c.add.ensures.after.memory is))
     (c.add.ensures.leads tells h (entries.Delete c.args.doc c.args.at) (deletion_refusal h c.args.doc c.args.at) before prepared)
 

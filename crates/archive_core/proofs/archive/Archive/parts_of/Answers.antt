@@ -16,7 +16,7 @@ returns-in_err-part-clause-damaged g c = λ tells h stands cached d is.
     let first = g.D.Disk.disk c.args.disk.now in
     let pages : (g.D.Disk.disk c.loop-word.disk).holds.pages ≡ first.holds.pages = ap (λ (x : DiskState). x.holds.pages) was.same in
     let P : List ℕ → Type 0 = λ ps. IsDamagedFor h ps c.word-item.result c.args.span.from c.args.span.to d in
-    let here = c.in_err-part.ensures.damaged tells h (stands_but_cache c.args.self.now c.loop-word.self h was.kept stands) (was.cached tells cached) d
+    let here = c.in_err-part.ensures.damaged tells h (stands_but_cache c.args.self.now c.loop-word.self h was.but_cache stands) (was.cached tells cached) d
     (ap (λ (e : AskError). Err e) (handed_on c.from_residual.result c.in_err-part.field-0.0 d c.from_residual.ensures.1 is)) in
     let index = c.loop-word.word-index in
     let words = c.args.words.now in
@@ -28,7 +28,7 @@ returns-in_err-part-clause-damaged g c = λ tells h stands cached d is.
       words_are = sym (take-append-drop (index + 1) words) ∙ ap (λ (l : List (List ℕ)). l ++ drop (index + 1) words) next ∙ append_assoc (take index words) (c.word-item.result ∷ []) (drop (index + 1) words);
       parts = c.loop-word.parts.items;
       are_chosen = was.chosen tells h stands cached;
-      shown = subst P pages here;
+      damaged = subst P pages here;
     }
 
 pub returns-in_err-part-clause-cached : goal.returns-in_err-part-clause-cached
@@ -55,20 +55,20 @@ loop-word-preserved g c =
     record {
       only = g.met.D.Disk.only_joins _ _ _ was.only done.only;
       same = reads_join first before after was.same done.same;
-      kept = but_cache_joins c.args.self.now c.loop-word.self c.part_of.new.self was.kept done.kept;
+      but_cache = but_cache_joins c.args.self.now c.loop-word.self c.part_of.new.self was.but_cache done.but_cache;
       cached = λ tells cached. done.cached tells (was.cached tells cached);
-      within = reaches_on before after c.loop-word.self c.part_of.new.self done.same done.kept was.within;
+      within = reaches_on before after c.loop-word.self c.part_of.new.self done.same done.but_cache was.within;
       many = omega (arith, ap length put, length_push c.loop-word.parts.items part, was.many);
       chosen = λ tells h stands cached.
           let K : List ℕ → Type 0 = λ ps. IsChosenOf h ps word (plan_of h word) a b part.list.items part.read in
-          let here = subst K pages (done.chosen tells h (stands_but_cache c.args.self.now c.loop-word.self h was.kept stands) (was.cached tells cached)) in
+          let here = subst K pages (done.chosen tells h (stands_but_cache c.args.self.now c.loop-word.self h was.but_cache stands) (was.cached tells cached)) in
           let more = chosen_more a b h first.holds.pages words c.loop-word.parts.items word part (was.chosen tells h stands cached) here in
           let P : List Part → Type 0 = λ l. AreChosen h first.holds.pages a b (take (c.loop-word.word-index + 1) c.args.words.now) l in
           let W : List (List ℕ) → Type 0 = λ l. AreChosen h first.holds.pages a b l (c.loop-word.parts.items ++ part ∷ []) in
           subst P (sym put) (subst W (sym next) more);
       asked = λ tells h stands cached.
           let K : List ℕ → Type 0 = λ ps. HasAsked (pieces_chosen ps (plan_of h word) a b) c.loop-word.self.shelf.cache c.part_of.new.self.shelf.cache before after in
-          let here = subst K pages (done.asked tells h (stands_but_cache c.args.self.now c.loop-word.self h was.kept stands) (was.cached tells cached)) in
+          let here = subst K pages (done.asked tells h (stands_but_cache c.args.self.now c.loop-word.self h was.but_cache stands) (was.cached tells cached)) in
           asked_joins (pieces_for h first.holds.pages a b words) (pieces_chosen first.holds.pages (plan_of h word) a b) (pieces_for h first.holds.pages a b (take (c.loop-word.word-index + 1) c.args.words.now))
           c.args.self.now.shelf.cache c.loop-word.self.shelf.cache c.part_of.new.self.shelf.cache first before after (was.asked tells h stands cached) here
           (ap (pieces_for h first.holds.pages a b) next ∙ pieces_more h first.holds.pages a b words word);

@@ -10,7 +10,7 @@ abbrev pub invariant-loop-word : goal.invariant-loop-word
 invariant-loop-word g l = record {
   only : g.D.Disk.only l.fn.disk l.disk;
   same : OnlyReads (g.D.Disk.disk l.fn.disk) (g.D.Disk.disk l.disk);
-  kept : IsSameButCache l.fn.self l.self;
+  but_cache : IsSameButCache l.fn.self l.self;
   cached : g.D.Disk.disk_tells → CacheStands (g.D.Disk.disk l.fn.disk) l.fn.self → CacheStands (g.D.Disk.disk l.disk) l.self;
   within : Reaches (g.D.Disk.disk l.disk).reach l.self;
   many : length l.parts.items ≡ l.word-index;

@@ -33,24 +33,24 @@ returns-in-Ok-clause-stores g c = λ h stands.
     go h (Err e) plans stores = tt
 
 pub returns-in-Ok-clause-takes : goal.returns-in-Ok-clause-takes
-returns-in-Ok-clause-takes g c = λ tells h kept.
+returns-in-Ok-clause-takes g c = λ tells h in_step.
     let ens = c.in-Ok.ensures in
-    let stands = kept.stands in
-    takes_plan h c.args.word.now c.args.kind c.args.factor c.store.result _ _ c.args.self.now c.store.new.self kept
+    let stands = in_step.stands in
+    takes_plan h c.args.word.now c.args.kind c.args.factor c.store.result _ _ c.args.self.now c.store.new.self in_step
     (λ why is.
     let full = c.store.ensures.refused h stands why is in
     (plans_full h c.args.word.now c.args.kind c.args.factor c.in-Ok.draft c.args.self.now.end why ens.term (ens.known h stands) ens.kind ens.factor (ens.drafted h stands) stands.end_is full.0, full.1))
     (λ why is. ap g.D.Disk.disk (c.store.ensures.same why is)) (λ is. ap g.D.Disk.disk (c.store.ensures.memory is))
     (λ is.
-    let (plan, (stored, leads, then)) = c.store.ensures.leads tells h kept is in
+    let (plan, (stored, leads, then)) = c.store.ensures.leads tells h in_step is in
     record {
       told = tells_of c.in-Ok.draft (length h + 1);
       next = h ++ entries.Planned plan ∷ [];
       plans = plans_stored h c.args.word.now c.args.kind c.args.factor c.in-Ok.draft plan ens.term (ens.known h stands) ens.kind ens.factor (ens.drafted h stands) stored;
       leads = leads;
-      kept = then;
+      in_step = then;
     })
-    (c.store.ensures.cached tells kept.cached)
+    (c.store.ensures.cached tells in_step.cached)
 
 pub returns-in-Err-clause-refused : goal.returns-in-Err-clause-refused
 returns-in-Err-clause-refused g c = λ h stands why is.
@@ -68,11 +68,11 @@ returns-in-Err-clause-after g c = record {
 }
 
 pub returns-in-Err-clause-takes : goal.returns-in-Err-clause-takes
-returns-in-Err-clause-takes g c = λ tells h kept.
-    takes_plan h c.args.word.now c.args.kind c.args.factor c.not_drafted.result _ _ c.args.self.now c.not_drafted.new.self kept
-    (λ why is. plans_refused h c.args.word.now c.args.kind c.args.factor c.in-Err.why c.not_drafted.result c.args.self.now c.not_drafted.new.self why c.not_drafted.ensures (c.in-Err.ensures.refused h kept.stands) kept.stands is)
+returns-in-Err-clause-takes g c = λ tells h in_step.
+    takes_plan h c.args.word.now c.args.kind c.args.factor c.not_drafted.result _ _ c.args.self.now c.not_drafted.new.self in_step
+    (λ why is. plans_refused h c.args.word.now c.args.kind c.args.factor c.in-Err.why c.not_drafted.result c.args.self.now c.not_drafted.new.self why c.not_drafted.ensures (c.in-Err.ensures.refused h in_step.stands) in_step.stands is)
     (λ why is. refl) (λ is. refl) (λ is. drafted_never _ c.in-Err.why c.not_drafted.result c.args.self.now c.not_drafted.new.self c.not_drafted.ensures is)
-    ((returns-in-Err-clause-after g c).cached tells kept.cached)
+    ((returns-in-Err-clause-after g c).cached tells in_step.cached)
 
 pub returns-in-Ok-clause-follows : goal.returns-in-Ok-clause-follows
 returns-in-Ok-clause-follows g c = λ h stands.

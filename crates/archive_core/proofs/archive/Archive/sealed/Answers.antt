@@ -1,7 +1,7 @@
 use Rattle.std.proofs.Common.{◌≡◌, List, ℕ, Option, Some, ap, sym, subst, ◌∙◌}
 use Rattle.fold_tokens.specs.Terms.{one_term}
 use Rattle.archive_state.specs.Planning.{OfPhrase}
-use Rattle.archive_core.proofs.DraftLemmas.{spelled_same, term_kept}
+use Rattle.archive_core.proofs.DraftLemmas.{spelled_same, term_spelled}
 use Rattle.archive_core.proofs.archive.Archive.sealed.Goals as goal
 
 pub returns-clause-refused : goal.returns-clause-refused
@@ -11,7 +11,7 @@ returns-clause-refused c = λ kind h stands why e.
 
 pub returns-clause-term : goal.returns-clause-term
 returns-clause-term c =
-    term_kept (λ s. s.word) (one_term c.args.word.now) c.in-Some.key c.sealed_list.result (ap one_term (sym c.as_str.ensures.value) ∙ sym c.in_ok-key.ensures ∙ c.in-Some.is) c.key_fits.ensures.2 c.sealed_list.ensures.word
+    term_spelled (λ s. s.word) (one_term c.args.word.now) c.in-Some.key c.sealed_list.result (ap one_term (sym c.as_str.ensures.value) ∙ sym c.in_ok-key.ensures ∙ c.in-Some.is) c.key_fits.ensures.2 c.sealed_list.ensures.word
 
 pub returns-clause-spelled : goal.returns-clause-spelled
 returns-clause-spelled c = λ why e.

@@ -8,7 +8,7 @@ use Rattle.archive_state.specs.declared.stored.StoredPlan.{StoredPlan}
 use Rattle.archive_state.specs.Plans.{with_plan, live_extents}
 use Rattle.archive_state.proofs.HistoryLemmas.{legal-push}
 use Rattle.archive_core.specs.Adding.{HasSameShelf}
-use Rattle.archive_core.specs.States.{ArchiveState, StandsFor, IsKept, Reaches}
+use Rattle.archive_core.specs.States.{ArchiveState, StandsFor, AreInStep, Reaches}
 use Rattle.plan_shelf.specs.Shelves.{extents_all}
 use Rattle.plan_shelf.specs.Readying.{IsFull, tells_of}
 use Rattle.plan_shelf.specs.Readying.{summary_of}
@@ -80,24 +80,24 @@ returns-in-Ok-write_ready-clause-cached g c = λ tells cached is.
 pub returns-in-Ok-write_ready-clause-leads : goal.returns-in-Ok-write_ready-clause-leads
 returns-in-Ok-write_ready-clause-leads g c = λ tells h now is.
     let a : ArchiveState = record { end = c.self.inside.journal.end; live = c.self.inside.live; length = c.self.inside.entries; changes = c.self.inside.directory.changes; index = state_of c.self.inside.index; shelf = c.self.inside.shelf } in
-    let kept = subst (λ (s : ArchiveState). IsKept (g.D.Disk.disk c.args.disk.now) s h) (sym c.self.view_is) now in
-    let stands = kept.stands in
+    let in_step = subst (λ (s : ArchiveState). AreInStep (g.D.Disk.disk c.args.disk.now) s h) (sym c.self.view_is) now in
+    let stands = in_step.stands in
     let r = c.in-Ok.ready in
     let ready = c.in-Ok.ensures.ready in
     let draft = c.requires.drafted h now.stands in
     let storable = ready_storable h c.args.draft c.end.result c.self.inside.entries r c.make_ready.new.shelf.pages draft ready (c.in-Ok.ensures.taken _ stands.pages_are) in
-    let then = c.in-Ok-write_ready.ensures.kept tells h kept.in_step kept.held kept.legal storable in (
+    let then = c.in-Ok-write_ready.ensures.in_step tells h in_step.journal in_step.held in_step.legal storable in (
       r.stored.plan,
       (
         ready_stored h c.args.draft c.end.result c.self.inside.entries r (c.end.ensures.end ∙ stands.end_is) ready (c.in-Ok.ensures.placed _ stands.pages_are),
-        c.in-Ok-write_ready.ensures.crash tells h kept.in_step kept.held kept.legal storable,
+        c.in-Ok-write_ready.ensures.crash tells h in_step.journal in_step.held in_step.legal storable,
         (
           ap summary_of c.in-Ok-write_ready.ensures.report ∙ ready.told ∙ ap (λ (n : ℕ). tells_of c.args.draft (n + 1)) stands.length_is,
           record {
             stands = stands_planned a h c.args.draft c.end.result c.self.inside.entries c.write_ready.new.journal.end r c.write_ready.new.shelf stands draft c.end.ensures.end ready c.in-Ok-write_ready.ensures.end
                 (c.in-Ok-write_ready.ensures.plans ∙ ap (λ (l : List StoredPlan). with_plan l r.stored) c.in-Ok.ensures.plans) c.in-Ok-write_ready.ensures.pages;
-            in_step = then.0;
-            legal = legal-push h (entries.Planned r.stored.plan) kept.legal storable.entry;
+            journal = then.0;
+            legal = legal-push h (entries.Planned r.stored.plan) in_step.legal storable.entry;
             held = then.1;
             cached = returns-in-Ok-write_ready-clause-cached g c tells now.cached (inl refl);
           },
@@ -132,15 +132,15 @@ returns-in-Err-write_ready-clause-spent g c = λ is.
 
 pub returns-in-Err-write_ready-clause-leads : goal.returns-in-Err-write_ready-clause-leads
 returns-in-Err-write_ready-clause-leads g c = λ tells h now is.
-    let kept = subst (λ (s : ArchiveState). IsKept (g.D.Disk.disk c.args.disk.now) s h) (sym c.self.view_is) now in
-    let stands = kept.stands in
+    let in_step = subst (λ (s : ArchiveState). AreInStep (g.D.Disk.disk c.args.disk.now) s h) (sym c.self.view_is) now in
+    let stands = in_step.stands in
     let r = c.in-Ok.ready in
     let ready = c.in-Ok.ensures.ready in
     let storable = ready_storable h c.args.draft c.end.result c.self.inside.entries r c.make_ready.new.shelf.pages (c.requires.drafted h now.stands) ready (c.in-Ok.ensures.taken _ stands.pages_are) in (
       r.stored.plan,
       (
         ready_stored h c.args.draft c.end.result c.self.inside.entries r (c.end.ensures.end ∙ stands.end_is) ready (c.in-Ok.ensures.placed _ stands.pages_are),
-        c.in-Err-write_ready.ensures.crash tells h kept.in_step kept.held kept.legal storable,
+        c.in-Err-write_ready.ensures.crash tells h in_step.journal in_step.held in_step.legal storable,
         tt,
       ),
     )

@@ -2,7 +2,7 @@ use Rattle.std.proofs.Common.{ℕ, ap, sym, subst, ◌∙◌, arith}
 use Rattle.postings.specs.Lists.{sublist}
 use Rattle.version_index.specs.Indexes.{IndexState, Indexes}
 use Rattle.archive_state.specs.Histories.{changes}
-use Rattle.archive_state.proofs.TurnLemmas.{each_word_list}
+use Rattle.archive_state.proofs.OutcomeLemmas.{each_word_list}
 use Rattle.archive_replay.proofs.IndexLemmas.{word_list}
 use Rattle.archive_core.proofs.ChosenLemmas.{no_tail, some_tail}
 use Rattle.archive_core.proofs.archive.Archive.tail_of.Goals as goal

@@ -6,22 +6,22 @@ use Rattle.archive_state.specs.Steps.{Refused}
 use Rattle.plan_shelf.specs.Shelves.{ShelfState}
 use Rattle.archive_core.proofs.PlanLemmas.{one_why}
 use Rattle.archive_core.proofs.CertifyLemmas.{found_live, none_live, live_as, no_live, other_live}
-use Rattle.archive_core.proofs.archive.Archive.shown_of.Goals as goal
+use Rattle.archive_core.proofs.archive.Archive.certificate_of_word.Goals as goal
 
 pub returns-in_default-clause-refused : goal.returns-in_default-clause-refused
 returns-in_default-clause-refused c = λ h stands why e.
     let none = none_live c.args.self.now h c.args.word.now c.shelf.result.now.plans (ap (λ (s : ShelfState). s.plans) c.shelf.ensures.shelf) stands c.in_default.ensures in
     no_live h (plan_of h c.args.word.now) (Refused why) none (ap Refused (one_why refusals.NoPlan why e))
 
-pub plan_shown-requires-clause-live : goal.plan_shown-requires-clause-live
-plan_shown-requires-clause-live c = λ h stands.
+pub certificate_of_plan-requires-clause-live : goal.certificate_of_plan-requires-clause-live
+certificate_of_plan-requires-clause-live c = λ h stands.
     let found = found_live c.args.self.now h c.args.word.now c.shelf.result.now.plans c.in-Some.stored.now (ap (λ (s : ShelfState). s.plans) c.shelf.ensures.shelf) stands c.in-Some.ensures in
     ap (plan_of h) found.1 ∙ found.0
 
-pub returns-in-Guarantee-clause-shows : goal.returns-in-Guarantee-clause-shows
-returns-in-Guarantee-clause-shows c = λ h stands legal.
+pub returns-in-Guarantee-clause-certifies : goal.returns-in-Guarantee-clause-certifies
+returns-in-Guarantee-clause-certifies c = λ h stands legal.
     let found = found_live c.args.self.now h c.args.word.now c.shelf.result.now.plans c.in-Some.stored.now (ap (λ (s : ShelfState). s.plans) c.shelf.ensures.shelf) stands c.in-Some.ensures in
-    live_as h (plan_of h c.args.word.now) c.in-Some.stored.now.plan Guarantee c.plan_shown.result found.0 c.in-Guarantee.is (c.plan_shown.ensures.shows h stands legal)
+    live_as h (plan_of h c.args.word.now) c.in-Some.stored.now.plan Guarantee c.certificate_of_plan.result found.0 c.in-Guarantee.is (c.certificate_of_plan.ensures.certifies h stands legal)
 
 pub returns-in-Uniform-clause-refused : goal.returns-in-Uniform-clause-refused
 returns-in-Uniform-clause-refused c = λ h stands why e.

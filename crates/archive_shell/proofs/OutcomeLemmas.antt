@@ -6,10 +6,11 @@ use Rattle.archive_state.specs.declared.refusal.Refusal.{Refusal}
 use Rattle.archive_state.specs.Histories.{History}
 use Rattle.archive_state.specs.Steps.{Refused, Step}
 use Rattle.archive_state.specs.Replies.{reply_text}
-use Rattle.archive_core.specs.States.{ArchiveState, IsKept}
+use Rattle.archive_state.specs.Worlds.{world_of}
+use Rattle.archive_core.specs.States.{ArchiveState, AreInStep}
 use Rattle.archive_core.specs.Takes.{Ending, Replied, Starved, Faulted, Spoiled, Takes}
-use Rattle.archive_core.proofs.AddLemmas.{kept_stands, leads_nowhere}
-use Rattle.archive_shell.specs.Turns.{AnsweredBy, Answers, Writes}
+use Rattle.archive_core.proofs.AddLemmas.{in_step_stands, leads_nowhere}
+use Rattle.archive_shell.specs.Outcomes.{AnsweredBy, Answers, Writes}
 use Rattle.archive_shell.specs.declared.stop.Halt.{Halt}
 
 -- a run that is halted goes on nowhere
@@ -26,22 +27,22 @@ anyway P (Err halt) p = tt
 pub answers_by : (h : History) (item : Item) (ending : Ending) (result : Result (Unit {0}) Halt) (old new : DiskState) (archive : ArchiveState) (page : List ℕ)
     → Takes h item ending old new archive → Writes ending result page → Answers h item result old new archive page
 answers_by h item (Replied reply) result old new archive page takes (inl is) =
-    let A : Result (Unit {0}) Halt → Type 0 = λ r. AnsweredBy h takes.turn new archive page r in
-    record { turn = takes.turn; step = takes.step; leads = takes.leads; ends = subst A (sym is.0) (takes.ends.1, is.1 ∙ sym (ap reply_text takes.ends.0)) }
+    let A : Result (Unit {0}) Halt → Type 0 = λ r. AnsweredBy h takes.outcome new archive page r in
+    record { outcome = takes.outcome; step = takes.step; leads = takes.leads; ends = subst A (sym is.0) (takes.ends.1, is.1 ∙ sym (ap reply_text takes.ends.0)) }
 answers_by h item (Replied reply) result old new archive page takes (inr none) =
-    let A : Result (Unit {0}) Halt → Type 0 = λ r. AnsweredBy h takes.turn new archive page r in
-    record { turn = takes.turn; step = takes.step; leads = takes.leads; ends = subst A (sym none) (inr (kept_stands new archive takes.turn.next takes.ends.1)) }
+    let A : Result (Unit {0}) Halt → Type 0 = λ r. AnsweredBy h takes.outcome new archive page r in
+    record { outcome = takes.outcome; step = takes.step; leads = takes.leads; ends = subst A (sym none) (inr (in_step_stands new archive takes.outcome.next.history takes.ends.1)) }
 answers_by h item Starved result old new archive page takes is =
-    let A : Result (Unit {0}) Halt → Type 0 = λ r. AnsweredBy h takes.turn new archive page r in
-    record { turn = takes.turn; step = takes.step; leads = takes.leads; ends = subst A (sym is) (inl takes.ends) }
+    let A : Result (Unit {0}) Halt → Type 0 = λ r. AnsweredBy h takes.outcome new archive page r in
+    record { outcome = takes.outcome; step = takes.step; leads = takes.leads; ends = subst A (sym is) (inl takes.ends) }
 answers_by h item Faulted result old new archive page takes is =
-    let A : Result (Unit {0}) Halt → Type 0 = λ r. AnsweredBy h takes.turn new archive page r in
-    record { turn = takes.turn; step = takes.step; leads = takes.leads; ends = subst A (sym is) tt }
+    let A : Result (Unit {0}) Halt → Type 0 = λ r. AnsweredBy h takes.outcome new archive page r in
+    record { outcome = takes.outcome; step = takes.step; leads = takes.leads; ends = subst A (sym is) tt }
 answers_by h item (Spoiled damage) result old new archive page takes is = absurd takes.ends
 
 -- an item that is refused without a call
 pub refused_by : (h : History) (item : Item) (why : Refusal) (result : Result (Unit {0}) Halt) (d : DiskState) (archive : ArchiveState) (page : List ℕ)
-    → Step h item (Refused why) h → IsKept d archive h → result ≡ Ok tt → page ≡ reply_text (Refused why) → Answers h item result d d archive page
-refused_by h item why result d archive page step kept goes_on written =
-    let A : Result (Unit {0}) Halt → Type 0 = λ r. AnsweredBy h (record { reply = Refused why; next = h }) d archive page r in
-    record { turn = record { reply = Refused why; next = h }; step = step; leads = leads_nowhere d archive h h kept; ends = subst A (sym goes_on) (kept, written) }
+    → Step (world_of h) item (Refused why) (world_of h) → AreInStep d archive h → result ≡ Ok tt → page ≡ reply_text (Refused why) → Answers h item result d d archive page
+refused_by h item why result d archive page step in_step goes_on written =
+    let A : Result (Unit {0}) Halt → Type 0 = λ r. AnsweredBy h (record { reply = Refused why; next = world_of h }) d archive page r in
+    record { outcome = record { reply = Refused why; next = world_of h }; step = step; leads = leads_nowhere d archive h h in_step; ends = subst A (sym goes_on) (in_step, written) }

@@ -1,4 +1,4 @@
-//! What came of one command.
+//! What is noted of one command.
 ghost use Rattle.std.specs.Prelude.{◌≡◌, Ok, IfOk, IsOk, IsSome, IsErrOf, ◌⊎◌, OnOk};
 ghost use Rattle.archive_core.specs.Takes.{changed, declined, found, planned, unchanged, verified};
 ghost use Rattle.archive_sample.specs.Carrying.{Tells, verdict_of};
@@ -8,9 +8,9 @@ use archive_core::{AskError, ChangeError, PlanReport};
 use archive_state::{Refusal, Verdict};
 use query_eval::Answer;
 
-/// What came of one command of a sample.
+/// What is noted of one command of a sample.
 #[derive(Debug, Drop)]
-pub(crate) enum Outcome {
+pub(crate) enum Note {
     /// A change was accepted, or a plan stored.
     Accepted,
     /// It was refused.
@@ -26,62 +26,62 @@ pub(crate) enum Outcome {
     Checked(Verdict),
 }
 
-impl Outcome {
+impl Note {
     /// What a check told; None of any other command.
     pub(crate) fn verdict(self) -> Option<Verdict>
         ensures { result ≡ verdict_of self }
     {
         match self {
-            Outcome::Checked(verdict) => Some(verdict),
-            Outcome::Accepted | Outcome::Refused | Outcome::Found { .. } => None,
+            Note::Checked(verdict) => Some(verdict),
+            Note::Accepted | Note::Refused | Note::Found { .. } => None,
         }
     }
 }
 
-/// What came of a change.
-pub(crate) fn of_change(change: Result<u64, ChangeError>) -> Result<Outcome, FillError>
+/// What is noted of a change.
+pub(crate) fn of_change(change: Result<u64, ChangeError>) -> Result<Note, FillError>
     ensures tells { Tells (changed change) result }
     ensures fault { IsErrOf result FillError.Failed → IsErrOf change ChangeError.Failed }
     ensures live { OnOk result (IsOk change ⊎ ((why : Refusal) × IsErrOf change (ChangeError.Refused why))) }
 {
     match change {
-        Ok(_) => Ok(Outcome::Accepted),
+        Ok(_) => Ok(Note::Accepted),
         Err(error) => of_unchanged(error),
     }
 }
 
-/// What came of a plan.
-pub(crate) fn of_plan(plan: Result<PlanReport, ChangeError>) -> Result<Outcome, FillError>
+/// What is noted of a plan.
+pub(crate) fn of_plan(plan: Result<PlanReport, ChangeError>) -> Result<Note, FillError>
     ensures tells { Tells (planned plan) result }
     ensures fault { IsErrOf result FillError.Failed → IsErrOf plan ChangeError.Failed }
     ensures live { OnOk result (IsOk plan ⊎ ((why : Refusal) × IsErrOf plan (ChangeError.Refused why))) }
 {
     match plan {
-        Ok(_) => Ok(Outcome::Accepted),
+        Ok(_) => Ok(Note::Accepted),
         Err(error) => of_unchanged(error),
     }
 }
 
-/// What came of a change that was not made.
-fn of_unchanged(error: ChangeError) -> Result<Outcome, FillError>
+/// What is noted of a change that was not made.
+fn of_unchanged(error: ChangeError) -> Result<Note, FillError>
     ensures tells { Tells (unchanged error) result }
     ensures fault { IsErrOf result FillError.Failed → error ≡ ChangeError.Failed }
     ensures live { OnOk result ((why : Refusal) × (error ≡ ChangeError.Refused why)) }
 {
     match error {
-        ChangeError::Refused(_) => Ok(Outcome::Refused),
+        ChangeError::Refused(_) => Ok(Note::Refused),
         ChangeError::Failed => Err(FillError::Failed),
         ChangeError::Memory => Err(FillError::Memory),
     }
 }
 
-/// What came of a question.
-pub(crate) fn of_question(answer: Result<Answer, AskError>) -> Result<Outcome, FillError>
+/// What is noted of a question.
+pub(crate) fn of_question(answer: Result<Answer, AskError>) -> Result<Note, FillError>
     ensures tells { Tells (found answer) result }
     ensures fault { IsErrOf result FillError.Failed → IsErrOf answer AskError.Failed }
 {
     match answer {
-        Ok(answer) => Ok(Outcome::Found {
+        Ok(answer) => Ok(Note::Found {
             hits: answer.rows.len() as u64,
             read: answer.read,
         }),
@@ -89,27 +89,27 @@ pub(crate) fn of_question(answer: Result<Answer, AskError>) -> Result<Outcome, F
     }
 }
 
-/// What came of a check.
-pub(crate) fn of_check(verdict: Result<Verdict, AskError>) -> Result<Outcome, FillError>
+/// What is noted of a check.
+pub(crate) fn of_check(verdict: Result<Verdict, AskError>) -> Result<Note, FillError>
     requires never { (why : Refusal) → IsErrOf verdict (AskError.Refused why) → ⊥ }
     ensures tells { Tells (verified verdict) result }
     ensures fault { IsErrOf result FillError.Failed → IsErrOf verdict AskError.Failed }
-    ensures checked { IfOk result (λ outcome. IsSome (verdict_of outcome)) }
+    ensures checked { IfOk result (λ note. IsSome (verdict_of note)) }
 {
     match verdict {
-        Ok(verdict) => Ok(Outcome::Checked(verdict)),
+        Ok(verdict) => Ok(Note::Checked(verdict)),
         Err(error) => of_declined(error),
     }
 }
 
-/// What came of a question that was not answered.
-fn of_declined(error: AskError) -> Result<Outcome, FillError>
+/// What is noted of a question that was not answered.
+fn of_declined(error: AskError) -> Result<Note, FillError>
     ensures tells { Tells (declined error) result }
     ensures fault { IsErrOf result FillError.Failed → error ≡ AskError.Failed }
     ensures refused { OnOk result ((why : Refusal) × (error ≡ AskError.Refused why)) }
 {
     match error {
-        AskError::Refused(_) => Ok(Outcome::Refused),
+        AskError::Refused(_) => Ok(Note::Refused),
         AskError::Failed => Err(FillError::Failed),
         AskError::Damaged(damage) => Err(FillError::Damaged(damage)),
         AskError::Memory => Err(FillError::Memory),

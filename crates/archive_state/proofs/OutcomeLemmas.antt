@@ -1,10 +1,10 @@
--- Each item has one turn: from a legal history to a legal one.
+-- Each item has one outcome: from a legal history to a legal one.
 use Rattle.std.proofs.Common.{subst, sym, ◌≡◌, ℕ, ◌+◌, ◌<◌, ◌≤◌, ◌^◌, Bool, true, false, not, nat_lt, List, [], ◌∷◌, ◌++◌, length, All, Contains, Option, Some, None, IsSome, is_some, Result, Ok, Err, refl, ap, arith, unwrap_or, ◌∙◌, inl, inr}
 use Rattle.std.specs.Str.{is_utf8}
 use Rattle.std.specs.Option.{option_map}
 use Rattle.std.proofs.lemmas.Bool.{ltb-false}
 use Rattle.std.proofs.lemmas.Str.{IsUtf8-from_is_utf8}
-use Rattle.std.proofs.lemmas.List.Elements.{All-nil, All-cons, All-weaker}
+use Rattle.std.proofs.lemmas.List.Elements.{All-nil, All-cons, All-head, All-tail, All-weaker}
 use Rattle.time_base.specs.declared.fraction.Fraction.{Fraction}
 use Rattle.time_base.specs.declared.ids.DocId.{DocId}
 use Rattle.time_base.specs.declared.time.Span.{Span}
@@ -57,10 +57,11 @@ use Rattle.commands.specs.declared.command.Item.TheVariants as items
 use Rattle.commands.specs.declared.command.Kind.{Kind}
 use Rattle.commands.specs.declared.command.Kind.TheVariants.{Guarantee}
 use Rattle.commands.specs.declared.text.Text.TheVariants as texts
-use Rattle.archive_state.specs.Steps.{Reply, Accepted, Refused, Found, Spanned, Shown, Proposed, Planned, Verified, Summary, Adds, Declines, IsRepliedBy, IsReplied, Finds, FindsBy, Spans, SpansBy, Proposes, ProposesPlan, Plans, StoresPlan, spelled_key, sound_of, CarriesOut, Step, too_long, bad_text, full_journal, arrival_refusal, deletion_refusal}
-use Rattle.archive_state.specs.Runs.{Turn}
+use Rattle.archive_state.specs.Steps.{Reply, Accepted, Refused, Found, Spanned, Version, Proposed, Planned, Verified, Summary, Adds, Declines, IsRepliedBy, IsReplied, Finds, FindsBy, Spans, SpansBy, Proposes, ProposesPlan, Plans, StoresPlan, spelled_key, sound_of, CarriesOut, Step, too_long, bad_text, full_journal, arrival_refusal, deletion_refusal}
+use Rattle.archive_state.specs.Runs.{Outcome, IsRun}
+use Rattle.archive_state.specs.Worlds.{World, world_of}
 use Rattle.archive_state.proofs.HistoryLemmas.{legal-push, legal_loads}
-use Rattle.archive_state.proofs.StoringLemmas.{plan_turn, plans_legal}
+use Rattle.archive_state.proofs.StoringLemmas.{plan_outcome, plans_legal}
 use Rattle.archive_state.proofs.ToldLemmas.{plans_alike}
 use Rattle.archive_state.proofs.CertifyingLemmas.{each_certifies, one_certifies}
 use Rattle.archive_state.proofs.PlanningLemmas.{each_phrase, one_phrase, last_in_time}
@@ -102,10 +103,10 @@ deletion_legal h doc at fits none =
     let one = none_found (entry_refusal h (entries.Delete doc at)) (full_journal h (entries.Delete doc at) ∷ []) none in
     record { ranges = (fits, at.before_now); allowed = one.0; planned = tt }
 
--- whether an entry is refused or not, there is a turn
-pub adds_turn : (h : History) (e : Entry) (refusal : Option Refusal) → (turn : Turn Reply History) × Adds h e refusal turn.reply turn.next
-adds_turn h e None = (record { reply = Accepted (length (h ++ e ∷ [])); next = h ++ e ∷ [] }, (refl, refl))
-adds_turn h e (Some why) = (record { reply = Refused why; next = h }, (refl, refl))
+-- whether an entry is refused or not, there is an outcome
+pub adds_outcome : (h : History) (e : Entry) (refusal : Option Refusal) → (outcome : Outcome Reply History) × Adds h e refusal outcome.reply outcome.next
+adds_outcome h e None = (record { reply = Accepted (length (h ++ e ∷ [])); next = h ++ e ∷ [] }, (refl, refl))
+adds_outcome h e (Some why) = (record { reply = Refused why; next = h }, (refl, refl))
 
 -- a change of a legal history
 record IsModest (word : List ℕ) (c : Change (List ℕ)) : Type 0 where
@@ -207,25 +208,25 @@ each_proposes h phrase factor legal =
     (Proposed segments nodes total, (segments, nodes, total, proposal, refl)))
     (one_term phrase)
 
-pub each_plans : (h : History) (phrase : List ℕ) (kind : Kind) (factor : Fraction) → IsLegal h → (turn : Turn Reply History) × Plans h phrase kind factor turn.reply turn.next
+pub each_plans : (h : History) (phrase : List ℕ) (kind : Kind) (factor : Fraction) → IsLegal h → (outcome : Outcome Reply History) × Plans h phrase kind factor outcome.reply outcome.next
 each_plans h phrase kind factor legal =
-    each_phrase kind h (λ (r : Turn Reply History) why. Declines h why r.reply r.next) (λ (r : Turn Reply History) word list. StoresPlan h kind factor word list r.reply r.next)
+    each_phrase kind h (λ (r : Outcome Reply History) why. Declines h why r.reply r.next) (λ (r : Outcome Reply History) word list. StoresPlan h kind factor word list r.reply r.next)
     (λ why. (record { reply = Refused why; next = h }, (refl, refl)))
     (λ word. each_list_up_to h word (last_second h) (last_in_time h) (legal_loads h legal))
-    (λ word list is some narrow. plan_turn h kind factor word list is some narrow)
+    (λ word list is some narrow. plan_outcome h kind factor word list is some narrow)
     (spelled_key (one_term phrase))
 
-declines_turn : (h : History) (why : Refusal) → (turn : Turn Reply History) × Declines h why turn.reply turn.next
-declines_turn h why = (record { reply = Refused why; next = h }, (refl, refl))
+declines_outcome : (h : History) (why : Refusal) → (outcome : Outcome Reply History) × Declines h why outcome.reply outcome.next
+declines_outcome h why = (record { reply = Refused why; next = h }, (refl, refl))
 
-each_command : (h : History) (c : Command) → IsLegal h → (turn : Turn Reply History) × CarriesOut h c turn.reply turn.next
-each_command h (commands.Arrive doc at (texts.Bytes text)) legal = adds_turn h (entries.Arrive doc at text) (arrival_refusal h doc at text)
-each_command h (commands.Arrive doc at (texts.TooLong bytes)) legal = declines_turn h (refusals.TooLong most_text)
-each_command h (commands.Delete doc at) legal = adds_turn h (entries.Delete doc at) (deletion_refusal h doc at)
+each_command : (h : History) (c : Command) → IsLegal h → (outcome : Outcome Reply History) × CarriesOut h c outcome.reply outcome.next
+each_command h (commands.Arrive doc at (texts.Bytes text)) legal = adds_outcome h (entries.Arrive doc at text) (arrival_refusal h doc at text)
+each_command h (commands.Arrive doc at (texts.TooLong bytes)) legal = declines_outcome h (refusals.TooLong most_text)
+each_command h (commands.Delete doc at) legal = adds_outcome h (entries.Delete doc at) (deletion_refusal h doc at)
 each_command h (commands.Find at expr) legal =
     let found = each_finds h at expr legal in
     (record { reply = found.0; next = h }, (refl, found.1))
-each_command h (commands.Show doc at) legal = (record { reply = Shown (text_at h doc at.seconds); next = h }, (refl, refl))
+each_command h (commands.Show doc at) legal = (record { reply = Version (text_at h doc at.seconds); next = h }, (refl, refl))
 each_command h (commands.Plan word kind fraction) legal = each_plans h word kind fraction legal
 each_command h (commands.Propose word fraction) legal =
     let proposed = each_proposes h word fraction legal in
@@ -234,15 +235,19 @@ each_command h (commands.Between span expr) legal =
     let found = each_spans h span expr legal in
     (record { reply = found.0; next = h }, (refl, found.1))
 each_command h (commands.Certificate word) legal =
-    let shown = each_certifies h word legal in
-    (record { reply = shown.0; next = h }, (refl, shown.1))
+    let certified = each_certifies h word legal in
+    (record { reply = certified.0; next = h }, (refl, certified.1))
 each_command h commands.Verify legal = (record { reply = Verified (sound_of h); next = h }, (refl, refl))
 
-pub each_turn : (h : History) (item : Item) → IsLegal h → (turn : Turn Reply History) × Step h item turn.reply turn.next
-each_turn h (items.Command c) legal = each_command h c legal
-each_turn h items.Line legal = declines_turn h refusals.Line
+-- what came of a history, as the state that has it
+in_world : (P : Reply → History → Type 0) → (outcome : Outcome Reply History) × P outcome.reply outcome.next → (outcome : Outcome Reply World) × P outcome.reply outcome.next.history
+in_world P came = (record { reply = came.0.reply; next = world_of came.0.next }, came.1)
 
--- and every turn leads from a legal history to a legal one
+pub each_outcome : (w : World) (item : Item) → IsLegal w.history → (outcome : Outcome Reply World) × Step w item outcome.reply outcome.next
+each_outcome w (items.Command c) legal = in_world (CarriesOut w.history c) (each_command w.history c legal)
+each_outcome w items.Line legal = in_world (Declines w.history refusals.Line) (declines_outcome w.history refusals.Line)
+
+-- and every outcome leads from a legal history to a legal one
 adds_legal : (h : History) (e : Entry) (refusal : Option Refusal) (reply : Reply) (next : History) → IsLegal h → (refusal ≡ None → IsLegalEntry h e) → Adds h e refusal reply next → IsLegal next
 adds_legal h e None reply next legal entry adds = subst IsLegal (sym adds.0) (legal-push h e legal (entry refl))
 adds_legal h e (Some why) reply next legal entry adds = subst IsLegal (sym adds.0) legal
@@ -262,11 +267,20 @@ command_legal h (commands.Between span expr) reply next legal range step = stays
 command_legal h (commands.Certificate word) reply next legal range step = stays_legal h next legal step.0
 command_legal h commands.Verify reply next legal range step = stays_legal h next legal step.0
 
-pub step_legal : (h : History) (item : Item) (reply : Reply) (next : History) → IsLegal h → HasDocument item → Step h item reply next → IsLegal next
-step_legal h (items.Command c) reply next legal range step = command_legal h c reply next legal range step
-step_legal h items.Line reply next legal range step = stays_legal h next legal step.0
+pub step_legal : (w : World) (item : Item) (reply : Reply) (next : World) → IsLegal w.history → HasDocument item → Step w item reply next → IsLegal next.history
+step_legal w (items.Command c) reply next legal range step = command_legal w.history c reply next.history legal range step
+step_legal w items.Line reply next legal range step = stays_legal w.history next.history legal step.0
 
--- a turn is the only one
+-- a run goes on over any items whose documents are in range
+pub run_on : (w : World) (events : List Item) → IsLegal w.history → All HasDocument events → (outcomes : List (Outcome Reply World)) × IsRun Step w events outcomes
+run_on w [] legal range = ([], tt)
+run_on w (item ∷ events) legal range =
+    let outcome = each_outcome w item legal in
+    let next = step_legal w item outcome.0.reply outcome.0.next legal (All-head HasDocument item events range) outcome.1 in
+    let further = run_on outcome.0.next events next (All-tail HasDocument item events range) in
+    (outcome.0 ∷ further.0, (outcome.1, further.1))
+
+-- an outcome is the only one
 abbrev IsOne : Reply → Reply → History → History → Type 0
 IsOne reply other next then = (reply ≡ other) × (next ≡ then)
 
@@ -341,8 +355,8 @@ one_stays h reply other next then a b same = (same, a ∙ sym b)
 one_declines : (h : History) (why : Refusal) (reply other : Reply) (next then : History) → Declines h why reply next → Declines h why other then → IsOne reply other next then
 one_declines h why reply other next then a b = one_stays h reply other next then a.0 b.0 (a.1 ∙ sym b.1)
 
-same_turn : {reply other : Reply} {next then : History} → IsOne reply other next then → SameButSegments reply other × (next ≡ then)
-same_turn one = (inl one.0, one.1)
+same_outcome : {reply other : Reply} {next then : World} → (reply ≡ other) × (next ≡ then) → SameButSegments reply other × (next ≡ then)
+same_outcome one = (inl one.0, one.1)
 
 one_command : (h : History) (c : Command) (reply other : Reply) (next then : History) → (IsChoice (items.Command c) → ⊥) → CarriesOut h c reply next → CarriesOut h c other then → IsOne reply other next then
 one_command h (commands.Arrive doc at (texts.Bytes text)) reply other next then free a b = one_adds h (entries.Arrive doc at text) (arrival_refusal h doc at text) reply other next then a b
@@ -356,25 +370,18 @@ one_command h (commands.Between span expr) reply other next then free a b = one_
 one_command h (commands.Certificate word) reply other next then free a b = one_stays h reply other next then a.0 b.0 (one_certifies h word reply other a.1 b.1)
 one_command h commands.Verify reply other next then free a b = one_stays h reply other next then a.0 b.0 (a.1 ∙ sym b.1)
 
-pub one_turn_only : (h : History) (item : Item) (reply other : Reply) (next then : History) → (IsChoice item → ⊥) → Step h item reply next → Step h item other then → IsOne reply other next then
-one_turn_only h (items.Command c) reply other next then free a b = one_command h c reply other next then free a b
-one_turn_only h items.Line reply other next then free a b = one_declines h refusals.Line reply other next then a b
+pub one_outcome_only : (w : World) (item : Item) (reply other : Reply) (next then : World) → (IsChoice item → ⊥) → Step w item reply next → Step w item other then → (reply ≡ other) × (next ≡ then)
+one_outcome_only w (items.Command c) reply other next then free a b = let one = one_command w.history c reply other next.history then.history free a b in (one.0, ap world_of one.1)
+one_outcome_only w items.Line reply other next then free a b = let one = one_declines w.history refusals.Line reply other next.history then.history a b in (one.0, ap world_of one.1)
 
 -- also where it may choose what is proposed, but for the segments
-pub one_but_segments : (h : History) (item : Item) (reply other : Reply) (next then : History) → (IsStoring item → ⊥) → Step h item reply next → Step h item other then → SameButSegments reply other × (next ≡ then)
-one_but_segments h (items.Command (commands.Propose word fraction)) reply other next then free a b = (one_proposes h word fraction reply other a.1 b.1, a.0 ∙ sym b.0)
-one_but_segments h (items.Command (commands.Arrive doc at text)) reply other next then free a b = same_turn (one_command h (commands.Arrive doc at text) reply other next then (λ x. x) a b)
-one_but_segments h (items.Command (commands.Delete doc at)) reply other next then free a b = same_turn (one_command h (commands.Delete doc at) reply other next then (λ x. x) a b)
-one_but_segments h (items.Command (commands.Find at expr)) reply other next then free a b = same_turn (one_command h (commands.Find at expr) reply other next then (λ x. x) a b)
-one_but_segments h (items.Command (commands.Show doc at)) reply other next then free a b = same_turn (one_command h (commands.Show doc at) reply other next then (λ x. x) a b)
-one_but_segments h (items.Command (commands.Plan word kind fraction)) reply other next then free a b = absurd (free tt)
-one_but_segments h (items.Command (commands.Between span expr)) reply other next then free a b = same_turn (one_command h (commands.Between span expr) reply other next then (λ x. x) a b)
-one_but_segments h (items.Command (commands.Certificate word)) reply other next then free a b = same_turn (one_command h (commands.Certificate word) reply other next then (λ x. x) a b)
-one_but_segments h (items.Command commands.Verify) reply other next then free a b = same_turn (one_command h commands.Verify reply other next then (λ x. x) a b)
-one_but_segments h items.Line reply other next then free a b = same_turn (one_declines h refusals.Line reply other next then a b)
+pub one_but_segments : (w : World) (item : Item) (reply other : Reply) (next then : World) → (IsStoring item → ⊥) → Step w item reply next → Step w item other then → SameButSegments reply other × (next ≡ then)
+one_but_segments w (items.Command (commands.Propose word fraction)) reply other next then free a b = (one_proposes w.history word fraction reply other a.1 b.1, ap world_of (a.0 ∙ sym b.0))
+one_but_segments w (items.Command (commands.Plan word kind fraction)) reply other next then free a b = absurd (free tt)
+one_but_segments w item reply other next then free a b = same_outcome (one_outcome_only w item reply other next then (λ x. x) a b)
 
 -- what is told of two plans that an item may store
-told_same : {one other : Summary} {next then : History} → SameButSegments (Planned one) (Planned other) × (next ≡ then) → SamePlanned one other
+told_same : {one other : Summary} {next then : World} → SameButSegments (Planned one) (Planned other) × (next ≡ then) → SamePlanned one other
 told_same {one = one} {other = other} (inl same, on) =
     let here : one ≡ other = cc in
     record {
@@ -386,14 +393,6 @@ told_same {one = one} {other = other} (inl same, on) =
     }
 told_same {one = one} (inr (segments, others, nodes, total, is, are), on) = absurd cc
 
-pub planned_alike : (h : History) (item : Item) (one other : Summary) (next then : History) → Step h item (Planned one) next → Step h item (Planned other) then → SamePlanned one other
-planned_alike h (items.Command (commands.Plan word kind fraction)) one other next then a b = plans_alike h word kind fraction one other next then a b
-planned_alike h (items.Command (commands.Arrive doc at text)) one other next then a b = told_same (one_but_segments h (items.Command (commands.Arrive doc at text)) (Planned one) (Planned other) next then (λ x. x) a b)
-planned_alike h (items.Command (commands.Delete doc at)) one other next then a b = told_same (one_but_segments h (items.Command (commands.Delete doc at)) (Planned one) (Planned other) next then (λ x. x) a b)
-planned_alike h (items.Command (commands.Find at expr)) one other next then a b = told_same (one_but_segments h (items.Command (commands.Find at expr)) (Planned one) (Planned other) next then (λ x. x) a b)
-planned_alike h (items.Command (commands.Show doc at)) one other next then a b = told_same (one_but_segments h (items.Command (commands.Show doc at)) (Planned one) (Planned other) next then (λ x. x) a b)
-planned_alike h (items.Command (commands.Propose word fraction)) one other next then a b = told_same (one_but_segments h (items.Command (commands.Propose word fraction)) (Planned one) (Planned other) next then (λ x. x) a b)
-planned_alike h (items.Command (commands.Between span expr)) one other next then a b = told_same (one_but_segments h (items.Command (commands.Between span expr)) (Planned one) (Planned other) next then (λ x. x) a b)
-planned_alike h (items.Command (commands.Certificate word)) one other next then a b = told_same (one_but_segments h (items.Command (commands.Certificate word)) (Planned one) (Planned other) next then (λ x. x) a b)
-planned_alike h (items.Command commands.Verify) one other next then a b = told_same (one_but_segments h (items.Command commands.Verify) (Planned one) (Planned other) next then (λ x. x) a b)
-planned_alike h items.Line one other next then a b = told_same (one_but_segments h items.Line (Planned one) (Planned other) next then (λ x. x) a b)
+pub planned_alike : (w : World) (item : Item) (one other : Summary) (next then : World) → Step w item (Planned one) next → Step w item (Planned other) then → SamePlanned one other
+planned_alike w (items.Command (commands.Plan word kind fraction)) one other next then a b = plans_alike w.history word kind fraction one other next.history then.history a b
+planned_alike w item one other next then a b = told_same (one_but_segments w item (Planned one) (Planned other) next then (λ x. x) a b)
