@@ -1,5 +1,5 @@
 //! What an archive is asked: the text of a document at a time, and what a query finds.
-ghost use Rattle.std.specs.Prelude.{◌≡◌, ◌+◌, ℕ, List, Ok, Err, All, length, filter, false, true, is_some, IsSome, IsOk, IfOk, IsErrOf, option_map};
+ghost use Rattle.std.specs.Prelude.{◌≡◌, ◌+◌, ℕ, List, Ok, Err, All, length, false, true, is_some, IsSome, IsOk, IfOk, IsErrOf, option_map};
 ghost use Rattle.machine_model.specs.Causes.{Rose};
 ghost use Rattle.machine_model.specs.Calls.{OnlyReads};
 ghost use Rattle.query_lang.specs.Grammar.{IsRead};
@@ -7,7 +7,7 @@ ghost use Rattle.query_lang.specs.Meaning.{words_of};
 ghost use Rattle.query_lang.specs.Tokens.{key_of};
 ghost use Rattle.query_eval.specs.Answers.{IsAnswer};
 ghost use Rattle.query_eval.specs.Asked.{read_of};
-ghost use Rattle.query_eval.specs.Found.{told};
+ghost use Rattle.query_eval.specs.Found.{told, HasHit};
 ghost use Rattle.version_store.specs.Changes.{held_at};
 ghost use Rattle.archive_state.specs.Histories.{History, text_at};
 ghost use Rattle.archive_state.specs.Plans.{is_another};
@@ -25,7 +25,7 @@ use archive_replay::read_text;
 use archive_state::Refusal;
 use commands::Phrase;
 use machine_model::Disk;
-use query_eval::{Answer, Part, Row, answer_by_hits, answer_from};
+use query_eval::{Answer, Part, answer_by_hits, answer_by_living_hits, answer_from};
 use query_lang::{Query, QueryError};
 use std::alloc::{AllocError, Global};
 use sublist_store::Damage;
@@ -39,9 +39,9 @@ impl Archive {
     /// plan says. `Failed`: the disk failed.
     /// Costs the query's length. Of each word with a plan, the sublist that holds the time is read from
     /// Pages, before the horizon, and its list in memory from the horizon on; of each other word its
-    /// list in memory. Then the postings are sorted that hold the time, and where a word has a plan,
-    /// each row is looked up; where the query matches without any of its words, there is also a look-up
-    /// for each document. A page that was read before is not read again while it is among the 1,024
+    /// list in memory. Then the postings are sorted that hold the time, and the rows; where a word has a
+    /// plan, each document that matches is looked up, in the order of documents; where the query matches
+    /// without any of its words, each document is looked up. A page that was read before is not read again while it is among the 1,024
     /// that were used last.
     pub fn find<D: Disk>(
         &mut self,
@@ -107,13 +107,31 @@ impl Archive {
             let answer = answer_from(alloc, query, at, parts, &alive)?;
             return Ok(answer);
         }
-        let hits = answer_by_hits(alloc, query, at, parts)?;
         if self.is_any_planned(query.words()) {
-            let Answer { rows, read } = hits;
-            let rows = self.alive_of(rows, at);
-            return Ok(Answer { rows, read });
+            let answer = self.answer_by_living(alloc, query, at, parts)?;
+            return Ok(answer);
         }
-        Ok(hits)
+        let answer = answer_by_hits(alloc, query, at, parts)?;
+        Ok(answer)
+    }
+
+    /// The answer over those documents with one of the query's words that are alive. (All are, but for
+    /// bytes of Pages that no archive wrote.)
+    fn answer_by_living(
+        &self,
+        alloc: Global,
+        query: &Query,
+        at: Time,
+        parts: &[Part],
+    ) -> Result<Answer, AllocError>
+        requires { length parts.now ≡ length (words_of query.now) }
+        ensures read { IfOk result (λ answer. answer.read ≡ read_of parts.now) }
+        ensures rows { IfOk result (λ answer. IsAnswer (λ doc. HasHit (words_of query.now) parts.now at.seconds doc
+            × (is_some (held_at doc at.seconds self.now.changes) ≡ true))
+            (λ doc. told (words_of query.now) parts.now at.seconds doc.0) query.now answer.rows.items) }
+    {
+        let directory = self.directory();
+        answer_by_living_hits(alloc, query, at, parts, |doc| directory.alive_at(doc, at))
     }
 
     /// Whether one of some words has a plan. Costs a search among the plans for each word.
@@ -126,16 +144,6 @@ impl Archive {
             }
         }
         false
-    }
-
-    /// Those rows whose documents are alive. (All are, but for bytes of Pages that no archive wrote.)
-    fn alive_of(&self, rows: Vec<Row>, at: Time) -> Vec<Row>
-        ensures { result.items ≡ filter (λ row. is_some (held_at row.doc at.seconds self.now.changes)) rows.items }
-    {
-        let mut rows = rows;
-        let directory = self.directory();
-        rows.retain(|row| directory.place(row.doc, at).is_some());
-        rows
     }
 
     /// The text of the document's version that is alive at the time; None exactly where the document

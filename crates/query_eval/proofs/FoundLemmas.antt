@@ -220,7 +220,7 @@ made-in f row doc (d ∷ docs) c e = go (f d) refl (here-or-later d doc docs c) 
     go (Some r) h (inl i) rest = let same : r ≡ row = (let j = ap f i in cc) in subst (λ x. Contains (r ∷ filter_map f docs) x) same (here r (filter_map f docs))
     go (Some r) h (inr k) rest = later r row (filter_map f docs) (rest k)
 
-row-is : (query : Query) (often : List ℕ → ℕ) (doc : DocId) (row : Row) → row_of query often doc ≡ Some row → (doc ≡ row.doc) × (matches query often ≡ true) × (row.score ≡ score query often)
+pub row-is : (query : Query) (often : List ℕ → ℕ) (doc : DocId) (row : Row) → row_of query often doc ≡ Some row → (doc ≡ row.doc) × (matches query often ≡ true) × (row.score ≡ score query often)
 row-is query often doc row e = go (matches query often) refl e
   where
     go : (b : Bool) → matches query often ≡ b → (if b then Some (let r : Row = record { doc = doc; score = score query often } in r) else None) ≡ Some row → (doc ≡ row.doc) × (matches query often ≡ true) × (row.score ≡ score query often)

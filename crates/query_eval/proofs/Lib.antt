@@ -8,6 +8,6 @@ mod Sorting
 mod HasHitLemmas
 mod MadeLemmas
 mod Groups
-mod Turning
+mod Changing
 mod FactLemmas
 pub mod SpanRows

@@ -51,7 +51,7 @@ abbrev pub IsScored : Query → List Fact → (ℕ → ℕ → Option ℕ) → T
 IsScored query facts f = (d t : ℕ) → (often : List ℕ → ℕ) × TellWords query (hits_now t (filter (of_doc d) facts)) often × (f d t ≡ score_if (alive_now t (filter (of_doc d) facts)) query often)
 
 -- events inside [a, b): one where each fact begins there or holds already, and one where it ends
-pub record AreTurns (facts : List Fact) (a b : ℕ) (events : List Event) : Type 0 where
+pub record AreEvents (facts : List Fact) (a b : ℕ) (events : List Event) : Type 0 where
   pub inside : (x : Event) → Contains events x → (a ≤ x.at.seconds) × (x.at.seconds < b)
   pub begun : (f : Fact) → Contains facts f → f.span.from < b → (x : Event) × Contains events x × (x.doc ≡ f.doc) × (x.at.seconds ≡ max f.span.from a)
   pub ended : (f : Fact) → Contains facts f → a ≤ f.span.to → f.span.to < b → (x : Event) × Contains events x × (x.doc ≡ f.doc) × (x.at.seconds ≡ f.span.to)

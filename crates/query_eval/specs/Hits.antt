@@ -1,5 +1,5 @@
 -- What hits say of a document.
-use Rattle.std.specs.Prelude.{◌≡◌, ◌↔◌, ◌<◌, ◌≤◌, nat_le, nat_lt, ℕ, ◌==◌, ◌+◌, Bool, if◌then◌else◌, List, [], ◌∷◌, ◌++◌, length, get_or, filter, map, Contains}
+use Rattle.std.specs.Prelude.{◌≡◌, ◌↔◌, ◌<◌, ◌≤◌, nat_le, nat_lt, ℕ, ◌==◌, ◌+◌, Bool, true, if◌then◌else◌, List, [], ◌∷◌, ◌++◌, length, get_or, filter, map, Contains}
 use Rattle.std.specs.List.{filter_map}
 use Rattle.time_base.specs.declared.ids.DocId.{DocId}
 use Rattle.time_base.specs.declared.posting.Posting.{Posting}
@@ -51,8 +51,8 @@ Tell hits words often = (doc : DocId) (k : ℕ) → k < length words → found (
 abbrev pub IsCut : List Hit → ℕ → Type 0
 IsCut hits n = (i j : ℕ) (h : Hit) → i < n → n ≤ j → j < length hits → (get_or hits i h).doc.0 < (get_or hits j h).doc.0
 
--- the rows, before they are sorted, of the documents of some of the hits, by all hits of each
-pub record AreMade (query : Query) (hits some : List Hit) (made : List Row) : Type 0 where
+-- the rows, before they are sorted, of the documents of some of the hits that are alive, by all hits of each
+pub record AreMade (alive : DocId → Bool) (query : Query) (hits some : List Hit) (made : List Row) : Type 0 where
   pub docs : List DocId
-  pub had : (d : DocId) → (Contains docs d ↔ Contains (map (λ h. h.doc) some) d)
+  pub had : (d : DocId) → (Contains docs d ↔ (Contains (map (λ h. h.doc) some) d × (alive d ≡ true)))
   pub rows : (often : DocId → List ℕ → ℕ) → Tell hits (words_of query) often → made ≡ filter_map (λ doc. row_of query (often doc) doc) docs

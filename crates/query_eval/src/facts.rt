@@ -3,7 +3,7 @@ ghost use Rattle.std.specs.Prelude.{◌≡◌, ◌⊎◌, ◌<◌, ◌≤◌, �
 ghost use Rattle.std.specs.List.Sorted.{IsNonDecreasingBy, IsPartitionPoint};
 ghost use Rattle.stretches.specs.Events.{AreInOrder};
 ghost use Rattle.stretches.specs.declared.event.Event.{Event as EventValue};
-ghost use Rattle.query_eval.specs.Facts.{life_fact, word_fact, facts_of, of_doc, AreTurns};
+ghost use Rattle.query_eval.specs.Facts.{life_fact, word_fact, facts_of, of_doc, AreEvents};
 
 use crate::hit::Hit;
 use crate::part::Part;
@@ -120,7 +120,7 @@ pub(crate) fn group_of(facts: &[Fact], doc: DocId) -> &[Fact]
 }
 
 /// An event of the document at a number of seconds, where that lies in the span.
-fn note_turn(
+fn note_event(
     events: &mut Vec<Event>,
     doc: DocId,
     seconds: u64,
@@ -143,14 +143,14 @@ fn note_turn(
 
 /// The events of facts inside the span, in order: where each begins there or holds already, and
 /// where it ends. Costs the facts and a sort.
-pub(crate) fn turns_of(alloc: Global, facts: &[Fact], span: Span) -> Result<Vec<Event>, AllocError>
+pub(crate) fn events_of(alloc: Global, facts: &[Fact], span: Span) -> Result<Vec<Event>, AllocError>
     ensures sorted { IfOk result (λ events. AreInOrder events.items) }
-    ensures turns { IfOk result (λ events. AreTurns facts.now span.from span.to events.items) }
+    ensures events { IfOk result (λ events. AreEvents facts.now span.from span.to events.items) }
 {
     let mut events = Vec::new(alloc);
     for fact in facts {
-        note_turn(&mut events, fact.doc, fact.span.from.max(span.from), span)?;
-        note_turn(&mut events, fact.doc, fact.span.to, span)?;
+        note_event(&mut events, fact.doc, fact.span.from.max(span.from), span)?;
+        note_event(&mut events, fact.doc, fact.span.to, span)?;
     }
     sort_events(&mut events);
     Ok(events)

@@ -1,11 +1,11 @@
 //! Answers to queries over any lists.
-ghost use Rattle.std.specs.Prelude.{option_to_list, ◌++◌, OnOk, ◌≡◌, ◌<◌, ◌≤◌, ◌+◌, ◌∷◌, if◌then◌else◌, drop, ℕ, List, [], Ok, length, map, Contains, IfOk, IsErrOf};
+ghost use Rattle.std.specs.Prelude.{option_to_list, ◌++◌, OnOk, ◌≡◌, ◌<◌, ◌≤◌, ◌+◌, ◌∷◌, if◌then◌else◌, true, drop, filter, ℕ, Bool, List, [], Ok, length, map, Contains, IfOk, IsErrOf};
 ghost use Rattle.std.specs.List.{filter_map, slice_index_or};
 ghost use Rattle.std.specs.List.Sorted.{IsNonDecreasingBy, IsPermutation};
 ghost use Rattle.query_lang.specs.Meaning.{words_of};
 ghost use Rattle.query_eval.specs.Answers.{IsAnswer};
 ghost use Rattle.query_eval.specs.Asked.{Asks, AsksFront, AsksToFault, read_of};
-ghost use Rattle.query_eval.specs.Found.{told, HasHit, row_of, once, AreSorted};
+ghost use Rattle.query_eval.specs.Found.{told, HasHit, AnswersAs, row_of, once, AreSorted};
 ghost use Rattle.query_eval.specs.Hits.{found, Tell, AreMade};
 ghost use Rattle.query_eval.specs.declared.answer.Row.{Row as RowValue};
 ghost use Rattle.query_eval.specs.declared.part.Part.{Part as PartValue};
@@ -99,6 +99,24 @@ fn put(rows: &mut Vec<Row>, row: Option<Row>) -> Result<(), AllocError>
     Ok(())
 }
 
+/// Puts a row behind others, if there is one and its document is alive.
+fn put_living<F: Fn(DocId) -> bool>(
+    rows: &mut Vec<Row>,
+    row: Option<Row>,
+    is_alive: &F,
+) -> Result<(), AllocError>
+    requires { F.IsAlwaysCallable is_alive.now }
+    ensures { OnOk result ((alive : DocValue → Bool) → AnswersAs (F.post is_alive.now) alive
+        → rows.new.items ≡ rows.old.items ++ filter (λ row. alive row.doc) (option_to_list row)) }
+{
+    if let Some(row) = row {
+        if is_alive(row.doc) {
+            rows.push(row)?;
+        }
+    }
+    Ok(())
+}
+
 /// Rows without those that the next one repeats.
 fn once(alloc: Global, rows: &[Row]) -> Result<Vec<Row>, AllocError>
     ensures { IfOk result (λ v. v.items ≡ once rows.now) }
@@ -132,18 +150,21 @@ fn rows_of(
     Ok(rows)
 }
 
-/// The rows of the documents that have a hit, among hits that stand by document, in their order. One
-/// pass over the hits, and the query's length for each document; `counts` is room for the words'
-/// frequencies.
-fn rows_by_hits(
+/// The rows of the documents that have a hit and are alive, among hits that stand by document, in
+/// their order. One pass over the hits, the query's length for each document, and a call of `is_alive`
+/// for each that matches; `counts` is room for the words' frequencies.
+fn rows_by_hits<F: Fn(DocId) -> bool>(
     alloc: Global,
     query: &Query,
     hits: &[Hit],
     counts: &mut [u32],
+    is_alive: F,
 ) -> Result<Vec<Row>, AllocError>
+    requires callable { F.IsAlwaysCallable is_alive }
     requires sorted { IsNonDecreasingBy (λ h. h.doc.0) hits.now }
     requires room { length counts.old ≡ length (words_of query.now) }
-    ensures { IfOk result (λ rows. AreMade query.now hits.now hits.now rows.items) }
+    ensures { IfOk result (λ rows. (alive : DocValue → Bool) → AnswersAs (F.post is_alive) alive
+        → AreMade alive query.now hits.now hits.now rows.items) }
 {
     let mut truths = Pile::new(alloc);
     let mut rows = Vec::new(alloc);
@@ -157,7 +178,7 @@ fn rows_by_hits(
             counts,
             &mut truths,
         )?;
-        put(&mut rows, row)?;
+        put_living(&mut rows, row, &is_alive)?;
         start = end;
     }
     Ok(rows)
@@ -210,21 +231,24 @@ fn answer_among(
     Ok(answer)
 }
 
-/// What the query finds by hits among the documents that have one.
-fn answer_over(
+/// What the query finds by hits among the documents that have one and are alive.
+fn answer_over<F: Fn(DocId) -> bool>(
     alloc: Global,
     query: &Query,
     parts: &[Part],
     hits: &[Hit],
+    is_alive: F,
 ) -> Result<Answer, AllocError>
+    requires callable { F.IsAlwaysCallable is_alive }
     requires many { length parts.now ≡ length (words_of query.now) }
     requires sorted { IsNonDecreasingBy (λ h. h.doc.0) hits.now }
-    ensures rows { IfOk result (λ a. (often : DocValue → List ℕ → ℕ) → Tell hits.now (words_of query.now) often
-        → IsAnswer (λ doc. Contains (map (λ h. h.doc) hits.now) doc) often query.now a.rows.items) }
+    ensures rows { IfOk result (λ a. (alive : DocValue → Bool) → AnswersAs (F.post is_alive) alive
+        → (often : DocValue → List ℕ → ℕ) → Tell hits.now (words_of query.now) often
+        → IsAnswer (λ doc. Contains (map (λ h. h.doc) hits.now) doc × (alive doc ≡ true)) often query.now a.rows.items) }
     ensures read { IfOk result (λ a. a.read ≡ read_of parts.now) }
 {
     let mut counts = vec![in alloc; 0; query.words().len()]?;
-    let rows = rows_by_hits(alloc, query, hits, &mut counts)?;
+    let rows = rows_by_hits(alloc, query, hits, &mut counts, is_alive)?;
     let answer = answer_of(alloc, rows, parts)?;
     Ok(answer)
 }
@@ -265,9 +289,28 @@ pub fn answer_by_hits(
         (λ doc. told (words_of query.now) parts.now t.seconds doc.0) query.now a.rows.items) }
     ensures read { IfOk result (λ a. a.read ≡ read_of parts.now) }
 {
+    answer_by_living_hits(alloc, query, t, parts, |_| true)
+}
+
+/// What `answer_by_hits` finds of the documents that are alive by this test. Costs what `answer_by_hits`
+/// does, and a call of the test for each document that matches, in the order of the documents.
+pub fn answer_by_living_hits<F: Fn(DocId) -> bool>(
+    alloc: Global,
+    query: &Query,
+    t: Time,
+    parts: &[Part],
+    is_alive: F,
+) -> Result<Answer, AllocError>
+    requires callable { F.IsAlwaysCallable is_alive }
+    requires many { length parts.now ≡ length (words_of query.now) }
+    ensures rows { IfOk result (λ a. (alive : DocValue → Bool) → AnswersAs (F.post is_alive) alive
+        → IsAnswer (λ doc. HasHit (words_of query.now) parts.now t.seconds doc × (alive doc ≡ true))
+        (λ doc. told (words_of query.now) parts.now t.seconds doc.0) query.now a.rows.items) }
+    ensures read { IfOk result (λ a. a.read ≡ read_of parts.now) }
+{
     let all = hits_at(alloc, parts, t)?;
     let hits = all.as_slice();
-    let answer = answer_over(alloc, query, parts, hits)?;
+    let answer = answer_over(alloc, query, parts, hits, is_alive)?;
     Ok(answer)
 }
 

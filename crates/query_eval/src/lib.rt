@@ -17,7 +17,7 @@ mod span_laws;
 mod spans;
 
 pub use answer::{Answer, Row};
-pub use found::{answer_at, answer_by_hits, answer_from, parts_at};
+pub use found::{answer_at, answer_by_hits, answer_by_living_hits, answer_from, parts_at};
 pub use laws::{an_answer_is_one, each_query_has_an_answer, only_hits_matter, only_words_matter};
 pub use part::{EvalError, Lists, Part};
 pub use span_laws::{a_span_answer_is_one, each_window_has_an_answer, span_rows_are_the_longest};

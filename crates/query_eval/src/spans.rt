@@ -14,7 +14,7 @@ ghost use Rattle.query_eval.specs.Spans.{row_kind, IsSpanAnswer};
 ghost use Rattle.query_eval.specs.declared.part.Part.{Part as PartValue};
 
 use crate::asking::{When, parts_when};
-use crate::facts::{Fact, facts_by_doc, group_of, turns_of};
+use crate::facts::{Fact, events_of, facts_by_doc, group_of};
 use crate::found::{read_of, row_by};
 use crate::hit::Hit;
 use crate::part::{EvalError, Lists, Part};
@@ -193,7 +193,7 @@ fn rows_over(
     ensures { IfOk result (λ rows. (f : ℕ → ℕ → Option ℕ) → IsScored query.now facts.now f
         → AreStretches row_kind f span.from span.to rows.items) }
 {
-    let events = turns_of(alloc, facts, span)?;
+    let events = events_of(alloc, facts, span)?;
     let mut rows = Vec::new(alloc);
     for i in 0..events.len() {
         if let Some(row) = row_from(query, facts, &events, i, span, room)? {

@@ -44,14 +44,16 @@ fn a_version_is_valid_from_its_time_until_the_next_ones(rt: HostRuntime) -> Resu
         (7, 20, Some(2)),
         (3, 20, Some(3)),
         (7, 30, None),
+        (7, 50, Some(4)),
+        (7, 60, Some(5)),
     ] {
         let allowed = change(&mut directory, DocId(doc), time(&rt, at), bytes)?;
         assert_eq!(rt; allowed, Ok(()), "at {at}");
     }
-    assert_eq!(rt; directory.last(), Some(time(&rt, 30)));
-    assert_eq!(rt; directory.len(), 4);
+    assert_eq!(rt; directory.last(), Some(time(&rt, 60)));
+    assert_eq!(rt; directory.len(), 6);
     assert_eq!(rt; directory.documents(), 2);
-    assert_eq!(rt; directory.changes().len(), 4);
+    assert_eq!(rt; directory.changes().len(), 6);
     for (at, bytes) in [
         (9, None),
         (10, Some(1)),
@@ -59,7 +61,11 @@ fn a_version_is_valid_from_its_time_until_the_next_ones(rt: HostRuntime) -> Resu
         (20, Some(2)),
         (29, Some(2)),
         (30, None),
-        (40, None),
+        (49, None),
+        (50, Some(4)),
+        (59, Some(4)),
+        (60, Some(5)),
+        (70, Some(5)),
     ] {
         let place = directory.place(DocId(7), time(&rt, at));
         assert_eq!(rt; place.map(|text| text.bytes), bytes, "at {at}");

@@ -5,8 +5,9 @@ pub mod Indexed
 pub mod Mapped
 pub mod Valid
 pub mod Law
+mod Lasting
 mod Steps
 mod Ascending
 pub mod Holding
 pub mod Alive
-mod Turning
+mod Changing

@@ -1,18 +1,21 @@
 -- How a directory finds the changes of one document among those of all.
-use Rattle.std.specs.Prelude.{◌≡◌, ℕ, ◌+◌, ◌≤◌, List, [], ◌∷◌, ◌++◌, length, take, slice_get, Option, Some, IsSome, IsSomeAnd, MatchOption, ◌==◌, IsPermutation, count_by}
+use Rattle.std.specs.Prelude.{◌≡◌, ℕ, ◌+◌, ◌≤◌, List, [], ◌∷◌, ◌++◌, length, take, slice_get, Option, Some, IsSome, IfSome, IsSomeAnd, MatchOption, ◌==◌, IsPermutation, count_by}
 use Rattle.std.specs.List.Sorted.{IsNonDecreasingBy}
+use Rattle.std.specs.Option.{option_map}
 use Rattle.std.specs.HashMap.{HashMap, get, keys}
 use Rattle.std.specs.declared.hash.FoldHasher.{FoldHasher}
 use Rattle.std.specs.declared.hash.BuildHasherDefault.{BuildHasherDefault}
 use Rattle.time_base.specs.declared.ids.DocId.{DocId}
 use Rattle.time_base.specs.declared.text_place.TextPlace.{TextPlace}
 use Rattle.version_store.specs.declared.change.Change.{Change}
+use Rattle.version_store.specs.declared.last_life.LastLife.{LastLife}
 use Rattle.version_store.specs.declared.link.Link.{Link}
 use Rattle.version_store.specs.Changes.{changes_of, documents, held_at}
+use Rattle.version_store.specs.LastLives.{IsLastLife}
 
--- a map from documents to places
-abbrev pub Places : Type 0
-Places = HashMap DocId ℕ (BuildHasherDefault FoldHasher)
+-- a map from documents to their last lives
+abbrev pub LastLives : Type 0
+LastLives = HashMap DocId LastLife (BuildHasherDefault FoldHasher)
 
 -- the place at which a document's latest change lies, if it has one
 abbrev pub IsLatest : {A : Type 0} → DocId → List (Change A) → Option ℕ → Type 0
@@ -33,10 +36,11 @@ pub record AreLinked (log : List (Change TextPlace)) (links : List Link) : Type 
   pub as_many : length links ≡ length log
   pub linked : (i : ℕ) (c : Change TextPlace) (link : Link) → slice_get log i ≡ Some c → slice_get links i ≡ Some link → IsLinked log i c.doc link
 
--- the map leads to each document's latest change, and has each document once
-pub record IsIndexed (log : List (Change TextPlace)) (links : List Link) (latest : Places) : Type 0 where
+-- the map leads to each document's latest change, says when it was alive last, and has each document once
+pub record IsIndexed (log : List (Change TextPlace)) (links : List Link) (latest : LastLives) : Type 0 where
   pub way : AreLinked log links
-  pub found : (doc : DocId) → IsLatest doc log (get (λ a b. a.0 == b.0) latest doc)
+  pub found : (doc : DocId) → IsLatest doc log (option_map (λ life. life.place) (get (λ a b. a.0 == b.0) latest doc))
+  pub alive : (doc : DocId) → IfSome (get (λ a b. a.0 == b.0) latest doc) (IsLastLife doc log)
   pub each_once : IsPermutation (keys latest) (documents log)
 
 -- a place of a document's changes such that none behind it counts at a time

@@ -1,6 +1,7 @@
 pub mod Changes
-pub mod Held
+pub mod States
 pub mod Index
+pub mod LastLives
 pub mod Laws
 pub mod Links
 pub mod Lives

@@ -26,11 +26,11 @@ LivesAreOne A = (changes : List (Change A)) (a b : ℕ) (one other : List Life) 
 abbrev pub start_of : Time → DocId → Event
 start_of at doc = record { doc = doc; at = at }
 
-abbrev pub turn_of : {A : Type 0} → Change A → Event
-turn_of c = record { doc = c.doc; at = c.at }
+abbrev pub event_of : {A : Type 0} → Change A → Event
+event_of c = record { doc = c.doc; at = c.at }
 
 -- events inside [a, b): one at its start for each of these documents, and one for each change behind its start
-pub record AreTurns {A : Type 0} (changes : List (Change A)) (docs : List DocId) (a b : ℕ) (events : List Event) : Type 0 where
+pub record AreEvents {A : Type 0} (changes : List (Change A)) (docs : List DocId) (a b : ℕ) (events : List Event) : Type 0 where
   pub inside : (x : Event) → Contains events x → (a ≤ x.at.seconds) × (x.at.seconds < b)
   pub started : (doc : DocId) → Contains docs doc → (x : Event) × Contains events x × (x.doc ≡ doc) × (x.at.seconds ≡ a)
   pub changed : (c : Change A) → Contains changes c → a < c.at.seconds → c.at.seconds < b → (x : Event) × Contains events x × (x.doc ≡ c.doc) × (x.at.seconds ≡ c.at.seconds)

@@ -8,9 +8,10 @@ ghost use Rattle.version_store.specs.Changes.{last_time, latest, documents, held
 ghost use Rattle.version_store.specs.Refusals.{arrive_refusal, delete_refusal, time_back, full_versions};
 
 use crate::change::Change;
+use crate::last_life::LastLife;
 use crate::link::Link;
 use crate::refusal::VersionRefusal;
-use crate::walk::held_from;
+use crate::walk::{alive_from, held_from};
 use std::alloc::{AllocError, Global};
 use std::collections::HashMap;
 use std::marker::Model;
@@ -19,25 +20,25 @@ use time_base::{DocId, TextPlace, Time, Which};
 /// The changes of all documents, with each text's place in the journal.
 ///
 /// A document's changes are found without a look at other documents': its latest one by a hash
-/// table, and earlier ones by links back from it. A look-up below is one in that table, constant on
-/// average.
+/// table, and earlier ones by links back from it. The table also has when the document was alive
+/// last. A look-up below is one in that table, constant on average.
 #[derive(Drop)]
 pub struct Directory {
     /// The changes in their order.
     log: Vec<Change<TextPlace>>,
     /// For each change, the way back to earlier changes of its document.
     links: Vec<Link>,
-    /// The place in the log of each document's latest change.
-    latest: HashMap<DocId, usize>,
+    /// For each document, the place in the log of its latest change, and when it was alive last.
+    latest: HashMap<DocId, LastLife>,
 }
 
 impl Model for Directory {
     ghost use Rattle.std.specs.Prelude.{◌-◌, min, vec_len, vec_capacity};
     ghost use Rattle.std.specs.HashMap.{spare};
-    ghost use Rattle.version_store.specs.Held.{Held};
+    ghost use Rattle.version_store.specs.States.{DirectoryState};
     ghost use Rattle.version_store.specs.Index.{IsIndexed};
 
-    ghost Value = { Held };
+    ghost Value = { DirectoryState };
 
     ghost view = { λ a. record {
       changes = a.log.items;
@@ -91,7 +92,7 @@ impl Directory {
         ensures { result ≡ latest doc self.now.changes }
     {
         match self.latest.get(&doc) {
-            Some(place) => Some(self.log[*place]),
+            Some(life) => Some(self.log[life.place]),
             None => None,
         }
     }
@@ -184,19 +185,23 @@ impl Directory {
         ensures { result ≡ held_at doc t.seconds self.now.changes }
     {
         match self.latest.get(&doc) {
-            Some(latest) => held_from(&self.log, &self.links, *latest, t),
+            Some(life) => held_from(&self.log, &self.links, life.place, t),
             None => None,
         }
     }
 
-    /// Whether the document is alive at the time. It costs what `place` does.
+    /// Whether the document is alive at the time. It costs one look-up, and at a time before the
+    /// start of the document's last life what `place` does.
     pub fn alive_at(&self, doc: DocId, t: Time) -> bool
         ensures { IsTrue result ↔ IsSome (held_at doc t.seconds self.now.changes) }
     {
-        self.place(doc, t).is_some()
+        match self.latest.get(&doc) {
+            Some(life) => alive_from(&self.log, &self.links, *life, t),
+            None => false,
+        }
     }
 
-    /// The documents alive at the time, ascending. It costs what `place` does for each document
+    /// The documents alive at the time, ascending. It costs what `alive_at` does for each document
     /// that ever changed, and a sort.
     pub fn alive(&self, alloc: Global, t: Time) -> Result<Vec<DocId>, AllocError>
         ensures { IfOk result (λ docs. docs.items ≡ alive t.seconds self.now.changes) }
@@ -215,7 +220,7 @@ impl Directory {
             .latest
             .keys()
             .copied()
-            .filter(|doc| self.place(*doc, t).is_some())
+            .filter(|doc| self.alive_at(*doc, t))
             .collect(alloc)?;
         Ok(docs)
     }
@@ -271,13 +276,15 @@ impl Directory {
         ensures room { self.old.room ≤ self.new.room + 1 }
     {
         let place = self.log.len();
-        let link = match self.latest.get(&change.doc) {
-            Some(before) => Link::behind(&self.links, *before),
+        let before = self.latest.get(&change.doc).copied();
+        let life = LastLife::behind(before, place, &change);
+        let link = match before {
+            Some(before) => Link::behind(&self.links, before.place),
             None => Link::first(place),
         };
         self.log.push_reserved(change);
         self.links.push_reserved(link);
-        let entered: Result<_, _> = self.latest.insert(change.doc, place);
+        let entered: Result<_, _> = self.latest.insert(change.doc, life);
         entered.unwrap();
     }
 }

@@ -9,6 +9,7 @@
 
 mod change;
 mod directory;
+mod last_life;
 mod laws;
 mod link;
 mod lives;

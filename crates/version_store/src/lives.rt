@@ -7,7 +7,7 @@ ghost use Rattle.stretches.specs.Kinds.{life_kind, is_alive};
 ghost use Rattle.stretches.specs.Laid.{AreLaid, with_row, IsBehind, Continues, IsJoined};
 ghost use Rattle.stretches.specs.declared.event.Event.{Event as EventValue};
 ghost use Rattle.version_store.specs.Changes.{held_at};
-ghost use Rattle.version_store.specs.Lives.{AreLives, AreTurns, lived, start_of, turn_of};
+ghost use Rattle.version_store.specs.Lives.{AreLives, AreEvents, lived, start_of, event_of};
 
 use crate::change::Change;
 use crate::directory::Directory;
@@ -17,7 +17,7 @@ use time_base::{DocId, Span, TextPlace, Time};
 
 impl Directory {
     /// When documents are alive in the span: the longest stretches, in the order of document and
-    /// start. Versions of one document that touch are one life. It costs what `place` does for each
+    /// start. Versions of one document that touch are one life. It costs what `alive_at` does for each
     /// document that ever changed and for each change in the span, and a sort of both.
     pub fn lives(&self, alloc: Global, span: Span) -> Result<Vec<Life>, AllocError>
         ensures lives { IfOk result (λ lives. AreLives self.now.changes span.from span.to lives.items) }
@@ -26,7 +26,7 @@ impl Directory {
     {
         let start = Time { seconds: span.from };
         let docs = self.alive(alloc, start)?;
-        let events = turns(alloc, self.changes(), &docs, start, span)?;
+        let events = events_in(alloc, self.changes(), &docs, start, span)?;
         let mut lives = Vec::new(alloc);
         for i in 0..events.len() {
             if let Some(life) = self.life_from(&events, i, span) {
@@ -37,7 +37,7 @@ impl Directory {
     }
 
     /// The life of an event's document from there to the next event, if it is alive then. It costs
-    /// what `place` does.
+    /// what `alive_at` does.
     fn life_from(&self, events: &[Event], i: usize, span: Span) -> Option<Life>
         requires { i < length events.now }
         ensures { (e : EventValue) → e ≡ slice_index_or events.now i e → MatchOption result
@@ -89,7 +89,7 @@ fn within(changes: &[Change<TextPlace>], span: Span) -> &[Change<TextPlace>]
 
 /// The events in a span, in order: one at its start for each of these documents, and one for each
 /// change behind that.
-fn turns(
+fn events_in(
     alloc: Global,
     changes: &[Change<TextPlace>],
     docs: &[DocId],
@@ -99,7 +99,7 @@ fn turns(
     requires ascending { IsNonDecreasingBy (λ c. c.at.seconds) changes.now }
     requires starts { start.seconds ≡ span.from }
     ensures sorted { IfOk result (λ events. AreInOrder events.items) }
-    ensures turns { IfOk result (λ events. AreTurns changes.now docs.now span.from span.to events.items) }
+    ensures events { IfOk result (λ events. AreEvents changes.now docs.now span.from span.to events.items) }
 {
     let mut events = starts(alloc, docs, start)?;
     let later = moves(alloc, within(changes, span))?;
@@ -119,7 +119,7 @@ fn starts(alloc: Global, docs: &[DocId], at: Time) -> Result<Vec<Event>, AllocEr
 
 /// An event for each change.
 fn moves(alloc: Global, changes: &[Change<TextPlace>]) -> Result<Vec<Event>, AllocError>
-    ensures { IfOk result (λ events. events.items ≡ map turn_of changes.now) }
+    ensures { IfOk result (λ events. events.items ≡ map event_of changes.now) }
 {
     changes
         .iter()

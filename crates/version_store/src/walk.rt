@@ -1,12 +1,29 @@
-//! The walk back from a document's latest change to the one that is valid at a time.
-ghost use Rattle.std.specs.Prelude.{◌≡◌, ◌<◌, length, slice_get, None, Some, IfSome, MatchOption};
+//! The walk back from a document's latest change to the one that is valid at a time, and when there
+//! is none to make.
+ghost use Rattle.std.specs.Prelude.{◌≡◌, ◌↔◌, ◌<◌, length, slice_get, None, Some, IsTrue, IsSome, IfSome, MatchOption};
 ghost use Rattle.time_base.specs.declared.ids.DocId.{DocId as Document};
 ghost use Rattle.version_store.specs.Changes.{held_at};
 ghost use Rattle.version_store.specs.Index.{AreLinked, Leads};
+ghost use Rattle.version_store.specs.LastLives.{IsLastLife};
 
 use crate::change::Change;
+use crate::last_life::LastLife;
 use crate::link::Link;
 use time_base::{TextPlace, Time};
+
+/// Whether the document of this last life is alive at the time. Before the life's start it costs what
+/// `held_from` does, and else no look at the changes.
+pub(crate) fn alive_from(log: &[Change<TextPlace>], links: &[Link], life: LastLife, t: Time) -> bool
+    requires linked { AreLinked log.now links.now }
+    requires there { life.place < length log.now }
+    ensures { (doc : Document) → Leads doc t.seconds log.now life.place → IsLastLife doc log.now life →
+        IsTrue result ↔ IsSome (held_at doc t.seconds log.now) }
+{
+    if life.since.seconds <= t.seconds {
+        return life.lasts_at(t);
+    }
+    held_from(log, links, life.place, t).is_some()
+}
 
 /// What the document of the change at the place `latest` holds at the time, where none of its
 /// changes behind that place counts then. Its steps are in the logarithm of the document's changes.

@@ -1,21 +1,12 @@
-use Rattle.std.proofs.Common.{◌≡◌, ℕ, ap, ◌∙◌, filter}
+use Rattle.std.proofs.Common.{true, refl, rules}
+use Rattle.std.proofs.lemmas.Result.{IfOk-weaker}
 use Rattle.time_base.specs.declared.ids.DocId.{DocId}
-use Rattle.fold_tokens.proofs.CountLemmas.{IsDistinct-distinct}
-use Rattle.query_lang.specs.Meaning.{words_of, occurring}
+use Rattle.query_lang.specs.Meaning.{words_of}
 use Rattle.query_eval.specs.Found.{told, HasHit}
-use Rattle.query_eval.specs.Hits.{is_of, gathered}
-use Rattle.query_eval.proofs.FoundLemmas.{hits-tell}
 use Rattle.query_eval.proofs.GivenLemmas.{same_alive}
-use Rattle.query_eval.proofs.HasHitLemmas.{documents-are}
 use Rattle.query_eval.proofs.found.answer_by_hits.Goals as goal
 
 pub returns-clause-rows : goal.returns-clause-rows
 returns-clause-rows c =
-    let words = words_of c.args.query.now in
-    let t = c.args.t.seconds in
-    let parts = c.args.parts.now in
-    let hits = c.as_slice-hits.result.now in
-    let each : (d : ℕ) → filter (is_of d) hits ≡ filter (is_of d) (gathered t 0 parts) = λ d. ap (filter (is_of d)) c.as_slice-hits.ensures.value ∙ c.in_ok-all.ensures.each d in
-    let tell = hits-tell t words parts hits (IsDistinct-distinct (occurring c.args.query.now)) c.requires each in
-    same_alive (HasHit words parts t) _ (λ (doc : DocId). told words parts t doc.0) c.args.query.now _ (documents-are t words parts hits c.requires each tell)
-    (c.in_ok-answer.ensures.rows (λ (doc : DocId). told words parts t doc.0) tell)
+    let hit = HasHit (words_of c.args.query.now) c.args.parts.now c.args.t.seconds in
+    IfOk-weaker c.answer_by_living_hits.result _ _ (λ a h. same_alive hit _ (λ (doc : DocId). told (words_of c.args.query.now) c.args.parts.now c.args.t.seconds doc.0) c.args.query.now _ (λ doc. (λ k. k.0, λ k. (k, refl))) (h (λ _. true) (λ doc b says. search rules))) c.answer_by_living_hits.ensures.rows

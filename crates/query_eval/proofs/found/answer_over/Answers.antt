@@ -4,10 +4,10 @@ use Rattle.query_eval.proofs.GivenLemmas.{same_alive}
 use Rattle.query_eval.proofs.found.answer_over.Goals as goal
 
 pub answer_of-requires : goal.answer_of-requires
-answer_of-requires c = omega (arith, c.requires.many, c.words.ensures.few, ap length c.words.ensures.words)
+answer_of-requires g c = omega (arith, c.requires.many, c.words.ensures.few, ap length c.words.ensures.words)
 
 pub returns-clause-rows : goal.returns-clause-rows
-returns-clause-rows c = λ often tell.
+returns-clause-rows g c = λ alive tells often tell.
     let (sorted, permuted, in_order, rows) = c.in_ok-answer.ensures.rows in
-    let made = c.in_ok-rows.ensures in
+    let made = c.in_ok-rows.ensures alive tells in
     same_alive _ _ often c.args.query.now _ made.had (answer-is made.docs often c.args.query.now c.in_ok-rows.rows.items sorted _ (made.rows often tell) permuted in_order rows)

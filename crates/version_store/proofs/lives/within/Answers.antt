@@ -1,6 +1,6 @@
 use Rattle.std.proofs.Common.{◌≡◌, ◌-◌, arith, length, take, drop}
 use Rattle.std.proofs.lemmas.List.{take_all, length-drop}
-use Rattle.version_store.proofs.Turning.{within-is}
+use Rattle.version_store.proofs.Changing.{within-is}
 use Rattle.version_store.proofs.lives.within.Goals as goal
 
 pub returns : goal.returns

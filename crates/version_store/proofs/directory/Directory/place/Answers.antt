@@ -10,4 +10,4 @@ held_from-requires-clause-there c = rw c.deref.ensures.value (known-within _ _ _
 pub returns-in-Some : goal.returns-in-Some
 returns-in-Some c =
     let found = known _ _ _ c.args.doc _ c.self.invariant (sym c.get.ensures.value ∙ ap option_copied c.in-Some.is) in
-    rw (← c.self.view_is) ((rw c.deref.ensures.value at c.held_from.ensures) c.args.doc (start c.args.doc c.args.t.seconds _ c.in-Some.latest.now found))
+    rw (← c.self.view_is) ((rw c.deref.ensures.value at c.held_from.ensures) c.args.doc (start c.args.doc c.args.t.seconds _ c.in-Some.life.now.place found))

@@ -14,7 +14,7 @@ use Rattle.stretches.specs.declared.event.Event.{Event}
 use Rattle.stretches.proofs.Elements.{here, later, here-or-later, none, filter-in, map-in, map-from}
 use Rattle.version_store.specs.declared.change.Change.{Change}
 use Rattle.version_store.specs.Changes.{changes_of, valid_at, held_at, put, documents, alive}
-use Rattle.version_store.specs.Lives.{AreTurns, lived}
+use Rattle.version_store.specs.Lives.{AreEvents, lived}
 use Rattle.version_store.proofs.Known.{order_of, has}
 use Rattle.version_store.proofs.Latest.{changes_of-none}
 
@@ -55,11 +55,11 @@ within-is {A} changes a b first count fl p cl q c = (forth, λ h. back h.0 h.1 h
           ])
     ]
 
--- the events of documents and changes are the turns
-pub turns-are : {A : Type 0} (changes late : List (Change A)) (docs : List DocId) (a b : ℕ) (f : DocId → Event) (g : Change A → Event) (events sorted : List Event) → a < b
+-- the events of documents and changes are those of the window
+pub events-are : {A : Type 0} (changes late : List (Change A)) (docs : List DocId) (a b : ℕ) (f : DocId → Event) (g : Change A → Event) (events sorted : List Event) → a < b
     → ((c : Change A) → Contains late c ↔ (Contains changes c × (a < c.at.seconds) × (c.at.seconds < b))) → ((doc : DocId) → ((f doc).doc ≡ doc) × ((f doc).at.seconds ≡ a)) → ((c : Change A) → ((g c).doc ≡ c.doc) × ((g c).at.seconds ≡ c.at.seconds))
-    → events ≡ map f docs ++ map g late → IsPermutation events sorted → AreTurns changes docs a b sorted
-turns-are {A} changes late docs a b f g events sorted o w fs gs e p = record {
+    → events ≡ map f docs ++ map g late → IsPermutation events sorted → AreEvents changes docs a b sorted
+events-are {A} changes late docs a b f g events sorted o w fs gs e p = record {
   inside = λ x c. elim (Contains-append_cases (map f docs) (map g late) x (subst (λ l. Contains l x) e (Contains-permutation sorted events x (IsPermutation-sym events sorted p) c))) [
     | inl m ↦ (let (doc, n, i) = map-from f x docs m in start x doc (ap (λ y. y.at.seconds) (sym i)))
     | inr m ↦ (let (c, n, i) = map-from g x late m in change x c n (ap (λ y. y.at.seconds) (sym i)))
@@ -109,37 +109,37 @@ known-there d (x ∷ ds) h = elim (true-either (d.0 == x.0) (has d ds) h) [
 ]
 
 module _ {A : Type 0} where
-  abbrev Unturned : ℕ → ℕ → Change A → Type 0
-  Unturned e t c = e < c.at.seconds → c.at.seconds ≤ t → ⊥
+  abbrev Unmoved : ℕ → ℕ → Change A → Type 0
+  Unmoved e t c = e < c.at.seconds → c.at.seconds ≤ t → ⊥
 
-  same-begun : (e t : ℕ) (c : Change A) → e ≤ t → Unturned e t c → nat_le c.at.seconds e ≡ nat_le c.at.seconds t
+  same-begun : (e t : ℕ) (c : Change A) → e ≤ t → Unmoved e t c → nat_le c.at.seconds e ≡ nat_le c.at.seconds t
   same-begun e t c l u = elim (cases_lt e c.at.seconds) [
     | inl m ↦ elim (cases_lt t c.at.seconds) [ inl n ↦ grind (arith, nat_tests) | inr n ↦ absurd (u m (omega (arith, n))) ]
     | inr m ↦ grind (arith, nat_tests)
   ]
 
-  same-before : (e t : ℕ) (c : Change A) → e ≤ t → Unturned e t c → nat_lt e c.at.seconds ≡ nat_lt t c.at.seconds
+  same-before : (e t : ℕ) (c : Change A) → e ≤ t → Unmoved e t c → nat_lt e c.at.seconds ≡ nat_lt t c.at.seconds
   same-before e t c l u = elim (cases_lt e c.at.seconds) [
     | inl m ↦ elim (cases_lt t c.at.seconds) [ inl n ↦ grind (arith, nat_tests) | inr n ↦ absurd (u m (omega (arith, n))) ]
     | inr m ↦ grind (arith, nat_tests)
   ]
 
-  valid-still : (e t : ℕ) (cs : List (Change A)) → e ≤ t → All (Unturned e t) cs → valid_at e cs ≡ valid_at t cs
+  valid-still : (e t : ℕ) (cs : List (Change A)) → e ≤ t → All (Unmoved e t) cs → valid_at e cs ≡ valid_at t cs
   valid-still e t [] l u = refl
-  valid-still e t (c ∷ []) l u = ap (λ b. cond b c.held None) (same-begun e t c l (All-head (Unturned e t) c [] u))
+  valid-still e t (c ∷ []) l u = ap (λ b. cond b c.held None) (same-begun e t c l (All-head (Unmoved e t) c [] u))
   valid-still e t (c ∷ d ∷ cs) l u =
-      let rest = All-tail (Unturned e t) c (d ∷ cs) u in
-      rw (same-begun e t c l (All-head (Unturned e t) c (d ∷ cs) u), same-before e t d l (All-head (Unturned e t) d cs rest)) (ap (λ v. cond (nat_le c.at.seconds t && nat_lt t d.at.seconds) c.held v) (valid-still e t (d ∷ cs) l rest))
+      let rest = All-tail (Unmoved e t) c (d ∷ cs) u in
+      rw (same-begun e t c l (All-head (Unmoved e t) c (d ∷ cs) u), same-before e t d l (All-head (Unmoved e t) d cs rest)) (ap (λ v. cond (nat_le c.at.seconds t && nat_lt t d.at.seconds) c.held v) (valid-still e t (d ∷ cs) l rest))
 
   -- what is held stays until the document's next change
-  pub held-still : (doc : DocId) (e t : ℕ) (changes : List (Change A)) → e ≤ t → ((c : Change A) → Contains changes c → c.doc.0 ≡ doc.0 → Unturned e t c) → held_at doc e changes ≡ held_at doc t changes
+  pub held-still : (doc : DocId) (e t : ℕ) (changes : List (Change A)) → e ≤ t → ((c : Change A) → Contains changes c → c.doc.0 ≡ doc.0 → Unmoved e t c) → held_at doc e changes ≡ held_at doc t changes
   held-still doc e t changes l u = valid-still e t (changes_of doc changes) l (λ k d m. all k d m (passes (get_or (changes_of doc changes) k d) (filter_passes (λ c. c.doc.0 == doc.0) changes k d m)))
     where
       passes : (c : Change A) → c.doc.0 == doc.0 ≡ true → c.doc.0 ≡ doc.0
       passes c h = grind (arith, nat_tests)
 
-      all : (k : ℕ) (d : Change A) → k < length (changes_of doc changes) → (get_or (changes_of doc changes) k d).doc.0 ≡ doc.0 → Unturned e t (get_or (changes_of doc changes) k d)
-      all k d m = All-filter (λ c. c.doc.0 == doc.0) (λ c. c.doc.0 ≡ doc.0 → Unturned e t c) changes (λ i x n. u (get_or changes i x) (Contains-get_or changes i x n)) k d m
+      all : (k : ℕ) (d : Change A) → k < length (changes_of doc changes) → (get_or (changes_of doc changes) k d).doc.0 ≡ doc.0 → Unmoved e t (get_or (changes_of doc changes) k d)
+      all k d m = All-filter (λ c. c.doc.0 == doc.0) (λ c. c.doc.0 ≡ doc.0 → Unmoved e t c) changes (λ i x n. u (get_or changes i x) (Contains-get_or changes i x n)) k d m
 
   changed-known : (doc : DocId) (found : List DocId) (changes : List (Change A)) → (has doc found ≡ true) ⊎ ((c : Change A) × Contains changes c × (c.doc.0 ≡ doc.0)) → has doc (fold (λ found c. put c.doc found) found changes) ≡ true
   changed-known doc found [] (inl h) = h
@@ -163,9 +163,9 @@ module _ {A : Type 0} where
           let n : held_at doc t changes ≡ None = ap (valid_at t) (changes_of-none doc changes (λ k d l i. let y : has doc (documents changes) ≡ true = changed-known doc [] changes (inr (get_or changes k d, Contains-get_or changes k d l, i)) in absurd cc)) in
           absurd (let m = ap is_some n in cc)
 
-  -- at the turns of a window what is said of a document changes
-  pub turns-change : (changes : List (Change A)) (a b : ℕ) (events : List Event) → AreTurns changes (alive a changes) a b events → ChangesAt events a b (lived changes)
-  turns-change changes a b events w = record {
+  -- at the events of a window what is said of a document changes
+  pub events-change : (changes : List (Change A)) (a b : ℕ) (events : List Event) → AreEvents changes (alive a changes) a b events → ChangesAt events a b (lived changes)
+  events-change changes a b events w = record {
     inside = w.inside;
     still = λ d e t x l y n. lived-by changes d e t (held-still (record { 0 = d }) e t changes l (λ c m i lo hi. let (z, k, j, h) = w.changed c m (omega (arith, x, lo)) (omega (arith, hi, y)) in n z k (ap (λ (q : DocId). q.0) j ∙ i) (omega (arith, h, lo)) (omega (arith, h, hi))));
     none = λ d t x y n.
@@ -181,8 +181,8 @@ module _ {A : Type 0} where
           go None h = refl
           go (Some x) h = absurd cc
 
-  pub turned : (changes given : List (Change A)) (docs : List DocId) (a b : ℕ) (events : List Event) → given ≡ changes → docs ≡ alive a changes → AreTurns given docs a b events → ChangesAt events a b (lived changes)
-  turned changes given docs a b events e f w = turns-change changes a b events (subst (λ d. AreTurns changes d a b events) f (subst (λ g. AreTurns g docs a b events) e w))
+  pub given-events : (changes given : List (Change A)) (docs : List DocId) (a b : ℕ) (events : List Event) → given ≡ changes → docs ≡ alive a changes → AreEvents given docs a b events → ChangesAt events a b (lived changes)
+  given-events changes given docs a b events e f w = events-change changes a b events (subst (λ d. AreEvents changes d a b events) f (subst (λ g. AreEvents g docs a b events) e w))
 
   -- a document is alive where that is said
   pub alive-said : (changes : List (Change A)) (doc : DocId) (t : ℕ) (q : Bool) → q ≡ is_some (lived changes doc.0 t) → (IsTrue q → IsSome (held_at doc t changes)) × (IsSome (held_at doc t changes) → IsTrue q)

@@ -12,7 +12,7 @@ use Rattle.stretches.proofs.Elements.{filter-from}
 use Rattle.query_lang.specs.Grammar.{Query}
 use Rattle.query_lang.specs.Meaning.{matches, score, words_of}
 use Rattle.query_lang.proofs.Deciding.{agreeing, matches-same, score-same}
-use Rattle.query_eval.specs.Facts.{of_doc, covers, alive_now, score_if, IsScored, AreTurns}
+use Rattle.query_eval.specs.Facts.{of_doc, covers, alive_now, score_if, IsScored, AreEvents}
 use Rattle.query_eval.specs.Hits.{found}
 use Rattle.query_eval.specs.declared.facts.Fact.{Fact}
 use Rattle.query_eval.proofs.FoundLemmas.{get-any}
@@ -24,8 +24,8 @@ pub record IsNoted (old new : List Event) (f : Fact) (n a b : ℕ) : Type 0 wher
   pub there : a ≤ n → n < b → (x : Event) × Contains new x × (x.doc ≡ f.doc) × (x.at.seconds ≡ n)
 
 -- the events of one fact more
-pub turn-more : (facts : List Fact) (f : Fact) (a b n : ℕ) (old mid new : List Event) → n ≡ max f.span.from a → a < b → AreTurns facts a b old → IsNoted old mid f n a b → IsNoted mid new f f.span.to a b → AreTurns (facts ++ f ∷ []) a b new
-turn-more facts f a b n old mid new m o h p q = record {
+pub event-more : (facts : List Fact) (f : Fact) (a b n : ℕ) (old mid new : List Event) → n ≡ max f.span.from a → a < b → AreEvents facts a b old → IsNoted old mid f n a b → IsNoted mid new f f.span.to a b → AreEvents (facts ++ f ∷ []) a b new
+event-more facts f a b n old mid new m o h p q = record {
   inside = λ x c. elim (q.only x c) [ inr i ↦ i | inl d ↦ elim (p.only x d) [ inr i ↦ i | inl e ↦ h.inside x e ] ];
   begun = λ g c l. elim (Contains-push_cases facts f g c) [
     | inl d ↦ (let (x, e, i, j) = h.begun g d l in (x, q.kept x (p.kept x e), i, j))
@@ -43,8 +43,8 @@ turn-more facts f a b n old mid new m o h p q = record {
     smaller : n ≡ max f.span.from a → f.span.from < b → n < b
     smaller m k = grind (arith, nat_tests)
 
-pub turns-sorted : (facts : List Fact) (a b : ℕ) (events sorted : List Event) → IsPermutation events sorted → AreTurns facts a b events → AreTurns facts a b sorted
-turns-sorted facts a b events sorted p h = record {
+pub events-sorted : (facts : List Fact) (a b : ℕ) (events sorted : List Event) → IsPermutation events sorted → AreEvents facts a b events → AreEvents facts a b sorted
+events-sorted facts a b events sorted p h = record {
   inside = λ x c. h.inside x (Contains-permutation sorted events x (IsPermutation-sym events sorted p) c);
   begun = λ f c l. let (x, e, i, j) = h.begun f c l in (x, Contains-permutation events sorted x p e, i, j);
   ended = λ f c l r. let (x, e, i, j) = h.ended f c l r in (x, Contains-permutation events sorted x p e, i, j);
@@ -81,9 +81,9 @@ score-still query facts d e t f h s =
 score-none : (query : Query) (facts : List Fact) (d t : ℕ) (f : ℕ → ℕ → Option ℕ) → IsScored query facts f → filter (covers t) (filter (of_doc d) facts) ≡ [] → f d t ≡ None
 score-none query facts d t f h s = let (often, tell, is) = h d t in is ∙ ap (λ q. score_if q query often) (ap (λ l. list_any (λ x. is_none x.hit) l) s)
 
--- at the turns of a window what is scored changes
-pub turns-change : (query : Query) (facts : List Fact) (a b : ℕ) (events : List Event) (f : ℕ → ℕ → Option ℕ) → IsScored query facts f → AreTurns facts a b events → ChangesAt events a b f
-turns-change query facts a b events f h w = record {
+-- at the events of a window what is scored changes
+pub events-change : (query : Query) (facts : List Fact) (a b : ℕ) (events : List Event) (f : ℕ → ℕ → Option ℕ) → IsScored query facts f → AreEvents facts a b events → ChangesAt events a b f
+events-change query facts a b events f h w = record {
   inside = w.inside;
   still = λ d e t x l y n. score-still query facts d e t f h (filter-same e t (filter (of_doc d) facts) (λ k z m. let g = get_or (filter (of_doc d) facts) k z in let (c, i) = filter-from (of_doc d) g facts (Contains-get_or (filter (of_doc d) facts) k z m) in covered d e t g x l y n c (mine d g i)));
   none = λ d t x y n. score-none query facts d t f h (filter-none t (filter (of_doc d) facts) (λ g c q. let (m, i) = filter-from (of_doc d) g facts c in uncovered d t g x y n m (mine d g i) q));
