@@ -15,7 +15,13 @@ pub const FOUR_CHANGES: Row<'static> = Row {
     replies: b"ok 1\nok 2\nok 3\nok 4\n",
 };
 
-/// A plan with the guarantee 1/1 behind them.
+/// The four changes with a gap: document 1 has the word `v` in [10, 20) and in [30, 40).
+pub const GAP_CHANGES: Row<'static> = Row {
+    script: b"arrive 1 10 1\nv\ndelete 1 20\narrive 1 30 1\nv\ndelete 1 40\n",
+    replies: b"ok 1\nok 2\nok 3\nok 4\n",
+};
+
+/// A plan with the guarantee 1/1 behind the first four changes.
 pub const FIRST_PLAN: Row<'static> = Row {
     script: b"plan v guarantee 1/1\n",
     replies: b"plan 5 segments 3 space 4 full 2 horizon 40\n",

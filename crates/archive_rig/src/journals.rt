@@ -1,5 +1,7 @@
 //! Journals with plans, as the formats spell them.
-use crate::sublists::{FLAT_LIFE, FLAT_LIVES, LIFE_OF_1, LIVES_OF_1_AND_2, Sublist};
+use crate::sublists::{
+    FIRST_LIFE, FLAT_LIFE, FLAT_LIVES, LIFE_OF_1, LIVES_OF_1_AND_2, NOTHING, SECOND_LIFE, Sublist,
+};
 use std::alloc::{AllocError, Global};
 
 /// A segment of a plan, with its sublist and where that lies.
@@ -31,7 +33,16 @@ pub fn first_segments() -> [Segment<'static>; 3] {
     ]
 }
 
-/// The same segments, flat.
+/// The segments of a plan behind those with a gap: the sublist in the middle has no bytes.
+pub fn gap_segments() -> [Segment<'static>; 3] {
+    [
+        segment_at(10, 0, FIRST_LIFE),
+        segment_at(20, 0, NOTHING),
+        segment_at(30, 1, SECOND_LIFE),
+    ]
+}
+
+/// The same segments as the first plan's, flat.
 pub fn flat_segments() -> [Segment<'static>; 3] {
     [
         segment_at(10, 0, FLAT_LIFE),
@@ -83,6 +94,13 @@ pub const FOUR_RECORDS: &[u8] = b"TIMETRAVELTEXT\x00\x01\
 
 /// Where these records end, and the next one's gate lies.
 pub const FOUR_END: u64 = 90;
+
+/// The header and the records of the four changes with a gap.
+pub const GAP_RECORDS: &[u8] = b"TIMETRAVELTEXT\x00\x01\
+    \xa5\x00\x00\x00\x0e\x01\x00\x00\x00\x01\x00\x00\x00\x00\x00\x00\x00\x0av\
+    \xa5\x00\x00\x00\x0d\x02\x00\x00\x00\x01\x00\x00\x00\x00\x00\x00\x00\x14\
+    \xa5\x00\x00\x00\x0e\x01\x00\x00\x00\x01\x00\x00\x00\x00\x00\x00\x00\x1ev\
+    \xa5\x00\x00\x00\x0d\x02\x00\x00\x00\x01\x00\x00\x00\x00\x00\x00\x00\x28";
 
 /// The spelling of a plan.
 fn plan_body(alloc: Global, plan: &Plan<'_>) -> Result<Vec<u8>, AllocError> {

@@ -22,13 +22,14 @@ mod sublists;
 
 pub use changes::{Change, expect_change, expect_changes, made, refused, three_changes};
 pub use disks::{
-    FIRST_CERTIFICATE, FIRST_PLAN, FOUR_CHANGES, disk_after, disk_after_all, disk_with,
-    expect_held, expect_left, expect_on, expect_status, first_disk, flat_disk, new_disk,
+    FIRST_CERTIFICATE, FIRST_PLAN, FOUR_CHANGES, GAP_CHANGES, disk_after, disk_after_all,
+    disk_with, expect_held, expect_left, expect_on, expect_status, first_disk, flat_disk, new_disk,
 };
 pub use error::RowError;
 pub use journals::{
-    BLOCKS, FLAT, FOUR_END, FOUR_RECORDS, GUARANTEE, Plan, SINCE_30, Segment, UNIFORM,
-    first_segments, flat_segments, journal_of, pages_of, plan_of_v, plan_record, segment_at,
+    BLOCKS, FLAT, FOUR_END, FOUR_RECORDS, GAP_RECORDS, GUARANTEE, Plan, SINCE_30, Segment, UNIFORM,
+    first_segments, flat_segments, gap_segments, journal_of, pages_of, plan_of_v, plan_record,
+    segment_at,
 };
 pub use lives::many_lives;
 pub use machines::{

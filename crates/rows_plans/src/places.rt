@@ -1,9 +1,10 @@
 //! What plans leave in the journal and in Pages.
 use crate::journals::{FOURTH_ARRIVES, THIRD_ARRIVES, THIRD_ENDS, two_words_journal};
 use archive_rig::{
-    FIRST_LIFE, FIRST_PLAN, FOUR_CHANGES, FOUR_RECORDS, LIFE_OF_1, LIFE_OF_3, LIVES_OF_1_AND_2,
-    NOTHING, Plan, Row, SECOND_LIFE, Segment, disk_after, disk_after_all, expect_held, expect_left,
-    first_disk, first_segments, new_disk, plan_of_v, plan_record, segment_at,
+    FIRST_LIFE, FIRST_PLAN, FOUR_CHANGES, FOUR_RECORDS, GAP_CHANGES, GAP_RECORDS, LIFE_OF_1,
+    LIFE_OF_3, LIVES_OF_1_AND_2, NOTHING, Plan, Row, Segment, disk_after, disk_after_all,
+    expect_held, expect_left, first_disk, first_segments, gap_segments, new_disk, plan_of_v,
+    plan_record, segment_at,
 };
 use std::test::Fail;
 
@@ -74,26 +75,17 @@ fn a_plan_of_one_segment_holds_the_whole_list(rt: HostRuntime) -> Result<(), Fai
 fn an_empty_sublist_has_no_bytes_and_the_digest_of_nothing(rt: HostRuntime) -> Result<(), Fail> {
     let alloc = rt.alloc();
     let row = Row {
-        script: b"arrive 1 10 1\nv\ndelete 1 20\narrive 1 30 1\nv\ndelete 1 40\nplan v guarantee 100/1\n",
-        replies: b"ok 1\nok 2\nok 3\nok 4\nplan 5 segments 3 space 2 full 2 horizon 40\n",
+        script: b"plan v guarantee 100/1\n",
+        replies: b"plan 5 segments 3 space 2 full 2 horizon 40\n",
     };
-    let disk = disk_after(alloc, &new_disk(alloc), &row)?;
-    let segments = [
-        segment_at(10, 0, FIRST_LIFE),
-        segment_at(20, 0, NOTHING),
-        segment_at(30, 1, SECOND_LIFE),
-    ];
+    let disk = disk_after_all(alloc, new_disk(alloc), &[GAP_CHANGES, row])?;
+    let segments = gap_segments();
     let plan = Plan {
         over: 100,
         ..plan_of_v(40, &segments)
     };
     let record = plan_record(alloc, &plan)?;
-    let changes = b"TIMETRAVELTEXT\x00\x01\
-        \xa5\x00\x00\x00\x0e\x01\x00\x00\x00\x01\x00\x00\x00\x00\x00\x00\x00\x0av\
-        \xa5\x00\x00\x00\x0d\x02\x00\x00\x00\x01\x00\x00\x00\x00\x00\x00\x00\x14\
-        \xa5\x00\x00\x00\x0e\x01\x00\x00\x00\x01\x00\x00\x00\x00\x00\x00\x00\x1ev\
-        \xa5\x00\x00\x00\x0d\x02\x00\x00\x00\x01\x00\x00\x00\x00\x00\x00\x00\x28";
-    expect_left(alloc, &disk, &[changes, &record], &segments)?;
+    expect_left(alloc, &disk, &[GAP_RECORDS, &record], &segments)?;
     Ok(())
 }
 

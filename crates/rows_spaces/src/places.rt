@@ -1,8 +1,8 @@
 //! What plans under a space bound leave in the journal and in Pages.
 use crate::plans::{four_disk, plan_of};
 use archive_rig::{
-    FIRST_LIFE, FOUR_RECORDS, GUARANTEE, LIFE_OF_1, LIVES_OF_1_AND_2, NOTHING, Plan, Row,
-    SECOND_LIFE, SINCE_30, UNIFORM, disk_after, disk_after_all, expect_left, first_segments, join,
+    FOUR_RECORDS, GAP_CHANGES, GAP_RECORDS, GUARANTEE, LIFE_OF_1, LIVES_OF_1_AND_2, Plan, Row,
+    SINCE_30, UNIFORM, disk_after, disk_after_all, expect_left, first_segments, gap_segments, join,
     new_disk, plan_record, segment_at,
 };
 use std::alloc::Global;
@@ -65,22 +65,13 @@ fn a_plan_is_an_entry_with_its_kind_and_factor(rt: HostRuntime) -> Result<(), Fa
 fn a_gap_has_no_bytes_and_the_digest_of_nothing(rt: HostRuntime) -> Result<(), Fail> {
     let alloc = rt.alloc();
     let row = Row {
-        script: b"arrive 1 10 1\nv\ndelete 1 20\narrive 1 30 1\nv\ndelete 1 40\nplan v space 1/1 uniform\n",
-        replies: b"ok 1\nok 2\nok 3\nok 4\nplan 5 segments 3 space 2 full 2 horizon 40 cost 20\n",
+        script: b"plan v space 1/1 uniform\n",
+        replies: b"plan 5 segments 3 space 2 full 2 horizon 40 cost 20\n",
     };
-    let disk = disk_after(alloc, &new_disk(alloc), &row)?;
-    let segments = [
-        segment_at(10, 0, FIRST_LIFE),
-        segment_at(20, 0, NOTHING),
-        segment_at(30, 1, SECOND_LIFE),
-    ];
+    let disk = disk_after_all(alloc, new_disk(alloc), &[GAP_CHANGES, row])?;
+    let segments = gap_segments();
     let record = plan_record(alloc, &plan_of(UNIFORM, 1, 1, &segments))?;
-    let changes = b"TIMETRAVELTEXT\x00\x01\
-        \xa5\x00\x00\x00\x0e\x01\x00\x00\x00\x01\x00\x00\x00\x00\x00\x00\x00\x0av\
-        \xa5\x00\x00\x00\x0d\x02\x00\x00\x00\x01\x00\x00\x00\x00\x00\x00\x00\x14\
-        \xa5\x00\x00\x00\x0e\x01\x00\x00\x00\x01\x00\x00\x00\x00\x00\x00\x00\x1ev\
-        \xa5\x00\x00\x00\x0d\x02\x00\x00\x00\x01\x00\x00\x00\x00\x00\x00\x00\x28";
-    expect_left(alloc, &disk, &[changes, &record], &segments)?;
+    expect_left(alloc, &disk, &[GAP_RECORDS, &record], &segments)?;
     Ok(())
 }
 

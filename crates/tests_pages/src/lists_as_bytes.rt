@@ -2,31 +2,11 @@
 ghost use Rattle.std.specs.Prelude.{IfOk};
 ghost use Rattle.postings.specs.Lists.{IsList};
 
+use crate::digits::bytes_of;
 use std::alloc::{AllocError, Global};
 use std::test::Fail;
 use sublist_codec::{Frames, ListError, decode_blocks, decode_list, encode_blocks, encode_list};
 use time_base::Posting;
-
-/// The bytes that hexadecimal digits spell.
-fn bytes_of(alloc: Global, digits: &str) -> Result<Vec<u8>, AllocError> {
-    let mut bytes = Vec::new(alloc);
-    let mut high = None;
-    for digit in digits.bytes() {
-        let value = if digit >= b'a' {
-            digit.saturating_sub(87)
-        } else {
-            digit.saturating_sub(48)
-        };
-        match high {
-            None => high = Some(value % 16),
-            Some(first) => {
-                bytes.push(first.wrapping_mul(16).wrapping_add(value % 16))?;
-                high = None;
-            }
-        }
-    }
-    Ok(bytes)
-}
 
 /// The place that a reading names.
 fn place(read: Result<Vec<Posting>, ListError>) -> Option<u64> {

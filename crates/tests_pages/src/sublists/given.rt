@@ -7,6 +7,7 @@ ghost use Rattle.page_store.specs.Taken.{HasTaken};
 ghost use Rattle.page_cache.specs.Laws.{LieIn};
 ghost use Rattle.sublist_store.specs.Preparing.{extents};
 
+use crate::digits::bytes_of;
 use machine_mem::{Fault, MemMachine};
 use machine_model::{Area, Disk, Failed, Image};
 use postings::merge_distinct;
@@ -201,27 +202,6 @@ pub(crate) fn no_sublists(alloc: Global) -> Result<Sublists, Fail>
         Ok(sublists) => Ok(sublists),
         Err(_) => Err("an empty store")?,
     }
-}
-
-/// The bytes that hexadecimal digits spell.
-pub(crate) fn bytes_of(alloc: Global, digits: &str) -> Result<Vec<u8>, Fail> {
-    let mut bytes = Vec::new(alloc);
-    let mut high = None;
-    for digit in digits.bytes() {
-        let value = if digit >= b'a' {
-            digit.saturating_sub(87)
-        } else {
-            digit.saturating_sub(48)
-        };
-        match high {
-            None => high = Some(value % 16),
-            Some(first) => {
-                bytes.push(first.wrapping_mul(16).wrapping_add(value % 16))?;
-                high = None;
-            }
-        }
-    }
-    Ok(bytes)
 }
 
 /// The block of document 1 from 10 to 40, and its SHA-256.

@@ -6,9 +6,9 @@ ghost use Rattle.page_cache.specs.Laws.{LieIn};
 ghost use Rattle.sublist_store.specs.Preparing.{extents};
 
 use super::given::{
-    BOTH, FIRST, bytes_of, cuts, documents, fetch_on, gather_on, machine_of, machine_with,
-    no_sublists, time,
+    BOTH, FIRST, cuts, documents, fetch_on, gather_on, machine_of, machine_with, no_sublists, time,
 };
+use crate::digits::bytes_of;
 use machine_mem::MemMachine;
 use machine_model::{Area, Disk};
 use record_codec::{Layout, Place};

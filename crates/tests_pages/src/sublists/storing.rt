@@ -1,8 +1,9 @@
 //! Sublists that are prepared and written.
 use super::given::{
-    BOTH, BOTH_DIGEST, FIRST, FIRST_DIGEST, bytes_of, gather_on, machine_with, no_sublists,
-    read_pages, store_all, time, two_documents,
+    BOTH, BOTH_DIGEST, FIRST, FIRST_DIGEST, gather_on, machine_with, no_sublists, read_pages,
+    store_all, time, two_documents,
 };
+use crate::digits::bytes_of;
 use machine_mem::{CallKind, Fault};
 use machine_model::Failed;
 use page_store::{LiveError, TakeError};
