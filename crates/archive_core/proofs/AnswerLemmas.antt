@@ -1,5 +1,5 @@
 -- The answer at a time over the documents that the archive in hand has alive is one over those of the history.
-use Rattle.std.proofs.Common.{◌≡◌, ◌⊎◌, ◌↔◌, ℕ, zero, suc, ◌+◌, ◌<◌, ◌^◌, Bool, true, false, cond, List, [], ◌∷◌, filter, All, Contains, Option, Some, None, IsSome, is_some, inl, inr, refl, ap, sym, subst, ◌∙◌, arith}
+use Rattle.std.proofs.Common.{◌≡◌, ◌↔◌, ℕ, ◌+◌, ◌<◌, ◌^◌, Bool, true, false, List, All, Contains, Option, Some, None, IsSome, is_some, refl, ap, sym, subst, ◌∙◌}
 use Rattle.std.proofs.lemmas.List.Elements.{All-weaker}
 use Rattle.time_base.specs.declared.ids.DocId.{DocId}
 use Rattle.time_base.specs.declared.text_place.TextPlace.{TextPlace}
@@ -7,10 +7,9 @@ use Rattle.version_store.specs.declared.change.Change.{Change}
 use Rattle.version_store.specs.Changes.{alive, held_at}
 use Rattle.version_store.proofs.Mapped.{alive-mapped, held_at-mapped, is_some-mapped}
 use Rattle.version_store.proofs.Alive.{alive-has}
-use Rattle.postings.proofs.Order.{next-filter}
 use Rattle.query_lang.specs.Grammar.{Query}
 use Rattle.query_lang.specs.Meaning.{matches, words_of}
-use Rattle.query_eval.specs.Answers.{IsAnswer, RanksBefore}
+use Rattle.query_eval.specs.Answers.{IsAnswer}
 use Rattle.query_eval.specs.Found.{told, HasHit}
 use Rattle.query_eval.specs.declared.answer.Row.{Row}
 use Rattle.query_eval.specs.declared.part.Part.{Part}

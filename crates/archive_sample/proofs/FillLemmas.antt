@@ -1,5 +1,5 @@
 -- The commands of a sample, one after another: one run of the abstract machine, which goes on where it was ended early.
-use Rattle.std.proofs.Common.{◌≡◌, ◌⊎◌, ℕ, ◌≤◌, List, [], ◌∷◌, ◌++◌, length, map, All, Option, Some, None, Ok, Err, IsSome, refl, inl, inr, ap, subst, sym, ◌∙◌, arith, append_assoc, length-append, append-nil}
+use Rattle.std.proofs.Common.{◌≡◌, ◌⊎◌, ℕ, ◌≤◌, List, [], ◌∷◌, ◌++◌, length, map, All, Option, None, Ok, Err, IsSome, refl, inl, inr, ap, subst, sym, ◌∙◌, arith, append_assoc, length-append}
 use Rattle.std.proofs.lemmas.List.{map-append}
 use Rattle.std.proofs.lemmas.List.Elements.{All-head, All-tail}
 use Rattle.machine_model.specs.Areas.{Bytes}

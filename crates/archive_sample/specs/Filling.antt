@@ -48,5 +48,5 @@ EndsFilled world outcomes new archive_now (Err errors.Memory) = (j : ℕ) × (j 
 pub record IsFilled (history : History) (commands : List Command) (result : Result Report FillError) (old new : DiskState) (archive_now : ArchiveState) : Type 0 where
   pub outcomes : List (Outcome Reply World)
   pub run : IsRun Step (world_of history) (map items.Command commands) outcomes
-  pub fills : Fills history outcomes old new
-  pub ends : EndsFilled world outcomes new archive_now result
+  pub fills : Fills (world_of history) outcomes old new
+  pub ends : EndsFilled (world_of history) outcomes new archive_now result

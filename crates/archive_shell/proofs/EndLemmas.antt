@@ -144,6 +144,6 @@ rose_earlier a b c early rose = omega (arith, rose)
 pub serves_of : (world : World) (status : Status) (one other : SourceState) (output third : SinkState) (disk : DiskState) (new : MachineState) (pulls : List Pull) → one ≡ other → output ≡ third
     → Serves world status (record { source = one; sink = output; disk = disk }) new pulls → Serves world status (record { source = other; sink = third; disk = disk }) new pulls
 serves_of world status one other output third disk new pulls source sink serves =
-    let S : SourceState → Type 0 = λ s. Serves history status (record { source = s; sink = output; disk = disk }) new pulls in
+    let S : SourceState → Type 0 = λ s. Serves world status (record { source = s; sink = output; disk = disk }) new pulls in
     let T : SinkState → Type 0 = λ s. Serves world status (record { source = other; sink = s; disk = disk }) new pulls in
     subst T sink (subst S source serves)

@@ -104,8 +104,8 @@ made_at_start h asked old new before after spelled loads longer made = elim (cas
 ]
 
 none_spoiled : (pages : List ℕ) (item : Item) (damage : Damage) → Spoils [] pages item damage → ⊥
-none_spoiled pages (items.Command (commands.Find at expr)) damage spoiled = let live = spoiled.first.shown.live in cc
-none_spoiled pages (items.Command (commands.Between span expr)) damage spoiled = let live = spoiled.first.shown.live in cc
+none_spoiled pages (items.Command (commands.Find at expr)) damage spoiled = let live = spoiled.first.damaged.live in cc
+none_spoiled pages (items.Command (commands.Between span expr)) damage spoiled = let live = spoiled.first.damaged.live in cc
 none_spoiled pages (items.Command (commands.Arrive doc at text)) damage spoiled = spoiled
 none_spoiled pages (items.Command (commands.Delete doc at)) damage spoiled = spoiled
 none_spoiled pages (items.Command (commands.Show doc at)) damage spoiled = spoiled

@@ -11,10 +11,10 @@ returns-then-matches_without_words-clause-rows c = λ h pages stands chosen.
 
 pub returns-then-is_any_planned-clause-rows : goal.returns-then-is_any_planned-clause-rows
 returns-then-is_any_planned-clause-rows c = λ h pages stands chosen.
-    by_hits c.args.self.now h c.args.at.seconds c.args.query.now c.args.parts.now _ stands (sym c.matches_without_words.ensures ∙ c.if-matches_without_words.false) c.in_ok-answer.ensures.rows
+    by_hits c.args.self.now h c.args.at.seconds c.args.query.now c.args.parts.now _ stands (sym c.matches_without_words.ensures ∙ c.if-matches_without_words.false) c.in_ok-answer-2.ensures.rows
 
 pub returns-clause-rows : goal.returns-clause-rows
 returns-clause-rows c = λ h pages stands chosen.
     let W : List (List ℕ) → Type 0 = λ words. All (λ word. All (λ s. is_another word s ≡ true) c.args.self.now.shelf.plans) words in
     by_unplanned c.args.self.now h pages c.args.at.seconds c.args.query.now c.args.parts.now _ c.args.at.before_now stands
-    (subst W c.words.ensures.words (c.is_any_planned.ensures c.if-is_any_planned.false)) chosen (sym c.matches_without_words.ensures ∙ c.if-matches_without_words.false) c.in_ok-answer.ensures.rows
+    (subst W c.words.ensures.words (c.is_any_planned.ensures c.if-is_any_planned.false)) chosen (sym c.matches_without_words.ensures ∙ c.if-matches_without_words.false) c.in_ok-answer-3.ensures.rows
