@@ -10,7 +10,8 @@ ghost use Rattle.archive_audit.specs.Audits.{IsVerdictOn};
 ghost use Rattle.archive_audit.specs.Statuses.{EndsEarly};
 
 use crate::status::AuditStatus;
-use archive_core::{Archive, AskError};
+use archive_check::VerifyError;
+use archive_core::Archive;
 use archive_state::Verdict;
 use machine_model::Disk;
 use std::alloc::Global;
@@ -51,8 +52,7 @@ fn checked<D: Disk>(alloc: Global, disk: &mut D, archive: &Archive) -> Result<Ve
 {
     match archive.verify(alloc, disk) {
         Ok(verdict) => Ok(verdict),
-        Err(AskError::Failed) => Err(AuditStatus::Disk),
-        Err(AskError::Memory) => Err(AuditStatus::Memory),
-        Err(AskError::Refused(_) | AskError::Damaged(_)) => unreachable!(),
+        Err(VerifyError::Failed) => Err(AuditStatus::Disk),
+        Err(VerifyError::Memory) => Err(AuditStatus::Memory),
     }
 }

@@ -48,8 +48,8 @@ use Rattle.archive_replay.specs.Entries.{IsNext, IsHeld, IsPrepared, Makes, docu
 use Rattle.archive_replay.proofs.IndexLemmas.{change_comes}
 use Rattle.archive_core.specs.declared.error.ChangeError.{ChangeError}
 use Rattle.archive_core.specs.declared.error.ChangeError.TheVariants as errors
-use Rattle.archive_replay.specs.declared.preparing.Unprepared.{Unprepared}
-use Rattle.archive_replay.specs.declared.preparing.Unprepared.TheVariants as unprepared
+use Rattle.archive_replay.specs.declared.error.Declined.{Declined}
+use Rattle.archive_replay.specs.declared.error.Declined.TheVariants as declines
 use Rattle.archive_core.specs.Changing.{LeadsTo}
 use Rattle.archive_replay.proofs.PlaceLemmas.{placed_more}
 
@@ -238,9 +238,9 @@ leads_entry r a b old new h e x body words in_step next prepared more appends pa
     go (Err error) more step cached = tt
 
 -- what is known of an entry that was not prepared
-pub adds_none : (why : Unprepared) (r : Result ℕ ChangeError) (a b : ArchiveState) (h : History) (e : Entry) (refusal : Option Refusal)
+pub adds_none : (why : Declined) (r : Result ℕ ChangeError) (a b : ArchiveState) (h : History) (e : Entry) (refusal : Option Refusal)
     → IsPrepared h a.index e refusal (Err why) → GivesUp why r a b → Adds h e refusal r b
-adds_none (unprepared.Refused why) r a b h e refusal prepared gives = record {
+adds_none (declines.Refused why) r a b h e refusal prepared gives = record {
   refused = λ other is. (let same : why ≡ other = (let one = gives.0 in cc) in prepared ∙ ap (λ (w : Refusal). Some w) same);
   allowed = λ is. absurd (never is);
   stands = (let P : Result ℕ ChangeError → Type 0 = λ s. IfOk s (λ n. StandsFor b (h ++ e ∷ []) × (n ≡ length h + 1)) in subst P (sym gives.0) tt);
@@ -249,7 +249,7 @@ adds_none (unprepared.Refused why) r a b h e refusal prepared gives = record {
     never : IsOk r ⊎ (r ≡ Err errors.Failed) → ⊥
     never (inl ok) = let P : Result ℕ ChangeError → Type 0 = λ s. IsOk s in (let bad = subst P gives.0 ok in cc)
     never (inr failed) = let one = gives.0 in cc
-adds_none unprepared.Memory r a b h e refusal prepared gives = record {
+adds_none declines.Memory r a b h e refusal prepared gives = record {
   refused = λ other is. (let one = gives.0 in absurd cc);
   allowed = λ is. absurd (never is);
   stands = (let P : Result ℕ ChangeError → Type 0 = λ s. IfOk s (λ n. StandsFor b (h ++ e ∷ []) × (n ≡ length h + 1)) in subst P (sym gives.0) tt);
@@ -259,9 +259,9 @@ adds_none unprepared.Memory r a b h e refusal prepared gives = record {
     never (inl ok) = let P : Result ℕ ChangeError → Type 0 = λ s. IsOk s in (let bad = subst P gives.0 ok in cc)
     never (inr failed) = let one = gives.0 in cc
 
-pub gives_no_ok : (Q : Type 0) (why : Unprepared) (r : Result ℕ ChangeError) (a b : ArchiveState) → GivesUp why r a b → OnOk r Q
-gives_no_ok Q (unprepared.Refused why) r a b gives = let P : Result ℕ ChangeError → Type 0 = λ s. OnOk s Q in subst P (sym gives.0) tt
-gives_no_ok Q unprepared.Memory r a b gives = let P : Result ℕ ChangeError → Type 0 = λ s. OnOk s Q in subst P (sym gives.0) tt
+pub gives_no_ok : (Q : Type 0) (why : Declined) (r : Result ℕ ChangeError) (a b : ArchiveState) → GivesUp why r a b → OnOk r Q
+gives_no_ok Q (declines.Refused why) r a b gives = let P : Result ℕ ChangeError → Type 0 = λ s. OnOk s Q in subst P (sym gives.0) tt
+gives_no_ok Q declines.Memory r a b gives = let P : Result ℕ ChangeError → Type 0 = λ s. OnOk s Q in subst P (sym gives.0) tt
 
 pub step_at : {d : DiskState} {end : ℕ} {bodies : List (List ℕ)} (other : ℕ) → end ≡ other → IsInStep d end bodies → IsInStep d other bodies
 step_at {d} {end} {bodies} other same step = let P : ℕ → Type 0 = λ n. IsInStep d n bodies in subst P same step

@@ -37,10 +37,9 @@ use Rattle.archive_state.proofs.CertifyingLemmas.{live_has, each_certifies}
 use Rattle.archive_state.proofs.LiveLemmas.{live_planned}
 use Rattle.archive_core.specs.States.{ArchiveState, StandsFor, AreInStep}
 use Rattle.archive_replay.specs.Live.{IsPlanAt}
-use Rattle.archive_core.specs.Takes.{Starved, Faulted, Takes, proposed}
-use Rattle.sublist_store.specs.declared.why.Damage.{Damage}
-use Rattle.archive_core.specs.declared.error.AskError.{AskError}
-use Rattle.archive_core.specs.declared.error.AskError.TheVariants as asks
+use Rattle.archive_core.specs.Takes.{Replied, Starved, Takes, proposed}
+use Rattle.archive_replay.specs.declared.error.Declined.{Declined}
+use Rattle.archive_replay.specs.declared.error.Declined.TheVariants as declines
 use Rattle.archive_core.proofs.LiveLemmas.{plan_found, none_found}
 use Rattle.archive_core.proofs.TakeLemmas.{takes_question}
 
@@ -177,18 +176,13 @@ other_live h o plan kind reply is kind_is certifies =
     subst P (sym is) (subst K (sym kind_is) certifies)
 
 -- a certificate that was asked for
-pub takes_certificate : (h : History) (phrase : List ℕ) (r : Result Proposal AskError) (d : DiskState) (a : ArchiveState)
-    → ((why : Refusal) → r ≡ Err (asks.Refused why) → Certifies h phrase (Refused why)) → ((damage : Damage) → r ≡ Err (asks.Damaged damage) → ⊥)
-    → IfOk r (λ p. Certifies h phrase (Proposed p.segments.items p.nodes.items p.space))
+pub takes_certificate : (h : History) (phrase : List ℕ) (r : Result Proposal Declined) (d : DiskState) (a : ArchiveState)
+    → ((why : Refusal) → r ≡ Err (declines.Refused why) → Certifies h phrase (Refused why)) → IfOk r (λ p. Certifies h phrase (Proposed p.segments.items p.nodes.items p.space))
     → AreInStep d a h → Takes h (items.Command (commands.Certificate phrase)) (proposed r) d d a
-takes_certificate h phrase (Ok p) d a refused undamaged certifies in_step =
+takes_certificate h phrase (Ok p) d a refused certifies in_step =
     takes_question h (items.Command (commands.Certificate phrase)) (Proposed p.segments.items p.nodes.items p.space) (proposed (Ok p)) d d a (refl, certifies) refl in_step refl
-takes_certificate h phrase (Err (asks.Refused why)) d a refused undamaged certifies in_step =
-    takes_question h (items.Command (commands.Certificate phrase)) (Refused why) (proposed (Err (asks.Refused why))) d d a (refl, refused why refl) refl in_step refl
-takes_certificate h phrase (Err asks.Failed) d a refused undamaged certifies in_step =
-    let any = each_certifies h phrase in_step.legal in
-    takes_question h (items.Command (commands.Certificate phrase)) any.0 Faulted d d a (refl, any.1) refl in_step tt
-takes_certificate h phrase (Err (asks.Damaged damage)) d a refused undamaged certifies in_step = absurd (undamaged damage refl)
-takes_certificate h phrase (Err asks.Memory) d a refused undamaged certifies in_step =
+takes_certificate h phrase (Err (declines.Refused why)) d a refused certifies in_step =
+    takes_question h (items.Command (commands.Certificate phrase)) (Refused why) (Replied (Refused why)) d d a (refl, refused why refl) refl in_step refl
+takes_certificate h phrase (Err declines.Memory) d a refused certifies in_step =
     let any = each_certifies h phrase in_step.legal in
     takes_question h (items.Command (commands.Certificate phrase)) any.0 Starved d d a (refl, any.1) refl in_step tt

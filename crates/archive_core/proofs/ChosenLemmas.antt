@@ -26,9 +26,6 @@ use Rattle.archive_core.specs.States.{ArchiveState, StandsFor, IsSameButCache, R
 use Rattle.plan_shelf.specs.Shelves.{extents_all}
 use Rattle.plan_shelf.specs.Shelves.{IsReadable}
 use Rattle.archive_replay.specs.Live.{IsPlanAt}
-use Rattle.archive_core.specs.Causes.{ask_error_of_fetch}
-use Rattle.archive_core.specs.declared.error.AskError.{AskError}
-use Rattle.archive_core.specs.declared.error.AskError.TheVariants as asks
 use Rattle.std.specs.Result.{IsErrAnd}
 use Rattle.archive_core.proofs.CacheLemmas.{reaches_but_cache}
 use Rattle.archive_core.proofs.LiveLemmas.{plan_found, none_found}
@@ -119,7 +116,7 @@ unplanned_is a h word stands others =
     none_found h word (subst P stands.plans_are others)
 
 -- a damage that is handed on
-pub damage_of : (P : Damage → Type 0) (e : FetchError) (d : Damage) → IfDamaged P e → ask_error_of_fetch e ≡ asks.Damaged d → P d
+pub damage_of : (P : Damage → Type 0) (e : FetchError) (d : Damage) → IfDamaged P e → e ≡ fetches.Damaged d → P d
 damage_of P (fetches.Damaged x) d holds is = let same : x ≡ d = cc in subst P same holds
 damage_of P fetches.Failed d holds is = absurd cc
 damage_of P fetches.Memory d holds is = absurd cc
@@ -140,8 +137,8 @@ whole_chosen h pages word a b list whole read none is list_is read_is =
     subst P (sym none) (whole, is, list_is, read_is)
 
 -- a fetch's error that was handed on
-pub handed : {T : Type 0} (r : Result T AskError) (e : FetchError) (d : Damage) → IsErrAnd r (λ x. x ≡ ask_error_of_fetch e) → r ≡ Err (asks.Damaged d) → ask_error_of_fetch e ≡ asks.Damaged d
-handed {T = T} r e d and is = sym (subst (λ (x : Result T AskError). IsErrAnd x (λ y. y ≡ ask_error_of_fetch e)) is and)
+pub handed : {T : Type 0} (r : Result T FetchError) (e : FetchError) (d : Damage) → IsErrAnd r (λ x. x ≡ e) → r ≡ Err (fetches.Damaged d) → e ≡ fetches.Damaged d
+handed {T = T} r e d and is = sym (subst (λ (x : Result T FetchError). IsErrAnd x (λ y. y ≡ e)) is and)
 
 -- ---- reads one behind another
 
@@ -152,7 +149,3 @@ pub reaches_on : (a b : DiskState) (x y : ArchiveState) → OnlyReads a b → Is
 reaches_on a b x y same but_cache within =
     let R : Both ℕ → Type 0 = λ r. Reaches r y in
     subst R (sym (ap (λ (d : DiskState). d.reach) same)) (reaches_but_cache a.reach x y but_cache within)
-
--- a question's error that was handed on
-pub handed_on : {T : Type 0} (r : Result T AskError) (e : AskError) (d : Damage) → IsErrAnd r (λ x. x ≡ e) → r ≡ Err (asks.Damaged d) → e ≡ asks.Damaged d
-handed_on {T = T} r e d and is = sym (subst (λ (x : Result T AskError). IsErrAnd x (λ y. y ≡ e)) is and)

@@ -1,5 +1,6 @@
 mod TextLemmas
 pub mod AddLemmas
+mod AskedLemmas
 mod LoadLemmas
 mod TakeLemmas
 mod AnswerLemmas

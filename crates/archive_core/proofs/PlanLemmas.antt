@@ -32,10 +32,9 @@ use Rattle.archive_state.proofs.OutcomeLemmas.{each_proposes}
 use Rattle.archive_core.specs.States.{ArchiveState, StandsFor, AreInStep}
 use Rattle.archive_core.specs.Sealing.{IsSealed}
 use Rattle.archive_replay.specs.Texts.{nothing}
-use Rattle.archive_core.specs.Takes.{Starved, Faulted, Takes, proposed}
-use Rattle.sublist_store.specs.declared.why.Damage.{Damage}
-use Rattle.archive_core.specs.declared.error.AskError.{AskError}
-use Rattle.archive_core.specs.declared.error.AskError.TheVariants as asks
+use Rattle.archive_core.specs.Takes.{Replied, Starved, Takes, proposed}
+use Rattle.archive_replay.specs.declared.error.Declined.{Declined}
+use Rattle.archive_replay.specs.declared.error.Declined.TheVariants as declines
 use Rattle.archive_replay.proofs.IndexLemmas.{words_are}
 use Rattle.archive_replay.proofs.PlaceLemmas.{bare_changes}
 use Rattle.archive_core.proofs.TakeLemmas.{takes_question}
@@ -152,38 +151,26 @@ phrase_refused h phrase factor why of =
     (λ because e. ap Refused e) (λ word list no_plan. absurd no_plan) of
 
 -- a proposal that was asked for
-pub takes_propose : (h : History) (phrase : List ℕ) (factor : Fraction) (r : Result Proposal AskError) (d : DiskState) (a : ArchiveState)
-    → ((why : Refusal) → r ≡ Err (asks.Refused why) → Proposes h phrase factor (Refused why))
-    → ((damage : Damage) → r ≡ Err (asks.Damaged damage) → ⊥) → IfOk r (λ p. Proposes h phrase factor (Proposed p.segments.items p.nodes.items p.space))
+pub takes_propose : (h : History) (phrase : List ℕ) (factor : Fraction) (r : Result Proposal Declined) (d : DiskState) (a : ArchiveState)
+    → ((why : Refusal) → r ≡ Err (declines.Refused why) → Proposes h phrase factor (Refused why))
+    → IfOk r (λ p. Proposes h phrase factor (Proposed p.segments.items p.nodes.items p.space))
     → AreInStep d a h → Takes h (items.Command (commands.Propose phrase factor)) (proposed r) d d a
-takes_propose h phrase factor (Ok p) d a refused undamaged proposes in_step =
+takes_propose h phrase factor (Ok p) d a refused proposes in_step =
     takes_question h (items.Command (commands.Propose phrase factor)) (Proposed p.segments.items p.nodes.items p.space) (proposed (Ok p)) d d a (refl, proposes) refl in_step refl
-takes_propose h phrase factor (Err (asks.Refused why)) d a refused undamaged proposes in_step =
-    takes_question h (items.Command (commands.Propose phrase factor)) (Refused why) (proposed (Err (asks.Refused why))) d d a (refl, refused why refl) refl in_step refl
-takes_propose h phrase factor (Err asks.Failed) d a refused undamaged proposes in_step =
-    let any = each_proposes h phrase factor in_step.legal in
-    takes_question h (items.Command (commands.Propose phrase factor)) any.0 Faulted d d a (refl, any.1) refl in_step tt
-takes_propose h phrase factor (Err (asks.Damaged damage)) d a refused undamaged proposes in_step = absurd (undamaged damage refl)
-takes_propose h phrase factor (Err asks.Memory) d a refused undamaged proposes in_step =
+takes_propose h phrase factor (Err (declines.Refused why)) d a refused proposes in_step =
+    takes_question h (items.Command (commands.Propose phrase factor)) (Refused why) (Replied (Refused why)) d d a (refl, refused why refl) refl in_step refl
+takes_propose h phrase factor (Err declines.Memory) d a refused proposes in_step =
     let any = each_proposes h phrase factor in_step.legal in
     takes_question h (items.Command (commands.Propose phrase factor)) any.0 Starved d d a (refl, any.1) refl in_step tt
 
--- errors that are the same in two results
-abbrev error_of : {T : Type 0} → AskError → Result T AskError → AskError
-error_of other (Ok x) = other
-error_of other (Err error) = error
+-- refusals that are the same in two results
+abbrev why_of : {T : Type 0} → Refusal → Result T Declined → Refusal
+why_of other (Ok x) = other
+why_of other (Err (declines.Refused why)) = why
+why_of other (Err declines.Memory) = other
 
-pub one_error : {T : Type 0} (a b : AskError) → ◌≡◌ {A = Result T AskError} (Err a) (Err b) → a ≡ b
-one_error a b e = ap (error_of a) e
-
-abbrev why_of : Refusal → AskError → Refusal
-why_of other (asks.Refused why) = why
-why_of other asks.Failed = other
-why_of other (asks.Damaged damage) = other
-why_of other asks.Memory = other
-
-pub one_why : {T : Type 0} (a b : Refusal) → ◌≡◌ {A = Result T AskError} (Err (asks.Refused a)) (Err (asks.Refused b)) → b ≡ a
-one_why a b e = sym (ap (why_of a) (one_error (asks.Refused a) (asks.Refused b) e))
+pub one_why : {T : Type 0} (a b : Refusal) → ◌≡◌ {A = Result T Declined} (Err (declines.Refused a)) (Err (declines.Refused b)) → b ≡ a
+one_why a b e = sym (ap (why_of a) e)
 
 pub none_left : (n : ℕ) → n == 0 ≡ true → n ≡ 0
 none_left n e = grind (arith, nat_tests)

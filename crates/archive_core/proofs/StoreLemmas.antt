@@ -43,20 +43,18 @@ use Rattle.archive_state.proofs.LiveLemmas.{live_plans-push}
 use Rattle.archive_state.proofs.RefusalLemmas.{when_true, when_false}
 use Rattle.archive_state.proofs.StoringLemmas.{plan_legal}
 use Rattle.archive_state.proofs.OutcomeLemmas.{each_plans}
-use Rattle.archive_core.specs.Adding.{HasSameShelf}
+use Rattle.archive_core.specs.Adding.{GivesUp, HasSameShelf}
 use Rattle.archive_core.specs.Changing.{LeadsTo}
 use Rattle.archive_core.specs.States.{ArchiveState, StandsFor, CacheStands, AreInStep, Reaches}
 use Rattle.plan_shelf.specs.Shelves.{ShelfState, extents_all}
 use Rattle.plan_shelf.specs.Readying.{HasPlaces, IsFull, IsReady, plan_with, tells_of}
-use Rattle.archive_core.specs.Storing.{IsDraft, IsStorable, IsStoredAs, NotDrafted, NotReady}
+use Rattle.archive_core.specs.Storing.{IsDraft, IsStorable, IsStoredAs}
 use Rattle.archive_core.specs.Takes.{Takes, planned}
 use Rattle.plan_shelf.specs.Readying.{summary_of}
-use Rattle.archive_core.specs.declared.error.AskError.{AskError}
-use Rattle.archive_core.specs.declared.error.AskError.TheVariants as asks
 use Rattle.archive_core.specs.declared.error.ChangeError.{ChangeError}
 use Rattle.archive_core.specs.declared.error.ChangeError.TheVariants as changes
-use Rattle.archive_replay.specs.declared.preparing.Unprepared.{Unprepared}
-use Rattle.archive_replay.specs.declared.preparing.Unprepared.TheVariants as unprepared
+use Rattle.archive_replay.specs.declared.error.Declined.{Declined}
+use Rattle.archive_replay.specs.declared.error.Declined.TheVariants as declines
 use Rattle.plan_shelf.specs.declared.readying.Draft.{Draft}
 use Rattle.plan_shelf.specs.declared.readying.PlanReport.{PlanReport}
 use Rattle.plan_shelf.specs.declared.readying.Ready.{Ready}
@@ -154,13 +152,13 @@ stands_still a h shelf stands plans pages = record {
   pages_are = pages;
 }
 
-pub full_refused : (reason : Unprepared) (r : Result PlanReport ChangeError) (a b : ArchiveState) (h : History) (draft : Draft) (end : ℕ) (why : Refusal) → NotReady reason r a b
-    → ((because : Refusal) → ◌≡◌ {A = Result Ready Unprepared} (Err reason) (Err (unprepared.Refused because)) → IsFull draft (live_extents h) end because) → StandsFor a h → r ≡ Err (changes.Refused why)
+pub full_refused : (reason : Declined) (r : Result PlanReport ChangeError) (a b : ArchiveState) (h : History) (draft : Draft) (end : ℕ) (why : Refusal) → GivesUp reason r a b
+    → ((because : Refusal) → ◌≡◌ {A = Result Ready Declined} (Err reason) (Err (declines.Refused because)) → IsFull draft (live_extents h) end because) → StandsFor a h → r ≡ Err (changes.Refused why)
     → IsFull draft (live_extents h) end why × StandsFor b h
-full_refused (unprepared.Refused because) r a b h draft end why not full stands is =
+full_refused (declines.Refused because) r a b h draft end why not full stands is =
     let same : because ≡ why = (let one = not.0 in cc) in
     (subst (λ (w : Refusal). IsFull draft (live_extents h) end w) same (full because refl), subst (λ (s : ArchiveState). StandsFor s h) (sym not.1) stands)
-full_refused unprepared.Memory r a b h draft end why not full stands is = let one = not.0 in absurd cc
+full_refused declines.Memory r a b h draft end why not full stands is = let one = not.0 in absurd cc
 
 -- ---- what becomes of a phrase that is to be planned
 
@@ -220,41 +218,29 @@ plans_stored h phrase kind factor draft plan term known kind_is same is stored =
     ))
 
 -- a phrase that is refused before its list is planned
-pub plans_refused : (h : History) (phrase : List ℕ) (kind : Kind) (factor : Fraction) (reason : AskError) (r : Result PlanReport ChangeError) (a b : ArchiveState) (why : Refusal) → NotDrafted reason r a b
-    → ((because : Refusal) → ◌≡◌ {A = Result Draft AskError} (Err reason) (Err (asks.Refused because)) → OfPhrase kind h (spelled_key (one_term phrase)) (λ other. because ≡ other) (λ word list. ⊥))
+pub plans_refused : (h : History) (phrase : List ℕ) (kind : Kind) (factor : Fraction) (reason : Declined) (r : Result PlanReport ChangeError) (a b : ArchiveState) (why : Refusal) → GivesUp reason r a b
+    → ((because : Refusal) → ◌≡◌ {A = Result Draft Declined} (Err reason) (Err (declines.Refused because)) → OfPhrase kind h (spelled_key (one_term phrase)) (λ other. because ≡ other) (λ word list. ⊥))
     → StandsFor a h → r ≡ Err (changes.Refused why) → Plans h phrase kind factor (Refused why) h × StandsFor b h
-plans_refused h phrase kind factor (asks.Refused because) r a b why not refused stands is =
-    let same : because ≡ why = (let one = not.0 in cc) in
+plans_refused h phrase kind factor (declines.Refused because) r a b why gives refused stands is =
+    let same : because ≡ why = (let one = gives.0 in cc) in
     let of = subst (λ (w : Refusal). OfPhrase kind h (spelled_key (one_term phrase)) (λ other. w ≡ other) (λ word list. ⊥)) same (refused because refl) in (
       map_phrase kind h (spelled_key (one_term phrase)) (λ other. why ≡ other) (λ other. Declines h other (Refused why) h) (λ word list. ⊥) (λ word list. StoresPlan h kind factor word list (Refused why) h)
           (λ other e. (refl, ap Refused e)) (λ word list none. absurd none) of,
-      subst (λ (s : ArchiveState). StandsFor s h) (sym not.1) stands,
+      subst (λ (s : ArchiveState). StandsFor s h) (sym gives.1) stands,
     )
-plans_refused h phrase kind factor asks.Failed r a b why not refused stands is = let one = not.0 in absurd cc
-plans_refused h phrase kind factor (asks.Damaged damage) r a b why not refused stands is = let one = not.0 in absurd cc
-plans_refused h phrase kind factor asks.Memory r a b why not refused stands is = let one = not.0 in absurd cc
+plans_refused h phrase kind factor declines.Memory r a b why gives refused stands is = let one = gives.0 in absurd cc
 
--- what was not drafted is refused, or there was no memory
-pub drafted_never : (Q : Type 0) (reason : AskError) (r : Result PlanReport ChangeError) (a b : ArchiveState) → NotDrafted reason r a b → IsOk r ⊎ (r ≡ Err changes.Failed) → Q
-drafted_never Q (asks.Refused because) r a b not (inl ok) = let bad = subst (λ (s : Result PlanReport ChangeError). IsOk s) not.0 ok in absurd cc
-drafted_never Q asks.Failed r a b not (inl ok) = let bad = subst (λ (s : Result PlanReport ChangeError). IsOk s) not.0 ok in absurd cc
-drafted_never Q (asks.Damaged damage) r a b not (inl ok) = let bad = subst (λ (s : Result PlanReport ChangeError). IsOk s) not.0 ok in absurd cc
-drafted_never Q asks.Memory r a b not (inl ok) = let bad = subst (λ (s : Result PlanReport ChangeError). IsOk s) not.0 ok in absurd cc
-drafted_never Q (asks.Refused because) r a b not (inr failed) = let one = not.0 in absurd cc
-drafted_never Q asks.Failed r a b not (inr failed) = let one = not.0 in absurd cc
-drafted_never Q (asks.Damaged damage) r a b not (inr failed) = let one = not.0 in absurd cc
-drafted_never Q asks.Memory r a b not (inr failed) = let one = not.0 in absurd cc
+-- what is given up is refused, or there was no memory
+pub given_up_never : {T : Type 0} (Q : Type 0) (reason : Declined) (r : Result T ChangeError) (a b : ArchiveState) → GivesUp reason r a b → IsOk r ⊎ (r ≡ Err changes.Failed) → Q
+given_up_never {T} Q (declines.Refused because) r a b gives (inl ok) = let bad = subst (λ (s : Result T ChangeError). IsOk s) gives.0 ok in absurd cc
+given_up_never {T} Q declines.Memory r a b gives (inl ok) = let bad = subst (λ (s : Result T ChangeError). IsOk s) gives.0 ok in absurd cc
+given_up_never Q (declines.Refused because) r a b gives (inr failed) = let one = gives.0 in absurd cc
+given_up_never Q declines.Memory r a b gives (inr failed) = let one = gives.0 in absurd cc
 
 -- and what it keeps is as it was
-pub not_drafted_cached : (reason : AskError) (r : Result PlanReport ChangeError) (a b : ArchiveState) (d : DiskState) → NotDrafted reason r a b → CacheStands d a → CacheStands d b
-not_drafted_cached (asks.Refused because) r a b d not cached = cached_on a.shelf.cache b.shelf.cache d d (ap (λ (s : ArchiveState). s.shelf.cache) not.1) refl cached
-not_drafted_cached asks.Failed r a b d not cached = cached_on a.shelf.cache b.shelf.cache d d (ap (λ (s : ArchiveState). s.shelf.cache) not.1) refl cached
-not_drafted_cached (asks.Damaged damage) r a b d not cached = cached_on a.shelf.cache b.shelf.cache d d (ap (λ (s : ArchiveState). s.shelf.cache) not.1) refl cached
-not_drafted_cached asks.Memory r a b d not cached = cached_on a.shelf.cache b.shelf.cache d d (ap (λ (s : ArchiveState). s.shelf.cache) not.1) refl cached
-
-pub not_ready_cached : (reason : Unprepared) (r : Result PlanReport ChangeError) (a b : ArchiveState) (d : DiskState) → NotReady reason r a b → CacheStands d a → CacheStands d b
-not_ready_cached (unprepared.Refused because) r a b d not cached = cached_on a.shelf.cache b.shelf.cache d d (ap (λ (s : ArchiveState). s.shelf.cache) not.1) refl cached
-not_ready_cached unprepared.Memory r a b d not cached = cached_on a.shelf.cache b.shelf.cache d d (ap (λ (s : ArchiveState). s.shelf.cache) not.1) refl cached
+pub given_up_cached : {T : Type 0} (reason : Declined) (r : Result T ChangeError) (a b : ArchiveState) (d : DiskState) → GivesUp reason r a b → CacheStands d a → CacheStands d b
+given_up_cached (declines.Refused because) r a b d gives cached = cached_on a.shelf.cache b.shelf.cache d d (ap (λ (s : ArchiveState). s.shelf.cache) gives.1) refl cached
+given_up_cached declines.Memory r a b d gives cached = cached_on a.shelf.cache b.shelf.cache d d (ap (λ (s : ArchiveState). s.shelf.cache) gives.1) refl cached
 
 -- a plan was written, or a part of it: what it is, and what each image left stands for
 pub record IsWritten (h : History) (phrase : List ℕ) (kind : Kind) (factor : Fraction) (r : Result PlanReport ChangeError) (old new : DiskState) (b : ArchiveState) : Type 0 where

@@ -31,15 +31,16 @@ use Rattle.archive_state.specs.Worlds.{world_of}
 use Rattle.archive_state.proofs.OutcomeLemmas.{adds_outcome, each_finds, each_spans}
 use Rattle.archive_core.specs.Answering.{IsNoQuery}
 use Rattle.archive_core.specs.States.{ArchiveState, StandsFor, AreInStep}
-use Rattle.archive_core.specs.Storing.{NotDrafted}
 use Rattle.plan_shelf.specs.declared.readying.PlanReport.{PlanReport}
 use Rattle.record_codec.specs.declared.plan.PlanEntry.{PlanEntry}
 use Rattle.record_codec.specs.declared.entry.Entry.TheVariants as entries
 use Rattle.archive_core.specs.Adding.{Adds}
 use Rattle.archive_core.specs.Changing.{LeadsTo}
-use Rattle.archive_core.specs.Takes.{Ending, Replied, Starved, Faulted, Spoiled, Takes, changed, found, spanned, version_shown}
+use Rattle.archive_core.specs.Takes.{Ending, Replied, Starved, Faulted, Spoiled, Takes, changed, found, spanned, unanswered, version_shown}
 use Rattle.archive_core.specs.declared.error.ChangeError.{ChangeError}
 use Rattle.archive_core.specs.declared.error.ChangeError.TheVariants as changes
+use Rattle.archive_replay.specs.declared.error.ReadError.{ReadError}
+use Rattle.archive_replay.specs.declared.error.ReadError.TheVariants as reads
 use Rattle.archive_core.specs.declared.error.AskError.{AskError}
 use Rattle.archive_core.specs.declared.error.AskError.TheVariants as asks
 use Rattle.archive_core.proofs.AddLemmas.{in_step_stands, leads_nowhere}
@@ -127,6 +128,18 @@ takes_question h item reply (Spoiled damage) old new a step same in_step gives =
 takes_question h item reply Faulted old new a step same in_step gives =
     record { outcome = record { reply = reply; next = world_of h }; step = step; leads = reads_lead h old new a in_step same; ends = tt }
 
+-- a query that was not answered
+pub takes_unanswered : (h : History) (item : Item) (text : List ℕ) (error : AskError) (old new : DiskState) (a : ArchiveState)
+    → ((why : Refusal) → error ≡ asks.Refused why → IsNoQuery text why) → ((damage : Damage) → error ≡ asks.Damaged damage → ⊥)
+    → ((place : ℕ) → IsRead key_of text (Err place) → Step (world_of h) item (Refused (refusals.BadQuery place)) (world_of h)) → (reply : Reply) × Step (world_of h) item reply (world_of h)
+    → OnlyReads old new → AreInStep old a h → Takes h item (unanswered error) old new a
+takes_unanswered h item text (asks.Refused why) old new a refused undamaged no_query any same in_step =
+    let (place, read, is) = refused why refl in
+    takes_question h item (Refused (refusals.BadQuery place)) (Replied (Refused why)) old new a (no_query place read) same in_step (sym (ap Refused is))
+takes_unanswered h item text (asks.Damaged damage) old new a refused undamaged no_query any same in_step = absurd (undamaged damage refl)
+takes_unanswered h item text asks.Failed old new a refused undamaged no_query any same in_step = takes_question h item any.0 Faulted old new a any.1 same in_step tt
+takes_unanswered h item text asks.Memory old new a refused undamaged no_query any same in_step = takes_question h item any.0 Starved old new a any.1 same in_step tt
+
 -- a query that was asked
 pub takes_find : (h : History) (at : Time) (text : List ℕ) (r : Result Answer AskError) (old new : DiskState) (a : ArchiveState)
     → ((why : Refusal) → r ≡ Err (asks.Refused why) → IsNoQuery text why)
@@ -134,16 +147,10 @@ pub takes_find : (h : History) (at : Time) (text : List ℕ) (r : Result Answer 
     → OnlyReads old new → AreInStep old a h → Takes h (items.Command (commands.Find at text)) (found r) old new a
 takes_find h at text (Ok answer) old new a refused undamaged finds same in_step =
     takes_question h (items.Command (commands.Find at text)) (Found answer.rows.items answer.read) (found (Ok answer)) old new a (refl, finds) same in_step refl
-takes_find h at text (Err (asks.Refused why)) old new a refused undamaged finds same in_step =
-    let (place, read, is) = refused why refl in
-    takes_question h (items.Command (commands.Find at text)) (Refused (refusals.BadQuery place)) (found (Err (asks.Refused why))) old new a (refl, (Err place, read, refl)) same in_step (sym (ap Refused is))
-takes_find h at text (Err (asks.Damaged damage)) old new a refused undamaged finds same in_step = absurd (undamaged damage refl)
-takes_find h at text (Err asks.Failed) old new a refused undamaged finds same in_step =
+takes_find h at text (Err error) old new a refused undamaged finds same in_step =
     let any = each_finds h at text in_step.legal in
-    takes_question h (items.Command (commands.Find at text)) any.0 Faulted old new a (refl, any.1) same in_step tt
-takes_find h at text (Err asks.Memory) old new a refused undamaged finds same in_step =
-    let any = each_finds h at text in_step.legal in
-    takes_question h (items.Command (commands.Find at text)) any.0 Starved old new a (refl, any.1) same in_step tt
+    takes_unanswered h (items.Command (commands.Find at text)) text error old new a (λ why is. refused why (ap Err is)) (λ damage is. undamaged damage (ap Err is))
+    (λ place read. (refl, (Err place, read, refl))) (any.0, (refl, any.1)) same in_step
 
 -- a query that was asked over a window
 pub takes_between : (h : History) (span : Span) (text : List ℕ) (r : Result SpanAnswer AskError) (old new : DiskState) (a : ArchiveState)
@@ -152,28 +159,19 @@ pub takes_between : (h : History) (span : Span) (text : List ℕ) (r : Result Sp
     → OnlyReads old new → AreInStep old a h → Takes h (items.Command (commands.Between span text)) (spanned r) old new a
 takes_between h span text (Ok answer) old new a refused undamaged spans same in_step =
     takes_question h (items.Command (commands.Between span text)) (Spanned answer.rows.items answer.read) (spanned (Ok answer)) old new a (refl, spans) same in_step refl
-takes_between h span text (Err (asks.Refused why)) old new a refused undamaged spans same in_step =
-    let (place, read, is) = refused why refl in
-    takes_question h (items.Command (commands.Between span text)) (Refused (refusals.BadQuery place)) (spanned (Err (asks.Refused why))) old new a (refl, (Err place, read, refl)) same in_step (sym (ap Refused is))
-takes_between h span text (Err (asks.Damaged damage)) old new a refused undamaged spans same in_step = absurd (undamaged damage refl)
-takes_between h span text (Err asks.Failed) old new a refused undamaged spans same in_step =
+takes_between h span text (Err error) old new a refused undamaged spans same in_step =
     let any = each_spans h span text in_step.legal in
-    takes_question h (items.Command (commands.Between span text)) any.0 Faulted old new a (refl, any.1) same in_step tt
-takes_between h span text (Err asks.Memory) old new a refused undamaged spans same in_step =
-    let any = each_spans h span text in_step.legal in
-    takes_question h (items.Command (commands.Between span text)) any.0 Starved old new a (refl, any.1) same in_step tt
+    takes_unanswered h (items.Command (commands.Between span text)) text error old new a (λ why is. refused why (ap Err is)) (λ damage is. undamaged damage (ap Err is))
+    (λ place read. (refl, (Err place, read, refl))) (any.0, (refl, any.1)) same in_step
 
 -- a version that was asked for
-pub takes_show : {T : Type 0} (bytes : T → List ℕ) (h : History) (doc : DocId) (at : Time) (r : Result (Option T) AskError) (old new : DiskState) (a : ArchiveState)
-    → ((why : Refusal) → r ≡ Err (asks.Refused why) → ⊥) → ((damage : Damage) → r ≡ Err (asks.Damaged damage) → ⊥) → IfOk r (λ text. option_map bytes text ≡ text_at h doc at.seconds)
-    → OnlyReads old new → AreInStep old a h → Takes h (items.Command (commands.Show doc at)) (version_shown bytes r) old new a
-takes_show bytes h doc at (Ok text) old new a never undamaged is same in_step =
+pub takes_show : {T : Type 0} (bytes : T → List ℕ) (h : History) (doc : DocId) (at : Time) (r : Result (Option T) ReadError) (old new : DiskState) (a : ArchiveState)
+    → IfOk r (λ text. option_map bytes text ≡ text_at h doc at.seconds) → OnlyReads old new → AreInStep old a h → Takes h (items.Command (commands.Show doc at)) (version_shown bytes r) old new a
+takes_show bytes h doc at (Ok text) old new a is same in_step =
     takes_question h (items.Command (commands.Show doc at)) (Version (text_at h doc at.seconds)) (version_shown bytes (Ok text)) old new a (refl, refl) same in_step (ap Version (sym is))
-takes_show bytes h doc at (Err (asks.Refused why)) old new a never undamaged is same in_step = absurd (never why refl)
-takes_show bytes h doc at (Err asks.Failed) old new a never undamaged is same in_step =
+takes_show bytes h doc at (Err reads.Failed) old new a is same in_step =
     takes_question h (items.Command (commands.Show doc at)) (Version (text_at h doc at.seconds)) Faulted old new a (refl, refl) same in_step tt
-takes_show bytes h doc at (Err (asks.Damaged damage)) old new a never undamaged is same in_step = absurd (undamaged damage refl)
-takes_show bytes h doc at (Err asks.Memory) old new a never undamaged is same in_step =
+takes_show bytes h doc at (Err reads.Memory) old new a is same in_step =
     takes_question h (items.Command (commands.Show doc at)) (Version (text_at h doc at.seconds)) Starved old new a (refl, refl) same in_step tt
 
 -- an answer that was made from the lists chosen, in pages that hold the live plans
@@ -222,9 +220,3 @@ pub stored_follows : (h : History) (r : Result PlanReport ChangeError) (b : Arch
     → IfOk r (λ report. (plan : PlanEntry) × (P report plan × Q report × StandsFor b (h ++ entries.Planned plan ∷ []))) → IsOk r → (more : History) × StandsFor b (h ++ more)
 stored_follows h (Ok report) b P Q (plan, (stored, told, stands)) ok = (entries.Planned plan ∷ [], stands)
 stored_follows h (Err e) b P Q stores ok = absurd cc
-
-pub none_follows : (h : History) (reason : AskError) (r : Result PlanReport ChangeError) (a b : ArchiveState) → NotDrafted reason r a b → IsOk r → (more : History) × StandsFor b (h ++ more)
-none_follows h (asks.Refused because) r a b not ok = let bad = subst (λ (s : Result PlanReport ChangeError). IsOk s) not.0 ok in absurd cc
-none_follows h asks.Failed r a b not ok = let bad = subst (λ (s : Result PlanReport ChangeError). IsOk s) not.0 ok in absurd cc
-none_follows h (asks.Damaged damage) r a b not ok = let bad = subst (λ (s : Result PlanReport ChangeError). IsOk s) not.0 ok in absurd cc
-none_follows h asks.Memory r a b not ok = let bad = subst (λ (s : Result PlanReport ChangeError). IsOk s) not.0 ok in absurd cc

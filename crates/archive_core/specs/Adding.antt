@@ -5,8 +5,8 @@ use Rattle.time_base.specs.declared.text_place.TextPlace.{TextPlace}
 use Rattle.version_store.specs.declared.change.Change.{Change}
 use Rattle.archive_state.specs.declared.refusal.Refusal.{Refusal}
 use Rattle.archive_replay.specs.Entries.{IsHeld}
-use Rattle.archive_replay.specs.declared.preparing.Unprepared.{Unprepared}
-use Rattle.archive_replay.specs.declared.preparing.Unprepared.TheVariants as unprepared
+use Rattle.archive_replay.specs.declared.error.Declined.{Declined}
+use Rattle.archive_replay.specs.declared.error.Declined.TheVariants as declines
 use Rattle.record_codec.specs.declared.entry.Entry.{Entry}
 use Rattle.time_base.specs.declared.extent.Extent.{Extent}
 use Rattle.page_store.specs.Taken.{HasTaken}
@@ -51,7 +51,7 @@ pub record Adds (history : History) (entry : Entry) (refusal : Option Refusal) (
   pub allowed : IsOk result ⊎ (result ≡ Err changes.Failed) → refusal ≡ None
   pub stands : IfOk result (λ n. StandsFor new (history ++ entry ∷ []) × (n ≡ length history + 1))
 
--- what comes of a change that was not prepared: it is refused, or the archive is spent
-abbrev pub GivesUp : Unprepared → Result ℕ ChangeError → ArchiveState → ArchiveState → Type 0
-GivesUp (unprepared.Refused why) result old new = (result ≡ Err (changes.Refused why)) × (new ≡ old)
-GivesUp unprepared.Memory result old new = (result ≡ Err changes.Memory) × (new ≡ record old { live = false })
+-- what comes of a change, or a plan, that was declined: it is refused, or the archive is spent
+abbrev pub GivesUp : {T : Type 0} → Declined → Result T ChangeError → ArchiveState → ArchiveState → Type 0
+GivesUp (declines.Refused why) result old new = (result ≡ Err (changes.Refused why)) × (new ≡ old)
+GivesUp declines.Memory result old new = (result ≡ Err changes.Memory) × (new ≡ record old { live = false })

@@ -1,8 +1,10 @@
--- What holds after each call that changes an archive in hand, and after each question, whatever it is for.
+-- What holds after each call that changes an archive in hand, after each query, and after sublists were fetched for one, whatever it is for.
 use Rattle.std.specs.Prelude.{◌≡◌, ◌⊎◌, ◌↔◌, List, ℕ, Result, Err, IsOk, IsTrue}
 use Rattle.machine_model.specs.Calls.{OnlyReads}
 use Rattle.machine_model.specs.Causes.{Rose}
 use Rattle.machine_model.specs.States.{DiskState}
+use Rattle.sublist_store.specs.declared.why.FetchError.{FetchError}
+use Rattle.sublist_store.specs.declared.why.FetchError.TheVariants as fetches
 use Rattle.archive_state.specs.declared.refusal.Refusal.{Refusal}
 use Rattle.archive_core.specs.Adding.{IsSpent}
 use Rattle.archive_core.specs.Answering.{IsNoQuery, IsQuery}
@@ -34,7 +36,18 @@ pub record AfterChange {T : Type 0} (tells refused uncalled : Type 0) (result : 
   -- where it is spent, it has the entries, the texts and the plans that it had
   pub spent : (result ≡ Err changes.Memory) ⊎ (result ≡ Err changes.Failed) → IsSpent old new
 
--- After a question by this phrase, on any disk: `tells` says that the disk tells.
+-- After sublists were fetched, on any disk: `tells` says that the disk tells.
+pub record AfterFetching {T : Type 0} (tells : Type 0) (result : Result T FetchError) (d e : DiskState) (old new : ArchiveState) : Type 0 where
+  -- no image changes, no byte and no length
+  pub same : OnlyReads d e
+  -- nor does the archive, but for which pages it keeps
+  pub but_cache : IsSameButCache old new
+  -- and these go on being what reads give, whatever comes of it
+  pub cached : tells → CacheStands d old → CacheStands e new
+  -- it failed only where a call of the disk failed
+  pub failed : result ≡ Err fetches.Failed → Rose d.faults e.faults
+
+-- After a query by this phrase, on any disk: `tells` says that the disk tells.
 pub record AfterQuestion {T : Type 0} (tells : Type 0) (phrase : List ℕ) (result : Result T AskError) (d e : DiskState) (old new : ArchiveState) : Type 0 where
   -- no image changes, no byte and no length
   pub same : OnlyReads d e

@@ -1,5 +1,5 @@
 -- How a plan is stored.
-use Rattle.std.specs.Prelude.{◌≡◌, ℕ, ◌<◌, ◌≤◌, List, [], ◌∷◌, ◌++◌, length, Result, Err, false}
+use Rattle.std.specs.Prelude.{◌≡◌, ℕ, ◌<◌, ◌≤◌, List, [], ◌∷◌, ◌++◌, length}
 use Rattle.std.specs.List.{AllZip}
 use Rattle.time_base.specs.Limits.{limit_of}
 use Rattle.time_base.specs.declared.posting.Posting.{Posting}
@@ -19,14 +19,6 @@ use Rattle.archive_state.specs.Planning.{IsListUpTo, last_second}
 use Rattle.archive_state.specs.Plans.{live_extents}
 use Rattle.plan_shelf.specs.declared.readying.Draft.{Draft}
 use Rattle.plan_shelf.specs.Readying.{HasPlaces, plan_with}
-use Rattle.plan_shelf.specs.declared.readying.PlanReport.{PlanReport}
-use Rattle.archive_core.specs.declared.error.AskError.{AskError}
-use Rattle.archive_core.specs.declared.error.AskError.TheVariants as asks
-use Rattle.archive_core.specs.declared.error.ChangeError.{ChangeError}
-use Rattle.archive_core.specs.declared.error.ChangeError.TheVariants as changes
-use Rattle.archive_replay.specs.declared.preparing.Unprepared.{Unprepared}
-use Rattle.archive_replay.specs.declared.preparing.Unprepared.TheVariants as unprepared
-use Rattle.archive_core.specs.States.{ArchiveState}
 
 -- A draft of a history: a plan of a word's list up to the last time that is what its kind promises.
 pub record IsDraft (history : History) (draft : Draft) : Type 0 where
@@ -55,15 +47,3 @@ pub record IsStoredAs (history : History) (draft : Draft) (plan : PlanEntry) : T
   pub has : HasPlaces draft (live_extents history) places
   pub plan_is : plan ≡ plan_with draft places
   pub room : end_of (history ++ entries.Planned plan ∷ []) ≤ limit_of Journal
-
--- what comes of a plan that was not drafted: it is refused, or the archive is spent
-abbrev pub NotDrafted : AskError → Result PlanReport ChangeError → ArchiveState → ArchiveState → Type 0
-NotDrafted (asks.Refused why) result old new = (result ≡ Err (changes.Refused why)) × (new ≡ old)
-NotDrafted asks.Failed result old new = (result ≡ Err changes.Memory) × (new ≡ record old { live = false })
-NotDrafted (asks.Damaged damage) result old new = (result ≡ Err changes.Memory) × (new ≡ record old { live = false })
-NotDrafted asks.Memory result old new = (result ≡ Err changes.Memory) × (new ≡ record old { live = false })
-
--- what comes of a plan that was not made ready
-abbrev pub NotReady : Unprepared → Result PlanReport ChangeError → ArchiveState → ArchiveState → Type 0
-NotReady (unprepared.Refused why) result old new = (result ≡ Err (changes.Refused why)) × (new ≡ old)
-NotReady unprepared.Memory result old new = (result ≡ Err changes.Memory) × (new ≡ record old { live = false })

@@ -21,6 +21,12 @@ use Rattle.archive_core.specs.declared.error.ChangeError.{ChangeError}
 use Rattle.archive_core.specs.declared.error.ChangeError.TheVariants as changes
 use Rattle.archive_core.specs.declared.error.AskError.{AskError}
 use Rattle.archive_core.specs.declared.error.AskError.TheVariants as asks
+use Rattle.archive_check.specs.declared.error.VerifyError.{VerifyError}
+use Rattle.archive_check.specs.declared.error.VerifyError.TheVariants as checks
+use Rattle.archive_replay.specs.declared.error.Declined.{Declined}
+use Rattle.archive_replay.specs.declared.error.Declined.TheVariants as declines
+use Rattle.archive_replay.specs.declared.error.ReadError.{ReadError}
+use Rattle.archive_replay.specs.declared.error.ReadError.TheVariants as reads
 
 -- how a call ends: by a reply, for want of memory, by a fault of the disk, or at a sublist that is damaged
 pub data Ending : Type 0 where
@@ -29,7 +35,7 @@ pub data Ending : Type 0 where
   Faulted : Ending
   Spoiled : Damage → Ending
 
--- how changes end, and how questions do
+-- how changes end
 abbrev pub unchanged : ChangeError → Ending
 unchanged (changes.Refused why) = Replied (Refused why)
 unchanged changes.Failed = Faulted
@@ -43,31 +49,36 @@ abbrev pub planned : Result PlanReport ChangeError → Ending
 planned (Ok report) = Replied (Planned (summary_of report))
 planned (Err error) = unchanged error
 
-abbrev pub declined : AskError → Ending
-declined (asks.Refused why) = Replied (Refused why)
-declined asks.Failed = Faulted
-declined asks.Memory = Starved
-declined (asks.Damaged damage) = Spoiled damage
+-- how queries end
+abbrev pub unanswered : AskError → Ending
+unanswered (asks.Refused why) = Replied (Refused why)
+unanswered asks.Failed = Faulted
+unanswered asks.Memory = Starved
+unanswered (asks.Damaged damage) = Spoiled damage
 
 abbrev pub found : Result Answer AskError → Ending
 found (Ok answer) = Replied (Found answer.rows.items answer.read)
-found (Err error) = declined error
+found (Err error) = unanswered error
 
 abbrev pub spanned : Result SpanAnswer AskError → Ending
 spanned (Ok answer) = Replied (Spanned answer.rows.items answer.read)
-spanned (Err error) = declined error
+spanned (Err error) = unanswered error
 
-abbrev pub proposed : Result Proposal AskError → Ending
+-- how the other questions do: what needs no disk, a text that is read, and a check
+abbrev pub proposed : Result Proposal Declined → Ending
 proposed (Ok proposal) = Replied (Proposed proposal.segments.items proposal.nodes.items proposal.space)
-proposed (Err error) = declined error
+proposed (Err (declines.Refused why)) = Replied (Refused why)
+proposed (Err declines.Memory) = Starved
 
-abbrev pub version_shown : {T : Type 0} → (T → List ℕ) → Result (Option T) AskError → Ending
+abbrev pub version_shown : {T : Type 0} → (T → List ℕ) → Result (Option T) ReadError → Ending
 version_shown bytes (Ok text) = Replied (Version (option_map bytes text))
-version_shown bytes (Err error) = declined error
+version_shown bytes (Err reads.Failed) = Faulted
+version_shown bytes (Err reads.Memory) = Starved
 
-abbrev pub verified : Result Verdict AskError → Ending
+abbrev pub verified : Result Verdict VerifyError → Ending
 verified (Ok verdict) = Replied (Verified verdict)
-verified (Err error) = declined error
+verified (Err checks.Failed) = Faulted
+verified (Err checks.Memory) = Starved
 
 -- Where a reply was given it is that of the outcome, and the archive stands for the history after the outcome; where memory ran out, each image
 -- stands for the history before it. Nothing is damaged.

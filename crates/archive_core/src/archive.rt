@@ -12,7 +12,7 @@ ghost use Rattle.archive_state.specs.Histories.{History};
 ghost use Rattle.archive_state.specs.Steps.{Planned, Plans, Refused, arrival_refusal, deletion_refusal};
 ghost use Rattle.archive_state.specs.Plans.{live_extents};
 ghost use Rattle.record_codec.specs.declared.plan.PlanEntry.{PlanEntry};
-ghost use Rattle.archive_core.specs.Storing.{IsDraft, IsStoredAs, NotDrafted, NotReady};
+ghost use Rattle.archive_core.specs.Storing.{IsDraft, IsStoredAs};
 ghost use Rattle.plan_shelf.specs.Readying.{IsFull, tells_of};
 ghost use Rattle.archive_core.specs.Answering.{HasAsked};
 ghost use Rattle.archive_core.specs.States.{StandsFor, CacheStands, IsSameButCache, AreInStep, Reaches};
@@ -29,10 +29,10 @@ ghost use Rattle.commands.specs.declared.command.Command.TheVariants as commands
 ghost use Rattle.commands.specs.declared.command.Item.TheVariants as items;
 ghost use Rattle.commands.specs.declared.text.Text.TheVariants as texts;
 
-use crate::error::{AskError, ChangeError};
+use crate::error::ChangeError;
 use crate::storing::write_ready;
 use archive_replay::{
-    Prepared, TEXT_AT, Unprepared, full_journal, note, placed, prepare_arrival, prepare_deletion,
+    Declined, Prepared, TEXT_AT, full_journal, note, placed, prepare_arrival, prepare_deletion,
 };
 use archive_state::Refusal;
 use commands::{Kind, Phrase};
@@ -273,20 +273,7 @@ impl Archive {
     {
         match self.draft(alloc, word, kind, factor) {
             Ok(draft) => self.store(alloc, disk, draft),
-            Err(why) => self.not_drafted(why),
-        }
-    }
-
-    // A plan that was not drafted: it is refused, or there was no memory for it.
-    fn not_drafted(&mut self, why: AskError) -> Result<PlanReport, ChangeError>
-        ensures { NotDrafted why result self.old self.new }
-    {
-        match why {
-            AskError::Refused(why) => Err(ChangeError::Refused(why)),
-            AskError::Failed | AskError::Damaged(_) | AskError::Memory => {
-                self.live = false;
-                Err(ChangeError::Memory)
-            }
+            Err(declined) => self.give_up(declined),
         }
     }
 
@@ -323,7 +310,7 @@ impl Archive {
             draft,
         ) {
             Ok(ready) => ready,
-            Err(why) => return self.not_ready(why),
+            Err(why) => return self.give_up(why),
         };
         self.live = false;
         match write_ready(disk, &mut self.journal, &mut self.shelf, ready) {
@@ -336,25 +323,12 @@ impl Archive {
         }
     }
 
-    // A plan for which there is no room, or no memory.
-    fn not_ready(&mut self, why: Unprepared) -> Result<PlanReport, ChangeError>
-        ensures { NotReady why result self.old self.new }
-    {
-        match why {
-            Unprepared::Refused(why) => Err(ChangeError::Refused(why)),
-            Unprepared::Memory => {
-                self.live = false;
-                Err(ChangeError::Memory)
-            }
-        }
-    }
-
     // Adds what was prepared, or hands on why it was not.
     fn add<D: Disk>(
         &mut self,
         alloc: Global,
         disk: &mut D,
-        prepared: Result<Prepared, Unprepared>,
+        prepared: Result<Prepared, Declined>,
     ) -> Result<u64, ChangeError>
         requires live { IsTrue self.old.live }
         requires within { Reaches (D.disk disk.old).reach self.old }
@@ -374,13 +348,13 @@ impl Archive {
         }
     }
 
-    // A change that was not prepared: it is refused, or there was no memory for it.
-    fn give_up(&mut self, why: Unprepared) -> Result<u64, ChangeError>
+    // A change, or a plan, that was declined: it is refused, or there was no memory for it.
+    fn give_up<T>(&mut self, why: Declined) -> Result<T, ChangeError>
         ensures { GivesUp why result self.old self.new }
     {
         match why {
-            Unprepared::Refused(why) => Err(ChangeError::Refused(why)),
-            Unprepared::Memory => {
+            Declined::Refused(why) => Err(ChangeError::Refused(why)),
+            Declined::Memory => {
                 self.live = false;
                 Err(ChangeError::Memory)
             }

@@ -1,19 +1,17 @@
 //! What an archive is asked: the text of a document at a time, and what a query finds.
-ghost use Rattle.std.specs.Prelude.{◌≡◌, ◌+◌, ℕ, List, Ok, Err, All, length, false, true, is_some, IsSome, IsOk, IfOk, IsErrOf, option_map};
+ghost use Rattle.std.specs.Prelude.{◌≡◌, ◌+◌, ℕ, List, All, length, false, true, is_some, IsSome, IfOk, IsErrOf};
 ghost use Rattle.machine_model.specs.Causes.{Rose};
 ghost use Rattle.machine_model.specs.Calls.{OnlyReads};
-ghost use Rattle.query_lang.specs.Grammar.{IsRead};
 ghost use Rattle.query_lang.specs.Meaning.{words_of};
-ghost use Rattle.query_lang.specs.Tokens.{key_of};
 ghost use Rattle.query_eval.specs.Answers.{IsAnswer};
 ghost use Rattle.query_eval.specs.Asked.{read_of};
 ghost use Rattle.query_eval.specs.Found.{told, HasHit};
 ghost use Rattle.version_store.specs.Changes.{held_at};
 ghost use Rattle.archive_state.specs.Histories.{History, text_at};
 ghost use Rattle.archive_state.specs.Plans.{is_another};
-ghost use Rattle.archive_state.specs.Chosen.{AreChosen, SpoilsAnswer};
-ghost use Rattle.archive_core.specs.After.{AfterQuestion};
-ghost use Rattle.archive_core.specs.Answering.{AnswersAt, IsNoQuery};
+ghost use Rattle.archive_state.specs.Chosen.{AreChosen, IsFirstDamage, IsMadeAt, SpoilsAnswer};
+ghost use Rattle.archive_core.specs.After.{AfterFetching, AfterQuestion};
+ghost use Rattle.archive_core.specs.Answering.{AnswersAt, HasReadFor};
 ghost use Rattle.archive_core.specs.States.{StandsFor, CacheStands, AreInStep, Reaches};
 ghost use Rattle.archive_core.specs.Takes.{Takes, found, version_shown};
 ghost use Rattle.commands.specs.declared.command.Command.TheVariants as commands;
@@ -21,14 +19,13 @@ ghost use Rattle.commands.specs.declared.command.Item.TheVariants as items;
 
 use crate::archive::Archive;
 use crate::error::AskError;
-use archive_replay::read_text;
-use archive_state::Refusal;
+use archive_replay::{ReadError, read_text};
 use commands::Phrase;
 use machine_model::Disk;
 use query_eval::{Answer, Part, answer_by_hits, answer_by_living_hits, answer_from};
-use query_lang::{Query, QueryError};
+use query_lang::Query;
 use std::alloc::{AllocError, Global};
-use sublist_store::Damage;
+use sublist_store::{Damage, FetchError};
 use time_base::{DocId, Key, Span, Time};
 
 impl Archive {
@@ -64,7 +61,9 @@ impl Archive {
         ensures takes { D.disk_tells → (h : History) → AreInStep (D.disk disk.old) self.old h →
             Takes h (items.Command (commands.Find at expr.now)) (found result) (D.disk disk.old) (D.disk disk.new) self.new }
     {
-        self.answer_of(alloc, disk, at, expr)
+        let query = Query::read(alloc, expr.as_str())?;
+        let answer = self.answer_of(alloc, disk, &query, at)?;
+        Ok(answer)
     }
 
     /// The answer to a query by the lists of its words.
@@ -72,20 +71,20 @@ impl Archive {
         &mut self,
         alloc: Global,
         disk: &mut D,
+        query: &Query,
         at: Time,
-        expr: &Phrase,
-    ) -> Result<Answer, AskError>
+    ) -> Result<Answer, FetchError>
         requires within { Reaches (D.disk disk.old).reach self.old }
         ensures only { D.Disk.only disk.old disk.new }
-        ensures after { AfterQuestion D.disk_tells expr.now result (D.disk disk.old) (D.disk disk.new) self.old self.new }
+        ensures after { AfterFetching D.disk_tells result (D.disk disk.old) (D.disk disk.new) self.old self.new }
         ensures made { D.disk_tells → (h : History) → StandsFor self.old h → CacheStands (D.disk disk.old) self.old →
-            IfOk result (λ answer. AnswersAt h at.seconds expr.now self.old.shelf.cache self.new.shelf.cache (D.disk disk.old) (D.disk disk.new) answer.rows.items answer.read) }
-        ensures damaged { D.disk_tells → (h : History) → StandsFor self.old h → CacheStands (D.disk disk.old) self.old → (d : Damage) → IsErrOf result (AskError.Damaged d) →
-            SpoilsAnswer h (D.disk disk.old).holds.pages at.seconds (at.seconds + 1) expr.now d }
+            IfOk result (λ answer. IsMadeAt h (D.disk disk.old).holds.pages at.seconds query.now answer.rows.items answer.read
+            × HasReadFor h at.seconds (at.seconds + 1) query.now self.old.shelf.cache self.new.shelf.cache (D.disk disk.old) (D.disk disk.new)) }
+        ensures damaged { D.disk_tells → (h : History) → StandsFor self.old h → CacheStands (D.disk disk.old) self.old → (d : Damage) → IsErrOf result (FetchError.Damaged d) →
+            IsFirstDamage h (D.disk disk.old).holds.pages at.seconds (at.seconds + 1) (words_of query.now) d }
     {
-        let query = query_of(alloc, expr)?;
         let parts = self.parts_of(alloc, disk, query.words(), moment(at))?;
-        let answer = self.answer_by(alloc, &query, at, &parts)?;
+        let answer = self.answer_by(alloc, query, at, &parts)?;
         Ok(answer)
     }
 
@@ -147,7 +146,9 @@ impl Archive {
     }
 
     /// The text of the document's version that is alive at the time; None exactly where the document
-    /// isn't alive then. It is never `Refused`. Nothing is changed.
+    /// isn't alive then. Nothing is changed.
+    ///
+    /// `Failed`: the disk failed. `Memory`: there was none.
     /// Costs what a look-up in the directory does, and one read of the text's length.
     pub fn show<D: Disk>(
         &self,
@@ -155,57 +156,20 @@ impl Archive {
         disk: &mut D,
         doc: DocId,
         at: Time,
-    ) -> Result<Option<Vec<u8>>, AskError>
+    ) -> Result<Option<Vec<u8>>, ReadError>
         requires within { Reaches (D.disk disk.old).reach self.now }
         ensures only { D.Disk.only disk.old disk.new }
         ensures same { OnlyReads (D.disk disk.old) (D.disk disk.new) }
-        ensures failed { IsErrOf result AskError.Failed → Rose (D.disk disk.old).faults (D.disk disk.new).faults }
-        ensures never { (why : Refusal) → IsErrOf result (AskError.Refused why) → ⊥ }
-        ensures undamaged { (d : Damage) → IsErrOf result (AskError.Damaged d) → ⊥ }
+        ensures failed { IsErrOf result ReadError.Failed → Rose (D.disk disk.old).faults (D.disk disk.new).faults }
         // In step, it is a step of the abstract machine.
         ensures takes { D.disk_tells → (h : History) → AreInStep (D.disk disk.old) self.now h →
             Takes h (items.Command (commands.Show doc at)) (version_shown (λ v. v.items) result) (D.disk disk.old) (D.disk disk.new) self.now }
-    {
-        self.text_of(alloc, disk, doc, at)
-    }
-
-    /// The text at the place that the directory has for the version.
-    fn text_of<D: Disk>(
-        &self,
-        alloc: Global,
-        disk: &mut D,
-        doc: DocId,
-        at: Time,
-    ) -> Result<Option<Vec<u8>>, AskError>
-        requires within { Reaches (D.disk disk.old).reach self.now }
-        ensures only { D.Disk.only disk.old disk.new }
-        ensures same { OnlyReads (D.disk disk.old) (D.disk disk.new) }
-        ensures failed { IsErrOf result AskError.Failed → Rose (D.disk disk.old).faults (D.disk disk.new).faults }
-        ensures never { (why : Refusal) → IsErrOf result (AskError.Refused why) → ⊥ }
-        ensures undamaged { (d : Damage) → IsErrOf result (AskError.Damaged d) → ⊥ }
-        ensures text { D.disk_tells → (h : History) → AreInStep (D.disk disk.old) self.now h → IfOk result (λ text. option_map (λ v. v.items) text ≡ text_at h doc at.seconds) }
     {
         let Some(place) = self.directory().place(doc, at) else {
             return Ok(None);
         };
         let text = read_text(alloc, disk, self.journal(), place)?;
         Ok(Some(text))
-    }
-}
-
-/// The query of a phrase, or where it shows that there is none.
-pub(crate) fn query_of(alloc: Global, expr: &Phrase) -> Result<Query, AskError>
-    ensures query { IfOk result (λ query. IsRead key_of expr.now (Ok query)) }
-    ensures refused { (why : Refusal) → IsErrOf result (AskError.Refused why) → IsNoQuery expr.now why }
-    ensures failed { IsErrOf result AskError.Failed → ⊥ }
-    ensures undamaged { (d : Damage) → IsErrOf result (AskError.Damaged d) → ⊥ }
-{
-    match Query::read(alloc, expr.as_str()) {
-        Ok(query) => Ok(query),
-        Err(QueryError::BadQuery { at }) => Err(AskError::Refused(Refusal::BadQuery {
-            offset: at,
-        })),
-        Err(QueryError::Memory) => Err(AskError::Memory),
     }
 }
 

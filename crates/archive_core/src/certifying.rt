@@ -12,18 +12,16 @@ ghost use Rattle.commands.specs.declared.command.Command.TheVariants as commands
 ghost use Rattle.commands.specs.declared.command.Item.TheVariants as items;
 
 use crate::archive::Archive;
-use crate::error::AskError;
 use crate::planning::planned;
-use archive_replay::{MANY_POSTINGS, list_up_to};
+use archive_replay::{Declined, MANY_POSTINGS, list_up_to};
 use archive_state::Refusal;
 use commands::{Kind, Phrase};
 use elementary::Table;
 use fold_tokens::one_term;
 use proposals::Proposal;
 use record_codec::PlanEntry;
-use std::alloc::Global;
+use std::alloc::{AllocError, Global};
 use stored_plans::partition_of;
-use sublist_store::Damage;
 use time_base::{Key, Posting};
 
 impl Archive {
@@ -32,14 +30,12 @@ impl Archive {
     /// changed, and no disk is asked.
     ///
     /// `Refused`: for the first cause in order, the phrase isn't one term, no text has the word, or it has
-    /// no stored plan that keeps to a guarantee. It is never `Failed` or `Damaged`.
+    /// no stored plan that keeps to a guarantee. `Memory`: there was none.
     /// Costs `n log n` in the word's postings, and memory in them.
-    pub fn certificate(&self, alloc: Global, word: &Phrase) -> Result<Proposal, AskError>
-        ensures failed { IsErrOf result AskError.Failed → ⊥ }
-        ensures undamaged { (d : Damage) → IsErrOf result (AskError.Damaged d) → ⊥ }
+    pub fn certificate(&self, alloc: Global, word: &Phrase) -> Result<Proposal, Declined>
         // Whatever history it stands for, a refusal comes exactly where that has the cause (but for want of memory); what is told is the stored
         // plan, where the history is legal.
-        ensures refused { (h : History) → StandsFor self.now h → (why : Refusal) → IsErrOf result (AskError.Refused why) → Certifies h word.now (Refused why) }
+        ensures refused { (h : History) → StandsFor self.now h → (why : Refusal) → IsErrOf result (Declined.Refused why) → Certifies h word.now (Refused why) }
         ensures certifies { (h : History) → StandsFor self.now h → IsLegal h → IfOk result (λ p. Certifies h word.now (Proposed p.segments.items p.nodes.items p.space)) }
         // In step with a disk, it is a step of the abstract machine.
         ensures takes { (d : DiskState) (h : History) → AreInStep d self.now h → Takes h (items.Command (commands.Certificate word.now)) (proposed result) d d self.now }
@@ -48,51 +44,47 @@ impl Archive {
     }
 
     /// The certificate of a phrase's word.
-    fn certificate_of(&self, alloc: Global, word: &Phrase) -> Result<Proposal, AskError>
-        ensures failed { IsErrOf result AskError.Failed → ⊥ }
-        ensures undamaged { (d : Damage) → IsErrOf result (AskError.Damaged d) → ⊥ }
-        ensures refused { (h : History) → StandsFor self.now h → (why : Refusal) → IsErrOf result (AskError.Refused why) → Certifies h word.now (Refused why) }
+    fn certificate_of(&self, alloc: Global, word: &Phrase) -> Result<Proposal, Declined>
+        ensures refused { (h : History) → StandsFor self.now h → (why : Refusal) → IsErrOf result (Declined.Refused why) → Certifies h word.now (Refused why) }
         ensures certifies { (h : History) → StandsFor self.now h → IsLegal h → IfOk result (λ p. Certifies h word.now (Proposed p.segments.items p.nodes.items p.space)) }
     {
         let Some(key) = one_term(alloc, word.as_str())? else {
-            return Err(AskError::Refused(Refusal::NotOneTerm));
+            return Err(Declined::Refused(Refusal::NotOneTerm));
         };
         if !self.index().knows(&key) {
-            return Err(AskError::Refused(Refusal::UnknownWord));
+            return Err(Declined::Refused(Refusal::UnknownWord));
         }
         self.certificate_of_word(alloc, &key)
     }
 
     /// The certificate of a word's live plan.
-    fn certificate_of_word(&self, alloc: Global, word: &Key) -> Result<Proposal, AskError>
-        ensures failed { IsErrOf result AskError.Failed → ⊥ }
-        ensures undamaged { (d : Damage) → IsErrOf result (AskError.Damaged d) → ⊥ }
-        ensures refused { (h : History) → StandsFor self.now h → (why : Refusal) → IsErrOf result (AskError.Refused why) → CertifiesLive h (plan_of h word.now) (Refused why) }
+    fn certificate_of_word(&self, alloc: Global, word: &Key) -> Result<Proposal, Declined>
+        ensures refused { (h : History) → StandsFor self.now h → (why : Refusal) → IsErrOf result (Declined.Refused why) → CertifiesLive h (plan_of h word.now) (Refused why) }
         ensures certifies { (h : History) → StandsFor self.now h → IsLegal h → IfOk result (λ p. CertifiesLive h (plan_of h word.now) (Proposed p.segments.items p.nodes.items p.space)) }
     {
         let Some(stored) = self.shelf().plan_of(word) else {
-            return Err(AskError::Refused(Refusal::NoPlan));
+            return Err(Declined::Refused(Refusal::NoPlan));
         };
         match stored.plan.kind {
-            Kind::Guarantee => self.certificate_of_plan(alloc, &stored.plan),
-            Kind::Uniform => Err(AskError::Refused(Refusal::NoPlan)),
-            Kind::Since { .. } => Err(AskError::Refused(Refusal::NoPlan)),
+            Kind::Guarantee => {
+                let proposal = self.certificate_of_plan(alloc, &stored.plan)?;
+                Ok(proposal)
+            }
+            Kind::Uniform => Err(Declined::Refused(Refusal::NoPlan)),
+            Kind::Since { .. } => Err(Declined::Refused(Refusal::NoPlan)),
         }
     }
 
     /// The certificate of a live plan that keeps to a guarantee.
-    fn certificate_of_plan(&self, alloc: Global, plan: &PlanEntry) -> Result<Proposal, AskError>
+    fn certificate_of_plan(&self, alloc: Global, plan: &PlanEntry) -> Result<Proposal, AllocError>
         requires live { (h : History) → StandsFor self.now h → plan_of h plan.now.word ≡ Some plan.now }
         requires kind { plan.now.kind ≡ Kind.Guarantee }
-        ensures failed { IsErrOf result AskError.Failed → ⊥ }
-        ensures undamaged { (d : Damage) → IsErrOf result (AskError.Damaged d) → ⊥ }
-        ensures refused { (why : Refusal) → IsErrOf result (AskError.Refused why) → ⊥ }
-        ensures certifies { (h : History) → StandsFor self.now h → IsLegal h → IfOk result (λ p. CertifiesPlan h plan.now Kind.Guarantee (Proposed p.segments.items p.nodes.items p.space)) }
+        ensures { (h : History) → StandsFor self.now h → IsLegal h → IfOk result (λ p. CertifiesPlan h plan.now Kind.Guarantee (Proposed p.segments.items p.nodes.items p.space)) }
     {
         let whole = self.index().list(alloc, &plan.word)?;
         let list = list_up_to(alloc, &whole, plan.horizon)?;
         if list.is_empty() || list.len() >= MANY_POSTINGS {
-            return Err(AskError::Memory);
+            return Err(AllocError);
         }
         certified(alloc, &list, plan)
     }
@@ -100,24 +92,21 @@ impl Archive {
 
 /// The certificate of a plan of a list. Whatever can't be, as that the list has too many boundaries, is
 /// answered as want of memory.
-fn certified(alloc: Global, list: &[Posting], plan: &PlanEntry) -> Result<Proposal, AskError>
+fn certified(alloc: Global, list: &[Posting], plan: &PlanEntry) -> Result<Proposal, AllocError>
     requires some { 0 < length list.now }
     requires few { length list.now < 2 ^ 38 }
     requires early { All (λ p. p.span.to ≤ plan.now.horizon.seconds) list.now }
-    ensures failed { IsErrOf result AskError.Failed → ⊥ }
-    ensures undamaged { (d : Damage) → IsErrOf result (AskError.Damaged d) → ⊥ }
-    ensures refused { (why : Refusal) → IsErrOf result (AskError.Refused why) → ⊥ }
-    ensures certifies { IfOk result (λ p. IsLeastPlan list.now plan.now.fraction plan.now.cuts plan.now.horizon.seconds → IsCertificate plan.now list.now p.segments.items p.nodes.items p.space) }
+    ensures { IfOk result (λ p. IsLeastPlan list.now plan.now.fraction plan.now.cuts plan.now.horizon.seconds → IsCertificate plan.now list.now p.segments.items p.nodes.items p.space) }
 {
     let table = Table::new(alloc, list, plan.horizon)?;
     let Ok((_, certificate)) = planned(alloc, &table, plan.fraction) else {
-        return Err(AskError::Memory);
+        return Err(AllocError);
     };
     let Some(partition) = partition_of(alloc, plan.cuts.as_slice(), plan.horizon)? else {
-        return Err(AskError::Memory);
+        return Err(AllocError);
     };
     if !partition.fits(&table) {
-        return Err(AskError::Memory);
+        return Err(AllocError);
     }
     let proposal = Proposal::of(alloc, &table, &partition, certificate.pi())?;
     Ok(proposal)

@@ -10,12 +10,10 @@ ghost use Rattle.commands.specs.declared.command.Command.TheVariants as commands
 ghost use Rattle.commands.specs.declared.command.Item.TheVariants as items;
 
 use crate::archive::Archive;
-use crate::error::AskError;
-use archive_check::verify;
-use archive_state::{Refusal, Verdict};
+use archive_check::{VerifyError, verify};
+use archive_state::Verdict;
 use machine_model::Disk;
 use std::alloc::Global;
-use sublist_store::Damage;
 
 impl Archive {
     /// Checks the archive by its texts, and tells what it finds: that all is sound, or the first fault.
@@ -23,36 +21,20 @@ impl Archive {
     /// least one; where a text isn't UTF-8, that is told. Of what is in memory it uses only where texts
     /// and sublists lie, and no digest is asked. Nothing is changed.
     ///
-    /// `Failed`: the disk failed. `Memory`: there was none. It is never `Refused` or `Damaged`.
+    /// `Failed`: the disk failed. `Memory`: there was none.
     /// Without plans nothing is read. Else each text and each sublist is read once, and the lists of all
     /// words are made anew; it costs what `archive_check::verify` does.
-    pub fn verify<D: Disk>(&self, alloc: Global, disk: &mut D) -> Result<Verdict, AskError>
+    pub fn verify<D: Disk>(&self, alloc: Global, disk: &mut D) -> Result<Verdict, VerifyError>
         requires within { Reaches (D.disk disk.old).reach self.now }
         ensures only { D.Disk.only disk.old disk.new }
         ensures same { OnlyReads (D.disk disk.old) (D.disk disk.new) }
-        ensures failed { IsErrOf result AskError.Failed → Rose (D.disk disk.old).faults (D.disk disk.new).faults }
-        ensures never { (why : Refusal) → IsErrOf result (AskError.Refused why) → ⊥ }
-        ensures undamaged { (d : Damage) → IsErrOf result (AskError.Damaged d) → ⊥ }
+        ensures failed { IsErrOf result VerifyError.Failed → Rose (D.disk disk.old).faults (D.disk disk.new).faults }
         // Whatever the disk holds, if it tells: the verdict is by what reads give, and by where the entries say that texts and sublists lie.
         ensures checked { D.disk_tells → (h : History) → StandsFor self.now h → IfOk result (IsChecked h (D.disk disk.old).holds) }
         // In step, it is a step of the abstract machine: all is sound.
         ensures takes { D.disk_tells → (h : History) → AreInStep (D.disk disk.old) self.now h → Takes h (items.Command commands.Verify) (verified result) (D.disk disk.old) (D.disk disk.new) self.now }
     {
-        self.verdict(alloc, disk)
-    }
-
-    /// The verdict on the live plans.
-    fn verdict<D: Disk>(&self, alloc: Global, disk: &mut D) -> Result<Verdict, AskError>
-        requires within { Reaches (D.disk disk.old).reach self.now }
-        ensures only { D.Disk.only disk.old disk.new }
-        ensures same { OnlyReads (D.disk disk.old) (D.disk disk.new) }
-        ensures failed { IsErrOf result AskError.Failed → Rose (D.disk disk.old).faults (D.disk disk.new).faults }
-        ensures never { (why : Refusal) → IsErrOf result (AskError.Refused why) → ⊥ }
-        ensures undamaged { (d : Damage) → IsErrOf result (AskError.Damaged d) → ⊥ }
-        ensures checked { D.disk_tells → (h : History) → StandsFor self.now h → IfOk result (IsChecked h (D.disk disk.old).holds) }
-    {
         let plans = self.shelf().plans();
-        let verdict = verify(alloc, disk, self.journal(), self.directory(), plans)?;
-        Ok(verdict)
+        verify(alloc, disk, self.journal(), self.directory(), plans)
     }
 }

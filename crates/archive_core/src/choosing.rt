@@ -1,23 +1,20 @@
 //! Which postings are read for a query.
 ghost use Rattle.std.specs.Prelude.{◌≡◌, ◌+◌, ◌^◌, ◌++◌, ◌<◌, ℕ, List, length, IfOk, OnOk, IsErrOf};
-ghost use Rattle.machine_model.specs.Calls.{OnlyReads};
-ghost use Rattle.machine_model.specs.Causes.{Rose};
 ghost use Rattle.archive_state.specs.Histories.{History};
 ghost use Rattle.archive_state.specs.Answers.{IsWordList};
 ghost use Rattle.archive_state.specs.Plans.{plan_of};
 ghost use Rattle.time_base.specs.declared.posting.Posting.{Posting as PlainPosting};
 ghost use Rattle.archive_state.specs.Chosen.{AreChosen, IsChosenOf, IsDamagedFor, IsFirstDamage, pieces_chosen, pieces_for, tail_for};
 ghost use Rattle.archive_replay.specs.Live.{IsPlanAt};
+ghost use Rattle.archive_core.specs.After.{AfterFetching};
 ghost use Rattle.archive_core.specs.Answering.{HasAsked};
-ghost use Rattle.archive_core.specs.States.{StandsFor, CacheStands, IsSameButCache, Reaches};
+ghost use Rattle.archive_core.specs.States.{StandsFor, CacheStands, Reaches};
 
 use crate::archive::Archive;
-use crate::error::AskError;
-use archive_state::Refusal;
 use machine_model::Disk;
 use query_eval::Part;
 use std::alloc::{AllocError, Global};
-use sublist_store::{Damage, Gathered};
+use sublist_store::{Damage, FetchError, Gathered};
 use time_base::{Key, NOW, Posting, Span, Time};
 use version_index::ListPart;
 
@@ -36,24 +33,23 @@ impl Archive {
         disk: &mut D,
         words: &[Key],
         span: Span,
-    ) -> Result<Vec<Part>, AskError>
+    ) -> Result<Vec<Part>, FetchError>
         requires within { Reaches (D.disk disk.old).reach self.old }
         ensures only { D.Disk.only disk.old disk.new }
-        ensures same { OnlyReads (D.disk disk.old) (D.disk disk.new) }
-        ensures but_cache { IsSameButCache self.old self.new }
-        ensures cached { D.disk_tells → CacheStands (D.disk disk.old) self.old → CacheStands (D.disk disk.new) self.new }
-        ensures failed { IsErrOf result AskError.Failed → Rose (D.disk disk.old).faults (D.disk disk.new).faults }
-        ensures never { (why : Refusal) → IsErrOf result (AskError.Refused why) → ⊥ }
+        ensures after { AfterFetching D.disk_tells result (D.disk disk.old) (D.disk disk.new) self.old self.new }
         ensures many { IfOk result (λ parts. length parts.items ≡ length words.now) }
         ensures chosen { D.disk_tells → (h : History) → StandsFor self.old h → CacheStands (D.disk disk.old) self.old → IfOk result (λ parts. AreChosen h (D.disk disk.old).holds.pages span.from span.to words.now parts.items) }
         ensures asked { D.disk_tells → (h : History) → StandsFor self.old h → CacheStands (D.disk disk.old) self.old →
             OnOk result (HasAsked (pieces_for h (D.disk disk.old).holds.pages span.from span.to words.now) self.old.shelf.cache self.new.shelf.cache (D.disk disk.old) (D.disk disk.new)) }
-        ensures damaged { D.disk_tells → (h : History) → StandsFor self.old h → CacheStands (D.disk disk.old) self.old → (d : Damage) → IsErrOf result (AskError.Damaged d) → IsFirstDamage h (D.disk disk.old).holds.pages span.from span.to words.now d }
+        ensures damaged { D.disk_tells → (h : History) → StandsFor self.old h → CacheStands (D.disk disk.old) self.old → (d : Damage) → IsErrOf result (FetchError.Damaged d) → IsFirstDamage h (D.disk disk.old).holds.pages span.from span.to words.now d }
     {
         let mut parts = Vec::new(alloc);
         for word in words {
             let part = self.part_of(alloc, disk, word, span)?;
-            parts.push(part)?;
+            match parts.push(part) {
+                Ok(()) => {}
+                Err(_) => return Err(FetchError::Memory),
+            }
         }
         Ok(parts)
     }
@@ -65,19 +61,15 @@ impl Archive {
         disk: &mut D,
         word: &Key,
         span: Span,
-    ) -> Result<Part, AskError>
+    ) -> Result<Part, FetchError>
         requires within { Reaches (D.disk disk.old).reach self.old }
         ensures only { D.Disk.only disk.old disk.new }
-        ensures same { OnlyReads (D.disk disk.old) (D.disk disk.new) }
-        ensures but_cache { IsSameButCache self.old self.new }
-        ensures cached { D.disk_tells → CacheStands (D.disk disk.old) self.old → CacheStands (D.disk disk.new) self.new }
-        ensures failed { IsErrOf result AskError.Failed → Rose (D.disk disk.old).faults (D.disk disk.new).faults }
-        ensures never { (why : Refusal) → IsErrOf result (AskError.Refused why) → ⊥ }
+        ensures after { AfterFetching D.disk_tells result (D.disk disk.old) (D.disk disk.new) self.old self.new }
         ensures chosen { D.disk_tells → (h : History) → StandsFor self.old h → CacheStands (D.disk disk.old) self.old →
             IfOk result (λ part. IsChosenOf h (D.disk disk.old).holds.pages word.now (plan_of h word.now) span.from span.to part.list.items part.read) }
         ensures asked { D.disk_tells → (h : History) → StandsFor self.old h → CacheStands (D.disk disk.old) self.old →
             OnOk result (HasAsked (pieces_chosen (D.disk disk.old).holds.pages (plan_of h word.now) span.from span.to) self.old.shelf.cache self.new.shelf.cache (D.disk disk.old) (D.disk disk.new)) }
-        ensures damaged { D.disk_tells → (h : History) → StandsFor self.old h → CacheStands (D.disk disk.old) self.old → (d : Damage) → IsErrOf result (AskError.Damaged d) → IsDamagedFor h (D.disk disk.old).holds.pages word.now span.from span.to d }
+        ensures damaged { D.disk_tells → (h : History) → StandsFor self.old h → CacheStands (D.disk disk.old) self.old → (d : Damage) → IsErrOf result (FetchError.Damaged d) → IsDamagedFor h (D.disk disk.old).holds.pages word.now span.from span.to d }
     {
         match self.shelf().position(word) {
             Some(at) => self.planned_part(alloc, disk, at, word, span),
@@ -96,20 +88,16 @@ impl Archive {
         at: usize,
         word: &Key,
         span: Span,
-    ) -> Result<Part, AskError>
+    ) -> Result<Part, FetchError>
         requires within { Reaches (D.disk disk.old).reach self.old }
         requires there { IsPlanAt self.old.shelf.plans word.now at }
         ensures only { D.Disk.only disk.old disk.new }
-        ensures same { OnlyReads (D.disk disk.old) (D.disk disk.new) }
-        ensures but_cache { IsSameButCache self.old self.new }
-        ensures cached { D.disk_tells → CacheStands (D.disk disk.old) self.old → CacheStands (D.disk disk.new) self.new }
-        ensures failed { IsErrOf result AskError.Failed → Rose (D.disk disk.old).faults (D.disk disk.new).faults }
-        ensures never { (why : Refusal) → IsErrOf result (AskError.Refused why) → ⊥ }
+        ensures after { AfterFetching D.disk_tells result (D.disk disk.old) (D.disk disk.new) self.old self.new }
         ensures chosen { D.disk_tells → (h : History) → StandsFor self.old h → CacheStands (D.disk disk.old) self.old →
             IfOk result (λ part. IsChosenOf h (D.disk disk.old).holds.pages word.now (plan_of h word.now) span.from span.to part.list.items part.read) }
         ensures asked { D.disk_tells → (h : History) → StandsFor self.old h → CacheStands (D.disk disk.old) self.old →
             OnOk result (HasAsked (pieces_chosen (D.disk disk.old).holds.pages (plan_of h word.now) span.from span.to) self.old.shelf.cache self.new.shelf.cache (D.disk disk.old) (D.disk disk.new)) }
-        ensures damaged { D.disk_tells → (h : History) → StandsFor self.old h → CacheStands (D.disk disk.old) self.old → (d : Damage) → IsErrOf result (AskError.Damaged d) → IsDamagedFor h (D.disk disk.old).holds.pages word.now span.from span.to d }
+        ensures damaged { D.disk_tells → (h : History) → StandsFor self.old h → CacheStands (D.disk disk.old) self.old → (d : Damage) → IsErrOf result (FetchError.Damaged d) → IsDamagedFor h (D.disk disk.old).holds.pages word.now span.from span.to d }
     {
         let horizon = self.shelf().plans()[at].plan.horizon;
         let stored = self.gather(alloc, disk, at, span)?;

@@ -1,16 +1,15 @@
 //! Why a call of an archive didn't do its work.
 ghost use Rattle.std.specs.Prelude.{◌≡◌};
 
-use archive_check::VerifyError;
-use archive_replay::ReadError;
 use archive_state::Refusal;
-use std::alloc::{AllocError, AllocFailed};
+use query_lang::QueryError;
+use std::alloc::AllocError;
 use sublist_store::{Damage, FetchError};
 
-/// Why a question was not answered. Nothing was changed but which pages are kept.
+/// Why a query was not answered. Nothing was changed but which pages are kept.
 #[derive(Clone, Copy, Debug, PartialEq, Eq)]
 pub enum AskError {
-    /// It is no question.
+    /// It is no query.
     Refused(Refusal),
     /// A call of the disk failed.
     Failed,
@@ -42,30 +41,16 @@ impl From<AllocError> for ChangeError {
     }
 }
 
-impl From<ReadError> for AskError {
-    ghost use Rattle.archive_core.specs.Causes.{ask_error_of};
+impl From<QueryError> for AskError {
+    ghost use Rattle.archive_core.specs.Causes.{ask_error_of_query};
     ghost use Rattle.std.specs.Prelude.{◌≡◌};
 
-    ghost from_gives = { λ why e. e ≡ ask_error_of why };
+    ghost from_gives = { λ why e. e ≡ ask_error_of_query why };
 
-    fn from(why: ReadError) -> Self {
+    fn from(why: QueryError) -> Self {
         match why {
-            ReadError::Failed => AskError::Failed,
-            ReadError::Memory => AskError::Memory,
-        }
-    }
-}
-
-impl From<VerifyError> for AskError {
-    ghost use Rattle.archive_core.specs.Causes.{ask_error_of_check};
-    ghost use Rattle.std.specs.Prelude.{◌≡◌};
-
-    ghost from_gives = { λ why e. e ≡ ask_error_of_check why };
-
-    fn from(why: VerifyError) -> Self {
-        match why {
-            VerifyError::Failed => AskError::Failed,
-            VerifyError::Memory => AskError::Memory,
+            QueryError::BadQuery { at } => AskError::Refused(Refusal::BadQuery { offset: at }),
+            QueryError::Memory => AskError::Memory,
         }
     }
 }
@@ -92,17 +77,6 @@ impl From<AllocError> for AskError {
     ghost from_gives = { λ _ e. e ≡ Memory };
 
     fn from(_: AllocError) -> Self {
-        AskError::Memory
-    }
-}
-
-impl<T: Drop> From<AllocFailed<T>> for AskError {
-    ghost use Rattle.archive_core.specs.declared.error.AskError.TheVariants.{Memory};
-    ghost use Rattle.std.specs.Prelude.{◌≡◌};
-
-    ghost from_gives = { λ _ e. e ≡ Memory };
-
-    fn from(_: AllocFailed<T>) -> Self {
         AskError::Memory
     }
 }

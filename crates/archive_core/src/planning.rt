@@ -18,8 +18,7 @@ ghost use Rattle.commands.specs.declared.command.Kind.{Kind};
 ghost use Rattle.commands.specs.declared.command.Item.TheVariants as items;
 
 use crate::archive::Archive;
-use crate::error::AskError;
-use archive_replay::{MANY_POSTINGS, list_up_to};
+use archive_replay::{Declined, MANY_POSTINGS, list_up_to};
 use archive_state::Refusal;
 use commands::Phrase;
 use elementary::{Partition, Table};
@@ -28,7 +27,6 @@ use guarantee_planner::{PlanError, plan};
 use plan_certificate::Certificate;
 use proposals::Proposal;
 use std::alloc::Global;
-use sublist_store::Damage;
 use time_base::{Fraction, Key, Posting, Time};
 
 /// A word with its list up to the last time.
@@ -45,19 +43,17 @@ impl Archive {
     /// no disk is asked.
     ///
     /// `Refused`: for the first cause in order, the phrase isn't one term, no text has the word, it has no
-    /// posting before the last time, or its list has too many boundaries. It is never `Failed` or `Damaged`.
+    /// posting before the last time, or its list has too many boundaries. `Memory`: there was none.
     /// Costs `n log n` in the word's postings, and memory in them.
     pub fn propose(
         &self,
         alloc: Global,
         word: &Phrase,
         factor: Fraction,
-    ) -> Result<Proposal, AskError>
-        ensures failed { IsErrOf result AskError.Failed → ⊥ }
-        ensures undamaged { (d : Damage) → IsErrOf result (AskError.Damaged d) → ⊥ }
+    ) -> Result<Proposal, Declined>
         // Whatever history it stands for: a refusal comes exactly where that has the cause (but for want of memory), and what is proposed is
         // of it.
-        ensures refused { (h : History) → StandsFor self.now h → (why : Refusal) → IsErrOf result (AskError.Refused why) → Proposes h word.now factor (Refused why) }
+        ensures refused { (h : History) → StandsFor self.now h → (why : Refusal) → IsErrOf result (Declined.Refused why) → Proposes h word.now factor (Refused why) }
         ensures proposes { (h : History) → StandsFor self.now h → IfOk result (λ p. Proposes h word.now factor (Proposed p.segments.items p.nodes.items p.space)) }
         // In step with a disk, it is a step of the abstract machine.
         ensures takes { (d : DiskState) (h : History) → AreInStep d self.now h → Takes h (items.Command (commands.Propose word.now factor)) (proposed result) d d self.now }
@@ -71,23 +67,17 @@ impl Archive {
         alloc: Global,
         word: &Phrase,
         factor: Fraction,
-    ) -> Result<Proposal, AskError>
-        ensures failed { IsErrOf result AskError.Failed → ⊥ }
-        ensures undamaged { (d : Damage) → IsErrOf result (AskError.Damaged d) → ⊥ }
-        ensures refused { (h : History) → StandsFor self.now h → (why : Refusal) → IsErrOf result (AskError.Refused why) → Proposes h word.now factor (Refused why) }
+    ) -> Result<Proposal, Declined>
+        ensures refused { (h : History) → StandsFor self.now h → (why : Refusal) → IsErrOf result (Declined.Refused why) → Proposes h word.now factor (Refused why) }
         ensures proposes { (h : History) → StandsFor self.now h → IfOk result (λ p. Proposes h word.now factor (Proposed p.segments.items p.nodes.items p.space)) }
     {
-        match self.sealed(alloc, word) {
-            Ok(sealed) => least_plan(alloc, &sealed.list, sealed.horizon, factor),
-            Err(error) => Err(error),
-        }
+        let sealed = self.sealed(alloc, word)?;
+        least_plan(alloc, &sealed.list, sealed.horizon, factor)
     }
 
     /// The list of a phrase's word up to the last time, or why it can't be planned.
-    pub(crate) fn sealed(&self, alloc: Global, word: &Phrase) -> Result<Sealed, AskError>
-        ensures failed { IsErrOf result AskError.Failed → ⊥ }
-        ensures undamaged { (d : Damage) → IsErrOf result (AskError.Damaged d) → ⊥ }
-        ensures refused { (kind : Kind) (h : History) → StandsFor self.now h → (why : Refusal) → IsErrOf result (AskError.Refused why) →
+    pub(crate) fn sealed(&self, alloc: Global, word: &Phrase) -> Result<Sealed, Declined>
+        ensures refused { (kind : Kind) (h : History) → StandsFor self.now h → (why : Refusal) → IsErrOf result (Declined.Refused why) →
             OfPhrase kind h (term_of word.now) (λ because. why ≡ because) (λ word list. ⊥) }
         ensures sealed { (h : History) → StandsFor self.now h → IfOk result (λ s. IsSealed h word.now s.word s.list.items s.horizon.seconds) }
         ensures some { IfOk result (λ s. 0 < length s.list.items) }
@@ -96,20 +86,18 @@ impl Archive {
         // A term's key is text, so it is the word of an entry as it is.
         ensures word { IfOk result (λ s. IsWord s.word) }
         ensures term { IfOk result (λ s. spelled_key (term_of word.now) ≡ Some s.word) }
-        ensures spelled { (why : Refusal) → IsErrOf result (AskError.Refused why) → spelled_key (term_of word.now) ≡ term_of word.now }
+        ensures spelled { (why : Refusal) → IsErrOf result (Declined.Refused why) → spelled_key (term_of word.now) ≡ term_of word.now }
     {
         let Some(key) = one_term(alloc, word.as_str())? else {
-            return Err(AskError::Refused(Refusal::NotOneTerm));
+            return Err(Declined::Refused(Refusal::NotOneTerm));
         };
         key_fits(&key);
         self.sealed_list(alloc, key)
     }
 
     /// The list of a word up to the last time, or why it can't be planned.
-    fn sealed_list(&self, alloc: Global, key: Key) -> Result<Sealed, AskError>
-        ensures failed { IsErrOf result AskError.Failed → ⊥ }
-        ensures undamaged { (d : Damage) → IsErrOf result (AskError.Damaged d) → ⊥ }
-        ensures refused { (kind : Kind) (h : History) → StandsFor self.now h → (why : Refusal) → IsErrOf result (AskError.Refused why) →
+    fn sealed_list(&self, alloc: Global, key: Key) -> Result<Sealed, Declined>
+        ensures refused { (kind : Kind) (h : History) → StandsFor self.now h → (why : Refusal) → IsErrOf result (Declined.Refused why) →
             OfWord kind h key (λ because. why ≡ because) (λ list. ⊥) }
         ensures word { IfOk result (λ s. s.word ≡ key) }
         ensures known { (h : History) → StandsFor self.now h → IfOk result (λ s. IsKnown h key) }
@@ -120,18 +108,18 @@ impl Archive {
         ensures early { IfOk result (λ s. All (λ p. p.span.to ≤ s.horizon.seconds) s.list.items) }
     {
         if !self.index().knows(&key) {
-            return Err(AskError::Refused(Refusal::UnknownWord));
+            return Err(Declined::Refused(Refusal::UnknownWord));
         }
         let Some(horizon) = self.directory().last() else {
-            return Err(AskError::Refused(Refusal::NothingSealed));
+            return Err(Declined::Refused(Refusal::NothingSealed));
         };
         let whole = self.index().list(alloc, &key)?;
         let list = list_up_to(alloc, &whole, horizon)?;
         if list.is_empty() {
-            return Err(AskError::Refused(Refusal::NothingSealed));
+            return Err(Declined::Refused(Refusal::NothingSealed));
         }
         if list.len() >= MANY_POSTINGS {
-            return Err(AskError::Memory);
+            return Err(Declined::Memory);
         }
         Ok(Sealed {
             word: key,
@@ -154,13 +142,11 @@ fn least_plan(
     list: &[Posting],
     horizon: Time,
     factor: Fraction,
-) -> Result<Proposal, AskError>
+) -> Result<Proposal, Declined>
     requires some { 0 < length list.now }
     requires few { length list.now < 2 ^ 38 }
     requires early { All (λ p. p.span.to ≤ horizon.seconds) list.now }
-    ensures failed { IsErrOf result AskError.Failed → ⊥ }
-    ensures undamaged { (d : Damage) → IsErrOf result (AskError.Damaged d) → ⊥ }
-    ensures refused { (why : Refusal) → IsErrOf result (AskError.Refused why) → OfBoundaries horizon.seconds list.now (λ because. why ≡ because) ⊥ }
+    ensures refused { (why : Refusal) → IsErrOf result (Declined.Refused why) → OfBoundaries horizon.seconds list.now (λ because. why ≡ because) ⊥ }
     ensures least { IfOk result (λ p. OfBoundaries horizon.seconds list.now (λ because. ⊥) (IsProposal list.now factor horizon.seconds p.segments.items p.nodes.items p.space)) }
 {
     let table = Table::new(alloc, list, horizon)?;
@@ -174,11 +160,9 @@ pub(crate) fn planned(
     alloc: Global,
     table: &Table,
     factor: Fraction,
-) -> Result<(Partition, Certificate), AskError>
-    ensures failed { IsErrOf result AskError.Failed → ⊥ }
-    ensures undamaged { (d : Damage) → IsErrOf result (AskError.Damaged d) → ⊥ }
+) -> Result<(Partition, Certificate), Declined>
     ensures within { IfOk result (λ _. length table.now.boundaries ≤ widest) }
-    ensures refused { (why : Refusal) → IsErrOf result (AskError.Refused why) → (widest < length table.now.boundaries) × (why ≡ Refusal.TooWide (length table.now.boundaries)) }
+    ensures refused { (why : Refusal) → IsErrOf result (Declined.Refused why) → (widest < length table.now.boundaries) × (why ≡ Refusal.TooWide (length table.now.boundaries)) }
     ensures fits { IfOk result (λ p. IsFitting table.now.boundaries p.0) }
     ensures least { IfOk result (λ p. (list : List PlainPosting) (horizon : ℕ) → Tabulates list horizon table.now → IsLeast list factor (slice_index p.0 0) (drop 1 p.0) horizon) }
     ensures best { IfOk result (λ p. (list : List PlainPosting) (horizon : ℕ) → Tabulates list horizon table.now → AreBest list factor horizon table.now.boundaries p.1) }
@@ -186,8 +170,8 @@ pub(crate) fn planned(
     match plan(alloc, table, factor) {
         Ok(planned) => Ok(planned),
         Err(PlanError::TooWide { boundaries }) => {
-            Err(AskError::Refused(Refusal::TooWide { boundaries }))
+            Err(Declined::Refused(Refusal::TooWide { boundaries }))
         }
-        Err(PlanError::Memory) => Err(AskError::Memory),
+        Err(PlanError::Memory) => Err(Declined::Memory),
     }
 }

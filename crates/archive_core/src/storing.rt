@@ -31,8 +31,8 @@ ghost use Rattle.archive_core.specs.Changing.{LeadsTo};
 ghost use Rattle.archive_core.specs.Storing.{IsDraft, IsStorable};
 
 use crate::archive::Archive;
-use crate::error::AskError;
 use crate::planning::Sealed;
+use archive_replay::Declined;
 use archive_state::Refusal;
 use commands::{Kind, Phrase};
 use gate_journal::{AppendError, Frame, Journal};
@@ -40,7 +40,7 @@ use machine_model::{Disk, Failed};
 use plan_choice::{Choice, ChoiceError, choose};
 use plan_shelf::{Draft, PlanReport, Ready, Shelf};
 use std::alloc::Global;
-use sublist_store::{Damage, Prepared, Sublists};
+use sublist_store::{Prepared, Sublists};
 use time_base::Fraction;
 
 impl Archive {
@@ -52,10 +52,8 @@ impl Archive {
         word: &Phrase,
         kind: Kind,
         factor: Fraction,
-    ) -> Result<Draft, AskError>
-        ensures failed { IsErrOf result AskError.Failed → ⊥ }
-        ensures undamaged { (d : Damage) → IsErrOf result (AskError.Damaged d) → ⊥ }
-        ensures refused { (h : History) → StandsFor self.now h → (why : Refusal) → IsErrOf result (AskError.Refused why) →
+    ) -> Result<Draft, Declined>
+        ensures refused { (h : History) → StandsFor self.now h → (why : Refusal) → IsErrOf result (Declined.Refused why) →
             OfPhrase kind h (spelled_key (term_of word.now)) (λ because. why ≡ because) (λ word list. ⊥) }
         ensures known { (h : History) → StandsFor self.now h → IfOk result (λ d. IsKnown h d.word) }
         ensures term { IfOk result (λ d. spelled_key (term_of word.now) ≡ Some d.word) }
@@ -63,21 +61,17 @@ impl Archive {
         ensures factor { IfOk result (λ d. d.factor ≡ factor) }
         ensures drafted { (h : History) → StandsFor self.now h → IfOk result (λ d. IsDraft h d) }
     {
-        match self.sealed(alloc, word) {
-            Ok(sealed) => draft_of(alloc, sealed, kind, factor),
-            Err(error) => Err(error),
-        }
+        let sealed = self.sealed(alloc, word)?;
+        draft_of(alloc, sealed, kind, factor)
     }
 }
 
 /// A plan of a word's list up to the last time that is what its kind promises.
-fn draft_of(alloc: Global, sealed: Sealed, kind: Kind, factor: Fraction) -> Result<Draft, AskError>
+fn draft_of(alloc: Global, sealed: Sealed, kind: Kind, factor: Fraction) -> Result<Draft, Declined>
     requires some { 0 < length sealed.list.items }
     requires few { length sealed.list.items < 2 ^ 38 }
     requires early { All (λ p. p.span.to ≤ sealed.horizon.seconds) sealed.list.items }
-    ensures failed { IsErrOf result AskError.Failed → ⊥ }
-    ensures undamaged { (d : Damage) → IsErrOf result (AskError.Damaged d) → ⊥ }
-    ensures refused { (why : Refusal) → IsErrOf result (AskError.Refused why) → OfWidth kind sealed.horizon.seconds sealed.list.items (λ because. why ≡ because) ⊥ }
+    ensures refused { (why : Refusal) → IsErrOf result (Declined.Refused why) → OfWidth kind sealed.horizon.seconds sealed.list.items (λ because. why ≡ because) ⊥ }
     ensures word { IfOk result (λ d. d.word ≡ sealed.word) }
     ensures kind { IfOk result (λ d. d.kind ≡ kind) }
     ensures factor { IfOk result (λ d. d.factor ≡ factor) }
@@ -104,9 +98,9 @@ fn draft_of(alloc: Global, sealed: Sealed, kind: Kind, factor: Fraction) -> Resu
             cost,
         }),
         Err(ChoiceError::TooWide { boundaries }) => {
-            Err(AskError::Refused(Refusal::TooWide { boundaries }))
+            Err(Declined::Refused(Refusal::TooWide { boundaries }))
         }
-        Err(ChoiceError::Memory) => Err(AskError::Memory),
+        Err(ChoiceError::Memory) => Err(Declined::Memory),
     }
 }
 

@@ -1,30 +1,26 @@
 //! What an archive is asked over a window of time.
-ghost use Rattle.std.specs.Prelude.{◌≡◌, ◌+◌, Ok, length, is_some, IsOk, IfOk, IsErrOf};
-ghost use Rattle.machine_model.specs.Calls.{OnlyReads};
-ghost use Rattle.machine_model.specs.Causes.{Rose};
+ghost use Rattle.std.specs.Prelude.{◌≡◌, ◌+◌, length, is_some, IfOk, IsErrOf};
 ghost use Rattle.query_lang.specs.Meaning.{words_of};
 ghost use Rattle.query_eval.specs.Asked.{read_of};
 ghost use Rattle.query_eval.specs.Found.{told};
 ghost use Rattle.query_eval.specs.Spans.{IsSpanAnswer};
 ghost use Rattle.archive_state.specs.Histories.{History, text_at};
-ghost use Rattle.archive_state.specs.Chosen.{SpoilsAnswer};
-ghost use Rattle.archive_core.specs.After.{AfterQuestion};
-ghost use Rattle.archive_core.specs.Answering.{AnswersOver};
+ghost use Rattle.archive_state.specs.Chosen.{IsFirstDamage, IsMadeOver, SpoilsAnswer};
+ghost use Rattle.archive_core.specs.After.{AfterFetching, AfterQuestion};
+ghost use Rattle.archive_core.specs.Answering.{AnswersOver, HasReadFor};
 ghost use Rattle.archive_core.specs.States.{StandsFor, CacheStands, AreInStep, Reaches};
 ghost use Rattle.archive_core.specs.Takes.{Takes, spanned};
 ghost use Rattle.commands.specs.declared.command.Command.TheVariants as commands;
 ghost use Rattle.commands.specs.declared.command.Item.TheVariants as items;
 
 use crate::archive::Archive;
-use crate::asking::query_of;
 use crate::error::AskError;
-use archive_state::Refusal;
 use commands::Phrase;
 use machine_model::Disk;
 use query_eval::{Part, SpanAnswer, answer_over};
 use query_lang::Query;
 use std::alloc::{AllocError, Global};
-use sublist_store::Damage;
+use sublist_store::{Damage, FetchError};
 use time_base::Span;
 
 impl Archive {
@@ -60,7 +56,9 @@ impl Archive {
         ensures takes { D.disk_tells → (h : History) → AreInStep (D.disk disk.old) self.old h →
             Takes h (items.Command (commands.Between span expr.now)) (spanned result) (D.disk disk.old) (D.disk disk.new) self.new }
     {
-        self.span_answer_of(alloc, disk, span, expr)
+        let query = Query::read(alloc, expr.as_str())?;
+        let answer = self.span_answer_of(alloc, disk, &query, span)?;
+        Ok(answer)
     }
 
     /// The answer to a query over a window by the lists of its words.
@@ -68,20 +66,20 @@ impl Archive {
         &mut self,
         alloc: Global,
         disk: &mut D,
+        query: &Query,
         span: Span,
-        expr: &Phrase,
-    ) -> Result<SpanAnswer, AskError>
+    ) -> Result<SpanAnswer, FetchError>
         requires within { Reaches (D.disk disk.old).reach self.old }
         ensures only { D.Disk.only disk.old disk.new }
-        ensures after { AfterQuestion D.disk_tells expr.now result (D.disk disk.old) (D.disk disk.new) self.old self.new }
+        ensures after { AfterFetching D.disk_tells result (D.disk disk.old) (D.disk disk.new) self.old self.new }
         ensures made { D.disk_tells → (h : History) → StandsFor self.old h → CacheStands (D.disk disk.old) self.old →
-            IfOk result (λ answer. AnswersOver h span.from span.to expr.now self.old.shelf.cache self.new.shelf.cache (D.disk disk.old) (D.disk disk.new) answer.rows.items answer.read) }
-        ensures damaged { D.disk_tells → (h : History) → StandsFor self.old h → CacheStands (D.disk disk.old) self.old → (d : Damage) → IsErrOf result (AskError.Damaged d) →
-            SpoilsAnswer h (D.disk disk.old).holds.pages span.from span.to expr.now d }
+            IfOk result (λ answer. IsMadeOver h (D.disk disk.old).holds.pages span.from span.to query.now answer.rows.items answer.read
+            × HasReadFor h span.from span.to query.now self.old.shelf.cache self.new.shelf.cache (D.disk disk.old) (D.disk disk.new)) }
+        ensures damaged { D.disk_tells → (h : History) → StandsFor self.old h → CacheStands (D.disk disk.old) self.old → (d : Damage) → IsErrOf result (FetchError.Damaged d) →
+            IsFirstDamage h (D.disk disk.old).holds.pages span.from span.to (words_of query.now) d }
     {
-        let query = query_of(alloc, expr)?;
         let parts = self.parts_of(alloc, disk, query.words(), span)?;
-        let answer = self.span_answer_by(alloc, &query, span, &parts)?;
+        let answer = self.span_answer_by(alloc, query, span, &parts)?;
         Ok(answer)
     }
 

@@ -17,8 +17,8 @@ use Rattle.archive_state.specs.Steps.{full_journal}
 use Rattle.version_index.specs.Indexes.{IndexState, IsPreparedFor}
 use Rattle.archive_replay.specs.Places.{pair_of}
 use Rattle.archive_replay.specs.declared.preparing.Prepared.{Prepared}
-use Rattle.archive_replay.specs.declared.preparing.Unprepared.{Unprepared}
-use Rattle.archive_replay.specs.declared.preparing.Unprepared.TheVariants as unprepared
+use Rattle.archive_replay.specs.declared.error.Declined.{Declined}
+use Rattle.archive_replay.specs.declared.error.Declined.TheVariants as declines
 
 -- the change that an entry makes, with the length of its text; a plan makes none
 abbrev pub Makes : Entry → Change ℕ → Type 0
@@ -61,8 +61,8 @@ pub record IsNext (history : History) (entry : Entry) (change : Change ℕ) (bod
   pub spelled : body ≡ spelling entry
 
 -- An entry is prepared that may come next after a history, but for the journal's room; or this is why it may not.
-abbrev pub IsPrepared : History → IndexState → Entry → Option Refusal → Result Prepared Unprepared → Type 0
+abbrev pub IsPrepared : History → IndexState → Entry → Option Refusal → Result Prepared Declined → Type 0
 IsPrepared history index entry refusal (Ok p) = IsNext history entry p.change p.body.items × IsPreparedFor index (document_of entry) (text_of entry) p.words
     × (refusal ≡ first_of (full_journal history entry ∷ []))
-IsPrepared history index entry refusal (Err (unprepared.Refused why)) = refusal ≡ Some why
-IsPrepared history index entry refusal (Err unprepared.Memory) = Unit {0}
+IsPrepared history index entry refusal (Err (declines.Refused why)) = refusal ≡ Some why
+IsPrepared history index entry refusal (Err declines.Memory) = Unit {0}

@@ -1,6 +1,7 @@
-//! Why a journal was not gone over, or not read.
+//! Why a journal was not gone over, or not read, and why what needs no disk was not done.
 ghost use Rattle.std.specs.Prelude.{◌≡◌};
 
+use archive_state::Refusal;
 use gate_journal::JournalError;
 use machine_model::Failed;
 use std::alloc::AllocError;
@@ -28,6 +29,26 @@ pub enum ReadError {
     Failed,
     /// There was no memory.
     Memory,
+}
+
+/// Why what needs no disk was not done: a change was not prepared, a list not planned. Nothing was changed.
+#[derive(Clone, Copy, Debug, PartialEq, Eq)]
+pub enum Declined {
+    /// It isn't allowed.
+    Refused(Refusal),
+    /// There was no memory.
+    Memory,
+}
+
+impl From<AllocError> for Declined {
+    ghost use Rattle.archive_replay.specs.declared.error.Declined.TheVariants.{Memory};
+    ghost use Rattle.std.specs.Prelude.{◌≡◌};
+
+    ghost from_gives = { λ _ e. e ≡ Memory };
+
+    fn from(_: AllocError) -> Self {
+        Declined::Memory
+    }
 }
 
 impl From<AllocError> for LoadError {

@@ -10,11 +10,12 @@ ghost use Rattle.archive_replay.specs.Places.{ArePlaced};
 ghost use Rattle.archive_replay.specs.Entries.{IsPrepared, change_refusal};
 
 use crate::change::may_come;
+use crate::error::Declined;
 use crate::text::text_of;
 use archive_state::Refusal;
 use fold_tokens::NumberError;
 use record_codec::{encode_arrival, encode_deletion};
-use std::alloc::{AllocError, Global};
+use std::alloc::Global;
 use time_base::{DocId, Time, Which};
 use version_index::Index;
 use version_store::{Change, Directory};
@@ -29,26 +30,6 @@ pub struct Prepared {
     pub body: Vec<u8>,
     /// What the index needs of its text.
     pub words: version_index::Prepared,
-}
-
-/// Why a change was not prepared.
-#[derive(Clone, Copy, Debug, PartialEq, Eq)]
-pub enum Unprepared {
-    /// It isn't allowed.
-    Refused(Refusal),
-    /// There was no memory.
-    Memory,
-}
-
-impl From<AllocError> for Unprepared {
-    ghost use Rattle.archive_replay.specs.declared.preparing.Unprepared.TheVariants.{Memory};
-    ghost use Rattle.std.specs.Prelude.{◌≡◌};
-
-    ghost from_gives = { λ _ e. e ≡ Memory };
-
-    fn from(_: AllocError) -> Self {
-        Unprepared::Memory
-    }
 }
 
 /// The refusal of a text with which there would be too many words.
@@ -74,7 +55,7 @@ pub fn prepare_arrival(
     doc: DocId,
     at: Time,
     text: &[u8],
-) -> Result<Prepared, Unprepared>
+) -> Result<Prepared, Declined>
     ensures same { state_of index.new ≡ state_of index.old }
     ensures fits { IfOk result (λ p. length p.body.items < 2 ^ 32) }
     ensures allowed { IfOk result (λ p. change_refusal p.change directory.now.changes ≡ None) }
@@ -83,7 +64,7 @@ pub fn prepare_arrival(
 {
     let text = match text_of(text) {
         Ok(text) => text,
-        Err(why) => return Err(Unprepared::Refused(why)),
+        Err(why) => return Err(Declined::Refused(why)),
     };
     let change = Change {
         doc,
@@ -92,12 +73,12 @@ pub fn prepare_arrival(
     };
     match may_come(directory, change) {
         Ok(()) => {}
-        Err(why) => return Err(Unprepared::Refused(why.into())),
+        Err(why) => return Err(Declined::Refused(why.into())),
     }
     let words = match index.prepare(alloc, doc, Some(text)) {
         Ok(words) => words,
-        Err(NumberError::Full) => return Err(Unprepared::Refused(full_words())),
-        Err(NumberError::Memory) => return Err(Unprepared::Memory),
+        Err(NumberError::Full) => return Err(Declined::Refused(full_words())),
+        Err(NumberError::Memory) => return Err(Declined::Memory),
     };
     let body = encode_arrival(alloc, doc, at, text)?;
     Ok(Prepared {
@@ -119,7 +100,7 @@ pub fn prepare_deletion(
     index: &mut Index,
     doc: DocId,
     at: Time,
-) -> Result<Prepared, Unprepared>
+) -> Result<Prepared, Declined>
     ensures same { state_of index.new ≡ state_of index.old }
     ensures fits { IfOk result (λ p. length p.body.items < 2 ^ 32) }
     ensures allowed { IfOk result (λ p. change_refusal p.change directory.now.changes ≡ None) }
@@ -133,10 +114,10 @@ pub fn prepare_deletion(
     };
     match may_come(directory, change) {
         Ok(()) => {}
-        Err(why) => return Err(Unprepared::Refused(why.into())),
+        Err(why) => return Err(Declined::Refused(why.into())),
     }
     let Ok(words) = index.prepare(alloc, doc, None) else {
-        return Err(Unprepared::Memory);
+        return Err(Declined::Memory);
     };
     let body = encode_deletion(alloc, doc, at)?;
     Ok(Prepared {

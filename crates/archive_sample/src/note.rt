@@ -1,9 +1,10 @@
 //! What is noted of one command.
 ghost use Rattle.std.specs.Prelude.{◌≡◌, Ok, IfOk, IsOk, IsSome, IsErrOf, ◌⊎◌, OnOk};
-ghost use Rattle.archive_core.specs.Takes.{changed, declined, found, planned, unchanged, verified};
+ghost use Rattle.archive_core.specs.Takes.{changed, found, planned, unanswered, unchanged, verified};
 ghost use Rattle.archive_sample.specs.Carrying.{Tells, verdict_of};
 
 use crate::error::FillError;
+use archive_check::VerifyError;
 use archive_core::{AskError, ChangeError, PlanReport};
 use archive_state::{Refusal, Verdict};
 use query_eval::Answer;
@@ -85,28 +86,27 @@ pub(crate) fn of_question(answer: Result<Answer, AskError>) -> Result<Note, Fill
             hits: answer.rows.len() as u64,
             read: answer.read,
         }),
-        Err(error) => of_declined(error),
+        Err(error) => of_unanswered(error),
     }
 }
 
 /// What is noted of a check.
-pub(crate) fn of_check(verdict: Result<Verdict, AskError>) -> Result<Note, FillError>
-    requires never { (why : Refusal) → IsErrOf verdict (AskError.Refused why) → ⊥ }
+pub(crate) fn of_check(verdict: Result<Verdict, VerifyError>) -> Result<Note, FillError>
     ensures tells { Tells (verified verdict) result }
-    ensures fault { IsErrOf result FillError.Failed → IsErrOf verdict AskError.Failed }
+    ensures fault { IsErrOf result FillError.Failed → IsErrOf verdict VerifyError.Failed }
     ensures checked { IfOk result (λ note. IsSome (verdict_of note)) }
 {
     match verdict {
         Ok(verdict) => Ok(Note::Checked(verdict)),
-        Err(error) => of_declined(error),
+        Err(VerifyError::Failed) => Err(FillError::Failed),
+        Err(VerifyError::Memory) => Err(FillError::Memory),
     }
 }
 
 /// What is noted of a question that was not answered.
-fn of_declined(error: AskError) -> Result<Note, FillError>
-    ensures tells { Tells (declined error) result }
+fn of_unanswered(error: AskError) -> Result<Note, FillError>
+    ensures tells { Tells (unanswered error) result }
     ensures fault { IsErrOf result FillError.Failed → error ≡ AskError.Failed }
-    ensures refused { OnOk result ((why : Refusal) × (error ≡ AskError.Refused why)) }
 {
     match error {
         AskError::Refused(_) => Ok(Note::Refused),

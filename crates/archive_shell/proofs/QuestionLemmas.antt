@@ -23,6 +23,8 @@ use Rattle.archive_check.specs.Checked.{IsChecked}
 use Rattle.archive_state.specs.declared.refusal.Refusal.{Refusal}
 use Rattle.archive_core.specs.Answering.{IsNoQuery}
 use Rattle.archive_core.specs.Takes.{Replied, found, spanned, verified}
+use Rattle.archive_check.specs.declared.error.VerifyError.{VerifyError}
+use Rattle.archive_check.specs.declared.error.VerifyError.TheVariants as checks
 use Rattle.archive_core.specs.declared.error.AskError.{AskError}
 use Rattle.archive_core.specs.declared.error.AskError.TheVariants as asks
 use Rattle.sublist_store.specs.declared.why.Damage.{Damage}
@@ -85,13 +87,11 @@ made_between h image span text B (Err (asks.Damaged damage)) result page made re
 made_between h image span text B (Err asks.Memory) result page made refused writes = halted (IsOnPage h image (items.Command (commands.Between span text)) page) result halts.Memory writes
 
 -- what a check tells is on the page, where there was memory for it
-pub made_verify : (h : History) (image : Bytes) (r : Result Verdict AskError) (result : Result (Unit {0}) Halt) (page : List ℕ) → IfOk r (λ verdict. IsChecked h image verdict) → ((why : Refusal) → r ≡ Err (asks.Refused why) → ⊥)
+pub made_verify : (h : History) (image : Bytes) (r : Result Verdict VerifyError) (result : Result (Unit {0}) Halt) (page : List ℕ) → IfOk r (λ verdict. IsChecked h image verdict)
     → Writes (verified r) result page → OnOk result (IsOnPage h image (items.Command commands.Verify) page)
-made_verify h image (Ok verdict) result page checked never writes = on_page h image (items.Command commands.Verify) (Verified verdict) result page (verdict, checked, refl) writes
-made_verify h image (Err (asks.Refused why)) result page checked never writes = absurd (never why refl)
-made_verify h image (Err asks.Failed) result page checked never writes = halted (IsOnPage h image (items.Command commands.Verify) page) result halts.Disk writes
-made_verify h image (Err (asks.Damaged damage)) result page checked never writes = halted (IsOnPage h image (items.Command commands.Verify) page) result (halts.Damaged damage) writes
-made_verify h image (Err asks.Memory) result page checked never writes = halted (IsOnPage h image (items.Command commands.Verify) page) result halts.Memory writes
+made_verify h image (Ok verdict) result page checked writes = on_page h image (items.Command commands.Verify) (Verified verdict) result page (verdict, checked, refl) writes
+made_verify h image (Err checks.Failed) result page checked writes = halted (IsOnPage h image (items.Command commands.Verify) page) result halts.Disk writes
+made_verify h image (Err checks.Memory) result page checked writes = halted (IsOnPage h image (items.Command commands.Verify) page) result halts.Memory writes
 
 -- a reply that was on the page and is shown
 pub shown_so : (h : History) (item : Item) (page piece before mid after : List ℕ) (old disk new : DiskState) (archive archive_now : ArchiveState) → OnlyReads old disk → IsSameButCache archive archive_now → IsOnPage h old.holds item page

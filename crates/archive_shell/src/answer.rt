@@ -5,7 +5,7 @@ ghost use Rattle.archive_state.specs.Histories.{History};
 ghost use Rattle.archive_state.specs.Replies.{reply_text};
 ghost use Rattle.archive_state.specs.Steps.{Refused};
 ghost use Rattle.archive_core.specs.States.{CacheStands, AreInStep, IsSameButCache, StandsFor};
-ghost use Rattle.archive_core.specs.Takes.{changed, declined, found, planned, proposed, version_shown, spanned, unchanged, verified};
+ghost use Rattle.archive_core.specs.Takes.{changed, found, planned, proposed, version_shown, spanned, unanswered, unchanged, verified};
 ghost use Rattle.commands.specs.declared.command.Item.TheVariants as items;
 ghost use Rattle.commands.specs.declared.command.Command.TheVariants as plain;
 ghost use Rattle.machine_model.specs.Calls.{OnlyReads};
@@ -15,7 +15,9 @@ ghost use Rattle.archive_shell.specs.Questions.{IsQuestion};
 ghost use Rattle.archive_shell.specs.Outcomes.{Answers, CanGoOn, Writes};
 
 use crate::stop::Halt;
+use archive_check::VerifyError;
 use archive_core::{Archive, AskError, ChangeError, PlanReport};
+use archive_replay::{Declined, ReadError};
 use archive_replies::{ReplyPage, Summary};
 use archive_state::{Refusal, Verdict};
 use commands::{Command, Item, MOST_TEXT_BYTES, Text};
@@ -216,7 +218,7 @@ fn write_found(page: &mut ReplyPage, answer: Result<Answer, AskError>) -> Result
             Ok(()) => Ok(()),
             Err(_) => Err(Halt::Memory),
         },
-        Err(error) => write_declined(page, error),
+        Err(error) => write_unanswered(page, error),
     }
 }
 
@@ -231,49 +233,52 @@ fn write_spanned(page: &mut ReplyPage, answer: Result<SpanAnswer, AskError>) -> 
             Ok(()) => Ok(()),
             Err(_) => Err(Halt::Memory),
         },
-        Err(error) => write_declined(page, error),
+        Err(error) => write_unanswered(page, error),
     }
 }
 
 /// Writes a plan that was asked for on the page, proposed or stored, or halts the run.
-fn write_proposed(page: &mut ReplyPage, plan: Result<Proposal, AskError>) -> Result<(), Halt>
+fn write_proposed(page: &mut ReplyPage, plan: Result<Proposal, Declined>) -> Result<(), Halt>
     ensures writes { Writes (proposed plan) result page.new.bytes }
-    ensures fault { IsErrOf result Halt.Disk → IsErrOf plan AskError.Failed }
-    ensures damage { (d : Damage) → IsErrOf result (Halt.Damaged d) → IsErrOf plan (AskError.Damaged d) }
+    ensures fault { IsErrOf result Halt.Disk → ⊥ }
+    ensures undamaged { (d : Damage) → IsErrOf result (Halt.Damaged d) → ⊥ }
 {
     match plan {
         Ok(plan) => match page.proposed(&plan.segments, &plan.nodes, plan.space) {
             Ok(()) => Ok(()),
             Err(_) => Err(Halt::Memory),
         },
-        Err(error) => write_declined(page, error),
+        Err(Declined::Refused(why)) => refuse(page, why),
+        Err(Declined::Memory) => Err(Halt::Memory),
     }
 }
 
 /// Writes what a check told on the page, or halts the run.
-fn write_verified(page: &mut ReplyPage, verdict: Result<Verdict, AskError>) -> Result<(), Halt>
+fn write_verified(page: &mut ReplyPage, verdict: Result<Verdict, VerifyError>) -> Result<(), Halt>
     ensures writes { Writes (verified verdict) result page.new.bytes }
-    ensures fault { IsErrOf result Halt.Disk → IsErrOf verdict AskError.Failed }
-    ensures damage { (d : Damage) → IsErrOf result (Halt.Damaged d) → IsErrOf verdict (AskError.Damaged d) }
+    ensures fault { IsErrOf result Halt.Disk → IsErrOf verdict VerifyError.Failed }
+    ensures undamaged { (d : Damage) → IsErrOf result (Halt.Damaged d) → ⊥ }
 {
     match verdict {
         Ok(verdict) => match page.verified(&verdict) {
             Ok(()) => Ok(()),
             Err(_) => Err(Halt::Memory),
         },
-        Err(error) => write_declined(page, error),
+        Err(VerifyError::Failed) => Err(Halt::Disk),
+        Err(VerifyError::Memory) => Err(Halt::Memory),
     }
 }
 
 /// Writes the text of a version on the page, or that there is none, or halts the run.
-fn write_version(page: &mut ReplyPage, text: Result<Option<Vec<u8>>, AskError>) -> Result<(), Halt>
+fn write_version(page: &mut ReplyPage, text: Result<Option<Vec<u8>>, ReadError>) -> Result<(), Halt>
     ensures writes { Writes (version_shown (λ v. v.items) text) result page.new.bytes }
-    ensures fault { IsErrOf result Halt.Disk → IsErrOf text AskError.Failed }
-    ensures damage { (d : Damage) → IsErrOf result (Halt.Damaged d) → IsErrOf text (AskError.Damaged d) }
+    ensures fault { IsErrOf result Halt.Disk → IsErrOf text ReadError.Failed }
+    ensures undamaged { (d : Damage) → IsErrOf result (Halt.Damaged d) → ⊥ }
 {
     match text {
         Ok(text) => write_text(page, text),
-        Err(error) => write_declined(page, error),
+        Err(ReadError::Failed) => Err(Halt::Disk),
+        Err(ReadError::Memory) => Err(Halt::Memory),
     }
 }
 
@@ -293,9 +298,9 @@ fn write_text(page: &mut ReplyPage, text: Option<Vec<u8>>) -> Result<(), Halt>
     }
 }
 
-/// Writes why a question was not answered on the page, or halts the run.
-fn write_declined(page: &mut ReplyPage, error: AskError) -> Result<(), Halt>
-    ensures writes { Writes (declined error) result page.new.bytes }
+/// Writes why a query was not answered on the page, or halts the run.
+fn write_unanswered(page: &mut ReplyPage, error: AskError) -> Result<(), Halt>
+    ensures writes { Writes (unanswered error) result page.new.bytes }
     ensures fault { IsErrOf result Halt.Disk → error ≡ AskError.Failed }
     ensures damage { (d : Damage) → IsErrOf result (Halt.Damaged d) → error ≡ AskError.Damaged d }
 {

@@ -1,6 +1,6 @@
 -- Runs of a machine that may choose, what a run has acknowledged, and what the images that it left stand for. The machine is any:
--- its states, events and replies, its step, the text of a reply, and which images stand for a state. An event is whatever takes the
--- machine on: here each is an item of the input. Work between two items that no item asks for would be one too, whose reply has no text.
+-- its states, events and replies, its step, the text of a reply, and which images stand for a state. An event is what takes the machine
+-- on and has a reply: here each is an item of the input.
 use Rattle.std.specs.Prelude.{◌≡◌, ◌⊎◌, ℕ, ◌+◌, ◌≤◌, zero, suc, List, [], ◌∷◌, ◌++◌, length, take}
 use Rattle.std.specs.List.{flat_map}
 use Rattle.machine_model.specs.Areas.{Bytes}

@@ -10,7 +10,7 @@ ghost use Rattle.record_codec.specs.PlanSpelling.{plan_spelling};
 ghost use Rattle.plan_shelf.specs.Readying.{IsReady, IsFull, HasPlaces, plan_with, summary_of, tells_of};
 
 use crate::shelf::Shelf;
-use archive_replay::{Unprepared, full_journal};
+use archive_replay::{Declined, full_journal};
 use archive_state::{Refusal, StoredPlan};
 use commands::Kind;
 use gate_journal::Frame;
@@ -83,7 +83,7 @@ pub fn make_ready(
     count: u64,
     shelf: &mut Shelf,
     draft: Draft,
-) -> Result<Ready, Unprepared>
+) -> Result<Ready, Declined>
     requires list { IsList draft.list.items }
     requires taken { (taken : List PlainExtent) × HasTaken shelf.old.pages taken }
     requires good { IsGoodPlan draft.kind draft.list.items draft.factor draft.cuts.items draft.horizon.seconds }
@@ -98,13 +98,13 @@ pub fn make_ready(
     ensures taken { (taken : List PlainExtent) → HasTaken shelf.old.pages taken → IfOk result (λ r. HasTaken shelf.new.pages (extents r.prepared.places ++ taken)) }
     ensures room { OnOk result (1 ≤ shelf.new.room) }
     ensures none { (taken : List PlainExtent) → HasTaken shelf.old.pages taken → OnErr result (HasTaken shelf.new.pages taken) }
-    ensures full { (taken : List PlainExtent) → HasTaken shelf.old.pages taken → (why : Refusal) → IsErrOf result (Unprepared.Refused why) → IsFull draft taken end why }
+    ensures full { (taken : List PlainExtent) → HasTaken shelf.old.pages taken → (why : Refusal) → IsErrOf result (Declined.Refused why) → IsFull draft taken end why }
 {
     shelf.make_room()?;
     let prepared = match shelf.prepare(alloc, &draft.list, &draft.cuts, draft.horizon) {
         Ok(prepared) => prepared,
-        Err(TakeError::Full) => return Err(Unprepared::Refused(full_pages())),
-        Err(TakeError::Memory) => return Err(Unprepared::Memory),
+        Err(TakeError::Full) => return Err(Declined::Refused(full_pages())),
+        Err(TakeError::Memory) => return Err(Declined::Memory),
     };
     let report = report_of(&draft, count);
     match spell_entry(alloc, end, draft, prepared.places()) {
@@ -163,14 +163,14 @@ fn spell_entry(
     end: u64,
     draft: Draft,
     places: &[Place],
-) -> Result<Spelled, Unprepared>
+) -> Result<Spelled, Declined>
     requires good { IsGoodPlan draft.kind draft.list.items draft.factor draft.cuts.items draft.horizon.seconds }
     requires many { length places.now ≡ length draft.cuts.items }
     requires high { end ≤ 2 ^ 40 }
     ensures plan { IfOk result (λ s. s.plan ≡ plan_with draft places.now) }
     ensures frame { IfOk result (λ s. s.frame ≡ plan_spelling s.plan) }
     ensures fits { IfOk result (λ s. end + 5 + length s.frame ≤ limit_of Which.Journal) }
-    ensures full { (why : Refusal) → IsErrOf result (Unprepared.Refused why) → (limit_of Which.Journal < end + 5 + length (plan_spelling (plan_with draft places.now))) × (why ≡ Refusal.Full Which.Journal (limit_of Which.Journal)) }
+    ensures full { (why : Refusal) → IsErrOf result (Declined.Refused why) → (limit_of Which.Journal < end + 5 + length (plan_spelling (plan_with draft places.now))) × (why ≡ Refusal.Full Which.Journal (limit_of Which.Journal)) }
 {
     let places = Vec::from_slice(alloc, places)?;
     let plan = PlanEntry {
@@ -184,7 +184,7 @@ fn spell_entry(
     };
     let body = encode_plan(alloc, &plan)?;
     if Which::Journal.limit() < end + 5 + body.len() as u64 {
-        return Err(Unprepared::Refused(full_journal()));
+        return Err(Declined::Refused(full_journal()));
     }
     let frame = Frame::new(alloc, &body)?;
     Ok(Spelled { plan, frame })

@@ -17,8 +17,8 @@ of-requires-clause-few c =
 pub of-requires-clause-many : goal.of-requires-clause-many
 of-requires-clause-many c = ap length c.pi.ensures ∙ (c.in-Ok.ensures.best c.args.list.now c.args.plan.now.horizon.seconds c.in_ok-table.ensures).long
 
-pub returns-clause-certifies : goal.returns-clause-certifies
-returns-clause-certifies c = λ least.
+pub returns : goal.returns
+returns c = λ least.
     let t = c.in_ok-table.ensures in
     let whole : List ℕ = map (λ (t : Time). t.seconds) (c.as_slice.result.now ++ c.args.plan.now.horizon ∷ []) in
     let same : c.in-Some.partition ≡ whole = subst (λ (o : Option (List ℕ)). IfSome o (λ p. p ≡ whole)) c.in-Some.is c.in_ok-partition.ensures.value in

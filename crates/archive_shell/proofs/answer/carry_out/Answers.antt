@@ -96,7 +96,7 @@ returns-in-Verify-clause-by_reads g c = λ tells h stands cached.
     let page = c.write_verified.new.page.bytes in
     let C : Command → Type 0 = λ d. IsByReads h (items.Command d) c.write_verified.result old new c.args.archive.now c.args.archive.now page in
     subst C (sym c.in-Verify.is) (record {
-      damaged = λ d is. absurd (c.verify-result.ensures.undamaged d (c.write_verified.ensures.damage d is));
-      made = λ question. made_verify h old.holds c.verify-result.result c.write_verified.result page (c.verify-result.ensures.checked tells h stands) c.verify-result.ensures.never c.write_verified.ensures.writes;
+      damaged = λ d is. absurd (c.write_verified.ensures.undamaged d is);
+      made = λ question. made_verify h old.holds c.verify-result.result c.write_verified.result page (c.verify-result.ensures.checked tells h stands) c.write_verified.ensures.writes;
       fetched = λ asking. absurd asking;
     })

@@ -1,8 +1,9 @@
-use Rattle.std.proofs.Common.{ap, ◌∙◌}
+use Rattle.std.proofs.Common.{Ok, ap, ◌∙◌}
 use Rattle.commands.specs.declared.command.Kind.TheVariants.{Guarantee, Uniform, Since}
 use Rattle.archive_state.specs.declared.refusal.Refusal.TheVariants as refusals
 use Rattle.archive_state.specs.Plans.{plan_of}
 use Rattle.archive_state.specs.Steps.{Refused}
+use Rattle.archive_replay.specs.declared.error.Declined.{Declined}
 use Rattle.plan_shelf.specs.Shelves.{ShelfState}
 use Rattle.archive_core.proofs.PlanLemmas.{one_why}
 use Rattle.archive_core.proofs.CertifyLemmas.{found_live, none_live, live_as, no_live, other_live}
@@ -18,10 +19,10 @@ certificate_of_plan-requires-clause-live c = λ h stands.
     let found = found_live c.args.self.now h c.args.word.now c.shelf.result.now.plans c.in-Some.stored.now (ap (λ (s : ShelfState). s.plans) c.shelf.ensures.shelf) stands c.in-Some.ensures in
     ap (plan_of h) found.1 ∙ found.0
 
-pub returns-in-Guarantee-clause-certifies : goal.returns-in-Guarantee-clause-certifies
-returns-in-Guarantee-clause-certifies c = λ h stands legal.
+pub returns-in_ok-proposal-in-Guarantee-clause-certifies : goal.returns-in_ok-proposal-in-Guarantee-clause-certifies
+returns-in_ok-proposal-in-Guarantee-clause-certifies c = λ h stands legal.
     let found = found_live c.args.self.now h c.args.word.now c.shelf.result.now.plans c.in-Some.stored.now (ap (λ (s : ShelfState). s.plans) c.shelf.ensures.shelf) stands c.in-Some.ensures in
-    live_as h (plan_of h c.args.word.now) c.in-Some.stored.now.plan Guarantee c.certificate_of_plan.result found.0 c.in-Guarantee.is (c.certificate_of_plan.ensures.certifies h stands legal)
+    live_as {E = Declined} h (plan_of h c.args.word.now) c.in-Some.stored.now.plan Guarantee (Ok c.in_ok-proposal-in-Guarantee.proposal) found.0 c.in-Guarantee.is (c.in_ok-proposal-in-Guarantee.ensures h stands legal)
 
 pub returns-in-Uniform-clause-refused : goal.returns-in-Uniform-clause-refused
 returns-in-Uniform-clause-refused c = λ h stands why e.

@@ -1,13 +1,13 @@
-use Rattle.std.proofs.Common.{arith, ◌≡◌, ℕ, ◌+◌, ◌++◌, ◌∷◌, List, [], length, take, drop, Err, append_assoc, ap, sym, subst, ◌∙◌}
+use Rattle.std.proofs.Common.{arith, rules, ◌≡◌, ℕ, ◌+◌, ◌++◌, ◌∷◌, List, [], length, take, drop, Err, append_assoc, ap, sym, subst, ◌∙◌}
 use Rattle.std.proofs.lemmas.List.{take_more, take-append-drop, length_push}
 use Rattle.machine_model.specs.States.{DiskState}
 use Rattle.query_eval.specs.declared.part.Part.{Part}
 use Rattle.archive_state.specs.Plans.{plan_of}
 use Rattle.archive_state.specs.Chosen.{AreChosen, IsChosenOf, IsDamagedFor, pieces_chosen, pieces_for}
 use Rattle.archive_core.specs.Answering.{HasAsked}
-use Rattle.archive_core.specs.declared.error.AskError.{AskError}
+use Rattle.sublist_store.specs.declared.why.FetchError.{FetchError}
 use Rattle.archive_core.proofs.CacheLemmas.{asked_joins, but_cache_joins, pieces_more, stands_but_cache}
-use Rattle.archive_core.proofs.ChosenLemmas.{chosen_more, handed_on, reaches_on, reads_join}
+use Rattle.archive_core.proofs.ChosenLemmas.{chosen_more, handed, reaches_on, reads_join}
 use Rattle.archive_core.proofs.archive.Archive.parts_of.Goals as goal
 
 pub returns-in_err-part-clause-damaged : goal.returns-in_err-part-clause-damaged
@@ -17,7 +17,7 @@ returns-in_err-part-clause-damaged g c = λ tells h stands cached d is.
     let pages : (g.D.Disk.disk c.loop-word.disk).holds.pages ≡ first.holds.pages = ap (λ (x : DiskState). x.holds.pages) was.same in
     let P : List ℕ → Type 0 = λ ps. IsDamagedFor h ps c.word-item.result c.args.span.from c.args.span.to d in
     let here = c.in_err-part.ensures.damaged tells h (stands_but_cache c.args.self.now c.loop-word.self h was.but_cache stands) (was.cached tells cached) d
-    (ap (λ (e : AskError). Err e) (handed_on c.from_residual.result c.in_err-part.field-0.0 d c.from_residual.ensures.1 is)) in
+    (ap (λ (e : FetchError). Err e) (handed c.from_residual.result c.in_err-part.field-0.0 d c.from_residual.ensures.1 is)) in
     let index = c.loop-word.word-index in
     let words = c.args.words.now in
     let next = take_more words index c.word-item.result c.loop-word-test.true ∙ ap (λ (w : List ℕ). take index words ++ w ∷ []) (sym c.word-item.is) in
@@ -31,18 +31,28 @@ returns-in_err-part-clause-damaged g c = λ tells h stands cached d is.
       damaged = subst P pages here;
     }
 
-pub returns-in_err-part-clause-cached : goal.returns-in_err-part-clause-cached
-returns-in_err-part-clause-cached g c = λ tells cached. c.part_of.ensures.cached tells (c.loop-word.invariant.cached tells cached)
+pub returns-in_err-part-clause-after : goal.returns-in_err-part-clause-after
+returns-in_err-part-clause-after g c = record {
+  same = reads_join (g.D.Disk.disk c.args.disk.now) (g.D.Disk.disk c.loop-word.disk) (g.D.Disk.disk c.part_of.new.disk) c.loop-word.invariant.same c.in_err-part.ensures.after.same;
+  but_cache = but_cache_joins c.args.self.now c.loop-word.self c.part_of.new.self c.loop-word.invariant.but_cache c.in_err-part.ensures.after.but_cache;
+  cached = λ tells cached. c.in_err-part.ensures.after.cached tells (c.loop-word.invariant.cached tells cached);
+  failed = search rules;
+}
 
-pub returns-in_err-push-clause-cached : goal.returns-in_err-push-clause-cached
-returns-in_err-push-clause-cached g c = λ tells cached. c.part_of.ensures.cached tells (c.loop-word.invariant.cached tells cached)
+pub returns-in-Err-clause-after : goal.returns-in-Err-clause-after
+returns-in-Err-clause-after g c = record {
+  same = reads_join (g.D.Disk.disk c.args.disk.now) (g.D.Disk.disk c.loop-word.disk) (g.D.Disk.disk c.part_of.new.disk) c.loop-word.invariant.same c.part_of.ensures.after.same;
+  but_cache = but_cache_joins c.args.self.now c.loop-word.self c.part_of.new.self c.loop-word.invariant.but_cache c.part_of.ensures.after.but_cache;
+  cached = λ tells cached. c.part_of.ensures.after.cached tells (c.loop-word.invariant.cached tells cached);
+  failed = search rules;
+}
 
 pub loop-word-preserved : goal.loop-word-preserved
 loop-word-preserved g c =
     let was = c.loop-word.invariant in
     let done = c.in_ok-part.ensures in
     let part = c.in_ok-part.part in
-    let put = c.in_ok-push.ensures.items in
+    let put = c.in-Ok.ensures.items in
     let a = c.args.span.from in
     let b = c.args.span.to in
     let first = g.D.Disk.disk c.args.disk.now in
@@ -54,10 +64,10 @@ loop-word-preserved g c =
     let pages : before.holds.pages ≡ first.holds.pages = ap (λ (d : DiskState). d.holds.pages) was.same in
     record {
       only = g.met.D.Disk.only_joins _ _ _ was.only done.only;
-      same = reads_join first before after was.same done.same;
-      but_cache = but_cache_joins c.args.self.now c.loop-word.self c.part_of.new.self was.but_cache done.but_cache;
-      cached = λ tells cached. done.cached tells (was.cached tells cached);
-      within = reaches_on before after c.loop-word.self c.part_of.new.self done.same done.but_cache was.within;
+      same = reads_join first before after was.same done.after.same;
+      but_cache = but_cache_joins c.args.self.now c.loop-word.self c.part_of.new.self was.but_cache done.after.but_cache;
+      cached = λ tells cached. done.after.cached tells (was.cached tells cached);
+      within = reaches_on before after c.loop-word.self c.part_of.new.self done.after.same done.after.but_cache was.within;
       many = omega (arith, ap length put, length_push c.loop-word.parts.items part, was.many);
       chosen = λ tells h stands cached.
           let K : List ℕ → Type 0 = λ ps. IsChosenOf h ps word (plan_of h word) a b part.list.items part.read in

@@ -1,4 +1,4 @@
-use Rattle.std.proofs.Common.{rules, ◌≡◌, ◌+◌, ◌∷◌, [], ◌++◌, length, Result, Ok, Err, IfOk, refl, ap, sym, subst}
+use Rattle.std.proofs.Common.{rules, ◌≡◌, ◌+◌, ◌∷◌, [], ◌++◌, length, Result, Ok, Err, IfOk, inl, refl, ap, sym, subst}
 use Rattle.record_codec.specs.declared.entry.Entry.TheVariants as entries
 use Rattle.record_codec.specs.declared.plan.PlanEntry.{PlanEntry}
 use Rattle.archive_state.specs.Histories.{History}
@@ -9,8 +9,8 @@ use Rattle.plan_shelf.specs.Readying.{tells_of}
 use Rattle.plan_shelf.specs.Readying.{summary_of}
 use Rattle.archive_core.specs.declared.error.ChangeError.{ChangeError}
 use Rattle.plan_shelf.specs.declared.readying.PlanReport.{PlanReport}
-use Rattle.archive_core.proofs.StoreLemmas.{not_drafted_cached, plans_full, plans_stored, plans_refused, drafted_never, takes_plan}
-use Rattle.archive_core.proofs.TakeLemmas.{none_follows, plan_follows, stored_follows}
+use Rattle.archive_core.proofs.StoreLemmas.{given_up_cached, plans_full, plans_stored, plans_refused, given_up_never, takes_plan}
+use Rattle.archive_core.proofs.TakeLemmas.{plan_follows, stored_follows}
 use Rattle.archive_core.proofs.archive.Archive.plan.Goals as goal
 
 pub returns-in-Ok-clause-refused : goal.returns-in-Ok-clause-refused
@@ -54,7 +54,7 @@ returns-in-Ok-clause-takes g c = λ tells h in_step.
 
 pub returns-in-Err-clause-refused : goal.returns-in-Err-clause-refused
 returns-in-Err-clause-refused g c = λ h stands why is.
-    plans_refused h c.args.word.now c.args.kind c.args.factor c.in-Err.why c.not_drafted.result c.args.self.now c.not_drafted.new.self why c.not_drafted.ensures (c.in-Err.ensures.refused h stands) stands is
+    plans_refused h c.args.word.now c.args.kind c.args.factor c.in-Err.declined c.give_up.result c.args.self.now c.give_up.new.self why c.give_up.ensures (c.in-Err.ensures.refused h stands) stands is
 
 pub returns-in-Err-clause-after : goal.returns-in-Err-clause-after
 returns-in-Err-clause-after g c = record {
@@ -63,15 +63,15 @@ returns-in-Err-clause-after g c = record {
   live = search rules;
   same = search rules;
   memory = search rules;
-  cached = λ tells cached is. not_drafted_cached c.in-Err.why c.not_drafted.result c.args.self.now c.not_drafted.new.self (g.D.Disk.disk c.args.disk.now) c.not_drafted.ensures cached;
+  cached = λ tells cached is. given_up_cached c.in-Err.declined c.give_up.result c.args.self.now c.give_up.new.self (g.D.Disk.disk c.args.disk.now) c.give_up.ensures cached;
   spent = search rules;
 }
 
 pub returns-in-Err-clause-takes : goal.returns-in-Err-clause-takes
 returns-in-Err-clause-takes g c = λ tells h in_step.
-    takes_plan h c.args.word.now c.args.kind c.args.factor c.not_drafted.result _ _ c.args.self.now c.not_drafted.new.self in_step
-    (λ why is. plans_refused h c.args.word.now c.args.kind c.args.factor c.in-Err.why c.not_drafted.result c.args.self.now c.not_drafted.new.self why c.not_drafted.ensures (c.in-Err.ensures.refused h in_step.stands) in_step.stands is)
-    (λ why is. refl) (λ is. refl) (λ is. drafted_never _ c.in-Err.why c.not_drafted.result c.args.self.now c.not_drafted.new.self c.not_drafted.ensures is)
+    takes_plan h c.args.word.now c.args.kind c.args.factor c.give_up.result _ _ c.args.self.now c.give_up.new.self in_step
+    (λ why is. plans_refused h c.args.word.now c.args.kind c.args.factor c.in-Err.declined c.give_up.result c.args.self.now c.give_up.new.self why c.give_up.ensures (c.in-Err.ensures.refused h in_step.stands) in_step.stands is)
+    (λ why is. refl) (λ is. refl) (λ is. given_up_never _ c.in-Err.declined c.give_up.result c.args.self.now c.give_up.new.self c.give_up.ensures is)
     ((returns-in-Err-clause-after g c).cached tells in_step.cached)
 
 pub returns-in-Ok-clause-follows : goal.returns-in-Ok-clause-follows
@@ -82,5 +82,5 @@ returns-in-Ok-clause-follows g c = λ h stands.
 
 pub returns-in-Err-clause-follows : goal.returns-in-Err-clause-follows
 returns-in-Err-clause-follows g c = λ h stands.
-    plan_follows h c.not_drafted.result c.not_drafted.new.self (none_follows h c.in-Err.why c.not_drafted.result c.args.self.now c.not_drafted.new.self c.not_drafted.ensures)
+    plan_follows h c.give_up.result c.give_up.new.self (λ ok. given_up_never _ c.in-Err.declined c.give_up.result c.args.self.now c.give_up.new.self c.give_up.ensures (inl ok))
     (λ why is. (returns-in-Err-clause-refused g c h stands why is).1)

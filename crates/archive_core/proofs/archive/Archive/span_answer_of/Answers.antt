@@ -1,11 +1,11 @@
 use Rattle.std.proofs.Common.{ℕ, List, Err, ap, subst}
 use Rattle.archive_state.specs.Chosen.{IsFirstDamage}
-use Rattle.archive_core.specs.declared.error.AskError.{AskError}
-use Rattle.archive_core.proofs.ChosenLemmas.{handed_on}
+use Rattle.sublist_store.specs.declared.why.FetchError.{FetchError}
+use Rattle.archive_core.proofs.ChosenLemmas.{handed}
 use Rattle.archive_core.proofs.archive.Archive.span_answer_of.Goals as goal
 
 pub returns-in_err-parts-clause-damaged : goal.returns-in_err-parts-clause-damaged
 returns-in_err-parts-clause-damaged g c = λ tells h stands cached d is.
-    let first_of_words = c.in_err-parts.ensures.damaged tells h stands cached d (ap (λ (e : AskError). Err e) (handed_on c.from_residual-in_err-parts.result c.in_err-parts.field-0.0 d c.from_residual-in_err-parts.ensures.1 is)) in
+    let first_of_words = c.in_err-parts.ensures.damaged tells h stands cached d (ap (λ (e : FetchError). Err e) (handed c.from_residual.result c.in_err-parts.field-0.0 d c.from_residual.ensures.1 is)) in
     let W : List (List ℕ) → Type 0 = λ ws. IsFirstDamage h (g.D.Disk.disk c.args.disk.now).holds.pages c.args.span.from c.args.span.to ws d in
-    record { query = c.in_ok-query.query; is_read = c.in_ok-query.ensures.query; first = subst W c.words.ensures.words first_of_words }
+    subst W c.words.ensures.words first_of_words

@@ -14,7 +14,7 @@ use Rattle.plan_shelf.specs.Readying.{IsFull, tells_of}
 use Rattle.plan_shelf.specs.Readying.{summary_of}
 use Rattle.archive_core.proofs.AddLemmas.{reaches_on}
 use Rattle.archive_core.proofs.CacheLemmas.{cached_on}
-use Rattle.archive_core.proofs.StoreLemmas.{not_ready_cached, ready_storable, ready_stored, stands_planned, reaches_planned, same_shelf, stands_still, full_refused}
+use Rattle.archive_core.proofs.StoreLemmas.{given_up_cached, ready_storable, ready_stored, stands_planned, reaches_planned, same_shelf, stands_still, full_refused}
 use Rattle.archive_core.proofs.archive.Archive.store.Goals as goal
 
 pub returns-in-Err-clause-refused : goal.returns-in-Err-clause-refused
@@ -22,14 +22,14 @@ returns-in-Err-clause-refused g c = λ h stands why is.
     let a : ArchiveState = record { end = c.self.inside.journal.end; live = c.self.inside.live; length = c.self.inside.entries; changes = c.self.inside.directory.changes; index = state_of c.self.inside.index; shelf = c.self.inside.shelf } in
     let before = subst (λ (s : ArchiveState). StandsFor s h) (sym c.self.view_is) stands in
     let still = stands_still a h c.make_ready.new.shelf before c.in-Err.ensures.plans (c.in-Err.ensures.none _ before.pages_are) in
-    full_refused c.in-Err.why c.not_ready.result _ c.not_ready.new.self h c.args.draft c.args.self.now.end why c.not_ready.ensures
+    full_refused c.in-Err.why c.give_up.result _ c.give_up.new.self h c.args.draft c.args.self.now.end why c.give_up.ensures
     (λ because e. subst (λ (n : ℕ). IsFull c.args.draft (live_extents h) n because) (c.end.ensures.end ∙ ap (λ (s : ArchiveState). s.end) c.self.view_is) (c.in-Err.ensures.full _ before.pages_are because e)) still is
 
 pub returns-in-Err-clause-cached : goal.returns-in-Err-clause-cached
 returns-in-Err-clause-cached g c = λ tells cached is.
     let a : ArchiveState = record { end = c.self.inside.journal.end; live = c.self.inside.live; length = c.self.inside.entries; changes = c.self.inside.directory.changes; index = state_of c.self.inside.index; shelf = c.self.inside.shelf } in
     let disk = g.D.Disk.disk c.args.disk.now in
-    not_ready_cached c.in-Err.why c.not_ready.result (record a { shelf = c.make_ready.new.shelf }) c.not_ready.new.self disk c.not_ready.ensures
+    given_up_cached c.in-Err.why c.give_up.result (record a { shelf = c.make_ready.new.shelf }) c.give_up.new.self disk c.give_up.ensures
     (cached_on c.args.self.now.shelf.cache c.make_ready.new.shelf.cache disk disk (c.in-Err.ensures.cache ∙ ap (λ (s : ArchiveState). s.shelf.cache) c.self.view_is) refl cached)
 
 pub invariant_of-self-in-Ok-write_ready : goal.invariant_of-self-in-Ok-write_ready
