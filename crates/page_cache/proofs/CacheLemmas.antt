@@ -1,9 +1,10 @@
 -- Caches as lists.
-use Rattle.std.proofs.Common.{All, ◌≡◌, ℕ, zero, suc, Bool, true, false, not, List, [], ◌∷◌, length, take, All, Result, Ok, Err, OnOk, OnErr, refl, sym, ap, subst, inl, inr, nat_eq}
+use Rattle.std.proofs.Common.{All, ◌≡◌, ℕ, Bool, true, false, not, List, [], ◌∷◌, length, take, All, Result, Ok, Err, OnOk, OnErr, refl, sym, ap, subst, inl, inr, arith, nat_eq}
 use Rattle.std.specs.List.{filter, AllByRecursion, IsDistinct}
 use Rattle.std.proofs.lemmas.Bool.{cases_Bool}
 use Rattle.std.proofs.lemmas.List.Elements.{All-take, All-cons, All-filter, All-contains}
-use Rattle.std.proofs.lemmas.Map.Keys.{IsDistinct-cons, IsDistinct-head, IsDistinct-tail}
+use Rattle.std.proofs.lemmas.Map.Keys.{IsDistinct-cons, IsDistinct-head, IsDistinct-tail, IsDistinct-from_apart, apart_from_distinct}
+use Rattle.std.proofs.lemmas.List.{length-take, get_or-take, take-map}
 use Rattle.page_cache.specs.Caches.{Kept, pages_of, AreDistinct, is_hit, without_page, after_asking_within, after_asking, IsHeld, IsGiven, StandsFor}
 
 -- the page isn't among these
@@ -30,15 +31,6 @@ apart-filter page test (k ∷ cache) apart = (elim (test k) as (λ b. test k ≡
   | false ↦ λ left. rw left (apart-filter page test cache apart.1)
 ]) refl
 
-apart-take : (page n : ℕ) (cache : List Kept) → IsApart page cache → IsApart page (take n cache)
-apart-take page zero cache apart = tt
-apart-take page (suc n) [] apart = tt
-apart-take page (suc n) (k ∷ cache) apart = (apart.0, apart-take page n cache apart.1)
-
-distinct-none : AreDistinct []
-unfolding IsDistinct
-distinct-none = tt
-
 -- so distinct pages stay distinct
 pub distinct-filter : (test : Kept → Bool) (cache : List Kept) → AreDistinct cache → AreDistinct (filter test cache)
 distinct-filter test [] distinct = distinct
@@ -51,11 +43,11 @@ distinct-filter test (k ∷ cache) distinct =
     ]) refl
 
 pub distinct-take : (n : ℕ) (cache : List Kept) → AreDistinct cache → AreDistinct (take n cache)
-distinct-take zero cache distinct = distinct-none
-distinct-take (suc n) [] distinct = distinct
-distinct-take (suc n) (k ∷ cache) distinct =
-    IsDistinct-cons nat_eq k.page (pages_of (take n cache)) (apart-take k.page n cache (IsDistinct-head nat_eq k.page (pages_of cache) distinct))
-    (distinct-take n cache (IsDistinct-tail nat_eq k.page (pages_of cache) distinct))
+distinct-take n cache distinct =
+    let pages : List ℕ = pages_of cache in
+    subst (IsDistinct nat_eq) (take-map (λ (k : Kept). k.page) n cache) (IsDistinct-from_apart nat_eq (take n pages) (λ i j d lt within.
+    let long = length-take n pages in
+    rw (get_or-take n pages i d (omega (arith, long, lt, within)), get_or-take n pages j d (omega (arith, long, within))) (apart_from_distinct nat_eq pages i j d distinct lt (omega (arith, long, within)))))
 
 -- a page in front of the others
 pub distinct-front : (k : Kept) (cache : List Kept) → AreDistinct cache → AreDistinct (k ∷ without_page k.page cache)

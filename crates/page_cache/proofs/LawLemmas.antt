@@ -1,14 +1,14 @@
 -- Pages that are written, asked for and given back.
-use Rattle.std.proofs.Common.{◌≡◌, ℕ, ◌+◌, ◌*◌, ◌<◌, ◌≤◌, true, not, ◌&&◌, List, [], ◌∷◌, ◌++◌, length, take, drop, map, get_or, All, refl, sym, ap, subst, ◌∙◌, inl, inr, arith, nat_le, nat_lt, add_assoc, zero-add}
+use Rattle.std.proofs.Common.{◌≡◌, ℕ, ◌+◌, ◌*◌, ◌<◌, ◌≤◌, true, not, ◌&&◌, List, [], ◌∷◌, ◌++◌, length, drop, map, get_or, All, refl, sym, ap, subst, ◌∙◌, inl, inr, arith, nat_le, nat_lt, add_assoc, zero-add}
 use Rattle.std.specs.List.{range_with_len}
-use Rattle.std.proofs.lemmas.Bool.{cases_lt, le-leb, lt-ltb}
-use Rattle.std.proofs.lemmas.List.{length-take, length-drop, get_or-take, get_or-drop, ext_get_or}
+use Rattle.std.proofs.lemmas.Bool.{le-leb, lt-ltb}
+use Rattle.std.proofs.lemmas.List.{length-take, length-drop}
 use Rattle.std.proofs.lemmas.List.Elements.{All-filter, All-map, All-head, All-tail, filter_passes}
 use Rattle.std.proofs.lemmas.List.FromFn.{length-range_with_len, get_or-range_with_len}
 use Rattle.time_base.specs.declared.extent.Extent.{Extent}
-use Rattle.machine_model.specs.Images.{IsUntouched}
 use Rattle.page_store.specs.Ranges.{SameOutside, range_of}
 use Rattle.page_store.specs.Runs.{IsPageOf, IsTaken, pages_for}
+use Rattle.page_store.proofs.StayLemmas.{untouched, part_stays}
 use Rattle.page_cache.specs.Caches.{Kept, after_asking, after_asking_all, missed, missed_by_all, IsHeld, StandsFor}
 use Rattle.page_cache.specs.Pieces.{piece, first_pieces, without_pages}
 use Rattle.page_cache.specs.Laws.{LieIn}
@@ -25,48 +25,16 @@ misses-join (k ∷ ks) ls cache =
     ap (λ m. missed k cache + m) (misses-join ks ls (after_asking k cache))
     ∙ sym (add_assoc (missed k cache) (missed_by_all ks (after_asking k cache)) (missed_by_all ls (after_asking_all ks (after_asking k cache))))
 
--- a byte of a page that isn't among those of extents lies in none of their ranges
-untouched : (extents : List Extent) (page at : ℕ) → (IsTaken extents page → ⊥) → page * 4096 ≤ at → at < page * 4096 + 4096 → IsUntouched (map range_of extents) at
-untouched [] page at apart low high = tt
-untouched (e ∷ extents) page at apart low high = (
-  elim (cases_lt at (e.first * 4096)) [
-    | inl before ↦ inl before
-    | inr from ↦ elim (cases_lt at (e.first * 4096 + e.bytes)) [
-      | inl within ↦ absurd (apart (inl (omega (arith, low, high, from), omega (arith, low, high, within))))
-      | inr behind ↦ inr behind
-    ]
-  ],
-  untouched extents page at (λ taken. apart (inr taken)) low high,
-)
-
--- what is kept of such a page stays
+-- what is kept of a page that isn't among those of extents stays
 held-stays : (k : Kept) (extents : List Extent) (was pages : List ℕ) → (IsTaken extents k.page → ⊥) → SameOutside (map range_of extents) was pages → IsHeld was k → IsHeld pages k
-held-stays k extents was pages apart same held = record { within = held.within; bytes = held.bytes ∙ sym stay }
-  where
-    at : ℕ
-    at = k.page * 4096
-
-    n : ℕ
-    n = length k.bytes
-
-    long : n ≡ length (take n (drop at was))
-    long = ap length held.bytes
-
-    inside : (i : ℕ) → i < n → at + i < length was
-    inside i below = omega (arith, below, long, length-take n (drop at was), length-drop at was)
-
-    one : length (take n (drop at pages)) ≡ n
-    one = elim (cases_lt 0 n) [
-      | inl some ↦ omega (arith, length-take n (drop at pages), length-drop at pages, same.no_shorter, long, length-take n (drop at was), length-drop at was, some)
-      | inr none ↦ omega (arith, length-take n (drop at pages), none)
-    ]
-
-    stay : take n (drop at pages) ≡ take n (drop at was)
-    stay = ext_get_or 0 (take n (drop at pages)) (take n (drop at was)) (one ∙ long) (λ i within.
-        let below : i < n = omega (arith, within, one) in
-        get_or-take n (drop at pages) i 0 below ∙ get_or-drop at pages i 0
-        ∙ same.same (at + i) (inside i below) (untouched extents k.page (at + i) apart (omega arith) (omega (arith, below, held.within)))
-        ∙ sym (get_or-take n (drop at was) i 0 below ∙ get_or-drop at was i 0))
+held-stays k extents was pages apart same held =
+    let at : ℕ = k.page * 4096 in
+    let n : ℕ = length k.bytes in
+    record {
+      within = held.within;
+      bytes = held.bytes ∙ sym (part_stays (map range_of extents) at n was pages (λ i low high. untouched extents k.page i apart low (omega (arith, high, held.within)))
+          (λ some. omega (arith, some, ap length held.bytes, length-take n (drop at was), length-drop at was)) same);
+    }
 
 pub writes-stand : (cache : List Kept) (extents : List Extent) (was pages : List ℕ) → All (λ k. IsTaken extents k.page → ⊥) cache
     → SameOutside (map range_of extents) was pages → StandsFor cache was → StandsFor cache pages

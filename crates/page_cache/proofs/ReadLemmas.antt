@@ -15,18 +15,12 @@ use Rattle.page_store.specs.Runs.{pages_for}
 use Rattle.page_cache.specs.Caches.{Kept, after_asking, after_asking_all, missed, missed_by_all, IsHeld, IsGiven, AreGiven, StandsFor}
 use Rattle.page_cache.specs.Pieces.{piece, first_pieces}
 use Rattle.page_cache.proofs.CacheLemmas.{all-asked, given-held}
+use Rattle.page_cache.proofs.LawLemmas.{askings-join, misses-join}
 use Rattle.page_cache.proofs.PieceLemmas.{pieces-more, pieces-same, pieces-held}
 
 -- one page more is asked for
-asking-more : (ks : List Kept) (k : Kept) (cache : List Kept) → after_asking_all (ks ++ k ∷ []) cache ≡ after_asking k (after_asking_all ks cache)
-asking-more [] k cache = refl
-asking-more (first ∷ ks) k cache = asking-more ks k (after_asking first cache)
-
 missed-more : (ks : List Kept) (k : Kept) (cache : List Kept) → missed_by_all (ks ++ k ∷ []) cache ≡ missed_by_all ks cache + missed k (after_asking_all ks cache)
-missed-more [] k cache = omega arith
-missed-more (first ∷ ks) k cache =
-    ap (λ m. missed first cache + m) (missed-more ks k (after_asking first cache))
-    ∙ sym (add_assoc (missed first cache) (missed_by_all ks (after_asking first cache)) (missed k (after_asking_all ks (after_asking first cache))))
+missed-more ks k cache = omega (arith, misses-join ks (k ∷ []) cache)
 
 given-more : (pages : List ℕ) (ks : List Kept) (k : Kept) (cache : List Kept) → AreGiven pages cache ks → IsGiven pages (after_asking_all ks cache) k → AreGiven pages cache (ks ++ k ∷ [])
 given-more pages [] k cache given last = (last, tt)
@@ -81,7 +75,7 @@ reads-more tells e n bytes k old mid new before between after reads is asked sam
     let all : first_pieces (n + 1) e.first bytes ≡ ks ++ k ∷ [] =
     ap (λ m. first_pieces m e.first bytes) (add-one n) ∙ pieces-more n e.first bytes ∙ ap (λ l. ks ++ l ∷ []) is in
     record {
-      asked = asked ∙ ap (after_asking k) reads.asked ∙ sym (asking-more ks k old) ∙ ap (λ l. after_asking_all l old) (sym all);
+      asked = asked ∙ ap (after_asking k) reads.asked ∙ sym (askings-join ks (k ∷ []) old) ∙ ap (λ l. after_asking_all l old) (sym all);
       same = rw (same, reads.same) refl;
       given = λ told. subst (AreGiven before.holds.pages old) (sym all)
           (given-more before.holds.pages ks k old (reads.given told) (subst (λ pages. IsGiven pages (after_asking_all ks old) k) (ap (λ d. d.holds.pages) reads.same)

@@ -35,12 +35,6 @@ same_joins xs ys a b c one two = record {
   same = λ k inside untouched. two.same k (omega (arith, inside, one.no_shorter)) (untouched_right xs ys k untouched) ∙ one.same k inside (untouched_left xs ys k untouched);
 }
 
-same_more : (xs ys : List Range) (a b : List ℕ) → SameOutside xs a b → SameOutside (xs ++ ys) a b
-same_more xs ys a b one = record {
-  no_shorter = one.no_shorter;
-  same = λ k inside untouched. one.same k inside (untouched_left xs ys k untouched);
-}
-
 -- no write
 pub changes_nothing : (ranges : List Range) (d : DiskState) → ChangesOnly ranges d d
 unfolding WasElsewhere
@@ -62,16 +56,16 @@ torn_pages at n a image was allowed (inr torn) beside same = (
   same,
 )
 
--- a write that was tried
-pub changes_written : {at n : ℕ} {a b : DiskState} → Writes Pages at n a b → ((area : Area) → AreBytes (part a.now.stable area))
-    → ChangesOnly (record { at = at; count = n } ∷ []) a b
+-- a write to an extent that was tried
+pub changes_written : (e : Extent) {at n : ℕ} {a b : DiskState} → at ≡ e.first * 4096 → n ≡ e.bytes → Writes Pages at n a b → ((area : Area) → AreBytes (part a.now.stable area)) → ChangesOnly (range_of e ∷ []) a b
 unfolding WasElsewhere
-changes_written {at} {n} {a} {b} writes bytes = record {
+changes_written e {at} {n} {a} {b} place count writes bytes = record {
   goes_on = writes.goes_on;
   images = λ image beside left.
       let now = writes.during image beside left in
       let torn = torn_image Pages at n a b writes bytes image now.0 in
-      torn_pages at n a image torn.0 torn.1 torn.2 beside (now.1 ∙ writes.beside);
+      let same : record { at = at; count = n } ≡ range_of e = (λ i. record { at = place i; count = count i }) in
+      subst (λ (r : Range). WasElsewhere (r ∷ []) a image beside) same (torn_pages at n a image torn.0 torn.1 torn.2 beside (now.1 ∙ writes.beside));
 }
 
 -- a sync that was tried
@@ -90,26 +84,16 @@ unfolding WasElsewhere
 changes_join xs ys {a} {b} {c} first second = record {
   goes_on = goes_on_joins first.goes_on second.goes_on;
   images = joined (WasElsewhere (xs ++ ys) a) first.goes_on
-      (λ image beside left. let was = first.images image beside left in (was.0, was.1, was.2, same_more xs ys was.0.pages image.pages was.3, was.4))
+      (λ image beside left. let was = first.images image beside left in (was.0, was.1, was.2, same_joins xs ys was.0.pages image.pages image.pages was.3 (same_outside ys image.pages), was.4))
       second.goes_on (λ image beside left.
       let later = second.images image beside left in
       let early = first.images later.0 b.now.beside (allowed_left b (moment a) later.0 later.1) in
       (early.0, early.1, later.2 ∙ early.2, same_joins xs ys early.0.pages later.0.pages image.pages early.3 later.3, later.4 ∙ early.4));
 }
 
--- the range of an extent, by its numbers
-pub changes_extent : (e : Extent) (at n : ℕ) {a b : DiskState} → at ≡ e.first * 4096 → n ≡ e.bytes → ChangesOnly (record { at = at; count = n } ∷ []) a b → ChangesOnly (range_of e ∷ []) a b
-changes_extent e at n {a} {b} one two changes =
-    let P : ℕ → Type 0 = λ x. ChangesOnly (record { at = x; count = n } ∷ []) a b in
-    let Q : ℕ → Type 0 = λ x. ChangesOnly (record { at = e.first * 4096; count = x } ∷ []) a b in
-    subst Q two (subst P one changes)
-
 -- what changes only some ranges changes only those and more
 pub changes_more : (xs ys : List Range) {a b : DiskState} → ChangesOnly xs a b → ChangesOnly (xs ++ ys) a b
-changes_more xs ys {a} {b} changes = record {
-  goes_on = changes.goes_on;
-  images = λ image beside left. let was = changes.images image beside left in (was.0, was.1, was.2, same_more xs ys was.0.pages image.pages was.3, was.4);
-}
+changes_more xs ys {a} {b} changes = changes_join xs ys changes (changes_nothing ys b)
 
 -- a sync behind writes
 pub changes_then_sync : (xs : List Range) {a b c : DiskState} → ChangesOnly xs a b → Syncs b c → ChangesOnly xs a c

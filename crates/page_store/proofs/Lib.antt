@@ -1,10 +1,8 @@
-mod RunLemmas
-mod PutLemmas
-mod CutLemmas
+mod EdgeLemmas
+mod CountLemmas
 pub mod StayLemmas
 pub mod PlacingLemmas
 pub mod TakenLemmas
-mod GiveLemmas
 pub mod ChangeLemmas
 pub mod WroteLemmas
 pub mod OrderLemmas

@@ -1,128 +1,112 @@
--- What taking the front of the first run that is long enough means for the extents that are taken.
-use Rattle.std.proofs.Common.{◌≡◌, ◌⊎◌, Bool, ℕ, ◌+◌, ◌<◌, ◌≤◌, ◌^◌, List, [], ◌∷◌, ◌++◌, length, take, get_or, All, inl, inr, ap, sym, subst, ◌∙◌, arith, count_by, cond}
-use Rattle.std.proofs.lemmas.List.Sums.{sum_by-cons, sum_by_push}
-use Rattle.std.proofs.lemmas.List.{take_more}
+-- What turning the pages of an extent means for the extents that are taken.
+use Rattle.std.proofs.Common.{◌≡◌, Bool, ℕ, ◌+◌, ◌-◌, ◌%◌, ◌<◌, ◌≤◌, List, [], ◌∷◌, ◌++◌, length, take, get_or, All, inl, inr, refl, ap, sym, subst, ◌∙◌, arith, cond}
+use Rattle.std.proofs.lemmas.List.Sums.{sum_by-cons}
+use Rattle.std.proofs.lemmas.List.{append-nil, take_more}
 use Rattle.std.proofs.lemmas.List.Elements.{All-nil, All-cons, All-append}
 use Rattle.std.proofs.lemmas.Bool.{cases_lt, lt-ltb, le-ltb}
 use Rattle.time_base.specs.declared.extent.Extent.{Extent}
-use Rattle.page_store.specs.declared.run.Run.{Run}
-use Rattle.page_store.specs.Runs.{IsIn, IsTaken, IsPageOf, AreRuns, IsCutFrom, IsCutOut, IsFreeRun, IsLowestRun, pages_for}
+use Rattle.page_store.specs.Runs.{IsTaken, IsPageOf, IsFreeRun, IsLowestRun, pages_for}
+use Rattle.page_store.specs.Edges.{AreFree, IsFit, IsTurned, edges_to}
 use Rattle.page_store.specs.Live.{IsInside}
-use Rattle.page_store.specs.Taken.{PagesState, HasTaken, IsApartFrom, AreApart, has_pages}
-use Rattle.page_store.proofs.RunLemmas.{AllIn, none_fits, lowest_fit, cut_less, cut_more, in_right}
-use Rattle.page_store.proofs.StayLemmas.{taken_left, taken_right}
-use Rattle.page_store.proofs.PlacingLemmas.{taken_or_not}
-use Rattle.page_store.proofs.CutLemmas.{SomeOut}
+use Rattle.page_store.specs.Taken.{PagesState, HasTaken, has_pages}
+use Rattle.page_store.proofs.OrderLemmas.{taken_swaps}
+use Rattle.page_store.proofs.CountLemmas.{page_or_not, taken_or_not}
 
--- pages that are free in the sense of the extents are in the runs
-all_in : (store : PagesState) (extents : List Extent) (n other : ℕ) → HasTaken store extents → IsFreeRun extents n other → AllIn store.free n other
-all_in store extents n other has free = λ p low high. (has.free_are p).1 (omega (arith, high, free.below), free.free p low high)
+-- ---- what is free by the edges is free in the sense of the extents
 
--- where no run is long enough there is no free run of pages
-pub none_free : (store : PagesState) (extents : List Extent) (n first : ℕ) → 1 ≤ n → AreRuns 0 store.free → All (λ r. r.pages < n) store.free
-    → HasTaken store extents → IsFreeRun extents n first → ⊥
-none_free store extents n first some are short has free = none_fits n 0 store.free some are short first (all_in store extents n first has free)
+pub run_free : (store : PagesState) (extents : List Extent) (n first : ℕ) → HasTaken store extents → IsFreeRun extents n first → AreFree store.edges first n
+run_free store extents n first has run = λ p low high. ((has.free_are p).1 (omega (arith, high, run.below), run.free p low high)).1
 
-cut_in : (n : ℕ) (runs : List Run) (at first : ℕ) (left : List Run) → IsCutFrom n runs at first left → (p : ℕ) → first ≤ p → p < first + n → IsIn runs p
-cut_in n runs at first left is p low high =
-    let I : List Run → Type 0 = λ rs. IsIn rs p in
-    subst I (sym is.is) (in_right is.front (is.run ∷ is.back) p (inl (omega (arith, low, is.first_is), omega (arith, high, is.first_is, is.enough))))
-
--- the run taken is the lowest
-pub cut_lowest : (store : PagesState) (extents : List Extent) (n at first : ℕ) (left : List Run) → 1 ≤ n → AreRuns 0 store.free → first + n ≤ 2 ^ 28
-    → IsCutFrom n store.free at first left → HasTaken store extents → IsLowestRun extents n first
-cut_lowest store extents n at first left some are limit is has = record {
-  is = record { below = limit; free = λ p low high. ((has.free_are p).0 (cut_in n store.free at first left is p low high)).1 };
-  lowest = λ other free.
-      let A : List Run → Type 0 = λ rs. AreRuns 0 rs in
-      let B : List Run → Type 0 = λ rs. AllIn rs n other in
-      omega (arith, is.first_is, lowest_fit n 0 is.front is.back is.run some (subst A is.is are) is.short other (subst B is.is (all_in store extents n other has free)));
+pub lowest_run : (store : PagesState) (extents : List Extent) (n first : ℕ) → HasTaken store extents → IsFit n store.edges first → IsLowestRun extents n first
+lowest_run store extents n first has fit = record {
+  is = record { below = fit.below; free = λ p low high. ((has.free_are p).0 (omega (arith, high, fit.below), fit.free p low high)).1 };
+  lowest = λ other run. fit.lowest other run.below (run_free store extents n other has run);
 }
 
--- and then it is taken too
-pub cut_taken : (store : PagesState) (extents : List Extent) (n at : ℕ) (left : List Run) (e : Extent) → AreRuns 0 store.free → 1 ≤ e.bytes → pages_for e.bytes ≡ n
-    → IsCutFrom n store.free at e.first left → HasTaken store extents → HasTaken (record { free = left; taken = store.taken + 1 }) (e ∷ extents)
-cut_taken store extents n at left e are some pages is has = record {
-  apart = ((λ p mine taken. ((has.free_are p).0 (cut_in n store.free at e.first left is p mine.0 (omega (arith, mine.1, pages)))).1 taken), has.apart);
-  counted = count_more extents e some ∙ ap (λ (k : ℕ). k + 1) has.counted;
+-- a page of an extent that isn't free is taken
+pub taken_page : (store : PagesState) (extents : List Extent) (e : Extent) → HasTaken store extents → (p : ℕ) × (IsPageOf e p × (edges_to store.edges p % 2 ≡ 1)) → (p : ℕ) × (IsPageOf e p × IsTaken extents p)
+taken_page store extents e has (p, (mine, odd)) = elim (taken_or_not extents p) as (λ _. (q : ℕ) × (IsPageOf e q × IsTaken extents q)) [
+  | inl taken ↦ (p, (mine, taken))
+  | inr free ↦ absurd (omega (arith, odd, ((has.free_are p).1 (omega (arith, mine.1, e.in_pages), free)).1))
+]
+
+-- ---- one extent more, or one less
+
+-- how much an extent adds to those that have pages
+pub adds : Extent → ℕ
+adds e = cond (has_pages e) 1 0
+
+pub adds_none : (e : Extent) → e.bytes ≡ 0 → adds e ≡ 0
+unfolding adds
+adds_none e none = ap {B = ℕ} (λ (b : Bool). cond b 1 0) (le-ltb 0 e.bytes (omega (arith, none)))
+
+pub adds_one : (e : Extent) → 1 ≤ e.bytes → adds e ≡ 1
+unfolding adds
+adds_one e some = ap {B = ℕ} (λ (b : Bool). cond b 1 0) (lt-ltb 0 e.bytes some)
+
+-- without pages nothing turns
+pub turned_none : (e : Extent) (edges : List ℕ) → e.bytes ≡ 0 → IsTurned e edges edges
+turned_none e edges none = record { inside = λ p mine. absurd (omega (arith, none, mine.0, mine.1)); outside = λ p out. refl }
+
+-- its pages were free and are turned
+pub one_more : (old new : PagesState) (extents : List Extent) (e : Extent) → AreFree old.edges e.first (pages_for e.bytes) → IsTurned e old.edges new.edges → new.taken ≡ old.taken + adds e → HasTaken old extents → HasTaken new (e ∷ extents)
+unfolding adds
+one_more old new extents e free turned count has = record {
+  apart = ((λ p mine. ((has.free_are p).0 (omega (arith, mine.1, e.in_pages), free p mine.0 mine.1)).1), has.apart);
+  counted = omega (arith, sum_by-cons adds e extents, has.counted, count);
   free_are = λ p. (
-    (λ inside. let less = cut_less n store.free at e.first left are is p inside in
-        let was = (has.free_are p).0 less.0 in (
-          was.0,
-          λ taken. elim taken [
-            | inl mine ↦ elim less.1 [ inl before ↦ omega (arith, before, mine.0) | inr behind ↦ omega (arith, behind, mine.1, pages) ]
-            | inr other ↦ was.1 other
-          ],
-        )),
-    (λ free. cut_more n store.free at e.first left are is p ((has.free_are p).1 (free.0, λ taken. free.1 (inr taken)))
-        (elim (cases_lt p e.first) [
-          | inl before ↦ inl before
-          | inr low ↦ elim (cases_lt p (e.first + n)) [ inl high ↦ absurd (free.1 (inl (low, omega (arith, high, pages)))) | inr behind ↦ inr behind ]
-        ])),
-  );
-}
-  where
-    count_more : (extents : List Extent) (e : Extent) → 1 ≤ e.bytes → count_by has_pages (e ∷ extents) ≡ count_by has_pages extents + 1
-    count_more extents e some = omega (arith, sum_by-cons (λ (x : Extent). cond (has_pages x) 1 0) e extents, ap {B = ℕ} (λ (b : Bool). cond b 1 0) (lt-ltb 0 e.bytes some))
-
--- ---- one more behind the others
-
-taken_parts : (xs : List Extent) (e : Extent) (p : ℕ) → IsTaken (xs ++ e ∷ []) p → IsTaken xs p ⊎ IsPageOf e p
-taken_parts [] e p (inl mine) = inr mine
-taken_parts [] e p (inr none) = absurd none
-taken_parts (x ∷ xs) e p (inl is) = inl (inl is)
-taken_parts (x ∷ xs) e p (inr more) = elim (taken_parts xs e p more) [ inl other ↦ inl (inr other) | inr mine ↦ inr mine ]
-
-apart_push : (xs : List Extent) (e : Extent) → AreApart xs → IsApartFrom e xs → AreApart (xs ++ e ∷ [])
-apart_push [] e apart from = ((λ p is taken. taken), tt)
-apart_push (x ∷ xs) e apart from =
-    ((λ p is taken. elim (taken_parts xs e p taken) [ inl other ↦ apart.0 p is other | inr mine ↦ from p mine (inl is) ]), apart_push xs e apart.1 (λ p mine taken. from p mine (inr taken)))
-
-count_push : (xs : List Extent) (e : Extent) → count_by has_pages (xs ++ e ∷ []) ≡ count_by has_pages xs + cond (has_pages e) 1 0
-count_push xs e = sum_by_push (λ (x : Extent). cond (has_pages x) 1 0) xs e
-
--- without pages
-pub taken_none : (store : PagesState) (extents : List Extent) (e : Extent) → e.bytes ≡ 0 → HasTaken store extents → HasTaken store (extents ++ e ∷ [])
-taken_none store extents e none has = record {
-  apart = apart_push extents e has.apart (λ p mine taken. omega (arith, mine.0, mine.1));
-  counted = omega (arith, has.counted, count_push extents e, ap {B = ℕ} (λ (b : Bool). cond b 1 0) (le-ltb 0 e.bytes (omega arith)));
-  free_are = λ p. (
-    (λ is. let was = (has.free_are p).0 is in (was.0, λ taken. elim (taken_parts extents e p taken) [ inl other ↦ was.1 other | inr mine ↦ omega (arith, mine.0, mine.1) ])),
-    (λ free. (has.free_are p).1 (free.0, λ taken. free.1 (taken_left extents (e ∷ []) p taken))),
+    (λ is. elim (page_or_not e p) [
+      | inl mine ↦ absurd (omega (arith, is.1, turned.inside p mine.0, free p mine.0.0 mine.0.1))
+      | inr out ↦ (let was = (has.free_are p).0 (is.0, sym (turned.outside p out.0) ∙ is.1) in (was.0, λ t. elim t [ inl mine ↦ out.0 mine | inr other ↦ was.1 other ]))
+    ]),
+    (λ untaken. elim (page_or_not e p) [
+      | inl mine ↦ absurd (untaken.1 (inl mine.0))
+      | inr out ↦ (untaken.0, turned.outside p out.0 ∙ ((has.free_are p).1 (untaken.0, λ other. untaken.1 (inr other))).1)
+    ]),
   );
 }
 
--- its pages were cut out of the runs
-pub taken_cut : (store : PagesState) (extents : List Extent) (e : Extent) (left : List Run) → 1 ≤ e.bytes → IsCutOut e.first (pages_for e.bytes) store.free left → HasTaken store extents
-    → HasTaken (record { free = left; taken = store.taken + 1 }) (extents ++ e ∷ [])
-taken_cut store extents e left some cut has = record {
-  apart = apart_push extents e has.apart (λ p mine taken. ((has.free_are p).0 (cut.mine p mine.0 mine.1)).1 taken);
-  counted = omega (arith, has.counted, count_push extents e, ap {B = ℕ} (λ (b : Bool). cond b 1 0) (lt-ltb 0 e.bytes (omega arith)));
+-- its pages were taken and are turned
+pub one_less : (old new : PagesState) (extents : List Extent) (e : Extent) → IsTurned e old.edges new.edges → new.taken ≡ old.taken - adds e → HasTaken old (e ∷ extents) → HasTaken new extents
+unfolding adds
+one_less old new extents e turned count has = record {
+  apart = has.apart.1;
+  counted = omega (arith, sum_by-cons adds e extents, has.counted, count);
   free_are = λ p. (
-    (λ is. let less = cut.less p is in
-        let was = (has.free_are p).0 less.0 in (
-          was.0,
-          λ taken. elim (taken_parts extents e p taken) [
-            | inl other ↦ was.1 other
-            | inr mine ↦ elim less.1 [ inl before ↦ omega (arith, before, mine.0) | inr behind ↦ omega (arith, behind, mine.1) ]
-          ],
-        )),
-    (λ free. cut.more p ((has.free_are p).1 (free.0, λ taken. free.1 (taken_left extents (e ∷ []) p taken)))
-        (elim (cases_lt p e.first) [
-          | inl before ↦ inl before
-          | inr low ↦ elim (cases_lt p (e.first + pages_for e.bytes)) [ inl high ↦ absurd (free.1 (taken_right extents (e ∷ []) p (inl (low, high)))) | inr behind ↦ inr behind ]
-        ])),
+    (λ is. elim (page_or_not e p) [
+      | inl mine ↦ (is.0, has.apart.0 p mine.0)
+      | inr out ↦ (let was = (has.free_are p).0 (is.0, sym (turned.outside p out.0) ∙ is.1) in (was.0, λ other. was.1 (inr other)))
+    ]),
+    (λ untaken. elim (page_or_not e p) [
+      | inl mine ↦ (
+        untaken.0,
+        elim (cases_lt 0 (edges_to old.edges p % 2)) [
+          | inl odd ↦ omega (arith, odd, turned.inside p mine.0)
+          | inr even ↦ absurd (((has.free_are p).0 (untaken.0, omega (arith, even))).1 (inl mine.0))
+        ],
+      )
+      | inr out ↦ (untaken.0, turned.outside p out.0 ∙ ((has.free_are p).1 (untaken.0, λ t. elim t [ inl mine ↦ out.0 mine | inr other ↦ untaken.1 other ])).1)
+    ]),
   );
 }
 
--- a page of it is in no run, so it is taken
-pub taken_page : (store : PagesState) (extents : List Extent) (e : Extent) → HasTaken store extents → SomeOut e.first (pages_for e.bytes) store.free → (p : ℕ) × (IsPageOf e p × IsTaken extents p)
-taken_page store extents e has out =
-    let limit : out.0 < 2 ^ 28 = omega (arith, out.1.1.0, e.in_pages) in
-    elim (taken_or_not extents out.0) as (λ _. (p : ℕ) × (IsPageOf e p × IsTaken extents p)) [
-      | inl taken ↦ (out.0, ((out.1.0, out.1.1.0), taken))
-      | inr free ↦ absurd (out.1.1.1 ((has.free_are out.0).1 (limit, free)))
-    ]
+-- without pages the store stays
+pub none_more : (store : PagesState) (extents : List Extent) (e : Extent) → e.bytes ≡ 0 → HasTaken store extents → HasTaken store (e ∷ extents)
+none_more store extents e none has =
+    one_more store store extents e (λ p low high. absurd (omega (arith, none, low, high))) (turned_none e store.edges none) (omega (arith, adds_none e none)) has
+
+pub none_less : (store : PagesState) (extents : List Extent) (e : Extent) → e.bytes ≡ 0 → HasTaken store (e ∷ extents) → HasTaken store extents
+none_less store extents e none has = one_less store store extents e (turned_none e store.edges none) (omega (arith, adds_none e none)) has
+
+-- the one in front may stand behind the others
+pub to_end : (store : PagesState) (extents : List Extent) (e : Extent) → HasTaken store (e ∷ extents) → HasTaken store (extents ++ e ∷ [])
+to_end store extents e has = taken_swaps store [] (e ∷ []) extents [] (subst (λ (es : List Extent). HasTaken store (e ∷ es)) (sym (append-nil extents)) has)
+
+-- and one among them in front
+pub to_front : (store : PagesState) (before after : List Extent) (e : Extent) → HasTaken store (before ++ e ∷ after) → HasTaken store (e ∷ (before ++ after))
+to_front store before after e has = taken_swaps store [] before (e ∷ []) after has
+
+-- ---- extents in turn
 
 -- the first so many extents, and the next one
 pub next_extent : (live : List Extent) (i : ℕ) (e : Extent) → i < length live → e ≡ get_or live i e → take (i + 1) live ≡ take i live ++ e ∷ []

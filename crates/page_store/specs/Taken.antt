@@ -1,8 +1,8 @@
 -- What a store of pages in hand stands for: the extents that are taken.
 use Rattle.std.specs.Prelude.{◌≡◌, ℕ, ◌<◌, ◌^◌, ◌↔◌, Bool, nat_lt, List, [], ◌∷◌, ◌++◌, count_by}
 use Rattle.time_base.specs.declared.extent.Extent.{Extent}
-use Rattle.page_store.specs.declared.run.Run.{Run}
-use Rattle.page_store.specs.Runs.{IsPageOf, IsTaken, IsIn}
+use Rattle.page_store.specs.Runs.{IsPageOf, IsTaken}
+use Rattle.page_store.specs.Edges.{IsFree}
 
 -- no page of the extent is among those of others
 abbrev pub IsApartFrom : Extent → List Extent → Type 0
@@ -17,16 +17,16 @@ AreApart (e ∷ extents) = IsApartFrom e extents × AreApart extents
 abbrev pub has_pages : Extent → Bool
 has_pages e = nat_lt 0 e.bytes
 
--- a store in hand: its free runs, and how many extents with pages are taken
+-- a store in hand: the edges of what is taken, and how many extents with pages are taken
 pub record PagesState : Type 0 where
-  pub free : List Run
+  pub edges : List ℕ
   pub taken : ℕ
 
 -- these extents are taken, and no other page is
 pub record HasTaken (store : PagesState) (extents : List Extent) : Type 0 where
   pub apart : AreApart extents
   pub counted : count_by has_pages extents ≡ store.taken
-  pub free_are : (p : ℕ) → IsIn store.free p ↔ ((p < 2 ^ 28) × (IsTaken extents p → ⊥))
+  pub free_are : (p : ℕ) → IsFree store.edges p ↔ ((p < 2 ^ 28) × (IsTaken extents p → ⊥))
 
 -- the order of some extents in the middle is free
 abbrev pub TakenInAnyOrder : Type 0

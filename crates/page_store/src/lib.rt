@@ -1,16 +1,15 @@
 //! Pages: which are free, and the bytes that stand in extents, runs of pages that are taken.
 //!
-//! The store in hand knows free pages alone; its contracts range over the extents that are taken
-//! (`specs/Taken.antt`), of which no two share a page. It promises the lowest run of free pages that is
+//! The store in hand knows the edges of what is taken alone; its contracts range over the extents that are
+//! taken (`specs/Taken.antt`), of which no two share a page. It promises the lowest run of free pages that is
 //! long enough, and that a write changes only its extent in each image that a stop may leave.
 #![tactic(auto)]
 
+mod edges;
 mod extents;
 mod laws;
 mod live;
 mod pages;
-mod put;
-mod run;
 
 pub use laws::{
     each_is_placed_or_not, extents_apart_stay, good_writes_join, none_is_placed_and_not,
@@ -18,4 +17,3 @@ pub use laws::{
 };
 pub use live::LiveError;
 pub use pages::{Pages, TakeError};
-pub use run::Run;

@@ -1,14 +1,13 @@
 //! The pages that extents leave free which are taken already.
-ghost use Rattle.std.specs.Prelude.{◌≡◌, ◌+◌, ◌<◌, ◌≤◌, ◌^◌, ◌∷◌, [], ◌++◌, true, false, ℕ, List, IfOk, IfErr, MatchOption, vec_len, vec_capacity};
+ghost use Rattle.std.specs.Prelude.{◌≡◌, ◌∷◌, [], ◌++◌, true, false, ℕ, List, IfOk, IfErr};
 ghost use Rattle.time_base.specs.declared.extent.Extent.{Extent as PlainExtent};
-ghost use Rattle.page_store.specs.Runs.{IsPageOf, IsTaken, IsIn, AreRuns, IsHeldAt, IsCutOut};
+ghost use Rattle.page_store.specs.Runs.{IsPageOf, IsTaken};
 ghost use Rattle.page_store.specs.Taken.{HasTaken};
 ghost use Rattle.page_store.specs.Live.{AreLive, IsRefused};
 
+use crate::edges::are_free;
 use crate::extents::end;
 use crate::pages::Pages;
-use crate::put::place_of;
-use crate::run::Run;
 use std::alloc::{AllocError, Global};
 use time_base::Extent;
 
@@ -48,7 +47,7 @@ impl Pages {
         // An extent is refused exactly where it is the first that doesn't pass.
         ensures refused { IfErr result (IsRefused live.now reach) }
     {
-        let mut pages = Pages::whole(alloc)?;
+        let mut pages = Pages::whole(alloc);
         for index in 0..live.len() {
             let extent = live[index];
             if end(extent) > reach {
@@ -66,76 +65,13 @@ impl Pages {
         ensures yes { IfOk result (λ free. free ≡ true → (extents : List PlainExtent) → HasTaken self.old extents → HasTaken self.new (extents ++ extent ∷ [])) }
         ensures no { IfOk result (λ free. free ≡ false → (extents : List PlainExtent) → HasTaken self.old extents → (p : ℕ) × (IsPageOf extent p × IsTaken extents p)) }
     {
-        let pages = extent.pages();
-        if pages == 0 {
+        if extent.bytes == 0 {
             return Ok(true);
         }
-        let Some(at) = holder(&self.free, extent.first, pages as u32) else {
+        if !are_free(&self.edges, extent) {
             return Ok(false);
-        };
-        self.free.reserve(self.taken + 2)?;
-        cut_out(&mut self.free, at, extent.first, pages as u32);
-        self.taken += 1;
+        }
+        self.hold(extent)?;
         Ok(true)
     }
-}
-
-// The run that holds so many pages from one on.
-fn holder(runs: &[Run], first: u32, pages: u32) -> Option<usize>
-    requires order { AreRuns 0 runs.now }
-    requires some { 1 ≤ pages }
-    requires limit { first + pages ≤ 2 ^ 28 }
-    ensures { MatchOption result ((p : ℕ) × ((first ≤ p) × ((p < first + pages) × (IsIn runs.now p → ⊥)))) (λ at. IsHeldAt first pages runs.now at) }
-{
-    let at = place_of(runs, first + 1);
-    if at == 0 {
-        return None;
-    }
-    let run = runs[at - 1];
-    if run.first + run.pages < first + pages {
-        return None;
-    }
-    Some(at - 1)
-}
-
-// Takes pages out of the run that holds them.
-fn cut_out(free: &mut Vec<Run>, at: usize, first: u32, pages: u32)
-    requires held { IsHeldAt first pages free.old.items at }
-    requires order { AreRuns 0 free.old.items }
-    requires some { 1 ≤ pages }
-    requires room { vec_len free.old < vec_capacity free.old }
-    ensures cut { IsCutOut first pages free.old.items free.new.items }
-    ensures len { vec_len free.new ≤ vec_len free.old + 1 }
-    ensures capacity { vec_capacity free.old ≤ vec_capacity free.new }
-{
-    let run = free[at];
-    let after = first + pages;
-    let before = first - run.first;
-    let behind = run.first + run.pages - after;
-    if before == 0 {
-        if behind == 0 {
-            free.remove(at);
-        } else {
-            free[at] = Run {
-                first: after,
-                pages: behind,
-            };
-        }
-        return;
-    }
-    free[at] = Run {
-        first: run.first,
-        pages: before,
-    };
-    if behind == 0 {
-        return;
-    }
-    free.insert(
-        at + 1,
-        Run {
-            first: after,
-            pages: behind,
-        },
-    )
-    .unwrap();
 }

@@ -1,5 +1,5 @@
 use Rattle.machine_model.specs.declared.area.Area.TheVariants.{Journal}
-use Rattle.page_store.proofs.ChangeLemmas.{changes_nothing, changes_written, changes_extent}
+use Rattle.page_store.proofs.ChangeLemmas.{changes_nothing, changes_written}
 use Rattle.page_store.proofs.WroteLemmas.{written_piece}
 use Rattle.page_store.proofs.pages.Pages.write_extent.Goals as goal
 
@@ -11,11 +11,11 @@ returns-in_err-write-clause-journal g c = c.in_err-write.ensures.between.elsewhe
 
 pub returns-in_err-write-clause-images : goal.returns-in_err-write-clause-images
 returns-in_err-write-clause-images g c = λ tells.
-    changes_extent c.args.extent _ _ c.start.ensures c.requires (changes_written (c.write.ensures.images tells) (λ a. g.met.D.Disk.stable_bytes _ a tells))
+    changes_written c.args.extent c.start.ensures c.requires (c.write.ensures.images tells) (λ a. g.met.D.Disk.stable_bytes _ a tells)
 
 pub returns-clause-images : goal.returns-clause-images
 returns-clause-images g c = λ tells.
-    changes_extent c.args.extent _ _ c.start.ensures c.requires (changes_written (c.write.ensures.images tells) (λ a. g.met.D.Disk.stable_bytes _ a tells))
+    changes_written c.args.extent c.start.ensures c.requires (c.write.ensures.images tells) (λ a. g.met.D.Disk.stable_bytes _ a tells)
 
 pub returns-clause-wrote : goal.returns-clause-wrote
-returns-clause-wrote g c = λ tells. written_piece (record { extent = c.args.extent; bytes = c.args.bytes.now }) _ _ _ _ c.requires c.start.ensures (λ i. c.args.bytes.now) (c.in_ok-write.ensures.holds tells)
+returns-clause-wrote g c = λ tells. written_piece (record { extent = c.args.extent; bytes = c.args.bytes.now }) _ _ _ c.requires c.start.ensures (c.in_ok-write.ensures.holds tells)
