@@ -1,47 +1,31 @@
 -- Ascending times by their places.
-use Rattle.std.specs.Prelude.{◌≡◌, ◌⊎◌, ℕ, zero, suc, ◌+◌, ◌<◌, ◌≤◌, List, map, length, get_or, slice_index, Contains}
+use Rattle.std.specs.Prelude.{◌≡◌, ◌⊎◌, ℕ, ◌+◌, ◌-◌, ◌<◌, ◌≤◌, nat_le, List, map, length, get_or, slice_index, Contains}
+use Rattle.std.specs.List.{prefix_len}
 use Rattle.std.specs.List.Sorted.{IsStrictlyIncreasing, IsNonDecreasing}
-use Rattle.std.proofs.Common.{arith, ap, sym, ◌∙◌, subst, inl, inr}
-use Rattle.std.proofs.lemmas.Bool.{cases_lt}
+use Rattle.std.proofs.Common.{arith, sym, ◌∙◌, subst, inl, inr}
+use Rattle.std.proofs.lemmas.Bool.{cases_lt, leb-true, leb-false}
 use Rattle.std.proofs.lemmas.Grind.{get_or_default_zero}
 use Rattle.std.proofs.lemmas.List.{get_or-map, length-map}
 use Rattle.std.proofs.lemmas.List.Elements.{Contains-get_or}
-use Rattle.std.proofs.lemmas.List.Sorted.{IsNonDecreasingBy-from_default}
 use Rattle.std.proofs.lemmas.List.Kept.{AllPairs-from_increasing}
+use Rattle.std.proofs.lemmas.List.Sums.{prefix_len-le-length, prefix_len_passes, prefix_len_stops}
+use Rattle.std.proofs.lemmas.Map.Keys.{sorted_from_strictly_increasing, non_decreasing_from_sorted}
 
 pub rises : (xs : List ℕ) → IsStrictlyIncreasing xs → (j k : ℕ) → j < k → k < length xs → slice_index xs j < slice_index xs k
 rises xs up j k lt l = AllPairs-from_increasing xs up j k 0 lt l
 
-pub not_falling : (xs : List ℕ) → IsStrictlyIncreasing xs → (j k : ℕ) → j ≤ k → k < length xs → slice_index xs j ≤ slice_index xs k
-not_falling xs up j k le l = go (cases_lt j k)
-  where
-    go : ((j < k) ⊎ (k ≤ j)) → slice_index xs j ≤ slice_index xs k
-    go (inl lt) = omega (arith, rises xs up j k lt l)
-    go (inr ge) = let e : j ≡ k = omega arith in omega (arith, ap (λ n. slice_index xs n) e)
-
 pub not_falling_by : (xs : List ℕ) → IsStrictlyIncreasing xs → IsNonDecreasing xs
-not_falling_by xs up = IsNonDecreasingBy-from_default (λ x. x) xs 0 (λ i j le l. not_falling xs up i j le l)
+not_falling_by xs up = non_decreasing_from_sorted xs (sorted_from_strictly_increasing xs up)
+
+pub not_falling : (xs : List ℕ) → IsStrictlyIncreasing xs → (j k : ℕ) → j ≤ k → k < length xs → slice_index xs j ≤ slice_index xs k
+not_falling xs up j k le l = not_falling_by xs up j k 0 le l
 
 -- a lower time stands at a lower place
 pub place_below : (xs : List ℕ) → IsStrictlyIncreasing xs → (j k : ℕ) → j < length xs → slice_index xs j < slice_index xs k → j < k
-place_below xs up j k l lt = go (cases_lt j k)
-  where
-    go : ((j < k) ⊎ (k ≤ j)) → j < k
-    go (inl h) = h
-    go (inr ge) = absurd (omega (arith, not_falling xs up k j ge l))
+place_below xs up j k l lt = grind (arith, not_falling xs up k j)
 
 pub place_to : (xs : List ℕ) → IsStrictlyIncreasing xs → (j k : ℕ) → j < length xs → slice_index xs j ≤ slice_index xs k → j ≤ k
-place_to xs up j k l le = go (cases_lt k j)
-  where
-    go : ((k < j) ⊎ (j ≤ k)) → j ≤ k
-    go (inl h) = absurd (omega (arith, rises xs up k j h l))
-    go (inr ge) = ge
-
-pub one_place : (xs : List ℕ) → IsStrictlyIncreasing xs → (j k : ℕ) → j < length xs → k < length xs → slice_index xs j ≡ slice_index xs k → j ≡ k
-one_place xs up j k l m e =
-    let a : j ≤ k = place_to xs up j k l (omega arith) in
-    let b : k ≤ j = place_to xs up k j m (omega arith) in
-    omega arith
+place_to xs up j k l le = grind (arith, rises xs up k j)
 
 pub place_of : (xs : List ℕ) (x : ℕ) → Contains xs x → (k : ℕ) × (k < length xs) × (slice_index xs k ≡ x)
 place_of xs x (k, l, e) = (k, l, sym (get_or_default_zero xs k x l) ∙ e)
@@ -56,33 +40,29 @@ contains_map f xs k d l =
 
 -- no time of the list lies between neighbours
 pub apart : (xs : List ℕ) → IsStrictlyIncreasing xs → (k x : ℕ) → k + 1 < length xs → Contains xs x → (x ≤ slice_index xs k) ⊎ (slice_index xs (k + 1) ≤ x)
-apart xs up k x l c = go (place_of xs x c)
-  where
-    split : (i : ℕ) → i < length xs → slice_index xs i ≡ x → (k < i) ⊎ (i ≤ k) → (x ≤ slice_index xs k) ⊎ (slice_index xs (k + 1) ≤ x)
-    split i m e (inl lt) = inr (omega (arith, not_falling xs up (k + 1) i (omega arith) m))
-    split i m e (inr ge) = inl (omega (arith, not_falling xs up i k ge (omega arith)))
+apart xs up k x l c = let (i, m, e) = place_of xs x c in elim (cases_lt k i) [
+  | inl lt ↦ inr (omega (arith, not_falling xs up (k + 1) i (omega arith) m))
+  | inr ge ↦ inl (omega (arith, not_falling xs up i k ge (omega arith)))
+]
 
-    go : ((i : ℕ) × (i < length xs) × (slice_index xs i ≡ x)) → (x ≤ slice_index xs k) ⊎ (slice_index xs (k + 1) ≤ x)
-    go (i, m, e) = split i m e (cases_lt k i)
+-- j is the place of the last of the times that is not after t
+pub record IsFloor (times : List ℕ) (t j : ℕ) : Type 0 where
+  pub inside : j < length times
+  pub at : slice_index times j ≤ t
+  pub above : (k : ℕ) → j < k → k < length times → t < slice_index times k
 
--- two different times
-pub two_times : (xs : List ℕ) (x y : ℕ) → x < y → Contains xs x → Contains xs y → 2 ≤ length xs
-two_times xs x y lt c d = go (place_of xs x c) (place_of xs y d) (cases_lt (length xs) 2)
-  where
-    go : ((i : ℕ) × (i < length xs) × (slice_index xs i ≡ x)) → ((i : ℕ) × (i < length xs) × (slice_index xs i ≡ y)) → ((length xs < 2) ⊎ (2 ≤ length xs)) → 2 ≤ length xs
-    go (i, l, e) (j, m, f) (inl h) = let s : i ≡ j = omega arith in absurd (omega (arith, ap (λ n. slice_index xs n) s))
-    go a b (inr h) = h
-
--- the interval between neighbours that holds a time
-pub floor : (xs : List ℕ) (j k t : ℕ) → j < k → slice_index xs j ≤ t → t < slice_index xs k → (i : ℕ) × (j ≤ i) × (i < k) × (slice_index xs i ≤ t) × (t < slice_index xs (i + 1))
-floor xs j zero t lt le less = absurd (omega arith)
-floor xs j (suc k) t lt le less = go (λ below h. floor xs j k t below le h) (cases_lt t (slice_index xs k)) (cases_lt j k)
-  where
-    wider : ((i : ℕ) × (j ≤ i) × (i < k) × (slice_index xs i ≤ t) × (t < slice_index xs (i + 1))) → (i : ℕ) × (j ≤ i) × (i < suc k) × (slice_index xs i ≤ t) × (t < slice_index xs (i + 1))
-    wider (i, a, b, c, d) = (i, a, omega arith, c, d)
-
-    go : (j < k → t < slice_index xs k → (i : ℕ) × (j ≤ i) × (i < k) × (slice_index xs i ≤ t) × (t < slice_index xs (i + 1)))
-        → ((t < slice_index xs k) ⊎ (slice_index xs k ≤ t)) → ((j < k) ⊎ (k ≤ j)) → (i : ℕ) × (j ≤ i) × (i < suc k) × (slice_index xs i ≤ t) × (t < slice_index xs (i + 1))
-    go lower (inl h) (inl below) = wider (lower below h)
-    go lower (inl h) (inr at) = let e : j ≡ k = omega arith in absurd (omega (arith, ap (λ n. slice_index xs n) e))
-    go lower (inr h) s = (k, omega arith, omega arith, h, let e : suc k ≡ k + 1 = omega arith in subst (λ n. t < slice_index xs n) e less)
+-- there is one, unless t is before them all
+pub floor_of : (xs : List ℕ) → IsStrictlyIncreasing xs → (t : ℕ) → 0 < length xs → slice_index xs 0 ≤ t → (j : ℕ) × IsFloor xs t j
+floor_of xs up t some le =
+    let n : ℕ = prefix_len (λ x. nat_le x t) xs in
+    let stops : n < length xs → t < slice_index xs n = λ l. leb-false _ _ (prefix_len_stops (λ x. nat_le x t) xs 0 l) in
+    let first : n < length xs → 0 < n = λ l. place_below xs up 0 n some (omega (arith, stops l)) in
+    let within : n ≤ length xs = prefix_len-le-length (λ x. nat_le x t) xs in
+    let front : 0 < n = grind (arith, first) in (
+      n - 1,
+      record {
+        inside = omega arith;
+        at = leb-true _ _ (prefix_len_passes (λ x. nat_le x t) xs (n - 1) 0 (omega arith));
+        above = λ k a l. omega (arith, stops (omega arith), not_falling xs up n k (omega arith) l);
+      },
+    )

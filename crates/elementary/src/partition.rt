@@ -6,7 +6,7 @@ ghost use Rattle.elementary.specs.Counts.{Tabulates, AdmissibleBetween};
 ghost use Rattle.postings.specs.Sizes.{size};
 ghost use Rattle.elementary.specs.Partitions.{IsPartition, IsInSegment, IsFitting, IsAdmissible, Covers, space, sizes};
 
-use crate::sorting::{first_after, first_from, is_at, place_after};
+use crate::sorting::{first_after, first_from, is_at};
 use crate::table::Table;
 use std::alloc::{AllocError, Global};
 use std::marker::Model;
@@ -159,9 +159,9 @@ fn are_among(times: &[u64], cuts: &[u64]) -> bool
     ensures { IsTrue result ↔ All (Contains times.now) cuts.now }
 {
     let mut at = 0;
-    for k in 1..cuts.len() {
-        at = first_from(times, at, cuts[k]);
-        if !is_at(times, at, cuts[k]) {
+    for k in 0..cuts.len() - 1 {
+        at = first_from(times, at, cuts[k + 1]);
+        if !is_at(times, at, cuts[k + 1]) {
             return false;
         }
     }
@@ -209,6 +209,21 @@ fn is_admissible_between(table: &Table, factor: Fraction, j: usize, k: usize) ->
     true
 }
 
+/// The place among the boundaries of the cut after cut `k`, which stands at place `at`. Costs time in the
+/// boundaries between.
+fn next_place(table: &Table, cuts: &[u64], k: usize, at: usize) -> usize
+    requires ascending { IsStrictlyIncreasing cuts.now }
+    requires among { All (Contains table.now.boundaries) cuts.now }
+    requires more { k + 1 < length cuts.now }
+    requires inside { at < length table.now.boundaries }
+    requires here { slice_index table.now.boundaries at ≡ slice_index cuts.now k }
+    ensures after { at < result }
+    ensures inside { result < length table.now.boundaries }
+    ensures there { slice_index table.now.boundaries result ≡ slice_index cuts.now (k + 1) }
+{
+    first_from(table.boundaries(), at, cuts[k + 1])
+}
+
 /// Whether each segment between the cuts is admissible. Costs time in the boundaries.
 fn are_admissible(table: &Table, factor: Fraction, cuts: &[u64]) -> bool
     requires ascending { IsStrictlyIncreasing cuts.now }
@@ -217,10 +232,9 @@ fn are_admissible(table: &Table, factor: Fraction, cuts: &[u64]) -> bool
     requires inside { All (Contains table.now.boundaries) cuts.now }
     ensures { (list : List Posting) (horizon : ℕ) → Tabulates list horizon table.now → (IsTrue result ↔ Covers list factor (slice_index cuts.now 0) (drop 1 cuts.now) (slice_index cuts.now (length cuts.now - 1))) }
 {
-    let times = table.boundaries();
     let mut at = 0;
-    for k in 1..cuts.len() {
-        let next = place_after(times, at, cuts[k]);
+    for k in 0..cuts.len() - 1 {
+        let next = next_place(table, cuts, k, at);
         if !is_admissible_between(table, factor, at, next) {
             return false;
         }
@@ -238,11 +252,10 @@ fn space_between(table: &Table, cuts: &[u64]) -> u128
     ensures value { (list : List Posting) (horizon : ℕ) → Tabulates list horizon table.now → result ≡ space list (slice_index cuts.now 0) (drop 1 cuts.now) }
     ensures bound { result ≤ (length cuts.now - 1) * 2 ^ 38 }
 {
-    let times = table.boundaries();
     let mut at = 0;
     let mut total = 0;
-    for k in 1..cuts.len() {
-        let next = place_after(times, at, cuts[k]);
+    for k in 0..cuts.len() - 1 {
+        let next = next_place(table, cuts, k, at);
         total += u128::from(table.size(at, next));
         at = next;
     }
@@ -258,11 +271,10 @@ fn sizes_between(alloc: Global, table: &Table, cuts: &[u64]) -> Result<Vec<u64>,
     ensures many { IfOk result (λ v. length cuts.now ≡ length v.items + 1) }
     ensures value { IfOk result (λ v. (list : List Posting) (horizon : ℕ) → Tabulates list horizon table.now → v.items ≡ sizes list (slice_index cuts.now 0) (drop 1 cuts.now)) }
 {
-    let times = table.boundaries();
     let mut at = 0;
     let mut sizes = Vec::with_capacity(alloc, cuts.len() - 1)?;
-    for k in 1..cuts.len() {
-        let next = place_after(times, at, cuts[k]);
+    for k in 0..cuts.len() - 1 {
+        let next = next_place(table, cuts, k, at);
         sizes.push(table.size(at, next))?;
         at = next;
     }

@@ -55,9 +55,9 @@ pub fn reaches(alloc: Global, table: &Table, factor: Fraction) -> Result<Vec<usi
     let mut window = WindowMin::new(alloc);
     let mut lows = Vec::with_capacity(alloc, boundaries)?;
     lows.push(0)?;
-    for k in 1..boundaries {
-        window.push(u128::from(table.alive(k - 1)))?;
-        reach_to(table, factor, k, &mut window);
+    for k in 0..boundaries - 1 {
+        window.push(u128::from(table.alive(k)))?;
+        reach_to(table, factor, k + 1, &mut window);
         lows.push(window.from())?;
     }
     Ok(lows)

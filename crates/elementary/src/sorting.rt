@@ -1,27 +1,29 @@
 //! Numbers in order, and how many of them lie on one side of a number.
-ghost use Rattle.std.specs.Prelude.{◌≡◌, ◌↔◌, ℕ, ◌<◌, ◌≤◌, ◌∷◌, ◌++◌, IfOk, IsTrue, nat_le, nat_lt, count_by, map, length, slice_index, Contains};
+ghost use Rattle.std.specs.Prelude.{◌≡◌, ◌↔◌, ℕ, ◌<◌, ◌≤◌, IfOk, IsTrue, nat_le, nat_lt, count_by, map, length, slice_index, Contains};
 ghost use Rattle.std.specs.List.Sorted.{IsNonDecreasing, IsStrictlyIncreasing, IsSorted, IsPermutation};
 ghost use Rattle.std.specs.Ordering.{nat_cmp};
+ghost use Rattle.postings.specs.Sizes.{begun, ended};
+ghost use Rattle.elementary.specs.Boundaries.{AreBoundaries};
 
 use std::alloc::{AllocError, Global};
 use time_base::Posting;
 
 /// When the postings begin.
-pub(crate) fn starts_of(alloc: Global, list: &[Posting]) -> Result<Vec<u64>, AllocError>
+fn starts_of(alloc: Global, list: &[Posting]) -> Result<Vec<u64>, AllocError>
     ensures { IfOk result (λ v. v.items ≡ map (λ p. p.span.from) list.now) }
 {
     list.iter().map(|p| p.span.from).collect(alloc)
 }
 
 /// When the postings end.
-pub(crate) fn stops_of(alloc: Global, list: &[Posting]) -> Result<Vec<u64>, AllocError>
+fn stops_of(alloc: Global, list: &[Posting]) -> Result<Vec<u64>, AllocError>
     ensures { IfOk result (λ v. v.items ≡ map (λ p. p.span.to) list.now) }
 {
     list.iter().map(|p| p.span.to).collect(alloc)
 }
 
 /// The numbers, ascending.
-pub(crate) fn sorted(numbers: Vec<u64>) -> Vec<u64>
+fn sorted(numbers: Vec<u64>) -> Vec<u64>
     ensures ascending { IsNonDecreasing result.items }
     ensures sorted { IsSorted nat_cmp result.items }
     ensures same { IsPermutation numbers.items result.items }
@@ -84,25 +86,8 @@ pub(crate) fn is_at(numbers: &[u64], place: usize, t: u64) -> bool
     numbers[place] == t
 }
 
-/// The place of `t` among the ascending numbers, after place `at`. Costs time in the numbers between.
-pub(crate) fn place_after(numbers: &[u64], at: usize, t: u64) -> usize
-    requires ascending { IsStrictlyIncreasing numbers.now }
-    requires on { at < length numbers.now }
-    requires before { slice_index numbers.now at < t }
-    requires there { Contains numbers.now t }
-    ensures after { at < result }
-    ensures inside { result < length numbers.now }
-    ensures value { slice_index numbers.now result ≡ t }
-{
-    first_from(numbers, at, t)
-}
-
 /// For each time, how many of the ascending numbers are below it.
-pub(crate) fn counts_below(
-    alloc: Global,
-    numbers: &[u64],
-    times: &[u64],
-) -> Result<Vec<u64>, AllocError>
+fn counts_below(alloc: Global, numbers: &[u64], times: &[u64]) -> Result<Vec<u64>, AllocError>
     requires { IsNonDecreasing numbers.now }
     ensures { IfOk result (λ v. v.items ≡ map (λ t. count_by (λ x. nat_lt x t) numbers.now) times.now) }
 {
@@ -113,32 +98,50 @@ pub(crate) fn counts_below(
 }
 
 /// For each time, how many of the ascending numbers are at most it.
-pub(crate) fn counts_to(
-    alloc: Global,
-    numbers: &[u64],
-    times: &[u64],
-) -> Result<Vec<u64>, AllocError>
+fn counts_to(alloc: Global, numbers: &[u64], times: &[u64]) -> Result<Vec<u64>, AllocError>
     requires { IsNonDecreasing numbers.now }
     ensures { IfOk result (λ v. v.items ≡ map (λ t. count_by (λ x. nat_le x t) numbers.now) times.now) }
 {
     times.iter().map(|t| count_to(numbers, *t)).collect(alloc)
 }
 
-/// The distinct numbers among `first`, the starts and the stops, ascending.
-pub(crate) fn distinct(
+/// The boundaries of the list in seconds, ascending. Costs time in `n log n` for `n` postings.
+pub(crate) fn boundaries_of(
     alloc: Global,
-    first: u64,
-    starts: &[u64],
-    stops: &[u64],
+    list: &[Posting],
+    horizon: u64,
 ) -> Result<Vec<u64>, AllocError>
-    ensures ascending { IfOk result (λ v. IsStrictlyIncreasing v.items) }
-    ensures each { IfOk result (λ v. (t : ℕ) → Contains v.items t ↔ Contains (first ∷ (starts.now ++ stops.now)) t) }
+    ensures { IfOk result (λ v. AreBoundaries list.now horizon v.items) }
 {
-    let mut all = Vec::new(alloc);
-    all.push(first)?;
-    all.extend_from_slice(starts)?;
-    all.extend_from_slice(stops)?;
-    let mut all = sorted(all);
-    all.dedup();
-    Ok(all)
+    let mut times = Vec::new(alloc);
+    times.push(horizon)?;
+    times.extend_from_slice(&starts_of(alloc, list)?)?;
+    times.extend_from_slice(&stops_of(alloc, list)?)?;
+    let mut times = sorted(times);
+    times.dedup();
+    Ok(times)
+}
+
+/// For each time, how many postings begin before it. Costs time in `n log n` for `n` postings and times.
+pub(crate) fn begun_at(
+    alloc: Global,
+    list: &[Posting],
+    times: &[u64],
+) -> Result<Vec<u64>, AllocError>
+    ensures { IfOk result (λ v. v.items ≡ map (λ t. begun t list.now) times.now) }
+{
+    let starts = sorted(starts_of(alloc, list)?);
+    counts_below(alloc, &starts, times)
+}
+
+/// For each time, how many postings have ended at it. Costs time in `n log n` for `n` postings and times.
+pub(crate) fn ended_at(
+    alloc: Global,
+    list: &[Posting],
+    times: &[u64],
+) -> Result<Vec<u64>, AllocError>
+    ensures { IfOk result (λ v. v.items ≡ map (λ t. ended t list.now) times.now) }
+{
+    let stops = sorted(stops_of(alloc, list)?);
+    counts_to(alloc, &stops, times)
 }

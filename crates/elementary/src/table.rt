@@ -5,7 +5,7 @@ ghost use Rattle.time_base.specs.declared.posting.Posting.{Posting};
 ghost use Rattle.postings.specs.Sizes.{size, alive_count};
 ghost use Rattle.elementary.specs.Counts.{Tabulates, AreOrdered, size_between, alive_in};
 
-use crate::sorting::{counts_below, counts_to, distinct, sorted, starts_of, stops_of};
+use crate::sorting::{begun_at, boundaries_of, ended_at};
 use std::alloc::{AllocError, Global};
 use std::marker::Model;
 use time_base::{Posting, Time};
@@ -39,13 +39,9 @@ impl Table {
         requires early { All (λ p. p.span.to ≤ horizon.seconds) list.now }
         ensures { IfOk result (Tabulates list.now horizon.seconds) }
     {
-        let starts = starts_of(alloc, list)?;
-        let stops = stops_of(alloc, list)?;
-        let boundaries = distinct(alloc, horizon.seconds(), &starts, &stops)?;
-        let starts = sorted(starts);
-        let stops = sorted(stops);
-        let begun = counts_below(alloc, &starts, &boundaries)?;
-        let ended = counts_to(alloc, &stops, &boundaries)?;
+        let boundaries = boundaries_of(alloc, list, horizon.seconds())?;
+        let begun = begun_at(alloc, list, &boundaries)?;
+        let ended = ended_at(alloc, list, &boundaries)?;
         Ok(Table {
             boundaries,
             begun,

@@ -1,3 +1,2 @@
-mod BestLeft
 mod Settling
 mod Ways

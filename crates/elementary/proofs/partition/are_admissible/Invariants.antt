@@ -1,4 +1,4 @@
-use Rattle.std.proofs.Common.{◌≡◌, ◌↔◌, ℕ, ◌-◌, ◌<◌, ◌≤◌, List, length, drop}
+use Rattle.std.proofs.Common.{◌≡◌, ◌↔◌, ℕ, ◌+◌, ◌-◌, ◌<◌, List, length, drop}
 use Rattle.std.specs.Prelude.{slice_index}
 use Rattle.time_base.specs.declared.posting.Posting.{Posting}
 use Rattle.elementary.specs.Counts.{Tabulates}
@@ -7,9 +7,8 @@ use Rattle.elementary.proofs.partition.are_admissible.Given as goal
 
 abbrev pub invariant-loop-k : goal.invariant-loop-k
 invariant-loop-k l = record {
-  some : 1 ≤ l.k;
-  inside : l.at < length l.times;
-  at : slice_index l.times l.at ≡ slice_index l.cuts (l.k - 1);
+  inside : l.at < length l.table.boundaries;
+  here : slice_index l.table.boundaries l.at ≡ slice_index l.cuts l.k;
   left : (list : List Posting) (horizon : ℕ) → Tabulates list horizon l.table
-      → Covers list l.factor (slice_index l.cuts (l.k - 1)) (drop l.k l.cuts) (slice_index l.cuts (length l.cuts - 1)) ↔ Covers list l.factor (slice_index l.cuts 0) (drop 1 l.cuts) (slice_index l.cuts (length l.cuts - 1));
+      → Covers list l.factor (slice_index l.cuts l.k) (drop (l.k + 1) l.cuts) (slice_index l.cuts (length l.cuts - 1)) ↔ Covers list l.factor (slice_index l.cuts 0) (drop 1 l.cuts) (slice_index l.cuts (length l.cuts - 1));
 }

@@ -1,11 +1,10 @@
-use Rattle.std.proofs.Common.{◌≡◌, ℕ, ◌-◌, ◌<◌, ◌≤◌, length}
+use Rattle.std.proofs.Common.{◌≡◌, ℕ, ◌+◌, ◌<◌, length}
 use Rattle.std.specs.Prelude.{Contains, slice_index}
 use Rattle.elementary.proofs.partition.are_among.Given as goal
 
 abbrev pub invariant-loop-k : goal.invariant-loop-k
 invariant-loop-k l = record {
-  some : 1 ≤ l.k;
   inside : l.at < length l.times;
-  at : slice_index l.times l.at ≡ slice_index l.cuts (l.k - 1);
-  among : (m : ℕ) → m < l.k → Contains l.times (slice_index l.cuts m);
+  here : slice_index l.times l.at ≡ slice_index l.cuts l.k;
+  among : (m : ℕ) → m < l.k + 1 → Contains l.times (slice_index l.cuts m);
 }

@@ -1,11 +1,15 @@
-use Rattle.elementary.proofs.Cuts.{segment_found, segment_not_out}
+use Rattle.std.proofs.Common.{arith, ◌≡◌, ◌+◌, ◌-◌, length, inl, inr}
 use Rattle.elementary.proofs.partition.segment_in.Goals as goal
 
 pub returns-clause-some : goal.returns-clause-some
-returns-clause-some c = segment_found c.args.cuts.now c.args.t c.first_after-next.result c.first_after-next.ensures.below c.first_after-next.ensures.above c.if-next-eq0.false c.if-next-cuts.false c.first_after-next.ensures.inside
+returns-clause-some c = let e : c.first_after-next.result - 1 + 1 ≡ c.first_after-next.result = omega arith in record {
+  inside = omega arith;
+  from = c.first_after-next.ensures.below (c.first_after-next.result - 1) (omega arith);
+  to = rw e (c.first_after-next.ensures.above c.first_after-next.result (omega arith) (omega arith));
+}
 
 pub returns-clause-none : goal.returns-clause-none
 returns-clause-none c = (
   λ e. cc,
-  λ s. absurd (segment_not_out c.args.cuts.now c.args.t c.first_after-next.result c.first_after-next.ensures.below c.first_after-next.ensures.above c.if-next-eq0.false c.if-next-cuts.false c.first_after-next.ensures.inside s),
+  λ s. absurd (elim s [ inl h ↦ omega (arith, c.first_after-next.ensures.below 0 (omega arith)) | inr h ↦ omega (arith, c.first_after-next.ensures.above (length c.args.cuts.now - 1) (omega arith) (omega arith)) ]),
 )

@@ -1,4 +1,4 @@
-use Rattle.std.proofs.Common.{◌≡◌, ℕ, ◌+◌, ◌-◌, ◌<◌, ◌≤◌, ◌++◌, List, drop, length}
+use Rattle.std.proofs.Common.{◌≡◌, ℕ, ◌+◌, ◌<◌, ◌++◌, List, drop, length}
 use Rattle.std.specs.Prelude.{slice_index}
 use Rattle.time_base.specs.declared.posting.Posting.{Posting}
 use Rattle.elementary.specs.Counts.{Tabulates}
@@ -7,11 +7,9 @@ use Rattle.elementary.proofs.partition.sizes_between.Given as goal
 
 abbrev pub invariant-loop-k : goal.invariant-loop-k
 invariant-loop-k l = record {
-  some : 1 ≤ l.k;
-  within : l.k ≤ length l.cuts;
-  many : length l.sizes.items + 1 ≡ l.k;
-  inside : l.at < length l.times;
-  at : slice_index l.times l.at ≡ slice_index l.cuts (l.k - 1);
+  many : length l.sizes.items ≡ l.k;
+  inside : l.at < length l.table.boundaries;
+  here : slice_index l.table.boundaries l.at ≡ slice_index l.cuts l.k;
   left : (list : List Posting) (horizon : ℕ) → Tabulates list horizon l.table
-      → l.sizes.items ++ sizes list (slice_index l.cuts (l.k - 1)) (drop l.k l.cuts) ≡ sizes list (slice_index l.cuts 0) (drop 1 l.cuts);
+      → l.sizes.items ++ sizes list (slice_index l.cuts l.k) (drop (l.k + 1) l.cuts) ≡ sizes list (slice_index l.cuts 0) (drop 1 l.cuts);
 }

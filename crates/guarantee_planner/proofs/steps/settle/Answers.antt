@@ -1,13 +1,11 @@
-use Rattle.std.proofs.Common.{arith, ap, sym, ◌∙◌, subst, refl, List, [], ◌∷◌, ◌++◌, ℕ, ◌≡◌, ◌+◌, ◌-◌, ◌<◌, length, length-set, take, set}
+use Rattle.std.proofs.Common.{arith, ap, ◌∙◌, refl, List, [], ◌∷◌, ◌++◌, ℕ, ◌≡◌, ◌+◌, ◌-◌, ◌<◌, length, length-set, take}
 use Rattle.std.specs.Prelude.{slice_index}
 use Rattle.std.proofs.lemmas.Grind.{get_or_default_zero}
 use Rattle.std.proofs.lemmas.List.{take_more_set, take_all, get_or-set_other}
 use Rattle.elementary.specs.Counts.{size_between}
-use Rattle.plan_certificate.specs.Lefts.{cost_to_end, IsCheapest}
-use Rattle.window_min.specs.Windows.{IsOver}
-use Rattle.guarantee_planner.specs.Steps.{AreSettled, IsBestLeft}
-use Rattle.guarantee_planner.proofs.BestLeft.{best_is, costs_kept}
-use Rattle.guarantee_planner.proofs.Settling.{settled_first, settled_more, one_taken}
+use Rattle.plan_certificate.specs.Lefts.{cost_to_end}
+use Rattle.guarantee_planner.specs.Steps.{IsBestLeft}
+use Rattle.guarantee_planner.proofs.Settling.{best_is, costs_kept, settled_first, settled_more, one_taken}
 use Rattle.guarantee_planner.proofs.steps.settle.Goals as goal
 
 pub loop-k-init : goal.loop-k-init
@@ -26,30 +24,25 @@ pub loop-k-preserved : goal.loop-k-preserved
 loop-k-preserved c =
     let l : c.loop-k.k < length c.args.table.now.boundaries = omega (arith, c.loop-k-test.true, ap length c.boundaries-boundaries.ensures.value) in
     let m : c.loop-k.k < length c.loop-k.lefts.items = omega (arith, l, c.loop-k.invariant.long, c.in_ok-lefts.ensures.long) in
-    let here : c.loop-k.k ≡ c.loop-k.k + 1 - 1 = omega arith in
-    let low : c.index-low.result.now ≡ slice_index c.in_ok-lefts.lefts.items c.loop-k.k =
-    c.index-low.ensures ∙ (get_or_default_zero c.loop-k.lefts.items c.loop-k.k c.index-low.result.now m ∙ c.loop-k.invariant.lows c.loop-k.k (omega arith)) in
-    let s : IsCheapest c.args.table.now c.loop-k.pi.items c.index-low.result.now c.loop-k.k c.in_ok-left.left =
-    subst (λ (p : List ℕ). IsCheapest c.args.table.now p c.index-low.result.now c.loop-k.k c.in_ok-left.left) c.deref.ensures.value c.in_ok-left.ensures.cheapest in
+    let low : c.index-low.result.now ≡ slice_index c.in_ok-lefts.lefts.items c.loop-k.k = omega (arith, c.index-low.ensures, get_or_default_zero c.loop-k.lefts.items c.loop-k.k c.index-low.result.now m, c.loop-k.invariant.lows c.loop-k.k (omega arith)) in
     let b : IsBestLeft c.args.table.now c.args.factor c.loop-k.pi.items c.loop-k.k c.in_ok-left.left =
-    best_is c.args.table.now c.args.factor c.loop-k.pi.items c.in_ok-lefts.lefts.items c.loop-k.k c.index-low.result.now c.in_ok-left.left c.loop-k.invariant.some l c.in_ok-lefts.ensures low s in
+    best_is c.args.table.now c.args.factor c.loop-k.pi.items c.in_ok-lefts.lefts.items c.loop-k.k c.index-low.result.now c.in_ok-left.left c.loop-k.invariant.some l c.in_ok-lefts.ensures low (rw c.deref.ensures.value at c.in_ok-left.ensures.cheapest) in
     let e : c.index.result.now + c.size.result ≡ slice_index c.loop-k.pi.items c.in_ok-left.left + size_between c.args.table.now c.in_ok-left.left c.loop-k.k =
     omega (arith, c.index.ensures, get_or_default_zero c.loop-k.pi.items c.in_ok-left.left c.index.result.now (omega (arith, b.before, c.loop-k.invariant.settled.pi_long)), c.size.ensures.value) in
+    let here : c.loop-k.k + 1 - 1 ≡ c.loop-k.k = omega arith in
     record {
       some = omega arith;
       long = omega (arith, length-set c.loop-k.lefts.items c.loop-k.k c.in_ok-left.left, c.loop-k.invariant.long);
       lows = λ n a. get_or-set_other c.loop-k.lefts.items c.loop-k.k n c.in_ok-left.left 0 (omega arith) ∙ c.loop-k.invariant.lows n (omega arith);
-      settled = subst (λ (p : List ℕ). AreSettled c.args.table.now c.args.factor p (take (c.loop-k.k + 1) (set c.loop-k.lefts.items c.loop-k.k c.in_ok-left.left)) (c.loop-k.k + 1)) (sym c.in_ok-push-2.ensures.items)
-          (subst (λ (p : List ℕ). AreSettled c.args.table.now c.args.factor (c.loop-k.pi.items ++ (c.index.result.now + c.size.result) ∷ []) p (c.loop-k.k + 1)) (sym (take_more_set c.loop-k.lefts.items c.loop-k.k c.in_ok-left.left m))
-          (settled_more c.args.table.now c.args.factor c.loop-k.pi.items (take c.loop-k.k c.loop-k.lefts.items) c.loop-k.k c.in_ok-left.left (c.index.result.now + c.size.result) c.loop-k.invariant.some c.loop-k.invariant.settled b e (omega (arith, c.size.ensures.value, c.size.ensures.bound))));
+      settled = rw (c.in_ok-push-2.ensures.items, take_more_set c.loop-k.lefts.items c.loop-k.k c.in_ok-left.left m)
+          (settled_more c.args.table.now c.args.factor c.loop-k.pi.items (take c.loop-k.k c.loop-k.lefts.items) c.loop-k.k c.in_ok-left.left (c.index.result.now + c.size.result) c.loop-k.invariant.some c.loop-k.invariant.settled b e (omega (arith, c.size.ensures.value, c.size.ensures.bound)));
       costs = costs_kept c.args.table.now c.loop-k.pi.items c.push-in-loop-k.new.self.items c.cheapest_left.new.window c.loop-k.k (c.index.result.now + c.size.result) c.loop-k.invariant.settled.pi_long c.in_ok-left.ensures.next c.in_ok-push-2.ensures.items
-          (subst (λ (p : List ℕ). IsOver (cost_to_end c.args.table.now p) c.cheapest_left.new.window) c.deref.ensures.value c.in_ok-left.ensures.costs);
+          (rw c.deref.ensures.value at c.in_ok-left.ensures.costs);
       next = omega (arith, c.in_ok-left.ensures.next);
-      from = subst (λ n. c.cheapest_left.new.window.from ≡ slice_index c.in_ok-lefts.lefts.items n) here (c.in_ok-left.ensures.from ∙ low);
+      from = rw here (c.in_ok-left.ensures.from ∙ low);
     }
 
 pub returns : goal.returns
 returns c =
     let n : c.loop-k.k ≡ length c.args.table.now.boundaries = omega (arith, c.loop-k-test.false, c.loop-k.auto.k-end, c.boundaries-boundaries.ensures.many, ap length c.boundaries-boundaries.ensures.value) in
-    subst (λ (p : List ℕ). AreSettled c.args.table.now c.args.factor c.loop-k.pi.items p (length c.args.table.now.boundaries)) (take_all c.loop-k.k c.loop-k.lefts.items (omega (arith, n, c.loop-k.invariant.long, c.in_ok-lefts.ensures.long)))
-    (subst (λ n. AreSettled c.args.table.now c.args.factor c.loop-k.pi.items (take c.loop-k.k c.loop-k.lefts.items) n) n c.loop-k.invariant.settled)
+    rw (← n, ← take_all c.loop-k.k c.loop-k.lefts.items (omega (arith, n, c.loop-k.invariant.long, c.in_ok-lefts.ensures.long))) c.loop-k.invariant.settled

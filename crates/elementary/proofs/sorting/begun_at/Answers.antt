@@ -1,0 +1,8 @@
+use Rattle.std.proofs.Common.{nat_lt}
+use Rattle.time_base.specs.declared.posting.Posting.{Posting}
+use Rattle.elementary.proofs.Sums.{counted}
+use Rattle.elementary.proofs.sorting.begun_at.Goals as goal
+
+pub returns : goal.returns
+returns c =
+    rw (counted nat_lt (λ (p : Posting). p.span.from) c.args.list.now _ _ _ c.args.times.now c.in_ok-starts_of.ensures c.sorted-starts.ensures.same c.deref.ensures.value) at c.counts_below.ensures
