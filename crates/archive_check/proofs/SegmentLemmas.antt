@@ -10,10 +10,11 @@ use Rattle.machine_model.specs.States.{DiskState}
 use Rattle.machine_model.specs.Calls.{OnlyReads}
 use Rattle.page_store.specs.Ranges.{bytes_in}
 use Rattle.sublist_store.specs.Segments.{seconds}
-use Rattle.sublist_store.specs.Preparing.{spellings}
-use Rattle.sublist_store.proofs.SpellLemmas.{AreWithin, IsPart, both_halves}
+use Rattle.sublist_store.specs.Preparing.{spellings, Serves}
+use Rattle.sublist_store.proofs.SpellLemmas.{both_halves}
 use Rattle.archive_check.specs.declared.segments.Wrong.{Wrong}
-use Rattle.archive_check.specs.Verdicts.{DifferAt, SegmentDiffers}
+use Rattle.archive_check.specs.Verdicts.{SegmentDiffers}
+use Rattle.archive_check.specs.Checking.{IsFirstWrong}
 
 -- the bytes at places
 abbrev pub bytes_at : List ℕ → List Place → List (List ℕ)
@@ -47,78 +48,42 @@ differs_right a b y segment place count found wanted at d = record {
 
 -- ---- both halves of a plan's segments
 
--- what both halves have by themselves: the places of each, and the sublists' spellings, from the list or a part of it
-pub record AreHalves (layout : Layout) (pages : List ℕ) (list given : List Posting) (cuts : List Time) (places : List Place) (k : ℕ) (middle : Time) (h : ℕ) (left right : List Time) (one other : List Place) : Type 0 where
-  pub from : ℕ
-  pub to : ℕ
-  pub part : IsPart from to list given
-  pub within : AreWithin from to cuts
-  pub ends : h ≤ to
-  pub inside : k < length cuts
-  pub many : length places ≡ length cuts
-  pub middle_is : middle ≡ get_or cuts k middle
-  pub left_is : left ≡ take k cuts
-  pub right_is : right ≡ drop k cuts
-  pub one_is : one ≡ take k places
-  pub other_is : other ≡ drop k places
+-- what is found and what is wanted, in all segments and in both halves
+pub record AreHalves (found wanted one other this that : List (List ℕ)) (k : ℕ) : Type 0 where
+  pub found_is : one ++ other ≡ found
+  pub wanted_is : this ++ that ≡ wanted
+  pub long : length one ≡ k
 
-halves_found : (layout : Layout) (pages : List ℕ) (list given : List Posting) (cuts : List Time) (places : List Place) (k : ℕ) (middle : Time) (h : ℕ) (left right : List Time) (one other : List Place)
-    → AreHalves layout pages list given cuts places k middle h left right one other → bytes_at pages one ++ bytes_at pages other ≡ bytes_at pages places
-halves_found layout pages list given cuts places k middle h left right one other a =
-    ap (λ (l : List Place). bytes_at pages l ++ bytes_at pages other) a.one_is ∙ ap (λ (l : List Place). bytes_at pages (take k places) ++ bytes_at pages l) a.other_is
-    ∙ sym (map-append (λ (p : Place). bytes_in p.extent pages) (take k places) (drop k places)) ∙ ap (bytes_at pages) (take-append-drop k places)
+-- the places are divided with the cuts, and the list serves for all segments
+pub halves : (layout : Layout) (pages : List ℕ) (list given : List Posting) (cuts left right : List Time) (places one other : List Place) (k : ℕ) (middle : Time) (h : ℕ) → Serves (seconds cuts) h list given
+    → k < length cuts → length places ≡ length cuts → middle ≡ get_or cuts k middle → left ≡ take k cuts → right ≡ drop k cuts → one ≡ take k places → other ≡ drop k places
+    → AreHalves (bytes_at pages places) (spellings layout list (seconds cuts) h) (bytes_at pages one) (bytes_at pages other) (spellings layout given (seconds left) middle.seconds) (spellings layout given (seconds right) h) k
+halves layout pages list given cuts left right places one other k middle h serves inside many middle_is left_is right_is one_is other_is =
+    let B : Place → List ℕ = λ p. bytes_in p.extent pages in
+    let whole : one ++ other ≡ places = ap (λ (l : List Place). l ++ other) one_is ∙ ap (λ (l : List Place). take k places ++ l) other_is ∙ take-append-drop k places in
+    record {
+      found_is = sym (map-append B one other) ∙ ap (bytes_at pages) whole;
+      wanted_is = both_halves layout list given cuts left right k middle h serves inside middle_is left_is right_is;
+      long = length-map one B ∙ ap length one_is ∙ length-take-le k places (omega (arith, inside, many));
+    }
 
-halves_wanted : (layout : Layout) (pages : List ℕ) (list given : List Posting) (cuts : List Time) (places : List Place) (k : ℕ) (middle : Time) (h : ℕ) (left right : List Time) (one other : List Place)
-    → AreHalves layout pages list given cuts places k middle h left right one other
-    → spellings layout given (seconds left) middle.seconds ++ spellings layout given (seconds right) h ≡ spellings layout list (seconds cuts) h
-halves_wanted layout pages list given cuts places k middle h left right one other a =
-    both_halves layout a.from a.to list given cuts k middle h (spellings layout given (seconds left) middle.seconds) (spellings layout given (seconds right) h) a.part a.within a.ends a.inside a.middle_is
-    (ap (λ (cs : List Time). spellings layout given (seconds cs) middle.seconds) a.left_is) (ap (λ (cs : List Time). spellings layout given (seconds cs) h) a.right_is)
+told_of : {a b x y : List (List ℕ)} (o : Option Wrong) → a ≡ b → x ≡ y → IsFirstWrong a x o → IsFirstWrong b y o
+told_of {a} {b} {x} {y} o one other told = subst (λ (l : List (List ℕ)). IsFirstWrong b l o) other (subst (λ (l : List (List ℕ)). IsFirstWrong l x o) one told)
 
-pub left_differs : (layout : Layout) (pages : List ℕ) (list given : List Posting) (cuts : List Time) (places : List Place) (k : ℕ) (middle : Time) (h : ℕ) (left right : List Time) (one other : List Place)
-    (segment place : ℕ) (found wanted : Option ℕ) → AreHalves layout pages list given cuts places k middle h left right one other
-    → SegmentDiffers (bytes_at pages one) (spellings layout given (seconds left) middle.seconds) segment place found wanted
-    → SegmentDiffers (bytes_at pages places) (spellings layout list (seconds cuts) h) segment place found wanted
-left_differs layout pages list given cuts places k middle h left right one other segment place found wanted a d =
-    let whole = differs_left (bytes_at pages one) (bytes_at pages other) (spellings layout given (seconds left) middle.seconds) (spellings layout given (seconds right) h) segment place found wanted d in
-    subst (λ (l : List (List ℕ)). SegmentDiffers l (spellings layout list (seconds cuts) h) segment place found wanted) (halves_found layout pages list given cuts places k middle h left right one other a)
-    (subst (λ (l : List (List ℕ)). SegmentDiffers (bytes_at pages one ++ bytes_at pages other) l segment place found wanted) (halves_wanted layout pages list given cuts places k middle h left right one other a) whole)
+-- the left half isn't right
+pub left_told : (found wanted one other this that : List (List ℕ)) (k : ℕ) (w : Wrong) → AreHalves found wanted one other this that k → IsFirstWrong one this (Some w) → IsFirstWrong found wanted (Some w)
+left_told found wanted one other this that k w a d = told_of (Some w) a.found_is a.wanted_is (differs_left one other this that w.segment w.spot.place w.spot.found w.spot.wanted d)
 
--- the left half is right
-pub both_right : (layout : Layout) (pages : List ℕ) (list given : List Posting) (cuts : List Time) (places : List Place) (k : ℕ) (middle : Time) (h : ℕ) (left right : List Time) (one other : List Place)
-    → AreHalves layout pages list given cuts places k middle h left right one other
-    → bytes_at pages one ≡ spellings layout given (seconds left) middle.seconds → bytes_at pages other ≡ spellings layout given (seconds right) h → bytes_at pages places ≡ spellings layout list (seconds cuts) h
-both_right layout pages list given cuts places k middle h left right one other a same there =
-    sym (halves_found layout pages list given cuts places k middle h left right one other a) ∙ ap (λ (l : List (List ℕ)). l ++ bytes_at pages other) same
-    ∙ ap (λ (l : List (List ℕ)). spellings layout given (seconds left) middle.seconds ++ l) there ∙ halves_wanted layout pages list given cuts places k middle h left right one other a
-
-pub right_differs : (layout : Layout) (pages : List ℕ) (list given : List Posting) (cuts : List Time) (places : List Place) (k : ℕ) (middle : Time) (h : ℕ) (left right : List Time) (one other : List Place)
-    (segment place : ℕ) (found wanted : Option ℕ) → AreHalves layout pages list given cuts places k middle h left right one other
-    → bytes_at pages one ≡ spellings layout given (seconds left) middle.seconds
-    → SegmentDiffers (bytes_at pages other) (spellings layout given (seconds right) h) segment place found wanted
-    → SegmentDiffers (bytes_at pages places) (spellings layout list (seconds cuts) h) (k + segment) place found wanted
-right_differs layout pages list given cuts places k middle h left right one other segment place found wanted a same d =
-    let long : length (bytes_at pages one) ≡ k = length-map one (λ (p : Place). bytes_in p.extent pages) ∙ ap length a.one_is ∙ length-take-le k places (omega (arith, a.inside, a.many)) in
-    let front = bytes_at pages one in
-    let whole : SegmentDiffers (front ++ bytes_at pages other) (front ++ spellings layout given (seconds right) h) (k + segment) place found wanted =
-    differs_right front (bytes_at pages other) (spellings layout given (seconds right) h) segment place (k + segment) found wanted (omega (arith, long)) d in
-    subst (λ (l : List (List ℕ)). SegmentDiffers l (spellings layout list (seconds cuts) h) (k + segment) place found wanted) (halves_found layout pages list given cuts places k middle h left right one other a)
-    (subst (λ (l : List (List ℕ)). SegmentDiffers (front ++ bytes_at pages other) l (k + segment) place found wanted)
-    (ap (λ (l : List (List ℕ)). l ++ spellings layout given (seconds right) h) same ∙ halves_wanted layout pages list given cuts places k middle h left right one other a) whole)
-
--- what is told of the right half is told of all
-pub right_told : (layout : Layout) (pages : List ℕ) (list given : List Posting) (cuts : List Time) (places : List Place) (k : ℕ) (middle : Time) (h : ℕ) (left right : List Time) (one other : List Place) (w m : Option Wrong)
-    → AreHalves layout pages list given cuts places k middle h left right one other
-    → bytes_at pages one ≡ spellings layout given (seconds left) middle.seconds
-    → MatchOption w (bytes_at pages other ≡ spellings layout given (seconds right) h) (λ x. SegmentDiffers (bytes_at pages other) (spellings layout given (seconds right) h) x.segment x.spot.place x.spot.found x.spot.wanted)
-    → MatchOption w (m ≡ None) (λ x. m ≡ Some (record { segment = k + x.segment; spot = x.spot }))
-    → MatchOption m (bytes_at pages places ≡ spellings layout list (seconds cuts) h) (λ x. SegmentDiffers (bytes_at pages places) (spellings layout list (seconds cuts) h) x.segment x.spot.place x.spot.found x.spot.wanted)
-right_told layout pages list given cuts places k middle h left right one other None m a same told moved =
-    let whole = both_right layout pages list given cuts places k middle h left right one other a same told in
-    subst (λ (o : Option Wrong). MatchOption o (bytes_at pages places ≡ spellings layout list (seconds cuts) h) (λ x. SegmentDiffers (bytes_at pages places) (spellings layout list (seconds cuts) h) x.segment x.spot.place x.spot.found x.spot.wanted)) (sym moved) whole
-right_told layout pages list given cuts places k middle h left right one other (Some w) m a same told moved =
-    let whole = right_differs layout pages list given cuts places k middle h left right one other w.segment w.spot.place w.spot.found w.spot.wanted a same told in
-    subst (λ (o : Option Wrong). MatchOption o (bytes_at pages places ≡ spellings layout list (seconds cuts) h) (λ x. SegmentDiffers (bytes_at pages places) (spellings layout list (seconds cuts) h) x.segment x.spot.place x.spot.found x.spot.wanted)) (sym moved) whole
+-- it is right, so what is told of the right half is told of all
+pub right_told : (found wanted one other this that : List (List ℕ)) (k : ℕ) (w m : Option Wrong) → AreHalves found wanted one other this that k → one ≡ this → IsFirstWrong other that w
+    → MatchOption w (m ≡ None) (λ x. m ≡ Some (record { segment = k + x.segment; spot = x.spot })) → IsFirstWrong found wanted m
+right_told found wanted one other this that k None m a same told moved =
+    subst (λ (o : Option Wrong). IsFirstWrong found wanted o) (sym moved) (sym a.found_is ∙ ap (λ (l : List (List ℕ)). l ++ other) same ∙ ap (λ (l : List (List ℕ)). this ++ l) told ∙ a.wanted_is)
+right_told found wanted one other this that k (Some w) m a same told moved =
+    let n : ℕ = k + w.segment in
+    let whole : SegmentDiffers (one ++ other) (one ++ that) n w.spot.place w.spot.found w.spot.wanted = differs_right one other that w.segment w.spot.place n w.spot.found w.spot.wanted (omega (arith, a.long)) told in
+    let all : one ++ that ≡ wanted = ap (λ (l : List (List ℕ)). l ++ that) same ∙ a.wanted_is in
+    subst (λ (o : Option Wrong). IsFirstWrong found wanted o) (sym moved) (told_of (Some (record { segment = n; spot = w.spot })) a.found_is all whole)
 
 -- reads leave the pages
 pub pages_on : (old new : DiskState) → OnlyReads old new → new.holds.pages ≡ old.holds.pages

@@ -1,5 +1,5 @@
 -- What the parts of a check give.
-use Rattle.std.specs.Prelude.{◌≡◌, ℕ, ◌<◌, List, [], ◌∷◌, ◌++◌, length, take, get_or, map, All, Option, IfSome, IsUtf8}
+use Rattle.std.specs.Prelude.{◌≡◌, ℕ, ◌<◌, List, [], ◌∷◌, ◌++◌, length, take, get_or, map, All, Option, IfSome, MatchOption, IsUtf8}
 use Rattle.std.specs.Option.{option_map}
 use Rattle.time_base.specs.declared.text_place.TextPlace.{TextPlace}
 use Rattle.time_base.specs.declared.posting.Posting.{Posting}
@@ -13,11 +13,12 @@ use Rattle.version_index.specs.Loads.{Loaded, AreLoaded}
 use Rattle.record_codec.specs.declared.plan.PlanEntry.{PlanEntry}
 use Rattle.stored_plans.specs.Plans.{IsFitFor, plan_space}
 use Rattle.archive_replay.specs.Texts.{text_in, bare, nothing}
+use Rattle.archive_check.specs.declared.segments.Wrong.{Wrong}
 use Rattle.archive_check.specs.declared.texts.Texts.{Texts}
 use Rattle.archive_check.specs.declared.texts.Texts.TheVariants.{Good, Bad}
 use Rattle.archive_state.specs.declared.verdict.Verdict.{Verdict}
 use Rattle.archive_state.specs.declared.verdict.Verdict.TheVariants.{Sound, Differs, NotLeast, BadText}
-use Rattle.archive_check.specs.Verdicts.{with_texts, IsText, IsFirstBad, IsLeastSpace, HasDifference, TakesMore}
+use Rattle.archive_check.specs.Verdicts.{with_texts, IsText, IsFirstBad, IsLeastSpace, SegmentDiffers, HasDifference, TakesMore}
 
 -- ---- texts; on a disk that tells they are those that stand in the journal
 
@@ -50,6 +51,10 @@ AreRead tells journal changes (Good index) =
 AreRead tells journal changes (Bad version) = tells → IsFirstBad (with_texts journal changes) version.doc version.at
 
 -- ---- plans
+
+-- the bytes of all segments are as wanted, or those of this one are the first that aren't
+abbrev pub IsFirstWrong : (found wanted : List (List ℕ)) → Option Wrong → Type 0
+IsFirstWrong found wanted o = MatchOption o (found ≡ wanted) (λ (w : Wrong). SegmentDiffers found wanted w.segment w.spot.place w.spot.found w.spot.wanted)
 
 -- a plan of a list that takes more space than it has to
 pub record IsExcess (list : List Posting) (factor : Fraction) (cuts : List Time) (h kept least : ℕ) : Type 0 where

@@ -12,7 +12,6 @@ mod laws;
 mod least;
 mod ordering;
 mod segments;
-mod spelling;
 mod texts;
 mod verifying;
 

@@ -8,14 +8,15 @@ ghost use Rattle.page_store.specs.Ranges.{bytes_in};
 ghost use Rattle.sublist_store.specs.Layouts.{spelling_in};
 ghost use Rattle.sublist_store.specs.Segments.{seconds};
 ghost use Rattle.sublist_store.specs.Preparing.{spellings};
-ghost use Rattle.archive_check.specs.Verdicts.{DifferAt, SegmentDiffers};
+ghost use Rattle.archive_check.specs.Verdicts.{DifferAt};
+ghost use Rattle.archive_check.specs.Checking.{IsFirstWrong};
 
 use crate::bytes::{Spot, first_difference, read_extent};
 use crate::error::VerifyError;
-use crate::spelling::{narrowed, part_or, reach_of, spelled};
 use machine_model::Disk;
 use record_codec::{Layout, Place};
 use std::alloc::Global;
+use sublist_store::{narrowed, part_or, sublist_bytes};
 use time_base::{Posting, Time};
 
 /// A segment whose bytes differ, and where.
@@ -47,15 +48,13 @@ pub(crate) fn first_wrong<D: Disk>(
     ensures same { OnlyReads (D.disk disk.old) (D.disk disk.new) }
     ensures failed { IsErrOf result VerifyError.Failed → Rose (D.disk disk.old).faults (D.disk disk.new).faults }
     ensures within { IfOk result (λ o. IfSome o (λ w. w.segment < length cuts.now)) }
-    ensures found { D.disk_tells → IfOk result (λ o. MatchOption o
-        (map (λ p. bytes_in p.extent (D.disk disk.old).holds.pages) places.now ≡ spellings layout list.now (seconds cuts.now) end.seconds)
-        (λ w. SegmentDiffers (map (λ p. bytes_in p.extent (D.disk disk.old).holds.pages) places.now) (spellings layout list.now (seconds cuts.now) end.seconds) w.segment w.spot.place w.spot.found w.spot.wanted)) }
+    ensures found { D.disk_tells → IfOk result (IsFirstWrong (map (λ p. bytes_in p.extent (D.disk disk.old).holds.pages) places.now) (spellings layout list.now (seconds cuts.now) end.seconds)) }
 {
     let half = cuts.len() / 2;
     if half == 0 {
         return only_wrong(alloc, disk, layout, list, cuts, places, end);
     }
-    let part = narrowed(alloc, list, reach_of(cuts, end))?;
+    let part = narrowed(alloc, list, cuts, end)?;
     let list = part_or(&part, list);
     let (left, right) = cuts.split_at(half);
     let (one, other) = places.split_at(half);
@@ -101,9 +100,7 @@ fn only_wrong<D: Disk>(
     ensures same { OnlyReads (D.disk disk.old) (D.disk disk.new) }
     ensures failed { IsErrOf result VerifyError.Failed → Rose (D.disk disk.old).faults (D.disk disk.new).faults }
     ensures within { IfOk result (λ o. IfSome o (λ w. w.segment < length cuts.now)) }
-    ensures found { D.disk_tells → IfOk result (λ o. MatchOption o
-        (map (λ p. bytes_in p.extent (D.disk disk.old).holds.pages) places.now ≡ spellings layout list.now (seconds cuts.now) end.seconds)
-        (λ w. SegmentDiffers (map (λ p. bytes_in p.extent (D.disk disk.old).holds.pages) places.now) (spellings layout list.now (seconds cuts.now) end.seconds) w.segment w.spot.place w.spot.found w.spot.wanted)) }
+    ensures found { D.disk_tells → IfOk result (IsFirstWrong (map (λ p. bytes_in p.extent (D.disk disk.old).holds.pages) places.now) (spellings layout list.now (seconds cuts.now) end.seconds)) }
 {
     if cuts.is_empty() {
         return Ok(None);
@@ -133,7 +130,7 @@ fn spot_of<D: Disk>(
         (bytes_in place.now.extent (D.disk disk.old).holds.pages ≡ spelling_in layout (sublist from.seconds to.seconds list.now))
         (λ s. DifferAt (bytes_in place.now.extent (D.disk disk.old).holds.pages) (spelling_in layout (sublist from.seconds to.seconds list.now)) s.place s.found s.wanted)) }
 {
-    let wanted = spelled(alloc, layout, list, from.seconds, to.seconds)?;
+    let wanted = sublist_bytes(alloc, layout, list, from.seconds, to.seconds)?;
     let found = read_extent(alloc, disk, place.extent)?;
     Ok(first_difference(&found, &wanted))
 }

@@ -22,7 +22,7 @@ use Rattle.query_eval.specs.declared.part.Part.{Part}
 use Rattle.query_eval.proofs.GivenLemmas.{only_words_matter}
 use Rattle.record_codec.specs.declared.plan.PlanEntry.{PlanEntry}
 use Rattle.sublist_store.specs.Segments.{seconds, EachSegment, HoldsSublist, AreCutsOf}
-use Rattle.sublist_store.specs.Gathering.{Outcome as Gathered, stored_size}
+use Rattle.sublist_store.specs.Gathering.{ListOrDamage, stored_size}
 use Rattle.sublist_store.specs.Laws.{IsGathered}
 use Rattle.sublist_store.proofs.HeldLemmas.{held_gathered}
 use Rattle.archive_state.specs.Histories.{History, text_at}
@@ -109,7 +109,7 @@ held_for h pages word plan loads held_all live =
       each = subst H same held.each;
     }
 
-held_gives : (h : History) (pages : List ℕ) (word : List ℕ) (plan : PlanEntry) (a b : ℕ) (gathered : Gathered) → (held : IsHeld h pages word plan) → GathersOf pages plan a b gathered
+held_gives : (h : History) (pages : List ℕ) (word : List ℕ) (plan : PlanEntry) (a b : ℕ) (gathered : ListOrDamage) → (held : IsHeld h pages word plan) → GathersOf pages plan a b gathered
     → IsGathered held.list (seconds plan.cuts) a b plan.horizon.seconds gathered
 held_gives h pages word plan a b gathered held gathers = held_gathered plan.layout held.list pages (seconds plan.cuts) plan.horizon.seconds plan.places a b gathered held.cuts held.each gathers
 

@@ -8,7 +8,7 @@ use Rattle.page_cache.specs.Caches.{Kept}
 use Rattle.postings.specs.Lists.{sublist}
 use Rattle.record_codec.specs.declared.plan.PlanEntry.{PlanEntry}
 use Rattle.sublist_store.specs.Segments.{seconds}
-use Rattle.sublist_store.specs.Gathering.{Outcome as Gathered, Gathers, chosen, stored_size}
+use Rattle.sublist_store.specs.Gathering.{ListOrDamage, Gathers, chosen, stored_size}
 use Rattle.sublist_store.specs.Caching.{pieces_of_all}
 use Rattle.sublist_store.specs.declared.why.Damage.{Damage}
 use Rattle.query_lang.specs.Grammar.{Query, IsRead}
@@ -48,7 +48,7 @@ IsReadFor history a b (word ∷ words) read =
 -- ---- the lists that are chosen, by the history and by what reads of Pages give
 
 -- what is gathered from the places of a plan for [a, b)
-abbrev pub GathersOf : List ℕ → PlanEntry → ℕ → ℕ → Gathered → Type 0
+abbrev pub GathersOf : List ℕ → PlanEntry → ℕ → ℕ → ListOrDamage → Type 0
 GathersOf pages plan a b gathered = let h = plan.horizon.seconds in
     Gathers plan.layout h pages (chosen a b h true (seconds plan.cuts) plan.places) [] 0 gathered
 

@@ -1,5 +1,5 @@
 -- Reading front after front, as a loop does.
-use Rattle.std.specs.Prelude.{◌≡◌, ℕ, zero, suc, ◌+◌, ◌<◌, ◌≤◌, List, [], ◌∷◌, ◌++◌, length, Option, Result, Ok, Err, refl}
+use Rattle.std.specs.Prelude.{◌≡◌, ℕ, zero, suc, ◌+◌, ◌-◌, ◌<◌, ◌≤◌, List, [], ◌∷◌, ◌++◌, length, Option, Result, Ok, Err, refl}
 use Rattle.std.proofs.Common.{sym, ap, ◌∙◌, append_assoc, arith}
 use Rattle.std.proofs.lemmas.List.{append-nil}
 use Rattle.time_base.specs.Reading.{◌>>=◌}
@@ -26,30 +26,29 @@ regroup front xs (Err left) = refl
 pub begins : {A : Type 0} (front_at : Option A → List ℕ → Result (List A × List ℕ) ℕ) (before : Option A) (bytes : List ℕ) → IsRead front_at (all_at front_at (length bytes) before bytes) [] before bytes
 begins front_at before bytes = record { readings = length bytes; enough = omega arith; same = with_none (all_at front_at (length bytes) before bytes) }
 
+-- where bytes are left, one front is read, and then the others
+all_more : {A : Type 0} (front_at : Option A → List ℕ → Result (List A × List ℕ) ℕ) (n : ℕ) (before : Option A) (bytes : List ℕ) → 0 < length bytes → length bytes ≤ n
+    → all_at front_at n before bytes ≡ (front_at before bytes >>= λ x. all_at front_at (n - 1) (last_of before x.0) x.1 >>= λ ys. Ok (x.0 ++ ys))
+all_more front_at n before [] some le = absurd (omega arith)
+all_more front_at zero before (b ∷ bytes) some le = absurd (omega arith)
+all_more front_at (suc n) before (b ∷ bytes) some le =
+    let e : n ≡ suc n - 1 = omega arith in
+    ap (λ k. front_at before (b ∷ bytes) >>= λ x. all_at front_at k (last_of before x.0) x.1 >>= λ ys. Ok (x.0 ++ ys)) e
+
 pub goes_on : {A : Type 0} (front_at : Option A → List ℕ → Result (List A × List ℕ) ℕ) (total : Result (List A) ℕ) (front : List A) (before : Option A) (rest : List ℕ) (xs : List A) (behind : List ℕ)
     → IsRead front_at total front before rest → 0 < length rest → front_at before rest ≡ Ok (xs, behind) → length behind < length rest
     → IsRead front_at total (front ++ xs) (last_of before xs) behind
-goes_on front_at total front before rest xs behind r some e shorter = go r.readings rest some e shorter r.enough r.same
-  where
-    go : (n : ℕ) (rest : List ℕ) → 0 < length rest → front_at before rest ≡ Ok (xs, behind) → length behind < length rest → length rest ≤ n
-        → with_front front (all_at front_at n before rest) ≡ total → IsRead front_at total (front ++ xs) (last_of before xs) behind
-    go n [] some e shorter le same = absurd (omega arith)
-    go zero (b ∷ bytes) some e shorter le same = absurd (omega arith)
-    go (suc n) (b ∷ bytes) some e shorter le same = record {
-      readings = n;
+goes_on front_at total front before rest xs behind r some e shorter =
+    let enough = r.enough in
+    record {
+      readings = r.readings - 1;
       enough = omega arith;
-      same = sym (regroup front xs (all_at front_at n (last_of before xs) behind)) ∙ (rw e at same);
+      same = sym (regroup front xs (all_at front_at (r.readings - 1) (last_of before xs) behind)) ∙ (rw e at (ap (with_front front) (sym (all_more front_at r.readings before rest some enough)) ∙ r.same));
     }
 
 pub ends : {A : Type 0} (front_at : Option A → List ℕ → Result (List A × List ℕ) ℕ) (total : Result (List A) ℕ) (front : List A) (before : Option A) (rest : List ℕ) (left : ℕ)
     → IsRead front_at total front before rest → 0 < length rest → front_at before rest ≡ Err left → total ≡ Err left
-ends front_at total front before rest left r some e = go r.readings rest some e r.enough r.same
-  where
-    go : (n : ℕ) (rest : List ℕ) → 0 < length rest → front_at before rest ≡ Err left → length rest ≤ n
-        → with_front front (all_at front_at n before rest) ≡ total → total ≡ Err left
-    go n [] some e le same = absurd (omega arith)
-    go zero (b ∷ bytes) some e le same = absurd (omega arith)
-    go (suc n) (b ∷ bytes) some e le same = sym (rw e at same)
+ends front_at total front before rest left r some e = sym (rw e at (ap (with_front front) (sym (all_more front_at r.readings before rest some r.enough)) ∙ r.same))
 
 pub is_done : {A : Type 0} (front_at : Option A → List ℕ → Result (List A × List ℕ) ℕ) (total : Result (List A) ℕ) (front : List A) (before : Option A) (rest : List ℕ)
     → IsRead front_at total front before rest → length rest ≡ 0 → total ≡ Ok front

@@ -1,8 +1,7 @@
 -- The layout in blocks: what is read is the spelling of a list, and what a list is spelled by is read.
-use Rattle.std.specs.Prelude.{◌≡◌, ℕ, ◌≤◌, Bool, true, false, nat_lt, ◌||◌, List, [], ◌∷◌, length, map, Some, None, Ok, Err, refl}
+use Rattle.std.specs.Prelude.{◌≡◌, ℕ, ◌≤◌, ◌==◌, if◌then◌else◌, true, List, [], ◌∷◌, length, map, Option, Some, None, Ok, Err, refl}
 use Rattle.std.specs.List.{flat_map}
-use Rattle.std.proofs.Common.{sym, ap, ◌∙◌, inl, inr, arith}
-use Rattle.std.proofs.lemmas.Bool.{cases_lt, lt-ltb, le-leb, eq-eqb}
+use Rattle.std.proofs.Common.{sym, ap, ◌∙◌, arith}
 use Rattle.std.proofs.lemmas.Bool.Decides.{nat_tests}
 use Rattle.std.proofs.lemmas.List.{length-map}
 use Rattle.time_base.specs.declared.posting.Posting.{Posting}
@@ -15,7 +14,7 @@ use Rattle.sublist_codec.proofs.FieldLemmas.{AreBehind, list-behind, behind-list
 use Rattle.sublist_codec.proofs.LayoutLemmas.{IsCodec}
 use Rattle.sublist_codec.proofs.BlockLemmas.{block_shorter, block_left}
 use Rattle.sublist_codec.proofs.BlockLaws.{IsAllowed, IsNext, AreNext}
-use Rattle.sublist_codec.proofs.BlockWalk.{AreFrom, blocks_taken, blocks_again}
+use Rattle.sublist_codec.proofs.BlockWalk.{blocks_taken, blocks_again}
 
 -- ---- postings by their numbers
 
@@ -32,39 +31,24 @@ posting_of p a = record {
 allowed : (p : Posting) → IsAllowed (fields p)
 allowed p = record { numbered = p.numbered; counted = p.counted; bounded = p.bounded; ordered = p.span.ordered; in_time = p.span.in_time }
 
-next_follows : (q p : Fields) → IsNext q p → may_follow (Some q) p ≡ true
-next_follows q p next =
-    elim (cases_lt q.doc p.doc) as (λ _. may_follow (Some q) p ≡ true) [
-      | inl lt ↦ rw (lt-ltb q.doc p.doc lt) refl
-      | inr ge ↦ let same : q.doc ≡ p.doc = omega (arith, next.doc) in rw (eq-eqb q.doc p.doc same, le-leb q.to p.from (next.start same)) (or_true (nat_lt q.doc p.doc))
-    ]
-  where
-    or_true : (b : Bool) → (b || true) ≡ true
-    or_true true = refl
-    or_true false = refl
+follows : (before : Option Fields) (p : Fields) → IsNext before p → may_follow before p ≡ true
+follows None p next = refl
+follows (Some q) p next = let doc = next.doc in let start : (if q.doc == p.doc then q.to else 0) ≤ p.from = next.start in grind (arith, nat_tests)
 
-follows_next : (q p : Fields) → may_follow (Some q) p ≡ true → IsNext q p
-follows_next q p e = record { doc = grind (arith, nat_tests); start = λ same. grind (arith, nat_tests) }
+next_of : (before : Option Fields) (p : Posting) → may_follow before (fields p) ≡ true → IsNext before (fields p)
+next_of None p e = record { allowed = allowed p; doc = omega arith; start = omega arith }
+next_of (Some q) p e = record { allowed = allowed p; doc = grind (arith, nat_tests); start = grind (arith, nat_tests) }
 
-next_postings : (q : Fields) (ps : List Fields) → AreNext q ps → (list : List Posting) × (map fields list ≡ ps) × AreBehind (Some q) list
-next_postings q [] next = ([], refl, tt)
-next_postings q (p ∷ ps) next = let more = next_postings p ps next.2 in (posting_of p next.0 ∷ more.0, ap (λ (qs : List Fields). p ∷ qs) more.1, (next_follows q p next.1, more.2))
+-- numbers that may be those of postings are
+postings_of : (before : Option Fields) (ps : List Fields) → AreNext before ps → (list : List Posting) × (map fields list ≡ ps) × AreBehind before list
+postings_of before [] next = ([], refl, tt)
+postings_of before (p ∷ ps) next =
+    let more = postings_of (Some p) ps next.1 in
+    (posting_of p next.0.allowed ∷ more.0, ap (λ (qs : List Fields). p ∷ qs) more.1, (follows before p next.0, more.2))
 
-postings_next : (q : Fields) (list : List Posting) → AreBehind (Some q) list → AreNext q (map fields list)
-postings_next q [] behind = tt
-postings_next q (p ∷ list) behind = (allowed p, follows_next q (fields p) behind.0, postings_next (fields p) list behind.1)
-
--- numbers that may be those of a list are
-pub from_postings : (ps : List Fields) → AreFrom None ps → (list : List Posting) × (map fields list ≡ ps) × IsList list
-from_postings [] from = ([], refl, tt)
-from_postings (p ∷ ps) from =
-    let more = next_postings p ps from.2 in
-    let first = posting_of p from.0.allowed in
-    (first ∷ more.0, ap (λ (qs : List Fields). p ∷ qs) more.1, list-behind None (first ∷ more.0) (refl, more.2))
-
-pub postings_from : (list : List Posting) → IsList list → AreFrom None (map fields list)
-postings_from [] is = tt
-postings_from (p ∷ list) is = (record { allowed = allowed p; start = omega arith }, omega arith, postings_next (fields p) list (behind-list (p ∷ list) is).1)
+numbers_of : (before : Option Fields) (list : List Posting) → AreBehind before list → AreNext before (map fields list)
+numbers_of before [] behind = tt
+numbers_of before (p ∷ list) behind = (next_of before p behind.0, numbers_of (Some (fields p)) list behind.1)
 
 -- ---- lists
 
@@ -72,12 +56,12 @@ blocks_back : (bytes : List ℕ) (xs : List Fields) → IsBytes bytes → blocks
 unfolding blocks_at block_spelling
 blocks_back bytes xs fits e =
     let t = blocks_taken (length bytes) None bytes xs fits e in
-    let l = from_postings xs t.from in
-    (l.0, l.2, l.1, t.parts (length l.0) (omega (arith, length-map l.0 fields, ap (λ (ps : List Fields). length ps) l.1)) ∙ ap (λ (ps : List Fields). flat_map block (pieces (length l.0) ps)) (sym l.1))
+    let l = postings_of None xs t.from in
+    (l.0, list-behind None l.0 l.2, l.1, t.parts (length l.0) (omega (arith, length-map l.0 fields, ap (λ (ps : List Fields). length ps) l.1)) ∙ ap (λ (ps : List Fields). flat_map block (pieces (length l.0) ps)) (sym l.1))
 
 blocks_read : (list : List Posting) → IsList list → blocks_at (block_spelling list) ≡ Ok (map fields list)
 unfolding blocks_at block_spelling
-blocks_read list is = blocks_again (length (block_spelling list)) (length list) None (map fields list) (postings_from list is) (omega (arith, length-map list fields)) (omega arith)
+blocks_read list is = blocks_again (length (block_spelling list)) (length list) None (map fields list) (numbers_of None list (behind-list list is)) (omega (arith, length-map list fields)) (omega arith)
 
 blocks_left : (bytes : List ℕ) (left : ℕ) → blocks_at bytes ≡ Err left → left ≤ length bytes
 unfolding blocks_at

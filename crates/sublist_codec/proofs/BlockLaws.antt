@@ -1,14 +1,13 @@
 -- The postings of a block: what is read is spelled so, and what is spelled so is read.
-use Rattle.std.specs.Prelude.{◌≡◌, ℕ, zero, suc, ◌+◌, ◌-◌, ◌^◌, ◌<◌, ◌≤◌, Bool, true, false, cond, nat_lt, nat_le, ◌==◌, ◌&&◌, List, [], ◌∷◌, ◌++◌, length, Option, Some, None, Ok, refl, ⊤}
-use Rattle.std.proofs.Common.{sym, ap, subst, ◌∙◌, arith, append_assoc}
+use Rattle.std.specs.Prelude.{◌≡◌, ℕ, zero, suc, ◌+◌, ◌-◌, ◌^◌, ◌<◌, ◌≤◌, nat_lt, nat_le, ◌&&◌, List, [], ◌∷◌, ◌++◌, length, Option, Some, None, Ok, refl, ⊤}
+use Rattle.std.proofs.Common.{sym, ap, subst, ◌∙◌, inl, inr, arith, append_assoc}
 use Rattle.std.specs.List.{flat_map}
-use Rattle.std.proofs.lemmas.Bool.{and_parts, leb-true, ltb-true, le-leb, lt-ltb, eqb-true}
+use Rattle.std.proofs.lemmas.Bool.{cases_lt, and_parts, leb-true, ltb-true, le-leb, lt-ltb, eq-eqb, ne_eqb}
 use Rattle.std.proofs.lemmas.Grind.{flat_map-append}
 use Rattle.std.proofs.lemmas.List.{append-nil}
 use Rattle.sublist_codec.specs.Fields.{Fields}
-use Rattle.time_base.specs.Reading.{value_or}
 use Rattle.sublist_codec.specs.Numbers.{number_bytes, number_at}
-use Rattle.sublist_codec.specs.Blocks.{span_numbers, base_behind, other_numbers, inside, least_start, if_within, number_in, span_at, next_at, others_at, postings_at}
+use Rattle.sublist_codec.specs.Blocks.{span_numbers, base_behind, other_numbers, inside, least_start, doc_before, if_within, number_in, span_at, next_at, others_at, postings_at}
 use Rattle.time_base.proofs.Readings.{ok_is, bind_ok, value_or-ok}
 use Rattle.sublist_codec.proofs.Steps.{test_some}
 use Rattle.time_base.proofs.Bytes.{IsBytes}
@@ -37,14 +36,7 @@ number_in_taken least limit bytes read fits e =
 
 pub number_in_again : (least limit n : ℕ) (rest : List ℕ) → least ≤ n → n < limit → n < 2 ^ 42 → number_in least limit (number_bytes 6 n ++ rest) ≡ Ok (n, rest)
 unfolding number_in
-number_in_again least limit n rest le lt fits =
-    ap (λ (o : Option (ℕ × List ℕ)). value_or (length (number_bytes 6 n ++ rest)) (if_within least limit o)) (number_again 6 n rest (omega arith) fits)
-    ∙ ap (λ b. value_or (length (number_bytes 6 n ++ rest)) (cond b (Some (n, rest)) None)) (both (nat_le least n) (nat_lt n limit) (le-leb least n le) (lt-ltb n limit lt))
-  where
-    both : (a b : Bool) → a ≡ true → b ≡ true → (a && b) ≡ true
-    both true true p q = refl
-    both true false p q = absurd cc
-    both false b p q = absurd cc
+number_in_again least limit n rest le lt fits = rw (number_again 6 n rest (omega arith) fits, le-leb least n le, lt-ltb n limit lt) refl
 
 -- the bytes of three numbers
 three : (a b c : ℕ) (rest : List ℕ) → flat_map (number_bytes 6) (a ∷ b ∷ c ∷ []) ++ rest ≡ number_bytes 6 a ++ (number_bytes 6 b ++ (number_bytes 6 c ++ rest))
@@ -111,38 +103,38 @@ pub record IsAllowed (p : Fields) : Type 0 where
   pub ordered : p.from < p.to
   pub in_time : p.to ≤ 2 ^ 40
 
--- p may stand behind q
-pub record IsNext (q p : Fields) : Type 0 where
-  pub doc : q.doc ≤ p.doc
-  pub start : q.doc ≡ p.doc → q.to ≤ p.from
+-- p may stand behind the posting before, if there is one
+pub record IsNext (before : Option Fields) (p : Fields) : Type 0 where
+  pub allowed : IsAllowed p
+  pub doc : doc_before before ≤ p.doc
+  pub start : least_start before p.doc ≤ p.from
 
-base_is : (q p : Fields) → IsNext q p → base_behind q (p.doc - q.doc) + 0 ≤ p.from
-base_is q p n = go (p.doc - q.doc == 0) (λ e. eqb-true (p.doc - q.doc) 0 e)
-  where
-    go : (b : Bool) → (b ≡ true → p.doc - q.doc ≡ 0) → cond b q.to 0 + 0 ≤ p.from
-    go true f = let e = f refl in let le = n.doc in let h = n.start (omega arith) in omega arith
-    go false f = omega arith
+-- postings that may stand one behind the other, the first behind the one before
+abbrev pub AreNext : Option Fields → List Fields → Type 0
+AreNext before [] = ⊤
+AreNext before (p ∷ ps) = IsNext before p × AreNext (Some p) ps
 
--- postings that may stand one behind the other, the first behind this one
-abbrev pub AreNext : Fields → List Fields → Type 0
-AreNext q [] = ⊤
-AreNext q (p ∷ ps) = IsAllowed p × IsNext q p × AreNext p ps
+-- a start counts from the least start that there may be
+base_is : (q : Fields) (doc : ℕ) → q.doc ≤ doc → base_behind q (doc - q.doc) ≡ least_start (Some q) doc
+base_is q doc le =
+    elim (cases_lt q.doc doc) as (λ _. base_behind q (doc - q.doc) ≡ least_start (Some q) doc) [
+      | inl lt ↦ rw (ne_eqb (doc - q.doc) 0 (omega arith), ne_eqb q.doc doc (omega arith)) refl
+      | inr ge ↦ rw (eq-eqb (doc - q.doc) 0 (omega arith), eq-eqb q.doc doc (omega arith)) refl
+    ]
 
-next_bytes : (q p : Fields) (rest : List ℕ) → flat_map (number_bytes 6) ((p.doc - q.doc) ∷ span_numbers (base_behind q (p.doc - q.doc)) p) ++ rest ≡ number_bytes 6 (p.doc - q.doc) ++ (flat_map (number_bytes 6) (span_numbers (base_behind q (p.doc - q.doc)) p) ++ rest)
-next_bytes q p rest = append_assoc (number_bytes 6 (p.doc - q.doc)) (flat_map (number_bytes 6) (span_numbers (base_behind q (p.doc - q.doc)) p)) rest
-
-pub next_again : (q p : Fields) (rest : List ℕ) → IsAllowed p → IsNext q p → next_at q (flat_map (number_bytes 6) ((p.doc - q.doc) ∷ span_numbers (base_behind q (p.doc - q.doc)) p) ++ rest) ≡ Ok (p, rest)
+pub next_again : (q p : Fields) (rest : List ℕ) → IsNext (Some q) p → next_at q (flat_map (number_bytes 6) ((p.doc - q.doc) ∷ span_numbers (base_behind q (p.doc - q.doc)) p) ++ rest) ≡ Ok (p, rest)
 unfolding next_at
-next_again q p rest a n =
+next_again q p rest n =
+    let a = n.allowed in
     let inner = flat_map (number_bytes 6) (span_numbers (base_behind q (p.doc - q.doc)) p) ++ rest in
     let in_docs = a.numbered in let not_before = n.doc in
     let step = number_in_again 0 (2 ^ 32 - q.doc) (p.doc - q.doc) inner (omega arith) (omega arith) (omega arith) in
     let doc-is : q.doc + (p.doc - q.doc) ≡ p.doc = omega arith in
-    let base : base_behind q (p.doc - q.doc) + 0 ≤ p.from = base_is q p n in
+    let base : base_behind q (p.doc - q.doc) + 0 ≤ p.from = omega (arith, base_is q p.doc n.doc, n.start) in
     let span = span_again (base_behind q (p.doc - q.doc)) 0 p rest a.counted a.bounded base a.ordered a.in_time in
-    ap (next_at q) (next_bytes q p rest) ∙ rw (step, doc-is) span
+    ap (next_at q) (append_assoc (number_bytes 6 (p.doc - q.doc)) (flat_map (number_bytes 6) (span_numbers (base_behind q (p.doc - q.doc)) p)) rest) ∙ rw (step, doc-is) span
 
-pub next_taken : (q : Fields) (bytes : List ℕ) (read : Fields × List ℕ) → q.doc < 2 ^ 32 → IsBytes bytes → next_at q bytes ≡ Ok read → IsAllowed read.0 × IsNext q read.0 × (bytes ≡ flat_map (number_bytes 6) ((read.0.doc - q.doc) ∷ span_numbers (base_behind q (read.0.doc - q.doc)) read.0) ++ read.1) × IsBytes read.1
+pub next_taken : (q : Fields) (bytes : List ℕ) (read : Fields × List ℕ) → q.doc < 2 ^ 32 → IsBytes bytes → next_at q bytes ≡ Ok read → IsNext (Some q) read.0 × (bytes ≡ flat_map (number_bytes 6) ((read.0.doc - q.doc) ∷ span_numbers (base_behind q (read.0.doc - q.doc)) read.0) ++ read.1) × IsBytes read.1
 unfolding next_at
 next_taken q bytes read numbered fits e =
     let s = bind_ok (number_in 0 (2 ^ 32 - q.doc) bytes) _ read e in
@@ -151,8 +143,11 @@ next_taken q bytes read numbered fits e =
     let lt = step.limit_is in
     let doc-is = span.doc_is in
     let step-is : s.0.0 ≡ read.0.doc - q.doc = omega arith in (
-      record { numbered = omega arith; counted = span.counted; bounded = span.bounded; ordered = span.ordered; in_time = span.in_time },
-      record { doc = omega arith; start = λ same. let zero-is : s.0.0 ≡ 0 = omega arith in let h = subst (λ n. base_behind q n + 0 ≤ read.0.from) zero-is span.start in let k : q.to + 0 ≤ read.0.from = h in omega arith },
+      record {
+        allowed = record { numbered = omega arith; counted = span.counted; bounded = span.bounded; ordered = span.ordered; in_time = span.in_time };
+        doc = omega arith;
+        start = omega (arith, span.start, ap (base_behind q) step-is, base_is q read.0.doc (omega arith));
+      },
       step.parts ∙ ap (λ (xs : List ℕ). number_bytes 6 s.0.0 ++ xs) span.parts ∙ sym (append_assoc (number_bytes 6 s.0.0) (flat_map (number_bytes 6) (span_numbers (base_behind q s.0.0) read.0)) read.1)
           ∙ ap (λ n. flat_map (number_bytes 6) (n ∷ span_numbers (base_behind q n) read.0) ++ read.1) step-is,
       span.rest_fits,
@@ -162,67 +157,58 @@ next_taken q bytes read numbered fits e =
 others_bytes : (ns ms rest : List ℕ) → flat_map (number_bytes 6) (ns ++ ms) ++ rest ≡ flat_map (number_bytes 6) ns ++ (flat_map (number_bytes 6) ms ++ rest)
 others_bytes ns ms rest = ap (λ (xs : List ℕ). xs ++ rest) (flat_map-append (number_bytes 6) ns ms) ∙ append_assoc (flat_map (number_bytes 6) ns) (flat_map (number_bytes 6) ms) rest
 
-pub others_again : (q : Fields) (ps : List Fields) (rest : List ℕ) → AreNext q ps → others_at (length ps) q (flat_map (number_bytes 6) (other_numbers q ps) ++ rest) ≡ Ok (ps, rest)
+pub others_again : (q : Fields) (ps : List Fields) (rest : List ℕ) → AreNext (Some q) ps → others_at (length ps) q (flat_map (number_bytes 6) (other_numbers q ps) ++ rest) ≡ Ok (ps, rest)
 unfolding others_at
 others_again q [] rest a = refl
 others_again q (p ∷ ps) rest a =
     let bytes = others_bytes ((p.doc - q.doc) ∷ span_numbers (base_behind q (p.doc - q.doc)) p) (other_numbers p ps) rest in
-    let first = next_again q p (flat_map (number_bytes 6) (other_numbers p ps) ++ rest) a.0 a.1 in
-    let others = others_again p ps rest a.2 in
+    let first = next_again q p (flat_map (number_bytes 6) (other_numbers p ps) ++ rest) a.0 in
+    let others = others_again p ps rest a.1 in
     ap (λ (xs : List ℕ). others_at (suc (length ps)) q xs) bytes ∙ rw (first, others) refl
 
-pub others_taken : (count : ℕ) (q : Fields) (bytes : List ℕ) (read : List Fields × List ℕ) → q.doc < 2 ^ 32 → IsBytes bytes → others_at count q bytes ≡ Ok read → (length read.0 ≡ count) × AreNext q read.0 × (bytes ≡ flat_map (number_bytes 6) (other_numbers q read.0) ++ read.1) × IsBytes read.1
+pub others_taken : (count : ℕ) (q : Fields) (bytes : List ℕ) (read : List Fields × List ℕ) → q.doc < 2 ^ 32 → IsBytes bytes → others_at count q bytes ≡ Ok read → (length read.0 ≡ count) × AreNext (Some q) read.0 × (bytes ≡ flat_map (number_bytes 6) (other_numbers q read.0) ++ read.1) × IsBytes read.1
 unfolding others_at
 others_taken zero q bytes read numbered fits e =
-    subst (λ (r : List Fields × List ℕ). (length r.0 ≡ 0) × AreNext q r.0 × (bytes ≡ flat_map (number_bytes 6) (other_numbers q r.0) ++ r.1) × IsBytes r.1) (ok_is ([], bytes) read e) (refl, tt, refl, fits)
+    subst (λ (r : List Fields × List ℕ). (length r.0 ≡ 0) × AreNext (Some q) r.0 × (bytes ≡ flat_map (number_bytes 6) (other_numbers q r.0) ++ r.1) × IsBytes r.1) (ok_is ([], bytes) read e) (refl, tt, refl, fits)
 others_taken (suc count) q bytes read numbered fits e =
     let f = bind_ok (next_at q bytes) _ read e in
     let o = bind_ok (others_at count f.0.0 f.0.1) _ read f.2 in
     let first = next_taken q bytes f.0 numbered fits f.1 in
-    let others = others_taken count f.0.0 f.0.1 o.0 first.0.numbered first.3 o.1 in
+    let others = others_taken count f.0.0 f.0.1 o.0 first.0.allowed.numbered first.2 o.1 in
     let len = others.0 in
-    subst (λ (r : List Fields × List ℕ). (length r.0 ≡ suc count) × AreNext q r.0 × (bytes ≡ flat_map (number_bytes 6) (other_numbers q r.0) ++ r.1) × IsBytes r.1) (ok_is (f.0.0 ∷ o.0.0, o.0.1) read o.2) (
+    subst (λ (r : List Fields × List ℕ). (length r.0 ≡ suc count) × AreNext (Some q) r.0 × (bytes ≡ flat_map (number_bytes 6) (other_numbers q r.0) ++ r.1) × IsBytes r.1) (ok_is (f.0.0 ∷ o.0.0, o.0.1) read o.2) (
       omega arith,
-      (first.0, first.1, others.1),
-      first.2 ∙ ap (λ (xs : List ℕ). flat_map (number_bytes 6) ((f.0.0.doc - q.doc) ∷ span_numbers (base_behind q (f.0.0.doc - q.doc)) f.0.0) ++ xs) others.2
+      (first.0, others.1),
+      first.1 ∙ ap (λ (xs : List ℕ). flat_map (number_bytes 6) ((f.0.0.doc - q.doc) ∷ span_numbers (base_behind q (f.0.0.doc - q.doc)) f.0.0) ++ xs) others.2
           ∙ sym (others_bytes ((f.0.0.doc - q.doc) ∷ span_numbers (base_behind q (f.0.0.doc - q.doc)) f.0.0) (other_numbers f.0.0 o.0.0) o.0.1),
       others.3,
     )
 
 -- ---- the postings of a block
 
--- the first posting may stand behind the one before the block
-pub record IsFirst (before : Option Fields) (p : Fields) : Type 0 where
-  pub allowed : IsAllowed p
-  pub start : least_start before p.doc ≤ p.from
-
-inside_bytes : (p : Fields) (ps : List Fields) (rest : List ℕ) → inside (p ∷ ps) ++ rest ≡ flat_map (number_bytes 6) (span_numbers 0 p) ++ (flat_map (number_bytes 6) (other_numbers p ps) ++ rest)
-inside_bytes p ps rest = others_bytes (span_numbers 0 p) (other_numbers p ps) rest
-
-pub postings_again : (before : Option Fields) (p : Fields) (ps : List Fields) (rest : List ℕ) → IsFirst before p → AreNext p ps → postings_at before p.doc (suc (length ps)) (inside (p ∷ ps) ++ rest) ≡ Ok (p ∷ ps, rest)
+pub postings_again : (before : Option Fields) (p : Fields) (ps : List Fields) (rest : List ℕ) → AreNext before (p ∷ ps) → postings_at before p.doc (suc (length ps)) (inside (p ∷ ps) ++ rest) ≡ Ok (p ∷ ps, rest)
 unfolding postings_at
-postings_again before p ps rest f a =
-    let g = f.allowed in
-    let le = f.start in
+postings_again before p ps rest a =
+    let g = a.0.allowed in
+    let le = a.0.start in
     let span = span_again 0 (least_start before p.doc) p (flat_map (number_bytes 6) (other_numbers p ps) ++ rest) g.counted g.bounded (omega arith) g.ordered g.in_time in
-    let others = others_again p ps rest a in
+    let others = others_again p ps rest a.1 in
     let count : suc (length ps) - 1 ≡ length ps = omega arith in
-    ap (postings_at before p.doc (suc (length ps))) (inside_bytes p ps rest) ∙ rw (span, count, others) refl
+    ap (postings_at before p.doc (suc (length ps))) (others_bytes (span_numbers 0 p) (other_numbers p ps) rest) ∙ rw (span, count, others) refl
 
 pub record ArePostings (before : Option Fields) (doc count : ℕ) (bytes : List ℕ) (read : List Fields × List ℕ) : Type 0 where
   pub first : Fields
   pub others : List Fields
   pub are : read.0 ≡ first ∷ others
   pub doc_is : first.doc ≡ doc
-  pub first_is : IsFirst before first
-  pub next : AreNext first others
+  pub next : AreNext before (first ∷ others)
   pub count_is : length others ≡ count - 1
   pub parts : bytes ≡ inside (first ∷ others) ++ read.1
   pub rest_fits : IsBytes read.1
 
-pub postings_taken : (before : Option Fields) (doc count : ℕ) (bytes : List ℕ) (read : List Fields × List ℕ) → doc < 2 ^ 32 → IsBytes bytes → postings_at before doc count bytes ≡ Ok read → ArePostings before doc count bytes read
+pub postings_taken : (before : Option Fields) (doc count : ℕ) (bytes : List ℕ) (read : List Fields × List ℕ) → doc < 2 ^ 32 → doc_before before ≤ doc → IsBytes bytes → postings_at before doc count bytes ≡ Ok read → ArePostings before doc count bytes read
 unfolding postings_at
-postings_taken before doc count bytes read numbered fits e =
+postings_taken before doc count bytes read numbered behind fits e =
     let f = bind_ok (span_at doc 0 (least_start before doc) bytes) _ read e in
     let o = bind_ok (others_at (count - 1) f.0.0 f.0.1) _ read f.2 in
     let first = span_taken doc 0 (least_start before doc) bytes f.0 fits f.1 in
@@ -234,12 +220,15 @@ postings_taken before doc count bytes read numbered fits e =
       others = o.0.0;
       are = refl;
       doc_is = is;
-      first_is = record {
-        allowed = record { numbered = omega arith; counted = first.counted; bounded = first.bounded; ordered = first.ordered; in_time = first.in_time };
-        start = subst (λ d. least_start before d ≤ f.0.0.from) (sym is) start;
-      };
-      next = others.1;
+      next = (
+        record {
+          allowed = record { numbered = omega arith; counted = first.counted; bounded = first.bounded; ordered = first.ordered; in_time = first.in_time };
+          doc = omega arith;
+          start = subst (λ d. least_start before d ≤ f.0.0.from) (sym is) start;
+        },
+        others.1,
+      );
       count_is = others.0;
-      parts = first.parts ∙ ap (λ (xs : List ℕ). flat_map (number_bytes 6) (span_numbers 0 f.0.0) ++ xs) others.2 ∙ sym (inside_bytes f.0.0 o.0.0 o.0.1);
+      parts = first.parts ∙ ap (λ (xs : List ℕ). flat_map (number_bytes 6) (span_numbers 0 f.0.0) ++ xs) others.2 ∙ sym (others_bytes (span_numbers 0 f.0.0) (other_numbers f.0.0 o.0.0) o.0.1);
       rest_fits = others.3;
     })

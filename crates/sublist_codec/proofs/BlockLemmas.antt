@@ -1,9 +1,8 @@
 -- Reading blocks, as the loops do.
-use Rattle.std.specs.Prelude.{◌≡◌, ℕ, zero, suc, ◌+◌, ◌-◌, ◌*◌, ◌^◌, ◌<◌, ◌≤◌, max, Bool, true, false, cond, nat_lt, nat_le, ◌==◌, ◌&&◌, List, [], ◌∷◌, ◌++◌, length, get_or, map, take, drop, Option, Some, None, Result, Ok, Err, refl}
+use Rattle.std.specs.Prelude.{◌≡◌, ℕ, zero, suc, ◌+◌, ◌-◌, ◌*◌, ◌^◌, ◌<◌, ◌≤◌, Bool, true, false, cond, nat_lt, nat_le, ◌==◌, ◌&&◌, List, [], ◌∷◌, ◌++◌, length, map, take, drop, Option, Some, None, Result, Ok, Err, refl}
 use Rattle.std.proofs.Common.{sym, ap, ◌∙◌, arith, append_assoc}
 use Rattle.std.proofs.lemmas.Bool.{ltb-false}
-use Rattle.std.proofs.lemmas.Bool.Decides.{nat_tests}
-use Rattle.std.proofs.lemmas.List.{append-nil, map_push, take_more, length-drop, length-take}
+use Rattle.std.proofs.lemmas.List.{append-nil, map_push, length-drop, length-take}
 use Rattle.time_base.specs.declared.posting.Posting.{Posting}
 use Rattle.sublist_codec.specs.declared.error.ReadError.{ReadError}
 use Rattle.sublist_codec.specs.declared.error.ReadError.TheVariants.{Form, Memory}
@@ -12,28 +11,10 @@ use Rattle.time_base.specs.Reading.{◌>>=◌, value_or}
 use Rattle.sublist_codec.specs.Steps.{last_of}
 use Rattle.sublist_codec.specs.Numbers.{with_low, number_at}
 use Rattle.sublist_codec.specs.Gives.{Fails, with_front}
-use Rattle.sublist_codec.specs.Blocks.{top_of, last_doc, if_within, number_in, base_behind, least_start, span_at, next_at, others_at, postings_at, Head, head_front, may_lead, is_true, before_more, body_at, block_at, blocks_at}
+use Rattle.sublist_codec.specs.Blocks.{if_within, number_in, base_behind, least_start, span_at, next_at, others_at, postings_at, Head, head_front, may_lead, is_true, before_more, body_at, block_at, blocks_at}
 use Rattle.time_base.proofs.Readings.{Within, Within-then, Within-next, Within-err, Within-ok}
 use Rattle.sublist_codec.proofs.AllAt.{IsRead, begins}
-
--- ---- the greatest frequency and the last document
-
-top_push : (top : ℕ) (ps : List Fields) (p : Fields) → top_of top (ps ++ p ∷ []) ≡ max (top_of top ps) p.tf
-top_push top [] p = refl
-top_push top (q ∷ ps) p = top_push (max top q.tf) ps p
-
-last_push : (doc : ℕ) (ps : List Fields) (p : Fields) → last_doc doc (ps ++ p ∷ []) ≡ p.doc
-last_push doc [] p = refl
-last_push doc (q ∷ ps) p = last_push q.doc ps p
-
-one_more : (list : List Posting) (i : ℕ) (p : Posting) → i < length list → p ≡ get_or list i p → map fields (take (i + 1) list) ≡ map fields (take i list) ++ fields p ∷ []
-one_more list i p lt is = ap (λ (ps : List Posting). map fields ps) (take_more list i p lt ∙ ap (λ (q : Posting). take i list ++ q ∷ []) (sym is)) ∙ map_push fields (take i list) p
-
-pub top_more : (list : List Posting) (i : ℕ) (p : Posting) (top new : ℕ) → i < length list → p ≡ get_or list i p → top ≡ top_of 0 (map fields (take i list)) → new ≡ max top p.tf → new ≡ top_of 0 (map fields (take (i + 1) list))
-top_more list i p top new lt is so_far e = e ∙ ap (λ (t : ℕ). max t p.tf) so_far ∙ sym (ap (top_of 0) (one_more list i p lt is) ∙ top_push 0 (map fields (take i list)) (fields p))
-
-pub last_more : (list : List Posting) (i : ℕ) (p : Posting) → i < length list → p ≡ get_or list i p → p.doc.0 ≡ last_doc 0 (map fields (take (i + 1) list))
-last_more list i p lt is = sym (ap (last_doc 0) (one_more list i p lt is) ∙ last_push 0 (map fields (take i list)) (fields p))
+use Rattle.sublist_codec.proofs.BlockWalk.{lead_is}
 
 -- ---- postings one after the other
 
@@ -46,8 +27,7 @@ pub goes_on : (front : List Fields) (count i : ℕ) (q : Fields) (bytes : List �
 unfolding others_at
 goes_on front count i q bytes p behind total lt h so_far =
     let k : count - i ≡ suc (count - (i + 1)) = omega arith in
-    let one : with_front front (others_at (count - i) q bytes) ≡ with_front (front ++ p ∷ []) (others_at (count - (i + 1)) p behind) = rw (k, h) (regroup front p (others_at (count - (i + 1)) p behind)) in
-    sym one ∙ so_far
+    sym (regroup front p (others_at (count - (i + 1)) p behind)) ∙ (rw (k, h) at so_far)
 
 pub ends : (e : ReadError) (front : List Fields) (count i : ℕ) (q : Fields) (bytes : List ℕ) (total : Result (List Fields × List ℕ) ℕ) → i < count → Fails e (next_at q bytes)
     → with_front front (others_at (count - i) q bytes) ≡ total → Fails e total
@@ -55,15 +35,13 @@ unfolding others_at
 ends Memory front count i q bytes total lt h so_far = tt
 ends (Form left) front count i q bytes total lt h so_far =
     let k : count - i ≡ suc (count - (i + 1)) = omega arith in
-    let one : with_front front (others_at (count - i) q bytes) ≡ Err left = rw (k, h) refl in
-    sym so_far ∙ one
+    sym (rw (k, h) at so_far)
 
 pub is_done : (front : List Fields) (count i : ℕ) (q : Fields) (bytes : List ℕ) (total : Result (List Fields × List ℕ) ℕ) → count ≤ i → with_front front (others_at (count - i) q bytes) ≡ total → total ≡ Ok (front, bytes)
 unfolding others_at
 is_done front count i q bytes total le so_far =
     let k : count - i ≡ 0 = omega arith in
-    let one : with_front front (others_at (count - i) q bytes) ≡ Ok (front, bytes) = rw k (ap (λ (ps : List Fields). Ok (ps, bytes)) (append-nil front)) in
-    sym so_far ∙ one
+    sym (rw k at so_far) ∙ ap (λ (ps : List Fields). Ok (ps, bytes)) (append-nil front)
 
 -- ---- what is left
 
@@ -84,6 +62,11 @@ number_shorter (suc most) (b ∷ bytes) read e = go (nat_lt b 128) (number_at mo
 
 abbrev rest_of : {A : Type 0} → A × List ℕ → ℕ
 rest_of x = length x.1
+
+-- a reading that goes on by a test
+within_if : {A : Type 0} (rest : A → ℕ) (len : ℕ) (b : Bool) (x y : Result A ℕ) → (b ≡ true → Within rest len x) → (b ≡ false → Within rest len y) → Within rest len (cond b x y)
+within_if rest len true x y one other = one refl
+within_if rest len false x y one other = other refl
 
 number_in-within : (least limit : ℕ) (bytes : List ℕ) → Within rest_of (length bytes) (number_in least limit bytes)
 unfolding number_in
@@ -131,40 +114,26 @@ pub blocks_begin : (bytes : List ℕ) → IsRead block_at (blocks_at bytes) [] N
 unfolding blocks_at
 blocks_begin bytes = begins block_at None bytes
 
-pub body-within : (before : Option Fields) (bytes : List ℕ) (head : Head) (rest : List ℕ) → length rest < length bytes → head.size ≤ length rest → Within (λ x. length x.1 + 1) (length bytes) (body_at before bytes head rest)
+body-within : (before : Option Fields) (bytes : List ℕ) (head : Head) (rest : List ℕ) → length rest < length bytes → head.size ≤ length rest → Within (λ x. length x.1 + 1) (length bytes) (body_at before bytes head rest)
 unfolding body_at
 body-within before bytes head rest lt le =
     let behind = length-drop head.size rest in
     let inside = length-take head.size rest in
-    let w = postings_at-within before head.first head.count (take head.size rest) in
-    go (postings_at before head.first head.count (take head.size rest)) (omega arith) (omega arith) w
+    go (postings_at before head.first head.count (take head.size rest)) (omega arith) (omega arith) (postings_at-within before head.first head.count (take head.size rest))
   where
-    test : (b : Bool) (ps : List Fields) → length (drop head.size rest) < length bytes → Within (λ (x : List Fields × List ℕ). length x.1 + 1) (length bytes) (cond b (Ok (ps, drop head.size rest)) (Err (length bytes)))
-    test true ps lt = omega arith
-    test false ps lt = omega arith
-
     go : (r : Result (List Fields × List ℕ) ℕ) → length (drop head.size rest) < length bytes → length (take head.size rest) + length (drop head.size rest) ≤ length bytes → Within (λ (x : List Fields × List ℕ). length x.1) (length (take head.size rest)) r
         → Within (λ (x : List Fields × List ℕ). length x.1 + 1) (length bytes) (before_more (length (drop head.size rest)) r >>= λ read. cond (is_true head read) (Ok (read.0, drop head.size rest)) (Err (length bytes)))
-    go (Ok read) a b w = test (is_true head read) read.0 a
+    go (Ok read) a b w = within_if _ _ (is_true head read) _ _ (λ e. omega arith) (λ e. omega arith)
     go (Err left) a b w = omega arith
 
-lead_parts : (before : Option Fields) (head : Head) (behind : ℕ) → may_lead before head behind ≡ true → (1 ≤ head.count) × (head.count ≤ 128) × (head.size ≤ behind)
-lead_parts before head behind e = grind (arith, nat_tests)
-
-pub block-within : (before : Option Fields) (bytes : List ℕ) → Within (λ x. length x.1 + 1) (length bytes) (block_at before bytes)
+block-within : (before : Option Fields) (bytes : List ℕ) → Within (λ x. length x.1 + 1) (length bytes) (block_at before bytes)
 unfolding block_at
-block-within before bytes = go (nat_lt (length bytes) 15) (λ e. ltb-false (length bytes) 15 e)
-  where
-    lead : (b : Bool) → (b ≡ true → (head_front bytes).0.size ≤ length (head_front bytes).1) → length (head_front bytes).1 < length bytes → Within (λ (x : List Fields × List ℕ). length x.1 + 1) (length bytes) (cond b (body_at before bytes (head_front bytes).0 (head_front bytes).1) (Err (length bytes)))
-    lead true f lt = body-within before bytes (head_front bytes).0 (head_front bytes).1 lt (f refl)
-    lead false f lt = omega arith
-
-    go : (b : Bool) → (b ≡ false → 15 ≤ length bytes) → Within (λ (x : List Fields × List ℕ). length x.1 + 1) (length bytes) (cond b (Err (length bytes)) (cond (may_lead before (head_front bytes).0 (length (head_front bytes).1)) (body_at before bytes (head_front bytes).0 (head_front bytes).1) (Err (length bytes))))
-    go true f = omega arith
-    go false f =
-        let long = f refl in
-        lead (may_lead before (head_front bytes).0 (length (head_front bytes).1)) (λ e. (lead_parts before (head_front bytes).0 (length (head_front bytes).1) e).2)
-        (omega (arith, length-drop 1 bytes, length-drop 2 (drop 1 bytes), length-drop 4 (drop 2 (drop 1 bytes)), length-drop 4 (drop 4 (drop 2 (drop 1 bytes))), length-drop 4 (drop 4 (drop 4 (drop 2 (drop 1 bytes))))))
+block-within before bytes =
+    let h = head_front bytes in
+    within_if _ _ (nat_lt (length bytes) 15) _ _ (λ e. omega arith) (λ e. within_if _ _ (may_lead before h.0 (length h.1)) _ _
+    (λ f. body-within before bytes h.0 h.1 (omega (arith, ltb-false (length bytes) 15 e, length-drop 1 bytes, length-drop 2 (drop 1 bytes), length-drop 4 (drop 2 (drop 1 bytes)), length-drop 4 (drop 4 (drop 2 (drop 1 bytes))), length-drop 4 (drop 4 (drop 4 (drop 2 (drop 1 bytes))))))
+    (lead_is before h.0 (length h.1) f).within)
+    (λ f. omega arith))
 
 pub block_shorter : (before : Option Fields) (bytes : List ℕ) (xs : List Fields) (behind : List ℕ) → block_at before bytes ≡ Ok (xs, behind) → length behind < length bytes
 block_shorter before bytes xs behind e = let h = Within-ok (λ x. length x.1 + 1) (length bytes) (block_at before bytes) (xs, behind) (block-within before bytes) e in omega arith

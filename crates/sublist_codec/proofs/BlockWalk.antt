@@ -1,79 +1,54 @@
 -- Blocks: what is read as a block is spelled so, and what is spelled so is read; and so along all blocks of a list.
-use Rattle.std.specs.Prelude.{◌≡◌, ◌⊎◌, ℕ, zero, suc, ◌+◌, ◌-◌, ◌^◌, ◌<◌, ◌≤◌, max, Bool, true, false, cond, nat_lt, nat_le, ◌==◌, ◌&&◌, ◌||◌, List, [], ◌∷◌, ◌++◌, length, take, drop, Option, Some, Result, Ok, Err, refl, ⊤}
+use Rattle.std.specs.Prelude.{◌≡◌, ◌⊎◌, ℕ, zero, suc, ◌+◌, ◌-◌, ◌^◌, ◌<◌, ◌≤◌, max, true, false, cond, nat_lt, ◌==◌, ◌&&◌, List, [], ◌∷◌, ◌++◌, length, take, drop, Option, Some, Result, Ok, Err, refl}
 use Rattle.std.proofs.Common.{sym, ap, subst, ◌∙◌, inl, inr, arith, append_assoc}
 use Rattle.std.specs.List.{flat_map}
 use Rattle.std.specs.Int.{w16, w32, to_be_bytes}
-use Rattle.std.proofs.lemmas.Bool.{cases_lt, and_parts, eqb-true, ltb-false, leb-true, le-ltb, le-leb, eq-eqb}
-use Rattle.std.proofs.lemmas.List.{append-nil, length-append, length-take, length-drop, take-append-drop, take_at, drop_at, take_all, drop_all}
+use Rattle.std.proofs.lemmas.Bool.{cases_lt, and_parts, eqb-true, ltb-false, le-ltb, eq-eqb}
+use Rattle.std.proofs.lemmas.Bool.Decides.{nat_tests}
+use Rattle.std.proofs.lemmas.List.{append-nil, length-append, length-take, length-drop, nil_from_length, take-append-drop, take_at, drop_at, take_all, drop_all}
 use Rattle.sublist_codec.specs.Fields.{Fields}
 use Rattle.time_base.specs.Reading.{◌>>=◌}
 use Rattle.sublist_codec.specs.Steps.{last_of, all_at}
 use Rattle.sublist_codec.specs.Blocks.{inside, Head, top_of, last_doc, head_bytes, head_for, block, pieces, head_front, doc_before, may_lead, is_true, before_more, postings_at, body_at, block_at}
 use Rattle.time_base.proofs.Readings.{ok_is, bind_ok}
 use Rattle.sublist_codec.proofs.Steps.{guard_ok, test_ok}
-use Rattle.time_base.proofs.Bytes.{IsBytes, IsBytes-take, IsBytes-drop, wide16, wide32, number_back, number_below, number_again}
+use Rattle.time_base.proofs.Bytes.{IsBytes, IsBytes-take, IsBytes-drop, wide16, wide32, number_again}
 use Rattle.sublist_codec.proofs.AllAt.{all_step}
 use Rattle.sublist_codec.proofs.WriteLemmas.{inside_length}
-use Rattle.sublist_codec.proofs.BlockLaws.{AreNext, IsFirst, postings_taken, postings_again}
+use Rattle.sublist_codec.proofs.FrontLemmas.{front_is}
+use Rattle.sublist_codec.proofs.BlockLaws.{AreNext, postings_taken, postings_again}
 
--- ---- postings behind the one before the block
+-- ---- postings of a block or of several
 
--- postings of a block or of several, the first of which may stand behind this one
-abbrev pub AreFrom : Option Fields → List Fields → Type 0
-AreFrom before [] = ⊤
-AreFrom before (p ∷ ps) = IsFirst before p × (doc_before before ≤ p.doc) × AreNext p ps
+next-parts : (before : Option Fields) (ps rest : List Fields) → AreNext before (ps ++ rest) → AreNext before ps × AreNext (last_of before ps) rest
+next-parts before [] rest next = (tt, next)
+next-parts before (p ∷ ps) rest next = let more = next-parts (Some p) ps rest next.1 in ((next.0, more.0), more.1)
 
-from-next : (q : Fields) (ps : List Fields) → AreNext q ps → AreFrom (Some q) ps
-from-next q [] next = tt
-from-next q (p ∷ ps) next = (record { allowed = next.0; start = go (q.doc == p.doc) (λ e. eqb-true q.doc p.doc e) }, next.1.doc, next.2)
-  where
-    go : (b : Bool) → (b ≡ true → q.doc ≡ p.doc) → cond b q.to 0 ≤ p.from
-    go true same = next.1.start (same refl)
-    go false same = omega arith
-
-next-from : (q : Fields) (ps : List Fields) → AreFrom (Some q) ps → AreNext q ps
-next-from q [] from = tt
-next-from q (p ∷ ps) from = (from.0.allowed, record { doc = from.1; start = λ same. subst (λ b. cond b q.to 0 ≤ p.from) (eq-eqb q.doc p.doc same) from.0.start }, from.2)
-
-next-parts : (q : Fields) (ps rest : List Fields) → AreNext q (ps ++ rest) → AreNext q ps × AreFrom (last_of (Some q) ps) rest
-next-parts q [] rest next = (tt, from-next q rest next)
-next-parts q (p ∷ ps) rest next = let more = next-parts p ps rest next.2 in ((next.0, next.1, more.0), more.1)
-
-next-join : (q : Fields) (ps rest : List Fields) → AreNext q ps → AreFrom (last_of (Some q) ps) rest → AreNext q (ps ++ rest)
-next-join q [] rest next from = next-from q rest from
-next-join q (p ∷ ps) rest next from = (next.0, next.1, next-join p ps rest next.2 from)
-
-from-parts : (before : Option Fields) (ps rest : List Fields) → AreFrom before (ps ++ rest) → AreFrom before ps × AreFrom (last_of before ps) rest
-from-parts before [] rest from = (tt, from)
-from-parts before (p ∷ ps) rest from = let more = next-parts p ps rest from.2 in ((from.0, from.1, more.0), more.1)
-
-from-join : (before : Option Fields) (ps rest : List Fields) → AreFrom before ps → AreFrom (last_of before ps) rest → AreFrom before (ps ++ rest)
-from-join before [] rest from more = more
-from-join before (p ∷ ps) rest from more = (from.0, from.1, next-join p ps rest from.2 more)
+next-join : (before : Option Fields) (ps rest : List Fields) → AreNext before ps → AreNext (last_of before ps) rest → AreNext before (ps ++ rest)
+next-join before [] rest next more = more
+next-join before (p ∷ ps) rest next more = (next.0, next-join (Some p) ps rest next.1 more)
 
 -- ---- headers
 
-head_back : (bytes : List ℕ) → IsBytes bytes → 15 ≤ length bytes → bytes ≡ head_bytes (head_front bytes).0 ++ (head_front bytes).1
+-- a header that was read is spelled there
+record IsHead (bytes : List ℕ) : Type 0 where
+  pub parts : bytes ≡ head_bytes (head_front bytes).0 ++ (head_front bytes).1
+  pub first_fits : (head_front bytes).0.first < 2 ^ 32
+  pub rest_fits : IsBytes (head_front bytes).1
+
+head_back : (bytes : List ℕ) → IsBytes bytes → 15 ≤ length bytes → IsHead bytes
 head_back [] fits long = absurd (omega arith)
 head_back (b ∷ bytes) fits long =
-    let fits0 : IsBytes bytes = λ i. fits (suc i) in
-    let fits1 = IsBytes-drop 2 bytes fits0 in
-    let fits2 = IsBytes-drop 4 (drop 2 bytes) fits1 in
-    let fits3 = IsBytes-drop 4 (drop 4 (drop 2 bytes)) fits2 in
-    let l1 = length-drop 2 bytes in
-    let l2 = length-drop 4 (drop 2 bytes) in
-    let l3 = length-drop 4 (drop 4 (drop 2 bytes)) in
     let h = (head_front (b ∷ bytes)).0 in
-    let size = number_back w16 (2 ^ 16) wide16 bytes fits0 (omega arith) in
-    let top = number_back w32 (2 ^ 32) wide32 (drop 2 bytes) fits1 (omega arith) in
-    let first = number_back w32 (2 ^ 32) wide32 (drop 4 (drop 2 bytes)) fits2 (omega arith) in
-    let last = number_back w32 (2 ^ 32) wide32 (drop 4 (drop 4 (drop 2 bytes))) fits3 (omega arith) in
-    ap (λ (xs : List ℕ). b ∷ xs) (size ∙ ap (λ (xs : List ℕ). to_be_bytes w16 h.size ++ xs) (top ∙ ap (λ (xs : List ℕ). to_be_bytes w32 h.top ++ xs) (first ∙ ap (λ (xs : List ℕ). to_be_bytes w32 h.first ++ xs) last)))
-
-head_fits : (bytes : List ℕ) → IsBytes bytes → ((head_front bytes).0.first < 2 ^ 32) × IsBytes (head_front bytes).1
-head_fits bytes fits =
-    let fits1 = IsBytes-drop 4 (drop 2 (drop 1 bytes)) (IsBytes-drop 2 (drop 1 bytes) (IsBytes-drop 1 bytes fits)) in
-    (number_below w32 (2 ^ 32) wide32 (drop 4 (drop 2 (drop 1 bytes))) fits1, IsBytes-drop 4 (drop 4 (drop 4 (drop 2 (drop 1 bytes)))) (IsBytes-drop 4 (drop 4 (drop 2 (drop 1 bytes))) fits1))
+    let size = front_is w16 (2 ^ 16) wide16 bytes (λ i. fits (suc i)) (omega arith) in
+    let top = front_is w32 (2 ^ 32) wide32 (drop 2 bytes) size.rest_fits (omega (arith, size.shorter)) in
+    let first = front_is w32 (2 ^ 32) wide32 (drop 4 (drop 2 bytes)) top.rest_fits (omega (arith, size.shorter, top.shorter)) in
+    let last = front_is w32 (2 ^ 32) wide32 (drop 4 (drop 4 (drop 2 bytes))) first.rest_fits (omega (arith, size.shorter, top.shorter, first.shorter)) in
+    record {
+      parts = ap (λ (xs : List ℕ). b ∷ xs) (size.parts ∙ ap (λ (xs : List ℕ). to_be_bytes w16 h.size ++ xs) (top.parts ∙ ap (λ (xs : List ℕ). to_be_bytes w32 h.top ++ xs) (first.parts ∙ ap (λ (xs : List ℕ). to_be_bytes w32 h.first ++ xs) last.parts)));
+      first_fits = first.below;
+      rest_fits = last.rest_fits;
+    }
 
 head_again : (h : Head) (rest : List ℕ) → h.size < 2 ^ 16 → h.top < 2 ^ 32 → h.first < 2 ^ 32 → h.last < 2 ^ 32 → head_front (head_bytes h ++ rest) ≡ (h, rest)
 head_again h rest size_fits top_fits first_fits last_fits =
@@ -85,63 +60,35 @@ head_again h rest size_fits top_fits first_fits last_fits =
 
 -- ---- tests
 
-record IsLead (before : Option Fields) (head : Head) (behind : ℕ) : Type 0 where
+pub record IsLead (before : Option Fields) (head : Head) (behind : ℕ) : Type 0 where
   pub some : 1 ≤ head.count
   pub most : head.count ≤ 128
   pub within : head.size ≤ behind
   pub full : (head.count ≡ 128) ⊎ (head.size ≡ behind)
   pub doc : doc_before before ≤ head.first
 
-lead_is : (before : Option Fields) (head : Head) (behind : ℕ) → may_lead before head behind ≡ true → IsLead before head behind
-lead_is before head behind e =
-    let d = and_parts (nat_le 1 head.count && nat_le head.count 128 && nat_le head.size behind && (head.count == 128 || head.size == behind)) (nat_le (doc_before before) head.first) e in
-    let f = and_parts (nat_le 1 head.count && nat_le head.count 128 && nat_le head.size behind) (head.count == 128 || head.size == behind) d.0 in
-    let w = and_parts (nat_le 1 head.count && nat_le head.count 128) (nat_le head.size behind) f.0 in
-    let c = and_parts (nat_le 1 head.count) (nat_le head.count 128) w.0 in
-    record {
-      some = leb-true 1 head.count c.0;
-      most = leb-true head.count 128 c.1;
-      within = leb-true head.size behind w.1;
-      full = either (head.count == 128) (head.size == behind) f.1 (λ h. eqb-true head.count 128 h) (λ h. eqb-true head.size behind h);
-      doc = leb-true (doc_before before) head.first d.1;
-    }
-  where
-    either : (a b : Bool) → (a || b) ≡ true → (a ≡ true → head.count ≡ 128) → (b ≡ true → head.size ≡ behind) → (head.count ≡ 128) ⊎ (head.size ≡ behind)
-    either true b e one other = inl (one refl)
-    either false true e one other = inr (other refl)
-    either false false e one other = absurd cc
+pub lead_is : (before : Option Fields) (head : Head) (behind : ℕ) → may_lead before head behind ≡ true → IsLead before head behind
+lead_is before head behind e = record {
+  some = grind (arith, nat_tests);
+  most = grind (arith, nat_tests);
+  within = grind (arith, nat_tests);
+  full = grind (arith, nat_tests);
+  doc = grind (arith, nat_tests);
+}
 
 lead_passes : (before : Option Fields) (head : Head) (behind : ℕ) → IsLead before head behind → may_lead before head behind ≡ true
-lead_passes before head behind lead =
-    rw (
-      le-leb 1 head.count lead.some,
-      le-leb head.count 128 lead.most,
-      le-leb head.size behind lead.within,
-      le-leb (doc_before before) head.first lead.doc,
-      (elim lead.full as (λ _. (head.count == 128 || head.size == behind) ≡ true) [
-        | inl full ↦ rw (eq-eqb head.count 128 full) refl
-        | inr last ↦ rw (eq-eqb head.size behind last) (either_true (head.count == 128))
-      ]),
-    ) refl
-  where
-    either_true : (b : Bool) → (b || true) ≡ true
-    either_true true = refl
-    either_true false = refl
+lead_passes before head behind lead = grind (arith, nat_tests, lead.some, lead.most, lead.within, lead.full, lead.doc)
 
 -- ---- a block
 
 -- a block that was read is spelled there, and may stand there
 pub record IsBlock (before : Option Fields) (bytes : List ℕ) (read : List Fields × List ℕ) : Type 0 where
-  pub from : AreFrom before read.0
+  pub from : AreNext before read.0
   pub some : 1 ≤ length read.0
   pub most : length read.0 ≤ 128
   pub full : (length read.0 ≡ 128) ⊎ (read.1 ≡ [])
   pub parts : bytes ≡ block read.0 ++ read.1
   pub rest_fits : IsBytes read.1
-
-none_left : (xs : List ℕ) → length xs ≡ 0 → xs ≡ []
-none_left [] e = refl
-none_left (x ∷ xs) e = absurd (omega arith)
 
 more_ok : {A : Type 0} (behind : ℕ) (r : Result A ℕ) (x : A) → before_more behind r ≡ Ok x → r ≡ Ok x
 more_ok behind (Ok y) x e = e
@@ -162,12 +109,12 @@ body_taken : (before : Option Fields) (bytes : List ℕ) (head : Head) (rest : L
 unfolding body_at
 body_taken before bytes head rest read numbered fits parts lead e =
     let b = bind_ok (before_more (length (drop head.size rest)) (postings_at before head.first head.count (take head.size rest))) _ read e in
-    let p = postings_taken before head.first head.count (take head.size rest) b.0 numbered (IsBytes-take head.size rest fits) (more_ok (length (drop head.size rest)) (postings_at before head.first head.count (take head.size rest)) b.0 b.1) in
+    let p = postings_taken before head.first head.count (take head.size rest) b.0 numbered lead.doc (IsBytes-take head.size rest fits) (more_ok (length (drop head.size rest)) (postings_at before head.first head.count (take head.size rest)) b.0 b.1) in
     let t = test_ok (is_true head b.0) (Ok (b.0.0, drop head.size rest)) (length bytes) read b.2 in
     let w = and_parts (length b.0.1 == 0 && head.top == top_of 0 b.0.0) (head.last == last_doc 0 b.0.0) t.0 in
     let v = and_parts (length b.0.1 == 0) (head.top == top_of 0 b.0.0) w.0 in
     let whole = p.first ∷ p.others in
-    let none = none_left b.0.1 (eqb-true (length b.0.1) 0 v.0) in
+    let none = nil_from_length b.0.1 (eqb-true (length b.0.1) 0 v.0) in
     let inner : take head.size rest ≡ inside whole = p.parts ∙ ap (λ (xs : List ℕ). inside whole ++ xs) none ∙ append-nil (inside whole) in
     let top = subst (λ (ps : List Fields). head.top ≡ top_of 0 ps) p.are (eqb-true head.top (top_of 0 b.0.0) v.1) in
     let last = subst (λ (ps : List Fields). head.last ≡ last_doc 0 ps) p.are (eqb-true head.last (last_doc 0 b.0.0) w.1) in
@@ -175,10 +122,8 @@ body_taken before bytes head rest read numbered fits parts lead e =
     let some = lead.some in
     let most = lead.most in
     let count = p.count_is in
-    let doc = lead.doc in
-    let doc_is = p.doc_is in
     subst (IsBlock before bytes) ((λ i. (sym p.are i, drop head.size rest)) ∙ ok_is (b.0.0, drop head.size rest) read t.1) (record {
-      from = (p.first_is, omega arith, p.next);
+      from = p.next;
       some = omega arith;
       most = omega arith;
       full = elim lead.full as (λ _. (length whole ≡ 128) ⊎ (drop head.size rest ≡ [])) [
@@ -195,29 +140,29 @@ unfolding block_at
 block_taken before bytes read fits e =
     let g = guard_ok (nat_lt (length bytes) 15) (length bytes) _ read e in
     let t = test_ok (may_lead before (head_front bytes).0 (length (head_front bytes).1)) _ (length bytes) read g.1 in
-    let f = head_fits bytes fits in
-    body_taken before bytes (head_front bytes).0 (head_front bytes).1 read f.0 f.1 (head_back bytes fits (ltb-false (length bytes) 15 g.0)) (lead_is before (head_front bytes).0 (length (head_front bytes).1) t.0) t.1
+    let h = head_back bytes fits (ltb-false (length bytes) 15 g.0) in
+    body_taken before bytes (head_front bytes).0 (head_front bytes).1 read h.first_fits h.rest_fits h.parts (lead_is before (head_front bytes).0 (length (head_front bytes).1) t.0) t.1
 
-top_below : (top : ℕ) (q : Fields) (ps : List Fields) → top < 2 ^ 32 → AreNext q ps → top_of top ps < 2 ^ 32
-top_below top q [] lt next = lt
-top_below top q (p ∷ ps) lt next = top_below (max top p.tf) p ps (omega (arith, next.0.bounded)) next.2
+top_below : (top : ℕ) (before : Option Fields) (ps : List Fields) → top < 2 ^ 32 → AreNext before ps → top_of top ps < 2 ^ 32
+top_below top before [] lt next = lt
+top_below top before (p ∷ ps) lt next = top_below (max top p.tf) (Some p) ps (omega (arith, next.0.allowed.bounded)) next.1
 
-last_below : (doc : ℕ) (q : Fields) (ps : List Fields) → doc < 2 ^ 32 → AreNext q ps → last_doc doc ps < 2 ^ 32
-last_below doc q [] lt next = lt
-last_below doc q (p ∷ ps) lt next = last_below p.doc p ps next.0.numbered next.2
+last_below : (doc : ℕ) (before : Option Fields) (ps : List Fields) → doc < 2 ^ 32 → AreNext before ps → last_doc doc ps < 2 ^ 32
+last_below doc before [] lt next = lt
+last_below doc before (p ∷ ps) lt next = last_below p.doc (Some p) ps next.0.allowed.numbered next.1
 
 -- a block's postings, by the bytes of its postings and those behind them
 abbrev body_of : Option Fields → List ℕ → Head → List ℕ → List ℕ → Result (List Fields × List ℕ) ℕ
 body_of before bytes head xs ys = before_more (length ys) (postings_at before head.first head.count xs) >>= λ read. cond (is_true head read) (Ok (read.0, ys)) (Err (length bytes))
 
-body_again : (before : Option Fields) (p : Fields) (ps : List Fields) (rest bytes : List ℕ) → AreFrom before (p ∷ ps) → body_at before bytes (head_for (p ∷ ps)) (inside (p ∷ ps) ++ rest) ≡ Ok (p ∷ ps, rest)
+body_again : (before : Option Fields) (p : Fields) (ps : List Fields) (rest bytes : List ℕ) → AreNext before (p ∷ ps) → body_at before bytes (head_for (p ∷ ps)) (inside (p ∷ ps) ++ rest) ≡ Ok (p ∷ ps, rest)
 unfolding body_at
 body_again before p ps rest bytes from =
     let h = head_for (p ∷ ps) in
     let inner = inside (p ∷ ps) in
     let taken : take h.size (inner ++ rest) ≡ inner = take_at inner rest h.size refl in
     let dropped : drop h.size (inner ++ rest) ≡ rest = drop_at inner rest h.size refl in
-    let read : postings_at before p.doc (suc (length ps)) inner ≡ Ok (p ∷ ps, []) = ap (postings_at before p.doc (suc (length ps))) (sym (append-nil inner)) ∙ postings_again before p ps [] from.0 from.2 in
+    let read : postings_at before p.doc (suc (length ps)) inner ≡ Ok (p ∷ ps, []) = ap (postings_at before p.doc (suc (length ps))) (sym (append-nil inner)) ∙ postings_again before p ps [] from in
     let right : is_true h (p ∷ ps, []) ≡ true = rw (eq-eqb h.top h.top refl, eq-eqb h.last h.last refl) refl in
     (λ i. body_of before bytes h (taken i) (dropped i))
     ∙ ap (λ (r : Result (List Fields × List ℕ) ℕ). before_more (length rest) r >>= λ read. cond (is_true h read) (Ok (read.0, rest)) (Err (length bytes))) read
@@ -227,22 +172,21 @@ body_again before p ps rest bytes from =
 abbrev led : Option Fields → List ℕ → Head × List ℕ → Result (List Fields × List ℕ) ℕ
 led before bytes h = cond (may_lead before h.0 (length h.1)) (body_at before bytes h.0 h.1) (Err (length bytes))
 
-pub block_again : (before : Option Fields) (p : Fields) (ps : List Fields) (rest : List ℕ) → AreFrom before (p ∷ ps) → length (p ∷ ps) ≤ 128 → (length (p ∷ ps) ≡ 128) ⊎ (rest ≡ [])
+pub block_again : (before : Option Fields) (p : Fields) (ps : List Fields) (rest : List ℕ) → AreNext before (p ∷ ps) → length (p ∷ ps) ≤ 128 → (length (p ∷ ps) ≡ 128) ⊎ (rest ≡ [])
     → block_at before (block (p ∷ ps) ++ rest) ≡ Ok (p ∷ ps, rest)
 unfolding block_at
 block_again before p ps rest from most full =
     let h = head_for (p ∷ ps) in
     let inner = inside (p ∷ ps) in
     let bytes = head_bytes h ++ (inner ++ rest) in
-    let a = from.0.allowed in
-    let front : head_front bytes ≡ (h, inner ++ rest) = head_again h (inner ++ rest) (omega (arith, inside_length (p ∷ ps))) (top_below (max 0 p.tf) p ps (omega (arith, a.bounded)) from.2) a.numbered (last_below p.doc p ps a.numbered from.2) in
+    let front : head_front bytes ≡ (h, inner ++ rest) = head_again h (inner ++ rest) (omega (arith, inside_length (p ∷ ps))) (top_below 0 before (p ∷ ps) (omega arith) from) from.0.allowed.numbered (last_below 0 before (p ∷ ps) (omega arith) from) in
     let long : nat_lt (length bytes) 15 ≡ false = le-ltb (length bytes) 15 (omega arith) in
     let lead = lead_passes before h (length (inner ++ rest)) (record {
       some = omega arith;
       most = most;
       within = omega (arith, length-append inner rest);
       full = elim full as (λ _. (length (p ∷ ps) ≡ 128) ⊎ (length inner ≡ length (inner ++ rest))) [ inl is ↦ inl is | inr none ↦ inr (ap (λ (xs : List ℕ). length xs) (sym (append-nil inner) ∙ ap (λ (xs : List ℕ). inner ++ xs) (sym none))) ];
-      doc = from.1;
+      doc = from.0.doc;
     }) in
     ap (block_at before) (append_assoc (head_bytes h) inner rest)
     ∙ ap (λ b. cond b (Err (length bytes)) (led before bytes (head_front bytes))) long
@@ -269,7 +213,7 @@ piece_more most (p ∷ ps) rest some le full = let c = cut_here (p ∷ ps) rest 
 
 -- the postings may stand there, and the bytes are those of their blocks
 pub record AreBlocks (before : Option Fields) (bytes : List ℕ) (ps : List Fields) : Type 0 where
-  pub from : AreFrom before ps
+  pub from : AreNext before ps
   pub parts : (most : ℕ) → length ps ≤ most → bytes ≡ flat_map block (pieces most ps)
 
 parts_more : (ps rest : List Fields) (bytes behind : List ℕ) → 1 ≤ length ps → length ps ≤ 128 → (length ps ≡ 128) ⊎ (rest ≡ []) → bytes ≡ block ps ++ behind
@@ -292,14 +236,14 @@ blocks_taken (suc n) before (b ∷ bytes) ps fits e =
     let s = blocks_taken n (last_of before f.0.0) f.0.1 o.0 t.rest_fits o.1 in
     let end : (length f.0.0 ≡ 128) ⊎ (o.0 ≡ []) = elim t.full as (λ _. (length f.0.0 ≡ 128) ⊎ (o.0 ≡ [])) [ inl full ↦ inl full | inr none ↦ inr (none_read n (last_of before f.0.0) f.0.1 o.0 none o.1) ] in
     subst (AreBlocks before (b ∷ bytes)) (ok_is (f.0.0 ++ o.0) ps o.2) (record {
-      from = from-join before f.0.0 o.0 t.from s.from;
+      from = next-join before f.0.0 o.0 t.from s.from;
       parts = parts_more f.0.0 o.0 (b ∷ bytes) f.0.1 t.some t.most end t.parts s.parts;
     })
 
 block_long : (ps : List Fields) (rest : List ℕ) → 15 + length rest ≤ length (block ps ++ rest)
 block_long ps rest = omega (arith, length-append (block ps) rest, length-append (head_bytes (head_for ps)) (inside ps))
 
-pub blocks_again : (n most : ℕ) (before : Option Fields) (ps : List Fields) → AreFrom before ps → length ps ≤ most → length (flat_map block (pieces most ps)) ≤ n → all_at block_at n before (flat_map block (pieces most ps)) ≡ Ok ps
+pub blocks_again : (n most : ℕ) (before : Option Fields) (ps : List Fields) → AreNext before ps → length ps ≤ most → length (flat_map block (pieces most ps)) ≤ n → all_at block_at n before (flat_map block (pieces most ps)) ≡ Ok ps
 blocks_again n zero before [] from le long = refl
 blocks_again n (suc most) before [] from le long = refl
 blocks_again n zero before (p ∷ ps) from le long = absurd (omega arith)
@@ -309,7 +253,7 @@ blocks_again (suc n) (suc most) before (p ∷ ps) from le long =
     let back = drop 128 (p ∷ ps) in
     let rest = flat_map block (pieces most back) in
     let whole : front ++ back ≡ p ∷ ps = take-append-drop 128 (p ∷ ps) in
-    let parts = from-parts before front back (subst (AreFrom before) (sym whole) from) in
+    let parts = next-parts before front back (subst (AreNext before) (sym whole) from) in
     let len = length-take 128 (p ∷ ps) in
     let less = length-drop 128 (p ∷ ps) in
     let bytes = block_long front rest in

@@ -13,7 +13,8 @@ use Rattle.sublist_codec.specs.Steps.{last_of, all_at}
 use Rattle.sublist_codec.specs.Flat.{spelled, spelling, fields_front, if_allowed, posting_at, front_at, list_at}
 use Rattle.time_base.proofs.Readings.{ok_is, bind_ok, value_or-ok}
 use Rattle.sublist_codec.proofs.Steps.{test_some, guard_some}
-use Rattle.time_base.proofs.Bytes.{IsBytes, IsBytes-drop, wide32, wide64, number_back, number_below, number_again}
+use Rattle.time_base.proofs.Bytes.{IsBytes, wide32, wide64, number_again}
+use Rattle.sublist_codec.proofs.FrontLemmas.{front_is}
 use Rattle.sublist_codec.proofs.FieldLemmas.{allowed_parts, is_allowed-fields, AreBehind, list-behind, behind-list}
 use Rattle.sublist_codec.proofs.LayoutLemmas.{IsCodec}
 use Rattle.sublist_codec.proofs.AllAt.{IsRead, begins, all_step, all_left}
@@ -66,29 +67,23 @@ record IsTaken (bytes : List ℕ) (read : Fields × List ℕ) : Type 0 where
 front_taken : (bytes : List ℕ) → IsBytes bytes → 24 ≤ length bytes → is_allowed (fields_front bytes).0 ≡ true → IsTaken bytes (fields_front bytes)
 front_taken bytes fits long allowed =
     let a = allowed_parts (fields_front bytes).0 allowed in
-    let fits1 = IsBytes-drop 4 bytes fits in
-    let fits2 = IsBytes-drop 4 (drop 4 bytes) fits1 in
-    let fits3 = IsBytes-drop 8 (drop 4 (drop 4 bytes)) fits2 in
-    let l1 = length-drop 4 bytes in
-    let l2 = length-drop 4 (drop 4 bytes) in
-    let l3 = length-drop 8 (drop 4 (drop 4 bytes)) in
     let f = (fields_front bytes).0 in
-    let one = number_back w32 (2 ^ 32) wide32 bytes fits (omega arith) in
-    let two = number_back w32 (2 ^ 32) wide32 (drop 4 bytes) fits1 (omega arith) in
-    let three = number_back w64 (2 ^ 64) wide64 (drop 4 (drop 4 bytes)) fits2 (omega arith) in
-    let four = number_back w64 (2 ^ 64) wide64 (drop 8 (drop 4 (drop 4 bytes))) fits3 (omega arith) in
+    let doc = front_is w32 (2 ^ 32) wide32 bytes fits (omega arith) in
+    let tf = front_is w32 (2 ^ 32) wide32 (drop 4 bytes) doc.rest_fits (omega (arith, doc.shorter)) in
+    let from = front_is w64 (2 ^ 64) wide64 (drop 4 (drop 4 bytes)) tf.rest_fits (omega (arith, doc.shorter, tf.shorter)) in
+    let to = front_is w64 (2 ^ 64) wide64 (drop 8 (drop 4 (drop 4 bytes))) from.rest_fits (omega (arith, doc.shorter, tf.shorter, from.shorter)) in
     record {
       posting = record {
         doc = record { 0 = f.doc };
         tf = f.tf;
         span = record { from = f.from; to = f.to; ordered = a.1; in_time = a.2 };
-        numbered = number_below w32 (2 ^ 32) wide32 bytes fits;
+        numbered = doc.below;
         counted = a.0;
-        bounded = number_below w32 (2 ^ 32) wide32 (drop 4 bytes) fits1;
+        bounded = tf.below;
       };
       is = refl;
-      parts = one ∙ ap (λ (xs : List ℕ). to_be_bytes w32 f.doc ++ xs) (two ∙ ap (λ (xs : List ℕ). to_be_bytes w32 f.tf ++ xs) (three ∙ ap (λ (xs : List ℕ). to_be_bytes w64 f.from ++ xs) four));
-      rest_fits = IsBytes-drop 8 (drop 8 (drop 4 (drop 4 bytes))) fits3;
+      parts = doc.parts ∙ ap (λ (xs : List ℕ). to_be_bytes w32 f.doc ++ xs) (tf.parts ∙ ap (λ (xs : List ℕ). to_be_bytes w32 f.tf ++ xs) (from.parts ∙ ap (λ (xs : List ℕ). to_be_bytes w64 f.from ++ xs) to.parts));
+      rest_fits = to.rest_fits;
     }
 
 posting_taken : (before : Option Fields) (bytes : List ℕ) (read : Fields × List ℕ) → IsBytes bytes → posting_at before bytes ≡ Some read → IsTaken bytes read × (may_follow before read.0 ≡ true)
@@ -154,16 +149,13 @@ all_again (suc n) before (p ∷ ps) le h =
 
 -- ---- lists
 
-list_spelled : (bytes : List ℕ) (xs : List Fields) → IsBytes bytes → list_at bytes ≡ Ok xs → IsSpelled None bytes xs
-unfolding list_at
-list_spelled bytes xs fits e = all_spelled (length bytes) None bytes xs fits e
-
 list_again : (ps : List Posting) → IsList ps → list_at (spelling ps) ≡ Ok (map fields ps)
 unfolding list_at
 list_again ps h = all_again (length (spelling ps)) None ps (omega arith) (behind-list ps h)
 
 spelled_list : (bytes : List ℕ) (xs : List Fields) → IsBytes bytes → list_at bytes ≡ Ok xs → (list : List Posting) × IsList list × (map fields list ≡ xs) × (bytes ≡ spelling list)
-spelled_list bytes xs fits e = let s = list_spelled bytes xs fits e in (s.list, list-behind None s.list s.behind, s.is, s.parts)
+unfolding list_at
+spelled_list bytes xs fits e = let s = all_spelled (length bytes) None bytes xs fits e in (s.list, list-behind None s.list s.behind, s.is, s.parts)
 
 pub spelling-length : (list : List Posting) → length (spelling list) ≡ 24 * length list
 spelling-length [] = refl

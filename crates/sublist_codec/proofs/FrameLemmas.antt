@@ -10,7 +10,7 @@ use Rattle.sublist_codec.specs.Blocks.{Head, head_front}
 use Rattle.sublist_codec.specs.Heads.{head_of}
 use Rattle.sublist_codec.specs.Frames.{may_frame, front_of, frame_at, frames_at, start_of, block_bytes, AreStarts}
 use Rattle.sublist_codec.proofs.Steps.{test_some, guard_some}
-use Rattle.sublist_codec.proofs.AllAt.{IsRead, begins, goes_on, ends, is_done}
+use Rattle.sublist_codec.proofs.AllAt.{IsRead, begins, goes_on, ends}
 
 abbrev head_size : BlockHead → ℕ
 head_size h = 15 + h.size

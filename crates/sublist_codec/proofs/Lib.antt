@@ -4,9 +4,9 @@ mod FieldLemmas
 pub mod LayoutLemmas
 pub mod FlatLemmas
 mod NumberLemmas
-mod NumberReading
 mod BlockLemmas
 mod WriteLemmas
+mod FrontLemmas
 mod BlockLaws
 mod BlockWalk
 pub mod BlockCodec

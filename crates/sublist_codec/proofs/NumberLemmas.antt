@@ -1,53 +1,55 @@
 -- Numbers as short as they can be.
-use Rattle.std.specs.Prelude.{◌≡◌, ℕ, zero, suc, ◌+◌, ◌-◌, ◌*◌, ◌/◌, ◌%◌, ◌^◌, ◌<◌, ◌≤◌, false, cond, nat_lt, ◌==◌, List, [], ◌∷◌, ◌++◌, length, Option, Some, None, refl}
-use Rattle.std.proofs.Common.{sym, ap, subst, ◌∙◌, arith, append_assoc, inl, inr}
+use Rattle.std.specs.Prelude.{◌≡◌, if◌then◌else◌, ℕ, zero, suc, ◌+◌, ◌-◌, ◌*◌, ◌/◌, ◌%◌, ◌^◌, ◌<◌, ◌≤◌, false, cond, nat_lt, ◌==◌, List, [], ◌∷◌, ◌++◌, length, Option, Some, None, refl}
+use Rattle.std.proofs.Common.{sym, ap, subst, ◌∙◌, arith, inl, inr}
 use Rattle.std.proofs.lemmas.Bool.{cases_lt, lt-ltb, le-ltb, eqb-false, ne_eqb}
 use Rattle.std.proofs.Math.Nat.{pow-succ', one-le-pow}
 use Rattle.sublist_codec.proofs.Steps.{guard_some}
 use Rattle.time_base.proofs.Bytes.{IsBytes}
 use Rattle.sublist_codec.specs.Numbers.{number_bytes, with_low, number_at}
 
--- what was written, and the bytes of what is left of the number, are the whole
-pub record IsWritten (old : List ℕ) (number : ℕ) (out : List ℕ) (rest : ℕ) : Type 0 where
-  pub most : ℕ
-  pub some : 1 ≤ most
-  pub fits : rest < 128 ^ most
-  pub same : out ++ number_bytes most rest ≡ old ++ number_bytes 6 number
-
 -- ---- bounds
 
-pow_one_more : (most : ℕ) → 0 < most → 128 ^ most ≡ 128 * 128 ^ (most - 1)
+pub pow_one_more : (most : ℕ) → 0 < most → 128 ^ most ≡ 128 * 128 ^ (most - 1)
 pow_one_more most some = let e : most ≡ suc (most - 1) = omega arith in ap (λ k. 128 ^ k) e ∙ pow-succ' 128 (most - 1)
 
-low_bound : (most low : ℕ) → 0 < most → low < 128 → low < 128 ^ most
+pub low_bound : (most low : ℕ) → 0 < most → low < 128 → low < 128 ^ most
 low_bound most low some lt = omega (arith, pow_one_more most some, one-le-pow (most - 1) 128 (omega arith))
 
--- ---- writing
+-- ---- one byte more
 
-pub written_begins : (old : List ℕ) (number : ℕ) → number < 2 ^ 42 → IsWritten old number old number
-written_begins old number lt = record { most = 6; some = omega arith; fits = lt; same = refl }
-
-pub written_more : (old : List ℕ) (number : ℕ) (out : List ℕ) (rest : ℕ) → IsWritten old number out rest → 128 ≤ rest → IsWritten old number (out ++ (rest % 128 + 128) ∷ []) (rest / 128)
+pub bytes_step : (most n : ℕ) → 0 < most → number_bytes most n ≡ (if nat_lt n 128 then n ∷ [] else (n % 128 + 128) ∷ number_bytes (most - 1) (n / 128))
 unfolding number_bytes
-written_more old number out rest w le = go w.most w.some w.fits w.same
-  where
-    go : (most : ℕ) → 1 ≤ most → rest < 128 ^ most → out ++ number_bytes most rest ≡ old ++ number_bytes 6 number → IsWritten old number (out ++ (rest % 128 + 128) ∷ []) (rest / 128)
-    go zero some fits same = absurd (omega arith)
-    go (suc zero) some fits same = absurd (omega arith)
-    go (suc (suc m)) some fits same = record {
-      most = suc m;
-      some = omega arith;
-      fits = omega (arith, pow-succ' 128 (suc m));
-      same = append_assoc out ((rest % 128 + 128) ∷ []) (number_bytes (suc m) (rest / 128)) ∙ ap (λ (xs : List ℕ). out ++ xs) (sym (ap (λ b. cond b (rest ∷ []) ((rest % 128 + 128) ∷ number_bytes (suc m) (rest / 128))) (le-ltb rest 128 le))) ∙ same;
-    }
+bytes_step zero n some = absurd (omega arith)
+bytes_step (suc most) n some = let e : most ≡ suc most - 1 = omega arith in ap (λ k. if nat_lt n 128 then n ∷ [] else (n % 128 + 128) ∷ number_bytes k (n / 128)) e
+
+pub no_bytes : (most n : ℕ) → most ≡ 0 → number_bytes most n ≡ []
+unfolding number_bytes
+no_bytes zero n none = refl
+no_bytes (suc most) n none = absurd (omega arith)
+
+pub at_step : (most b : ℕ) (bytes : List ℕ) → 0 < most → number_at most (b ∷ bytes) ≡ (if nat_lt b 128 then Some (b, bytes) else with_low b (number_at (most - 1) bytes))
+unfolding number_at
+at_step zero b bytes some = absurd (omega arith)
+at_step (suc most) b bytes some = let e : most ≡ suc most - 1 = omega arith in ap (λ k. if nat_lt b 128 then Some (b, bytes) else with_low b (number_at k bytes)) e
+
+pub at_none : (most : ℕ) (bytes : List ℕ) → most ≡ 0 → number_at most bytes ≡ None
+unfolding number_at
+at_none zero bytes none = refl
+at_none (suc most) bytes none = absurd (omega arith)
+
+pub at_nothing : (most : ℕ) (bytes : List ℕ) → length bytes ≡ 0 → number_at most bytes ≡ None
+unfolding number_at
+at_nothing zero bytes none = refl
+at_nothing (suc most) [] none = refl
+at_nothing (suc most) (b ∷ bytes) none = absurd (omega arith)
+
+pub ruleset number_steps = (bytes_step, at_step, at_none, at_nothing)
 
 -- ---- what is read is spelled so
 
 pub record IsNumber (most : ℕ) (bytes : List ℕ) (read : ℕ × List ℕ) : Type 0 where
   pub parts : bytes ≡ number_bytes most read.0 ++ read.1
-  pub bound : read.0 < 128 ^ most
   pub rest_fits : IsBytes read.1
-  pub shorter : length read.1 < length bytes
 
 some_pair : (x y : ℕ × List ℕ) → Some x ≡ Some y → x ≡ y
 some_pair x y e = cc
@@ -59,9 +61,6 @@ low_parts b (Some high) read e =
     let h = eqb-false high.0 0 g.0 in
     (high, refl, omega arith, some_pair read (b - 128 + 128 * high.0, high.1) (sym g.1))
 
-bytes-rest : (b : ℕ) (bytes : List ℕ) → IsBytes (b ∷ bytes) → IsBytes bytes
-bytes-rest b bytes fits i = fits (suc i)
-
 high_number : (most b : ℕ) (bytes : List ℕ) (high : ℕ × List ℕ) → b < 256 → 128 ≤ b → 0 < high.0 → IsNumber most bytes high → IsNumber (suc most) (b ∷ bytes) (b - 128 + 128 * high.0, high.1)
 unfolding number_bytes
 high_number most b bytes high lt le more again =
@@ -72,9 +71,7 @@ high_number most b bytes high lt le more again =
     let spelled : number_bytes (suc most) n ≡ b ∷ number_bytes most high.0 = ap (λ t. cond t (n ∷ []) ((n % 128 + 128) ∷ number_bytes most (n / 128))) big ∙ (λ i. low i ∷ number_bytes most (rest i)) in
     record {
       parts = ap (λ (xs : List ℕ). b ∷ xs) again.parts ∙ ap (λ (xs : List ℕ). xs ++ high.1) (sym spelled);
-      bound = let fits = again.bound in omega (arith, pow-succ' 128 most);
       rest_fits = again.rest_fits;
-      shorter = let h = again.shorter in omega arith;
     }
 
 pub number_taken : (most : ℕ) (bytes : List ℕ) (read : ℕ × List ℕ) → IsBytes bytes → number_at most bytes ≡ Some read → IsNumber most bytes read
@@ -87,14 +84,12 @@ number_taken (suc most) (b ∷ bytes) read fits e =
           let is : Some (b, bytes) ≡ Some read = sym (ap (λ t. cond t (Some (b, bytes)) (with_low b (number_at most bytes))) (lt-ltb b 128 lt)) ∙ e in
           subst (IsNumber (suc most) (b ∷ bytes)) (some_pair (b, bytes) read is) (record {
             parts = ap (λ (xs : List ℕ). xs ++ bytes) (sym (ap (λ t. cond t (b ∷ []) ((b % 128 + 128) ∷ number_bytes most (b / 128))) (lt-ltb b 128 lt)));
-            bound = low_bound (suc most) b (omega arith) lt;
-            rest_fits = bytes-rest b bytes fits;
-            shorter = omega arith;
+            rest_fits = λ i. fits (suc i);
           })
       | inr le ↦
           let is : with_low b (number_at most bytes) ≡ Some read = sym (ap (λ t. cond t (Some (b, bytes)) (with_low b (number_at most bytes))) (le-ltb b 128 le)) ∙ e in
           let l = low_parts b (number_at most bytes) read is in
-          let again = number_taken most bytes l.0 (bytes-rest b bytes fits) l.1 in
+          let again = number_taken most bytes l.0 (λ i. fits (suc i)) l.1 in
           subst (IsNumber (suc most) (b ∷ bytes)) (sym l.3) (high_number most b bytes l.0 (fits 0) le l.2 again)
     ]
 

@@ -2,7 +2,7 @@
 use Rattle.std.specs.Prelude.{◌≡◌, ℕ, zero, suc, ◌+◌, ◌*◌, ◌/◌, ◌%◌, ◌^◌, ◌<◌, ◌≤◌, Bool, true, false, cond, nat_lt, List, [], ◌∷◌, ◌++◌, length, get_or, map, take, drop, refl}
 use Rattle.std.proofs.Common.{sym, ap, ◌∙◌, arith, append_assoc}
 use Rattle.std.specs.List.{flat_map}
-use Rattle.std.proofs.lemmas.List.{append-nil, length-append, length-drop, length-map, take-map, drop-map}
+use Rattle.std.proofs.lemmas.List.{length-append, length-drop, length-map, take-map, drop-map}
 use Rattle.time_base.specs.declared.posting.Posting.{Posting}
 use Rattle.postings.specs.Lists.{IsList}
 use Rattle.sublist_codec.specs.Fields.{Fields, fields}

@@ -1,6 +1,6 @@
 -- Reading from left to right. A reading gives what it read, or how many bytes are left at the place
 -- of the first fault.
-use Rattle.std.specs.Prelude.{ℕ, zero, suc, ◌+◌, List, [], ◌∷◌, ◌++◌, length, Option, Some, None, Result, Ok, Err}
+use Rattle.std.specs.Prelude.{ℕ, zero, suc, ◌+◌, List, [], ◌∷◌, ◌++◌, length, Option, Some, Result, Ok, Err}
 use Rattle.time_base.specs.Reading.{◌>>=◌}
 
 -- the last of these values, or the one before them

@@ -132,9 +132,7 @@ pub fn summary(list: &[Posting]) -> (u32, u32)
     let mut top = 0;
     let mut last = 0;
     for posting in list {
-        if top < posting.tf {
-            top = posting.tf;
-        }
+        top = top.max(posting.tf);
         last = posting.doc.0;
     }
     (top, last)

@@ -1,6 +1,6 @@
 //! Numbers as short as they can be: 7 bits a byte, the lowest group first. Each byte but the last
 //! has its highest bit set, and the last isn't 0 unless it is the only one, so a number has one form.
-ghost use Rattle.std.specs.Prelude.{◌≡◌, ℕ, List, ◌<◌, ◌^◌, ◌++◌, ◌==◌, ◌&&◌, nat_lt, if◌then◌else◌, Some, None, OnOk, option_map};
+ghost use Rattle.std.specs.Prelude.{◌≡◌, ◌<◌, ◌≤◌, ◌^◌, ◌++◌, IfSome, OnOk, option_map};
 ghost use Rattle.sublist_codec.specs.Numbers.{number_bytes, number_at};
 
 use std::alloc::AllocError;
@@ -19,53 +19,56 @@ pub fn number_front(bytes: &[u8]) -> Option<(u64, &[u8])>
     if *low < 128 {
         Some((*low as u64, rest))
     } else {
-        long_number(bytes)
+        long_number(MOST_NUMBER_BYTES, bytes)
     }
 }
 
-/// The same byte by byte.
-fn long_number(bytes: &[u8]) -> Option<(u64, &[u8])>
-    ensures number { option_map (λ x. (x.0, x.1.now)) result ≡ number_at 6 bytes.now }
+/// The same of a number of so many bytes at most.
+#[tactic(auto, using(crate::proofs::NumberLemmas::number_steps))]
+fn long_number(most: u32, bytes: &[u8]) -> Option<(u64, &[u8])>
+    requires { most ≤ 6 }
+    ensures number { option_map (λ x. (x.0, x.1.now)) result ≡ number_at most bytes.now }
+    ensures bound { IfSome result (λ x. x.0 < 128 ^ most) }
 {
-    let mut sum = 0;
-    let mut scale = 1;
-    let mut rest = bytes;
-    for count in 0..MOST_NUMBER_BYTES {
-        let [low, behind @ ..] = rest else {
-            return None;
-        };
-        let low = *low as u64;
-        if low < 128 {
-            return finished(count, low, sum + scale * low, behind);
-        }
-        sum += scale * (low - 128);
-        scale *= 128;
-        rest = behind;
-    }
-    None
-}
-
-/// The number and the bytes behind it, unless its last byte is a needless 0 behind so many others.
-fn finished(count: u32, last: u64, number: u64, behind: &[u8]) -> Option<(u64, &[u8])>
-    ensures { option_map {U = ℕ × List ℕ} (λ x. (x.0, x.1.now)) result ≡ (if nat_lt 0 count && last == 0 then None else Some (number, behind.now)) }
-{
-    if count > 0 && last == 0 {
+    if most == 0 {
         return None;
     }
-    Some((number, behind))
+    let Some((low, rest)) = bytes.split_first() else {
+        return None;
+    };
+    let low = *low as u64;
+    if low < 128 {
+        return Some((low, rest));
+    }
+    let Some((high, behind)) = long_number(most - 1, rest) else {
+        return None;
+    };
+    if high == 0 {
+        return None;
+    }
+    Some((low - 128 + 128 * high, behind))
 }
 
 /// Adds the bytes of a number.
-#[tactic(auto, unfolding(crate::specs::Numbers::number_bytes))]
 pub fn put_number(bytes: &mut Vec<u8>, number: u64) -> Result<(), AllocError>
     requires { number < 2 ^ 42 }
     ensures { OnOk result (bytes.new.items ≡ bytes.old.items ++ number_bytes 6 number) }
 {
-    let mut rest = number;
-    while rest >= 128 {
-        bytes.push((rest % 128) as u8 + 128)?;
-        rest /= 128;
+    put_bytes(bytes, MOST_NUMBER_BYTES, number)
+}
+
+/// Adds so many bytes of a number at most.
+#[tactic(auto, using(crate::proofs::NumberLemmas::number_steps))]
+fn put_bytes(bytes: &mut Vec<u8>, most: u32, number: u64) -> Result<(), AllocError>
+    ensures { OnOk result (bytes.new.items ≡ bytes.old.items ++ number_bytes most number) }
+{
+    if most == 0 {
+        return Ok(());
     }
-    bytes.push(rest as u8)?;
-    Ok(())
+    if number < 128 {
+        bytes.push(number as u8)?;
+        return Ok(());
+    }
+    bytes.push((number % 128) as u8 + 128)?;
+    put_bytes(bytes, most - 1, number / 128)
 }

@@ -4,7 +4,7 @@ use Rattle.std.proofs.lemmas.List.Sums.{sum_by-cons}
 use Rattle.time_base.specs.declared.posting.Posting.{Posting}
 use Rattle.record_codec.specs.declared.place.Layout.{Layout}
 use Rattle.postings.specs.Unions.{IsUnion}
-use Rattle.sublist_store.specs.Gathering.{Chosen, Joins, Refuses, Gathers, Outcome}
+use Rattle.sublist_store.specs.Gathering.{Chosen, Joins, Refuses, Gathers, ListOrDamage}
 use Rattle.sublist_store.specs.Joining.{Paged, size_of_all, JoinInTurn, IsFound, AreFetched, RefusesAlone, StopsAt}
 use Rattle.sublist_store.specs.declared.why.Why.{Why}
 use Rattle.sublist_store.specs.declared.why.Why.TheVariants.{Clash}
@@ -14,7 +14,7 @@ use Rattle.sublist_store.specs.declared.why.FetchError.{FetchError}
 abbrev ok_of : List Posting → Result (List Posting) Damage
 ok_of list = Ok list
 
-abbrev err_of : ℕ → Why → Outcome
+abbrev err_of : ℕ → Why → ListOrDamage
 err_of page why = Err (record { page = page; why = why })
 
 -- one list more
@@ -41,7 +41,7 @@ damage_same : (d e : Damage) → refused_by d ≡ refused_by e → d ≡ e
 damage_same d e is = cc
 
 -- lists that join lead on to the segments behind them
-pub gathers_on : (layout : Layout) (h : ℕ) (pages : List ℕ) (all : List Chosen) (lists : List Paged) (rest : List Chosen) (union joined : List Posting) (n : ℕ) (outcome : Outcome)
+pub gathers_on : (layout : Layout) (h : ℕ) (pages : List ℕ) (all : List Chosen) (lists : List Paged) (rest : List Chosen) (union joined : List Posting) (n : ℕ) (outcome : ListOrDamage)
     → AreFetched layout h pages all lists rest → JoinInTurn lists union (Ok joined) → Gathers layout h pages rest joined (n + size_of_all lists) outcome → Gathers layout h pages all union n outcome
 gathers_on layout h pages all [] rest union joined n outcome fetched joins gathers =
     let G : List Chosen → Type 0 = λ cs. Gathers layout h pages cs joined n outcome in

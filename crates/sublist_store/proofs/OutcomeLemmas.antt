@@ -13,7 +13,7 @@ use Rattle.sublist_codec.proofs.FlatLemmas.{flat_codec}
 use Rattle.sublist_codec.proofs.BlockCodec.{block_codec}
 use Rattle.sublist_store.specs.Layouts.{Spells, IsFault}
 use Rattle.sublist_store.specs.Fetching.{IsFetched, IsFirstAstray, belongs}
-use Rattle.sublist_store.specs.Gathering.{Chosen, Outcome, Joins, Parts, Refuses, Gathers, bytes_of}
+use Rattle.sublist_store.specs.Gathering.{Chosen, ListOrDamage, Joins, Parts, Refuses, Gathers, bytes_of}
 use Rattle.sublist_store.specs.Laws.{OneCause, NoCauseAgainstFetched, OneFetched, OneOutcome, AreClashes}
 use Rattle.sublist_store.specs.declared.why.Why.{Why}
 use Rattle.sublist_store.specs.declared.why.Why.TheVariants.{Digest, Form, Astray, Clash, Bare}
@@ -90,17 +90,17 @@ same_list : (layout : Layout) (h : ℕ) (pages : List ℕ) (c : Chosen) (a b : L
 same_list layout h pages c a b one two = one_fetched layout c.place.digest c.from c.to h (bytes_of c pages) a b one two
 
 -- the page at which both clash
-err : Chosen → Why → Outcome
+err : Chosen → Why → ListOrDamage
 err c why = Err (record { page = c.place.extent.first; why = why })
 
-SameOrClash : Outcome → Outcome → Type 0
+SameOrClash : ListOrDamage → ListOrDamage → Type 0
 SameOrClash a b = (a ≡ b) ⊎ ((page : ℕ) × AreClashes page a b)
 
-same_why : (c : Chosen) (a b : Outcome) (one two : Why) → a ≡ err c one → b ≡ err c two → one ≡ two → SameOrClash a b
+same_why : (c : Chosen) (a b : ListOrDamage) (one two : Why) → a ≡ err c one → b ≡ err c two → one ≡ two → SameOrClash a b
 unfolding SameOrClash
 same_why c a b one two is also same = inl (is ∙ ap (err c) same ∙ sym also)
 
-parts_alike : (c : Chosen) (union list other : List Posting) (a b : Outcome) (one two : Why) → list ≡ other → a ≡ err c one → b ≡ err c two → Parts c.first union list one → Parts c.first union other two → SameOrClash a b
+parts_alike : (c : Chosen) (union list other : List Posting) (a b : ListOrDamage) (one two : Why) → list ≡ other → a ≡ err c one → b ≡ err c two → Parts c.first union list one → Parts c.first union other two → SameOrClash a b
 unfolding SameOrClash err
 parts_alike c union list other a b one two same is also (inl x) (inl y) = same_why c a b one two is also (x.1 ∙ sym y.1)
 parts_alike c union list other a b one two same is also (inl x) (inr y) = absurd (y.0 (x.0.0, sym same ∙ x.0.1))
@@ -117,7 +117,7 @@ parts_alike c union list other a b one two same is also (inr x) (inr y) = inr (
   },
 )
 
-refused_alike : (layout : Layout) (h : ℕ) (pages : List ℕ) (c : Chosen) (union : List Posting) (a b : Outcome) (one two : Why) → a ≡ err c one → b ≡ err c two → Refuses layout h pages c union one → Refuses layout h pages c union two → SameOrClash a b
+refused_alike : (layout : Layout) (h : ℕ) (pages : List ℕ) (c : Chosen) (union : List Posting) (a b : ListOrDamage) (one two : Why) → a ≡ err c one → b ≡ err c two → Refuses layout h pages c union one → Refuses layout h pages c union two → SameOrClash a b
 refused_alike layout h pages c union a b one two is also (inl x) (inl y) = same_why c a b one two is also (one_cause layout c.place.digest c.from c.to h (bytes_of c pages) one two x y)
 refused_alike layout h pages c union a b one two is also (inl x) (inr y) = absurd (no_cause layout c.place.digest c.from c.to h (bytes_of c pages) y.0 one y.1.0 x)
 refused_alike layout h pages c union a b one two is also (inr x) (inl y) = absurd (no_cause layout c.place.digest c.from c.to h (bytes_of c pages) x.0 two x.1.0 y)

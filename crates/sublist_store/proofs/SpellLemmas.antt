@@ -1,6 +1,5 @@
 -- Spelling segments from the postings that overlap them all, and half by half.
-use Rattle.std.proofs.Common.{◌≡◌, ◌⊎◌, ◌≤◌, ◌<◌, ℕ, ◌+◌, Bool, true, false, cond, List, [], ◌∷◌, ◌++◌, length, filter, take, drop, get_or, All, inl, inr, refl, ap, sym, subst, ◌∙◌, arith}
-use Rattle.std.specs.Prelude.{Option, None, Some, IfSome, MatchOption}
+use Rattle.std.proofs.Common.{◌≡◌, ◌≤◌, ◌<◌, ℕ, ◌+◌, Bool, true, false, cond, List, [], ◌∷◌, ◌++◌, length, filter, take, drop, get_or, All, refl, ap, sym, subst, ◌∙◌, arith}
 use Rattle.std.proofs.Math.Seq.{drop-cons}
 use Rattle.std.proofs.lemmas.Bool.Decides.{nat_tests}
 use Rattle.std.proofs.lemmas.List.{map-append, take-append-drop, take_more}
@@ -12,7 +11,7 @@ use Rattle.postings.specs.Lists.{IsList, meets, sublist}
 use Rattle.postings.proofs.Clipping.{sublist_list}
 use Rattle.sublist_store.specs.Layouts.{spelling_in}
 use Rattle.sublist_store.specs.Segments.{seconds, next_cut}
-use Rattle.sublist_store.specs.Preparing.{spellings}
+use Rattle.sublist_store.specs.Preparing.{spellings, Serves}
 
 -- ---- from a part of the list
 
@@ -55,23 +54,9 @@ spellings_within layout f g list (c ∷ cuts) h within ends =
     ap (λ (l : List Posting). spelling_in layout l ∷ spellings layout (sublist f g list) (seconds cuts) h) here
     ∙ ap (λ (rest : List (List ℕ)). spelling_in layout (sublist c.seconds b list) ∷ rest) (spellings_within layout f g list cuts h behind ends)
 
--- the list, or the part of it that overlaps
-abbrev pub IsPart : ℕ → ℕ → List Posting → List Posting → Type 0
-IsPart f g list given = (given ≡ list) ⊎ (given ≡ sublist f g list)
-
-pub given_part : {V : Type 0} (part : Option V) (items : V → List Posting) (f g : ℕ) (list given : List Posting) → MatchOption part (given ≡ list) (λ v. given ≡ items v)
-    → IfSome part (λ v. items v ≡ sublist f g list) → IsPart f g list given
-given_part None items f g list given is narrow = inl is
-given_part (Some v) items f g list given is narrow = inr (is ∙ narrow)
-
-pub part_list : (f g : ℕ) (list given : List Posting) → IsPart f g list given → IsList list → IsList given
-part_list f g list given (inl e) l = subst IsList (sym e) l
-part_list f g list given (inr e) l = subst IsList (sym e) (sublist_list f g list l)
-
-part_spellings : (layout : Layout) (f g : ℕ) (list given : List Posting) (cuts : List Time) (h : ℕ) → AreWithin f g cuts → h ≤ g → IsPart f g list given
-    → spellings layout given (seconds cuts) h ≡ spellings layout list (seconds cuts) h
-part_spellings layout f g list given cuts h within ends (inl e) = ap (λ (l : List Posting). spellings layout l (seconds cuts) h) e
-part_spellings layout f g list given cuts h within ends (inr e) = ap (λ (l : List Posting). spellings layout l (seconds cuts) h) e ∙ spellings_within layout f g list cuts h within ends
+-- so the part of a list that overlaps them all serves as the list does
+pub serves_within : (f g : ℕ) (list : List Posting) (cuts : List Time) (h : ℕ) → AreWithin f g cuts → h ≤ g → IsList list → Serves (seconds cuts) h list (sublist f g list)
+serves_within f g list cuts h within ends l = record { ordered = sublist_list f g list l; same = λ layout. spellings_within layout f g list cuts h within ends }
 
 -- ---- half by half
 
@@ -85,15 +70,14 @@ spellings_append layout list (f ∷ a) b h =
     ap (λ (g : ℕ). spelling_in layout (sublist f g list) ∷ spellings layout list (a ++ b) h) (next_append a b h)
     ∙ ap (λ (rest : List (List ℕ)). spelling_in layout (sublist f (next_cut a (next_cut b h)) list) ∷ rest) (spellings_append layout list a b h)
 
--- the segments in front of a cut, and those from it on
-pub both_halves : (layout : Layout) (f g : ℕ) (list given : List Posting) (cuts : List Time) (k : ℕ) (middle : Time) (h : ℕ) (front back : List (List ℕ)) → IsPart f g list given
-    → AreWithin f g cuts → h ≤ g → k < length cuts → middle ≡ get_or cuts k middle
-    → front ≡ spellings layout given (seconds (take k cuts)) middle.seconds → back ≡ spellings layout given (seconds (drop k cuts)) h → front ++ back ≡ spellings layout list (seconds cuts) h
-both_halves layout f g list given cuts k middle h front back part within ends inside is one two =
-    let S : List ℕ → ℕ → List (List ℕ) = λ cs e. spellings layout given cs e in
-    let left : List ℕ = seconds (take k cuts) in
-    let right : List ℕ = seconds (drop k cuts) in
-    let begins : next_cut right h ≡ middle.seconds = ap (λ (cs : List Time). next_cut (seconds cs) h) (drop-cons cuts k middle (omega (arith, inside))) ∙ ap (λ (c : Time). c.seconds) (sym is) in
-    let whole : left ++ right ≡ seconds cuts = sym (map-append (λ (c : Time). c.seconds) (take k cuts) (drop k cuts)) ∙ ap seconds (take-append-drop k cuts) in
-    ap (λ (l : List (List ℕ)). l ++ back) (one ∙ ap (λ (e : ℕ). S left e) (sym begins)) ∙ ap (λ (l : List (List ℕ)). S left (next_cut right h) ++ l) two
-    ∙ sym (spellings_append layout given left right h) ∙ ap (λ (cs : List ℕ). S cs h) whole ∙ part_spellings layout f g list given cuts h within ends part
+-- the segments in front of a cut, and those from it on, from a list that serves for all of them
+pub both_halves : (layout : Layout) (list given : List Posting) (cuts left right : List Time) (k : ℕ) (middle : Time) (h : ℕ) → Serves (seconds cuts) h list given
+    → k < length cuts → middle ≡ get_or cuts k middle → left ≡ take k cuts → right ≡ drop k cuts
+    → spellings layout given (seconds left) middle.seconds ++ spellings layout given (seconds right) h ≡ spellings layout list (seconds cuts) h
+both_halves layout list given cuts left right k middle h serves inside is one two =
+    let begins : next_cut (seconds right) h ≡ middle.seconds =
+    ap (λ (cs : List Time). next_cut (seconds cs) h) (two ∙ drop-cons cuts k middle (omega (arith, inside))) ∙ ap (λ (c : Time). c.seconds) (sym is) in
+    let whole : left ++ right ≡ cuts = ap (λ (cs : List Time). cs ++ right) one ∙ ap (λ (cs : List Time). take k cuts ++ cs) two ∙ take-append-drop k cuts in
+    ap (λ (e : ℕ). spellings layout given (seconds left) e ++ spellings layout given (seconds right) h) (sym begins)
+    ∙ sym (spellings_append layout given (seconds left) (seconds right) h)
+    ∙ ap (λ (cs : List ℕ). spellings layout given cs h) (sym (map-append (λ (c : Time). c.seconds) left right) ∙ ap seconds whole) ∙ serves.same layout

@@ -43,12 +43,27 @@ written_none tells old all = record {
   inside = All-nil (λ (piece : Piece). IsInside old.reach.pages piece.extent);
 }
 
-pub pieces_at : (places : List Place) (all : List (List ℕ)) (k : ℕ) (p : Place) (bytes : List ℕ) → k < length places → k < length all → p ≡ get_or places k p → bytes ≡ get_or all k bytes
-    → pieces_from places all k ≡ record { extent = p.extent; bytes = bytes } ∷ pieces_from places all (k + 1)
-pieces_at places all k p bytes one two is same =
-    let front : drop k places ≡ p ∷ drop (suc k) places = drop-cons places k p (omega (arith, one)) ∙ ap (λ (x : Place). x ∷ drop (suc k) places) (sym is) in
-    let behind : drop k all ≡ bytes ∷ drop (suc k) all = drop-cons all k bytes (omega (arith, two)) ∙ ap (λ (x : List ℕ). x ∷ drop (suc k) all) (sym same) in
-    ap (λ (ps : List Place). pieces_of ps (drop k all)) front ∙ ap (λ (bs : List (List ℕ)). pieces_of (p ∷ drop (suc k) places) bs) behind
+-- the places and the bytes are as many, and each is for the other
+pub as_many : (places : List Place) (all : List (List ℕ)) → AllZip IsFor places all → length all ≡ length places
+as_many [] [] each = refl
+as_many [] (b ∷ all) each = absurd each
+as_many (p ∷ places) [] each = absurd each
+as_many (p ∷ places) (b ∷ all) each = omega (arith, as_many places all each.1)
+
+-- place k and spelling k, as they are indexed, are for one another
+pub for_at : (places : List Place) (all : List (List ℕ)) (k : ℕ) (x : Place) (at bytes : List ℕ) → AllZip IsFor places all → k < length places → at ≡ get_or all k at → bytes ≡ at → IsFor (get_or places k x) bytes
+for_at [] all k x at bytes each within same seen = absurd (omega (arith, within))
+for_at (q ∷ places) [] k x at bytes each within same seen = absurd each
+for_at (q ∷ places) (b ∷ all) zero x at bytes each within same seen = subst (λ (y : List ℕ). IsFor q y) (sym (seen ∙ same)) each.0
+for_at (q ∷ places) (b ∷ all) (suc k) x at bytes each within same seen = for_at places all k x at bytes each.1 (omega (arith, within)) same seen
+
+-- and they are the piece that comes next
+pub pieces_at : (places : List Place) (all : List (List ℕ)) (k : ℕ) (x : Place) (at bytes : List ℕ) → AllZip IsFor places all → k < length places → at ≡ get_or all k at → bytes ≡ at
+    → pieces_from places all k ≡ record { extent = (get_or places k x).extent; bytes = bytes } ∷ pieces_from places all (k + 1)
+pieces_at places all k x at bytes each one same seen =
+    let p = get_or places k x in
+    let behind : drop k all ≡ bytes ∷ drop (suc k) all = drop-cons all k at (omega (arith, one, as_many places all each)) ∙ ap (λ (y : List ℕ). y ∷ drop (suc k) all) (sym (seen ∙ same)) in
+    ap (λ (ps : List Place). pieces_of ps (drop k all)) (drop-cons places k x (omega (arith, one))) ∙ ap (λ (bs : List (List ℕ)). pieces_of (p ∷ drop (suc k) places) bs) behind
     ∙ ap (λ (i : ℕ). record { extent = p.extent; bytes = bytes } ∷ pieces_of (drop i places) (drop i all)) (sym (add-one k))
 
 inside_longer : (a b : ℕ) (pieces : List Piece) → a ≤ b → All (λ (piece : Piece). IsInside a piece.extent) pieces → All (λ (piece : Piece). IsInside b piece.extent) pieces
@@ -156,19 +171,3 @@ stands_still result cache places all old new each unkept stored stands =
     let U : List Extent → Type 0 = λ es. All (λ (k : Kept). IsTaken es k.page → ⊥) cache in
     let apart : U (extents_of (pieces_of places all)) = subst U (sym (extents_same places all each)) unkept in
     on_ok_weaker result (λ (s : Stored (pieces_of places all) old new). writes-stand cache (extents_of (pieces_of places all)) old.holds.pages new.holds.pages apart s.wrote.elsewhere stands) stored
-
--- the places and the bytes are as many, and each is for the other
-pub as_many : (places : List Place) (all : List (List ℕ)) → AllZip IsFor places all → length all ≡ length places
-as_many [] [] each = refl
-as_many [] (b ∷ all) each = absurd each
-as_many (p ∷ places) [] each = absurd each
-as_many (p ∷ places) (b ∷ all) each = omega (arith, as_many places all each.1)
-
-pub for_at : (places : List Place) (all : List (List ℕ)) (k : ℕ) (p : Place) (bytes : List ℕ) → AllZip IsFor places all → k < length places → p ≡ get_or places k p → bytes ≡ get_or all k bytes → IsFor p bytes
-for_at [] all k p bytes each within is same = absurd (omega (arith, within))
-for_at (q ∷ places) [] k p bytes each within is same = absurd each
-for_at (q ∷ places) (b ∷ all) zero p bytes each within is same =
-    let F : Place → Type 0 = λ x. IsFor x bytes in
-    let G : List ℕ → Type 0 = λ x. IsFor q x in
-    subst F (sym is) (subst G (sym same) each.0)
-for_at (q ∷ places) (b ∷ all) (suc k) p bytes each within is same = for_at places all k p bytes each.1 (omega (arith, within)) is same

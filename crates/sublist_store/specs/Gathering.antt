@@ -59,11 +59,11 @@ Refuses layout h pages c union why =
     ⊎ ((list : List Posting) × (IsFetched layout c.place.digest c.from c.to h (bytes_of c pages) list × Parts c.first union list why))
 
 -- the list and how many postings were read for it, or what is damaged
-abbrev pub Outcome : Type 0
-Outcome = Result (List Posting × ℕ) Damage
+abbrev pub ListOrDamage : Type 0
+ListOrDamage = Result (List Posting × ℕ) Damage
 
 -- the segments are fetched and joined in order, with the union and the number of postings so far
-abbrev pub Gathers : Layout → (h : ℕ) → List ℕ → List Chosen → (union : List Posting) → (read : ℕ) → Outcome → Type 0
+abbrev pub Gathers : Layout → (h : ℕ) → List ℕ → List Chosen → (union : List Posting) → (read : ℕ) → ListOrDamage → Type 0
 Gathers layout h pages [] union read outcome = outcome ≡ Ok (union, read)
 Gathers layout h pages (c ∷ segments) union read outcome =
     ((why : Why) × (Refuses layout h pages c union why × (outcome ≡ Err (record { page = c.place.extent.first; why = why }))))

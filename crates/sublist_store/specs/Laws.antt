@@ -6,7 +6,7 @@ use Rattle.record_codec.specs.declared.place.Place.{Place}
 use Rattle.postings.specs.Lists.{frequency}
 use Rattle.sublist_store.specs.Segments.{EachSegment, HoldsSublist, AreCutsOf}
 use Rattle.sublist_store.specs.Fetching.{IsFetched, Explains}
-use Rattle.sublist_store.specs.Gathering.{Chosen, Outcome, Gathers, chosen, stored_size}
+use Rattle.sublist_store.specs.Gathering.{Chosen, ListOrDamage, Gathers, chosen, stored_size}
 use Rattle.sublist_store.specs.declared.why.Why.{Why}
 use Rattle.sublist_store.specs.declared.why.Why.TheVariants.{Clash}
 
@@ -24,7 +24,7 @@ abbrev pub OneFetched : Type 0
 OneFetched = (layout : Layout) (digest : List ℕ) (f g h : ℕ) (bytes : List ℕ) (a b : List Posting) → IsFetched layout digest f g h bytes a → IsFetched layout digest f g h bytes b → a ≡ b
 
 -- both outcomes are clashes at this page
-pub record AreClashes (page : ℕ) (a b : Outcome) : Type 0 where
+pub record AreClashes (page : ℕ) (a b : ListOrDamage) : Type 0 where
   pub one : Posting
   pub other : Posting
   pub this : Posting
@@ -35,11 +35,11 @@ pub record AreClashes (page : ℕ) (a b : Outcome) : Type 0 where
 -- What is gathered has one outcome; where it is a clash, which two postings are named is free.
 abbrev pub OneOutcome : Type 0
 OneOutcome =
-    (layout : Layout) (h : ℕ) (pages : List ℕ) (segments : List Chosen) (union : List Posting) (read : ℕ) (a b : Outcome)
+    (layout : Layout) (h : ℕ) (pages : List ℕ) (segments : List Chosen) (union : List Posting) (read : ℕ) (a b : ListOrDamage)
     → Gathers layout h pages segments union read a → Gathers layout h pages segments union read b → (a ≡ b) ⊎ ((page : ℕ) × AreClashes page a b)
 
 -- what is gathered is a list that says of each time in the window what the other list says, and as many postings are read as its segments have
-pub record IsGathered (list : List Posting) (cuts : List ℕ) (a b h : ℕ) (outcome : Outcome) : Type 0 where
+pub record IsGathered (list : List Posting) (cuts : List ℕ) (a b h : ℕ) (outcome : ListOrDamage) : Type 0 where
   pub stored : List Posting
   pub is : outcome ≡ Ok (stored, stored_size a b h list cuts)
   pub tells : (d t : ℕ) → a ≤ t → t < b → frequency d t stored ≡ frequency d t list
@@ -47,5 +47,5 @@ pub record IsGathered (list : List Posting) (cuts : List ℕ) (a b h : ℕ) (out
 -- Where the places of a list's segments hold its sublists, nothing is damaged, and what is gathered is of the list.
 abbrev pub HeldIsGathered : Type 0
 HeldIsGathered =
-    (layout : Layout) (list : List Posting) (pages : List ℕ) (cuts : List ℕ) (h : ℕ) (places : List Place) (a b : ℕ) (outcome : Outcome) → AreCutsOf list cuts h
+    (layout : Layout) (list : List Posting) (pages : List ℕ) (cuts : List ℕ) (h : ℕ) (places : List Place) (a b : ℕ) (outcome : ListOrDamage) → AreCutsOf list cuts h
     → EachSegment (HoldsSublist layout list pages) cuts h places → Gathers layout h pages (chosen a b h true cuts places) [] 0 outcome → IsGathered list cuts a b h outcome

@@ -6,7 +6,7 @@ use Rattle.time_base.specs.declared.extent.Extent.{Extent}
 use Rattle.time_base.specs.declared.posting.Posting.{Posting}
 use Rattle.record_codec.specs.declared.place.Layout.{Layout}
 use Rattle.record_codec.specs.declared.place.Place.{Place}
-use Rattle.postings.specs.Lists.{sublist}
+use Rattle.postings.specs.Lists.{IsList, sublist}
 use Rattle.page_store.specs.Runs.{IsLowestRun, pages_for}
 use Rattle.page_store.specs.Taken.{PagesState, HasTaken}
 use Rattle.page_store.specs.Wrote.{Piece, HoldsPiece}
@@ -17,6 +17,11 @@ use Rattle.sublist_store.specs.Segments.{next_cut, EachSegment, HoldsSublist}
 abbrev pub spellings : Layout → List Posting → List ℕ → ℕ → List (List ℕ)
 spellings layout list [] h = []
 spellings layout list (f ∷ cuts) h = spelling_in layout (sublist f (next_cut cuts h) list) ∷ spellings layout list cuts h
+
+-- from the given list the segments have the same sublists
+pub record Serves (cuts : List ℕ) (h : ℕ) (list given : List Posting) : Type 0 where
+  pub ordered : IsList given
+  pub same : (layout : Layout) → spellings layout given cuts h ≡ spellings layout list cuts h
 
 -- how many bytes each of them has
 abbrev pub sizes : List (List ℕ) → List ℕ

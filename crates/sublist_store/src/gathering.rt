@@ -84,7 +84,8 @@ impl Sublists {
         // Whatever is answered, what is kept lies in the extents that are taken, where the places do.
         ensures lie { (taken : List Extent) → ((p : ℕ) → IsTaken (extents places.now) p → IsTaken taken p) → LieIn taken self.old.cache → LieIn taken self.new.cache }
     {
-        gather_all(
+        let mut lists = Vec::new(alloc);
+        let fetched = fetch_all(
             &mut self.cache,
             &mut self.checker,
             alloc,
@@ -94,53 +95,18 @@ impl Sublists {
             horizon,
             places,
             span,
-        )
-    }
-}
-
-/// The same with the store's parts.
-fn gather_all<D: Disk>(
-    cache: &mut PageCache,
-    checker: &mut Checker,
-    alloc: Global,
-    disk: &mut D,
-    layout: Layout,
-    cuts: &[Time],
-    horizon: Time,
-    places: &[Place],
-    span: Span,
-) -> Result<Gathered, FetchError>
-    requires as_many { length places.now ≡ length cuts.now }
-    requires inside { All (λ (p : PlainPlace). IsInside (D.disk disk.old).reach.pages p.extent) places.now }
-    requires few { sum_by (λ (p : PlainPlace). p.extent.bytes) places.now ≤ 2 ^ 60 }
-    ensures only { D.Disk.only disk.old disk.new }
-    ensures failed { IfErr result (IfFailed (Rose (D.disk disk.old).faults (D.disk disk.new).faults)) }
-    ensures same { D.disk disk.new ≡ record (D.disk disk.old) { faults = (D.disk disk.new).faults; bytes_read = (D.disk disk.new).bytes_read } }
-    ensures asked { D.disk_tells → StandsFor cache.old (D.disk disk.old).holds.pages
-        → OnOk result (cache.new ≡ after_asking_all (pieces_of_all (D.disk disk.old).holds.pages (chosen span.from span.to horizon.seconds true (seconds cuts.now) places.now)) cache.old) }
-    ensures count { D.disk_tells → StandsFor cache.old (D.disk disk.old).holds.pages
-        → OnOk result ((D.disk disk.new).bytes_read ≡ replaced (D.disk disk.old).bytes_read Area.Pages ((D.disk disk.old).bytes_read.pages
-        + missed_by_all (pieces_of_all (D.disk disk.old).holds.pages (chosen span.from span.to horizon.seconds true (seconds cuts.now) places.now)) cache.old)) }
-    ensures stays { D.disk_tells → StandsFor cache.old (D.disk disk.old).holds.pages → StandsFor cache.new (D.disk disk.new).holds.pages }
-    ensures lie { (taken : List Extent) → ((p : ℕ) → IsTaken (extents places.now) p → IsTaken taken p) → LieIn taken cache.old → LieIn taken cache.new }
-    ensures list { IfOk result (λ g. IsList g.list.items) }
-    ensures gathered { D.disk_tells → StandsFor cache.old (D.disk disk.old).holds.pages
-        → IfOk result (λ g. Gathers layout horizon.seconds (D.disk disk.old).holds.pages (chosen span.from span.to horizon.seconds true (seconds cuts.now) places.now) [] 0 (Ok (g.list.items, g.read))) }
-    ensures damaged { D.disk_tells → StandsFor cache.old (D.disk disk.old).holds.pages
-        → IfErr result (IfDamaged (λ d. Gathers layout horizon.seconds (D.disk disk.old).holds.pages (chosen span.from span.to horizon.seconds true (seconds cuts.now) places.now) [] 0 (Err d))) }
-{
-    let mut lists = Vec::new(alloc);
-    let fetched = fetch_all(
-        cache, checker, alloc, disk, layout, cuts, horizon, places, span, &mut lists,
-    );
-    // A clash among the lists in front of a segment that is refused is the first damage.
-    let list = match join_all(alloc, lists) {
-        Ok(list) => list,
-        Err(error) => return Err(error),
-    };
-    match fetched {
-        Ok(read) => Ok(Gathered { list, read }),
-        Err(error) => Err(error),
+            &mut lists,
+        );
+        // A clash among the lists in front of a segment that is refused is the first damage.
+        let list = match join_all(alloc, lists) {
+            Ok(list) => list,
+            Err(error) => return Err(error),
+        };
+        let read = match fetched {
+            Ok(read) => read,
+            Err(error) => return Err(error),
+        };
+        Ok(Gathered { list, read })
     }
 }
 
@@ -182,11 +148,12 @@ fn fetch_all<D: Disk>(
 {
     let mut read = 0;
     for k in 0..cuts.len() {
+        let place = &places[k];
         let segment = segment_at(cuts, horizon, k);
         if !overlaps(segment, span) {
             continue;
         }
-        let found = match fetch_one(cache, checker, alloc, disk, layout, &places[k], segment) {
+        let found = match fetch_one(cache, checker, alloc, disk, layout, place, segment) {
             Ok(found) => found,
             Err(error) => return Err(error),
         };
@@ -252,7 +219,7 @@ fn is_bare(first: bool, list: &[Posting]) -> bool
 }
 
 /// The segment that begins at a cut.
-pub(crate) fn segment_at(cuts: &[Time], horizon: Time, k: usize) -> Segment
+fn segment_at(cuts: &[Time], horizon: Time, k: usize) -> Segment
     requires { k < length cuts.now }
     ensures from { seconds (drop k cuts.now) ≡ result.bounds.from ∷ seconds (drop (k + 1) cuts.now) }
     ensures to { result.bounds.to ≡ next_cut (seconds (drop (k + 1) cuts.now)) horizon.seconds }

@@ -14,6 +14,7 @@ mod fetching;
 mod gathering;
 mod joining;
 mod laws;
+mod parts;
 mod placing;
 mod prepared;
 mod spelled;
@@ -26,6 +27,7 @@ pub use laws::{
     held_sublists_are_gathered, one_answer_of_bytes, one_outcome, pieces_hold_sublists,
     places_are_for_sublists,
 };
+pub use parts::{narrowed, part_or, sublist_bytes};
 pub use prepared::Prepared;
 pub use store::Sublists;
 pub use why::{Damage, FetchError, Why};

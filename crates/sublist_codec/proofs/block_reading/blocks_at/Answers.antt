@@ -18,32 +18,25 @@ loop-rest-init c = record {
 
 pub overflow_sub-result : goal.overflow_sub-result
 overflow_sub-result c =
-    let inside : length c.loop-rest.rest.now ≤ length c.args.bytes.now = c.loop-rest.invariant.inside in
     let h = block_left (seen c.loop-rest.before) c.loop-rest.rest.now c.in-Err-Form.left (rw c.in-Err-Form.field-0-is at c.in-Err-Form.ensures) in
-    rw c.in-Err-Form.field-0-is (omega arith)
+    rw c.in-Err-Form.field-0-is (omega (arith, h, c.loop-rest.invariant.inside))
 
 pub returns-in-Err-Form-clause-fault : goal.returns-in-Err-Form-clause-fault
 returns-in-Err-Form-clause-fault c =
-    let rest = c.loop-rest.rest.now in
-    let inside : length rest ≤ length c.args.bytes.now = c.loop-rest.invariant.inside in
     let e = rw c.in-Err-Form.field-0-is at c.in-Err-Form.ensures in
-    let h = block_left (seen c.loop-rest.before) rest c.in-Err-Form.left e in
-    let some : 0 < length rest = let h = eqb-false _ _ (sym c.is_empty.ensures ∙ c.loop-rest-test.true) in omega arith in
-    rw c.in-Err-Form.field-0-is (c.in-Err-Form.left, omega arith, ends block_at (blocks_at c.args.bytes.now) (map fields c.loop-rest.list.items) (seen c.loop-rest.before) rest c.in-Err-Form.left c.loop-rest.invariant.read some e)
+    let h = block_left (seen c.loop-rest.before) c.loop-rest.rest.now c.in-Err-Form.left e in
+    let some = eqb-false _ _ (sym c.is_empty.ensures ∙ c.loop-rest-test.true) in
+    rw c.in-Err-Form.field-0-is (c.in-Err-Form.left, omega (arith, h, c.loop-rest.invariant.inside), ends block_at _ _ _ _ c.in-Err-Form.left c.loop-rest.invariant.read (omega (arith, some)) e)
 
 pub loop-rest-smaller : goal.loop-rest-smaller
 loop-rest-smaller c = let h = block_shorter (seen c.loop-rest.before) c.loop-rest.rest.now (map fields c.in-Ok.read.0.items) c.in-Ok.read.1.now c.in-Ok.ensures in omega arith
 
 pub loop-rest-preserved : goal.loop-rest-preserved
 loop-rest-preserved c =
-    let rest = c.loop-rest.rest.now in
-    let before = seen c.loop-rest.before in
     let xs = map fields c.in-Ok.read.0.items in
-    let behind = c.in-Ok.read.1.now in
-    let shorter : length behind < length rest = block_shorter before rest xs behind c.in-Ok.ensures in
-    let inside : length rest ≤ length c.args.bytes.now = c.loop-rest.invariant.inside in
-    let next = goes_on block_at (blocks_at c.args.bytes.now) (map fields c.loop-rest.list.items) before rest xs behind c.loop-rest.invariant.read (omega arith) c.in-Ok.ensures shorter in
+    let shorter = block_shorter (seen c.loop-rest.before) c.loop-rest.rest.now xs c.in-Ok.read.1.now c.in-Ok.ensures in
+    let next = goes_on block_at _ _ _ _ _ _ c.loop-rest.invariant.read (omega (arith, shorter)) c.in-Ok.ensures shorter in
     let items : map fields c.extend_from_slice.new.self.items ≡ map fields c.loop-rest.list.items ++ xs =
     ap (λ (ps : List Posting). map fields ps) (c.in_ok-extend_from_slice.ensures.items ∙ ap (λ (ps : List Posting). c.loop-rest.list.items ++ ps) c.deref.ensures.value) ∙ map-append fields c.loop-rest.list.items c.in-Ok.read.0.items in
-    let last : seen c.last_of-before.result ≡ last_of before xs = c.last_of-before.ensures ∙ ap (λ (ps : List Posting). last_of before (map fields ps)) c.deref-in-loop-rest.ensures.value in
-    record { inside = omega arith; read = rw (items, last) next }
+    let last : seen c.last_of-before.result ≡ last_of (seen c.loop-rest.before) xs = c.last_of-before.ensures ∙ ap (λ (ps : List Posting). last_of (seen c.loop-rest.before) (map fields ps)) c.deref-in-loop-rest.ensures.value in
+    record { inside = omega (arith, shorter, c.loop-rest.invariant.inside); read = rw (items, last) next }

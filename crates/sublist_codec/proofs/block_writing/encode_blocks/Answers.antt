@@ -16,20 +16,17 @@ put_block-requires-clause-list c = rw c.split.ensures.front (list-take 128 c.loo
 
 pub put_block-requires-clause-some : goal.put_block-requires-clause-some
 put_block-requires-clause-some c =
-    let some : 0 < length c.loop-rest.rest.now = let h = eqb-false _ _ (sym c.is_empty.ensures ∙ c.loop-rest-test.true) in omega arith in
-    rw c.split.ensures.front (omega (arith, length-take 128 c.loop-rest.rest.now))
+    rw c.split.ensures.front (omega (arith, eqb-false _ _ (sym c.is_empty.ensures ∙ c.loop-rest-test.true), length-take 128 c.loop-rest.rest.now))
 
 pub put_block-requires-clause-most : goal.put_block-requires-clause-most
 put_block-requires-clause-most c = rw c.split.ensures.front (omega (arith, length-take 128 c.loop-rest.rest.now))
 
 pub loop-rest-smaller : goal.loop-rest-smaller
 loop-rest-smaller c =
-    let some : 0 < length c.loop-rest.rest.now = let h = eqb-false _ _ (sym c.is_empty.ensures ∙ c.loop-rest-test.true) in omega arith in
-    omega (arith, length-drop 128 c.loop-rest.rest.now, ap (λ (ps : List Posting). length ps) c.split.ensures.behind)
+    omega (arith, eqb-false _ _ (sym c.is_empty.ensures ∙ c.loop-rest-test.true), length-drop 128 c.loop-rest.rest.now, ap (λ (ps : List Posting). length ps) c.split.ensures.behind)
 
 pub loop-rest-preserved : goal.loop-rest-preserved
 loop-rest-preserved c =
-    let rest = c.loop-rest.rest.now in
-    let some : 0 < length rest = let h = eqb-false _ _ (sym c.is_empty.ensures ∙ c.loop-rest-test.true) in omega arith in
+    let some = eqb-false _ _ (sym c.is_empty.ensures ∙ c.loop-rest-test.true) in
     let new = c.in_ok-put_block.ensures ∙ ap (λ (ps : List Posting). c.loop-rest.bytes.items ++ block (map fields ps)) c.split.ensures.front in
-    rw c.split.ensures.behind (record { list = list-drop 128 rest c.loop-rest.invariant.list; cut = cut_more (block_spelling c.args.list.now) c.loop-rest.bytes.items rest c.put_block.new.bytes.items c.loop-rest.invariant.cut some new })
+    rw c.split.ensures.behind (record { list = list-drop 128 c.loop-rest.rest.now c.loop-rest.invariant.list; cut = cut_more _ _ c.loop-rest.rest.now c.put_block.new.bytes.items c.loop-rest.invariant.cut (omega (arith, some)) new })

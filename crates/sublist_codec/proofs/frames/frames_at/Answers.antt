@@ -9,20 +9,17 @@ loop-rest-init c = record { inside = omega arith; framed = rw (c.new-heads.ensur
 
 pub returns-in_default-clause-fault : goal.returns-in_default-clause-fault
 returns-in_default-clause-fault c =
-    let rest = c.loop-rest.rest.now in
-    let some : 0 < length rest = let h = eqb-false _ _ (sym c.is_empty.ensures ∙ c.loop-rest-test.true) in omega arith in
-    let inside : length rest ≤ length c.args.bytes.now = c.loop-rest.invariant.inside in
-    (length rest, omega arith, framed_fails c.args.bytes.now c.loop-rest.heads.items c.loop-rest.starts.items rest c.loop-rest.invariant.framed some (sym c.in_default.ensures))
+    let some = eqb-false _ _ (sym c.is_empty.ensures ∙ c.loop-rest-test.true) in
+    (length c.loop-rest.rest.now, omega (arith, c.loop-rest.invariant.inside), framed_fails c.args.bytes.now _ _ c.loop-rest.rest.now c.loop-rest.invariant.framed (omega (arith, some)) (sym c.in_default.ensures))
 
 pub loop-rest-smaller : goal.loop-rest-smaller
 loop-rest-smaller c = framed_shorter c.loop-rest.rest.now (head_of c.in-Some.head) c.in-Some.behind.now (sym c.in-Some.ensures)
 
 pub loop-rest-preserved : goal.loop-rest-preserved
 loop-rest-preserved c =
-    let inside : length c.loop-rest.rest.now ≤ length c.args.bytes.now = c.loop-rest.invariant.inside in
     let shorter = framed_shorter c.loop-rest.rest.now (head_of c.in-Some.head) c.in-Some.behind.now (sym c.in-Some.ensures) in
     record {
-      inside = omega arith;
+      inside = omega (arith, shorter, c.loop-rest.invariant.inside);
       framed = rw (c.in_ok-push.ensures.items, c.in_ok-push-2.ensures.items)
-          (framed_more c.args.bytes.now c.loop-rest.heads.items c.loop-rest.starts.items c.loop-rest.rest.now c.in-Some.head c.in-Some.behind.now _ c.loop-rest.invariant.framed (omega arith) (sym c.in-Some.ensures));
+          (framed_more c.args.bytes.now _ _ c.loop-rest.rest.now c.in-Some.head c.in-Some.behind.now _ c.loop-rest.invariant.framed (omega (arith, c.loop-rest.invariant.inside)) (sym c.in-Some.ensures));
     }

@@ -1,7 +1,6 @@
-use Rattle.std.proofs.Common.{◌≡◌, ℕ, ◌+◌, ◌<◌, List, length, get_or, refl, ap, sym, subst, ◌∙◌, arith}
+use Rattle.std.proofs.Common.{refl, ap, sym, ◌∙◌, arith}
 use Rattle.page_store.specs.Wrote.{ranges_of}
 use Rattle.page_store.proofs.ChangeLemmas.{changes_then_sync}
-use Rattle.record_codec.specs.declared.place.Place.{Place}
 use Rattle.sublist_store.specs.Preparing.{pieces_of}
 use Rattle.sublist_store.proofs.WriteLemmas.{pieces_from, written_none, pieces_at, pieces_end, written_more, changed_so_far, changed_more, all_stored, all_inside, as_many, for_at}
 use Rattle.sublist_store.proofs.prepared.write_all.Goals as goal
@@ -19,50 +18,25 @@ pub bounds-spellings-k : goal.bounds-spellings-k
 bounds-spellings-k g c = omega (arith, as_many c.args.places.now c.args.spellings.now c.requires.each, c.loop-k-test.true)
 
 pub write_extent-requires : goal.write_extent-requires
-write_extent-requires g c =
-    let places = c.args.places.now in
-    let all = c.args.spellings.now in
-    let k = c.loop-k.k in
-    let p : Place = get_or places k c.index-places-k.result in
-    let b : List ℕ = c.bytes-bytes.result.now in
-    let P : Place → Type 0 = λ x. x ≡ get_or places k x in
-    let B : List ℕ → Type 0 = λ x. x ≡ get_or all k x in
-    sym (for_at places all k p b c.requires.each c.loop-k-test.true (subst P c.index-places-k.is c.index-places-k.is) (subst B (sym c.bytes-bytes.ensures) c.index-spellings-k.is)).size
+write_extent-requires g c = sym (for_at c.args.places.now c.args.spellings.now c.loop-k.k c.index-places-k.result _ c.bytes-bytes.result.now c.requires.each c.loop-k-test.true c.index-spellings-k.is c.bytes-bytes.ensures).size
 
 pub returns-in_err-write_extent-clause-images : goal.returns-in_err-write_extent-clause-images
 returns-in_err-write_extent-clause-images g c = λ tells.
-    let places = c.args.places.now in
-    let all = c.args.spellings.now in
-    let k = c.loop-k.k in
-    let p : Place = get_or places k c.index-places-k.result in
-    let b : List ℕ = c.bytes-bytes.result.now in
-    let P : Place → Type 0 = λ x. x ≡ get_or places k x in
-    let B : List ℕ → Type 0 = λ x. x ≡ get_or all k x in
-    let few : k < length all = omega (arith, as_many places all c.requires.each, c.loop-k-test.true) in
-    let next = pieces_at places all k p b c.loop-k-test.true few (subst P c.index-places-k.is c.index-places-k.is) (subst B (sym c.bytes-bytes.ensures) c.index-spellings-k.is) in
-    changed_more g.D.Disk.disk_tells (g.D.Disk.disk c.args.disk.now) (g.D.Disk.disk c.loop-k.disk) (g.D.Disk.disk c.write_extent.new.disk) (pieces_from places all k) (pieces_from places all (k + 1)) (pieces_of places all)
-    (record { extent = p.extent; bytes = b }) next c.write_extent.ensures.images c.loop-k.invariant.written tells
+    let next = pieces_at c.args.places.now c.args.spellings.now c.loop-k.k c.index-places-k.result _ c.bytes-bytes.result.now c.requires.each c.loop-k-test.true c.index-spellings-k.is c.bytes-bytes.ensures in
+    changed_more g.D.Disk.disk_tells (g.D.Disk.disk c.args.disk.now) (g.D.Disk.disk c.loop-k.disk) (g.D.Disk.disk c.write_extent.new.disk) _ _ _ _ next c.write_extent.ensures.images c.loop-k.invariant.written tells
 
 pub loop-k-preserved : goal.loop-k-preserved
 loop-k-preserved g c =
-    let places = c.args.places.now in
-    let all = c.args.spellings.now in
-    let k = c.loop-k.k in
-    let p : Place = get_or places k c.index-places-k.result in
-    let b : List ℕ = c.bytes-bytes.result.now in
-    let P : Place → Type 0 = λ x. x ≡ get_or places k x in
-    let B : List ℕ → Type 0 = λ x. x ≡ get_or all k x in
-    let few : k < length all = omega (arith, as_many places all c.requires.each, c.loop-k-test.true) in
-    let next = pieces_at places all k p b c.loop-k-test.true few (subst P c.index-places-k.is c.index-places-k.is) (subst B (sym c.bytes-bytes.ensures) c.index-spellings-k.is) in
-    let mine = for_at places all k p b c.requires.each c.loop-k-test.true (subst P c.index-places-k.is c.index-places-k.is) (subst B (sym c.bytes-bytes.ensures) c.index-spellings-k.is) in
+    let next = pieces_at c.args.places.now c.args.spellings.now c.loop-k.k c.index-places-k.result _ c.bytes-bytes.result.now c.requires.each c.loop-k-test.true c.index-spellings-k.is c.bytes-bytes.ensures in
+    let mine = for_at c.args.places.now c.args.spellings.now c.loop-k.k c.index-places-k.result _ c.bytes-bytes.result.now c.requires.each c.loop-k-test.true c.index-spellings-k.is c.bytes-bytes.ensures in
     let was = c.loop-k.invariant in
     record {
       only = g.met.D.Disk.only_joins _ _ _ was.only c.write_extent.ensures.only;
       later = omega (arith, was.later, c.write_extent.ensures.cause.later);
       journal = c.write_extent.ensures.journal ∙ was.journal;
       read = λ tells. c.write_extent.ensures.read tells ∙ was.read tells;
-      written = written_more g.D.Disk.disk_tells (g.D.Disk.disk c.args.disk.now) (g.D.Disk.disk c.loop-k.disk) (g.D.Disk.disk c.write_extent.new.disk) (pieces_from places all k) (pieces_from places all (k + 1)) (pieces_of places all)
-          (record { extent = p.extent; bytes = b }) c.requires.apart mine.empty next c.in_ok-write_extent.ensures.reach c.write_extent.ensures.images c.in_ok-write_extent.ensures.wrote was.written;
+      written = written_more g.D.Disk.disk_tells (g.D.Disk.disk c.args.disk.now) (g.D.Disk.disk c.loop-k.disk) (g.D.Disk.disk c.write_extent.new.disk) _ _ _ _
+          c.requires.apart mine.empty next c.in_ok-write_extent.ensures.reach c.write_extent.ensures.images c.in_ok-write_extent.ensures.wrote was.written;
     }
 
 pub returns-in_err-sync-clause-images : goal.returns-in_err-sync-clause-images

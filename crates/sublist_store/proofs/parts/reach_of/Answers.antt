@@ -2,7 +2,7 @@ use Rattle.std.proofs.Common.{List, subst, arith}
 use Rattle.std.proofs.lemmas.List.{take_all}
 use Rattle.time_base.specs.declared.time.Time.{Time}
 use Rattle.sublist_store.proofs.SpellLemmas.{AreWithin, within_more}
-use Rattle.sublist_store.proofs.spelled.reach_of.Goals as goal
+use Rattle.sublist_store.proofs.parts.reach_of.Goals as goal
 
 pub loop-cut-preserved : goal.loop-cut-preserved
 loop-cut-preserved c =

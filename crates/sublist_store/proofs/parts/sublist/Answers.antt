@@ -4,7 +4,7 @@ use Rattle.std.proofs.lemmas.Iterator.{items_from_collect, YieldsList-from_slice
 use Rattle.std.proofs.lemmas.Iterator.Consumers.{YieldsList-at, YieldsList-from_copied, YieldsList-from_filter}
 use Rattle.postings.specs.Lists.{meets, sublist, IsList}
 use Rattle.postings.proofs.Clipping.{sublist_list}
-use Rattle.archive_check.proofs.spelling.sublist.Goals as goal
+use Rattle.sublist_store.proofs.parts.sublist.Goals as goal
 
 pub returns-clause-ordered : goal.returns-clause-ordered
 returns-clause-ordered c =

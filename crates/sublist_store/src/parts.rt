@@ -1,0 +1,108 @@
+//! Parts of a list from which segments are spelled, and the bytes of one segment's sublist.
+ghost use Rattle.std.specs.Prelude.{◌≡◌, ◌≤◌, ℕ, List, All, IfOk, IfSome};
+ghost use Rattle.time_base.specs.declared.time.Time.{Time as PlainTime};
+ghost use Rattle.postings.specs.Lists.{IsList, sublist};
+ghost use Rattle.sublist_store.specs.Layouts.{spelling_in};
+ghost use Rattle.sublist_store.specs.Segments.{seconds};
+ghost use Rattle.sublist_store.specs.Preparing.{Serves};
+
+use crate::spelling::encoded;
+use record_codec::Layout;
+use std::alloc::{AllocError, Global};
+use time_base::{Posting, Time};
+
+/// From the earliest of some times to the latest.
+#[derive(Clone, Copy)]
+struct Reach {
+    from: u64,
+    to: u64,
+}
+
+impl Reach {
+    /// The reach of these times and one more.
+    fn with(self, time: Time) -> Reach
+        ensures earlier { result.from ≤ self.from }
+        ensures later { self.to ≤ result.to }
+        ensures from { result.from ≤ time.seconds }
+        ensures to { time.seconds ≤ result.to }
+    {
+        Reach {
+            from: self.from.min(time.seconds),
+            to: self.to.max(time.seconds),
+        }
+    }
+}
+
+/// The reach of both ends of all segments that begin at the cuts, in whatever order these are.
+fn reach_of(cuts: &[Time], end: Time) -> Reach
+    ensures cuts { All (λ (c : PlainTime). (result.from ≤ c.seconds) × (c.seconds ≤ result.to)) cuts.now }
+    ensures end { end.seconds ≤ result.to }
+{
+    let mut reach = Reach {
+        from: end.seconds,
+        to: end.seconds,
+    };
+    for cut in cuts {
+        reach = reach.with(*cut);
+    }
+    reach
+}
+
+/// The postings that overlap the segments that begin at the cuts, the last of which ends at `end`, where
+/// they are at most half of the list: so each list of those that are held has half of the one before it at
+/// most. Two passes over the list, and one over the cuts.
+pub fn narrowed(
+    alloc: Global,
+    list: &[Posting],
+    cuts: &[Time],
+    end: Time,
+) -> Result<Option<Vec<Posting>>, AllocError>
+    requires { IsList list.now }
+    ensures { IfOk result (λ part. IfSome part (λ v. Serves (seconds cuts.now) end.seconds list.now v.items)) }
+{
+    let reach = reach_of(cuts, end);
+    let count = list
+        .iter()
+        .filter(|p| p.span.from < reach.to && reach.from < p.span.to)
+        .count();
+    if count > list.len() / 2 {
+        return Ok(None);
+    }
+    Ok(Some(sublist(alloc, list, reach.from, reach.to)?))
+}
+
+/// The part, or else the whole list. Constant cost.
+pub fn part_or<'l>(part: &'l Option<Vec<Posting>>, list: &'l [Posting]) -> &'l [Posting]
+    ensures { (cuts : List ℕ) (h : ℕ) → IsList list.now → IfSome part.now (λ v. Serves cuts h list.now v.items) → Serves cuts h list.now result.now }
+{
+    match part {
+        Some(part) => part,
+        None => list,
+    }
+}
+
+/// The bytes of the sublist of the segment from `from` to `to`, in seconds. One pass over the list.
+pub fn sublist_bytes(
+    alloc: Global,
+    layout: Layout,
+    list: &[Posting],
+    from: u64,
+    to: u64,
+) -> Result<Vec<u8>, AllocError>
+    requires { IsList list.now }
+    ensures { IfOk result (λ v. v.items ≡ spelling_in layout (sublist from to list.now)) }
+{
+    let part = sublist(alloc, list, from, to)?;
+    encoded(alloc, layout, &part)
+}
+
+/// The postings that have a time in a segment.
+fn sublist(alloc: Global, list: &[Posting], from: u64, to: u64) -> Result<Vec<Posting>, AllocError>
+    ensures sublist { IfOk result (λ v. v.items ≡ sublist from to list.now) }
+    ensures ordered { IfOk result (λ v. IsList list.now → IsList v.items) }
+{
+    list.iter()
+        .filter(|p| p.span.from < to && from < p.span.to)
+        .copied()
+        .collect(alloc)
+}
