@@ -1,8 +1,7 @@
 -- A partition that may be chosen takes at most the cap.
-use Rattle.std.specs.Prelude.{ℕ, ◌+◌, ◌*◌, ◌<◌, ◌≤◌, List, [], ◌∷◌, length}
-use Rattle.std.specs.Int.{div_ceil}
-use Rattle.std.proofs.Common.{arith, ap, subst, inl, inr, sym}
-use Rattle.std.proofs.Math.Nat.{add-mul, div-mul-le_self, le-div_iff_mul-le, mul-le-mul_right, mul-le-mul_left, mul_comm}
+use Rattle.std.specs.Prelude.{ℕ, ◌*◌, ◌<◌, ◌≤◌, List, [], ◌∷◌, length}
+use Rattle.std.proofs.Common.{arith, subst, inl, inr, sym}
+use Rattle.std.proofs.Math.Nat.{add-mul, div-mul-le_self, le-div_iff_mul-le, mul-le-mul_right, mul_comm}
 use Rattle.std.proofs.lemmas.Grind.{div_ceil_times}
 use Rattle.std.proofs.lemmas.List.Sums.{count_by-le-length}
 use Rattle.time_base.specs.declared.posting.Posting.{Posting}
@@ -12,7 +11,6 @@ use Rattle.postings.specs.Sizes.{size}
 use Rattle.elementary.specs.Partitions.{space}
 use Rattle.space_planner.specs.Caps.{cap, unit, charge, budget}
 use Rattle.space_planner.specs.Costs.{charges}
-use Rattle.space_planner.specs.Plans.{IsEligible}
 use Rattle.space_planner.specs.Laws.{EligibleIsCapped}
 
 unit_some : (most : ℕ) → 0 < unit most

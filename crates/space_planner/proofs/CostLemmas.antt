@@ -1,5 +1,5 @@
 -- The expected cost, segment by segment, and the weights of a segment as a difference of sums.
-use Rattle.std.specs.Prelude.{◌≡◌, ◌⊎◌, ℕ, zero, suc, ◌+◌, ◌-◌, ◌*◌, ◌<◌, ◌≤◌, nat_le, nat_lt, ◌&&◌, if◌then◌else◌, List, [], ◌∷◌, length, slice_index, refl}
+use Rattle.std.specs.Prelude.{◌≡◌, ◌⊎◌, ℕ, zero, suc, ◌+◌, ◌-◌, ◌*◌, ◌<◌, ◌≤◌, nat_le, nat_lt, Bool, true, false, ◌&&◌, if◌then◌else◌, List, [], ◌∷◌, length, slice_index, refl}
 use Rattle.std.specs.List.Sorted.{IsStrictlyIncreasing}
 use Rattle.std.proofs.Common.{arith, ap, sym, ◌∙◌, inl, inr, add-mul, mul-zero}
 use Rattle.std.proofs.lemmas.Bool.{cases_lt}
@@ -40,6 +40,13 @@ none_below [] weights b h = refl
 none_below (t ∷ times) [] b h = refl
 none_below (t ∷ times) (w ∷ weights) b h = omega (arith, not_below w t b (h 0 (omega arith)), none_below times weights b (λ k l. h (suc k) (omega arith)))
 
+none_first : (times weights : List ℕ) → ((j k : ℕ) → j < k → k < length times → slice_index times j < slice_index times k) → weighed_below times weights (slice_index times 0) ≡ 0
+none_first times weights up = none_below times weights (slice_index times 0) (λ k d. first k d (cases_lt 0 k))
+  where
+    first : (k : ℕ) → k < length times → ((0 < k) ⊎ (k ≤ 0)) → slice_index times 0 ≤ slice_index times k
+    first k d (inl h) = omega (arith, up 0 k h d)
+    first k d (inr h) = let e : 0 ≡ k = omega arith in omega (arith, ap (λ i. slice_index times i) e)
+
 below_next : (times weights : List ℕ) → ((j k : ℕ) → j < k → k < length times → slice_index times j < slice_index times k) → (q : ℕ) → suc q < length times → q < length weights
     → weighed_below times weights (slice_index times (suc q)) ≡ weighed_below times weights (slice_index times q) + slice_index weights q
 below_next [] weights up q l m = absurd (omega (arith, l))
@@ -48,17 +55,9 @@ below_next (t ∷ times) (w ∷ weights) up zero l m =
     omega (
       arith,
       is_below w t (slice_index times 0) (up 0 1 (omega arith) (omega arith)),
-      none_below times weights (slice_index times 0) (λ k d. first k d (cases_lt 0 k)),
-      not_below w t t (omega arith),
-      none_below times weights t (λ k d. later k d),
+      none_first times weights (λ j k d f. up (suc j) (suc k) (omega arith) (omega arith)),
+      none_first (t ∷ times) (w ∷ weights) up,
     )
-  where
-    first : (k : ℕ) → k < length times → ((0 < k) ⊎ (k ≤ 0)) → slice_index times 0 ≤ slice_index times k
-    first k d (inl h) = omega (arith, up 1 (suc k) (omega arith) (omega arith))
-    first k d (inr h) = let e : 0 ≡ k = omega arith in omega (arith, ap (λ i. slice_index times i) e)
-
-    later : (k : ℕ) → k < length times → t ≤ slice_index times k
-    later k d = omega (arith, up 0 (suc k) (omega arith) (omega arith))
 below_next (t ∷ times) (w ∷ weights) up (suc q) l m =
     omega (
       arith,
@@ -68,11 +67,7 @@ below_next (t ∷ times) (w ∷ weights) up (suc q) l m =
     )
 
 pub below_is : (times weights sums : List ℕ) → IsStrictlyIncreasing times → length weights + 1 ≡ length times → AreSums weights sums → (q : ℕ) → q < length times → weighed_below times weights (slice_index times q) ≡ slice_index sums q
-below_is times weights sums up long s zero l = none_below times weights (slice_index times 0) (λ k d. first k d (cases_lt 0 k)) ∙ sym s.none
-  where
-    first : (k : ℕ) → k < length times → ((0 < k) ⊎ (k ≤ 0)) → slice_index times 0 ≤ slice_index times k
-    first k d (inl h) = omega (arith, rises times up 0 k h d)
-    first k d (inr h) = let e : 0 ≡ k = omega arith in omega (arith, ap (λ i. slice_index times i) e)
+below_is times weights sums up long s zero l = none_first times weights (rises times up) ∙ sym s.none
 below_is times weights sums up long s (suc q) l =
     let e : q + 1 ≡ suc q = omega arith in
     omega (arith, below_next times weights (rises times up) q l (omega (arith, long)), below_is times weights sums up long s q (omega arith), s.next q (omega (arith, long)), ap (λ i. slice_index sums i) e)
@@ -93,30 +88,14 @@ size_before list f (g ∷ cuts) end t (lt, a) l = skip (size f g list) (size_at 
 
 one_time : (w x y f g t wsum rest sum : ℕ) → (t < g → y ≡ 0) → rest ≡ wsum * x + sum
     → w * (if nat_le f t && nat_lt t g then x else y) + rest ≡ ((if nat_le f t && nat_lt t g then w else 0) + wsum) * x + (w * y + sum)
-one_time w x y f g t wsum rest sum none e = go (cases_lt t f) (cases_lt t g)
+one_time w x y f g t wsum rest sum none e = go (nat_le f t && nat_lt t g) (λ h. none (before h))
   where
-    inside : f ≤ t → t < g → (if nat_le f t && nat_lt t g then x else y) ≡ x
-    inside l m = grind (arith, nat_tests)
+    before : (nat_le f t && nat_lt t g) ≡ true → t < g
+    before h = grind (arith, nat_tests)
 
-    inside_w : f ≤ t → t < g → (if nat_le f t && nat_lt t g then w else 0) ≡ w
-    inside_w l m = grind (arith, nat_tests)
-
-    before : t < f → (if nat_le f t && nat_lt t g then x else y) ≡ y
-    before l = grind (arith, nat_tests)
-
-    before_w : t < f → (if nat_le f t && nat_lt t g then w else 0) ≡ 0
-    before_w l = grind (arith, nat_tests)
-
-    after : g ≤ t → (if nat_le f t && nat_lt t g then x else y) ≡ y
-    after l = grind (arith, nat_tests)
-
-    after_w : g ≤ t → (if nat_le f t && nat_lt t g then w else 0) ≡ 0
-    after_w l = grind (arith, nat_tests)
-
-    go : ((t < f) ⊎ (f ≤ t)) → ((t < g) ⊎ (g ≤ t)) → w * (if nat_le f t && nat_lt t g then x else y) + rest ≡ ((if nat_le f t && nat_lt t g then w else 0) + wsum) * x + (w * y + sum)
-    go (inl l) m = rw (before l, before_w l) (omega (arith, e))
-    go (inr l) (inl m) = rw (inside l m, inside_w l m, none m) (omega (arith, e, add-mul w wsum x, mul-zero w))
-    go (inr l) (inr m) = rw (after m, after_w m) (omega (arith, e))
+    go : (b : Bool) → (b ≡ true → y ≡ 0) → w * (if b then x else y) + rest ≡ ((if b then w else 0) + wsum) * x + (w * y + sum)
+    go true zero_if = rw (zero_if refl) (omega (arith, e, add-mul w wsum x, mul-zero w))
+    go false zero_if = omega (arith, e)
 
 no_cost : (list : List Posting) (f : ℕ) (times weights : List ℕ) → expected_cost list f [] times weights ≡ 0
 no_cost list f [] weights = refl

@@ -1,13 +1,14 @@
 -- The points of a front.
-use Rattle.std.specs.Prelude.{◌≡◌, ◌⊎◌, ℕ, ◌+◌, ◌-◌, ◌<◌, ◌≤◌, nat_lt, if◌then◌else◌, Bool, Option, Some, None, List, [], ◌∷◌, ◌++◌, map, length, slice_index, slice_index_or, Contains}
+use Rattle.std.specs.Prelude.{◌≡◌, ◌⊎◌, ℕ, ◌+◌, ◌<◌, ◌≤◌, Option, Some, None, List, [], ◌∷◌, ◌++◌, map, length, slice_index, slice_index_or, Contains, refl}
 use Rattle.std.specs.List.Sorted.{IsStrictlyIncreasing}
 use Rattle.std.proofs.Common.{arith, ap, sym, ◌∙◌, subst, inl, inr, lt-ltb}
-use Rattle.std.proofs.lemmas.Bool.{cases_lt}
-use Rattle.std.proofs.lemmas.Bool.Decides.{nat_tests}
+use Rattle.std.proofs.lemmas.Bool.{cases_lt, le-ltb}
 use Rattle.std.proofs.lemmas.List.{get_or_append_left, length-append, length-map, map-append, get_or-map}
 use Rattle.std.proofs.lemmas.List.Elements.{Contains-append_left, Contains-append_cases, Contains-push, Contains-get_or}
 use Rattle.std.proofs.Math.Seq.{get_or-append_seam}
-use Rattle.space_planner.specs.Steps.{IsLeastPath, IsCell, IsFallAt, ArePoints, fall, with_fall, IsBefore}
+use Rattle.space_planner.specs.Steps.{Falls, IsPath, IsCell, IsFallAt, ArePoints, fall, with_fall, IsBefore}
+use Rattle.space_planner.specs.Costs.{along}
+use Rattle.space_planner.proofs.LeastLemmas.{least_by}
 use Rattle.space_planner.specs.declared.point.Point.{Point}
 
 up_more : (xs : List ℕ) (y : ℕ) → IsStrictlyIncreasing xs → ((k : ℕ) → k < length xs → slice_index xs k < y) → IsStrictlyIncreasing (xs ++ y ∷ [])
@@ -60,29 +61,22 @@ module _ (charge cost : ℕ → ℕ → ℕ) (i n : ℕ) (points : List Point) (
       back p l g (inr ge) =
           let e : p.charge ≡ n = omega arith in
           let h : IsFallAt charge cost i n p.cost = subst (λ c. IsFallAt charge cost i c p.cost) e g in
-          let k : p.cost ≡ v = omega (arith, h.least.least f.least.path f.least.falls f.least.within, f.least.takes, f.least.least h.least.path h.least.falls h.least.within, h.least.takes) in
+          let k : p.cost ≡ v = omega (arith, h.least.least f.least.list f.least.is, f.least.takes, f.least.least h.least.list h.least.is, h.least.takes) in
           subst (λ (q : Point). Contains (points ++ (record { charge = n; cost = v }) ∷ []) q) (sym (one_point p (record { charge = n; cost = v }) e k)) (Contains-push points (record { charge = n; cost = v }))
 
+  at : (before here : Option ℕ) → IsBefore charge cost i n before → IsCell charge cost i n here → ArePoints charge cost i (n + 1) (with_fall points n (fall before here))
+  at before None b h = keeps (λ v f. h f.least.list f.least.is)
+  at None (Some v) b h = takes v (record { least = h; falls = λ other f l. absurd (b other (f, l)) })
+  at (Some w) (Some v) b h = elim (cases_lt v w) [
+    | inl l ↦ rw (lt-ltb v w l) (takes v (record { least = h; falls = λ other f m. omega (arith, b.least other (f, m), l) }))
+    | inr l ↦ rw (le-ltb v w l) (keeps (λ u f. omega (arith, f.falls b.list b.is.0 b.is.1, b.takes, h.least f.least.list f.least.is, f.least.takes, l)))
+  ]
+
   pub front_more : (before here : Option ℕ) → IsBefore charge cost i n before → IsCell charge cost i n here → ArePoints charge cost i (n + 1) (with_fall points n (fall before here)) × IsBefore charge cost i (n + 1) here
-  front_more before None b h = (keeps (λ v f. omega (arith, h f.least.path f.least.falls, f.least.within)), λ path f. omega (arith, h path f))
-  front_more None (Some v) b h = (takes v (record { least = h; falls = λ other f l. absurd (omega (arith, b other f, l)) }), (omega arith, later v h))
-    where
-      later : (v : ℕ) → IsLeastPath charge cost i n v → IsLeastPath charge cost i (n + 1 - 1) v
-      later v h = let e : n ≡ n + 1 - 1 = omega arith in subst (λ m. IsLeastPath charge cost i m v) e h
-  front_more (Some w) (Some v) (some, b) h = (go (cases_lt v w), (omega arith, let e : n ≡ n + 1 - 1 = omega arith in subst (λ m. IsLeastPath charge cost i m v) e h))
-    where
-      yes : v < w → (if nat_lt v w then Some v else None) ≡ Some v
-      yes l = ap (λ (b : Bool). if b then Some v else None) (lt-ltb v w l)
-
-      no : w ≤ v → (if nat_lt v w then Some v else None) ≡ None
-      no l = grind (arith, nat_tests)
-
-      go : ((v < w) ⊎ (w ≤ v)) → ArePoints charge cost i (n + 1) (with_fall points n (if nat_lt v w then Some v else None))
-      go (inl l) = subst (λ (o : Option ℕ). ArePoints charge cost i (n + 1) (with_fall points n o)) (sym (yes l)) (takes v (record { least = h; falls = λ other f m. omega (arith, b.least other f (omega arith), l) }))
-      go (inr l) = subst (λ (o : Option ℕ). ArePoints charge cost i (n + 1) (with_fall points n o)) (sym (no l)) (keeps (λ u f. omega (arith, f.falls b.path b.falls (omega (arith, b.within, some)), b.takes, h.least f.least.path f.least.falls f.least.within, f.least.takes, l)))
+  front_more before here b h = (at before here b h, least_by (IsPath charge i n) (λ x. Falls i x × (along charge i x < n + 1)) (along cost i) (along cost i) here (λ x p. (x, (p.0, omega (arith, p.1)), refl)) (λ x p. (x, (p.0, omega (arith, p.1)), refl)) h)
 
 pub front_first : (charge cost : ℕ → ℕ → ℕ) (i : ℕ) → ArePoints charge cost i 0 [] × IsBefore charge cost i 0 None
-front_first charge cost i = (record { ascending = λ k m. absurd (omega (arith, m)); each = λ p. (λ c. nothing p c, λ h. absurd (omega (arith, h.0))) }, λ path f. omega arith)
+front_first charge cost i = (record { ascending = λ k m. absurd (omega (arith, m)); each = λ p. (λ c. nothing p c, λ h. absurd (omega (arith, h.0))) }, λ path f. omega (arith, f.1))
   where
     nothing : (p : Point) → Contains [] p → (p.charge < 0) × IsFallAt charge cost i p.charge p.cost
     nothing p (k, l, e) = absurd (omega (arith, l))

@@ -1,12 +1,12 @@
 mod BestLemmas
 pub mod CapLemmas
 mod CellLemmas
-mod Choosing
 mod CostLemmas
 mod CourseLemmas
 mod CutLemmas
 mod FrontLemmas
 pub mod FunctionLemmas
+mod LeastLemmas
 mod LegLemmas
 mod PlanLemmas
 pub mod ShortLemmas

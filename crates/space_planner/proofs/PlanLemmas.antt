@@ -12,19 +12,12 @@ use Rattle.space_planner.specs.Caps.{charge, stride, IsCandidate}
 use Rattle.space_planner.specs.Costs.{Ascends, along, charges, expected_cost}
 use Rattle.space_planner.specs.Steps.{AreStops, AreSums, Falls, leg_charge, leg_cost}
 use Rattle.space_planner.proofs.CostLemmas.{weighed, weighed_is, cost_by_segments}
-use Rattle.space_planner.proofs.StopLemmas.{stop_falls, stop_inside, min_past}
+use Rattle.space_planner.proofs.StopLemmas.{stop_falls, stop_inside, stop_last, min_past}
 
 module _ (list : List Posting) (horizon : ℕ) (table : Counts) (unit' : ℕ) (weights sums places : List ℕ) (many : 2 ≤ length table.boundaries) (t : Tabulates list horizon table)
     (s : AreStops (length table.boundaries) places) (long : length weights + 1 ≡ length table.boundaries) (a : AreSums weights sums) where
-  time : ℕ → ℕ
-  time i = slice_index table.boundaries (slice_index places i)
-
   pub time_falls : (j i : ℕ) → j < i → i < length places → slice_index table.boundaries (slice_index places i) < slice_index table.boundaries (slice_index places j)
   time_falls j i lt l = rises table.boundaries t.boundaries.ascending (slice_index places i) (slice_index places j) (stop_falls (length table.boundaries) places many s j i lt l) (stop_inside (length table.boundaries) places many s j (omega arith))
-
-  pub last_stop : slice_index places 0 ≡ length table.boundaries - 1
-  last_stop = let e : length places - 1 - 0 ≡ length places - 1 = omega arith in
-      s.each 0 (omega (arith, s.some)) ∙ (ap (λ z. min (z * stride (length table.boundaries - 1)) (length table.boundaries - 1)) e ∙ min_past ((length places - 1) * stride (length table.boundaries - 1)) (length table.boundaries - 1) s.whole)
 
   stop_candidate : (i : ℕ) → i < length places → IsCandidate table.boundaries (slice_index table.boundaries (slice_index places i))
   stop_candidate i l = (length places - 1 - i, ap (λ p. slice_index table.boundaries p) (sym (s.each i l)))
@@ -36,7 +29,7 @@ module _ (list : List Posting) (horizon : ℕ) (table : Counts) (unit' : ℕ) (w
       go (inl h) = (
         0,
         omega (arith, s.some),
-        ap (λ p. slice_index table.boundaries p) (last_stop ∙ sym (min_past (k * stride (length table.boundaries - 1)) (length table.boundaries - 1)
+        ap (λ p. slice_index table.boundaries p) (stop_last (length table.boundaries) places s ∙ sym (min_past (k * stride (length table.boundaries - 1)) (length table.boundaries - 1)
             (omega (arith, s.whole, mul-le-mul_right {m = length places - 1} {n = k} (stride (length table.boundaries - 1)) (omega arith))))) ∙ e,
       )
       go (inr h) = let f : length places - 1 - (length places - 1 - k) ≡ k = omega arith in
@@ -79,11 +72,7 @@ module _ (list : List Posting) (horizon : ℕ) (table : Counts) (unit' : ℕ) (w
   -- a partition that cuts at candidates is that of a path
   pub path_of : (cuts : List ℕ) (i : ℕ) → i < length places → Ascends (slice_index table.boundaries (slice_index places i)) cuts (slice_index table.boundaries (slice_index places 0)) → All (IsCandidate table.boundaries) cuts
       → (path : List ℕ) × Falls i path × (map (λ k. slice_index table.boundaries (slice_index places k)) path ≡ cuts)
-  path_of [] i l e c = ([], go (cases_lt 0 i), refl)
-    where
-      go : ((0 < i) ⊎ (i ≤ 0)) → i ≡ 0
-      go (inl h) = absurd (omega (arith, time_falls 0 i h l, e))
-      go (inr h) = omega arith
+  path_of [] i l e c = ([], elim (cases_lt 0 i) [ inl h ↦ absurd (omega (arith, time_falls 0 i h l, e)) | inr h ↦ omega (arith, h) ], refl)
   path_of (g ∷ cuts) i l (lt, up) c = go (candidate_stop g (All-head (IsCandidate table.boundaries) g cuts c)) (λ j m e. path_of cuts j m (subst (λ x. Ascends x cuts (slice_index table.boundaries (slice_index places 0))) (sym e) up) (All-tail (IsCandidate table.boundaries) g cuts c))
     where
       lower : (j : ℕ) → j < length places → slice_index table.boundaries (slice_index places j) ≡ g → ((i < j) ⊎ (j ≤ i)) → ((j < i) ⊎ (i ≤ j)) → j < i

@@ -12,7 +12,7 @@ use Rattle.space_planner.specs.Laws.{EligibleIsShort}
 use Rattle.space_planner.proofs.StopLemmas.{min_to, min_past}
 
 -- where the candidate stands that is so many strides on
-abbrev place : List ℕ → ℕ → ℕ
+abbrev pub place : List ℕ → ℕ → ℕ
 place times k = min (k * stride (length times - 1)) (length times - 1)
 
 lower : (a b n : ℕ) → a ≤ b → min a n ≤ min b n
@@ -23,7 +23,7 @@ reached : (n : ℕ) → n ≤ 127 * stride n
 reached n = omega (arith, (div_ceil_times n 127 (omega arith)).0)
 
 -- so each candidate is at most 127 strides on
-numbered : (times : List ℕ) (g : ℕ) → IsCandidate times g → (k : ℕ) × (k ≤ 127) × (slice_index times (place times k) ≡ g)
+pub numbered : (times : List ℕ) (g : ℕ) → IsCandidate times g → (k : ℕ) × (k ≤ 127) × (slice_index times (place times k) ≡ g)
 numbered times g (k, e) = go (cases_lt 127 k)
   where
     past : (i : ℕ) → 127 ≤ i → place times i ≡ length times - 1

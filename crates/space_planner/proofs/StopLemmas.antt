@@ -1,6 +1,6 @@
 -- The stops fall, and lie among the boundaries.
-use Rattle.std.specs.Prelude.{◌≡◌, ◌⊎◌, ℕ, ◌+◌, ◌-◌, ◌*◌, ◌<◌, ◌≤◌, min, List, length, slice_index}
-use Rattle.std.proofs.Common.{arith, ap, sym, subst, inl, inr, mul-zero}
+use Rattle.std.specs.Prelude.{◌≡◌, ℕ, ◌+◌, ◌-◌, ◌*◌, ◌<◌, ◌≤◌, min, List, length, slice_index}
+use Rattle.std.proofs.Common.{arith, ap, ◌∙◌, inl, inr, mul-zero}
 use Rattle.std.specs.Int.{div_ceil}
 use Rattle.std.proofs.lemmas.Grind.{div_ceil_times}
 use Rattle.std.proofs.lemmas.Bool.{cases_lt}
@@ -11,25 +11,24 @@ use Rattle.space_planner.specs.Steps.{AreStops}
 pub min_to : (a b : ℕ) → min a b ≤ b
 min_to a b = grind arith
 
-min_first : (a b : ℕ) → a ≤ b → min a b ≡ a
-min_first a b h = grind arith
+min_at : (a b : ℕ) → a ≤ b → min a b ≡ a
+min_at a b h = grind arith
 
-min_second : (a b : ℕ) → b ≤ a → min a b ≡ b
-min_second a b h = grind arith
+pub min_past : (a b : ℕ) → b ≤ a → min a b ≡ b
+min_past a b h = grind arith
 
 min_both : (a b c : ℕ) → c < a → c < b → c < min a b
 min_both a b c h k = grind arith
 
 -- numbers of gaps times the stride
 below : (m s n a c : ℕ) → m * s + 1 ≤ n + s → n ≤ m * s → 1 ≤ n → a < c → c ≤ m → min (a * s) n < min (c * s) n
-below m s n a c reach whole some lt le = rw (min_first (a * s) n (omega (arith, up, top, reach))) (min_both (c * s) n (a * s) (omega (arith, up, positive)) (omega (arith, up, top, reach)))
+below m s n a c reach whole some lt le = rw (min_at (a * s) n (omega (arith, up, top, reach))) (min_both (c * s) n (a * s) (omega (arith, up, positive)) (omega (arith, up, top, reach)))
   where
     positive : 0 < s
-    positive = go (cases_lt 0 s)
-      where
-        go : ((0 < s) ⊎ (s ≤ 0)) → 0 < s
-        go (inl h) = h
-        go (inr h) = let e : s ≡ 0 = omega arith in absurd (omega (arith, whole, ap (λ x. m * x) e, mul-zero m))
+    positive = elim (cases_lt 0 s) [
+      | inl h ↦ h
+      | inr h ↦ let e : s ≡ 0 = omega (arith, h) in absurd (omega (arith, whole, some, ap (λ x. m * x) e, mul-zero m))
+    ]
 
     up : (a + 1) * s ≤ c * s
     up = mul-le-mul_right {m = a + 1} s (omega arith)
@@ -50,11 +49,10 @@ stop_inside boundaries places some s i l = omega (arith, s.each i l, min_to ((le
 
 -- rounded up, a quotient of what isn't 0 isn't 0
 up_some : (a b : ℕ) → 1 ≤ a → 0 < b → 1 ≤ div_ceil a b
-up_some a b l p = go (cases_lt 0 (div_ceil a b))
-  where
-    go : ((0 < div_ceil a b) ⊎ (div_ceil a b ≤ 0)) → 1 ≤ div_ceil a b
-    go (inl h) = omega arith
-    go (inr h) = let e : div_ceil a b ≡ 0 = omega arith in absurd (omega (arith, (div_ceil_times a b p).0, ap (λ x. x * b) e))
+up_some a b l p = elim (cases_lt 0 (div_ceil a b)) [
+  | inl h ↦ h
+  | inr h ↦ let e : div_ceil a b ≡ 0 = omega (arith, h) in absurd (omega (arith, l, (div_ceil_times a b p).0, ap (λ x. x * b) e))
+]
 
 -- that many gaps of the stride reach the end, and one fewer don't
 gaps_are : (n s gaps : ℕ) → 1 ≤ n → s ≡ stride n → gaps ≡ div_ceil n s → (1 ≤ gaps) × (gaps ≤ 127) × (gaps * s + 1 ≤ n + s) × (n ≤ gaps * s)
@@ -73,31 +71,31 @@ gaps_are n s gaps some e f = (omega (arith, f, up_some n s some positive), few, 
     reach = omega (arith, (div_ceil_times n 127 (omega arith)).0, e)
 
     few : gaps ≤ 127
-    few = go (cases_lt 127 gaps)
-      where
-        go : ((127 < gaps) ⊎ (gaps ≤ 127)) → gaps ≤ 127
-        go (inl h) = absurd (omega (arith, less, reach, mul-le-mul_right {m = 128} {n = gaps} s (omega arith)))
-        go (inr h) = h
+    few = elim (cases_lt 127 gaps) [
+      | inl h ↦ absurd (omega (arith, less, reach, mul-le-mul_right {m = 128} {n = gaps} s (omega (arith, h))))
+      | inr h ↦ h
+    ]
 
 pub stops_are : (boundaries gaps s : ℕ) (places : List ℕ) → 2 ≤ boundaries → s ≡ stride (boundaries - 1) → gaps ≡ div_ceil (boundaries - 1) s → length places ≡ gaps + 1
     → ((k : ℕ) → k < gaps + 1 → slice_index places k ≡ min ((gaps - k) * s) (boundaries - 1)) → AreStops boundaries places
 stops_are boundaries gaps s places some e f long each =
     let h : gaps ≡ length places - 1 = omega (arith, long) in
     let a : (1 ≤ gaps) × (gaps ≤ 127) × (gaps * s + 1 ≤ boundaries - 1 + s) × (boundaries - 1 ≤ gaps * s) = gaps_are (boundaries - 1) s gaps (omega arith) e f in
-    subst (λ t. (gaps * t + 1 ≤ boundaries - 1 + t) → (boundaries - 1 ≤ gaps * t) → ((k : ℕ) → k < gaps + 1 → slice_index places k ≡ min ((gaps - k) * t) (boundaries - 1)) → AreStops boundaries places) (sym e) (made h a.0 a.1) a.2 a.3 each
-  where
-    made : gaps ≡ length places - 1 → 1 ≤ gaps → gaps ≤ 127 → (gaps * stride (boundaries - 1) + 1 ≤ boundaries - 1 + stride (boundaries - 1)) → (boundaries - 1 ≤ gaps * stride (boundaries - 1))
-        → ((k : ℕ) → k < gaps + 1 → slice_index places k ≡ min ((gaps - k) * stride (boundaries - 1)) (boundaries - 1)) → AreStops boundaries places
-    made h lo hi reach whole all = record {
-      some = omega (arith, long);
-      few = omega (arith, long);
-      reach = subst (λ g. g * stride (boundaries - 1) + 1 ≤ boundaries - 1 + stride (boundaries - 1)) h reach;
-      whole = subst (λ g. boundaries - 1 ≤ g * stride (boundaries - 1)) h whole;
-      each = λ i l. subst (λ g. slice_index places i ≡ min ((g - i) * stride (boundaries - 1)) (boundaries - 1)) h (all i (omega (arith, long)));
+    let m : gaps * s ≡ (length places - 1) * stride (boundaries - 1) = ap (λ g. g * s) h ∙ ap (λ x. (length places - 1) * x) e in
+    record {
+      some = omega (arith, long, a.0);
+      few = omega (arith, long, a.1);
+      reach = omega (arith, m, e, a.2);
+      whole = omega (arith, m, a.3);
+      each = λ i l. each i (omega (arith, long)) ∙ ap (λ g. min ((g - i) * s) (boundaries - 1)) h ∙ ap (λ x. min ((length places - 1 - i) * x) (boundaries - 1)) e;
     }
 
-pub min_past : (a b : ℕ) → b ≤ a → min a b ≡ b
-min_past a b h = min_second a b h
+-- the first of them is the last boundary, and the last of them the first
+module _ (boundaries : ℕ) (places : List ℕ) (s : AreStops boundaries places) where
+  pub stop_last : slice_index places 0 ≡ boundaries - 1
+  stop_last = let e : length places - 1 - 0 ≡ length places - 1 = omega arith in
+      s.each 0 (omega (arith, s.some)) ∙ (ap (λ z. min (z * stride (boundaries - 1)) (boundaries - 1)) e ∙ min_past ((length places - 1) * stride (boundaries - 1)) (boundaries - 1) s.whole)
 
-pub min_at : (a b : ℕ) → a ≤ b → min a b ≡ a
-min_at a b h = min_first a b h
+  pub stop_first : slice_index places (length places - 1) ≡ 0
+  stop_first = let e : length places - 1 - (length places - 1) ≡ 0 = omega arith in
+      s.each (length places - 1) (omega (arith, s.some)) ∙ (ap (λ z. min (z * stride (boundaries - 1)) (boundaries - 1)) e ∙ omega arith)

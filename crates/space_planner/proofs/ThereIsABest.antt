@@ -1,147 +1,113 @@
 -- There is a best partition under a space bound.
-use Rattle.std.specs.Prelude.{◌≡◌, ◌⊎◌, ℕ, zero, suc, ◌-◌, ◌*◌, ◌<◌, ◌≤◌, min, List, [], ◌∷◌, length, slice_index, All, Contains, refl}
-use Rattle.std.specs.List.Sorted.{IsStrictlyIncreasing}
-use Rattle.std.proofs.Common.{arith, ap, sym, ◌∙◌, subst, inl, inr}
-use Rattle.std.proofs.Math.Nat.{mul-le-mul_left}
-use Rattle.std.proofs.lemmas.Bool.{cases_lt}
-use Rattle.elementary.proofs.Ordering.{Rise, here, behind, either, increasing}
-use Rattle.space_planner.proofs.Choosing.{IsCheapestChoice, cheapest_choice}
-use Rattle.space_planner.specs.Caps.{cap, unit, budget, stride, IsCandidate}
-use Rattle.space_planner.specs.Costs.{Ascends, charges, expected_cost}
+use Rattle.std.specs.Prelude.{◌≡◌, ◌⊎◌, ℕ, zero, suc, ◌+◌, ◌-◌, ◌*◌, ◌<◌, ◌≤◌, Option, Some, None, List, [], ◌∷◌, length, slice_index, refl}
+use Rattle.std.proofs.Common.{arith, ap, subst, inl, inr}
+use Rattle.std.proofs.lemmas.Bool.{cases_lt, cases_eq}
+use Rattle.std.proofs.lemmas.List.Elements.{All-nil, All-cons, All-head, All-tail}
+use Rattle.time_base.specs.declared.posting.Posting.{Posting}
+use Rattle.postings.specs.Sizes.{size}
+use Rattle.space_planner.specs.Caps.{cap, unit, budget, charge, IsCandidate}
+use Rattle.space_planner.specs.Costs.{Ascends, along, expected_cost}
 use Rattle.space_planner.specs.Laws.{EachListHasABest}
 use Rattle.space_planner.specs.Plans.{IsWithin, IsEligible, IsBestUnder}
+use Rattle.space_planner.specs.Steps.{IsLeast, lesser, least_of, plus}
+use Rattle.space_planner.proofs.CostLemmas.{weighed, cost_by_segments}
+use Rattle.space_planner.proofs.LeastLemmas.{least_by, least_either, Begins, least_behind, From, least_of_all}
+use Rattle.space_planner.proofs.ShortLemmas.{place, numbered}
 
--- the candidate that is so many strides on
-abbrev at : List ℕ → ℕ → ℕ
-at times k = slice_index times (min (k * stride (length times - 1)) (length times - 1))
+-- whether a time is a candidate is decided by the first 128 numbers
+candidate_below : (times : List ℕ) (t n : ℕ) → IsCandidate times t ⊎ ((k : ℕ) → k < n → ¬ (slice_index times (place times k) ≡ t))
+candidate_below times t zero = inr (λ k l. absurd (omega (arith, l)))
+candidate_below times t (suc n) = elim (cases_eq (slice_index times (place times n)) t) [
+  | inl e ↦ inl (n, e)
+  | inr not_so ↦ elim (candidate_below times t n) [
+    | inl d ↦ inl d
+    | inr none ↦ inr (λ k l e. elim (cases_lt k n) [ inl m ↦ none k m e | inr m ↦ let s : k ≡ n = omega (arith, l, m) in not_so (subst (λ i. slice_index times (place times i) ≡ t) s e) ])
+  ]
+]
 
--- the candidates up to one of them
-abbrev upto : List ℕ → ℕ → List ℕ
-upto times zero = at times 0 ∷ []
-upto times (suc n) = at times (suc n) ∷ upto times n
+candidate_or_not : (times : List ℕ) (t : ℕ) → IsCandidate times t ⊎ ¬ (IsCandidate times t)
+candidate_or_not times t = elim (candidate_below times t 128) [
+  | inl d ↦ inl d
+  | inr none ↦ inr (λ d. let n : (k : ℕ) × (k ≤ 127) × (slice_index times (place times k) ≡ t) = numbered times t d in none n.0 (omega (arith, n.1)) n.2)
+]
 
-upto_has : (times : List ℕ) (n k : ℕ) → k ≤ n → Contains (upto times n) (at times k)
-upto_has times zero k l = let e : 0 ≡ k = omega (arith, l) in subst (λ i. Contains (at times 0 ∷ []) (at times i)) e (here (at times 0) [])
-upto_has times (suc n) k l = go (cases_lt k (suc n)) (λ m. upto_has times n k m)
-  where
-    go : ((k < suc n) ⊎ (suc n ≤ k)) → (k ≤ n → Contains (upto times n) (at times k)) → Contains (upto times (suc n)) (at times k)
-    go (inl m) rest = behind (at times (suc n)) (at times k) (upto times n) (rest (omega (arith, m)))
-    go (inr m) rest = let e : suc n ≡ k = omega (arith, l, m) in subst (λ i. Contains (upto times (suc n)) (at times i)) e (here (at times (suc n)) (upto times n))
+both_or_not : (A B : Type 0) → A ⊎ ¬ A → B ⊎ ¬ B → (A × B) ⊎ ¬ (A × B)
+both_or_not A B (inl a) (inl b) = inl (a, b)
+both_or_not A B (inl a) (inr n) = inr (λ h. n h.1)
+both_or_not A B (inr n) b = inr (λ h. n h.0)
 
-upto_is : (times : List ℕ) (n t : ℕ) → Contains (upto times n) t → IsCandidate times t
-upto_is times zero t c = go (either (at times 0) t [] c)
-  where
-    go : (at times 0 ≡ t) ⊎ Contains [] t → IsCandidate times t
-    go (inl e) = (0, e)
-    go (inr (k, l, e)) = absurd (omega (arith, l))
-upto_is times (suc n) t c = go (either (at times (suc n)) t (upto times n) c) (λ d. upto_is times n t d)
-  where
-    go : (at times (suc n) ≡ t) ⊎ Contains (upto times n) t → (Contains (upto times n) t → IsCandidate times t) → IsCandidate times t
-    go (inl e) rest = (suc n, e)
-    go (inr d) rest = rest d
+at_most_or_not : (a b : ℕ) → (a ≤ b) ⊎ ¬ (a ≤ b)
+at_most_or_not a b = elim (cases_lt b a) [ inl l ↦ inr (λ h. omega (arith, l, h)) | inr h ↦ inl h ]
 
--- further on than the last place all are the last, or the first where there is no stride
-far : (times : List ℕ) (k : ℕ) → length times - 1 < k → (at times k ≡ at times (length times - 1)) ⊎ (at times k ≡ at times 0)
-far times k l = go (cases_lt 0 (stride (length times - 1)))
-  where
-    go : ((0 < stride (length times - 1)) ⊎ (stride (length times - 1) ≤ 0)) → (at times k ≡ at times (length times - 1)) ⊎ (at times k ≡ at times 0)
-    go (inl some) =
-        let a : k * 1 ≤ k * stride (length times - 1) = mul-le-mul_left k some in
-        let b : (length times - 1) * 1 ≤ (length times - 1) * stride (length times - 1) = mul-le-mul_left (length times - 1) some in
-        let e : min (k * stride (length times - 1)) (length times - 1) ≡ min ((length times - 1) * stride (length times - 1)) (length times - 1) = omega (arith, a, b, l) in
-        inl (ap (λ i. slice_index times i) e)
-    go (inr none) =
-        let z : stride (length times - 1) ≡ 0 = omega (arith, none) in
-        let e : min (k * stride (length times - 1)) (length times - 1) ≡ min (0 * stride (length times - 1)) (length times - 1) = ap (λ s. min (k * s) (length times - 1)) z ∙ (let r : min (k * 0) (length times - 1) ≡ min (0 * 0) (length times - 1) = omega arith in r) ∙ ap (λ s. min (0 * s) (length times - 1)) (sym z) in
-        inr (ap (λ i. slice_index times i) e)
+-- what a segment costs
+abbrev value : List Posting → List ℕ → List ℕ → ℕ → ℕ → ℕ
+value list times weights f g = weighed times weights f g * size f g list
 
-candidate_in : (times : List ℕ) (t : ℕ) → IsCandidate times t → Contains (upto times (length times - 1)) t
-candidate_in times t (k, e) = subst (λ x. Contains (upto times (length times - 1)) x) e (go (cases_lt (length times - 1) k))
-  where
-    go : ((length times - 1 < k) ⊎ (k ≤ length times - 1)) → Contains (upto times (length times - 1)) (at times k)
-    go (inr l) = upto_has times (length times - 1) k l
-    go (inl l) = elim (far times k l) [
-      | inl f ↦ subst (λ x. Contains (upto times (length times - 1)) x) (sym f) (upto_has times (length times - 1) (length times - 1) (omega arith))
-      | inr f ↦ subst (λ x. Contains (upto times (length times - 1)) x) (sym f) (upto_has times (length times - 1) 0 (omega arith))
-    ]
+-- what is so of a cut behind f that the charge c allows
+abbrev Fits : List Posting → List ℕ → ℕ → ℕ → ℕ → ℕ → Type 0
+Fits list times u f c g = (f < g) × (IsCandidate times g × (charge u (size f g list) ≤ c))
 
-ascends_or_not : (cuts : List ℕ) (f end : ℕ) → Ascends f cuts end ⊎ ¬ (Ascends f cuts end)
-ascends_or_not [] f end = go (cases_lt f end) (cases_lt end f)
-  where
-    go : ((f < end) ⊎ (end ≤ f)) → ((end < f) ⊎ (f ≤ end)) → (f ≡ end) ⊎ ¬ (f ≡ end)
-    go (inl l) s = inr (λ e. omega (arith, l, e))
-    go (inr l) (inl m) = inr (λ e. omega (arith, m, e))
-    go (inr l) (inr m) = inl (omega (arith, l, m))
-ascends_or_not (g ∷ cuts) f end = go (cases_lt f g) (ascends_or_not cuts g end)
-  where
-    go : ((f < g) ⊎ (g ≤ f)) → Ascends g cuts end ⊎ ¬ (Ascends g cuts end) → Ascends f (g ∷ cuts) end ⊎ ¬ (Ascends f (g ∷ cuts) end)
-    go (inr l) s = inr (λ a. omega (arith, l, a.0))
-    go (inl l) (inl a) = inl (l, a)
-    go (inl l) (inr n) = inr (λ a. n a.1)
+module _ (list : List Posting) (times weights : List ℕ) (u horizon : ℕ) where
+  ends : (cuts : List ℕ) (f : ℕ) → Ascends f cuts horizon → f ≤ horizon
+  ends [] f a = omega (arith, a)
+  ends (g ∷ cuts) f (l, a) = omega (arith, l, ends cuts g a)
 
-ascends_rise : (cuts : List ℕ) (f end : ℕ) → Ascends f cuts end → Rise (suc f) cuts
-ascends_rise [] f end a = tt
-ascends_rise (g ∷ cuts) f end a = (a.0, ascends_rise cuts g end a.1)
+  -- the least cost behind one cut, by that from the cut on
+  behind_cut : (f c g : ℕ) → Fits list times u f c g ⊎ ¬ (Fits list times u f c g) → (f < g → (o : Option ℕ) × IsLeast (IsWithin list times u (c - charge u (size f g list)) g horizon) (along (value list times weights) g) o)
+      → (o : Option ℕ) × IsLeast (Begins (λ x. IsWithin list times u c f horizon (g ∷ x)) g) (along (value list times weights) f) o
+  behind_cut f c g (inr n) rest = (
+    None,
+    least_behind (λ x. IsWithin list times u c f horizon (g ∷ x)) (λ x. IsWithin list times u c f horizon (g ∷ x)) (along (value list times weights) g) (along (value list times weights) f) g (value list times weights f g) None (λ x. refl) (λ x w. w) (λ x w. w)
+        (λ x w. n (w.ascends.0, (All-head (IsCandidate times) g x w.candidates, omega (arith, w.charged)))),
+  )
+  behind_cut f c g (inl (l, (d, q))) rest = let r : (o : Option ℕ) × IsLeast (IsWithin list times u (c - charge u (size f g list)) g horizon) (along (value list times weights) g) o = rest l in (
+    plus (value list times weights f g) r.0,
+    least_behind (IsWithin list times u (c - charge u (size f g list)) g horizon) (λ x. IsWithin list times u c f horizon (g ∷ x)) (along (value list times weights) g) (along (value list times weights) f) g (value list times weights f g) r.0 (λ x. refl)
+        (λ x w. record { ascends = (l, w.ascends); candidates = All-cons (IsCandidate times) g x d w.candidates; charged = omega (arith, w.charged, q) })
+        (λ x w. record { ascends = w.ascends.1; candidates = All-tail (IsCandidate times) g x w.candidates; charged = omega (arith, w.charged, q) }) r.1,
+  )
 
-within_or_not : (a b c : ℕ) (P : Type 0) → P ⊎ ¬ P → (P × (a ≤ b)) ⊎ ¬ (P × (a ≤ b))
-within_or_not a b c P (inr n) = inr (λ h. n h.0)
-within_or_not a b c P (inl p) = go (cases_lt b a)
-  where
-    go : ((b < a) ⊎ (a ≤ b)) → (P × (a ≤ b)) ⊎ ¬ (P × (a ≤ b))
-    go (inl l) = inr (λ h. omega (arith, l, h.1))
-    go (inr l) = inl (p, l)
+  -- from the end nothing is left to cut
+  at_end : (f c : ℕ) → horizon ≤ f → (o : Option ℕ) × IsLeast (IsWithin list times u c f horizon) (along (value list times weights) f) o
+  at_end f c l = elim (cases_eq f horizon) [
+    | inl e ↦ (Some 0, record { list = []; is = record { ascends = e; candidates = All-nil (IsCandidate times); charged = omega arith }; takes = refl; least = λ x w. omega arith })
+    | inr n ↦ (None, λ x w. n (omega (arith, l, ends x f w.ascends)))
+  ]
 
+  -- before the end there is a first cut
+  cut : (f c : ℕ) → f < horizon → (x : List ℕ) → IsWithin list times u c f horizon x → From (IsWithin list times u c f horizon) (horizon + 1) x
+  cut f c l [] w = absurd (omega (arith, l, w.ascends))
+  cut f c l (g ∷ x) w = (omega (arith, ends x g w.ascends.1), w)
+
+  -- the least cost from f on, for at most the charge c
+  least_cost : (n f c : ℕ) → horizon ≤ f + n → (o : Option ℕ) × IsLeast (IsWithin list times u c f horizon) (along (value list times weights) f) o
+  least_cost zero f c l = at_end f c (omega (arith, l))
+  least_cost (suc n) f c l = elim (cases_lt f horizon) [
+    | inr h ↦ at_end f c h
+    | inl h ↦ let way : (g : ℕ) → (o : Option ℕ) × IsLeast (Begins (λ x. IsWithin list times u c f horizon (g ∷ x)) g) (along (value list times weights) f) o =
+        λ g. behind_cut f c g (both_or_not (f < g) (IsCandidate times g × (charge u (size f g list) ≤ c)) (at_most_or_not (suc f) g) (both_or_not (IsCandidate times g) (charge u (size f g list) ≤ c) (candidate_or_not times g) (at_most_or_not (charge u (size f g list)) c)))
+        (λ m. least_cost n g (c - charge u (size f g list)) (omega (arith, l, m))) in
+        (least_of (λ g. (way g).0) (horizon + 1), least_of_all (IsWithin list times u c f horizon) (along (value list times weights) f) (λ g. (way g).0) (horizon + 1) (λ x w. cut f c h x w) (λ g m. (way g).1))
+  ]
+
+-- the least cost of the one piece and of what keeps the budget
 pub each_has_a_best : EachListHasABest
-each_has_a_best list times weights factor f horizon lt = go (cheapest_choice Fits cost decide candidates)
+each_has_a_best list times weights factor f horizon lt = go (least_cost list times weights (unit (cap factor (length list))) horizon horizon f (budget (cap factor (length list))) (omega arith))
   where
-    u : ℕ
-    u = unit (cap factor (length list))
-
-    most : ℕ
-    most = budget (cap factor (length list))
-
-    candidates : List ℕ
-    candidates = upto times (length times - 1)
-
-    Fits : List ℕ → Type 0
-    Fits cuts = Ascends f cuts horizon × (charges list u f cuts ≤ most)
+    Within : List ℕ → Type 0
+    Within cuts = IsWithin list times (unit (cap factor (length list))) (budget (cap factor (length list))) f horizon cuts
 
     cost : List ℕ → ℕ
     cost cuts = expected_cost list f cuts times weights
 
-    decide : (cuts : List ℕ) → Fits cuts ⊎ ¬ (Fits cuts)
-    decide cuts = within_or_not (charges list u f cuts) most 0 (Ascends f cuts horizon) (ascends_or_not cuts f horizon)
+    by_segments : (cuts : List ℕ) → Within cuts → cost cuts ≡ along (value list times weights) f cuts
+    by_segments cuts w = cost_by_segments list times weights f cuts horizon w.ascends
 
-    whole : IsEligible list times factor f horizon (horizon ∷ [])
-    whole = inl (lt, refl)
+    best : (o : Option ℕ) → IsLeast (IsEligible list times factor f horizon) cost (lesser (Some (cost (horizon ∷ []))) o) → (cuts : List ℕ) × IsBestUnder list times weights factor f horizon cuts
+    best None h = (h.list, record { eligible = h.is; best = λ other e. omega (arith, h.takes, h.least other e) })
+    best (Some v) h = (h.list, record { eligible = h.is; best = λ other e. omega (arith, h.takes, h.least other e) })
 
-    up : (cuts : List ℕ) → IsWithin list times u most f horizon cuts → All (Contains candidates) cuts
-    up cuts w i d l = candidate_in times _ (w.candidates i d l)
-
-    alone : ((other : List ℕ) → IsWithin list times u most f horizon other → cost (horizon ∷ []) ≤ cost other) → (cuts : List ℕ) × IsBestUnder list times weights factor f horizon cuts
-    alone least = (horizon ∷ [], record { eligible = whole; best = λ other e. one other e })
-      where
-        one : (other : List ℕ) → IsEligible list times factor f horizon other → cost (horizon ∷ []) ≤ cost other
-        one other (inl (l, e)) = subst (λ (cs : List ℕ). cost (horizon ∷ []) ≤ cost cs) (sym e) (omega arith)
-        one other (inr w) = least other w
-
-    go : ((chosen : List ℕ) × IsCheapestChoice Fits cost candidates chosen) ⊎ ((other : List ℕ) → IsStrictlyIncreasing other → All (Contains candidates) other → ¬ (Fits other)) → (cuts : List ℕ) × IsBestUnder list times weights factor f horizon cuts
-    go (inr none) = alone (λ other w. absurd (none other (increasing (suc f) other (ascends_rise other f horizon w.ascends)) (up other w) (w.ascends, w.charged)))
-    go (inl (chosen, c)) = choose (cases_lt (cost chosen) (cost (horizon ∷ [])))
-      where
-        least : (other : List ℕ) → IsWithin list times u most f horizon other → cost chosen ≤ cost other
-        least other w = c.none_cheaper other (increasing (suc f) other (ascends_rise other f horizon w.ascends)) (up other w) (w.ascends, w.charged)
-
-        choose : ((cost chosen < cost (horizon ∷ [])) ⊎ (cost (horizon ∷ []) ≤ cost chosen)) → (cuts : List ℕ) × IsBestUnder list times weights factor f horizon cuts
-        choose (inr le) = alone (λ other w. omega (arith, le, least other w))
-        choose (inl lower) = (
-          chosen,
-          record {
-            eligible = inr (record { ascends = c.is.0; candidates = λ i d l. upto_is times (length times - 1) _ (c.inside i d l); charged = c.is.1 });
-            best = λ other e. one other e;
-          },
-        )
-          where
-            one : (other : List ℕ) → IsEligible list times factor f horizon other → cost chosen ≤ cost other
-            one other (inl (l, e)) = subst (λ (cs : List ℕ). cost chosen ≤ cost cs) (sym e) (omega (arith, lower))
-            one other (inr w) = least other w
+    go : (o : Option ℕ) × IsLeast Within (along (value list times weights) f) o → (cuts : List ℕ) × IsBestUnder list times weights factor f horizon cuts
+    go (o, h) = best o (least_either (λ x. (f < horizon) × (x ≡ horizon ∷ [])) Within (IsEligible list times factor f horizon) cost (Some (cost (horizon ∷ []))) o (λ x e. e) (λ x e. e)
+        (record { list = horizon ∷ []; is = (lt, refl); takes = refl; least = λ x e. omega (arith, ap cost e.1) })
+        (least_by Within Within (along (value list times weights) f) cost o (λ x w. (x, w, by_segments x w)) (λ x w. (x, w, by_segments x w)) h))

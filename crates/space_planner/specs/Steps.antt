@@ -1,5 +1,5 @@
 -- The steps of planning. Stops are the candidates, numbered from the last; a leg leads from a stop to a lower one.
-use Rattle.std.specs.Prelude.{◌≡◌, ◌⊎◌, ◌↔◌, ℕ, ◌+◌, ◌-◌, ◌*◌, ◌^◌, ◌<◌, ◌≤◌, nat_le, nat_lt, if◌then◌else◌, min, Option, Some, None, List, [], ◌∷◌, ◌++◌, map, length, slice_index, slice_index_or, All, Contains, IfSome}
+use Rattle.std.specs.Prelude.{◌≡◌, ◌⊎◌, ◌↔◌, ℕ, zero, suc, ◌+◌, ◌-◌, ◌*◌, ◌^◌, ◌<◌, ◌≤◌, nat_le, nat_lt, if◌then◌else◌, min, Option, Some, None, List, [], ◌∷◌, ◌++◌, map, length, slice_index, slice_index_or, All, Contains, IfSome}
 use Rattle.std.specs.List.Sorted.{IsStrictlyIncreasing}
 use Rattle.space_planner.specs.declared.point.Point.{Point}
 use Rattle.elementary.specs.Counts.{Counts, size_between}
@@ -43,18 +43,25 @@ pub record AreLegs (table : Counts) (unit : ℕ) (sums places : List ℕ) (i n :
   pub cost : (j : ℕ) → j < n → slice_index costs j ≡ leg_cost table sums places i j
   pub small : All (λ w. w ≤ 2 ^ 118) costs
 
--- A path from stop i of least cost among those that are charged at most c.
-pub record IsLeastPath (charge cost : ℕ → ℕ → ℕ) (i c v : ℕ) : Type 0 where
-  pub path : List ℕ
-  pub falls : Falls i path
-  pub within : along charge i path ≤ c
-  pub takes : along cost i path ≡ v
-  pub least : (other : List ℕ) → Falls i other → along charge i other ≤ c → v ≤ along cost i other
+-- A list of least cost among those of which something holds.
+pub record IsLeastOf (P : List ℕ → Type 0) (cost : List ℕ → ℕ) (v : ℕ) : Type 0 where
+  pub list : List ℕ
+  pub is : P list
+  pub takes : cost list ≡ v
+  pub least : (other : List ℕ) → P other → v ≤ cost other
+
+-- The least cost of those lists, where there are any.
+abbrev pub IsLeast : (List ℕ → Type 0) → (List ℕ → ℕ) → Option ℕ → Type 0
+IsLeast P cost None = (list : List ℕ) → ¬ (P list)
+IsLeast P cost (Some v) = IsLeastOf P cost v
+
+-- The numbers are a path from stop i that is charged at most c.
+abbrev pub IsPath : (ℕ → ℕ → ℕ) → ℕ → ℕ → List ℕ → Type 0
+IsPath charge i c path = Falls i path × (along charge i path ≤ c)
 
 -- The least cost from stop i for at most the charge c, where there is any path.
 abbrev pub IsCell : (ℕ → ℕ → ℕ) → (ℕ → ℕ → ℕ) → ℕ → ℕ → Option ℕ → Type 0
-IsCell charge cost i c None = (path : List ℕ) → Falls i path → c < along charge i path
-IsCell charge cost i c (Some v) = IsLeastPath charge cost i c v
+IsCell charge cost i c = IsLeast (IsPath charge i c) (along cost i)
 
 -- The cell of stop i for at most the charge c.
 abbrev pub cell : List (Option ℕ) → ℕ → ℕ → ℕ → Option ℕ
@@ -75,31 +82,26 @@ plus cost (Some rest) = Some (cost + rest)
 abbrev pub through : List (Option ℕ) → ℕ → List ℕ → List ℕ → ℕ → ℕ → Option ℕ
 through cells width charges costs c j = if nat_le (slice_index charges j) c then plus (slice_index costs j) (cell cells width j (c - slice_index charges j)) else None
 
--- The best way on among the first n: none where there is no way.
-abbrev pub IsBestOf : (ℕ → Option ℕ) → ℕ → Option Next → Type 0
-IsBestOf ways n None = (j : ℕ) → j < n → ways j ≡ None
-IsBestOf ways n (Some next) = (next.to < n) × (ways next.to ≡ Some next.cost) × ((j w : ℕ) → j < n → ways j ≡ Some w → next.cost ≤ w)
-
--- The cost of the way on.
-abbrev pub cost_by : Option Next → Option ℕ
-cost_by None = None
-cost_by (Some next) = Some next.cost
-
 -- The lesser of two costs, where there are any.
 abbrev pub lesser : Option ℕ → Option ℕ → Option ℕ
 lesser None b = b
 lesser (Some v) None = Some v
 lesser (Some v) (Some w) = Some (min v w)
 
+-- The least of the first costs.
+abbrev pub least_of : (ℕ → Option ℕ) → ℕ → Option ℕ
+least_of ways zero = None
+least_of ways (suc n) = lesser (least_of ways n) (ways n)
+
+-- The best way on among the first n: none where there is no way.
+abbrev pub IsBestOf : (ℕ → Option ℕ) → ℕ → Option Next → Type 0
+IsBestOf ways n None = least_of ways n ≡ None
+IsBestOf ways n (Some next) = (next.to < n) × (ways next.to ≡ Some next.cost) × (least_of ways n ≡ Some next.cost)
+
 -- The cells of one more stop, by its first legs.
 pub record IsRow (cells : List (Option ℕ)) (width : ℕ) (charges costs : List ℕ) (row : List (Option ℕ)) (legs : ℕ) : Type 0 where
   pub long : length row ≡ width
-  pub each : (c : ℕ) → c < width → (next : Option Next) × IsBestOf (through cells width charges costs c) legs next × (slice_index_or row c None ≡ cost_by next)
-
--- The cells of the row are all the same.
-pub record AreAll (row : List (Option ℕ)) (n : ℕ) (same : Option ℕ) : Type 0 where
-  pub long : length row ≡ n
-  pub each : (c : ℕ) → c < n → slice_index_or row c None ≡ same
+  pub each : (c : ℕ) → c < width → slice_index_or row c None ≡ least_of (through cells width charges costs c) legs
 
 -- The cuts are the times of a path from stop i that is charged and costs at most so much.
 pub record IsCourse (charge cost : ℕ → ℕ → ℕ) (times places : List ℕ) (i c v : ℕ) (cuts : List ℕ) : Type 0 where
@@ -125,17 +127,17 @@ pub record IsSurvey (table : Counts) (factor : Fraction) (unit' budget' : ℕ) (
 abbrev pub whole_cost : Counts → List ℕ → ℕ
 whole_cost table sums = (slice_index sums (length table.boundaries - 1) - slice_index sums 0) * size_between table 0 (length table.boundaries - 1)
 
--- The cuts and their cost: the one piece, where the last cell isn't less, or what the last cell says.
+-- The cuts and their cost, the least of that of the one piece and of what the last cell says: the one piece, or the
+-- cuts of a course.
 abbrev pub IsChosen : Counts → (unit' budget' : ℕ) → (sums places : List ℕ) → List (Option ℕ) → List ℕ → ℕ → Type 0
 IsChosen table unit' budget' sums places cells cuts v =
-    ((cuts ≡ slice_index table.boundaries 0 ∷ slice_index table.boundaries (length table.boundaries - 1) ∷ []) × (v ≡ whole_cost table sums)
-    × IfSome (cell cells (budget' + 1) (length places - 1) budget') (λ w. v ≤ w))
-    ⊎ (IsCourse (leg_charge table unit' places) (leg_cost table sums places) table.boundaries places (length places - 1) budget' v cuts
-    × (cell cells (budget' + 1) (length places - 1) budget' ≡ Some v) × (v ≤ whole_cost table sums))
+    (lesser (Some (whole_cost table sums)) (cell cells (budget' + 1) (length places - 1) budget') ≡ Some v)
+    × (((cuts ≡ slice_index table.boundaries 0 ∷ slice_index table.boundaries (length table.boundaries - 1) ∷ []) × (v ≡ whole_cost table sums))
+    ⊎ IsCourse (leg_charge table unit' places) (leg_cost table sums places) table.boundaries places (length places - 1) budget' v cuts)
 
 -- At the charge c the least cost from stop i falls to v.
 pub record IsFallAt (charge cost : ℕ → ℕ → ℕ) (i c v : ℕ) : Type 0 where
-  pub least : IsLeastPath charge cost i c v
+  pub least : IsLeastOf (IsPath charge i c) (along cost i) v
   pub falls : (other : List ℕ) → Falls i other → along charge i other < c → v < along cost i other
 
 -- The points are the falls at the charges below n, in order.
@@ -149,10 +151,9 @@ fall before None = None
 fall None (Some v) = Some v
 fall (Some w) (Some v) = if nat_lt v w then Some v else None
 
--- The cell of the charge before n, where there is one.
+-- The least cost from stop i for less than the charge n, where there is any path.
 abbrev pub IsBefore : (ℕ → ℕ → ℕ) → (ℕ → ℕ → ℕ) → ℕ → ℕ → Option ℕ → Type 0
-IsBefore charge cost i n None = (path : List ℕ) → Falls i path → n ≤ along charge i path
-IsBefore charge cost i n (Some w) = (1 ≤ n) × IsLeastPath charge cost i (n - 1) w
+IsBefore charge cost i n = IsLeast (λ path. Falls i path × (along charge i path < n)) (along cost i)
 
 -- The points, and one more where the cost falls at the charge c.
 abbrev pub with_fall : List Point → ℕ → Option ℕ → List Point

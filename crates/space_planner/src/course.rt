@@ -34,7 +34,7 @@ pub(crate) fn cuts_along(
     cuts.push(times[places[at]])?;
     while at > 0 {
         let legs = legs_from(alloc, table, limits, sums, places, at)?;
-        let next = best_next(cells, width, &legs.charges, &legs.costs, left).unwrap();
+        let next = best_next(cells, width, &legs, left).unwrap();
         left -= legs.charges[next.to] as usize;
         at = next.to;
         cuts.push(times[places[at]])?;

@@ -3,7 +3,7 @@ ghost use Rattle.std.specs.Prelude.{◌≡◌, ℕ, ◌+◌, ◌*◌, ◌<◌, �
 ghost use Rattle.space_planner.specs.Steps.{AreStops, AreCells, leg_charge, leg_cost};
 
 use crate::limits::Limits;
-use crate::steps::{legs_from, row, row_of};
+use crate::steps::{legs_from, row};
 use elementary::Table;
 use std::alloc::{AllocError, Global};
 
@@ -24,10 +24,10 @@ pub(crate) fn settle(
 {
     let width = limits.budget + 1;
     // from the last stop nothing is left to pay
-    let mut cells = row_of(alloc, width, Some(0))?;
+    let mut cells = vec![in alloc; Some(0); width]?;
     for i in 1..places.len() {
         let legs = legs_from(alloc, table, limits, sums, places, i)?;
-        let mut next = row(alloc, &cells, width, &legs.charges, &legs.costs)?;
+        let mut next = row(alloc, &cells, width, &legs)?;
         cells.append(&mut next)?;
     }
     Ok(cells)

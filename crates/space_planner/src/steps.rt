@@ -1,6 +1,6 @@
 //! One step of the dynamic program: the legs from a stop, and the best of them.
 ghost use Rattle.std.specs.Prelude.{◌≡◌, ℕ, ◌+◌, ◌-◌, ◌*◌, ◌<◌, ◌≤◌, ◌^◌, Option, List, length, slice_index, slice_index_or, All, IfOk, IfSome, None};
-ghost use Rattle.space_planner.specs.Steps.{AreStops, AreLegs, AreAll, through, IsBestOf, lesser, IsRow};
+ghost use Rattle.space_planner.specs.Steps.{AreStops, AreLegs, leg_charge, leg_cost, through, IsBestOf, lesser, IsRow};
 
 use crate::limits::{Limits, charge};
 use elementary::Table;
@@ -11,6 +11,32 @@ use std::alloc::{AllocError, Global};
 pub(crate) struct Legs {
     pub(crate) charges: Vec<u64>,
     pub(crate) costs: Vec<u128>,
+}
+
+/// What the leg from stop `i` to stop `j` is charged, and what it costs.
+fn leg(
+    table: &Table,
+    limits: Limits,
+    sums: &[u128],
+    places: &[usize],
+    i: usize,
+    j: usize,
+) -> (u64, u128)
+    requires some { 2 ≤ length table.now.boundaries }
+    requires stops { AreStops (length table.now.boundaries) places.now }
+    requires lower { j < i }
+    requires inside { i < length places.now }
+    requires long { length sums.now ≡ length table.now.boundaries }
+    requires rising { (j k : ℕ) → j ≤ k → k < length sums.now → slice_index sums.now j ≤ slice_index sums.now k }
+    requires small { All (λ s. s ≤ 2 ^ 80) sums.now }
+    ensures charge { result.0 ≡ leg_charge table.now limits.unit places.now i j }
+    ensures cost { result.1 ≡ leg_cost table.now sums.now places.now i j }
+    ensures small { result.1 ≤ 2 ^ 118 }
+{
+    let (from, to) = (places[i], places[j]);
+    let size = table.size(from, to);
+    let weight = sums[to] - sums[from];
+    (charge(size, limits), weight * u128::from(size))
 }
 
 /// The legs from stop `i`.
@@ -32,41 +58,32 @@ pub(crate) fn legs_from(
 {
     let mut charges = Vec::new(alloc);
     let mut costs = Vec::new(alloc);
-    let from = places[i];
     for j in 0..i {
-        let to = places[j];
-        let size = table.size(from, to);
-        charges.push(charge(size, limits))?;
-        costs.push((sums[to] - sums[from]) * u128::from(size))?;
+        let (charge, cost) = leg(table, limits, sums, places, i, j);
+        charges.push(charge)?;
+        costs.push(cost)?;
     }
     Ok(Legs { charges, costs })
 }
 
 /// The least cost by the leg to stop `j` for at most the charge `c`.
-fn through(
-    cells: &[Option<u128>],
-    width: usize,
-    charges: &[u64],
-    costs: &[u128],
-    c: usize,
-    j: usize,
-) -> Option<u128>
-    requires inside { j < length costs.now }
-    requires same { length charges.now ≡ length costs.now }
-    requires long { length costs.now * width ≤ length cells.now }
+fn through(cells: &[Option<u128>], width: usize, legs: &Legs, c: usize, j: usize) -> Option<u128>
+    requires inside { j < length legs.now.costs.items }
+    requires same { length legs.now.charges.items ≡ length legs.now.costs.items }
+    requires long { length legs.now.costs.items * width ≤ length cells.now }
     requires width { c < width }
     requires few { width ≤ 2 ^ 20 }
-    requires stops { length costs.now ≤ 128 }
-    requires small { All (λ w. w ≤ 2 ^ 118) costs.now }
+    requires stops { length legs.now.costs.items ≤ 128 }
+    requires small { All (λ w. w ≤ 2 ^ 118) legs.now.costs.items }
     requires cells { All (λ v. IfSome v (λ w. w ≤ 2 ^ 126)) cells.now }
-    ensures { result ≡ through cells.now width charges.now costs.now c j }
+    ensures { result ≡ through cells.now width legs.now.charges.items legs.now.costs.items c j }
 {
-    let charge = charges[j];
+    let charge = legs.charges[j];
     if charge > c as u64 {
         return None;
     }
     let rest = cells[j * width + (c - charge as usize)]?;
-    Some(costs[j] + rest)
+    Some(legs.costs[j] + rest)
 }
 
 /// A way on: the number of the stop to which a leg leads, and the least cost by it.
@@ -90,25 +107,19 @@ fn better(best: Option<Next>, to: usize, cost: Option<u128>) -> Option<Next>
 }
 
 /// The best way on from the stop with these legs, for at most the charge `c`; None where there is none.
-pub(crate) fn best_next(
-    cells: &[Option<u128>],
-    width: usize,
-    charges: &[u64],
-    costs: &[u128],
-    c: usize,
-) -> Option<Next>
-    requires same { length charges.now ≡ length costs.now }
-    requires long { length costs.now * width ≤ length cells.now }
+pub(crate) fn best_next(cells: &[Option<u128>], width: usize, legs: &Legs, c: usize) -> Option<Next>
+    requires same { length legs.now.charges.items ≡ length legs.now.costs.items }
+    requires long { length legs.now.costs.items * width ≤ length cells.now }
     requires width { c < width }
     requires few { width ≤ 2 ^ 20 }
-    requires stops { length costs.now ≤ 128 }
-    requires small { All (λ w. w ≤ 2 ^ 118) costs.now }
+    requires stops { length legs.now.costs.items ≤ 128 }
+    requires small { All (λ w. w ≤ 2 ^ 118) legs.now.costs.items }
     requires cells { All (λ v. IfSome v (λ w. w ≤ 2 ^ 126)) cells.now }
-    ensures { IsBestOf (through cells.now width charges.now costs.now c) (length costs.now) result }
+    ensures { IsBestOf (through cells.now width legs.now.charges.items legs.now.costs.items c) (length legs.now.costs.items) result }
 {
     let mut best = None;
-    for j in 0..costs.len() {
-        best = better(best, j, through(cells, width, charges, costs, c, j));
+    for j in 0..legs.costs.len() {
+        best = better(best, j, through(cells, width, legs, c, j));
     }
     best
 }
@@ -127,41 +138,20 @@ fn lesser(one: Option<u128>, other: Option<u128>) -> Option<u128>
 }
 
 /// Lowers the cells of a row to what the leg to stop `j` makes possible.
-fn lower_by(
-    row: &mut [Option<u128>],
-    cells: &[Option<u128>],
-    charges: &[u64],
-    costs: &[u128],
-    j: usize,
-)
-    requires inside { j < length costs.now }
-    requires same { length charges.now ≡ length costs.now }
-    requires long { length costs.now * length row.old ≤ length cells.now }
+fn lower_by(row: &mut [Option<u128>], cells: &[Option<u128>], legs: &Legs, j: usize)
+    requires inside { j < length legs.now.costs.items }
+    requires same { length legs.now.charges.items ≡ length legs.now.costs.items }
+    requires long { length legs.now.costs.items * length row.old ≤ length cells.now }
     requires few { length row.old ≤ 2 ^ 20 }
-    requires stops { length costs.now ≤ 128 }
-    requires small { All (λ w. w ≤ 2 ^ 118) costs.now }
+    requires stops { length legs.now.costs.items ≤ 128 }
+    requires small { All (λ w. w ≤ 2 ^ 118) legs.now.costs.items }
     requires cells { All (λ v. IfSome v (λ w. w ≤ 2 ^ 126)) cells.now }
-    ensures { (c : ℕ) → c < length row.old → slice_index_or row.new c None ≡ lesser (slice_index_or row.old c None) (through cells.now (length row.old) charges.now costs.now c j) }
+    ensures { (c : ℕ) → c < length row.old → slice_index_or row.new c None ≡ lesser (slice_index_or row.old c None) (through cells.now (length row.old) legs.now.charges.items legs.now.costs.items c j) }
 {
     let width = row.len();
     for c in 0..width {
-        row[c] = lesser(row[c], through(cells, width, charges, costs, c, j));
+        row[c] = lesser(row[c], through(cells, width, legs, c, j));
     }
-}
-
-/// A row of so many cells that are all the same.
-pub(crate) fn row_of(
-    alloc: Global,
-    width: usize,
-    cell: Option<u128>,
-) -> Result<Vec<Option<u128>>, AllocError>
-    ensures { IfOk result (λ v. AreAll v.items width cell) }
-{
-    let mut row = Vec::with_capacity(alloc, width)?;
-    for _ in 0..width {
-        row.push(cell)?;
-    }
-    Ok(row)
 }
 
 /// The cells of the stop with these legs, for at most each charge below the width.
@@ -169,20 +159,19 @@ pub(crate) fn row(
     alloc: Global,
     cells: &[Option<u128>],
     width: usize,
-    charges: &[u64],
-    costs: &[u128],
+    legs: &Legs,
 ) -> Result<Vec<Option<u128>>, AllocError>
-    requires same { length charges.now ≡ length costs.now }
-    requires long { length costs.now * width ≤ length cells.now }
+    requires same { length legs.now.charges.items ≡ length legs.now.costs.items }
+    requires long { length legs.now.costs.items * width ≤ length cells.now }
     requires few { width ≤ 2 ^ 20 }
-    requires stops { length costs.now ≤ 128 }
-    requires small { All (λ w. w ≤ 2 ^ 118) costs.now }
+    requires stops { length legs.now.costs.items ≤ 128 }
+    requires small { All (λ w. w ≤ 2 ^ 118) legs.now.costs.items }
     requires cells { All (λ v. IfSome v (λ w. w ≤ 2 ^ 126)) cells.now }
-    ensures { IfOk result (λ v. IsRow cells.now width charges.now costs.now v.items (length costs.now)) }
+    ensures { IfOk result (λ v. IsRow cells.now width legs.now.charges.items legs.now.costs.items v.items (length legs.now.costs.items)) }
 {
-    let mut row = row_of(alloc, width, None)?;
-    for j in 0..costs.len() {
-        lower_by(&mut row, cells, charges, costs, j);
+    let mut row = vec![in alloc; None; width]?;
+    for j in 0..legs.costs.len() {
+        lower_by(&mut row, cells, legs, j);
     }
     Ok(row)
 }

@@ -33,7 +33,9 @@ pub(crate) fn weights_of<F: Fn(Span) -> u64>(
 pub(crate) fn sums_of(alloc: Global, weights: &[u64]) -> Result<Vec<u128>, AllocError>
     requires few { All (λ w. w ≤ 2 ^ 40) weights.now }
     requires short { length weights.now ≤ 2 ^ 40 }
-    ensures { IfOk result (λ v. AreSums weights.now v.items) }
+    ensures are { IfOk result (λ v. AreSums weights.now v.items) }
+    ensures rising { IfOk result (λ v. (j k : ℕ) → j ≤ k → k < length v.items → slice_index v.items j ≤ slice_index v.items k) }
+    ensures small { IfOk result (λ v. All (λ s. s ≤ 2 ^ 80) v.items) }
 {
     let mut sums = Vec::new(alloc);
     let mut sum = 0u128;

@@ -10,7 +10,7 @@ use Rattle.time_base.specs.declared.posting.Posting.{Posting}
 use Rattle.tail_lists.specs.declared.weight.Weight.{Weight}
 use Rattle.tail_lists.specs.States.{TailState}
 use Rattle.tail_lists.specs.Blocks.{held_in}
-use Rattle.tail_lists.specs.Tails.{held_of, tail_of, room_of, HaveRoom}
+use Rattle.tail_lists.specs.Tails.{tail_of, room_of, HaveRoom}
 use Rattle.tail_lists.specs.Turns.{IsTurned, IsTrimmed}
 use Rattle.tail_lists.proofs.Passed.{turned-same, turned-never}
 

@@ -1,9 +1,9 @@
 -- A turn in one block of a list, by the block in which the document turns.
-use Rattle.std.specs.Prelude.{◌≡◌, ◌≢◌, ℕ, zero, suc, ◌+◌, ◌<◌, ◌≤◌, Bool, true, false, List, [], ◌∷◌, ◌++◌, length, get_or, set, take, drop, All, filter, cond, refl}
+use Rattle.std.specs.Prelude.{◌≡◌, ℕ, zero, suc, ◌+◌, ◌<◌, ◌≤◌, Bool, true, false, List, [], ◌∷◌, ◌++◌, length, get_or, set, take, drop, All, filter, cond, refl}
 use Rattle.std.specs.List.{remove, AllZip}
 use Rattle.std.proofs.Common.{arith, ap, sym, ◌∙◌, subst, inl, inr, append_assoc}
 use Rattle.std.proofs.lemmas.Bool.Decides.{nat_tests}
-use Rattle.std.proofs.lemmas.List.{append-nil, take-append-drop, take_more, take_more_set, length-drop, length-set, get_or-drop, length-append, get_or-set_other}
+use Rattle.std.proofs.lemmas.List.{append-nil, take-append-drop, take_more, take_more_set, length-drop, get_or-drop, length-append}
 use Rattle.std.proofs.lemmas.List.Elements.{Contains-get_or, All-nil, filter-append, length_all_zip}
 use Rattle.time_base.specs.declared.posting.Posting.{Posting}
 use Rattle.postings.specs.Lists.{ComesBefore, IsList}

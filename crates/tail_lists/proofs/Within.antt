@@ -14,7 +14,7 @@ use Rattle.tail_lists.specs.Turns.{turned_one}
 use Rattle.tail_lists.specs.Steps.{IsOpened, IsClosed, IsPlace}
 use Rattle.tail_lists.specs.Blocks.{starts_up_to, IsSetIn, IsTurnedWithin}
 use Rattle.tail_lists.proofs.Turned.{next-front, next-back}
-use Rattle.tail_lists.proofs.Passed.{turned-begin, turned-close, turned-both, turned-again, turned-leave, turned-never, turned-same}
+use Rattle.tail_lists.proofs.Passed.{turned-begin, turned-close, turned-both, turned-again, turned-leave, turned-never}
 
 -- the place in a block is a place in the list
 place-within : (doc : ℕ) (front block back : List Posting) (k : ℕ) → IsSetIn doc front block back → IsPlace doc block k → IsPlace doc (front ++ (block ++ back)) (length front + k)

@@ -75,6 +75,15 @@ first_room first later = if (nat_le (vec_len later) 0) then vec_capacity first -
 abbrev pub room_in : Vec Posting Global → Vec (Vec Posting Global) Global → Vec Posting Global → ℕ
 room_in first later spare = first_room first later + spare_room later spare
 
+-- What a turn to the frequency new leaves: each block has a posting, the list is longer by one posting at most, and at
+-- most one posting fewer fits in; where the word ends there, no more and no fewer.
+pub record LeavesBlocks (new : ℕ) (first : Vec Posting Global) (later : Vec (Vec Posting Global) Global) (spare : Vec Posting Global) (first' : Vec Posting Global) (later' : Vec (Vec Posting Global) Global) (spare' : Vec Posting Global) : Type 0 where
+  pub filled : AreFilled later'.items
+  pub longer : length (first'.items ++ joined later'.items) ≤ length (first.items ++ joined later.items) + 1
+  pub room : room_in first later spare ≤ room_in first' later' spare' + 1
+  pub none : new ≡ 0 → room_in first later spare ≤ room_in first' later' spare'
+  pub shorter : new ≡ 0 → length (first'.items ++ joined later'.items) ≤ length (first.items ++ joined later.items)
+
 -- What is held in blocks: nothing where there are none.
 abbrev pub held_in : Option (Box TailState Global) → TailState
 held_in None = record { list = []; room = 0 }

@@ -5,7 +5,7 @@ ghost use Rattle.postings.specs.Lists.{IsList};
 ghost use Rattle.std.specs.declared.alloc.Global.{Global as Heap};
 ghost use Rattle.time_base.specs.declared.posting.Posting.{Posting as Row};
 ghost use Rattle.tail_lists.specs.Turns.{IsTurned};
-ghost use Rattle.tail_lists.specs.Blocks.{joined, AreFilled, IsBlockOf, IsTurnedWithin, room_in, spare_room};
+ghost use Rattle.tail_lists.specs.Blocks.{joined, AreFilled, IsBlockOf, IsTurnedWithin, LeavesBlocks, room_in, spare_room};
 ghost use Rattle.tail_lists.specs.Steps.{IsOpened, IsClosed, IsPlace};
 
 use crate::blocks::{count_started, drop_empty, roomy_first, roomy_later};
@@ -150,40 +150,13 @@ pub(crate) fn turn_blocks(
     requires room { new ≢ 0 → 1 ≤ room_in first.old later.old spare.old }
     requires filled { AreFilled later.old.items }
     ensures turned { IsTurned doc.0 at.seconds old new (first.old.items ++ joined later.old.items) (first.new.items ++ joined later.new.items) }
-    ensures filled { AreFilled later.new.items }
-    ensures longer { length (first.new.items ++ joined later.new.items) ≤ length (first.old.items ++ joined later.old.items) + 1 }
-    ensures room { room_in first.old later.old spare.old ≤ room_in first.new later.new spare.new + 1 }
-    ensures none { new ≡ 0 → room_in first.old later.old spare.old ≤ room_in first.new later.new spare.new }
-    ensures shorter { new ≡ 0 → length (first.new.items ++ joined later.new.items) ≤ length (first.old.items ++ joined later.old.items) }
+    ensures leaves { LeavesBlocks new first.old later.old spare.old first.new later.new spare.new }
 {
     let started = count_started(later.as_slice(), doc);
-    if started == 0 {
-        turn_first(first, later, spare, doc, at, old, new);
-    } else {
+    if started > 0 {
         turn_started(later, spare, started - 1, doc, at, old, new);
+        return;
     }
-}
-
-/// A turn of a document that begins with the first block's postings.
-fn turn_first(
-    first: &mut Vec<Posting>,
-    later: &mut Vec<Vec<Posting>>,
-    spare: &mut Vec<Posting>,
-    doc: DocId,
-    at: Time,
-    old: u32,
-    new: u32,
-)
-    requires differ { old ≢ new }
-    requires room { new ≢ 0 → 1 ≤ room_in first.old later.old spare.old }
-    requires filled { AreFilled later.old.items }
-    ensures turned { (IsList (first.old.items ++ joined later.old.items) → IsBlockOf doc.0 later.old.items 0) → IsTurned doc.0 at.seconds old new (first.old.items ++ joined later.old.items) (first.new.items ++ joined later.new.items) }
-    ensures filled { AreFilled later.new.items }
-    ensures longer { length (first.new.items ++ joined later.new.items) ≤ length (first.old.items ++ joined later.old.items) + 1 }
-    ensures room { room_in first.old later.old spare.old ≤ room_in first.new later.new spare.new + 1 }
-    ensures none { new ≡ 0 → room_in first.old later.old spare.old ≤ room_in first.new later.new spare.new }
-    ensures shorter { new ≡ 0 → length (first.new.items ++ joined later.new.items) ≤ length (first.old.items ++ joined later.old.items) }
-{
     if new == 0 {
         turn_within(first, doc, at, old, 0);
         return;

@@ -1,22 +1,10 @@
 -- The documents that are alive at a time are those of which something is held then.
-use Rattle.std.proofs.Common.{◌≡◌, ◌⊎◌, ◌↔◌, ℕ, zero, suc, ◌==◌, Bool, true, false, cond, nat_lt, List, [], ◌∷◌, fold, filter, Contains, Option, Some, None, IsSome, is_some, refl, sym, ap, subst, arith, inl, inr}
+use Rattle.std.proofs.Common.{◌≡◌, ◌⊎◌, ◌↔◌, ℕ, ◌==◌, Bool, true, false, cond, nat_lt, List, [], ◌∷◌, fold, Contains, Option, Some, None, IsSome, is_some, refl, sym, ap, subst, inl, inr}
 use Rattle.std.proofs.lemmas.Bool.Decides.{eqb_tells}
 use Rattle.time_base.specs.declared.ids.DocId.{DocId}
+use Rattle.stretches.proofs.Elements.{here, later, here-or-later, none, filter-in, filter-from}
 use Rattle.version_store.specs.declared.change.Change.{Change}
 use Rattle.version_store.specs.Changes.{changes_of, valid_at, held_at, put, documents, alive}
-
-here : {X : Type 0} (x : X) (xs : List X) → Contains (x ∷ xs) x
-here x xs = (zero, omega arith, refl)
-
-later : {X : Type 0} (x y : X) (xs : List X) → Contains xs y → Contains (x ∷ xs) y
-later x y xs (k, l, e) = (suc k, omega (arith, l), e)
-
-here-or-later : {X : Type 0} (x y : X) (xs : List X) → Contains (x ∷ xs) y → (x ≡ y) ⊎ Contains xs y
-here-or-later x y xs (zero, l, e) = inl e
-here-or-later x y xs (suc k, l, e) = inr (k, omega (arith, l), e)
-
-none : {X : Type 0} (x : X) → Contains [] x → ⊥
-none x (k, l, e) = omega (arith, l)
 
 same-document : (d e : DocId) → d.0 == e.0 ≡ true → d ≡ e
 same-document d e i = elim (eqb_tells d.0 e.0) [ inl y ↦ ap {B = DocId} (λ n. record { 0 = n }) y.1 | inr n ↦ absurd (let two = n.0 in cc) ]
@@ -58,30 +46,12 @@ changed {A} doc found (x ∷ cs) some = go (x.doc.0 == doc.0) refl some (λ s. c
 held-changed : {A : Type 0} (doc : DocId) (t : ℕ) (cs : List (Change A)) → IsSome (held_at doc t cs) → changes_of doc cs ≡ [] → ⊥
 held-changed {A} doc t cs some none = let P : List (Change A) → Type 0 = λ l. IsSome (valid_at t l) in absurd (let bad = subst P none some in cc)
 
-passed : (p : DocId → Bool) (docs : List DocId) (doc : DocId) → Contains (filter p docs) doc ↔ (Contains docs doc × (p doc ≡ true))
-passed p [] doc = (λ c. absurd (none doc c), λ c. absurd (none doc c.0))
-passed p (d ∷ docs) doc = go (p d) refl (passed p docs doc)
-  where
-    go : (b : Bool) → p d ≡ b → (Contains (filter p docs) doc ↔ (Contains docs doc × (p doc ≡ true))) → Contains (cond b (d ∷ filter p docs) (filter p docs)) doc ↔ (Contains (d ∷ docs) doc × (p doc ≡ true))
-    go true e rest = (
-      λ c. elim (here-or-later d doc (filter p docs) c) [
-        | inl i ↦ (subst (λ x. Contains (d ∷ docs) x) i (here d docs), subst (λ x. p x ≡ true) i e)
-        | inr k ↦ (let m = rest.0 k in (later d doc docs m.0, m.1))
-      ],
-      λ c. elim (here-or-later d doc docs c.0) [ inl i ↦ subst (λ x. Contains (d ∷ filter p docs) x) i (here d (filter p docs)) | inr k ↦ later d doc (filter p docs) (rest.1 (k, c.1)) ],
-    )
-    go false e rest = (
-      λ c. let m = rest.0 c in (later d doc docs m.0, m.1),
-      λ c. elim (here-or-later d doc docs c.0) [ inl i ↦ absurd (let two = ap p i in let t = c.1 in cc) | inr k ↦ rest.1 (k, c.1) ],
-    )
-
 some-is : {A : Type 0} (o : Option A) → (is_some o ≡ true) ↔ IsSome o
 some-is None = (λ e. absurd cc, λ s. absurd cc)
 some-is (Some x) = (λ e. refl, λ s. refl)
 
 pub alive-has : {A : Type 0} (t : ℕ) (cs : List (Change A)) (doc : DocId) → Contains (alive t cs) doc ↔ IsSome (held_at doc t cs)
-alive-has t cs doc =
-    let is = passed (λ d. is_some (held_at d t cs)) (documents cs) doc in (
-      λ c. (some-is (held_at doc t cs)).0 (is.0 c).1,
-      λ s. is.1 (changed doc [] cs (held-changed doc t cs s), (some-is (held_at doc t cs)).1 s),
-    )
+alive-has t cs doc = (
+  λ c. (some-is (held_at doc t cs)).0 (filter-from (λ d. is_some (held_at d t cs)) doc (documents cs) c).1,
+  λ s. filter-in (λ d. is_some (held_at d t cs)) doc (documents cs) (changed doc [] cs (held-changed doc t cs s)) ((some-is (held_at doc t cs)).1 s),
+)

@@ -1,9 +1,9 @@
 -- When what is held of a document changes.
-use Rattle.std.specs.Prelude.{◌≡◌, ◌⊎◌, ◌↔◌, ℕ, ◌+◌, ◌-◌, ◌<◌, ◌≤◌, ◌==◌, ◌&&◌, ◌||◌, Bool, true, false, cond, nat_le, nat_lt, List, [], ◌∷◌, ◌++◌, length, take, drop, get_or, map, fold, All, Contains, Option, Some, None, is_some, IsTrue, IsSome, IsPermutation, refl}
+use Rattle.std.specs.Prelude.{◌≡◌, ◌↔◌, ℕ, ◌+◌, ◌-◌, ◌<◌, ◌≤◌, ◌==◌, ◌&&◌, Bool, true, false, cond, nat_le, nat_lt, List, [], ◌∷◌, ◌++◌, length, take, drop, get_or, map, All, Contains, Option, Some, None, is_some, IsTrue, IsSome, IsPermutation, refl}
 use Rattle.std.specs.List.Sorted.{IsPartitionPoint}
 use Rattle.std.specs.Option.{option_map}
 use Rattle.std.proofs.Common.{arith, ap, sym, ◌∙◌, subst, inl, inr}
-use Rattle.std.proofs.lemmas.Bool.{eq-eqb, cases_lt}
+use Rattle.std.proofs.lemmas.Bool.{cases_lt}
 use Rattle.std.proofs.lemmas.Bool.Decides.{nat_tests}
 use Rattle.std.proofs.lemmas.List.{length-take-le, length-drop, get_or-take, get_or-drop}
 use Rattle.std.proofs.lemmas.List.Elements.{All-head, All-tail, All-filter, filter_passes, Contains-get_or, Contains-append_left, Contains-append_right, Contains-append_cases}
@@ -11,12 +11,11 @@ use Rattle.std.proofs.lemmas.List.Sorted.{Contains-permutation, IsPermutation-sy
 use Rattle.time_base.specs.declared.ids.DocId.{DocId}
 use Rattle.stretches.specs.Events.{ChangesAt}
 use Rattle.stretches.specs.declared.event.Event.{Event}
-use Rattle.stretches.proofs.Elements.{here, later, here-or-later, none, filter-in, map-in, map-from}
+use Rattle.stretches.proofs.Elements.{map-in, map-from}
 use Rattle.version_store.specs.declared.change.Change.{Change}
-use Rattle.version_store.specs.Changes.{changes_of, valid_at, held_at, put, documents, alive}
+use Rattle.version_store.specs.Changes.{changes_of, valid_at, held_at, alive}
 use Rattle.version_store.specs.Lives.{AreEvents, lived}
-use Rattle.version_store.proofs.Known.{order_of, has}
-use Rattle.version_store.proofs.Latest.{changes_of-none}
+use Rattle.version_store.proofs.Alive.{alive-has}
 
 -- the changes between two places are those between two times
 pub within-is : {A : Type 0} (changes : List (Change A)) (a b first count : ℕ) → first ≤ length changes → IsPartitionPoint (λ c. nat_le c.at.seconds a ≡ true) (λ c. nat_le c.at.seconds a ≡ false) changes first
@@ -77,37 +76,6 @@ events-are {A} changes late docs a b f g events sorted o w fs gs e p = record {
     change : (x : Event) (c : Change A) → Contains late c → x.at.seconds ≡ (g c).at.seconds → (a ≤ x.at.seconds) × (x.at.seconds < b)
     change x c n i = let h = (w c).0 n in (omega (arith, i, (gs c).1, h.1), omega (arith, i, (gs c).1, h.2))
 
--- a document that is put among others is there
-either-true : (a b : Bool) → (a ≡ true) ⊎ (b ≡ true) → a || b ≡ true
-either-true true b h = refl
-either-true false b (inl h) = absurd cc
-either-true false b (inr h) = h
-
-true-either : (a b : Bool) → a || b ≡ true → (a ≡ true) ⊎ (b ≡ true)
-true-either true b h = inl refl
-true-either false b h = inr h
-
-put-has : (d e : DocId) (ds : List DocId) → (d.0 ≡ e.0) ⊎ (has d ds ≡ true) → has d (put e ds) ≡ true
-put-has d e [] (inl i) = either-true (d.0 == e.0) false (inl (eq-eqb d.0 e.0 i))
-put-has d e [] (inr h) = absurd cc
-put-has d e (x ∷ ds) h = elim (order_of e x) [
-  | inl o ↦ rw o.0 (either-true (d.0 == e.0) (has d (x ∷ ds)) (elim h [ inl i ↦ inl (eq-eqb d.0 e.0 i) | inr k ↦ inr k ]))
-  | inr o ↦ elim o [
-    | inl o ↦ rw (o.0, o.1) (elim h [ inl i ↦ either-true (d.0 == x.0) (has d ds) (inl (eq-eqb d.0 x.0 (i ∙ o.2))) | inr k ↦ k ])
-    | inr o ↦ rw (o.0, o.1) (either-true (d.0 == x.0) (has d (put e ds)) (elim h [
-      | inl i ↦ inr (put-has d e ds (inl i))
-      | inr k ↦ elim (true-either (d.0 == x.0) (has d ds) k) [ inl a ↦ inl a | inr a ↦ inr (put-has d e ds (inr a)) ]
-    ]))
-  ]
-]
-
-known-there : (d : DocId) (ds : List DocId) → has d ds ≡ true → Contains ds d
-known-there d [] h = absurd cc
-known-there d (x ∷ ds) h = elim (true-either (d.0 == x.0) (has d ds) h) [
-  | inl a ↦ subst (λ w. Contains (x ∷ ds) w) (ap {B = DocId} (λ n. record { 0 = n }) (let i : x.0 ≡ d.0 = grind (arith, nat_tests) in i)) (here x ds)
-  | inr a ↦ later x d ds (known-there d ds a)
-]
-
 module _ {A : Type 0} where
   abbrev Unmoved : ℕ → ℕ → Change A → Type 0
   Unmoved e t c = e < c.at.seconds → c.at.seconds ≤ t → ⊥
@@ -141,27 +109,8 @@ module _ {A : Type 0} where
       all : (k : ℕ) (d : Change A) → k < length (changes_of doc changes) → (get_or (changes_of doc changes) k d).doc.0 ≡ doc.0 → Unmoved e t (get_or (changes_of doc changes) k d)
       all k d m = All-filter (λ c. c.doc.0 == doc.0) (λ c. c.doc.0 ≡ doc.0 → Unmoved e t c) changes (λ i x n. u (get_or changes i x) (Contains-get_or changes i x n)) k d m
 
-  changed-known : (doc : DocId) (found : List DocId) (changes : List (Change A)) → (has doc found ≡ true) ⊎ ((c : Change A) × Contains changes c × (c.doc.0 ≡ doc.0)) → has doc (fold (λ found c. put c.doc found) found changes) ≡ true
-  changed-known doc found [] (inl h) = h
-  changed-known doc found [] (inr (c, m, i)) = absurd (none c m)
-  changed-known doc found (x ∷ changes) (inl h) = changed-known doc (put x.doc found) changes (inl (put-has doc x.doc found (inr h)))
-  changed-known doc found (x ∷ changes) (inr (c, m, i)) = elim (here-or-later x c changes m) [
-    | inl j ↦ changed-known doc (put x.doc found) changes (inl (put-has doc x.doc found (inl (sym i ∙ ap (λ y. y.doc.0) (sym j)))))
-    | inr n ↦ changed-known doc (put x.doc found) changes (inr (c, n, i))
-  ]
-
   lived-by : (changes : List (Change A)) (d e t : ℕ) → held_at (record { 0 = d }) e changes ≡ held_at (record { 0 = d }) t changes → lived changes d e ≡ lived changes d t
   lived-by changes d e t h = ap (λ o. option_map (λ _. tt) o) h
-
-  -- a document that is alive at a time is among those
-  pub alive-there : (changes : List (Change A)) (doc : DocId) (t : ℕ) → is_some (held_at doc t changes) ≡ true → Contains (alive t changes) doc
-  alive-there changes doc t h = filter-in (λ d. is_some (held_at d t changes)) doc (documents changes) (known-there doc (documents changes) (known (has doc (documents changes)) refl)) h
-    where
-      known : (b : Bool) → has doc (documents changes) ≡ b → b ≡ true
-      known true e = refl
-      known false e =
-          let n : held_at doc t changes ≡ None = ap (valid_at t) (changes_of-none doc changes (λ k d l i. let y : has doc (documents changes) ≡ true = changed-known doc [] changes (inr (get_or changes k d, Contains-get_or changes k d l, i)) in absurd cc)) in
-          absurd (let m = ap is_some n in cc)
 
   -- at the events of a window what is said of a document changes
   pub events-change : (changes : List (Change A)) (a b : ℕ) (events : List Event) → AreEvents changes (alive a changes) a b events → ChangesAt events a b (lived changes)
@@ -174,7 +123,7 @@ module _ {A : Type 0} where
   }
     where
       silent : (d t : ℕ) → a ≤ t → ((x : Event) → Contains events x → x.doc.0 ≡ d → x.at.seconds ≤ t → ⊥) → (q : Bool) → is_some (held_at (record { 0 = d }) a changes) ≡ q → lived changes d a ≡ None
-      silent d t x n true h = absurd (let (z, k, j, i) = w.started (record { 0 = d }) (alive-there changes (record { 0 = d }) a h) in n z k (ap (λ (q : DocId). q.0) j) (omega (arith, i, x)))
+      silent d t x n true h = absurd (let (z, k, j, i) = w.started (record { 0 = d }) ((alive-has a changes (record { 0 = d })).1 h) in n z k (ap (λ (q : DocId). q.0) j) (omega (arith, i, x)))
       silent d t x n false h = go (held_at (record { 0 = d }) a changes) h
         where
           go : (o : Option A) → is_some o ≡ false → option_map (λ _. tt) o ≡ (let v : Option (Unit {0}) = None in v)

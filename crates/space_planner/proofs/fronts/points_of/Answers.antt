@@ -1,19 +1,16 @@
-use Rattle.std.proofs.Common.{rules, arith, sym, subst, List, ℕ, Option, ◌≡◌, ◌+◌, ◌∙◌, ap, None}
-use Rattle.space_planner.specs.Steps.{ArePoints, IsBefore, IsCell, fall, with_fall}
-use Rattle.space_planner.specs.declared.point.Point.{Point}
+use Rattle.std.proofs.Common.{rules, arith, sym, subst, ℕ, Option, ◌≡◌}
+use Rattle.space_planner.specs.Steps.{ArePoints, IsBefore, IsCell}
 use Rattle.space_planner.proofs.FrontLemmas.{front_first, front_more}
 use Rattle.space_planner.proofs.fronts.points_of.Goals as goal
 
 pub loop-c-init : goal.loop-c-init
-loop-c-init c charge cost cells =
-    subst (λ (l : List Point). ArePoints charge cost c.args.stop 0 l × IsBefore charge cost c.args.stop 0 None) (sym c.new-points.ensures.items) (front_first charge cost c.args.stop)
+loop-c-init c charge cost cells = rw c.new-points.ensures.items (front_first charge cost c.args.stop)
 
 pub loop-c-preserved : goal.loop-c-preserved
 loop-c-preserved c charge cost cells =
     let here : IsCell charge cost c.args.stop c.loop-c.c c.cell_at-here.result = subst (λ (o : Option ℕ). IsCell charge cost c.args.stop c.loop-c.c o) (sym c.cell_at-here.ensures) (cells.each c.args.stop c.loop-c.c (omega arith) c.loop-c-test.true) in
     let so : ArePoints charge cost c.args.stop c.loop-c.c c.loop-c.points.items × IsBefore charge cost c.args.stop c.loop-c.c c.loop-c.before = c.loop-c.invariant charge cost cells in
-    let e : c.in_ok-points.points.items ≡ with_fall c.loop-c.points.items c.loop-c.c (fall c.loop-c.before c.cell_at-here.result) = c.in_ok-points.ensures ∙ ap (λ (o : Option ℕ). with_fall c.loop-c.points.items c.loop-c.c o) c.fall.ensures in
-    subst (λ (l : List Point). ArePoints charge cost c.args.stop (c.loop-c.c + 1) l × IsBefore charge cost c.args.stop (c.loop-c.c + 1) c.cell_at-here.result) (sym e)
+    rw (c.in_ok-points.ensures, c.fall.ensures)
     (front_more charge cost c.args.stop c.loop-c.c c.loop-c.points.items so.0 c.loop-c.before c.cell_at-here.result so.1 here)
 
 pub returns : goal.returns

@@ -1,4 +1,3 @@
-use Rattle.std.specs.Prelude.{slice_index, drop}
 use Rattle.space_planner.proofs.CapLemmas.{capped}
 use Rattle.space_planner.proofs.planning.plan.Goals as goal
 

@@ -1,10 +1,10 @@
-use Rattle.std.proofs.Common.{◌≡◌, ℕ, ◌<◌, ◌≤◌, None, length}
+use Rattle.std.proofs.Common.{◌≡◌, ℕ, ◌<◌, ◌≤◌, None}
 use Rattle.std.specs.Prelude.{slice_index_or}
 use Rattle.space_planner.specs.Steps.{lesser, through}
 use Rattle.space_planner.proofs.steps.lower_by.Given as goal
 
 abbrev pub invariant-loop-c : goal.invariant-loop-c
 invariant-loop-c l = record {
-  lowered : (k : ℕ) → k < l.c → slice_index_or l.row k None ≡ lesser (slice_index_or l.fn.row k None) (through l.cells l.width l.charges l.costs k l.j);
+  lowered : (k : ℕ) → k < l.c → slice_index_or l.row k None ≡ lesser (slice_index_or l.fn.row k None) (through l.cells l.width l.legs.charges.items l.legs.costs.items k l.j);
   kept : (k : ℕ) → l.c ≤ k → slice_index_or l.row k None ≡ slice_index_or l.fn.row k None;
 }
