@@ -1,5 +1,5 @@
 -- A call that carries out an item is a step of the abstract machine.
-use Rattle.std.proofs.Common.{◌≡◌, ◌⊎◌, ℕ, List, [], ◌∷◌, ◌++◌, length, Option, Result, Ok, Err, OnOk, IfOk, IsOk, refl, inl, inr, ap, subst, sym, arith, length-append, append-nil}
+use Rattle.std.proofs.Common.{◌≡◌, ◌⊎◌, ℕ, ◌+◌, List, [], ◌∷◌, ◌++◌, length, Option, Result, Ok, Err, OnOk, IfOk, IsOk, refl, inl, inr, ap, subst, sym, arith, length-append, append-nil}
 use Rattle.std.specs.Option.{option_map}
 use Rattle.machine_model.specs.Areas.{Bytes}
 use Rattle.machine_model.specs.Images.{MayLeave}
@@ -13,9 +13,9 @@ use Rattle.commands.specs.declared.command.Item.{Item}
 use Rattle.commands.specs.declared.command.Item.TheVariants as items
 use Rattle.record_codec.specs.declared.entry.Entry.{Entry}
 use Rattle.query_lang.specs.Grammar.{Query, IsRead}
-use Rattle.archive_state.specs.Chosen.{IsMadeAt, IsMadeOver}
+use Rattle.archive_state.specs.Chosen.{IsMadeAt, IsMadeOver, SpoilsAnswer}
 use Rattle.archive_state.specs.Legal.{IsLoadable}
-use Rattle.archive_state.proofs.ChosenLemmas.{made_at, made_over}
+use Rattle.archive_state.proofs.ChosenLemmas.{held_undamaged, made_at, made_over}
 use Rattle.query_lang.specs.Tokens.{key_of}
 use Rattle.query_eval.specs.declared.answer.Answer.{Answer}
 use Rattle.query_eval.specs.declared.spans.SpanAnswer.{SpanAnswer}
@@ -29,7 +29,8 @@ use Rattle.archive_state.specs.Steps.{Reply, Accepted, Refused, Found, Spanned, 
 use Rattle.archive_state.specs.Stands.{EachStands, bodies_of}
 use Rattle.archive_state.specs.Worlds.{world_of}
 use Rattle.archive_state.proofs.OutcomeLemmas.{adds_outcome, each_finds, each_spans}
-use Rattle.archive_core.specs.Answering.{IsNoQuery}
+use Rattle.archive_core.specs.After.{AfterQuestion}
+use Rattle.archive_core.specs.Answering.{AnswersAt, AnswersOver, IsNoQuery}
 use Rattle.archive_core.specs.States.{ArchiveState, StandsFor, AreInStep}
 use Rattle.plan_shelf.specs.declared.readying.PlanReport.{PlanReport}
 use Rattle.record_codec.specs.declared.plan.PlanEntry.{PlanEntry}
@@ -44,7 +45,7 @@ use Rattle.archive_replay.specs.declared.error.ReadError.TheVariants as reads
 use Rattle.archive_core.specs.declared.error.AskError.{AskError}
 use Rattle.archive_core.specs.declared.error.AskError.TheVariants as asks
 use Rattle.archive_core.proofs.AddLemmas.{in_step_stands, leads_nowhere}
-use Rattle.archive_core.proofs.CacheLemmas.{cache_reads}
+use Rattle.archive_core.proofs.CacheLemmas.{cache_reads, takes_but_cache}
 use Rattle.archive_core.proofs.LoadLemmas.{step_reads}
 
 -- an item that adds an entry, or is refused
@@ -174,6 +175,10 @@ takes_show bytes h doc at (Err reads.Failed) old new a is same in_step =
 takes_show bytes h doc at (Err reads.Memory) old new a is same in_step =
     takes_question h (items.Command (commands.Show doc at)) (Version (text_at h doc at.seconds)) Starved old new a (refl, refl) same in_step tt
 
+-- pages that hold the live plans spoil no answer
+undamaged : (h : History) (pages : List ℕ) (a b : ℕ) (text : List ℕ) (d : Damage) → IsLoadable h → HoldsPlans h pages → SpoilsAnswer h pages a b text d → ⊥
+undamaged h pages a b text d loads held spoils = held_undamaged h pages spoils.first.word a b d loads held spoils.first.damaged
+
 -- an answer that was made from the lists chosen, in pages that hold the live plans
 pub finds_made : (h : History) (pages : List ℕ) (at : Time) (text : List ℕ) (B : Answer → Query → Type 0) (r : Result Answer AskError) → IsLoadable h → HoldsPlans h pages
     → IfOk r (λ answer. (query : Query) × IsRead key_of text (Ok query) × IsMadeAt h pages at.seconds query answer.rows.items answer.read × B answer query)
@@ -190,6 +195,23 @@ spans_made h pages span text B (Ok answer) loads held (query, read, made, rest) 
     let stands = made_over h pages span.from span.to query answer.rows.items answer.read loads held span.in_time made in
     (Ok query, read, (answer.rows.items, answer.read, stands.0, stands.1, refl))
 spans_made h pages span text B (Err e) loads held made = made
+
+-- so a query is a step, with the cache that it leaves
+pub find_takes : {tells : Type 0} (h : History) (at : Time) (text : List ℕ) (r : Result Answer AskError) (old new : DiskState) (a b : ArchiveState) → tells → MayLeave old.now old.holds → AfterQuestion tells text r old new a b
+    → IfOk r (λ answer. AnswersAt h at.seconds text a.shelf.cache b.shelf.cache old new answer.rows.items answer.read)
+    → ((d : Damage) → r ≡ Err (asks.Damaged d) → SpoilsAnswer h old.holds.pages at.seconds (at.seconds + 1) text d) → AreInStep old a h → Takes h (items.Command (commands.Find at text)) (found r) old new b
+find_takes h at text r old new a b told allowed after made damaged in_step =
+    let held = in_step.held old.holds allowed in
+    takes_but_cache h (items.Command (commands.Find at text)) (found r) old new a b after.but_cache (after.cached told in_step.cached)
+    (takes_find h at text r old new a after.refused (λ d is. undamaged h old.holds.pages _ _ text d in_step.stands.loadable held (damaged d is)) (finds_made h old.holds.pages at text _ r in_step.stands.loadable held made) after.same in_step)
+
+pub between_takes : {tells : Type 0} (h : History) (span : Span) (text : List ℕ) (r : Result SpanAnswer AskError) (old new : DiskState) (a b : ArchiveState) → tells → MayLeave old.now old.holds → AfterQuestion tells text r old new a b
+    → IfOk r (λ answer. AnswersOver h span.from span.to text a.shelf.cache b.shelf.cache old new answer.rows.items answer.read)
+    → ((d : Damage) → r ≡ Err (asks.Damaged d) → SpoilsAnswer h old.holds.pages span.from span.to text d) → AreInStep old a h → Takes h (items.Command (commands.Between span text)) (spanned r) old new b
+between_takes h span text r old new a b told allowed after made damaged in_step =
+    let held = in_step.held old.holds allowed in
+    takes_but_cache h (items.Command (commands.Between span text)) (spanned r) old new a b after.but_cache (after.cached told in_step.cached)
+    (takes_between h span text r old new a after.refused (λ d is. undamaged h old.holds.pages _ _ text d in_step.stands.loadable held (damaged d is)) (spans_made h old.holds.pages span text _ r in_step.stands.loadable held made) after.same in_step)
 
 -- ---- what an archive stands for begins with what it stood for
 

@@ -1,4 +1,5 @@
 -- Why a query is answered by an error.
+use Rattle.std.specs.Prelude.{Result, Ok, Err}
 use Rattle.query_lang.specs.declared.error.QueryError.{QueryError}
 use Rattle.query_lang.specs.declared.error.QueryError.TheVariants as queries
 use Rattle.archive_state.specs.declared.refusal.Refusal.TheVariants as refusals
@@ -17,3 +18,8 @@ abbrev pub ask_error_of_fetch : FetchError → AskError
 ask_error_of_fetch fetches.Failed = asks.Failed
 ask_error_of_fetch (fetches.Damaged damage) = asks.Damaged damage
 ask_error_of_fetch fetches.Memory = asks.Memory
+
+-- what came of fetching for a query, as what comes of the query
+abbrev pub asked_of : {T : Type 0} → Result T FetchError → Result T AskError
+asked_of (Ok found) = Ok found
+asked_of (Err why) = Err (ask_error_of_fetch why)

@@ -18,7 +18,7 @@ ghost use Rattle.commands.specs.declared.command.Command.TheVariants as commands
 ghost use Rattle.commands.specs.declared.command.Item.TheVariants as items;
 
 use crate::archive::Archive;
-use crate::error::AskError;
+use crate::error::{AskError, asked};
 use archive_replay::{ReadError, read_text};
 use commands::Phrase;
 use machine_model::Disk;
@@ -61,9 +61,10 @@ impl Archive {
         ensures takes { D.disk_tells → (h : History) → AreInStep (D.disk disk.old) self.old h →
             Takes h (items.Command (commands.Find at expr.now)) (found result) (D.disk disk.old) (D.disk disk.new) self.new }
     {
-        let query = Query::read(alloc, expr.as_str())?;
-        let answer = self.answer_of(alloc, disk, &query, at)?;
-        Ok(answer)
+        match Query::read(alloc, expr.as_str()) {
+            Ok(query) => asked(self.answer_of(alloc, disk, &query, at)),
+            Err(why) => Err(AskError::from(why)),
+        }
     }
 
     /// The answer to a query by the lists of its words.

@@ -1,5 +1,6 @@
 //! Why a call of an archive didn't do its work.
 ghost use Rattle.std.specs.Prelude.{◌≡◌};
+ghost use Rattle.archive_core.specs.Causes.{asked_of};
 
 use archive_state::Refusal;
 use query_lang::QueryError;
@@ -78,5 +79,15 @@ impl From<AllocError> for AskError {
 
     fn from(_: AllocError) -> Self {
         AskError::Memory
+    }
+}
+
+/// What came of fetching for a query, as what comes of the query.
+pub(crate) fn asked<T>(fetched: Result<T, FetchError>) -> Result<T, AskError>
+    ensures { result ≡ asked_of fetched }
+{
+    match fetched {
+        Ok(found) => Ok(found),
+        Err(why) => Err(AskError::from(why)),
     }
 }

@@ -14,7 +14,7 @@ ghost use Rattle.commands.specs.declared.command.Command.TheVariants as commands
 ghost use Rattle.commands.specs.declared.command.Item.TheVariants as items;
 
 use crate::archive::Archive;
-use crate::error::AskError;
+use crate::error::{AskError, asked};
 use commands::Phrase;
 use machine_model::Disk;
 use query_eval::{Part, SpanAnswer, answer_over};
@@ -56,9 +56,10 @@ impl Archive {
         ensures takes { D.disk_tells → (h : History) → AreInStep (D.disk disk.old) self.old h →
             Takes h (items.Command (commands.Between span expr.now)) (spanned result) (D.disk disk.old) (D.disk disk.new) self.new }
     {
-        let query = Query::read(alloc, expr.as_str())?;
-        let answer = self.span_answer_of(alloc, disk, &query, span)?;
-        Ok(answer)
+        match Query::read(alloc, expr.as_str()) {
+            Ok(query) => asked(self.span_answer_of(alloc, disk, &query, span)),
+            Err(why) => Err(AskError::from(why)),
+        }
     }
 
     /// The answer to a query over a window by the lists of its words.
