@@ -1,5 +1,5 @@
 -- Partitions as plans.
-use Rattle.std.proofs.Common.{◌≡◌, ℕ, ◌+◌, ◌-◌, ◌^◌, ◌<◌, ◌≤◌, List, [], ◌∷◌, ◌++◌, length, map, take, drop, ap, sym, subst, ◌∙◌, arith}
+use Rattle.std.proofs.Common.{Option, ◌≡◌, ℕ, ◌+◌, ◌-◌, ◌^◌, ◌<◌, ◌≤◌, List, [], ◌∷◌, ◌++◌, length, map, take, drop, ap, sym, subst, ◌∙◌, arith}
 use Rattle.std.specs.Prelude.{slice_index}
 use Rattle.std.specs.List.Sorted.{IsStrictlyIncreasing}
 use Rattle.std.proofs.lemmas.List.{get_or-take, length-take, length-drop}
@@ -8,6 +8,8 @@ use Rattle.time_base.specs.declared.fraction.Fraction.{Fraction}
 use Rattle.time_base.specs.declared.posting.Posting.{Posting}
 use Rattle.time_base.specs.declared.time.Span.{Span}
 use Rattle.time_base.specs.declared.time.Time.{Time}
+use Rattle.commands.specs.declared.command.Kind.{Kind}
+use Rattle.commands.specs.declared.command.Kind.TheVariants.{Guarantee, Uniform, Since}
 use Rattle.elementary.specs.Boundaries.{IsBoundary}
 use Rattle.elementary.specs.Counts.{Counts, Tabulates}
 use Rattle.elementary.specs.Partitions.{widest, IsFitting, IsLeast, space}
@@ -19,8 +21,8 @@ use Rattle.space_planner.specs.Loads.{AreWeights}
 use Rattle.space_planner.specs.Plans.{IsBestUnder}
 use Rattle.space_planner.proofs.FunctionLemmas.{by_function}
 use Rattle.space_planner.proofs.ShortLemmas.{short}
-use Rattle.stored_plans.specs.Plans.{IsLeastPlan, IsBestPlan, IsPlanCost, each_second, each_second_since, plan_space}
-use Rattle.plan_choice.specs.Bests.{IsBestFor}
+use Rattle.stored_plans.specs.Plans.{IsBestPlan, IsPlanCost, IsGoodPlan, IsCostOf, each_second, each_second_since, plan_space}
+use Rattle.plan_choice.specs.Bests.{IsBestFor, IsChosenFor}
 
 -- ---- cuts as times
 
@@ -92,3 +94,23 @@ since_first = λ i f g. since_nought f g i
   where
     since_nought : (f g : ℕ) → each_second_since 0 f g ≡ each_second f g
     since_nought f g = ap (λ n. g - n) (omega arith)
+
+-- ---- by the kind
+
+-- what is chosen has few cuts
+pub few_chosen : (kind : Kind) (list : List Posting) (factor : Fraction) (horizon : ℕ) (table : Counts) (cuts : List ℕ) (cost : Option ℕ) → Tabulates list horizon table → IsFitting table.boundaries cuts → 2 ≤ length cuts
+    → IsChosenFor kind table factor cuts cost → length cuts ≤ 2 ^ 24 + 1
+few_chosen Guarantee list factor horizon table cuts cost t fits many (none, within, least) = few_cuts list factor horizon table cuts t many within (least list horizon t)
+few_chosen Uniform list factor horizon table cuts cost t fits many (n, is, best) = few_best each_second list factor horizon table cuts n t fits best
+few_chosen (Since at) list factor horizon table cuts cost t fits many (n, is, best) = few_best (each_second_since at.seconds) list factor horizon table cuts n t fits best
+
+-- and makes a plan that is what its kind promises, with its cost
+pub good_of : (kind : Kind) (list : List Posting) (factor : Fraction) (h : ℕ) (table : Counts) (p : List ℕ) (cuts : List Time) (cost : Option ℕ) → Tabulates list h table → IsFitting table.boundaries p → 0 < length cuts
+    → map (λ (t : Time). t.seconds) cuts ++ h ∷ [] ≡ p → IsChosenFor kind table factor p cost → IsGoodPlan kind list factor cuts h × IsCostOf kind list cuts h cost
+good_of kind list factor h table p [] cost t fits some same chosen = absurd (omega (arith, some))
+good_of Guarantee list factor h table p (f ∷ cuts) cost t fits some same (none, within, least) =
+    (((table.boundaries, t.boundaries, within), subst (λ (p : List ℕ). IsLeast list factor (slice_index p 0) (drop 1 p) h) (sym same) (least list h t)), none)
+good_of Uniform list factor h table p (f ∷ cuts) cost t fits some same (n, is, best) =
+    let (plan, takes) = best_plan_of each_second list factor h table p (f ∷ cuts) n t fits some same best in (plan, (n, takes, is))
+good_of (Since at) list factor h table p (f ∷ cuts) cost t fits some same (n, is, best) =
+    let (plan, takes) = best_plan_of (each_second_since at.seconds) list factor h table p (f ∷ cuts) n t fits some same best in (plan, (n, takes, is))

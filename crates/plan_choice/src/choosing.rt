@@ -4,7 +4,8 @@ ghost use Rattle.time_base.specs.declared.posting.Posting.{Posting as PlainPosti
 ghost use Rattle.elementary.specs.Boundaries.{AreBoundaries};
 ghost use Rattle.elementary.specs.Counts.{Tabulates};
 ghost use Rattle.elementary.specs.Partitions.{IsFitting, IsLeast, widest};
-ghost use Rattle.stored_plans.specs.Plans.{IsNarrow, IsLeastPlan, IsBestPlan, IsPlanCost, IsGoodPlan, IsCostOf, each_second_since, plan_space};
+ghost use Rattle.plan_choice.specs.Bests.{IsChosenFor};
+ghost use Rattle.stored_plans.specs.Plans.{IsGoodPlan, IsCostOf, plan_space};
 
 use crate::choice::{Choice, ChoiceError};
 use crate::loads::best_since;
@@ -36,33 +37,30 @@ pub fn choose(
     ensures cost { IfOk result (λ c. IsCostOf kind list.now c.cuts.items horizon.seconds c.cost) }
     ensures wide { (n : ℕ) → IsErrOf result (ChoiceError.TooWide n) → (kind ≡ Kind.Guarantee) × ((times : List ℕ) × AreBoundaries list.now horizon.seconds times × (widest < length times) × (n ≡ length times)) }
 {
-    match kind {
-        Kind::Guarantee => least(alloc, list, factor, horizon),
-        Kind::Uniform => best(alloc, list, factor, 0, horizon),
-        Kind::Since { at } => best(alloc, list, factor, at.seconds(), horizon),
-    }
+    let table = Table::new(alloc, list, horizon)?;
+    let (partition, cost) = chosen(alloc, &table, kind, factor)?;
+    let choice = choice_of(alloc, &table, &partition, cost, horizon)?;
+    Ok(choice)
 }
 
-/// A least plan of a list that keeps to a guarantee.
-fn least(
+/// A partition that is what the kind promises, and its cost, or that there are too many boundaries.
+fn chosen(
     alloc: Global,
-    list: &[Posting],
+    table: &Table,
+    kind: Kind,
     factor: Fraction,
-    horizon: Time,
-) -> Result<Choice, ChoiceError>
-    requires some { 0 < length list.now }
-    requires few { length list.now < 2 ^ 38 }
-    requires early { All (λ p. p.span.to ≤ horizon.seconds) list.now }
-    ensures narrow { IfOk result (λ _. IsNarrow list.now horizon.seconds) }
-    ensures least { IfOk result (λ c. IsLeastPlan list.now factor c.cuts.items horizon.seconds) }
-    ensures space { IfOk result (λ c. c.space ≡ plan_space list.now c.cuts.items horizon.seconds) }
-    ensures cost { IfOk result (λ c. c.cost ≡ None) }
-    ensures wide { (n : ℕ) → IsErrOf result (ChoiceError.TooWide n) → (times : List ℕ) × AreBoundaries list.now horizon.seconds times × (widest < length times) × (n ≡ length times) }
+) -> Result<(Partition, Option<u128>), ChoiceError>
+    ensures fits { IfOk result (λ p. IsFitting table.now.boundaries p.0) }
+    ensures chosen { IfOk result (λ p. IsChosenFor kind table.now factor p.0 p.1) }
+    ensures wide { (n : ℕ) → IsErrOf result (ChoiceError.TooWide n) → (kind ≡ Kind.Guarantee) × (widest < length table.now.boundaries) × (n ≡ length table.now.boundaries) }
 {
-    let table = Table::new(alloc, list, horizon)?;
-    let partition = planned(alloc, &table, factor)?;
-    let choice = choice_of(alloc, &table, &partition, None, horizon)?;
-    Ok(choice)
+    let since = match kind {
+        Kind::Guarantee => return Ok((planned(alloc, table, factor)?, None)),
+        Kind::Uniform => 0,
+        Kind::Since { at } => at.seconds(),
+    };
+    let (partition, cost) = best_since(alloc, table, factor, since)?;
+    Ok((partition, Some(cost)))
 }
 
 /// A least partition, or that there are too many boundaries.
@@ -77,27 +75,4 @@ fn planned(alloc: Global, table: &Table, factor: Fraction) -> Result<Partition, 
         Err(PlanError::TooWide { boundaries }) => Err(ChoiceError::TooWide { boundaries }),
         Err(PlanError::Memory) => Err(ChoiceError::Memory),
     }
-}
-
-/// A best plan of a list under a bound on space, where each second from a time on is as likely to be
-/// asked for.
-fn best(
-    alloc: Global,
-    list: &[Posting],
-    factor: Fraction,
-    since: u64,
-    horizon: Time,
-) -> Result<Choice, ChoiceError>
-    requires some { 0 < length list.now }
-    requires few { length list.now < 2 ^ 38 }
-    requires early { All (λ p. p.span.to ≤ horizon.seconds) list.now }
-    ensures best { IfOk result (λ c. IsBestPlan (each_second_since since) list.now factor c.cuts.items horizon.seconds) }
-    ensures space { IfOk result (λ c. c.space ≡ plan_space list.now c.cuts.items horizon.seconds) }
-    ensures cost { IfOk result (λ c. (n : ℕ) × IsPlanCost (each_second_since since) list.now c.cuts.items horizon.seconds n × (c.cost ≡ Some n)) }
-    ensures narrow { (n : ℕ) → IsErrOf result (ChoiceError.TooWide n) → ⊥ }
-{
-    let table = Table::new(alloc, list, horizon)?;
-    let (partition, cost) = best_since(alloc, &table, factor, since)?;
-    let choice = choice_of(alloc, &table, &partition, Some(cost), horizon)?;
-    Ok(choice)
 }

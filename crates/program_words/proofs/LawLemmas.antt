@@ -1,12 +1,12 @@
 -- Any words ask for one thing or for nothing.
-use Rattle.std.proofs.Common.{◌≡◌, ◌∙◌, refl, ◌<◌, ◌≤◌, ◌⊎◌, ℕ, Bool, true, false, inl, inr, ap, sym, arith, [], ◌∷◌, length, Option, Some, None, IsSomeAnd, codes}
+use Rattle.std.proofs.Common.{◌≡◌, ◌∙◌, refl, ◌<◌, ◌≤◌, ◌⊎◌, ℕ, true, false, inl, inr, ap, sym, arith, [], ◌∷◌, length, Option, Some, None, IsSomeAnd, codes}
 use Rattle.std.specs.Prelude.{◌^◌}
 use Rattle.std.specs.Coded.{le_prop}
 use mathlib.Core.HLevel.{is_prop→PathP}
 use Rattle.std.specs.Char.{is_ascii_digit}
 use Rattle.std.specs.List.{list_all}
 use Rattle.std.specs.Str.Parse.{digits_value}
-use Rattle.std.proofs.lemmas.Bool.{cases_lt}
+use Rattle.std.proofs.lemmas.Bool.{cases_lt, cases_Bool}
 use Rattle.clap.specs.Words.{Kinds, Text, fault_of}
 use Rattle.program_words.specs.Numbers.{WritesNumber}
 use Rattle.program_words.specs.declared.task.SampleNumbers.{SampleNumbers}
@@ -15,6 +15,7 @@ use Rattle.program_words.specs.declared.task.Task.TheVariants.{Script, Generate}
 use Rattle.program_words.specs.Words.{AreNoWords, AreTaken, AreWords, AskFor, command, given}
 use Rattle.program_words.specs.Laws.{WordsAskForOneThing, WordsAskOrDoNot}
 use Rattle.program_words.proofs.NumberLemmas.{below}
+use Rattle.program_words.proofs.ReadLemmas.{no_sample}
 
 -- ---- one thing at most
 
@@ -47,53 +48,49 @@ one_thing words one other a b = one_task (given (codes "generate") words) (given
 -- ---- one or none
 
 number_or_none : (text : Text) → ((n : ℕ) × WritesNumber text n) ⊎ ((n : ℕ) → WritesNumber text n → ⊥)
-number_or_none text = go (list_all is_ascii_digit text) refl
-  where
-    go : (b : Bool) → list_all is_ascii_digit text ≡ b → ((n : ℕ) × WritesNumber text n) ⊎ ((n : ℕ) → WritesNumber text n → ⊥)
-    go false e = inr (λ n w. let bad : true ≡ false = sym w.digits ∙ e in cc)
-    go true e = elim (cases_lt 0 (length text)) [
-      | inr none ↦ inr (λ n w. omega (arith, w.some))
-      | inl some ↦ elim (cases_lt (length text) 20) [
-        | inr long ↦ inr (λ n w. omega (arith, w.few))
-        | inl few ↦ inl (digits_value 10 text, record { digits = e; some = omega arith; few = omega arith; value = refl })
-      ]
+number_or_none text = elim (cases_Bool (list_all is_ascii_digit text)) [
+  | inr e ↦ inr (λ n w. let bad : true ≡ false = sym w.digits ∙ e in cc)
+  | inl e ↦ elim (cases_lt 0 (length text)) [
+    | inr none ↦ inr (λ n w. omega (arith, w.some))
+    | inl some ↦ elim (cases_lt (length text) 20) [
+      | inr long ↦ inr (λ n w. omega (arith, w.few))
+      | inl few ↦ inl (digits_value 10 text, record { digits = e; some = omega arith; few = omega arith; value = refl })
     ]
+  ]
+]
 
 abbrev Asks : Option Text → Option Text → Type 0
 Asks seed count = ((task : Task) × AskFor seed count task) ⊎ ((task : Task) → AskFor seed count task → ⊥)
 
 sample_or_none : (s n : Text) → Asks (Some s) (Some n)
 sample_or_none s n = elim (number_or_none s) [
-  | inr never ↦ inr (λ task h. none_by task (λ sample w v. never sample.seed w) h)
+  | inr never ↦ inr (no_sample s n (λ sample w v. never sample.seed w))
   | inl seed ↦ elim (number_or_none n) [
-    | inr never ↦ inr (λ task h. none_by task (λ sample w v. never sample.count v) h)
+    | inr never ↦ inr (no_sample s n (λ sample w v. never sample.count v))
     | inl count ↦ elim (cases_lt 0 count.0) [
-      | inr low ↦ inr (λ task h. none_by task (λ sample w v. let e : count.0 ≡ sample.count = count.1.value ∙ sym v.value in omega (arith, sample.not_empty)) h)
+      | inr low ↦ inr (no_sample s n (λ sample w v. omega (arith, sample.not_empty, v.value, count.1.value)))
       | inl some ↦ elim (cases_lt 100000 count.0) [
-        | inl high ↦ inr (λ task h. none_by task (λ sample w v. let e : count.0 ≡ sample.count = count.1.value ∙ sym v.value in omega (arith, sample.at_most)) h)
+        | inl high ↦ inr (no_sample s n (λ sample w v. omega (arith, sample.at_most, v.value, count.1.value)))
         | inr within ↦ inl (Generate (record { seed = seed.0; count = count.0; nineteen_digits = below s seed.0 seed.1; not_empty = omega arith; at_most = omega arith }), (seed.1, count.1))
       ]
     ]
   ]
 ]
-  where
-    none_by : (task : Task) → ((sample : SampleNumbers) → WritesNumber s sample.seed → WritesNumber n sample.count → ⊥) → AskFor (Some s) (Some n) task → ⊥
-    none_by Script f h = let bad : Some s ≡ None = h.0 in cc
-    none_by (Generate sample) f h = f sample h.0 h.1
+
+-- one value alone asks for nothing
+pub seed_alone : (seed : Text) (task : Task) → AskFor (Some seed) None task → ⊥
+seed_alone seed Script (e, _) = cc
+seed_alone seed (Generate sample) h = h.1
+
+pub count_alone : (count : Text) (task : Task) → AskFor None (Some count) task → ⊥
+count_alone count Script (_, e) = cc
+count_alone count (Generate sample) h = h.0
 
 asks_or_not : (seed count : Option Text) → Asks seed count
 asks_or_not None None = inl (Script, (refl, refl))
 asks_or_not (Some s) (Some n) = sample_or_none s n
-asks_or_not None (Some n) = inr go
-  where
-    go : (task : Task) → AskFor None (Some n) task → ⊥
-    go Script h = let bad : Some n ≡ None = h.1 in cc
-    go (Generate sample) h = h.0
-asks_or_not (Some s) None = inr go
-  where
-    go : (task : Task) → AskFor (Some s) None task → ⊥
-    go Script h = let bad : Some s ≡ None = h.0 in cc
-    go (Generate sample) h = h.1
+asks_or_not None (Some n) = inr (count_alone n)
+asks_or_not (Some s) None = inr (seed_alone s)
 
 pub ask_or_not : WordsAskOrDoNot
 unfolding AreTaken

@@ -31,9 +31,9 @@ unfolding AreTaken
 taken a words is h = subst (λ (x : App). fault_of x words ≡ []) is (h (ap is_simple_and_free is ∙ free))
 
 -- and has the values that the words give
-pub has_given : (a : App) (words : List Text) (m : ArgMatches) (name : Text) → a ≡ command → HasMatchesOf a words m → first_value (found_of m) name ≡ given name words
+pub has_given : (a : App) (words : List Text) (m : ArgMatches) → a ≡ command → HasMatchesOf a words m → (name : Text) → first_value (found_of m) name ≡ given name words
 unfolding given
-has_given a words m name is h =
+has_given a words m is h name =
     first_value-rows (found_of m) name ∙ ap (first_of name) (h (ap is_simple is ∙ simple)).0 ∙ ap (λ (x : App). first_of name (matches_of x words)) is
 
 err_is : (e : WordsError) → IsErrOf {T = Task} (Err e) Refused → e ≡ Refused
@@ -53,26 +53,20 @@ not_taken a words error (Err x) is h why e = λ task w. go (subst (λ (y : App).
     go (inl m) none = no_memory m
     go (inr among) none = subst (IsAmong (kind_of error)) none among
 
--- what the values ask for is what the words do
-module _ (words : List Text) (seed count : Option Text) (taken : AreTaken words) (seed_is : seed ≡ given (codes "generate") words) (count_is : count ≡ given (codes "count") words) where
-  asked : (task : Task) → AskFor seed count task → AreWords words task
-  asked task h = (taken, subst (λ v. AskFor v (given (codes "count") words) task) seed_is (subst (λ v. AskFor seed v task) count_is h))
+-- what the values of words that are taken ask for is what the words do
+abbrev Asked : List Text → Task → Type 0
+Asked words = AskFor (given (codes "generate") words) (given (codes "count") words)
 
-  pub read : (found : Option Task) (r : Result Task WordsError) → r ≡ ok_or found Refused → IfSome found (AskFor seed count) → IfOk r (AreWords words)
-  read (Some task) r is h = subst (λ x. IfOk x (AreWords words)) (sym is) (asked task h)
-  read None r is h = subst (λ x. IfOk x (AreWords words)) (sym is) tt
+module _ (words : List Text) (taken : AreTaken words) where
+  pub read : (found : Option Task) (r : Result Task WordsError) → r ≡ ok_or found Refused → IfSome found (Asked words) → IfOk r (AreWords words)
+  read (Some task) r is h = rw is (taken, h)
+  read None r is h = rw is tt
 
-  pub refused : (found : Option Task) (r : Result Task WordsError) → r ≡ ok_or found Refused → IfNone found ((task : Task) → AskFor seed count task → ⊥) → IsErrOf r Refused → AreNoWords words
+  pub refused : (found : Option Task) (r : Result Task WordsError) → r ≡ ok_or found Refused → IfNone found ((task : Task) → Asked words task → ⊥) → IsErrOf r Refused → AreNoWords words
   refused (Some task) r is h e = absurd (let bad : Ok task ≡ Err Refused = sym is ∙ e in cc)
-  refused None r is h e = λ task w. h task (subst (λ v. AskFor v count task) (sym seed_is) (subst (λ v. AskFor (given (codes "generate") words) v task) (sym count_is) w.1))
+  refused None r is h e = λ task w. h task w.1
 
 -- values that write no sample's numbers ask for nothing
-pub no_sample : (seed count : Option Text) (s n : Text) → seed ≡ Some s → count ≡ Some n → ((sample : SampleNumbers) → WritesNumber s sample.seed → WritesNumber n sample.count → ⊥) → (found : Option Task)
-    → IfNone found ((task : Task) → AskFor seed count task → ⊥)
-no_sample seed count s n seed_is count_is none (Some task) = tt
-no_sample seed count s n seed_is count_is none None = λ task h.
-    go task (subst (λ v. AskFor v (Some n) task) seed_is (subst (λ v. AskFor seed v task) count_is h))
-  where
-    go : (task : Task) → AskFor (Some s) (Some n) task → ⊥
-    go Script h = let bad : Some s ≡ None = h.0 in cc
-    go (Generate sample) h = none sample h.0 h.1
+pub no_sample : (s n : Text) → ((sample : SampleNumbers) → WritesNumber s sample.seed → WritesNumber n sample.count → ⊥) → (task : Task) → AskFor (Some s) (Some n) task → ⊥
+no_sample s n none Script (e, _) = cc
+no_sample s n none (Generate sample) h = none sample h.0 h.1

@@ -1,25 +1,25 @@
 -- What holds of plans by their kinds. Under a space bound it is so for any load.
-use Rattle.std.specs.Prelude.{◌≡◌, ℕ, suc, ◌-◌, ◌^◌, ◌<◌, ◌≤◌, List, [], ◌∷◌, ◌++◌, map, length, slice_index, All, Some, None, refl}
+use Rattle.std.specs.Prelude.{◌≡◌, ℕ, ◌-◌, ◌^◌, ◌<◌, ◌≤◌, List, [], ◌∷◌, length, slice_index, All, Some, None, refl}
 use Rattle.std.specs.List.Sorted.{IsStrictlyIncreasing}
 use Rattle.std.proofs.Common.{arith, ap, sym, ◌∙◌, subst, inl, inr}
-use Rattle.std.proofs.lemmas.List.Elements.{Contains-get_or}
 use Rattle.time_base.specs.declared.time.Time.{Time}
 use Rattle.time_base.specs.declared.posting.Posting.{Posting}
 use Rattle.time_base.specs.declared.fraction.Fraction.{Fraction}
+use Rattle.commands.specs.declared.command.Kind.{Kind}
 use Rattle.commands.specs.declared.command.Kind.TheVariants.{Guarantee, Uniform, Since}
 use Rattle.elementary.specs.Boundaries.{IsFirst, AreBoundaries}
-use Rattle.elementary.proofs.Ordering.{Rise, increasing, each_has_boundaries, one_list_of_boundaries}
+use Rattle.elementary.proofs.Ordering.{each_has_boundaries, one_list_of_boundaries}
 use Rattle.elementary.proofs.Places.{rises}
-use Rattle.elementary.proofs.Tables.{some_time, two_boundaries, first_le, last_is_horizon}
+use Rattle.elementary.proofs.Tables.{two_boundaries, last_is_horizon}
 use Rattle.space_planner.specs.Costs.{Ascends, expected_cost}
 use Rattle.space_planner.specs.Loads.{weights_by}
 use Rattle.space_planner.specs.Plans.{IsEligible, IsBestUnder}
 use Rattle.space_planner.proofs.CapLemmas.{capped}
 use Rattle.space_planner.proofs.ShortLemmas.{short}
 use Rattle.space_planner.proofs.ThereIsABest.{each_has_a_best}
-use Rattle.stored_plans.specs.Plans.{later, each_second, each_second_since, IsBest, IsBestPlan, IsCappedPlan, IsPlanCost}
-use Rattle.stored_plans.specs.Laws.{GoodPlansAreFit, EachListHasAGoodPlan, EachGoodPlanHasACost, GoodPlansCostTheSame, GoodPlansAreShort, BeginsFirst, FitPlansAreWellCut}
-use Rattle.stored_plans.proofs.PlanLemmas.{least_is_fit, each_has_a_plan, seconds_are, later_long, well_cut, narrow_cuts}
+use Rattle.stored_plans.specs.Plans.{later, each_second, each_second_since, IsBest, IsBestPlan, IsCappedPlan, IsPlanCost, IsFitFor}
+use Rattle.stored_plans.specs.Laws.{GoodPlansAreFit, EachListHasAGoodPlan, EachGoodPlanHasACost, GoodPlansCostTheSame, GoodPlansAreShort, FitPlansAreWellCut}
+use Rattle.stored_plans.proofs.PlanLemmas.{least_is_fit, each_has_a_plan, seconds_are, later_long, ascends_is, first_is, fit_ascends, narrow_cuts}
 
 -- ---- ascending cuts
 
@@ -31,10 +31,6 @@ ascends_to : (cuts : List ℕ) (f h : ℕ) → Ascends f cuts h → f ≤ h
 ascends_to [] f h a = omega (arith, a)
 ascends_to (g ∷ cuts) f h a = omega (arith, a.0, ascends_to cuts g h a.1)
 
-ascends_rise : (cuts : List ℕ) (f h : ℕ) → Ascends f cuts h → Rise (suc f) cuts
-ascends_rise [] f h a = tt
-ascends_rise (g ∷ cuts) f h a = (a.0, ascends_rise cuts g h a.1)
-
 -- cuts up to the horizon are those of a plan
 as_plan : (horizon : Time) (cuts : List ℕ) (f : ℕ) → f < horizon.seconds → Ascends f cuts horizon.seconds → (plan : List Time) × (later plan horizon.seconds ≡ cuts)
 as_plan horizon [] f lt a = absurd (omega (arith, lt, a))
@@ -44,14 +40,6 @@ as_plan horizon (g ∷ i ∷ cuts) f lt (up, a) =
     let before : g < horizon.seconds = omega (arith, a.0, ascends_to cuts i horizon.seconds a.1) in
     let (plan, e) = as_plan horizon (i ∷ cuts) g before a in
     (record { seconds = g; before_now = omega (arith, before, now) } ∷ plan, ap (λ xs. g ∷ xs) e)
-
--- ---- the first boundary
-
-first_is : (list : List Posting) (h : ℕ) (times : List ℕ) (f : ℕ) → AreBoundaries list h times → IsFirst list h f → slice_index times 0 ≡ f
-first_is list h times f b first = omega (arith, first.none_before (slice_index times 0) ((b.each _).0 (Contains-get_or times 0 0 (some_time list h times b))), first_le times b.ascending f ((b.each f).1 first.is))
-
-one_first : (list : List Posting) (h f g : ℕ) → IsFirst list h f → IsFirst list h g → f ≡ g
-one_first list h f g a b = omega (arith, a.none_before g b.is, b.none_before f a.is)
 
 -- ---- plans under a space bound
 
@@ -65,61 +53,41 @@ best_is_capped load list factor (f ∷ cuts) h b = record {
 
 each_has_a_best_plan : (load : ℕ → ℕ → ℕ) (list : List Posting) (factor : Fraction) (horizon : Time) → 0 < length list → All (λ p. p.span.to ≤ horizon.seconds) list
     → (cuts : List Time) × IsBestPlan load list factor cuts horizon.seconds
-each_has_a_best_plan load list factor horizon some early = from (each_has_boundaries list horizon.seconds)
-  where
-    now : horizon.seconds < 2 ^ 40
-    now = horizon.before_now
-
-    planned : (times : List ℕ) → AreBoundaries list horizon.seconds times → (first : ℕ) → IsFirst list horizon.seconds first → first < horizon.seconds → (cuts : List ℕ) × IsBestUnder list times (weights_by load times) factor first horizon.seconds cuts
-        → (cuts : List Time) × IsBestPlan load list factor cuts horizon.seconds
-    planned times b first is lt (cuts, best) =
-        let (plan, e) = as_plan horizon cuts first lt (eligible_ascends list times factor first horizon.seconds cuts best.eligible) in (
-          record { seconds = first; before_now = omega (arith, lt, now) } ∷ plan,
-          record { first = is; times = times; times_are = b; best = subst (λ (xs : List ℕ). IsBestUnder list times (weights_by load times) factor first horizon.seconds xs) (sym e) best },
-        )
-
-    from : (times : List ℕ) × AreBoundaries list horizon.seconds times → (cuts : List Time) × IsBestPlan load list factor cuts horizon.seconds
-    from (times, b) =
-        let two : 2 ≤ length times = two_boundaries list horizon.seconds times b some in
-        let lt : slice_index times 0 < horizon.seconds = omega (arith, rises times b.ascending 0 (length times - 1) (omega (arith, two)) (omega (arith, two)), last_is_horizon list horizon.seconds times b early) in
-        planned times b (slice_index times 0)
-        (record { is = (b.each _).0 (Contains-get_or times 0 0 (omega (arith, two))); none_before = λ t c. first_le times b.ascending t ((b.each t).1 c) }) lt
-        (each_has_a_best list times (weights_by load times) factor (slice_index times 0) horizon.seconds lt)
+each_has_a_best_plan load list factor horizon some early =
+    let (times, b) = each_has_boundaries list horizon.seconds in
+    let two : 2 ≤ length times = two_boundaries list horizon.seconds times b some in
+    let now : horizon.seconds < 2 ^ 40 = horizon.before_now in
+    let lt : slice_index times 0 < horizon.seconds = omega (arith, rises times b.ascending 0 (length times - 1) (omega (arith, two)) (omega (arith, two)), last_is_horizon list horizon.seconds times b early) in
+    let (cuts, best) = each_has_a_best list times (weights_by load times) factor (slice_index times 0) horizon.seconds lt in
+    let (plan, e) = as_plan horizon cuts (slice_index times 0) lt (eligible_ascends list times factor (slice_index times 0) horizon.seconds cuts best.eligible) in (
+      record { seconds = slice_index times 0; before_now = omega (arith, lt, now) } ∷ plan,
+      record { first = (first_is list horizon.seconds times b (slice_index times 0)).1 refl; times = times; times_are = b; best = rw e best },
+    )
 
 best_has_a_cost : (load : ℕ → ℕ → ℕ) (list : List Posting) (factor : Fraction) (cuts : List Time) (h : ℕ) → IsBestPlan load list factor cuts h → (n : ℕ) × IsPlanCost load list cuts h n
 best_has_a_cost load list factor [] h b = absurd b
 best_has_a_cost load list factor (f ∷ cuts) h b = (expected_cost list f.seconds (later cuts h) b.times (weights_by load b.times), (b.times, b.times_are, refl))
 
--- one of two best partitions doesn't cost more
-costs_no_more : (load : ℕ → ℕ → ℕ) (list : List Posting) (factor : Fraction) (f : ℕ) (one : List ℕ) (g : ℕ) (other : List ℕ) (h : ℕ) (times : List ℕ) → AreBoundaries list h times → IsBest load list factor f one h → IsBest load list factor g other h
-    → expected_cost list f one times (weights_by load times) ≤ expected_cost list g other times (weights_by load times)
-costs_no_more load list factor f one g other h times b x y =
-    let e : f ≡ g = one_first list h f g x.first y.first in
-    let u : IsBestUnder list times (weights_by load times) factor f h one = subst (λ (ts : List ℕ). IsBestUnder list ts (weights_by load ts) factor f h one) (one_list_of_boundaries list h x.times times x.times_are b) x.best in
-    let v : IsEligible list times factor g h other = subst (λ (ts : List ℕ). IsEligible list ts factor g h other) (one_list_of_boundaries list h y.times times y.times_are b) y.best.eligible in
-    subst (λ i. expected_cost list f one times (weights_by load times) ≤ expected_cost list i other times (weights_by load times)) e (u.best other (subst (λ i. IsEligible list times factor i h other) (sym e) v))
+-- a best partition by other names of the boundaries and of the first of them
+best_at : (load : ℕ → ℕ → ℕ) (list : List Posting) (factor : Fraction) (f : ℕ) (cuts : List ℕ) (h : ℕ) (times : List ℕ) → AreBoundaries list h times → IsBest load list factor f cuts h
+    → (f ≡ slice_index times 0) × IsBestUnder list times (weights_by load times) factor (slice_index times 0) h cuts
+best_at load list factor f cuts h times b x =
+    let e = (first_is list h times b f).0 x.first in
+    (e, rw (one_list_of_boundaries list h x.times times x.times_are b, e) at x.best)
 
 best_cost_the_same : (load : ℕ → ℕ → ℕ) (list : List Posting) (factor : Fraction) (one other : List Time) (h n m : ℕ) → IsBestPlan load list factor one h → IsBestPlan load list factor other h
     → IsPlanCost load list one h n → IsPlanCost load list other h m → n ≡ m
 best_cost_the_same load list factor [] other h n m x y c d = absurd x
 best_cost_the_same load list factor (f ∷ one) [] h n m x y c d = absurd y
 best_cost_the_same load list factor (f ∷ one) (g ∷ other) h n m x y (times, b, c) (those, b', d) =
-    let e : m ≡ expected_cost list g.seconds (later other h) times (weights_by load times) = subst (λ (ts : List ℕ). m ≡ expected_cost list g.seconds (later other h) ts (weights_by load ts)) (one_list_of_boundaries list h those times b' b) d in
-    omega (arith, c, e, costs_no_more load list factor f.seconds (later one h) g.seconds (later other h) h times b x y, costs_no_more load list factor g.seconds (later other h) f.seconds (later one h) h times b y x)
+    let (e, u) = best_at load list factor f.seconds (later one h) h times b x in
+    let (i, v) = best_at load list factor g.seconds (later other h) h times b y in
+    omega (arith, rw e at c, rw (one_list_of_boundaries list h those times b' b, i) at d, u.best (later other h) v.eligible, v.best (later one h) u.eligible)
 
 best_is_short : (load : ℕ → ℕ → ℕ) (list : List Posting) (factor : Fraction) (cuts : List Time) (h : ℕ) → IsBestPlan load list factor cuts h → length cuts ≤ 1048575
 best_is_short load list factor [] h b = absurd b
 best_is_short load list factor (f ∷ cuts) h b =
-    omega (arith, later_long cuts h, short list b.times factor f.seconds h (later cuts h) b.times_are.ascending (first_is list h b.times f.seconds b.times_are b.first) b.best.eligible)
-
-capped_well_cut : (list : List Posting) (factor : Fraction) (cuts : List Time) (horizon : Time) → IsCappedPlan list factor cuts horizon.seconds
-    → (1 ≤ length cuts) × BeginsFirst list cuts horizon.seconds × IsStrictlyIncreasing (map (λ (t : Time). t.seconds) (cuts ++ horizon ∷ []))
-capped_well_cut list factor [] horizon c = absurd c
-capped_well_cut list factor (f ∷ cuts) horizon c = (
-  omega arith,
-  c.first,
-  subst (λ (xs : List ℕ). IsStrictlyIncreasing xs) (seconds_are f cuts horizon) (increasing f.seconds (f.seconds ∷ later cuts horizon.seconds) (omega arith, ascends_rise (later cuts horizon.seconds) f.seconds horizon.seconds c.ascends)),
-)
+    omega (arith, later_long cuts h, short list b.times factor f.seconds h (later cuts h) b.times_are.ascending (sym ((first_is list h b.times b.times_are f.seconds).0 b.first)) b.best.eligible)
 
 -- ---- by the kind
 
@@ -149,7 +117,18 @@ good_are_short Guarantee list factor cuts horizon (n, least) = narrow_cuts list 
 good_are_short Uniform list factor cuts horizon b = best_is_short each_second list factor cuts horizon.seconds b
 good_are_short (Since at) list factor cuts horizon b = best_is_short (each_second_since at.seconds) list factor cuts horizon.seconds b
 
+none_is_fit : (kind : Kind) (list : List Posting) (factor : Fraction) (h : ℕ) → IsFitFor kind list factor [] h → ⊥
+none_is_fit Guarantee list factor h fit = fit.1
+none_is_fit Uniform list factor h fit = fit
+none_is_fit (Since at) list factor h fit = fit
+
+fit_begins : (kind : Kind) (list : List Posting) (factor : Fraction) (f : Time) (cuts : List Time) (h : ℕ) → IsFitFor kind list factor (f ∷ cuts) h → IsFirst list h f.seconds × IsStrictlyIncreasing (later (f ∷ cuts) h)
+fit_begins Guarantee list factor f cuts h (n, fit) = (fit.first, fit_ascends list factor f cuts h fit)
+fit_begins Uniform list factor f cuts h fit = (fit.first, (ascends_is f cuts h).1 fit.ascends)
+fit_begins (Since at) list factor f cuts h fit = (fit.first, (ascends_is f cuts h).1 fit.ascends)
+
 pub fit_well_cut : FitPlansAreWellCut
-fit_well_cut Guarantee list factor cuts horizon (n, fit) = well_cut list factor cuts horizon fit
-fit_well_cut Uniform list factor cuts horizon c = capped_well_cut list factor cuts horizon c
-fit_well_cut (Since at) list factor cuts horizon c = capped_well_cut list factor cuts horizon c
+fit_well_cut kind list factor [] horizon fit = absurd (none_is_fit kind list factor horizon.seconds fit)
+fit_well_cut kind list factor (f ∷ cuts) horizon fit =
+    let (first, up) = fit_begins kind list factor f cuts horizon.seconds fit in
+    (omega arith, first, subst (λ (xs : List ℕ). IsStrictlyIncreasing xs) (seconds_are f cuts horizon) up)

@@ -1,3 +1,4 @@
 mod CapLemmas
+mod FitLemmas
 pub mod GoodLemmas
 pub mod PlanLemmas

@@ -11,29 +11,19 @@ ghost use Rattle.space_planner.specs.Caps.{cap};
 use elementary::{Partition, Table};
 use time_base::Fraction;
 
-/// The place of the last of the ascending times that isn't after `t`. Costs the logarithm of the times.
-fn last_to(times: &[u64], t: u64) -> usize
+/// The place of the first of the ascending times that is after `t`, where one isn't and the last one is.
+/// Costs the logarithm of the times.
+fn first_after(times: &[u64], t: u64) -> usize
     requires ascending { IsStrictlyIncreasing times.now }
     requires some { 0 < length times.now }
     requires first { slice_index times.now 0 ≤ t }
+    requires last { t < slice_index times.now (length times.now - 1) }
+    ensures behind { 0 < result }
     ensures inside { result < length times.now }
-    ensures to { slice_index times.now result ≤ t }
-    ensures after { (k : ℕ) → result < k → k < length times.now → t < slice_index times.now k }
+    ensures to { slice_index times.now (result - 1) ≤ t }
+    ensures after { t < slice_index times.now result }
 {
-    let after = times.partition_point(|x| *x <= t);
-    after - 1
-}
-
-/// The place of the first of the ascending times that isn't before `t`. Costs the logarithm of the times.
-fn first_from(times: &[u64], t: u64) -> usize
-    requires ascending { IsStrictlyIncreasing times.now }
-    requires some { 0 < length times.now }
-    requires last { t ≤ slice_index times.now (length times.now - 1) }
-    ensures inside { result < length times.now }
-    ensures from { t ≤ slice_index times.now result }
-    ensures before { (k : ℕ) → k < result → slice_index times.now k < t }
-{
-    times.partition_point(|x| *x < t)
+    times.partition_point(|x| *x <= t)
 }
 
 /// How many postings have a time in `[f, g)`: as many as between the last boundary at or before `f` and
@@ -46,8 +36,8 @@ fn size_of(table: &Table, f: u64, g: u64) -> u64
     ensures count { (list : List Posting) (horizon : ℕ) → Tabulates list horizon table.now → result ≡ size f g list }
 {
     let times = table.boundaries();
-    let from = last_to(times, f);
-    let to = first_from(times, g);
+    let from = first_after(times, f) - 1;
+    let to = first_after(times, g - 1);
     table.size(from, to)
 }
 
@@ -82,8 +72,5 @@ pub(crate) fn keeps_cap(table: &Table, partition: &Partition, factor: Fraction) 
     ensures { (list : List Posting) (horizon : ℕ) → Tabulates list horizon table.now → (IsTrue result ↔ ((slice_index partition.now 0 ≡ slice_index table.now.boundaries 0) × (space list (slice_index partition.now 0) (drop 1 partition.now) ≤ cap factor (length list)))) }
 {
     let cuts = partition.cuts();
-    if cuts[0] != table.boundaries()[0] {
-        return false;
-    }
-    space_of(table, cuts) <= cap_of(table, factor)
+    cuts[0] == table.boundaries()[0] && space_of(table, cuts) <= cap_of(table, factor)
 }

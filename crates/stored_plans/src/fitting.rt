@@ -38,88 +38,14 @@ pub fn partition_of(
     Ok(Partition::new(seconds))
 }
 
-/// Whether a partition has its cuts at the table's boundaries, from the first to the last, and keeps the
-/// factor. Costs time in the boundaries and in the cuts.
+/// Whether the table has at most 1,048,576 boundaries, and a partition has its cuts at these, from the
+/// first to the last, and keeps the factor. Costs time in the boundaries and in the cuts.
 fn keeps(table: &Table, partition: &Partition, factor: Fraction) -> bool
-    ensures { (list : List Posting) (horizon : ℕ) → Tabulates list horizon table.now → (IsTrue result ↔ (IsFitting table.now.boundaries partition.now × Covers list factor (slice_index partition.now 0) (drop 1 partition.now) horizon)) }
+    ensures { (list : List Posting) (horizon : ℕ) → Tabulates list horizon table.now → (IsTrue result ↔ ((length table.now.boundaries ≤ 1048576) × IsFitting table.now.boundaries partition.now × Covers list factor (slice_index partition.now 0) (drop 1 partition.now) horizon)) }
 {
-    partition.fits(table) && partition.admissible(table, factor)
-}
-
-/// Whether the cuts make a fit plan of the table's list with the horizon. Costs time in the boundaries
-/// and in the cuts, and memory in the cuts.
-fn is_fit_plan(
-    alloc: Global,
-    table: &Table,
-    factor: Fraction,
-    cuts: &[Time],
-    horizon: Time,
-) -> Result<bool, AllocError>
-    ensures { IfOk result (λ b. (list : List Posting) → Tabulates list horizon.seconds table.now → (IsTrue b ↔ IsFitPlan list factor cuts.now horizon.seconds)) }
-{
-    match partition_of(alloc, cuts, horizon)? {
-        Some(partition) => Ok(keeps(table, &partition, factor)),
-        None => Ok(false),
-    }
-}
-
-/// Whether the list has at most 1,048,576 boundaries, and the cuts with the horizon are an admissible
-/// partition at boundaries, from the first one on.
-fn is_fit_guarantee(
-    alloc: Global,
-    list: &[Posting],
-    factor: Fraction,
-    cuts: &[Time],
-    horizon: Time,
-) -> Result<bool, AllocError>
-    requires some { 0 < length list.now }
-    requires few { length list.now < 2 ^ 38 }
-    requires early { All (λ p. p.span.to ≤ horizon.seconds) list.now }
-    ensures { IfOk result (λ b. IsTrue b ↔ (IsNarrow list.now horizon.seconds × IsFitPlan list.now factor cuts.now horizon.seconds)) }
-{
-    let table = Table::new(alloc, list, horizon)?;
-    if table.boundaries().len() > WIDEST {
-        return Ok(false);
-    }
-    is_fit_plan(alloc, &table, factor, cuts, horizon)
-}
-
-/// Whether the cuts with the horizon are a partition from the table's first boundary that keeps the
-/// bound on space. Costs time in the cuts and the logarithm of the boundaries for each, and memory in
-/// the cuts.
-fn is_capped_plan(
-    alloc: Global,
-    table: &Table,
-    factor: Fraction,
-    cuts: &[Time],
-    horizon: Time,
-) -> Result<bool, AllocError>
-    requires last { slice_index table.now.boundaries (length table.now.boundaries - 1) ≡ horizon.seconds }
-    ensures { IfOk result (λ b. (list : List Posting) → Tabulates list horizon.seconds table.now → (IsTrue b ↔ IsCappedPlan list factor cuts.now horizon.seconds)) }
-{
-    let Some(partition) = partition_of(alloc, cuts, horizon)? else {
-        return Ok(false);
-    };
-    Ok(keeps_cap(table, &partition, factor))
-}
-
-/// Whether the cuts with the horizon are a partition from the list's first boundary that keeps the bound
-/// on space.
-fn is_fit_space(
-    alloc: Global,
-    list: &[Posting],
-    factor: Fraction,
-    cuts: &[Time],
-    horizon: Time,
-) -> Result<bool, AllocError>
-    requires some { 0 < length list.now }
-    requires few { length list.now < 2 ^ 38 }
-    requires early { All (λ p. p.span.to ≤ horizon.seconds) list.now }
-    ensures { IfOk result (λ b. IsTrue b ↔ IsCappedPlan list.now factor cuts.now horizon.seconds) }
-{
-    let table = Table::new(alloc, list, horizon)?;
-    let fit = is_capped_plan(alloc, &table, factor, cuts, horizon)?;
-    Ok(fit)
+    table.boundaries().len() <= WIDEST
+        && partition.fits(table)
+        && partition.admissible(table, factor)
 }
 
 /// Whether a plan of a list may be loaded. One that keeps to a guarantee: the list has at most 1,048,576
@@ -141,9 +67,12 @@ pub fn is_fit(
     requires early { All (λ p. p.span.to ≤ horizon.seconds) list.now }
     ensures { IfOk result (λ b. IsTrue b ↔ IsFitFor kind list.now factor cuts.now horizon.seconds) }
 {
+    let Some(partition) = partition_of(alloc, cuts, horizon)? else {
+        return Ok(false);
+    };
+    let table = Table::new(alloc, list, horizon)?;
     match kind {
-        Kind::Guarantee => is_fit_guarantee(alloc, list, factor, cuts, horizon),
-        Kind::Uniform => is_fit_space(alloc, list, factor, cuts, horizon),
-        Kind::Since { .. } => is_fit_space(alloc, list, factor, cuts, horizon),
+        Kind::Guarantee => Ok(keeps(&table, &partition, factor)),
+        Kind::Uniform | Kind::Since { .. } => Ok(keeps_cap(&table, &partition, factor)),
     }
 }

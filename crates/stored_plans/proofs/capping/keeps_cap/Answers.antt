@@ -1,6 +1,12 @@
-use Rattle.stored_plans.proofs.CapLemmas.{kept_told}
+use Rattle.std.proofs.Common.{arith}
+use Rattle.std.proofs.lemmas.Bool.Decides.{nat_tests}
 use Rattle.stored_plans.proofs.capping.keeps_cap.Goals as goal
 
-pub returns : goal.returns
-returns c list horizon t =
-    kept_told list c.args.factor c.args.table.now.boundaries c.boundaries.result.now c.args.partition.now c.cuts-cuts.result.now c.boundaries.ensures.value c.cuts-cuts.ensures.value c.if-cuts-boundaries.false c.space_of.result c.cap_of.result (c.space_of.ensures list horizon t) (c.cap_of.ensures list horizon t)
+pub returns-then-cuts-boundaries : goal.returns-then-cuts-boundaries
+returns-then-cuts-boundaries c list horizon t =
+    let first = c.if-cuts-boundaries.true in
+    let cuts_are = c.cuts-cuts.ensures.value in
+    let boundaries_are = c.boundaries.ensures.value in
+    let space_is = c.space_of.ensures list horizon t in
+    let cap_is = c.cap_of.ensures list horizon t in
+    grind (arith, nat_tests)

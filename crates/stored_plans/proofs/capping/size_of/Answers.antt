@@ -1,16 +1,19 @@
-use Rattle.std.proofs.Common.{arith}
+use Rattle.std.proofs.Common.{◌-◌, ◌∙◌, arith, sym}
 use Rattle.elementary.proofs.Places.{place_below}
-use Rattle.stored_plans.proofs.CapLemmas.{size_told}
+use Rattle.stored_plans.proofs.CapLemmas.{IsNext, size_around}
 use Rattle.stored_plans.proofs.capping.size_of.Goals as goal
 
 pub size-requires-clause-order : goal.size-requires-clause-order
 size-requires-clause-order c =
-    place_below c.boundaries-times.result.now c.boundaries-times.ensures.ascending c.last_to-from.result c.first_from-to.result c.last_to-from.ensures.inside
-    (omega (arith, c.last_to-from.ensures.to, c.requires.order, c.first_from-to.ensures.from))
+    place_below c.boundaries-times.result.now c.boundaries-times.ensures.ascending (c.first_after-from.result - 1) c.first_after-to.result (omega (arith, c.first_after-from.ensures.inside))
+    (omega (arith, c.first_after-from.ensures.to, c.requires.order, c.first_after-to.ensures.after))
 
 pub returns-clause-count : goal.returns-clause-count
 returns-clause-count c list horizon t =
-    size_told list horizon c.args.table.now t c.boundaries-times.result.now c.boundaries-times.ensures.value c.args.f c.args.g c.last_to-from.result c.first_from-to.result c.size.result c.requires.order
-    (record { inside = c.last_to-from.ensures.inside; to = c.last_to-from.ensures.to; after = c.last_to-from.ensures.after })
-    (record { inside = c.first_from-to.ensures.inside; from = c.first_from-to.ensures.from; before = c.first_from-to.ensures.before })
-    (c.size.ensures.count list horizon t)
+    let from = c.first_after-from.ensures in
+    let to = c.first_after-to.ensures in
+    let left : IsNext c.boundaries-times.result.now c.args.f c.first_after-from.result = record { behind = from.behind; inside = from.inside; to = from.to; after = from.after } in
+    let right : IsNext c.boundaries-times.result.now (c.args.g - 1) c.first_after-to.result = record { behind = to.behind; inside = to.inside; to = to.to; after = to.after } in
+    let same = c.boundaries-times.ensures.value in
+    c.size.ensures.count list horizon t ∙ sym (size_around list horizon c.args.table.now.boundaries t.boundaries c.args.f c.args.g c.first_after-from.result c.first_after-to.result c.requires.order
+    (rw same at left) (rw same at right))
