@@ -1,20 +1,19 @@
 -- Words entered one by one, and their counts.
-use Rattle.std.proofs.Common.{◌≡◌, ℕ, ◌+◌, ◌≤◌, Bool, true, false, cond, ◌||◌, List, [], ◌∷◌, ◌++◌, map, length, Option, Some, None, refl, sym, ap, ap₂, subst, ◌∙◌, arith, if◌then◌else◌}
+use Rattle.std.proofs.Common.{◌≡◌, ℕ, ◌+◌, ◌≤◌, nat_lt, ltb-true, ltb-false, lt-ltb, Bool, true, false, cond, ◌||◌, List, [], ◌∷◌, ◌++◌, map, length, Option, Some, None, refl, sym, ap, ap₂, subst, ◌∙◌, arith, if◌then◌else◌}
 use Rattle.std.proofs.lemmas.List.Folds.{list_any-append}
 use Rattle.std.proofs.lemmas.List.Sums.{fold_push, sum_by_push, count_by-le-length, sum_by-cons}
 use Rattle.std.proofs.lemmas.Map.Keys.{IsDistinct-push, IsDistinct-head, IsDistinct-tail}
+use Rattle.std.proofs.lemmas.Option.{cond_some}
 use Rattle.std.specs.Cmp.Lexicographic.{nat_list_eq_equiv, bytes_decides}
 use Rattle.std.specs.List.{list_any, IsDistinct, AllByRecursion}
 use Rattle.std.specs.Map.{lookup, set_value}
 use Rattle.std.specs.Str.{bytes_eq}
 use Rattle.indexmap.specs.IndexMap.{insert_entry}
-use Rattle.std.proofs.Common.{filter, option_to_list, append-nil, chars, IsUtf8}
+use Rattle.std.proofs.Common.{filter, option_to_list}
 use Rattle.std.proofs.lemmas.List.{map-append, length-map}
 use Rattle.std.proofs.lemmas.List.Elements.{filter-append}
 use Rattle.std.proofs.lemmas.List.Sums.{length-filter}
-use Rattle.std.proofs.lemmas.Str.{encodes-chars, length-le-encodes}
-use Rattle.caseless.proofs.Computing.{caseless}
-use Rattle.fold_tokens.specs.Terms.{times, key, is_key, term_of, keys_of, closed}
+use Rattle.fold_tokens.specs.Terms.{times, key, is_key, term_of, keys_of}
 use Rattle.fold_tokens.specs.Words.{entered, with_all, distinct, counted, bump}
 
 -- words that are found equal are one
@@ -23,6 +22,10 @@ same one other e = (bytes_decides one other).0 e
 
 pub itself : (word : List ℕ) → bytes_eq word word ≡ true
 itself word = (bytes_decides word word).1 refl
+
+-- words that aren't found equal differ
+pub apart_words : (one other : List ℕ) → one ≡ other → bytes_eq one other ≡ false → ⊥
+apart_words one other e h = let t : true ≡ false = sym (itself one) ∙ ap (bytes_eq one) e ∙ h in absurd cc
 
 pub flipped : (one other : List ℕ) → bytes_eq one other ≡ bytes_eq other one
 flipped = nat_list_eq_equiv.symm
@@ -70,82 +73,70 @@ lookup-table f q (w ∷ words) = by (bytes_eq q w) refl (lookup-table f q words)
     by true e rest = ap (λ v. Some (f v)) (sym (same q w e))
     by false e rest = rest
 
-same_table : (f g : List ℕ → ℕ) (k : List ℕ) → ((q : List ℕ) → bytes_eq k q ≡ false → g q ≡ f q) → (words : List (List ℕ)) → AllByRecursion (λ w. bytes_eq k w ≡ false) words → table f words ≡ table g words
-same_table f g k others [] h = refl
-same_table f g k others (w ∷ words) h = ap₂ (λ (n : ℕ) (rest : List (List ℕ × ℕ)). (w, n) ∷ rest) (sym (others w h.0)) (same_table f g k others words h.1)
+-- functions that agree on a list's elements make one list of them
+pub same_map : {X Y : Type 0} (P : X → Type 0) (f g : X → Y) → ((x : X) → P x → f x ≡ g x) → (xs : List X) → AllByRecursion P xs → map f xs ≡ map g xs
+same_map P f g e [] h = refl
+same_map P f g e (x ∷ xs) h = ap₂ (λ y ys. y ∷ ys) (e x h.0) (same_map P f g e xs h.1)
 
--- the table after one value changes
-pub insert-table : (f g : List ℕ → ℕ) (k : List ℕ) → ((q : List ℕ) → bytes_eq k q ≡ false → g q ≡ f q) → (words : List (List ℕ)) → IsDistinct bytes_eq words → insert_entry bytes_eq (table f words) k (g k) ≡ table g (entered words k)
-insert-table f g k others [] h = refl
-insert-table f g k others (w ∷ words) h = by (bytes_eq k w) refl (list_any (bytes_eq k) words) refl (insert-table f g k others words (IsDistinct-tail bytes_eq w words h))
+-- the table after one more of a word
+bump-table : (f g : List ℕ → ℕ) (k : List ℕ) → g k ≡ f k + 1 → ((q : List ℕ) → bytes_eq k q ≡ false → g q ≡ f q) → (words : List (List ℕ)) → (list_any (bytes_eq k) words ≡ false → f k ≡ 0) → IsDistinct bytes_eq words
+    → bump bytes_eq (table f words) k ≡ table g (entered words k)
+bump-table f g k one others [] none h = ap (λ n. (k, n) ∷ []) (let z = none refl in omega (arith, one, z))
+bump-table f g k one others (w ∷ words) none h = by (bytes_eq k w) refl (list_any (bytes_eq k) words) none (λ n. bump-table f g k one others words n (IsDistinct-tail bytes_eq w words h))
   where
-    by : (b : Bool) → bytes_eq k w ≡ b → (d : Bool) → list_any (bytes_eq k) words ≡ d → insert_entry bytes_eq (table f words) k (g k) ≡ table g (entered words k)
-        → (if b then (w, g k) ∷ table f words else (w, f w) ∷ insert_entry bytes_eq (table f words) k (g k)) ≡ table g (if (b || d) then w ∷ words else w ∷ words ++ k ∷ [])
-    by true e d i rest =
-        ap₂ (λ (n : ℕ) (tail : List (List ℕ × ℕ)). (w, n) ∷ tail) (ap g (same k w e))
-        (same_table f g k others words (subst (λ x. AllByRecursion (λ v. bytes_eq x v ≡ false) words) (sym (same k w e)) (IsDistinct-head bytes_eq w words h)))
-    by false e true i rest = ap₂ (λ (n : ℕ) (tail : List (List ℕ × ℕ)). (w, n) ∷ tail) (sym (others w e)) (rest ∙ ap (λ b. table g (if b then words else words ++ k ∷ [])) i)
-    by false e false i rest = ap₂ (λ (n : ℕ) (tail : List (List ℕ × ℕ)). (w, n) ∷ tail) (sym (others w e)) (rest ∙ ap (λ b. table g (if b then words else words ++ k ∷ [])) i)
+    by : (b : Bool) → bytes_eq k w ≡ b → (d : Bool) → ((b || d) ≡ false → f k ≡ 0) → ((d ≡ false → f k ≡ 0) → bump bytes_eq (table f words) k ≡ table g (if d then words else words ++ k ∷ []))
+        → (if b then (w, f w + 1) ∷ table f words else (w, f w) ∷ bump bytes_eq (table f words) k) ≡ table g (if (b || d) then w ∷ words else w ∷ words ++ k ∷ [])
+    by true e d none rest =
+        ap₂ (λ (n : ℕ) (tail : List (List ℕ × ℕ)). (w, n) ∷ tail) (rw (← same k w e) (sym one))
+        (same_map (λ q. bytes_eq k q ≡ false) (λ q. (q, f q)) (λ q. (q, g q)) (λ q e. ap (λ n. (q, n)) (sym (others q e))) words (subst (λ x. AllByRecursion (λ v. bytes_eq x v ≡ false) words) (sym (same k w e)) (IsDistinct-head bytes_eq w words h)))
+    by false e true none rest = ap₂ (λ (n : ℕ) (tail : List (List ℕ × ℕ)). (w, n) ∷ tail) (sym (others w e)) (rest none)
+    by false e false none rest = ap₂ (λ (n : ℕ) (tail : List (List ℕ × ℕ)). (w, n) ∷ tail) (sym (others w e)) (rest none)
 
 -- one occurrence more
 pub times-push : (q : List ℕ) (found : List (List ℕ)) (k : List ℕ) → times q (found ++ k ∷ []) ≡ times q found + cond (bytes_eq q k) 1 0
 times-push q found k = sum_by_push (λ x. cond (bytes_eq q x) 1 0) found k
 
-pub times-absent : (q : List ℕ) (found : List (List ℕ)) → list_any (bytes_eq q) found ≡ false → times q found ≡ 0
-times-absent q [] h = refl
-times-absent q (k ∷ found) h = by (bytes_eq q k) refl (times-absent q found)
+-- a word is found exactly where it occurs
+any-times : (q : List ℕ) (found : List (List ℕ)) → list_any (bytes_eq q) found ≡ nat_lt 0 (times q found)
+any-times q [] = refl
+any-times q (k ∷ found) = by (bytes_eq q k) (any-times q found) ∙ ap (nat_lt 0) (sym (sum_by-cons (λ x. cond (bytes_eq q x) 1 0) k found))
   where
-    by : (b : Bool) → bytes_eq q k ≡ b → (list_any (bytes_eq q) found ≡ false → times q found ≡ 0) → times q (k ∷ found) ≡ 0
-    by true e rest = absurd (let f : true ≡ false = ap (λ b. b || list_any (bytes_eq q) found) (sym e) ∙ h in cc)
-    by false e rest = sum_by-cons (λ x. cond (bytes_eq q x) 1 0) k found ∙ ap (λ b. cond b 1 0 + times q found) e ∙ (let t = rest (ap (λ b. b || list_any (bytes_eq q) found) (sym e) ∙ h) in omega arith)
+    by : (b : Bool) → list_any (bytes_eq q) found ≡ nat_lt 0 (times q found) → (b || list_any (bytes_eq q) found) ≡ nat_lt 0 (cond b 1 0 + times q found)
+    by true h = sym (lt-ltb 0 (1 + times q found) (omega arith))
+    by false h = h ∙ ap (nat_lt 0) (omega arith)
 
--- the counts after one more occurrence
-pub counted-push : (found : List (List ℕ)) (k : List ℕ) → insert_entry bytes_eq (counted found) k (times k found + 1) ≡ counted (found ++ k ∷ [])
-counted-push found k =
-    let g : List ℕ → ℕ = λ w. times w (found ++ k ∷ []) in
-    let here : times k found + 1 ≡ g k = sym (times-push k found k ∙ ap (λ b. times k found + cond b 1 0) (itself k)) in
-    let others : (q : List ℕ) → bytes_eq k q ≡ false → g q ≡ times q found = λ q e. times-push q found k ∙ ap (λ b. times q found + cond b 1 0) (flipped q k ∙ e) ∙ omega arith in
-    ap (insert_entry bytes_eq (counted found) k) here
-    ∙ insert-table (λ w. times w found) g k others (distinct found) (IsDistinct-distinct found)
-    ∙ ap (table g) (sym (fold_push entered [] found k))
+pub times-absent : (q : List ℕ) (found : List (List ℕ)) → list_any (bytes_eq q) found ≡ false → times q found ≡ 0
+times-absent q found h = omega (arith, ltb-false 0 (times q found) (sym (any-times q found) ∙ h))
+
+pub times-some : (q : List ℕ) (found : List (List ℕ)) → list_any (bytes_eq q) found ≡ true → 1 ≤ times q found
+times-some q found h = omega (arith, ltb-true 0 (times q found) (sym (any-times q found) ∙ h))
+
+-- the counts of one key more
+pub counted-bump : (found : List (List ℕ)) (k : List ℕ) → bump bytes_eq (counted found) k ≡ counted (found ++ k ∷ [])
+counted-bump found k =
+    let one : times k (found ++ k ∷ []) ≡ times k found + 1 = times-push k found k ∙ ap (λ b. times k found + cond b 1 0) (itself k) in
+    let others : (q : List ℕ) → bytes_eq k q ≡ false → times q (found ++ k ∷ []) ≡ times q found = λ q e. times-push q found k ∙ ap (λ b. times q found + cond b 1 0) (flipped q k ∙ e) ∙ omega arith in
+    bump-table (λ w. times w found) (λ w. times w (found ++ k ∷ [])) k one others (distinct found) (λ e. times-absent k found (sym (member-with_all k [] found) ∙ e)) (IsDistinct-distinct found)
+    ∙ ap (table (λ w. times w (found ++ k ∷ []))) (sym (fold_push entered [] found k))
 
 -- what the table says of a word: its count, where it occurs
 pub lookup-counted : (q : List ℕ) (found : List (List ℕ)) → lookup (bytes_eq q) (counted found) ≡ (if list_any (bytes_eq q) found then Some (times q found) else None)
 lookup-counted q found = lookup-table (λ w. times w found) q (distinct found) ∙ ap (λ b. if b then Some (times q found) else None) (member-with_all q [] found)
 
--- so a word's count is at most the number of occurrences of all
-pub lookup-counted-le : (q : List ℕ) (found : List (List ℕ)) (n : ℕ) → lookup (bytes_eq q) (counted found) ≡ Some n → n ≤ length found
-lookup-counted-le q found n h = by (list_any (bytes_eq q) found) (sym (lookup-counted q found) ∙ h)
-  where
-    by : (b : Bool) → (if b then Some (times q found) else None) ≡ Some n → n ≤ length found
-    by true e = let t : times q found ≡ n = cc in omega (arith, t, count_by-le-length (bytes_eq q) found)
-    by false e = absurd cc
+-- a count of words among occurrences is at most the number of these
+pub table-le : (found words : List (List ℕ)) (q : List ℕ) (n : ℕ) → lookup (bytes_eq q) (table (λ w. times w found) words) ≡ Some n → n ≤ length found
+table-le found words q n h =
+    let (_, t) = cond_some _ _ _ (sym (lookup-table (λ w. times w found) q words) ∙ h) in
+    omega (arith, t, count_by-le-length (bytes_eq q) found)
 
--- and it is none where the table lacks the word
-pub lookup-counted-none : (q : List ℕ) (found : List (List ℕ)) → lookup (bytes_eq q) (counted found) ≡ None → times q found ≡ 0
-lookup-counted-none q found h = by (list_any (bytes_eq q) found) refl (sym (lookup-counted q found) ∙ h)
+-- a run adds its key, if it is a term
+pub keys_of-push : (done : List (List ℕ)) (run : List ℕ) (k : Option (List ℕ)) → term_of run ≡ k → keys_of (done ++ run ∷ []) ≡ keys_of done ++ option_to_list k
+keys_of-push done run k e =
+    ap (filter is_key) (map-append key done (run ∷ []))
+    ∙ filter-append is_key (map key done) (key run ∷ [])
+    ∙ ap (λ l. keys_of done ++ l) (by (is_key (key run)) ∙ ap option_to_list e)
   where
-    by : (b : Bool) → list_any (bytes_eq q) found ≡ b → (if b then Some (times q found) else None) ≡ None → times q found ≡ 0
-    by true i e = absurd cc
-    by false i e = times-absent q found i
-
-pub lookup-counted-some : (q : List ℕ) (found : List (List ℕ)) (n : ℕ) → lookup (bytes_eq q) (counted found) ≡ Some n → times q found ≡ n
-lookup-counted-some q found n h = by (list_any (bytes_eq q) found) (sym (lookup-counted q found) ∙ h)
-  where
-    by : (b : Bool) → (if b then Some (times q found) else None) ≡ Some n → times q found ≡ n
-    by true e = cc
-    by false e = absurd cc
-
--- a run that ends adds its key, if it is a term
-pub keys_of-closed : (done : List (List ℕ)) (run : List ℕ) (k : Option (List ℕ)) → k ≡ term_of run → keys_of (done ++ closed run) ≡ keys_of done ++ option_to_list k
-unfolding caseless
-keys_of-closed done [] k e = ap keys_of (append-nil done) ∙ sym (ap (λ o. keys_of done ++ option_to_list o) e ∙ append-nil (keys_of done))
-keys_of-closed done (c ∷ run) k e =
-    ap (filter is_key) (map-append key done ((c ∷ run) ∷ []))
-    ∙ filter-append is_key (map key done) (key (c ∷ run) ∷ [])
-    ∙ ap (λ l. keys_of done ++ l) (by (is_key (key (c ∷ run))) ∙ sym (ap option_to_list e))
-  where
-    by : (b : Bool) → cond b (key (c ∷ run) ∷ []) [] ≡ option_to_list (if b then Some (key (c ∷ run)) else None)
+    by : (b : Bool) → cond b (key run ∷ []) [] ≡ option_to_list (if b then Some (key run) else None)
     by true = refl
     by false = refl
 
@@ -171,20 +162,3 @@ bump-new eq (e ∷ es) x h = by (eq x e.0) h (bump-new eq es x)
         → (if b then (e.0, 1) ∷ es else e ∷ insert_entry eq es x 1) ≡ (if b then (e.0, e.1 + 1) ∷ es else e ∷ bump eq es x)
     by true i rest = absurd cc
     by false i rest = ap (λ l. e ∷ l) (rest i)
-
-insert_known : {X : Type 0} (eq : X → X → Bool) (es : List (X × ℕ)) (x : X) (c : ℕ) → lookup (eq x) es ≡ Some c → insert_entry eq es x (c + 1) ≡ bump eq es x
-insert_known eq [] x c h = absurd cc
-insert_known eq (e ∷ es) x c h = by (eq x e.0) h (insert_known eq es x c)
-  where
-    by : (b : Bool) → cond b (Some e.1) (lookup (eq x) es) ≡ Some c → (lookup (eq x) es ≡ Some c → insert_entry eq es x (c + 1) ≡ bump eq es x)
-        → (if b then (e.0, c + 1) ∷ es else e ∷ insert_entry eq es x (c + 1)) ≡ (if b then (e.0, e.1 + 1) ∷ es else e ∷ bump eq es x)
-    by true i rest = let n : e.1 ≡ c = cc in ap (λ m. (e.0, m + 1) ∷ es) (sym n)
-    by false i rest = ap (λ l. e ∷ l) (rest i)
-
--- the counts of one key more
-pub counted-bump : (found : List (List ℕ)) (k : List ℕ) → bump bytes_eq (counted found) k ≡ counted (found ++ k ∷ [])
-counted-bump found k = by (lookup (bytes_eq k) (counted found)) refl
-  where
-    by : (o : Option ℕ) → lookup (bytes_eq k) (counted found) ≡ o → bump bytes_eq (counted found) k ≡ counted (found ++ k ∷ [])
-    by None e = sym (bump-new bytes_eq (counted found) k e) ∙ ap (insert_entry bytes_eq (counted found) k) (let t = lookup-counted-none k found e in omega (arith, t)) ∙ counted-push found k
-    by (Some c) e = sym (insert_known bytes_eq (counted found) k c e) ∙ ap (λ n. insert_entry bytes_eq (counted found) k (n + 1)) (sym (lookup-counted-some k found c e)) ∙ counted-push found k

@@ -1,7 +1,9 @@
 -- Which words of a text are new to a vocabulary, and where they stand in it then.
-use Rattle.std.proofs.Common.{◌≡◌, ℕ, Bool, true, false, cond, not, ◌||◌, List, [], ◌∷◌, ◌++◌, map, filter, refl, sym, ap, ◌∙◌, if◌then◌else◌, append-nil}
+use Rattle.std.proofs.Common.{◌≡◌, ℕ, Bool, true, false, cond, not, List, [], ◌∷◌, ◌++◌, map, filter, refl, sym, ap, ◌∙◌, if◌then◌else◌, append-nil}
+use Rattle.std.proofs.lemmas.Bool.{cond-true, cond-false, or_right}
 use Rattle.std.proofs.lemmas.List.Elements.{filter-append}
 use Rattle.std.proofs.lemmas.List.Sums.{fold_push}
+use Rattle.std.proofs.lemmas.Map.Views.{any-filter_same}
 use Rattle.std.specs.List.{list_any}
 use Rattle.std.specs.Str.{bytes_eq}
 use Rattle.fold_tokens.specs.Terms.{times}
@@ -21,7 +23,7 @@ fresh-table f words (k ∷ found) = by (list_any (bytes_eq k) words) (fresh-tabl
     by true h = h
     by false h = ap (λ l. (k, f k) ∷ l) h
 
-keys-table : (f : List ℕ → ℕ) (words : List (List ℕ)) → map (λ p. p.0) (table f words) ≡ words
+pub keys-table : (f : List ℕ → ℕ) (words : List (List ℕ)) → map (λ p. p.0) (table f words) ≡ words
 keys-table f [] = refl
 keys-table f (w ∷ words) = ap (λ l. w ∷ l) (keys-table f words)
 
@@ -44,12 +46,8 @@ skip-known words rest (k ∷ found) = by (list_any (bytes_eq k) words) refl (λ 
 with_all-entered : (words seen : List (List ℕ)) (k : List ℕ) → with_all words (entered seen k) ≡ entered (with_all words seen) k
 with_all-entered words seen k = by (list_any (bytes_eq k) seen) refl
   where
-    or_true : (b c : Bool) → c ≡ true → (b || c) ≡ true
-    or_true true c e = refl
-    or_true false c e = e
-
     by : (b : Bool) → list_any (bytes_eq k) seen ≡ b → with_all words (if b then seen else seen ++ k ∷ []) ≡ entered (with_all words seen) k
-    by true e = sym (ap (λ b. if b then with_all words seen else with_all words seen ++ k ∷ []) (member-with_all k words seen ∙ or_true _ _ e))
+    by true e = sym (ap (λ b. if b then with_all words seen else with_all words seen ++ k ∷ []) (member-with_all k words seen ∙ or_right _ _ e))
     by false e = fold_push entered words seen k
 
 with_all-with_all : (words seen found : List (List ℕ)) → with_all words (with_all seen found) ≡ with_all (with_all words seen) found
@@ -64,34 +62,22 @@ with_all-new words found =
     ∙ ap (λ l. with_all l (distinct found)) (append-nil words)
     ∙ with_all-with_all words [] found
 
--- a word that is none of the words is new where it stands
-member-new : (words : List (List ℕ)) (k : List ℕ) → list_any (bytes_eq k) words ≡ false → (seen : List (List ℕ)) → list_any (bytes_eq k) (new_in words seen) ≡ list_any (bytes_eq k) seen
-member-new words k h [] = refl
-member-new words k h (s ∷ seen) = by (list_any (bytes_eq s) words) refl (bytes_eq k s) refl (member-new words k h seen)
+-- of words with one more behind them those that pass a test
+filter-entered : (p : List ℕ → Bool) (seen : List (List ℕ)) (k : List ℕ) → filter p (entered seen k) ≡ cond (p k) (entered (filter p seen) k) (filter p seen)
+filter-entered p seen k = by (p k) refl (list_any (bytes_eq k) seen) refl
   where
-    by : (b : Bool) → list_any (bytes_eq s) words ≡ b → (c : Bool) → bytes_eq k s ≡ c → list_any (bytes_eq k) (new_in words seen) ≡ list_any (bytes_eq k) seen
-        → list_any (bytes_eq k) (cond (not b) (s ∷ new_in words seen) (new_in words seen)) ≡ (c || list_any (bytes_eq k) seen)
-    by true e true i rest = let f : false ≡ true = sym h ∙ ap (λ w. list_any (bytes_eq w) words) (same k s i) ∙ e in absurd cc
-    by true e false i rest = rest
-    by false e c i rest = ap (λ b. b || list_any (bytes_eq k) (new_in words seen)) i ∙ ap (λ b. c || b) rest
-
-new_in-push : (words seen : List (List ℕ)) (k : List ℕ) (b : Bool) → list_any (bytes_eq k) words ≡ b → new_in words (seen ++ k ∷ []) ≡ new_in words seen ++ cond (not b) (k ∷ []) []
-new_in-push words seen k b e = filter-append (λ w. not (list_any (bytes_eq w) words)) seen (k ∷ []) ∙ ap (λ b. new_in words seen ++ cond (not b) (k ∷ []) []) e
+    by : (b : Bool) → p k ≡ b → (d : Bool) → list_any (bytes_eq k) seen ≡ d → filter p (if d then seen else seen ++ k ∷ []) ≡ cond b (entered (filter p seen) k) (filter p seen)
+    by true e true f = sym (cond-true _ _ _ (any-filter_same (bytes_eq k) p true (λ w g. ap p (sym (same k w g)) ∙ e) seen ∙ f))
+    by true e false f = filter-append p seen (k ∷ []) ∙ ap (λ b. filter p seen ++ cond b (k ∷ []) []) e ∙ sym (cond-false _ _ _ (any-filter_same (bytes_eq k) p true (λ w g. ap p (sym (same k w g)) ∙ e) seen ∙ f))
+    by false e true f = refl
+    by false e false f = filter-append p seen (k ∷ []) ∙ ap (λ b. filter p seen ++ cond b (k ∷ []) []) e ∙ append-nil (filter p seen)
 
 entered-new : (words seen : List (List ℕ)) (k : List ℕ) → entered (words ++ new_in words seen) k ≡ words ++ new_in words (entered seen k)
 entered-new words seen k = by (list_any (bytes_eq k) words) refl
   where
-    known : (d : Bool) → list_any (bytes_eq k) words ≡ true → new_in words seen ≡ new_in words (if d then seen else seen ++ k ∷ [])
-    known true e = refl
-    known false e = sym (new_in-push words seen k true e ∙ append-nil (new_in words seen))
-
-    fresh : (d : Bool) → list_any (bytes_eq k) words ≡ false → (if d then new_in words seen else new_in words seen ++ k ∷ []) ≡ new_in words (if d then seen else seen ++ k ∷ [])
-    fresh true e = refl
-    fresh false e = sym (new_in-push words seen k false e)
-
     by : (b : Bool) → list_any (bytes_eq k) words ≡ b → entered (words ++ new_in words seen) k ≡ words ++ new_in words (entered seen k)
-    by true e = entered-known words (new_in words seen) k e ∙ ap (λ l. words ++ l) (known (list_any (bytes_eq k) seen) e)
-    by false e = entered-fresh words (new_in words seen) k e ∙ ap (λ l. words ++ l) (ap (λ b. if b then new_in words seen else new_in words seen ++ k ∷ []) (member-new words k e seen) ∙ fresh (list_any (bytes_eq k) seen) e)
+    by true e = entered-known words (new_in words seen) k e ∙ ap (λ l. words ++ l) (sym (filter-entered (λ w. not (list_any (bytes_eq w) words)) seen k ∙ cond-false _ _ _ (ap not e)))
+    by false e = entered-fresh words (new_in words seen) k e ∙ ap (λ l. words ++ l) (sym (filter-entered (λ w. not (list_any (bytes_eq w) words)) seen k ∙ cond-true _ _ _ (ap not e)))
 
 behind_from : (words seen found : List (List ℕ)) → with_all (words ++ new_in words seen) found ≡ words ++ new_in words (with_all seen found)
 behind_from words seen [] = refl

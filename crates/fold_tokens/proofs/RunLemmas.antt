@@ -1,24 +1,9 @@
 -- Runs, as they come of a text character by character.
-use Rattle.std.proofs.Common.{◌≡◌, ℕ, ◌+◌, ◌*◌, ◌≤◌, Bool, true, false, List, [], ◌∷◌, ◌++◌, length, chars, refl, sym, ap, ◌∙◌, arith, append_assoc, append-nil, length-append, if◌then◌else◌}
-use Rattle.std.proofs.Common.{encode_utf8, encode_utf8_all, IsUtf8, ◌<◌, ◌&&◌}
-use Rattle.std.proofs.lemmas.Str.{chars-nil, chars_from_encodes, encodes-chars, encodes-append}
+use Rattle.std.proofs.Common.{◌≡◌, ℕ, zero, suc, ◌+◌, ◌-◌, ◌*◌, ◌<◌, ◌≤◌, Bool, true, false, ◌&&◌, List, [], ◌∷◌, ◌++◌, length, encode_utf8_all, IsUtf8, refl, sym, ap, ◌∙◌, arith, append_assoc, append-nil, length-append, if◌then◌else◌}
+use Rattle.std.proofs.lemmas.Str.{encodes-chars}
 use Rattle.std.specs.List.{list_all}
+use Rattle.std.specs.Str.{chars, chars_after, continuation_len, lead_bits}
 use Rattle.fold_tokens.specs.Terms.{is_term, closed, runs_from, runs}
-
--- of the characters so far: the runs done, and the one begun, make the runs of the whole with what follows
-pub record AreRead (whole yielded run : List ℕ) (done : List (List ℕ)) : Type 0 where
-  pub rest : (cs : List ℕ) → yielded ++ cs ≡ whole → done ++ runs_from run cs ≡ runs whole
-  pub short : 2 * length done + length run ≤ length yielded
-
-short_closed : (run : List ℕ) (done : List (List ℕ)) (n : ℕ) → 2 * length done + length run ≤ n → 2 * length (done ++ closed run) + 0 ≤ n + 1
-short_closed [] done n h = omega (arith, length-append done [])
-short_closed (c ∷ run) done n h = omega (arith, length-append done ((c ∷ run) ∷ []))
-
--- a buffer's characters with one more
-pub chars-push : (bs ds : List ℕ) (c : ℕ) → IsUtf8 bs → IsUtf8 ds → ds ≡ bs ++ encode_utf8 c → chars ds ≡ chars bs ++ c ∷ []
-chars-push bs ds c text new e =
-    sym (chars_from_encodes (chars bs ++ c ∷ []) ds new
-    (encodes-append (chars bs) (c ∷ []) ∙ ap (λ l. l ++ (encode_utf8 c ++ [])) (encodes-chars bs text) ∙ ap (λ l. bs ++ l) (append-nil (encode_utf8 c)) ∙ sym e))
 
 closed_full : (bs cs : List ℕ) → encode_utf8_all cs ≡ bs → 0 < length bs → closed cs ≡ cs ∷ []
 closed_full bs [] e some = absurd (omega (arith, some, ap length e))
@@ -53,3 +38,39 @@ runs_from-parted begun (d ∷ before) after c h = by (is_term d) (runs_from-part
 
 pub runs-parted : (before after : List ℕ) (c : ℕ) → is_term c ≡ false → runs (before ++ c ∷ after) ≡ runs before ++ runs after
 runs-parted = runs_from-parted []
+
+-- there are no more runs than characters
+length-closed : (run : List ℕ) → length (closed run) ≤ length run
+length-closed [] = omega arith
+length-closed (c ∷ run) = omega arith
+
+length-runs : (run cs : List ℕ) → length (runs_from run cs) ≤ length run + length cs
+length-runs run [] = omega (arith, length-closed run)
+length-runs run (c ∷ cs) = by (is_term c) (length-runs (run ++ c ∷ []) cs) (length-runs [] cs)
+  where
+    by : (b : Bool) → length (runs_from (run ++ c ∷ []) cs) ≤ length (run ++ c ∷ []) + length cs → length (runs_from [] cs) ≤ 0 + length cs
+        → length (if b then runs_from (run ++ c ∷ []) cs else closed run ++ runs_from [] cs) ≤ length run + (length (c ∷ cs))
+    by true x y = omega (arith, x, length-append run (c ∷ []))
+    by false x y = omega (arith, y, length-append (closed run) (runs_from [] cs), length-closed run)
+
+-- and no more characters than bytes, whatever the bytes are
+length-after : (n c : ℕ) (bs : List ℕ) → length (chars_after n c bs) ≤ length bs + 1
+length-after zero c [] = omega arith
+length-after zero c (b ∷ bs) = omega (arith, length-after (continuation_len b) (lead_bits b) bs)
+length-after (suc n) c [] = omega arith
+length-after (suc n) c (b ∷ bs) = omega (arith, length-after n (c * 64 + (b - 128)) bs)
+
+length-any-chars : (bs : List ℕ) → length (chars bs) ≤ length bs
+unfolding chars
+length-any-chars [] = omega arith
+length-any-chars (b ∷ bs) = omega (arith, length-after (continuation_len b) (lead_bits b) bs)
+
+pub length-text_runs : (text : List ℕ) → length (runs (chars text)) ≤ length text
+length-text_runs text = omega (arith, length-runs [] (chars text), length-any-chars text)
+
+-- of a text the runs so far and those that are left: the next one goes on with them, and there is room to count it
+pub taken : (text : List ℕ) (done old left : List (List ℕ)) (run : List ℕ) → done ++ old ≡ runs (chars text) → old ≡ run ∷ left → (length done + 1 ≤ length text) × ((done ++ run ∷ []) ++ left ≡ runs (chars text))
+taken text done old left run h e = (
+  omega (arith, ap length h, ap length e, length-append done old, length-text_runs text),
+  append_assoc done (run ∷ []) left ∙ ap (λ l. done ++ l) (sym e) ∙ h,
+)

@@ -1,12 +1,11 @@
 //! The terms of a text with their counts.
-ghost use Rattle.std.specs.Prelude.{◌≡◌, ◌+◌, ◌<◌, ◌^◌, ◌++◌, ℕ, List, length, chars, Some, IfOk, OnOk};
+ghost use Rattle.std.specs.Prelude.{◌≡◌, ◌+◌, ◌<◌, ◌^◌, [], ◌∷◌, ◌++◌, ℕ, List, length, chars, Some, IfOk, OnOk};
 ghost use Rattle.std.specs.Str.{bytes_eq};
 ghost use Rattle.indexmap.specs.IndexMap.{get};
-ghost use Rattle.fold_tokens.specs.Terms.{closed, keys, keys_of};
+ghost use Rattle.fold_tokens.specs.Terms.{keys, keys_of};
 ghost use Rattle.fold_tokens.specs.Words.{bump, counted};
 
-use crate::cuts::first_run;
-use crate::runs::key_of;
+use crate::runs::{Runs, key_of};
 use indexmap::IndexMap;
 use std::alloc::{AllocError, Global};
 use time_base::Key;
@@ -39,7 +38,7 @@ fn count_run(
 ) -> Result<(), AllocError>
     requires { (key : List ℕ) (n : ℕ) → get bytes_eq counts.old key ≡ Some n → n + 1 < 2 ^ 32 }
     ensures { OnOk result ((done : List (List ℕ)) → counts.old.entries ≡ counted (keys_of done)
-        → counts.new.entries ≡ counted (keys_of (done ++ closed (chars run.now)))) }
+        → counts.new.entries ≡ counted (keys_of (done ++ chars run.now ∷ []))) }
 {
     match key_of(alloc, spare, run)? {
         Some(key) => count(counts, spare, key),
@@ -56,11 +55,9 @@ pub fn terms(alloc: Global, text: &str) -> Result<Vec<(Key, u32)>, AllocError>
 {
     let mut counts = IndexMap::new(alloc);
     let mut spare = String::new(alloc);
-    let mut rest = text;
-    while !rest.is_empty() {
-        let (run, after) = first_run(rest);
+    let mut runs = Runs::of(text);
+    while let Some(run) = runs.next() {
         count_run(alloc, &mut counts, &mut spare, run)?;
-        rest = after;
     }
     counts.into_iter().collect(alloc)
 }

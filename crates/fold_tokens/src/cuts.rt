@@ -1,5 +1,5 @@
 //! The first run of a text, as a slice of it.
-ghost use Rattle.std.specs.Prelude.{◌≡◌, ◌+◌, ◌<◌, ◌≤◌, true, false, length, take, slice_index, chars, encode_utf8, ◌++◌, [], IfSome, IfNone};
+ghost use Rattle.std.specs.Prelude.{◌≡◌, ◌+◌, ◌<◌, ◌≤◌, true, false, length, take, slice_index, chars, ◌++◌, [], ◌∷◌, IfSome, IfNone};
 ghost use Rattle.std.specs.List.{list_all};
 ghost use Rattle.fold_tokens.specs.Terms.{is_term, is_ascii_term, is_ascii_gap, closed, runs};
 
@@ -46,16 +46,14 @@ fn ascii_len(bytes: &[u8]) -> usize
     bytes.len()
 }
 
-/// The first character of a text, and what follows it; None where the text is empty.
-fn first_char(text: &str) -> Option<(char, &str)>
-    ensures some { IfSome result (λ p. text.now ≡ encode_utf8 p.0 ++ p.1.now) }
-    ensures none { IfNone result (length text.now ≡ 0) }
+/// The text behind the bytes in front that are of ASCII and part of no run.
+fn behind_gap(text: &str) -> &str
+    ensures runs { runs (chars text.now) ≡ runs (chars result.now) }
+    ensures shorter { length result.now ≤ length text.now }
 {
-    let mut rest = text.chars();
-    match rest.next() {
-        Some(c) => Some((c, rest.as_str())),
-        None => None,
-    }
+    let start = gap_len(text.as_bytes());
+    let (_, rest) = text.split_at(start);
+    rest
 }
 
 /// The run with which the text begins, if it does, and what follows the character that ends it.
@@ -63,29 +61,23 @@ fn first_wide(text: &str) -> (&str, &str)
     ensures runs { runs (chars text.now) ≡ closed (chars result.0.now) ++ runs (chars result.1.now) }
     ensures shorter { 0 < length text.now → length result.1.now < length text.now }
 {
-    let mut after = text;
-    while let Some((c, next)) = first_char(after) {
-        if !is_term_char(c) {
-            let (run, _) = text.split_at(text.len() - after.len());
-            return (run, next);
-        }
-        after = next;
+    match text.split_once(|c: char| !is_term_char(c)) {
+        Some(parts) => parts,
+        None => (text, ""),
     }
-    (text, after)
 }
 
 /// The first run of a text, which is empty where the text has none or where one was asked for at a
 /// character that is part of none, and the text behind it, in which the text's other runs are. Each
 /// byte is read once, or twice where a run has characters beyond ASCII; nothing is copied.
-pub(crate) fn first_run(text: &str) -> (&str, &str)
+fn first_run(text: &str) -> (&str, &str)
     ensures runs { runs (chars text.now) ≡ closed (chars result.0.now) ++ runs (chars result.1.now) }
     ensures shorter { 0 < length text.now → length result.1.now < length text.now }
 {
-    let start = gap_len(text.as_bytes());
-    let (_, text) = text.split_at(start);
+    let text = behind_gap(text);
     let end = ascii_len(text.as_bytes());
     if end == text.len() {
-        return text.split_at(end);
+        return (text, "");
     }
     if !text.as_bytes()[end].is_ascii() {
         return first_wide(text);
@@ -93,18 +85,18 @@ pub(crate) fn first_run(text: &str) -> (&str, &str)
     (&text[..end], &text[end + 1..])
 }
 
-/// The text's next run and the text behind it; an empty run where there is none.
-pub(crate) fn next_run(text: &str) -> (&str, &str)
-    ensures runs { runs (chars text.now) ≡ closed (chars result.0.now) ++ runs (chars result.1.now) }
-    ensures last { length result.0.now ≡ 0 → runs (chars text.now) ≡ [] }
+/// The text's next run and the text behind it; None where there is none.
+pub(crate) fn next_run(text: &str) -> Option<(&str, &str)>
+    ensures some { IfSome result (λ p. runs (chars text.now) ≡ chars p.0.now ∷ runs (chars p.1.now)) }
+    ensures none { IfNone result (runs (chars text.now) ≡ []) }
 {
     let mut rest = text;
     while !rest.is_empty() {
         let (run, after) = first_run(rest);
         if !run.is_empty() {
-            return (run, after);
+            return Some((run, after));
         }
         rest = after;
     }
-    (rest, rest)
+    None
 }

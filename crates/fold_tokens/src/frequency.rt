@@ -1,23 +1,22 @@
 //! How often one word occurs in a text.
-ghost use Rattle.std.specs.Prelude.{◌≡◌, ◌<◌, ◌^◌, length, chars, if◌then◌else◌, IfOk};
-ghost use Rattle.fold_tokens.specs.Terms.{closed, keys_of, times, occurrences};
+ghost use Rattle.std.specs.Prelude.{◌≡◌, ◌<◌, ◌^◌, [], ◌∷◌, length, chars, IfOk};
+ghost use Rattle.fold_tokens.specs.Terms.{keys_of, times, occurrences};
 
-use crate::cuts::first_run;
-use crate::runs::key_of;
+use crate::runs::{Runs, key_of};
 use std::alloc::{AllocError, Global};
 use time_base::Key;
 
-/// Whether a run is the word.
-fn is_word(alloc: Global, word: &Key, spare: &mut String, run: &str) -> Result<bool, AllocError>
-    ensures { IfOk result (λ is. times word.now (keys_of (closed (chars run.now))) ≡ (if is then 1 else 0)) }
+/// How often the word occurs in a run, which is once or not at all.
+fn times_in(alloc: Global, word: &Key, spare: &mut String, run: &str) -> Result<u32, AllocError>
+    ensures { IfOk result (λ n. n ≡ times word.now (keys_of (chars run.now ∷ []))) }
 {
     match key_of(alloc, spare, run)? {
         Some(key) => {
             let is = *word == key;
             *spare = key.into_text();
-            Ok(is)
+            Ok(u32::from(is))
         }
-        None => Ok(false),
+        None => Ok(0),
     }
 }
 
@@ -29,11 +28,9 @@ pub fn occurrences(alloc: Global, word: &Key, text: &str) -> Result<u32, AllocEr
 {
     let mut count = 0;
     let mut spare = String::new(alloc);
-    let mut rest = text;
-    while !rest.is_empty() {
-        let (run, after) = first_run(rest);
-        count += u32::from(is_word(alloc, word, &mut spare, run)?);
-        rest = after;
+    let mut runs = Runs::of(text);
+    while let Some(run) = runs.next() {
+        count += times_in(alloc, word, &mut spare, run)?;
     }
     Ok(count)
 }

@@ -1,15 +1,14 @@
 //! The words of a text by number, with their counts.
-ghost use Rattle.std.specs.Prelude.{◌≡◌, ◌+◌, ◌<◌, ◌≤◌, ◌^◌, ◌++◌, ℕ, List, length, chars, slice_index_or, nat_eq, Some, IfOk, OnOk};
+ghost use Rattle.std.specs.Prelude.{◌≡◌, ◌+◌, ◌<◌, ◌≤◌, ◌^◌, [], ◌∷◌, ◌++◌, ℕ, List, length, chars, slice_index_or, nat_eq, Some, IfOk, OnOk};
 ghost use Rattle.std.specs.Str.{bytes_eq};
 ghost use Rattle.indexmap.specs.IndexMap.{get};
-ghost use Rattle.fold_tokens.specs.Terms.{closed, keys, keys_of};
+ghost use Rattle.fold_tokens.specs.Terms.{keys, keys_of};
 ghost use Rattle.fold_tokens.specs.Words.{bump, counted, known_of, fresh_of, ArePlaced};
-ghost use Rattle.fold_tokens.specs.Weighing.{IsTallied};
+ghost use Rattle.fold_tokens.specs.Weighing.{IsWordOf, IsTallied};
 
 use crate::counts::count;
-use crate::cuts::first_run;
 use crate::guesses::Guesses;
-use crate::runs::key_of;
+use crate::runs::{Runs, key_of};
 use crate::vocabulary::Vocabulary;
 use indexmap::IndexMap;
 use std::alloc::{AllocError, Global};
@@ -49,6 +48,17 @@ pub(crate) struct Tally {
     pub(crate) spare: String,
 }
 
+/// What a run is to a vocabulary.
+#[derive(Drop)]
+enum Word {
+    /// The word of that number.
+    Known(u32),
+    /// A word without a number.
+    Fresh(Key),
+    /// No word.
+    Missing,
+}
+
 /// Counts one more occurrence of the word of that number.
 fn count_known(
     places: &mut [u32],
@@ -72,32 +82,29 @@ fn count_known(
     Ok(())
 }
 
-/// Counts a run by its key, if it is a term. The number that is found is the next guess for it.
-fn weigh_key(
+/// The word of a run, by a guess or by its key. The number that is found by the key is the next
+/// guess for the run.
+fn word_of(
     alloc: Global,
     vocabulary: &Vocabulary,
-    places: &mut [u32],
     guesses: &mut Guesses,
-    tally: &mut Tally,
+    spare: &mut String,
     run: &str,
-) -> Result<(), AllocError>
-    requires numbered { length vocabulary.now.words ≤ length places.old }
-    requires some { (done : List (List ℕ)) × IsTallied vocabulary.now.words places.old tally.old done × (length done + 1 < 2 ^ 32) }
-    ensures { OnOk result ((done : List (List ℕ)) → IsTallied vocabulary.now.words places.old tally.old done
-        → IsTallied vocabulary.now.words places.new tally.new (done ++ closed (chars run.now))) }
+) -> Result<Word, AllocError>
+    ensures { IfOk result (λ word. IsWordOf vocabulary.now.words (chars run.now) word) }
 {
-    let Some(key) = key_of(alloc, &mut tally.spare, run)? else {
-        return Ok(());
-    };
-    match vocabulary.find(&key) {
-        Some(id) => {
-            guesses.put(run, id.number());
-            count_known(places, &mut tally.known, id.number())?;
-            tally.spare = key.into_text();
-            Ok(())
-        }
-        None => count(&mut tally.fresh, &mut tally.spare, key),
+    if let Some(number) = guesses.find(vocabulary, run) {
+        return Ok(Word::Known(number));
     }
+    let Some(key) = key_of(alloc, spare, run)? else {
+        return Ok(Word::Missing);
+    };
+    let Some(id) = vocabulary.find(&key) else {
+        return Ok(Word::Fresh(key));
+    };
+    guesses.put(run, id.number());
+    *spare = key.into_text();
+    Ok(Word::Known(id.number()))
 }
 
 /// Counts a run, if it is a term.
@@ -112,11 +119,16 @@ fn weigh_run(
     requires numbered { length vocabulary.now.words ≤ length places.old }
     requires some { (done : List (List ℕ)) × IsTallied vocabulary.now.words places.old tally.old done × (length done + 1 < 2 ^ 32) }
     ensures { OnOk result ((done : List (List ℕ)) → IsTallied vocabulary.now.words places.old tally.old done
-        → IsTallied vocabulary.now.words places.new tally.new (done ++ closed (chars run.now))) }
+        → IsTallied vocabulary.now.words places.new tally.new (done ++ chars run.now ∷ [])) }
 {
-    match guesses.find(vocabulary, run) {
-        Some(number) => count_known(places, &mut tally.known, number),
-        None => weigh_key(alloc, vocabulary, places, guesses, tally, run),
+    let word = word_of(alloc, vocabulary, guesses, &mut tally.spare, run)?;
+    match word {
+        Word::Known(number) => {
+            count_known(places, &mut tally.known, number)?;
+            Ok(())
+        }
+        Word::Fresh(key) => count(&mut tally.fresh, &mut tally.spare, key),
+        Word::Missing => Ok(()),
     }
 }
 
@@ -138,11 +150,9 @@ fn tally_of(
         fresh: IndexMap::new(alloc),
         spare: String::new(alloc),
     };
-    let mut rest = text;
-    while !rest.is_empty() {
-        let (run, after) = first_run(rest);
+    let mut runs = Runs::of(text);
+    while let Some(run) = runs.next() {
         weigh_run(alloc, vocabulary, places, guesses, &mut tally, run)?;
-        rest = after;
     }
     Ok(tally)
 }

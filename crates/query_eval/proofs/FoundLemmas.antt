@@ -24,7 +24,8 @@ use Rattle.query_eval.specs.Hits.{hit_of, hits_in, gathered, is_of, hits_of, fou
 use Rattle.query_eval.specs.declared.answer.Row.{Row}
 use Rattle.query_eval.specs.declared.hit.Hit.{Hit}
 use Rattle.query_eval.specs.declared.part.Part.{Part}
-use Rattle.query_eval.proofs.Ranks.{same-row, in-order, in_order, here, later, here-or-later, none}
+use Rattle.stretches.proofs.Elements.{here, later, here-or-later, none}
+use Rattle.query_eval.proofs.Ranks.{same-row, in-order, in_order}
 
 -- a place of a list by any default
 pub get-any : {X : Type 0} (xs : List X) (k : ℕ) (d e : X) → k < length xs → get_or xs k d ≡ get_or xs k e

@@ -10,7 +10,7 @@ use Rattle.query_eval.specs.Found.{told, HasHit}
 use Rattle.query_eval.specs.Hits.{hit_of, hits_in, gathered, is_of, hits_of, found, Tell}
 use Rattle.query_eval.specs.declared.hit.Hit.{Hit}
 use Rattle.query_eval.specs.declared.part.Part.{Part}
-use Rattle.query_eval.proofs.Ranks.{here, later, here-or-later, none}
+use Rattle.stretches.proofs.Elements.{here, later, here-or-later, none}
 
 -- a hit is of one of so many words, and counts something
 record Counts (count : ℕ) (h : Hit) : Type 0 where

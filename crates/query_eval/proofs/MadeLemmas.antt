@@ -11,7 +11,7 @@ use Rattle.query_eval.specs.Found.{row_of}
 use Rattle.query_eval.specs.Hits.{found, hits_of, AreMade}
 use Rattle.query_eval.specs.declared.answer.Row.{Row}
 use Rattle.query_eval.specs.declared.hit.Hit.{Hit}
-use Rattle.query_eval.proofs.Ranks.{here, here-or-later, none}
+use Rattle.stretches.proofs.Elements.{here, here-or-later, none}
 use Rattle.query_eval.proofs.FoundLemmas.{row-is}
 use Rattle.query_eval.proofs.HasHitLemmas.{of-from, document-in, document-from}
 

@@ -1,7 +1,8 @@
 -- The order of rows: which rows there are has one list in their order.
-use Rattle.std.specs.Prelude.{◌≡◌, ◌⊎◌, zero, suc, ◌↔◌, List, [], ◌∷◌, Contains, refl}
+use Rattle.std.specs.Prelude.{◌≡◌, ◌⊎◌, ◌↔◌, List, [], ◌∷◌, Contains}
 use Rattle.std.proofs.Common.{arith, ap, sym, ◌∙◌, subst, inl, inr}
 use Rattle.std.proofs.lemmas.Bool.{cases_lt}
+use Rattle.stretches.proofs.Elements.{here, later, here-or-later, one_order as one_list}
 use Rattle.postings.proofs.Order.{Heads, next-tail, next-cons, next-later}
 use Rattle.query_eval.specs.Answers.{RanksBefore, AreRanked}
 use Rattle.query_eval.specs.declared.answer.Row.{Row}
@@ -31,20 +32,6 @@ in-order a b = elim (cases_lt b.score a.score) [
     ]
   ]
 ]
-
--- elements of a list with one in front
-pub here : {X : Type 0} (x : X) (xs : List X) → Contains (x ∷ xs) x
-here x xs = (zero, omega arith, refl)
-
-pub later : {X : Type 0} (x y : X) (xs : List X) → Contains xs y → Contains (x ∷ xs) y
-later x y xs (k, l, e) = (suc k, omega (arith, l), e)
-
-pub here-or-later : {X : Type 0} (x y : X) (xs : List X) → Contains (x ∷ xs) y → (x ≡ y) ⊎ Contains xs y
-here-or-later x y xs (zero, l, e) = inl e
-here-or-later x y xs (suc k, l, e) = inr (k, omega (arith, l), e)
-
-pub none : {X : Type 0} (x : X) → Contains [] x → ⊥
-none x (k, l, e) = omega (arith, l)
 
 heads : (x : Row) (xs : List Row) → ((y : Row) → Contains xs y → RanksBefore x y) → Heads RanksBefore x xs
 heads x [] h = tt
@@ -95,23 +82,6 @@ in_order (x ∷ xs) =
       },
     )
 
-tails : (x y row : Row) (xs ys : List Row) → AreRanked (x ∷ xs) → x ≡ y → (Contains (x ∷ xs) row → Contains (y ∷ ys) row) → Contains xs row → Contains ys row
-tails x y row xs ys a e s c = elim (here-or-later y row ys (s (later x row xs c))) [
-  | inl i ↦ let b = next-later RanksBefore ranks-trans x row xs a c in let o = subst (λ w. RanksBefore x w) (sym i ∙ sym e) b in absurd (never-both x x o o)
-  | inr k ↦ k
-]
-
 -- and in one
 pub one_order : (xs ys : List Row) → AreRanked xs → AreRanked ys → ((row : Row) → (Contains xs row ↔ Contains ys row)) → xs ≡ ys
-one_order [] [] a b s = refl
-one_order [] (y ∷ ys) a b s = absurd (none y ((s y).1 (here y ys)))
-one_order (x ∷ xs) [] a b s = absurd (none x ((s x).0 (here x xs)))
-one_order (x ∷ xs) (y ∷ ys) a b s = go (here-or-later y x ys ((s x).0 (here x xs))) (here-or-later x y xs ((s y).1 (here y ys))) (λ t. one_order xs ys (next-tail RanksBefore x xs a) (next-tail RanksBefore y ys b) t)
-  where
-    joined : x ≡ y → (((row : Row) → (Contains xs row ↔ Contains ys row)) → xs ≡ ys) → x ∷ xs ≡ y ∷ ys
-    joined e rest = let t = rest (λ row. (tails x y row xs ys a e (s row).0, tails y x row ys xs b (sym e) (s row).1)) in cc
-
-    go : (y ≡ x) ⊎ Contains ys x → (x ≡ y) ⊎ Contains xs y → (((row : Row) → (Contains xs row ↔ Contains ys row)) → xs ≡ ys) → x ∷ xs ≡ y ∷ ys
-    go (inl e) d rest = joined (sym e) rest
-    go (inr c) (inl e) rest = joined e rest
-    go (inr c) (inr d) rest = absurd (never-both x y (next-later RanksBefore ranks-trans x y xs a d) (next-later RanksBefore ranks-trans y x ys b c))
+one_order = one_list RanksBefore ranks-trans never-both

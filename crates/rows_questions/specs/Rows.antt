@@ -26,7 +26,8 @@ use Rattle.query_eval.specs.Answers.{IsRow}
 use Rattle.query_eval.specs.Spans.{row_kind, scored_at}
 use Rattle.query_eval.specs.declared.answer.Row.{Row}
 use Rattle.query_eval.specs.declared.spans.SpanRow.{SpanRow}
-use Rattle.query_eval.proofs.Ranks.{same-row, here, here-or-later, none}
+use Rattle.stretches.proofs.Elements.{here, here-or-later, none}
+use Rattle.query_eval.proofs.Ranks.{same-row}
 use Rattle.query_lang.specs.Meaning.{matches, score}
 use Rattle.stretches.specs.Stretches.{IsLongest}
 use Rattle.archive_state.specs.Histories.{History, text_at}

@@ -1,33 +1,26 @@
-use Rattle.std.proofs.Common.{◌∙◌, sym, ap, arith}
-use Rattle.std.proofs.lemmas.Str.{IsUtf8-past_char}
-use Rattle.fold_tokens.specs.Terms.{closed, runs}
-use Rattle.std.proofs.Common.{chars, ◌++◌}
-use Rattle.fold_tokens.proofs.CutLemmas.{IsStretch-none, IsStretch-more, IsStretch-seam, IsStretch-run, IsStretch-end, IsStretch-short, char_shorter}
+use Rattle.std.proofs.Common.{IsUtf8, chars, not, arith, rules, tests, refl}
+use Rattle.std.proofs.lemmas.List.Sorted.{answers_always}
+use Rattle.std.proofs.lemmas.Str.{len_utf8_bounds}
+use Rattle.fold_tokens.specs.Terms.{is_term}
+use Rattle.fold_tokens.proofs.CutLemmas.{chars_inside, runs_whole, runs_split}
 use Rattle.fold_tokens.proofs.cuts.first_wide.Goals as goal
 
-pub loop-c-init : goal.loop-c-init
-loop-c-init c = (c.utf8.text, IsStretch-none c.args.text.now)
+pub returns-in-Some-clause-runs : goal.returns-in-Some-clause-runs
+returns-in-Some-clause-runs c =
+    let (i, j, finds, front, back, l, _, rest) = c.in-Some.ensures.cases in
+    let (inside, found) = finds (λ c. not (is_term c)) (answers_always _ _ _ (λ f a r g k. search (rules, tests))) in
+    let (b, stop, at) = found in
+    let u : IsUtf8 c.in-Some.parts.0.now = search rules in
+    runs_split c.args.text.now _ _ i j b c.utf8.text u (omega (arith, l, rest)) inside stop at front back
 
-pub split_at-requires : goal.split_at-requires
-split_at-requires c = IsStretch-seam c.args.text.now c.loop-c.after.now c.loop-c.invariant.0 c.loop-c.invariant.1
+pub returns-in-Some-clause-shorter : goal.returns-in-Some-clause-shorter
+returns-in-Some-clause-shorter c = λ some.
+    let (i, j, finds, front, back, l, _, rest) = c.in-Some.ensures.cases in
+    let (inside, found) = finds (λ c. not (is_term c)) (answers_always _ _ _ (λ f a r g k. search (rules, tests))) in
+    let (b, stop, at) = found in
+    omega (arith, rest, at.ends, (len_utf8_bounds b).0)
 
-pub returns-then-not-is_term_char-clause-runs : goal.returns-then-not-is_term_char-clause-runs
-returns-then-not-is_term_char-clause-runs c =
-    IsStretch-run c.args.text.now c.loop-c.after.now c.in-Some.next.now c.in-Some.c c.loop-c.invariant.0 c.in-Some.ensures.some (sym c.is_term_char.ensures ∙ c.if-not-is_term_char.true) c.loop-c.invariant.1
-    ∙ ap (λ l. closed (chars l) ++ runs (chars c.in-Some.next.now)) (sym c.split_at.ensures.front)
-
-pub returns-then-not-is_term_char-clause-shorter : goal.returns-then-not-is_term_char-clause-shorter
-returns-then-not-is_term_char-clause-shorter c = λ some.
-    omega (arith, char_shorter c.loop-c.after.now c.in-Some.next.now c.in-Some.c c.in-Some.ensures.some, IsStretch-short c.args.text.now c.loop-c.after.now c.loop-c.invariant.1)
-
-pub loop-c-smaller : goal.loop-c-smaller
-loop-c-smaller c = char_shorter c.loop-c.after.now c.in-Some.next.now c.in-Some.c c.in-Some.ensures.some
-
-pub loop-c-preserved : goal.loop-c-preserved
-loop-c-preserved c = (
-  IsUtf8-past_char c.loop-c.after.now c.in-Some.next.now c.in-Some.c c.loop-c.invariant.0 c.in-Some.ensures.some,
-  IsStretch-more c.args.text.now c.loop-c.after.now c.in-Some.next.now c.in-Some.c c.utf8.text c.loop-c.invariant.0 c.in-Some.ensures.some (sym c.is_term_char.ensures ∙ c.if-not-is_term_char.false) c.loop-c.invariant.1,
-)
-
-pub returns-clause-runs : goal.returns-clause-runs
-returns-clause-runs c = IsStretch-end c.args.text.now c.loop-c.after.now c.in_default.ensures.none c.loop-c.invariant.1
+pub returns-in-None-clause-runs : goal.returns-in-None-clause-runs
+returns-in-None-clause-runs c =
+    let none = c.in-None.ensures.cases (λ c. not (is_term c)) (answers_always _ _ _ (λ f a r g k. search (rules, tests))) in
+    runs_whole (chars c.args.text.now) _ (chars_inside c.args.text.now c.utf8.text none) refl

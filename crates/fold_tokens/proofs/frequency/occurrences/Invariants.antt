@@ -1,12 +1,9 @@
-use Rattle.std.proofs.Common.{◌≡◌, List, ℕ, length}
-use denote.Shadow.{shadow}
-use denote.Text.{Utf8}
-use Rattle.fold_tokens.specs.Terms.{keys_of, times}
-use Rattle.fold_tokens.proofs.CutLemmas.{AreCut}
+use Rattle.std.proofs.Common.{◌≡◌, ◌++◌, List, ℕ, chars, length}
+use Rattle.fold_tokens.specs.Terms.{runs, keys_of, times}
 use Rattle.fold_tokens.proofs.frequency.occurrences.Given as goal
 
-abbrev pub invariant-loop-rest : goal.invariant-loop-rest
-invariant-loop-rest l = shadow (Utf8 l.rest) × (done : List (List ℕ)) × AreCut l.text l.rest done × (l.count ≡ times l.word (keys_of done))
+abbrev pub invariant-loop-run : goal.invariant-loop-run
+invariant-loop-run l = (done : List (List ℕ)) × (done ++ l.runs ≡ runs (chars l.text)) × (l.count ≡ times l.word (keys_of done))
 
-abbrev pub decreases-loop-rest : goal.decreases-loop-rest
-decreases-loop-rest l = length l.rest
+abbrev pub decreases-loop-run : goal.decreases-loop-run
+decreases-loop-run l = length l.runs

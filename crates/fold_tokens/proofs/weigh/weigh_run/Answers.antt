@@ -1,30 +1,45 @@
-use Rattle.std.proofs.Common.{◌∙◌, ℕ, List, Result, Ok, Err, OnOk, nat_eq, sym, ap, chars}
-use Rattle.fold_tokens.specs.Words.{bump}
-use Rattle.fold_tokens.proofs.TallyLemmas.{few, small, known_after, fresh_after}
+use Rattle.std.proofs.Common.{◌∙◌, ℕ, List, nat_eq, sym, ap, subst, chars, arith}
+use Rattle.std.proofs.lemmas.Result.{on_ok_weaker}
+use Rattle.std.specs.Str.{bytes_eq}
+use Rattle.fold_tokens.specs.Terms.{keys_of}
+use Rattle.fold_tokens.specs.Words.{bump, counted, known_of, fresh_of}
+use Rattle.fold_tokens.specs.Weighing.{IsWordOf}
+use Rattle.fold_tokens.proofs.CountLemmas.{length-keys_of}
+use Rattle.fold_tokens.proofs.WordLemmas.{absent-none}
+use Rattle.fold_tokens.proofs.WeighLemmas.{known-skip, fresh-bump}
+use Rattle.fold_tokens.proofs.TallyLemmas.{after, room, fresh_small, known_after, fresh_after}
 use Rattle.fold_tokens.proofs.weigh.weigh_run.Goals as goal
 
-both_ok : {T E : Type 0} (r : Result T E) (P Q R : Type 0) → (P → Q → R) → OnOk r P → OnOk r Q → OnOk r R
-both_ok (Ok x) P Q R f p q = f p q
-both_ok (Err e) P Q R f p q = tt
-
 pub count_known-requires-clause-few : goal.count_known-requires-clause-few
-count_known-requires-clause-few c = few c.args.vocabulary.now.words c.requires.some.0 c.args.tally.now.known.items c.requires.some.1.known c.requires.some.2
+count_known-requires-clause-few c = let (done, h, short) = c.requires.some in (room c.args.vocabulary.now.words done c.args.tally.now.known.items h.known short).0
 
 pub count_known-requires-clause-small : goal.count_known-requires-clause-small
-count_known-requires-clause-small c = small c.args.vocabulary.now.words c.requires.some.0 c.args.tally.now.known.items c.requires.some.1.known c.requires.some.2
+count_known-requires-clause-small c = let (done, h, short) = c.requires.some in (room c.args.vocabulary.now.words done c.args.tally.now.known.items h.known short).1
 
-pub returns-in-Some : goal.returns-in-Some
-returns-in-Some c =
+pub count-requires : goal.count-requires
+count-requires c = λ n e.
+    let (done, h, short) = c.requires.some in
+    omega (arith, short, fresh_small c.args.vocabulary.now.words (keys_of done) c.in-Fresh.key n (rw h.fresh at e), length-keys_of done)
+
+pub returns-in_ok-count_known-in-Known : goal.returns-in_ok-count_known-in-Known
+returns-in_ok-count_known-in-Known c = λ done h.
     let words = c.args.vocabulary.now.words in
-    let run = chars c.args.run.now in
-    let n = c.in-Some.number in
-    let word = c.in-Some.ensures.0 in
-    let key = sym c.in-Some.ensures.1 in
-    let number = c.in-Some.ensures.2 in
-    both_ok c.count_known.result _ _ _
-    (λ counted placed done h. record {
-      known = counted ∙ ap (λ (l : List (ℕ × ℕ)). bump nat_eq l n) h.known ∙ known_after words done run word n key number;
-      fresh = h.fresh ∙ fresh_after words done run word n key number;
-      placed = placed;
+    let (word, key, number) = subst (IsWordOf words (chars c.args.run.now)) c.in-Known.is c.in_ok-word.ensures in
+    record {
+      known = c.in_ok-count_known-in-Known.ensures.counted ∙ ap (λ (l : List (ℕ × ℕ)). bump nat_eq l c.in-Known.number) h.known ∙ known_after words done (chars c.args.run.now) word c.in-Known.number key number;
+      fresh = h.fresh ∙ fresh_after words done (chars c.args.run.now) word c.in-Known.number key number;
+      placed = c.in_ok-count_known-in-Known.ensures.placed;
+    }
+
+pub returns-in-Fresh : goal.returns-in-Fresh
+returns-in-Fresh c =
+    let words = c.args.vocabulary.now.words in
+    let k = c.in-Fresh.key in
+    let (key, number) = subst (IsWordOf words (chars c.args.run.now)) c.in-Fresh.is c.in_ok-word.ensures in
+    on_ok_weaker c.count.result
+    (λ e done h. let step = after done (chars c.args.run.now) k key in record {
+      known = h.known ∙ sym (known-skip words (counted (keys_of done)) k number) ∙ ap (known_of words) step;
+      fresh = e ∙ ap (λ (l : List (List ℕ × ℕ)). bump bytes_eq l k) h.fresh ∙ sym (fresh-bump words (counted (keys_of done)) k (absent-none k words number)) ∙ ap (fresh_of words) step;
+      placed = h.placed;
     })
-    c.count_known.ensures.counted c.count_known.ensures.placed
+    c.count.ensures
