@@ -32,7 +32,7 @@ status_text Memory = codes "tt_verify: no memory"
 abbrev pub status_of_verdict : Verdict → AuditStatus
 status_of_verdict (verdicts.Sound words segments) = Sound
 status_of_verdict (verdicts.Differs word segment place found wanted) = Faulty
-status_of_verdict (verdicts.NotLeast word kept least) = Faulty
+status_of_verdict (verdicts.NotLeast word taken least) = Faulty
 status_of_verdict (verdicts.BadText doc at) = Faulty
 
 -- how an audit ends where there is no archive

@@ -130,13 +130,13 @@ no_more : (list : List Posting) (factor : Fraction) (cuts : List Time) (h least 
 no_more list factor [] h least plan best = absurd plan
 no_more list factor (f ∷ cuts) h least plan best = omega (arith, plan.least best.cuts best.covers, best.takes)
 
-more_unsound : (word : List ℕ) (kept least : ℕ) (texts : List (Change (List ℕ))) (pages : List ℕ) (plan : PlanEntry) → TakesMore word kept least texts pages plan → IsSound texts pages plan → ⊥
-more_unsound word kept least texts pages plan m sound =
+more_unsound : (word : List ℕ) (taken least : ℕ) (texts : List (Change (List ℕ))) (pages : List ℕ) (plan : PlanEntry) → TakesMore word taken least texts pages plan → IsSound texts pages plan → ⊥
+more_unsound word taken least texts pages plan m sound =
     let same = one_planned texts plan m.list sound.list m.planned sound.planned in
     let back = sym same in
     let L : List Posting → Type 0 = λ l. IsLeastPlan l plan.fraction plan.cuts plan.horizon.seconds in
     let is : IsLeastPlan sound.list plan.fraction plan.cuts plan.horizon.seconds = sound.least (m.asked.0, (rw back m.asked.1)) in
-    omega (arith, no_more m.list plan.fraction plan.cuts plan.horizon.seconds least (subst L back is) m.least_is, m.kept_is, m.more)
+    omega (arith, no_more m.list plan.fraction plan.cuts plan.horizon.seconds least (subst L back is) m.least_is, m.taken_is, m.more)
 
 one_least : (list : List Posting) (factor : Fraction) (cuts : List Time) (h m n : ℕ) → IsLeastSpace list factor cuts h m → IsLeastSpace list factor cuts h n → m ≡ n
 one_least list factor [] h m n a b = absurd a
@@ -211,7 +211,7 @@ both_more : (texts : List (Change (List ℕ))) (pages : List ℕ) (v u : List �
 both_more texts pages v u k l m n plan a b =
     let same = one_planned texts plan b.list a.list b.planned a.planned in
     let e0 : v ≡ u = a.word_is ∙ sym b.word_is in
-    let e1 : k ≡ m = a.kept_is ∙ ap (λ (list : List Posting). plan_space list plan.cuts plan.horizon.seconds) (sym same) ∙ sym b.kept_is in
+    let e1 : k ≡ m = a.taken_is ∙ ap (λ (list : List Posting). plan_space list plan.cuts plan.horizon.seconds) (sym same) ∙ sym b.taken_is in
     let e2 : l ≡ n = one_least a.list plan.fraction plan.cuts plan.horizon.seconds l n a.least_is (subst (λ (list : List Posting). IsLeastSpace list plan.fraction plan.cuts plan.horizon.seconds n) same b.least_is) in
     cc
 

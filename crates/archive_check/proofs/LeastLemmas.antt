@@ -17,10 +17,10 @@ use Rattle.archive_check.specs.Verdicts.{IsLeastSpace}
 
 -- ---- the space of a plan
 
-pub space_kept : (list : List Posting) (cuts : List Time) (horizon : Time) (p : List ℕ) → p ≡ map (λ (t : Time). t.seconds) (cuts ++ horizon ∷ []) → 2 ≤ length p
+pub space_taken : (list : List Posting) (cuts : List Time) (horizon : Time) (p : List ℕ) → p ≡ map (λ (t : Time). t.seconds) (cuts ++ horizon ∷ []) → 2 ≤ length p
     → space list (slice_index p 0) (drop 1 p) ≡ plan_space list cuts horizon.seconds
-space_kept list [] horizon p is many = absurd (omega (arith, ap length is, many))
-space_kept list (f ∷ cuts) horizon p is many = ap (λ (l : List ℕ). space list (slice_index l 0) (drop 1 l)) (is ∙ sym (seconds_are f cuts horizon))
+space_taken list [] horizon p is many = absurd (omega (arith, ap length is, many))
+space_taken list (f ∷ cuts) horizon p is many = ap (λ (l : List ℕ). space list (slice_index l 0) (drop 1 l)) (is ∙ sym (seconds_are f cuts horizon))
 
 -- ---- the least space
 

@@ -20,7 +20,7 @@ pub says_fault : (texts : List (Change (List ℕ))) (pages : List ℕ) (plans : 
 says_fault texts pages plans i stored (Sound words segments) within is utf8 sound fault = absurd fault
 says_fault texts pages plans i stored (Differs word segment place found wanted) within is utf8 sound fault =
     record { utf8 = utf8; front = take i plans; stored = stored; back = drop (suc i) plans; plans_are = around plans i stored within is; sound = sound; there = fault }
-says_fault texts pages plans i stored (NotLeast word kept least) within is utf8 sound fault =
+says_fault texts pages plans i stored (NotLeast word taken least) within is utf8 sound fault =
     record { utf8 = utf8; front = take i plans; stored = stored; back = drop (suc i) plans; plans_are = around plans i stored within is; sound = sound; there = fault }
 says_fault texts pages plans i stored (BadText doc at) within is utf8 sound fault = absurd fault
 

@@ -57,15 +57,15 @@ abbrev pub IsFirstWrong : (found wanted : List (List ℕ)) → Option Wrong → 
 IsFirstWrong found wanted o = MatchOption o (found ≡ wanted) (λ (w : Wrong). SegmentDiffers found wanted w.segment w.spot.place w.spot.found w.spot.wanted)
 
 -- a plan of a list that takes more space than it has to
-pub record IsExcess (list : List Posting) (factor : Fraction) (cuts : List Time) (h kept least : ℕ) : Type 0 where
+pub record IsExcess (list : List Posting) (factor : Fraction) (cuts : List Time) (h taken least : ℕ) : Type 0 where
   pub fit : IsFitFor Guarantee list factor cuts h
-  pub kept_is : kept ≡ plan_space list cuts h
+  pub taken_is : taken ≡ plan_space list cuts h
   pub least_is : IsLeastSpace list factor cuts h least
-  pub more : least < kept
+  pub more : least < taken
 
 -- the verdict tells a fault of the plan
 abbrev pub IsFaultOf : List (Change (List ℕ)) → List ℕ → PlanEntry → Verdict → Type 0
 IsFaultOf texts pages plan (Sound words segments) = ⊥
 IsFaultOf texts pages plan (Differs word segment place found wanted) = HasDifference word segment place found wanted texts pages plan
-IsFaultOf texts pages plan (NotLeast word kept least) = TakesMore word kept least texts pages plan
+IsFaultOf texts pages plan (NotLeast word taken least) = TakesMore word taken least texts pages plan
 IsFaultOf texts pages plan (BadText doc at) = ⊥

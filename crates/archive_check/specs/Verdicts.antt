@@ -109,15 +109,15 @@ pub record HasDifference (word : List ℕ) (segment place : ℕ) (found wanted :
   pub differs : SegmentDiffers (found_in pages plan) (wanted_of plan list) segment place found wanted
 
 -- the bytes are what they should be, but the plan takes more than it has to
-pub record TakesMore (word : List ℕ) (kept least : ℕ) (texts : List (Change (List ℕ))) (pages : List ℕ) (plan : PlanEntry) : Type 0 where
+pub record TakesMore (word : List ℕ) (taken least : ℕ) (texts : List (Change (List ℕ))) (pages : List ℕ) (plan : PlanEntry) : Type 0 where
   pub word_is : word ≡ plan.word
   pub list : List Posting
   pub planned : IsPlanned texts plan list
   pub held : found_in pages plan ≡ wanted_of plan list
   pub asked : IsToBeLeast plan list
-  pub kept_is : kept ≡ plan_space list plan.cuts plan.horizon.seconds
+  pub taken_is : taken ≡ plan_space list plan.cuts plan.horizon.seconds
   pub least_is : IsLeastSpace list plan.fraction plan.cuts plan.horizon.seconds least
-  pub more : least < kept
+  pub more : least < taken
 
 -- ---- the verdict
 
@@ -142,7 +142,7 @@ pub record AllSound (words segments : ℕ) (texts : List (Change (List ℕ))) (p
 abbrev pub Says : Verdict → List (Change (List ℕ)) → List ℕ → List StoredPlan → Type 0
 Says (Sound words segments) texts pages plans = AllSound words segments texts pages plans
 Says (Differs word segment place found wanted) texts pages plans = FirstFault (HasDifference word segment place found wanted) texts pages plans
-Says (NotLeast word kept least) texts pages plans = FirstFault (TakesMore word kept least) texts pages plans
+Says (NotLeast word taken least) texts pages plans = FirstFault (TakesMore word taken least) texts pages plans
 Says (BadText doc at) texts pages plans = (0 < length plans) × IsFirstBad texts doc at
 
 -- what a verdict says of them where the plans are checked by the numbers that their words have in the texts

@@ -19,7 +19,7 @@ use time_base::{Fraction, Posting, Time};
 /// What a plan takes, and what it has to.
 #[derive(Clone, Copy)]
 pub(crate) struct Excess {
-    pub(crate) kept: u64,
+    pub(crate) taken: u64,
     pub(crate) least: u64,
 }
 
@@ -36,7 +36,7 @@ pub(crate) fn excess_of(
     ensures fair { IsErrOf result VerifyError.Failed → ⊥ }
     ensures found { IfOk result (λ o. MatchOption o
         (IsFitFor Kind.Guarantee list.now factor cuts.now horizon.seconds → IsLeastPlan list.now factor cuts.now horizon.seconds)
-        (λ e. IsExcess list.now factor cuts.now horizon.seconds e.kept e.least)) }
+        (λ e. IsExcess list.now factor cuts.now horizon.seconds e.taken e.least)) }
 {
     if list.is_empty() {
         return Ok(None);
@@ -65,20 +65,20 @@ fn excess_of_fit(
     ensures fair { IsErrOf result VerifyError.Failed → ⊥ }
     ensures found { IfOk result (λ o. MatchOption o
         (IsLeastPlan list.now factor cuts.now horizon.seconds)
-        (λ e. IsExcess list.now factor cuts.now horizon.seconds e.kept e.least)) }
+        (λ e. IsExcess list.now factor cuts.now horizon.seconds e.taken e.least)) }
 {
     let table = Table::new(alloc, list, horizon)?;
-    let kept = kept_space(alloc, &table, cuts, horizon)?;
+    let taken = taken_space(alloc, &table, cuts, horizon)?;
     let least = least_space(alloc, &table, factor)?;
-    if least < kept {
-        return Ok(Some(Excess { kept, least }));
+    if least < taken {
+        return Ok(Some(Excess { taken, least }));
     }
     Ok(None)
 }
 
 /// The space of a plan with these cuts, which is fit for the table's list; whatever else can't be, as
 /// that the cuts aren't boundaries, is answered as want of memory.
-fn kept_space(
+fn taken_space(
     alloc: Global,
     table: &Table,
     cuts: &[Time],

@@ -158,7 +158,7 @@ fn fault_of<D: Disk>(
         None => match excess_in(alloc, &list, plan)? {
             Some(excess) => Ok(Some(Verdict::NotLeast {
                 word: plan.word.clone()?,
-                kept: excess.kept,
+                taken: excess.taken,
                 least: excess.least,
             })),
             None => Ok(None),
@@ -187,7 +187,7 @@ fn excess_in(
     ensures fair { IsErrOf result VerifyError.Failed → ⊥ }
     ensures least { IfOk result (λ o. MatchOption o
         (IsToBeLeast plan.now list.now → IsLeastPlan list.now plan.now.fraction plan.now.cuts plan.now.horizon.seconds)
-        (λ e. (plan.now.kind ≡ Kind.Guarantee) × IsExcess list.now plan.now.fraction plan.now.cuts plan.now.horizon.seconds e.kept e.least)) }
+        (λ e. (plan.now.kind ≡ Kind.Guarantee) × IsExcess list.now plan.now.fraction plan.now.cuts plan.now.horizon.seconds e.taken e.least)) }
 {
     match plan.kind {
         Kind::Guarantee => excess_of(

@@ -49,10 +49,10 @@ impl ReplyPage {
                 self.put_byte(*found);
                 self.put_byte(*wanted);
             }
-            Verdict::NotLeast { word, kept, least } => {
+            Verdict::NotLeast { word, taken, least } => {
                 self.put(b"notleast ");
                 self.put(word.as_str().as_bytes());
-                self.put_named(b" ", *kept);
+                self.put_named(b" ", *taken);
                 self.put_named(b" ", *least);
             }
             Verdict::BadText { doc, at } => {

@@ -33,7 +33,7 @@ code_of Memory = 12
 -- what is told of why a sublist is damaged
 abbrev pub why_text : Why → List ℕ
 why_text (Form at) = codes "form"
-why_text (Digest kept got) = codes "digest"
+why_text (Digest stored got) = codes "digest"
 why_text (Astray posting) = codes "astray"
 why_text (Clash one other) = codes "clash"
 why_text Bare = codes "bare"

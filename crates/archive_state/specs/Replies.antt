@@ -110,7 +110,7 @@ abbrev pub verdict_text : Verdict → List ℕ
 verdict_text (Sound words segments) = codes "sound " ++ decimal words ++ codes " " ++ decimal segments
 verdict_text (Differs word segment place found wanted) =
     codes "differs " ++ word ++ codes " " ++ decimal segment ++ codes " " ++ decimal place ++ codes " " ++ byte_text found ++ codes " " ++ byte_text wanted
-verdict_text (NotLeast word kept least) = codes "notleast " ++ word ++ codes " " ++ decimal kept ++ codes " " ++ decimal least
+verdict_text (NotLeast word taken least) = codes "notleast " ++ word ++ codes " " ++ decimal taken ++ codes " " ++ decimal least
 verdict_text (BadText doc at) = codes "badtext " ++ decimal doc.0 ++ codes " " ++ decimal at.seconds
 
 -- the text of a reply

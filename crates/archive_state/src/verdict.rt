@@ -30,7 +30,7 @@ pub enum Verdict {
         /// The plan's word.
         word: Key,
         /// How many postings its sublists have.
-        kept: u64,
+        taken: u64,
         /// How many they need to have.
         least: u64,
     },

@@ -17,7 +17,7 @@ fronted p c long same =
 -- what stands before a write that was cut short stays
 pub torn_behind : (at n : ℕ) (p rest c : List ℕ) → Torn at n (p ++ rest) c → length p ≤ at → c ≡ p ++ drop (length p) c
 torn_behind at n p rest c torn far = fronted p c (omega (arith, torn.no_shorter, length-append p rest)) (λ k inside.
-    torn.kept k (omega (arith, length-append p rest)) (inl (omega (arith, inside, far))) ∙ get_or_append_left p rest 0 k inside)
+    torn.untouched k (omega (arith, length-append p rest)) (inl (omega (arith, inside, far))) ∙ get_or_append_left p rest 0 k inside)
 
 other_bytes : (p rest : List ℕ) (g x k : ℕ) → (k < length p) ⊎ (length p + 1 ≤ k) → get_or (p ++ g ∷ rest) k 0 ≡ get_or (p ++ x ∷ rest) k 0
 other_bytes [] rest g x zero (inl low) = absurd (omega (arith, low))
@@ -36,7 +36,7 @@ torn_byte at p rest c g here torn =
     let same : length c ≡ length p + (1 + length rest) = omega (arith, long, here, torn.no_shorter, torn.no_longer) in
     ext_get_or 0 c (p ++ x ∷ rest) (omega (arith, same, long_now)) (λ k inside.
     let out : (k < length p) ⊎ (length p + 1 ≤ k) → get_or c k 0 ≡ get_or (p ++ x ∷ rest) k 0 = λ where_is.
-    torn.kept k (omega (arith, inside, same, long)) (elim where_is as (λ _. (k < at) ⊎ (at + 1 ≤ k)) [ inl low ↦ inl (omega (arith, low, here)) | inr high ↦ inr (omega (arith, high, here)) ])
+    torn.untouched k (omega (arith, inside, same, long)) (elim where_is as (λ _. (k < at) ⊎ (at + 1 ≤ k)) [ inl low ↦ inl (omega (arith, low, here)) | inr high ↦ inr (omega (arith, high, here)) ])
     ∙ other_bytes p rest g x k where_is in
     elim (cases_lt k (length p)) as (λ _. get_or c k 0 ≡ get_or (p ++ x ∷ rest) k 0) [
       | inl low ↦ out (inl low)

@@ -24,7 +24,7 @@ allowed_more : (stable : List ℕ) (range : Range) (pending : List Range) (image
 allowed_more stable range pending image was = record {
   no_shorter = was.no_shorter;
   no_longer = omega (arith, was.no_longer);
-  kept = λ k within untouched. was.kept k within untouched.1;
+  untouched = λ k within untouched. was.untouched k within untouched.1;
   bytes = was.bytes;
 }
 
@@ -42,7 +42,7 @@ allowed_synced : (stable : List ℕ) (pending : List Range) (held image : List �
 allowed_synced stable pending held image was now = record {
   no_shorter = omega (arith, was.no_shorter, now.no_shorter);
   no_longer = omega (arith, was.no_longer, now.no_longer);
-  kept = λ k within untouched. now.kept k (omega (arith, was.no_shorter)) tt ∙ was.kept k within untouched;
+  untouched = λ k within untouched. now.untouched k (omega (arith, was.no_shorter)) tt ∙ was.untouched k within untouched;
   bytes = now.bytes;
 }
 
@@ -171,20 +171,20 @@ grows_reach Journal n reach = elim [ Journal ↦ omega arith | Pages ↦ omega a
 grows_reach Pages n reach = elim [ Journal ↦ omega arith | Pages ↦ omega arith ]
 
 -- each call's outcome: the state after it is one of these, with some count of faults
-pub OnlyDisk-wrote : (x y : MemoryState) (area : Area) (at : ℕ) (bytes : List ℕ) (kept n : ℕ) → y ≡ wrote area at bytes kept x → y.disk.faults ≤ n
+pub OnlyDisk-wrote : (x y : MemoryState) (area : Area) (at : ℕ) (bytes : List ℕ) (landed n : ℕ) → y ≡ wrote area at bytes landed x → y.disk.faults ≤ n
     → OnlyDisk x (with_faults n y)
-OnlyDisk-wrote x y area at bytes kept n is risen =
+OnlyDisk-wrote x y area at bytes landed n is risen =
     let P : MemoryState → Type 0 = λ z. OnlyDisk x (with_faults n z) in
     let same = ap (λ z. z.disk.faults) is in
     let later : x.disk.faults ≤ n = omega arith in
-    let z = with_faults n (wrote area at bytes kept x) in
-    subst P (sym is) (OnlyDisk-recorded x z refl refl later (grows_reach area (at + kept) x.disk.reach) refl refl refl)
+    let z = with_faults n (wrote area at bytes landed x) in
+    subst P (sym is) (OnlyDisk-recorded x z refl refl later (grows_reach area (at + landed) x.disk.reach) refl refl refl)
 
-pub Writes-wrote : (x y : MemoryState) (area : Area) (at : ℕ) (bytes : List ℕ) (kept n : ℕ) → y ≡ wrote area at bytes kept x
+pub Writes-wrote : (x y : MemoryState) (area : Area) (at : ℕ) (bytes : List ℕ) (landed n : ℕ) → y ≡ wrote area at bytes landed x
     → Writes area at (length bytes) x.disk (with_faults n y).disk
-Writes-wrote x y area at bytes kept n is =
+Writes-wrote x y area at bytes landed n is =
     let P : MemoryState → Type 0 = λ z. Writes area at (length bytes) x.disk (with_faults n z).disk in
-    let z = with_faults n (wrote area at bytes kept x) in
+    let z = with_faults n (wrote area at bytes landed x) in
     subst P (sym is) (Writes-recorded area at (length bytes) x.disk z.disk refl refl)
 
 pub OnlyDisk-stayed : (x y : MemoryState) (n : ℕ) → y ≡ x → y.disk.faults ≤ n → OnlyDisk x (with_faults n y)

@@ -72,7 +72,7 @@ tail_made stable pending written tail image sound long bytes shut loose =
       allowed = record {
         no_shorter = least;
         no_longer = omega (arith, sound.whole);
-        kept = λ k within out. shut k (omega arith) within out ∙ sound.allowed.kept k within out;
+        untouched = λ k within out. shut k (omega arith) within out ∙ sound.allowed.untouched k within out;
         bytes = bytes;
       };
       long = long ∙ ap (λ n. min (length stable + tail.extra) n) sound.whole;

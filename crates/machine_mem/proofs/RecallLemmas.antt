@@ -16,7 +16,7 @@ use Rattle.machine_mem.specs.declared.picks.Pick.{Pick}
 use Rattle.machine_mem.specs.declared.picks.Picked.{Picked}
 use Rattle.machine_mem.specs.Picks.{IsPicked, bytes_of}
 use Rattle.machine_mem.specs.Meaning.{snapshot_of, after_calls, disk_state}
-use Rattle.machine_mem.specs.Outcomes.{calls_of}
+use Rattle.machine_mem.specs.Calls.{calls_of}
 use Rattle.machine_mem.proofs.GrowthLemmas.{leaves_along, left_early, left_late}
 
 -- one call more

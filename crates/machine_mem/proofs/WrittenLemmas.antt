@@ -39,9 +39,9 @@ written_allowed_lem : (stable : List ℕ) (pending : List Range) (old : List ℕ
 written_allowed_lem stable pending old at n bytes was new short = record {
   no_shorter = omega (arith, length-written at bytes old, was.no_shorter);
   no_longer = omega (arith, length-written at bytes old, was.no_longer);
-  kept = λ k within untouched.
+  untouched = λ k within untouched.
       let outside : (k < at) ⊎ (at + length bytes ≤ k) = elim untouched.0 [ inl before ↦ inl before | inr behind ↦ inr (omega arith) ] in
-      get_or-written at bytes old k (omega (arith, was.no_shorter)) outside ∙ was.kept k within untouched.1;
+      get_or-written at bytes old k (omega (arith, was.no_shorter)) outside ∙ was.untouched k within untouched.1;
   bytes = AreBytes-written at bytes old new was.bytes;
 }
 

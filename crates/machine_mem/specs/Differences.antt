@@ -36,17 +36,17 @@ first_of image = record {
 
 -- after a write of which so many bytes came through
 abbrev pub with_write : Area → ℕ → List ℕ → ℕ → Holding → Holding
-with_write area at bytes kept x = record {
+with_write area at bytes landed x = record {
   snapshot = record {
     moment = record x.snapshot.moment { pending = replaced x.snapshot.moment.pending area (record { at = at; count = length bytes } ∷ part x.snapshot.moment.pending area) };
     last = replaced x.snapshot.last area (written at bytes (part x.snapshot.last area));
   };
-  holds = replaced x.holds area (written at (take kept bytes) (part x.holds area));
+  holds = replaced x.holds area (written at (take landed bytes) (part x.holds area));
 }
 
 -- after a call that changed this
 abbrev pub played : Difference → Holding → Holding
-played (Write w) x = with_write w.area w.at w.bytes.items w.kept x
+played (Write w) x = with_write w.area w.at w.bytes.items w.landed x
 played Sync x = record x {
   snapshot = record {
     moment = record x.snapshot.moment { stable = x.holds; pending = record { journal = []; pages = [] } };

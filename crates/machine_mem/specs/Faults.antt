@@ -31,9 +31,9 @@ counts_with counts Push n = record counts { pushes = n }
 abbrev pub Names : Fault → CallKind → ℕ → Type 0
 Names fault kind nth = (fault.call ≡ kind) × (fault.nth ≡ nth)
 
--- a fault of these names this call, with so many bytes kept
+-- a fault of these names this call, where so many bytes land
 abbrev pub IsNamed : List Fault → CallKind → ℕ → ℕ → Type 0
-IsNamed faults kind nth kept = Contains faults (record { call = kind; nth = nth; kept = kept })
+IsNamed faults kind nth landed = Contains faults (record { call = kind; nth = nth; landed = landed })
 
 -- no fault of these names this call
 abbrev pub IsSpared : List Fault → CallKind → ℕ → Type 0

@@ -6,7 +6,7 @@ pub mod Machines
 pub mod Snapshots
 pub mod Differences
 pub mod Meaning
-pub mod Outcomes
+pub mod Calls
 pub mod MachineLaws
 pub mod Stamps
 pub mod Tails

@@ -60,10 +60,10 @@ did_read area n x = record x { disk = record x.disk { bytes_read = replaced x.di
 
 -- a machine after a write of which so many bytes came through
 abbrev pub wrote : Area → ℕ → List ℕ → ℕ → MemoryState → MemoryState
-wrote area at bytes kept x = record x {
+wrote area at bytes landed x = record x {
   disk = record x.disk {
-    reach = replaced x.disk.reach area (max (part x.disk.reach area) (at + kept));
-    holds = replaced x.disk.holds area (written at (take kept bytes) (part x.disk.holds area));
+    reach = replaced x.disk.reach area (max (part x.disk.reach area) (at + landed));
+    holds = replaced x.disk.holds area (written at (take landed bytes) (part x.disk.holds area));
     past = x.disk.past ++ x.disk.now ∷ [];
     now = record x.disk.now { pending = replaced x.disk.now.pending area (record { at = at; count = length bytes } ∷ part x.disk.now.pending area) };
   };

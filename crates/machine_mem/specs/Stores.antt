@@ -1,4 +1,4 @@
--- What is kept of one area.
+-- What is held of one area.
 use Rattle.std.specs.Prelude.{◌≡◌, ℕ, ◌≤◌, ◌^◌, List, length}
 use Rattle.machine_model.specs.Images.{IsAllowed, AreBytes, furthest}
 use Rattle.machine_model.specs.declared.range.Range.{Range}

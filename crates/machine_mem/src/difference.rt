@@ -13,9 +13,9 @@ pub struct Write {
     /// Its bytes.
     pub bytes: Vec<u8>,
     /// How many of them came through. A stop may leave the others too.
-    pub kept: usize,
+    pub landed: usize,
     ghost fits: { at + length bytes.items ≤ 2 ^ 40 },
-    ghost within: { kept ≤ length bytes.items },
+    ghost within: { landed ≤ length bytes.items },
 }
 
 /// What a call changed of a disk and of what was shown.

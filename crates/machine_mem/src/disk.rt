@@ -11,7 +11,7 @@ impl Disk for MemMachine {
     ghost use Rattle.machine_model.specs.declared.area.Area.TheVariants.{Journal, Pages};
     ghost use Rattle.machine_mem.specs.Machines.{MemoryState, OnlyDisk, did_read, wrote, synced, passed, failed_disk};
     ghost use Rattle.machine_mem.specs.MachineLaws.{OnlyDisk-same, OnlyDisk-joins};
-    ghost use Rattle.machine_mem.specs.Outcomes.{IsDue, called, script_of, Serves, Starves, Remembers, Stays};
+    ghost use Rattle.machine_mem.specs.Calls.{IsDue, called, script_of, Serves, Starves, Remembers, Stays};
     ghost use Rattle.machine_mem.specs.Meaning.{meaning, disk_state};
 
     ghost disk_tells = { Unit {0} };
@@ -40,7 +40,7 @@ impl Disk for MemMachine {
 
     ghost reach_holds = { λ x. elim [ Journal ↦ λ tells. refl | Pages ↦ λ tells. refl ] };
 
-    ghost holds_allowed = { λ x tells. elim [ Journal ↦ x.history.current.journal.kept | Pages ↦ x.history.current.pages.kept ] };
+    ghost holds_allowed = { λ x tells. elim [ Journal ↦ x.history.current.journal.allowed | Pages ↦ x.history.current.pages.allowed ] };
 
     ghost stable_bytes = { λ x. elim [ Journal ↦ λ tells. x.history.current.journal.remains.sound.bytes | Pages ↦ λ tells. x.history.current.pages.remains.sound.bytes ] };
 
@@ -52,8 +52,8 @@ impl Disk for MemMachine {
 
         // exactly
         ensures done { OnOk result (Serves (λ x. x) self.old self.new) }
-        ensures why { OnErr result (((kept : ℕ) × IsDue self.old CallKind.Length kept) × Serves failed_disk self.old self.new) }
-        ensures named { (kept : ℕ) → IsDue self.old CallKind.Length kept → IsErr result }
+        ensures why { OnErr result (((landed : ℕ) × IsDue self.old CallKind.Length landed) × Serves failed_disk self.old self.new) }
+        ensures named { (landed : ℕ) → IsDue self.old CallKind.Length landed → IsErr result }
         ensures counted { script_of self.new ≡ called CallKind.Length (script_of self.old) }
         ensures stays { Stays self.old self.new }
     {
@@ -75,8 +75,8 @@ impl Disk for MemMachine {
 
         // exactly
         ensures done { OnOk result (Serves (did_read area (length buf.old)) self.old self.new) }
-        ensures why { OnErr result ((((kept : ℕ) × IsDue self.old CallKind.Read kept) × Serves failed_disk self.old self.new) ⊎ Starves failed_disk self.old self.new) }
-        ensures named { (kept : ℕ) → IsDue self.old CallKind.Read kept → IsErr result }
+        ensures why { OnErr result ((((landed : ℕ) × IsDue self.old CallKind.Read landed) × Serves failed_disk self.old self.new) ⊎ Starves failed_disk self.old self.new) }
+        ensures named { (landed : ℕ) → IsDue self.old CallKind.Read landed → IsErr result }
         ensures counted { script_of self.new ≡ called CallKind.Read (script_of self.old) }
         ensures stays { Stays self.old self.new }
     {
@@ -111,8 +111,8 @@ impl Disk for MemMachine {
 
         // exactly; of a write that a fault names, the first bytes come through
         ensures done { OnOk result (Serves (wrote area at bytes.now (length bytes.now)) self.old self.new) }
-        ensures why { OnErr result (((kept : ℕ) × IsDue self.old CallKind.Write kept × Serves (λ x. failed_disk (wrote area at bytes.now (min kept (length bytes.now)) x)) self.old self.new) ⊎ Starves failed_disk self.old self.new) }
-        ensures named { (kept : ℕ) → IsDue self.old CallKind.Write kept → IsErr result }
+        ensures why { OnErr result (((landed : ℕ) × IsDue self.old CallKind.Write landed × Serves (λ x. failed_disk (wrote area at bytes.now (min landed (length bytes.now)) x)) self.old self.new) ⊎ Starves failed_disk self.old self.new) }
+        ensures named { (landed : ℕ) → IsDue self.old CallKind.Write landed → IsErr result }
         ensures counted { script_of self.new ≡ called CallKind.Write (script_of self.old) }
         ensures remembers { Remembers self.old self.new }
     {
@@ -125,9 +125,9 @@ impl Disk for MemMachine {
                     Err(Failed)
                 }
             },
-            Some(kept) => {
-                let kept = kept.min(bytes.len() as u64) as usize;
-                match self.try_write(area, at, bytes, kept) {
+            Some(landed) => {
+                let landed = landed.min(bytes.len() as u64) as usize;
+                match self.try_write(area, at, bytes, landed) {
                     Ok(()) => {
                         self.disk_faults.rise();
                         Err(Failed)
@@ -153,8 +153,8 @@ impl Disk for MemMachine {
 
         // exactly
         ensures done { OnOk result (Serves synced self.old self.new) }
-        ensures why { OnErr result ((((kept : ℕ) × IsDue self.old CallKind.Sync kept) × Serves (λ x. failed_disk (passed x)) self.old self.new) ⊎ Starves failed_disk self.old self.new) }
-        ensures named { (kept : ℕ) → IsDue self.old CallKind.Sync kept → IsErr result }
+        ensures why { OnErr result ((((landed : ℕ) × IsDue self.old CallKind.Sync landed) × Serves (λ x. failed_disk (passed x)) self.old self.new) ⊎ Starves failed_disk self.old self.new) }
+        ensures named { (landed : ℕ) → IsDue self.old CallKind.Sync landed → IsErr result }
         ensures counted { script_of self.new ≡ called CallKind.Sync (script_of self.old) }
         ensures remembers { Remembers self.old self.new }
     {

@@ -29,9 +29,9 @@ pub struct Fault {
     pub call: CallKind,
     /// Which of that kind.
     pub nth: u64,
-    /// How many bytes of a failing write come through nonetheless, at most the piece: reads give what
+    /// How many bytes of a failing write land nonetheless, at most the piece: reads give what
     /// a write of that front leaves, a gap of zeros before it too. No other kind looks at it.
-    pub kept: u64,
+    pub landed: u64,
 }
 
 impl Fault {
@@ -111,18 +111,18 @@ pub struct Script {
 }
 
 impl Script {
-    /// Counts one call more of a kind. `Some` where it is to fail: how many bytes are kept of a write.
+    /// Counts one call more of a kind. `Some` where it is to fail: how many bytes of a write land.
     /// Cost: the number of faults.
     pub fn due(&mut self, kind: CallKind) -> Option<u64>
         ensures faults { self.new.faults ≡ self.old.faults }
         ensures counts { self.new.counts ≡ counts_with self.old.counts kind (next_of self.old.counts kind) }
-        ensures named { IfSome result (λ kept. IsNamed self.old.faults.items kind (next_of self.old.counts kind) kept) }
+        ensures named { IfSome result (λ landed. IsNamed self.old.faults.items kind (next_of self.old.counts kind) landed) }
         ensures spared { IfNone result (IsSpared self.old.faults.items kind (next_of self.old.counts kind)) }
     {
         let nth = self.counts.raise(kind);
         for fault in &self.faults {
             if fault.is_for(kind, nth) {
-                return Some(fault.kept);
+                return Some(fault.landed);
             }
         }
         None

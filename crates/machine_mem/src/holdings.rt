@@ -60,7 +60,7 @@ impl Holdings {
             Area::Journal => {
                 let journal = self
                     .journal
-                    .after_write(alloc, write.at, &write.bytes, write.kept)?;
+                    .after_write(alloc, write.at, &write.bytes, write.landed)?;
                 let pages = self.pages.copy(alloc)?;
                 Ok(Holdings {
                     journal,
@@ -72,7 +72,7 @@ impl Holdings {
                 let journal = self.journal.copy(alloc)?;
                 let pages = self
                     .pages
-                    .after_write(alloc, write.at, &write.bytes, write.kept)?;
+                    .after_write(alloc, write.at, &write.bytes, write.landed)?;
                 Ok(Holdings {
                     journal,
                     pages,

@@ -8,7 +8,7 @@
 //! `SliceSource` is a source over bytes in memory that never fails.
 //!
 //! To the layer above it promises the traits of `machine_model` with all their laws, and exactly
-//! what each call does (`specs/Outcomes.antt`).
+//! what each call does (`specs/Calls.antt`).
 #![tactic(auto)]
 
 mod counter;

@@ -7,7 +7,7 @@ ghost use Rattle.machine_mem.specs.Machines.{wrote, synced, passed, showed, did_
 ghost use Rattle.machine_model.specs.Moments.{LeftSince};
 ghost use Rattle.machine_mem.specs.Picks.{IsPicked, bytes_of};
 ghost use Rattle.machine_mem.specs.Faults.{count_of};
-ghost use Rattle.machine_mem.specs.Outcomes.{script_of, starved_of, calls_of, Recalls, Remembers, Stays};
+ghost use Rattle.machine_mem.specs.Calls.{script_of, starved_of, calls_of, Recalls, Remembers, Stays};
 ghost use Rattle.machine_mem.specs.Meaning.{after_calls, snapshot_of, meaning, source_state, sink_state, disk_state};
 
 use crate::counter::Counter;
@@ -182,17 +182,17 @@ impl MemMachine {
         self.history.record(self.alloc, Difference::Nothing)
     }
 
-    /// A write of which the first `kept` bytes come through. Without memory nothing changes.
+    /// A write of which the first `landed` bytes land. Without memory nothing changes.
     pub(crate) fn try_write(
         &mut self,
         area: Area,
         at: u64,
         bytes: &[u8],
-        kept: usize,
+        landed: usize,
     ) -> Result<(), AllocError>
         requires fits { at + length bytes.now ≤ 2 ^ 40 }
-        requires within { kept ≤ length bytes.now }
-        ensures ok { OnOk result (meaning self.new ≡ wrote area at bytes.now kept (meaning self.old)) }
+        requires within { landed ≤ length bytes.now }
+        ensures ok { OnOk result (meaning self.new ≡ wrote area at bytes.now landed (meaning self.old)) }
         ensures err { OnErr result (meaning self.new ≡ meaning self.old) }
         ensures recalls { OnOk result (Recalls self.old self.new) }
         ensures stays { OnErr result (Stays self.old self.new) }
@@ -202,7 +202,7 @@ impl MemMachine {
             area,
             at,
             bytes: Vec::from_slice(self.alloc, bytes)?,
-            kept,
+            landed,
         };
         self.history.record(self.alloc, Difference::Write(write))
     }

@@ -9,7 +9,7 @@ impl Sink for MemMachine {
     ghost use Rattle.machine_model.specs.Pushes.{taken};
     ghost use Rattle.machine_mem.specs.Machines.{OnlySink, Pushed, showed, passed, failed_sink};
     ghost use Rattle.machine_mem.specs.MachineLaws.{OnlySink-same, OnlySink-joins};
-    ghost use Rattle.machine_mem.specs.Outcomes.{IsDue, called, script_of, Serves, Starves, Remembers};
+    ghost use Rattle.machine_mem.specs.Calls.{IsDue, called, script_of, Serves, Starves, Remembers};
     ghost use Rattle.machine_mem.specs.Meaning.{meaning, sink_state};
 
     ghost sink_tells = { Unit {0} };
@@ -38,8 +38,8 @@ impl Sink for MemMachine {
 
         // exactly; a piece is taken whole
         ensures done { IfOk result (λ n. (n ≡ length bytes.now) × Serves (showed bytes.now) self.old self.new) }
-        ensures why { OnErr result ((((kept : ℕ) × IsDue self.old CallKind.Push kept) × Serves (λ x. failed_sink (passed x)) self.old self.new) ⊎ Starves failed_sink self.old self.new) }
-        ensures named { (kept : ℕ) → IsDue self.old CallKind.Push kept → IsErr result }
+        ensures why { OnErr result ((((landed : ℕ) × IsDue self.old CallKind.Push landed) × Serves (λ x. failed_sink (passed x)) self.old self.new) ⊎ Starves failed_sink self.old self.new) }
+        ensures named { (landed : ℕ) → IsDue self.old CallKind.Push landed → IsErr result }
         ensures counted { script_of self.new ≡ called CallKind.Push (script_of self.old) }
         ensures remembers { Remembers self.old self.new }
     {

@@ -11,7 +11,7 @@ impl Source for MemMachine {
     ghost use Rattle.machine_model.specs.Pulls.{ArePulls};
     ghost use Rattle.machine_model.proofs.PullLemmas.{pulls_join};
     ghost use Rattle.machine_mem.specs.MachineLaws.{OnlySource-same, OnlySource-joins};
-    ghost use Rattle.machine_mem.specs.Outcomes.{IsDue, called, script_of, Serves, Stays};
+    ghost use Rattle.machine_mem.specs.Calls.{IsDue, called, script_of, Serves, Stays};
     ghost use Rattle.machine_mem.specs.Meaning.{meaning, source_state};
 
     ghost source_tells = { Unit {0} };
@@ -47,8 +47,8 @@ impl Source for MemMachine {
 
         // exactly; as many bytes as there are and as fit into the buffer, up to the limit
         ensures done { IfOk result (λ n. (n ≡ min (min (length buf.old) (meaning self.old).pull_limit) (length (source_state self.old).left)) × Serves (pulled n) self.old self.new) }
-        ensures why { OnErr result (((kept : ℕ) × IsDue self.old CallKind.Pull kept) × Serves failed_source self.old self.new) }
-        ensures named { (kept : ℕ) → IsDue self.old CallKind.Pull kept → IsErr result }
+        ensures why { OnErr result (((landed : ℕ) × IsDue self.old CallKind.Pull landed) × Serves failed_source self.old self.new) }
+        ensures named { (landed : ℕ) → IsDue self.old CallKind.Pull landed → IsErr result }
         ensures counted { script_of self.new ≡ called CallKind.Pull (script_of self.old) }
         ensures stays { Stays self.old self.new }
     {

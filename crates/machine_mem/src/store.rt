@@ -26,7 +26,7 @@ pub struct Store {
     pub remains: Remains,
     /// The bytes that reads give.
     pub held: Vec<u8>,
-    ghost kept: { IsAllowed remains.stable.items remains.pending.items held.items },
+    ghost allowed: { IsAllowed remains.stable.items remains.pending.items held.items },
     ghost limit: { length held.items ≤ 2 ^ 40 },
 }
 
@@ -112,23 +112,23 @@ impl Store {
         Ok(Store { remains, held })
     }
 
-    /// The area after a write of which the first `kept` bytes came through. Cost: a copy of all.
+    /// The area after a write of which the first `landed` bytes landed. Cost: a copy of all.
     pub fn after_write(
         &self,
         alloc: Global,
         at: u64,
         bytes: &[u8],
-        kept: usize,
+        landed: usize,
     ) -> Result<Store, AllocError>
         requires fits { at + length bytes.now ≤ 2 ^ 40 }
-        requires within { kept ≤ length bytes.now }
+        requires within { landed ≤ length bytes.now }
         ensures stable { IfOk result (λ s. s.remains.stable.items ≡ self.now.remains.stable.items) }
         ensures pending { IfOk result (λ s. s.remains.pending.items ≡ record { at = at; count = length bytes.now } ∷ self.now.remains.pending.items) }
         ensures written { IfOk result (λ s. s.remains.written.items ≡ written at bytes.now self.now.remains.written.items) }
-        ensures held { IfOk result (λ s. s.held.items ≡ written at (take kept bytes.now) self.now.held.items) }
+        ensures held { IfOk result (λ s. s.held.items ≡ written at (take landed bytes.now) self.now.held.items) }
     {
         let remains = self.remains.after_write(alloc, at, bytes)?;
-        let held = overlaid(alloc, &self.held, at as usize, &bytes[..kept])?;
+        let held = overlaid(alloc, &self.held, at as usize, &bytes[..landed])?;
         Ok(Store { remains, held })
     }
 

@@ -99,8 +99,8 @@ undone_area stable image at n pending stable_bytes allowed =
       record {
         no_shorter = omega (arith, long, enough, allowed.no_shorter);
         no_longer = omega (arith, long);
-        kept = λ k inside untouched. at_place k (omega (arith, long, enough, allowed.no_shorter)) ∙ elim (lies at n k (length stable)) as (λ _. get_or full k 0 ≡ get_or stable k 0) [
-          | inl (inl out) ↦ undone_outside at n k stable image out ∙ allowed.kept k inside (out, untouched)
+        untouched = λ k inside untouched. at_place k (omega (arith, long, enough, allowed.no_shorter)) ∙ elim (lies at n k (length stable)) as (λ _. get_or full k 0 ≡ get_or stable k 0) [
+          | inl (inl out) ↦ undone_outside at n k stable image out ∙ allowed.untouched k inside (out, untouched)
           | inl (inr past) ↦ absurd (omega (arith, past, inside))
           | inr place ↦ undone_inside at n k stable image place.0 place.1 place.2 (omega (arith, inside, allowed.no_shorter))
         ];
@@ -109,7 +109,7 @@ undone_area stable image at n pending stable_bytes allowed =
       record {
         no_shorter = omega (arith, long);
         no_longer = omega (arith, long, allowed.no_longer);
-        kept = λ k inside out. sym (at_place k inside ∙ undone_outside at n k stable image out);
+        untouched = λ k inside out. sym (at_place k inside ∙ undone_outside at n k stable image out);
       },
     )
 
@@ -152,7 +152,7 @@ torn_image area at n old new writes bytes image allowed =
 
 -- of an area with nothing pending there is one image, the stable bytes
 only_stable : (stable image : List ℕ) → IsAllowed stable [] image → image ≡ stable
-only_stable stable image allowed = ext_get_or 0 image stable (omega (arith, allowed.no_shorter, allowed.no_longer)) (λ k inside. allowed.kept k (omega (arith, inside, allowed.no_longer)) tt)
+only_stable stable image allowed = ext_get_or 0 image stable (omega (arith, allowed.no_shorter, allowed.no_longer)) (λ k inside. allowed.untouched k (omega (arith, inside, allowed.no_longer)) tt)
 
 -- after a good sync the one image is what reads gave
 pub only_synced : (old new : DiskState) → IsSynced old new → Only old.holds new

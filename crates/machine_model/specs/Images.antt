@@ -23,7 +23,7 @@ AreBytes bytes = All (λ b. b < 2 ^ 8) bytes
 pub record IsAllowed (stable : List ℕ) (pending : List Range) (image : List ℕ) : Type 0 where
   pub no_shorter : length stable ≤ length image
   pub no_longer : length image ≤ furthest (length stable) pending
-  pub kept : (k : ℕ) → k < length stable → IsUntouched pending k → slice_index image k ≡ slice_index stable k
+  pub untouched : (k : ℕ) → k < length stable → IsUntouched pending k → slice_index image k ≡ slice_index stable k
   pub bytes : AreBytes image
 
 -- this image is allowed at that moment
@@ -42,7 +42,7 @@ Only image d = (other : Bytes) → MayLeave d.now other → other ≡ image
 pub record Torn (at n : ℕ) (old new : List ℕ) : Type 0 where
   pub no_shorter : length old ≤ length new
   pub no_longer : length new ≤ max (length old) (at + n)
-  pub kept : (k : ℕ) → k < length old → (k < at) ⊎ (at + n ≤ k) → slice_index new k ≡ slice_index old k
+  pub untouched : (k : ℕ) → k < length old → (k < at) ⊎ (at + n ≤ k) → slice_index new k ≡ slice_index old k
 
 -- An image after such a write in one area, from one before it; the other area is as it was.
 pub record TornFrom (area : Area) (at n : ℕ) (was image : Bytes) : Type 0 where

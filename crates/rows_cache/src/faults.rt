@@ -17,7 +17,7 @@ fn run_failing(
     let fault = Fault {
         call: CallKind::Read,
         nth,
-        kept: 0,
+        landed: 0,
     };
     let mut machine = machine_on(alloc, script, copy_image(alloc, disk)?, &[fault])?;
     let status = run_on(alloc, &mut machine)?;

@@ -127,7 +127,7 @@ fn a_pull_that_fails_ends_the_run_behind_the_items_that_are_whole(
         let fault = Fault {
             call: CallKind::Pull,
             nth,
-            kept: 0,
+            landed: 0,
         };
         let mut machine = make_machine(alloc, MIXED_SCRIPT, b"", &[fault])?.with_pulls_of(7);
         assert_eq!(rt; run_on(alloc, &mut machine)?, Status::Source, "{nth}");

@@ -65,14 +65,14 @@ fn a_call_that_fails_is_told_and_nothing_else(rt: HostRuntime) -> Result<(), Fai
         let fault = Fault {
             call: CallKind::Read,
             nth,
-            kept: 0,
+            landed: 0,
         };
         expect_audit(&rt, alloc, &disk, &[fault], AuditStatus::Disk, b"")?;
     }
     let fault = Fault {
         call: CallKind::Push,
         nth: 1,
-        kept: 0,
+        landed: 0,
     };
     expect_audit(&rt, alloc, &disk, &[fault], AuditStatus::Sink, b"")
 }

@@ -15,7 +15,7 @@ fn a_read_that_fails_ends_the_run_and_nothing_is_told(rt: HostRuntime) -> Result
         let fault = Fault {
             call: CallKind::Read,
             nth,
-            kept: 0,
+            landed: 0,
         };
         let mut machine = machine_on(alloc, b"verify\n", copy_image(alloc, &disk)?, &[fault])?;
         match run_on(alloc, &mut machine)? {

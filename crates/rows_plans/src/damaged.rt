@@ -70,14 +70,14 @@ fn a_byte_that_changed_is_told_by_both_digests(rt: HostRuntime) -> Result<(), Fa
     let Status::Damaged(
         Damage {
             page,
-            why: Why::Digest { kept, got },
+            why: Why::Digest { stored, got },
         },
     ) = status
     else {
         return Err(Fail::from("no digest is told"));
     };
     assert_eq!(rt; page, 0);
-    assert_eq!(rt; kept.as_slice(), LIFE_OF_1.digest);
+    assert_eq!(rt; stored.as_slice(), LIFE_OF_1.digest);
     assert_eq!(rt; got.as_slice(), DIGEST_OF_CHANGED);
     Ok(())
 }

@@ -121,7 +121,7 @@ fn where_the_gate_is_not_synced_its_byte_decides(rt: HostRuntime) -> Result<(), 
     let fault = Fault {
         call: CallKind::Sync,
         nth: 4,
-        kept: 0,
+        landed: 0,
     };
     let mut machine = make_machine(alloc, FIRST_SCRIPT, b"", &[fault])?;
     assert_eq!(rt; run_on(alloc, &mut machine)?, Status::Disk);
@@ -155,7 +155,7 @@ fn a_fault_before_the_gate_leaves_no_entry(rt: HostRuntime) -> Result<(), Fail> 
         (CallKind::Sync, 3, Status::Disk),
         (CallKind::Pull, 1, Status::Source),
     ] {
-        let fault = Fault { call, nth, kept: 0 };
+        let fault = Fault { call, nth, landed: 0 };
         let mut machine = make_machine(alloc, FIRST_SCRIPT, b"", &[fault])?;
         assert_eq!(rt; run_on(alloc, &mut machine)?, want);
         assert_eq!(rt; machine.shown(), b"".as_slice());
@@ -172,7 +172,7 @@ fn an_arrival_whose_reply_fails_is_in_the_journal(rt: HostRuntime) -> Result<(),
     let fault = Fault {
         call: CallKind::Push,
         nth: 1,
-        kept: 0,
+        landed: 0,
     };
     let mut machine = make_machine(alloc, FIRST_SCRIPT, b"", &[fault])?;
     assert_eq!(rt; run_on(alloc, &mut machine)?, Status::Sink);

@@ -88,8 +88,8 @@ fn sifted<'c>(
             Ok(list)
         }
         Err(CheckError::Digest { got }) => {
-            let kept = place.digest;
-            let why = Why::Digest { kept, got };
+            let stored = place.digest;
+            let why = Why::Digest { stored, got };
             Err(FetchError::Damaged(Damage { page, why }))
         }
         Err(CheckError::Form { at }) => {

@@ -14,7 +14,7 @@ pub enum Why {
     /// Their SHA-256 isn't the one that the place keeps.
     Digest {
         /// What the place keeps.
-        kept: [u8; 32],
+        stored: [u8; 32],
         /// What the bytes have.
         got: [u8; 32],
     },

@@ -76,7 +76,7 @@ fn each_kind_of_call_fails_once(rt: HostRuntime) -> Result<(), Fail> {
     let once = |call| Fault {
         call,
         nth: 1,
-        kept: 2,
+        landed: 2,
     };
     let faults = [
         once(CallKind::Length),

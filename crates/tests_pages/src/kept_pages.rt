@@ -116,7 +116,7 @@ fn a_page_that_was_not_read_is_not_kept(rt: HostRuntime) -> Result<(), Fail> {
     let faults = [Fault {
         call: CallKind::Read,
         nth: 2,
-        kept: 0,
+        landed: 0,
     }];
     let mut machine = machine_with(&rt, alloc, three_places(alloc)?, &faults)?;
     let mut cache = PageCache::new(alloc)?;

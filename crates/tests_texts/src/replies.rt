@@ -251,8 +251,8 @@ fn a_plan_that_takes_too_much_and_a_text_that_is_none_are_told(
 ) -> Result<(), Fail> {
     let mut page = ReplyPage::new(rt.alloc())?;
     let word = Key::new(rt.alloc(), "v")?.ok_or("a key of one byte")?;
-    let (kept, least) = (5, 4);
-    page.verified(&Verdict::NotLeast { word, kept, least })?;
+    let (taken, least) = (5, 4);
+    page.verified(&Verdict::NotLeast { word, taken, least })?;
     assert_eq!(rt; page.as_bytes(), "notleast v 5 4\n".as_bytes());
     let at = Time::new(10).ok_or("a time of 10 seconds")?;
     page.verified(&Verdict::BadText { doc: DocId(7), at })?;

@@ -47,13 +47,13 @@ fn bytes_that_were_checked_are_compared_with_what_is_read(rt: HostRuntime) -> Re
     fetch_on(&rt, alloc, &mut sublists, &mut machine, &shorter, (20, 30))?
         .err()
         .ok_or("it is refused")?;
-    let kept = second.digest;
+    let stored = second.digest;
     let mut changed = bytes_of(alloc, BOTH)?;
     if let Some(byte) = changed.get_mut(15) {
         *byte = 2;
     }
     let got = Sha256::digest(&changed);
-    let why = Why::Digest { kept, got };
+    let why = Why::Digest { stored, got };
     let refused = gather_on(
         &rt,
         alloc,

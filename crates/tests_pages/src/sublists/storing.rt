@@ -48,7 +48,7 @@ fn the_sublists_of_two_documents_lie_in_three_pages(rt: HostRuntime) -> Result<(
 fn a_call_of_the_disk_that_fails_is_told(rt: HostRuntime) -> Result<(), Fail> {
     let alloc = rt.alloc();
     for (call, nth) in [(CallKind::Write, 2), (CallKind::Sync, 1)] {
-        let faults = [Fault { call, nth, kept: 0 }];
+        let faults = [Fault { call, nth, landed: 0 }];
         let mut machine = machine_with(&rt, alloc, &[], &faults)?;
         let stored = store_all(&rt, alloc, &mut machine, Layout::Blocks)?;
         assert_eq!(rt; stored.err(), Some(Failed));
@@ -56,7 +56,7 @@ fn a_call_of_the_disk_that_fails_is_told(rt: HostRuntime) -> Result<(), Fail> {
     let faults = [Fault {
         call: CallKind::Read,
         nth: 2,
-        kept: 0,
+        landed: 0,
     }];
     let mut machine = machine_with(&rt, alloc, &[], &faults)?;
     let places = store_all(&rt, alloc, &mut machine, Layout::Blocks)?

@@ -9,7 +9,7 @@ returns-in-Ok-clause-only c = OnlyDisk-synced _ _ _ c.in-Ok.ensures.ok (omega ar
 pub returns-in-Ok-clause-images : goal.returns-in-Ok-clause-images
 returns-in-Ok-clause-images c =
     let disk = disk_state c.args.self.now in
-    Syncs-synced (meaning c.args.self.now) _ _ c.in-Ok.ensures.ok (allowed_by_area disk.now disk.holds c.args.self.now.history.current.journal.kept c.args.self.now.history.current.pages.kept)
+    Syncs-synced (meaning c.args.self.now) _ _ c.in-Ok.ensures.ok (allowed_by_area disk.now disk.holds c.args.self.now.history.current.journal.allowed c.args.self.now.history.current.pages.allowed)
 
 pub returns-in-Err-clause-only : goal.returns-in-Err-clause-only
 returns-in-Err-clause-only c = OnlyDisk-stayed _ _ _ (c.starve.ensures.same ∙ c.in-Err.ensures.err) (omega arith)

@@ -16,9 +16,9 @@ script_of x = x.script
 abbrev pub starved_of : MemMachine → ℕ
 starved_of x = x.starved.value
 
--- a fault names the next call of this kind, with so many bytes kept
+-- a fault names the next call of this kind, where so many bytes land
 abbrev pub IsDue : MemMachine → CallKind → ℕ → Type 0
-IsDue x kind kept = IsNamed (script_of x).faults.items kind (next_of (script_of x).counts kind) kept
+IsDue x kind landed = IsNamed (script_of x).faults.items kind (next_of (script_of x).counts kind) landed
 
 -- the script after one call more of a kind
 abbrev pub called : CallKind → Script → Script
