@@ -21,12 +21,6 @@ le_from = leb-true
 pub lt_from_not : (a b : ℕ) → nat_le a b ≡ false → b < a
 lt_from_not = leb-false
 
-pub lt_from : (a b : ℕ) → nat_lt a b ≡ true → a < b
-lt_from = ltb-true
-
-pub le_from_not : (a b : ℕ) → nat_lt a b ≡ false → b ≤ a
-le_from_not = ltb-false
-
 pub eq_from : (a b : ℕ) → IsTrue (nat_eq a b) → a ≡ b
 eq_from a b h = grind (arith, nat_tests)
 

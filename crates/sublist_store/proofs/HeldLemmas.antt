@@ -18,7 +18,7 @@ use Rattle.sublist_store.specs.Fetching.{belongs}
 use Rattle.sublist_store.specs.Gathering.{Chosen, IsBare, Joins, Gathers, chosen, stored_size}
 use Rattle.sublist_store.specs.Laws.{HeldIsGathered}
 use Rattle.sublist_store.proofs.UnionLemmas.{here, behind, cases}
-use Rattle.sublist_store.proofs.OutcomeLemmas.{one_outcome}
+use Rattle.sublist_store.proofs.OneGathering.{one_gathering}
 
 -- ---- postings that pass a test
 
@@ -194,7 +194,7 @@ held_gathered layout list pages cuts h places a b outcome are each gathers =
     let other : Gathers layout h pages segments [] 0 (Ok (all, 0 + n)) = subst G (passed_none list) s.gathers in
     record {
       stored = all;
-      is = elim (one_outcome layout h pages segments [] 0 outcome (Ok (all, 0 + n)) gathers other) [
+      is = elim (one_gathering layout h pages segments [] 0 outcome (Ok (all, 0 + n)) gathers other) [
         | inl e ↦ e ∙ ap (λ (m : ℕ). Ok (all, m)) (zero-add n)
         | inr clash ↦ absurd (let e = clash.1.second in cc)
       ];

@@ -8,6 +8,6 @@ pub mod HoldLemmas
 mod UnionLemmas
 mod JoinLemmas
 mod FetchLemmas
-mod OutcomeLemmas
+mod OneGathering
 pub mod HeldLemmas
 pub mod SpellLemmas

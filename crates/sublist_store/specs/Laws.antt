@@ -33,8 +33,8 @@ pub record AreClashes (page : ℕ) (a b : ListOrDamage) : Type 0 where
   pub second : b ≡ Err (record { page = page; why = Clash this that })
 
 -- What is gathered has one outcome; where it is a clash, which two postings are named is free.
-abbrev pub OneOutcome : Type 0
-OneOutcome =
+abbrev pub OneGathering : Type 0
+OneGathering =
     (layout : Layout) (h : ℕ) (pages : List ℕ) (segments : List Chosen) (union : List Posting) (read : ℕ) (a b : ListOrDamage)
     → Gathers layout h pages segments union read a → Gathers layout h pages segments union read b → (a ≡ b) ⊎ ((page : ℕ) × AreClashes page a b)
 

@@ -1,7 +1,7 @@
 //! What holds of sublists in places, whatever is written or read. The functions do nothing when they
 //! run.
 ghost use Rattle.sublist_store.specs.Preparing.{PiecesHoldSublists, PlacesAreForSublists};
-ghost use Rattle.sublist_store.specs.Laws.{OneCause, NoCauseAgainstFetched, OneFetched, OneOutcome, HeldIsGathered};
+ghost use Rattle.sublist_store.specs.Laws.{OneCause, NoCauseAgainstFetched, OneFetched, OneGathering, HeldIsGathered};
 
 /// Pages that hold the pieces of a list's segments hold their sublists.
 pub fn pieces_hold_sublists()
@@ -21,9 +21,9 @@ pub fn one_answer_of_bytes()
     ensures list { OneFetched }
 {}
 
-/// What is gathered has one outcome, but that which two postings of a clash are named is free.
-pub fn one_outcome()
-    ensures { OneOutcome }
+/// Gathering tells one thing, but that which two postings of a clash are named is free.
+pub fn one_gathering()
+    ensures { OneGathering }
 {}
 
 /// Where the places of a list's segments hold its sublists, nothing is damaged, and what is gathered

@@ -24,7 +24,7 @@ mod why;
 
 pub use gathering::Gathered;
 pub use laws::{
-    held_sublists_are_gathered, one_answer_of_bytes, one_outcome, pieces_hold_sublists,
+    held_sublists_are_gathered, one_answer_of_bytes, one_gathering, pieces_hold_sublists,
     places_are_for_sublists,
 };
 pub use parts::{narrowed, part_or, sublist_bytes};

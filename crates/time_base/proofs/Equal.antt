@@ -56,12 +56,3 @@ same_extent e f p n = λ i. record {
   numbered = is_prop→PathP (λ j. p j < 2 ^ 32) (λ j. le_prop) e.numbered f.numbered i;
   sized = is_prop→PathP (λ j. n j < 2 ^ 64) (λ j. le_prop) e.sized f.sized i;
 }
-
--- places of as many bytes that begin alike are one
-pub same_place : (p q : TextPlace) → p.at ≡ q.at → p.bytes ≡ q.bytes → p ≡ q
-same_place p q a n = λ i. record {
-  at = a i;
-  bytes = n i;
-  placed = is_prop→PathP (λ j. a j < 2 ^ 64) (λ j. le_prop) p.placed q.placed i;
-  bounded = is_prop→PathP (λ j. n j < 2 ^ 32) (λ j. le_prop) p.bounded q.bounded i;
-}

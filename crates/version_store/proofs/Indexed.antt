@@ -117,10 +117,6 @@ known log links m doc life h e = subst (λ (o : Option LastLife). IsLatest doc l
 pub known-alive : (log : List (Change TextPlace)) (links : List Link) (m : LastLives) (doc : DocId) (life : Option LastLife) → IsIndexed log links m → get same m doc ≡ life → IfSome life (IsLastLife doc log)
 known-alive log links m doc life h e = subst (λ (o : Option LastLife). IfSome o (IsLastLife doc log)) e (h.alive doc)
 
--- a document without a last life holds nothing
-pub known-none : (log : List (Change TextPlace)) (links : List Link) (m : LastLives) (doc : DocId) (t : ℕ) → IsIndexed log links m → get same m doc ≡ None → held_at doc t log ≡ None
-known-none log links m doc t h e = ap (valid_at t) (known log links m doc None h e)
-
 -- the place of a document's latest change is one of the log
 pub known-within : (log : List (Change TextPlace)) (links : List Link) (m : LastLives) (doc : DocId) (life : LastLife) → IsIndexed log links m → get same m doc ≡ Some life → life.place < length log
 known-within log links m doc life h e = let at = some_of (slice_get log life.place) _ (known log links m doc (Some life) h e) in slice_get_within log life.place at.0 at.1

@@ -1,4 +1,4 @@
-use Rattle.sublist_store.proofs.OutcomeLemmas.{one_cause, no_cause, one_fetched}
+use Rattle.sublist_store.proofs.OneGathering.{one_cause, no_cause, one_fetched}
 use Rattle.sublist_store.proofs.laws.one_answer_of_bytes.Goals as goal
 
 pub returns : goal.returns

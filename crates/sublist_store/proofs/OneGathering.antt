@@ -14,7 +14,7 @@ use Rattle.sublist_codec.proofs.BlockCodec.{block_codec}
 use Rattle.sublist_store.specs.Layouts.{Spells, IsFault}
 use Rattle.sublist_store.specs.Fetching.{IsFetched, IsFirstAstray, belongs}
 use Rattle.sublist_store.specs.Gathering.{Chosen, ListOrDamage, Joins, Parts, Refuses, Gathers, bytes_of}
-use Rattle.sublist_store.specs.Laws.{OneCause, NoCauseAgainstFetched, OneFetched, OneOutcome, AreClashes}
+use Rattle.sublist_store.specs.Laws.{OneCause, NoCauseAgainstFetched, OneFetched, OneGathering, AreClashes}
 use Rattle.sublist_store.specs.declared.why.Why.{Why}
 use Rattle.sublist_store.specs.declared.why.Why.TheVariants.{Digest, Form, Astray, Clash, Bare}
 use Rattle.sublist_store.proofs.UnionLemmas.{one_union, union_or_clash}
@@ -134,13 +134,13 @@ never_both layout h pages c union both n why (inr x) joins =
         let U : List Posting → Type 0 = λ l. IsUnion union l both in
         union_or_clash union x.0 both clash.1.0 clash.1.1.0 (subst U (sym same) joins.joined) clash.1.1.1.0
 
-pub one_outcome : OneOutcome
+pub one_gathering : OneGathering
 unfolding SameOrClash err
-one_outcome layout h pages [] union read a b one two = inl (one ∙ sym two)
-one_outcome layout h pages (c ∷ segments) union read a b (inl x) (inl y) = refused_alike layout h pages c union a b x.0 y.0 x.1.1 y.1.1 x.1.0 y.1.0
-one_outcome layout h pages (c ∷ segments) union read a b (inl x) (inr y) = absurd (never_both layout h pages c union y.0 y.1.0 x.0 x.1.0 y.1.1.0)
-one_outcome layout h pages (c ∷ segments) union read a b (inr x) (inl y) = absurd (never_both layout h pages c union x.0 x.1.0 y.0 y.1.0 x.1.1.0)
-one_outcome layout h pages (c ∷ segments) union read a b (inr x) (inr y) =
+one_gathering layout h pages [] union read a b one two = inl (one ∙ sym two)
+one_gathering layout h pages (c ∷ segments) union read a b (inl x) (inl y) = refused_alike layout h pages c union a b x.0 y.0 x.1.1 y.1.1 x.1.0 y.1.0
+one_gathering layout h pages (c ∷ segments) union read a b (inl x) (inr y) = absurd (never_both layout h pages c union y.0 y.1.0 x.0 x.1.0 y.1.1.0)
+one_gathering layout h pages (c ∷ segments) union read a b (inr x) (inl y) = absurd (never_both layout h pages c union x.0 x.1.0 y.0 y.1.0 x.1.1.0)
+one_gathering layout h pages (c ∷ segments) union read a b (inr x) (inr y) =
     let one = x.1.1.0 in
     let two = y.1.1.0 in
     let lists : one.list ≡ two.list = same_list layout h pages c one.list two.list one.fetched two.fetched in
@@ -149,4 +149,4 @@ one_outcome layout h pages (c ∷ segments) union read a b (inr x) (inr y) =
     let counts : x.1.0 ≡ y.1.0 = one.read_is ∙ ap (λ (l : List Posting). length l) lists ∙ sym two.read_is in
     let G : List Posting → Type 0 = λ l. Gathers layout h pages segments l (read + y.1.0) b in
     let N : ℕ → Type 0 = λ n. Gathers layout h pages segments x.0 (read + n) b in
-    one_outcome layout h pages segments x.0 (read + x.1.0) a b x.1.1.1 (subst N (sym counts) (subst G (sym unions) y.1.1.1))
+    one_gathering layout h pages segments x.0 (read + x.1.0) a b x.1.1.1 (subst N (sym counts) (subst G (sym unions) y.1.1.1))

@@ -1,5 +1,0 @@
-use Rattle.sublist_store.proofs.OutcomeLemmas.{one_outcome}
-use Rattle.sublist_store.proofs.laws.one_outcome.Goals as goal
-
-pub returns : goal.returns
-returns c = one_outcome
