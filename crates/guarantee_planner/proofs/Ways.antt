@@ -8,7 +8,7 @@ use Rattle.std.proofs.lemmas.List.Elements.{All-nil, All-cons, All-tail, Contain
 use Rattle.time_base.specs.declared.posting.Posting.{Posting}
 use Rattle.time_base.specs.declared.fraction.Fraction.{Fraction}
 use Rattle.elementary.specs.Boundaries.{IsBoundary}
-use Rattle.elementary.specs.Counts.{Counts, Tabulates, size_between}
+use Rattle.elementary.specs.Counts.{Counts, Tabulates}
 use Rattle.elementary.specs.Partitions.{Covers, AreBest, IsFitting, IsPartition, space}
 use Rattle.elementary.proofs.Bests.{IsWayTo, longer_way, are_best}
 use Rattle.elementary.proofs.Ordering.{Rise, increasing}
@@ -38,29 +38,24 @@ count_more lefts at next end count e lt l h = record {
 pub settled_bounds : (list : List Posting) (horizon : ℕ) (table : Counts) (factor : Fraction) (pi lefts : List ℕ) → Tabulates list horizon table → AreSettled table factor pi lefts (length table.boundaries) → AreBounds list factor horizon table.boundaries pi
 settled_bounds list horizon table factor pi lefts t s = record {
   times_are = t.boundaries;
-  edges = λ j k lt l adm. omega (arith, s.numbers k (omega arith) l, (s.best k (omega arith) l).none_better j lt (counts_from_admissible list horizon table factor t j k lt l adm), size_is list horizon table t j k lt l);
+  edges = λ j k lt l adm. omega (arith, (s.best k (omega arith) l).takes, (s.best k (omega arith) l).none_better j lt (counts_from_admissible list horizon table factor t j k lt l adm), size_is list horizon table t j k lt l);
 }
 
 -- what a way is of a list
-record IsCovering (list : List Posting) (factor : Fraction) (table : Counts) (pi : List ℕ) (at end : ℕ) (cuts : List ℕ) : Type 0 where
-  pub covers : Covers list factor (slice_index table.boundaries at) cuts (slice_index table.boundaries end)
-  pub costs : slice_index pi at + space list (slice_index table.boundaries at) cuts ≡ slice_index pi end
+abbrev IsCovering : List Posting → Fraction → Counts → List ℕ → ℕ → ℕ → List ℕ → Type 0
+IsCovering list factor table pi at end cuts =
+    Covers list factor (slice_index table.boundaries at) cuts (slice_index table.boundaries end) × (slice_index pi at + space list (slice_index table.boundaries at) cuts ≡ slice_index pi end)
 
 covering : (list : List Posting) (horizon : ℕ) (table : Counts) (factor : Fraction) (pi lefts : List ℕ) → Tabulates list horizon table → AreSettled table factor pi lefts (length table.boundaries)
     → (places : List ℕ) (at end : ℕ) → LeadsBy lefts at places end → IsCovering list factor table pi at end (map (λ p. slice_index table.boundaries p) places)
-covering list horizon table factor pi lefts t s [] at end w = record {
-  covers = ap (λ n. slice_index table.boundaries n) w;
-  costs = omega (arith, ap (λ n. slice_index pi n) w);
-}
+covering list horizon table factor pi lefts t s [] at end w = (ap (λ n. slice_index table.boundaries n) w, omega (arith, ap (λ n. slice_index pi n) w))
 covering list horizon table factor pi lefts t s (p ∷ places) at end (e, lt, l, w) =
-    let r = covering list horizon table factor pi lefts t s places p end w in
+    let (covers, costs) = covering list horizon table factor pi lefts t s places p end w in
     let m : p < length table.boundaries = omega (arith, l, s.lefts_long) in
-    let best : IsBestLeft table factor pi p at = rw e at (s.best p (omega arith) m) in
-    let number : slice_index pi p ≡ slice_index pi at + size_between table at p = rw e at (s.numbers p (omega arith) m) in
-    record {
-      covers = (rises table.boundaries t.boundaries.ascending at p lt m, admissible_from_counts list horizon table factor t at p lt m best.admissible, r.covers);
-      costs = omega (arith, r.costs, number, size_is list horizon table t at p lt m);
-    }
+    let best : IsBestLeft table factor pi p at = rw e at (s.best p (omega arith) m) in (
+      (rises table.boundaries t.boundaries.ascending at p lt m, admissible_from_counts list horizon table factor t at p lt m best.admissible, covers),
+      omega (arith, costs, best.takes, size_is list horizon table t at p lt m),
+    )
 
 -- a way to every boundary
 ways_to : (list : List Posting) (horizon : ℕ) (table : Counts) (factor : Fraction) (pi lefts : List ℕ) → Tabulates list horizon table → AreSettled table factor pi lefts (length table.boundaries)
@@ -68,7 +63,7 @@ ways_to : (list : List Posting) (horizon : ℕ) (table : Counts) (factor : Fract
 ways_to list horizon table factor pi lefts t s zero k a l = absurd (omega (arith, a))
 ways_to list horizon table factor pi lefts t s (suc n) k a l = elim (cases_lt 0 k) [
   | inl some ↦ let b = s.best k some l in
-      rw (s.numbers k some l, size_is list horizon table t (slice_index lefts k) k b.before l)
+      rw (b.takes, size_is list horizon table t (slice_index lefts k) k b.before l)
       (longer_way list factor horizon _ (slice_index table.boundaries (slice_index lefts k)) _ _ (ways_to list horizon table factor pi lefts t s n (slice_index lefts k) (omega (arith, a, b.before)) (omega (arith, l, b.before)))
       (rises table.boundaries t.boundaries.ascending (slice_index lefts k) k b.before l) (admissible_from_counts list horizon table factor t (slice_index lefts k) k b.before l b.admissible) ((t.boundaries.each _).0 (Contains-get_or table.boundaries k 0 l)))
   | inr z ↦ let e : k ≡ 0 = omega arith in rw (e, s.starts) (record { cuts = []; covers = refl; at_boundaries = All-nil (IsBoundary list horizon); takes = refl })
@@ -114,7 +109,7 @@ way_parts times lefts cuts some up l w = rw w.are (record {
 pub way_certified : (list : List Posting) (horizon : ℕ) (table : Counts) (factor : Fraction) (pi lefts cuts : List ℕ) → 2 ≤ length table.boundaries → Tabulates list horizon table → AreSettled table factor pi lefts (length table.boundaries)
     → IsWay table.boundaries lefts 0 (length table.boundaries - 1) cuts → CertifiesCuts list factor table.boundaries pi cuts horizon
 way_certified list horizon table factor pi lefts cuts some t s w =
-    let c = covering list horizon table factor pi lefts t s w.places 0 (length table.boundaries - 1) w.leads in
+    let (covers, costs) = covering list horizon table factor pi lefts t s w.places 0 (length table.boundaries - 1) w.leads in
     let inside = way_inside table.boundaries lefts (omega (arith, s.lefts_long)) w.places 0 (length table.boundaries - 1) (omega arith) w.leads in
     record {
       fits = way_fits table.boundaries lefts cuts some s.lefts_long w;
@@ -122,10 +117,10 @@ way_certified list horizon table factor pi lefts cuts some t s w =
         times_are = t.boundaries;
         early = t.early;
         at_boundaries = λ i d m. (t.boundaries.each _).0 (All-tail (Contains table.boundaries) _ _ inside i d m);
-        covers = rw (last_is_horizon list horizon table.boundaries t.boundaries t.early) at c.covers;
+        covers = rw (last_is_horizon list horizon table.boundaries t.boundaries t.early) at covers;
         long = s.pi_long;
         starts = s.starts;
         edges = (settled_bounds list horizon table factor pi lefts t s).edges;
-        total = omega (arith, c.costs, s.starts);
+        total = omega (arith, costs, s.starts);
       });
     }

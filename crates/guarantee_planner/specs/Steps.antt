@@ -3,11 +3,12 @@ use Rattle.std.specs.Prelude.{◌≡◌, ℕ, ◌+◌, ◌*◌, ◌^◌, ◌<◌
 use Rattle.time_base.specs.declared.fraction.Fraction.{Fraction}
 use Rattle.elementary.specs.Counts.{Counts, AdmissibleBetween, size_between}
 
--- left begins a last segment to boundary k that is admissible, and no admissible one costs less with the number at its left.
+-- left begins a last segment to boundary k that is admissible, and no admissible one costs less with the number at its left; so much is the number there.
 pub record IsBestLeft (table : Counts) (factor : Fraction) (pi : List ℕ) (k left : ℕ) : Type 0 where
   pub before : left < k
   pub admissible : AdmissibleBetween table factor left k
   pub none_better : (j : ℕ) → j < k → AdmissibleBetween table factor j k → slice_index pi left + size_between table left k ≤ slice_index pi j + size_between table j k
+  pub takes : slice_index pi k ≡ slice_index pi left + size_between table left k
 
 -- The numbers at the boundaries before n, and the left ends of their best last segments.
 pub record AreSettled (table : Counts) (factor : Fraction) (pi lefts : List ℕ) (n : ℕ) : Type 0 where
@@ -15,7 +16,6 @@ pub record AreSettled (table : Counts) (factor : Fraction) (pi lefts : List ℕ)
   pub lefts_long : length lefts ≡ n
   pub starts : slice_index pi 0 ≡ 0
   pub best : (k : ℕ) → 0 < k → k < n → IsBestLeft table factor pi k (slice_index lefts k)
-  pub numbers : (k : ℕ) → 0 < k → k < n → slice_index pi k ≡ slice_index pi (slice_index lefts k) + size_between table (slice_index lefts k) k
   pub small : (k : ℕ) → k < n → slice_index pi k ≤ k * 2 ^ 38
 
 -- The places lead on from one to the end, each the left end of the next.

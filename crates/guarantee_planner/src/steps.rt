@@ -1,5 +1,8 @@
 //! The numbers at the boundaries, and the way back along their best last segments.
-ghost use Rattle.std.specs.Prelude.{◌≡◌, ℕ, ◌-◌, ◌<◌, ◌≤◌, ◌^◌, length, slice_index, IfOk};
+ghost use Rattle.std.specs.Prelude.{◌≡◌, ℕ, ◌+◌, ◌-◌, ◌*◌, ◌<◌, ◌≤◌, ◌^◌, [], ◌∷◌, ◌++◌, length, slice_index, IfOk};
+ghost use Rattle.window_min.specs.Windows.{IsOver};
+ghost use Rattle.elementary.specs.Counts.{size_between};
+ghost use Rattle.plan_certificate.specs.Lefts.{cost_to_end, IsCheapest};
 ghost use Rattle.guarantee_planner.specs.Steps.{AreSettled, HasCuts, IsWay};
 
 use elementary::{Table, reaches};
@@ -29,12 +32,41 @@ pub(crate) fn settle(alloc: Global, table: &Table, factor: Fraction) -> Result<S
     pi.push(0)?;
     for k in 1..boundaries {
         let low = lefts[k];
-        let left = cheapest_left(table, &pi, low, k, &mut window)?;
-        let number = pi[left] + table.size(left, k);
-        pi.push(number)?;
+        let left = add_number(table, &mut pi, low, k, &mut window)?;
         lefts[k] = left;
     }
     Ok(Settled { pi, lefts })
+}
+
+/// Adds the number of boundary `k`, and gives the left end of a last segment that takes it, of those from
+/// boundary `low` on. The window is that of `cheapest_left`.
+fn add_number(
+    table: &Table,
+    pi: &mut Vec<u64>,
+    low: usize,
+    k: usize,
+    window: &mut WindowMin,
+) -> Result<usize, AllocError>
+    requires some { 0 < k }
+    requires few { length table.now.boundaries ≤ 2 ^ 20 }
+    requires inside { k < length table.now.boundaries }
+    requires long { length pi.old.items ≡ k }
+    requires small { (i : ℕ) → i < k → slice_index pi.old.items i ≤ i * 2 ^ 38 }
+    requires costs { IsOver (cost_to_end table.now pi.old.items) window.old }
+    requires next { window.old.next ≡ k - 1 }
+    requires on { window.old.from ≤ low }
+    requires before { low < k }
+    ensures costs { IfOk result (λ _. IsOver (cost_to_end table.now pi.new.items) window.new) }
+    ensures next { IfOk result (λ _. window.new.next ≡ k) }
+    ensures from { IfOk result (λ _. window.new.from ≡ low) }
+    ensures cheapest { IfOk result (IsCheapest table.now pi.old.items low k) }
+    ensures small { IfOk result (λ left. size_between table.now left k < 2 ^ 38) }
+    ensures number { IfOk result (λ left. pi.new.items ≡ pi.old.items ++ (slice_index pi.old.items left + size_between table.now left k) ∷ []) }
+{
+    let left = cheapest_left(table, pi, low, k, window)?;
+    let number = pi[left] + table.size(left, k);
+    pi.push(number)?;
+    Ok(left)
 }
 
 /// How many cuts the way back from the last boundary by left ends has.

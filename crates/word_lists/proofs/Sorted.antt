@@ -1,15 +1,16 @@
 -- What a stable sort by document leaves, and what lies in front of a change then.
-use Rattle.std.specs.Prelude.{◌≡◌, ◌<◌, ◌==◌, List, [], ◌∷◌, ◌++◌, not, ◌&&◌, None, All, ℕ}
+use Rattle.std.specs.Prelude.{◌≡◌, ◌<◌, ◌==◌, List, [], ◌∷◌, ◌++◌, not, ◌&&◌, None, All, ℕ, zero, refl}
 use Rattle.std.specs.List.Sorted.{IsStableByKey}
 use Rattle.std.specs.Ordering.{nat_cmp, is_lt}
 use Rattle.std.proofs.Common.{arith, sym, ◌∙◌}
 use Rattle.std.proofs.lemmas.Bool.Decides.{nat_tests}
-use Rattle.std.proofs.lemmas.List.Elements.{filter_agree, All-nil, All-cons, All-head}
+use Rattle.std.proofs.lemmas.List.Elements.{filter_agree, All-nil, All-cons, Contains-append_right}
 use Rattle.time_base.specs.declared.ids.DocId.{DocId}
 use Rattle.time_base.specs.declared.time.Time.{Time}
 use Rattle.version_store.specs.declared.change.Change.{Change}
 use Rattle.version_store.specs.Changes.{changes_of}
 use Rattle.postings.specs.Lists.{EachNext}
+use Rattle.postings.proofs.Order.{next-later, next-tail}
 
 -- two numbers of which neither is less
 tie : (m n : ℕ) → (not (is_lt (nat_cmp m n)) && not (is_lt (nat_cmp n m))) ≡ (n == m)
@@ -28,8 +29,7 @@ changes_of-stable xs ys h doc =
 -- of changes each later than the one before it, those in front of one are earlier
 pub rise-front : (front back : List (Change ℕ)) (c : Change ℕ) → EachNext (λ a b. a.at.seconds < b.at.seconds) (front ++ c ∷ back) → All (λ d. d.at.seconds < c.at.seconds) front
 rise-front [] back c h = All-nil _
-rise-front (d ∷ []) back c h = All-cons (λ (d : Change ℕ). d.at.seconds < c.at.seconds) d [] h.0 (All-nil _)
-rise-front (d ∷ e ∷ front) back c h =
-    let rest : All (λ d. d.at.seconds < c.at.seconds) (e ∷ front) = rise-front (e ∷ front) back c h.1 in
-    let first : e.at.seconds < c.at.seconds = All-head (λ (d : Change ℕ). d.at.seconds < c.at.seconds) e front rest in
-    All-cons (λ (d : Change ℕ). d.at.seconds < c.at.seconds) d (e ∷ front) (omega (arith, h.0)) rest
+rise-front (d ∷ front) back c h =
+    let later = λ (a b : Change ℕ). a.at.seconds < b.at.seconds in
+    let first = next-later later (λ x y z p q. omega (arith, p, q)) d c _ h (Contains-append_right front (c ∷ back) c (zero, omega arith, refl)) in
+    All-cons (λ (d : Change ℕ). d.at.seconds < c.at.seconds) d front first (rise-front front back c (next-tail later d _ h))

@@ -21,11 +21,21 @@ pub fn list_of(alloc: Global, changes: &[Change<u32>]) -> Result<Vec<Posting>, A
     ensures list { IfOk result (λ list. IsListOf (frequency_by changes.now) 0 (2 ^ 40) list.items) }
     ensures few { IfOk result (λ list. length list.items ≤ length changes.now) }
 {
-    held_as_changes_come::<u32>();
     let sorted = by_document(alloc, changes)?;
+    list_by_document(alloc, &sorted)
+}
+
+/// The word's list from changes that stand by document, each document's in the order of time.
+fn list_by_document(alloc: Global, changes: &[Change<u32>]) -> Result<Vec<Posting>, AllocError>
+    requires ascending { IsNonDecreasingBy (λ c. c.doc.0) changes.now }
+    requires rise { RiseByDocument changes.now }
+    ensures list { IfOk result (λ list. IsListOf (frequency_by changes.now) 0 (2 ^ 40) list.items) }
+    ensures few { IfOk result (λ list. length list.items ≤ length changes.now) }
+{
+    held_as_changes_come::<u32>();
     let mut tail = Tail::new(alloc);
     let mut before = None;
-    for change in &sorted {
+    for change in changes {
         pass(&mut tail, before, *change)?;
         before = Some(*change);
     }
