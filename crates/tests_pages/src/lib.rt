@@ -5,8 +5,6 @@
 #![tactic(auto)]
 
 #[cfg(test)]
-mod digits;
-#[cfg(test)]
 mod free_pages;
 #[cfg(test)]
 mod kept_pages;

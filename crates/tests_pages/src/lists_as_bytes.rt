@@ -1,10 +1,8 @@
 //! Lists as bytes in both layouts, and bytes that spell no list.
-ghost use Rattle.std.specs.Prelude.{IfOk};
 ghost use Rattle.postings.specs.Lists.{IsList};
 
-use crate::digits::bytes_of;
-use std::alloc::{AllocError, Global};
-use std::test::Fail;
+use std::alloc::Global;
+use std::process::Abort;
 use sublist_codec::{Frames, ListError, decode_blocks, decode_list, encode_blocks, encode_list};
 use time_base::Posting;
 
@@ -21,70 +19,85 @@ const FIRST: &str = "0000000100000001000000000000000a0000000000000028";
 
 const SECOND: &str = "00000002000000010000000000000014000000000000001e";
 
+/// The bytes that hexadecimal digits spell.
+fn bytes_of(rt: &impl Abort, alloc: Global, digits: &str) -> Vec<u8> {
+    hex::decode(alloc, digits).expect(rt, "bytes")
+}
+
 /// The flat bytes of both.
-fn both(alloc: Global) -> Result<Vec<u8>, AllocError> {
-    let mut bytes = bytes_of(alloc, FIRST)?;
-    let second = bytes_of(alloc, SECOND)?;
-    bytes.extend_from_slice(&second)?;
-    Ok(bytes)
+fn both(rt: &impl Abort, alloc: Global) -> Vec<u8> {
+    let mut bytes = bytes_of(rt, alloc, FIRST);
+    let second = bytes_of(rt, alloc, SECOND);
+    bytes.extend_from_slice(&second).expect(rt, "memory");
+    bytes
+}
+
+/// The list of flat bytes.
+fn listed(rt: &impl Abort, alloc: Global, flat: &[u8]) -> Vec<Posting>
+    ensures { IsList result.items }
+{
+    decode_list(alloc, flat).expect(rt, "a list")
+}
+
+/// A list has these bytes in blocks, which spell it.
+fn expect_blocks(rt: &impl Abort, alloc: Global, flat: &[u8], digits: &str) {
+    let list = listed(rt, alloc, flat);
+    let again = encode_list(alloc, &list).expect(rt, "memory");
+    assert_eq!(rt; again.as_slice(), flat);
+    let blocks = encode_blocks(alloc, &list).expect(rt, "memory");
+    let wanted = bytes_of(rt, alloc, digits);
+    assert_eq!(rt; blocks.as_slice(), wanted.as_slice());
+    let again = decode_blocks(alloc, &blocks).expect(rt, "a list");
+    assert_eq!(rt; again.as_slice(), list.as_slice());
 }
 
 #[test]
-fn a_list_of_two_postings_in_both_layouts(rt: HostRuntime) -> Result<(), Fail> {
-    let wanted = both(rt.alloc())?;
-    let list = decode_list(rt.alloc(), &wanted)?;
-    let flat = encode_list(rt.alloc(), &list)?;
-    assert_eq!(rt; flat.as_slice(), wanted.as_slice());
-    let mut read = Vec::new(rt.alloc());
-    for posting in &list {
-        read.push((
-            posting.doc.0,
-            posting.tf,
-            posting.span.from,
-            posting.span.to,
-        ))?;
+fn a_list_of_two_postings_in_both_layouts(rt: HostRuntime) {
+    let flat = both(&rt, rt.alloc());
+    let list = listed(&rt, rt.alloc(), &flat);
+    assert_eq!(rt; list.len(), 2);
+    for (posting, (doc, from, to)) in list.iter().zip(&[(1, 10, 40), (2, 20, 30)]) {
+        assert_eq!(rt; posting.doc.0, *doc);
+        assert_eq!(rt; posting.tf, 1);
+        assert_eq!(rt; posting.span.from, *from);
+        assert_eq!(rt; posting.span.to, *to);
     }
-    assert_eq!(rt;
-        read.as_slice(),
-        [(1, 1, 10, 40), (2, 1, 20, 30)].as_slice()
-    );
-    let blocks = encode_blocks(rt.alloc(), &list)?;
-    let wanted = bytes_of(rt.alloc(), "020007000000010000000100000002010a1e0101140a")?;
-    assert_eq!(rt; blocks.as_slice(), wanted.as_slice());
-    assert_eq!(rt;
-        decode_blocks(rt.alloc(), &blocks)?.as_slice(),
-        list.as_slice()
-    );
-    Ok(())
+    let digits = "020007000000010000000100000002010a1e0101140a";
+    expect_blocks(&rt, rt.alloc(), &flat, digits);
 }
 
 #[test]
-fn a_block_of_one_posting_has_eighteen_bytes(rt: HostRuntime) -> Result<(), Fail> {
-    let flat = bytes_of(rt.alloc(), FIRST)?;
-    let list = decode_list(rt.alloc(), &flat)?;
-    let blocks = encode_blocks(rt.alloc(), &list)?;
-    let wanted = bytes_of(rt.alloc(), "010003000000010000000100000001010a1e")?;
-    assert_eq!(rt; blocks.as_slice(), wanted.as_slice());
-    let second = bytes_of(rt.alloc(), SECOND)?;
-    let behind = decode_list(rt.alloc(), &second)?;
-    let blocks = encode_blocks(rt.alloc(), &behind)?;
-    let wanted = bytes_of(rt.alloc(), "01000300000001000000020000000201140a")?;
-    assert_eq!(rt; blocks.as_slice(), wanted.as_slice());
-    Ok(())
+fn a_block_of_one_posting_has_eighteen_bytes(rt: HostRuntime) {
+    for (flat, digits) in [
+        (FIRST, "010003000000010000000100000001010a1e"),
+        (SECOND, "01000300000001000000020000000201140a"),
+    ] {
+        let flat = bytes_of(&rt, rt.alloc(), flat);
+        expect_blocks(&rt, rt.alloc(), &flat, digits);
+    }
 }
 
 #[test]
-fn the_empty_list_has_no_bytes(rt: HostRuntime) -> Result<(), Fail> {
-    assert_eq!(rt; encode_list(rt.alloc(), &[])?.len(), 0);
-    assert_eq!(rt; encode_blocks(rt.alloc(), &[])?.len(), 0);
-    assert_eq!(rt; decode_list(rt.alloc(), &[])?.len(), 0);
-    assert_eq!(rt; decode_blocks(rt.alloc(), &[])?.len(), 0);
-    Ok(())
+fn the_empty_list_has_no_bytes(rt: HostRuntime) {
+    let alloc = rt.alloc();
+    assert_eq!(rt; encode_list(alloc, &[]).expect(&rt, "memory").len(), 0);
+    assert_eq!(rt; encode_blocks(alloc, &[]).expect(&rt, "memory").len(), 0);
+    assert_eq!(rt; decode_list(alloc, &[]).expect(&rt, "a list").len(), 0);
+    assert_eq!(rt; decode_blocks(alloc, &[]).expect(&rt, "a list").len(), 0);
+}
+
+/// The same bytes with another one at a place.
+fn altered(rt: &impl Abort, alloc: Global, bytes: &[u8], at: usize, byte: u8) -> Vec<u8> {
+    let mut changed = Vec::from_slice(alloc, bytes).expect(rt, "memory");
+    if let Some(old) = changed.get_mut(at) {
+        *old = byte;
+    }
+    changed
 }
 
 #[test]
-fn the_posting_at_fault_is_named(rt: HostRuntime) -> Result<(), Fail> {
-    let list = both(rt.alloc())?;
+fn the_posting_at_fault_is_named(rt: HostRuntime) {
+    let list = both(&rt, rt.alloc());
     for (at, byte, named) in [
         // Document 0 behind document 1.
         (27, 0, 24),
@@ -96,22 +109,20 @@ fn the_posting_at_fault_is_named(rt: HostRuntime) -> Result<(), Fail> {
         // The same document again, while the first posting lasts.
         (27, 1, 24),
     ] {
-        let mut changed = Vec::from_slice(rt.alloc(), &list)?;
-        if let Some(old) = changed.get_mut(at) {
-            *old = byte;
-        }
-        assert_eq!(rt;
-            place(decode_list(rt.alloc(), &changed)),
-            Some(named),
-            "byte {at} as {byte}"
-        );
+        let changed = altered(&rt, rt.alloc(), &list, at, byte);
+        let read = decode_list(rt.alloc(), &changed);
+        assert_eq!(rt; place(read), Some(named), "byte {at} as {byte}");
     }
+}
+
+#[test]
+fn the_posting_that_is_cut_short_is_named(rt: HostRuntime) {
+    let list = both(&rt, rt.alloc());
     for (bytes, named) in [(47, 24), (1, 0)] {
-        let mut short = Vec::from_slice(rt.alloc(), &list)?;
+        let mut short = Vec::from_slice(rt.alloc(), &list).expect(&rt, "memory");
         short.truncate(bytes);
         assert_eq!(rt; place(decode_list(rt.alloc(), &short)), Some(named));
     }
-    Ok(())
 }
 
 /// Bytes that are no blocks, and the place that is named.
@@ -157,40 +168,49 @@ const FAULTS: [(&str, u64); 25] = [
 ];
 
 #[test]
-fn the_place_at_fault_in_blocks_is_named(rt: HostRuntime) -> Result<(), Fail> {
+fn the_place_at_fault_in_blocks_is_named(rt: HostRuntime) {
     for (digits, at) in FAULTS {
-        let bytes = bytes_of(rt.alloc(), digits)?;
-        assert_eq!(rt;
-            place(decode_blocks(rt.alloc(), &bytes)),
-            Some(at),
-            "{digits}"
-        );
+        let bytes = bytes_of(&rt, rt.alloc(), digits);
+        let read = decode_blocks(rt.alloc(), &bytes);
+        assert_eq!(rt; place(read), Some(at), "{digits}");
     }
-    Ok(())
 }
 
 /// Adds the flat bytes of a posting of frequency 1.
-fn put_flat(bytes: &mut Vec<u8>, doc: u32, from: u64, to: u64) -> Result<(), AllocError> {
-    bytes.extend_from_slice(&doc.to_be_bytes())?;
-    bytes.extend_from_slice(&1u32.to_be_bytes())?;
-    bytes.extend_from_slice(&from.to_be_bytes())?;
-    bytes.extend_from_slice(&to.to_be_bytes())?;
-    Ok(())
+fn put_flat(rt: &impl Abort, bytes: &mut Vec<u8>, doc: u32, from: u64, to: u64) {
+    for number in [doc, 1] {
+        let spelled = number.to_be_bytes();
+        bytes.extend_from_slice(&spelled).expect(rt, "memory");
+    }
+    for number in [from, to] {
+        let spelled = number.to_be_bytes();
+        bytes.extend_from_slice(&spelled).expect(rt, "memory");
+    }
 }
 
 /// So many postings from 10 to 20, one a document.
-fn long(alloc: Global, count: u32) -> Result<Vec<Posting>, ListError>
-    ensures { IfOk result (λ v. IsList v.items) }
+fn long(rt: &impl Abort, alloc: Global, count: u32) -> Vec<Posting>
+    ensures { IsList result.items }
 {
     let mut bytes = Vec::new(alloc);
     for doc in 0..count {
-        put_flat(&mut bytes, doc, 10, 20)?;
+        put_flat(rt, &mut bytes, doc, 10, 20);
     }
-    decode_list(alloc, &bytes)
+    listed(rt, alloc, &bytes)
+}
+
+/// A list has so many bytes in blocks, which spell it.
+fn expect_size(rt: &impl Abort, alloc: Global, list: &[Posting], bytes: usize)
+    requires { IsList list.now }
+{
+    let blocks = encode_blocks(alloc, list).expect(rt, "memory");
+    assert_eq!(rt; blocks.len(), bytes);
+    let again = decode_blocks(alloc, &blocks).expect(rt, "a list");
+    assert_eq!(rt; again.as_slice(), list);
 }
 
 #[test]
-fn a_block_has_128_postings(rt: HostRuntime) -> Result<(), Fail> {
+fn a_block_has_128_postings(rt: HostRuntime) {
     for (count, bytes) in [
         (0, 0),
         (1, 18),
@@ -199,13 +219,9 @@ fn a_block_has_128_postings(rt: HostRuntime) -> Result<(), Fail> {
         (129, 544),
         (1000, 4112),
     ] {
-        let list = long(rt.alloc(), count)?;
-        let blocks = encode_blocks(rt.alloc(), &list)?;
-        assert_eq!(rt; blocks.len(), bytes);
-        let again = decode_blocks(rt.alloc(), &blocks)?;
-        assert_eq!(rt; again.as_slice(), list.as_slice());
+        let list = long(&rt, rt.alloc(), count);
+        expect_size(&rt, rt.alloc(), &list, bytes);
     }
-    Ok(())
 }
 
 /// Starts, and how many bytes a block of one posting with that start has: 17, and one to six for the start.
@@ -225,88 +241,92 @@ const STARTS: [(u64, usize); 12] = [
 ];
 
 #[test]
-fn a_number_has_one_to_six_bytes(rt: HostRuntime) -> Result<(), Fail> {
+fn a_number_has_one_to_six_bytes(rt: HostRuntime) {
     for (from, bytes) in STARTS {
         let mut flat = Vec::new(rt.alloc());
-        put_flat(&mut flat, 1, from, from.saturating_add(1))?;
-        let list = decode_list(rt.alloc(), &flat)?;
-        let blocks = encode_blocks(rt.alloc(), &list)?;
-        assert_eq!(rt; blocks.len(), bytes, "{from}");
-        assert_eq!(rt;
-            decode_blocks(rt.alloc(), &blocks)?.as_slice(),
-            list.as_slice()
-        );
+        put_flat(&rt, &mut flat, 1, from, from.saturating_add(1));
+        let list = listed(&rt, rt.alloc(), &flat);
+        expect_size(&rt, rt.alloc(), &list, bytes);
     }
-    Ok(())
+}
+
+/// The blocks of 257 postings: three.
+fn three_blocks(rt: &impl Abort, alloc: Global) -> Vec<u8> {
+    let list = long(rt, alloc, 257);
+    encode_blocks(alloc, &list).expect(rt, "memory")
 }
 
 /// Bits that are turned in each byte of three blocks in turn, how many of these altered bytes are a
 /// list's, and the sum of the places that the others have: by a decoder in another language.
 const ALTERED: [(u8, u64, u64); 2] = [(1, 514, 229_321), (128, 0, 834_031)];
 
+/// The place that a reading of altered bytes names; none where they are those of another list.
+fn place_or_list(rt: &impl Abort, alloc: Global, altered: &[u8]) -> Option<u64> {
+    match decode_blocks(alloc, altered) {
+        Ok(other) => {
+            let again = encode_blocks(alloc, &other).expect(rt, "memory");
+            assert_eq!(rt; again.as_slice(), altered);
+            None
+        }
+        Err(error) => Some(place(Err(error)).expect(rt, "a place")),
+    }
+}
+
 #[test]
-fn an_altered_byte_is_refused_or_makes_another_list(rt: HostRuntime) -> Result<(), Fail> {
-    let list = long(rt.alloc(), 257)?;
-    let blocks = encode_blocks(rt.alloc(), &list)?;
+fn an_altered_byte_is_refused_or_makes_another_list(rt: HostRuntime) {
+    let blocks = three_blocks(&rt, rt.alloc());
     for (bit, lists, places) in ALTERED {
         let mut read = 0u64;
         let mut named = 0u64;
-        for at in 0..blocks.len() {
-            let mut altered = Vec::from_slice(rt.alloc(), &blocks)?;
-            altered[at] ^= bit;
-            match decode_blocks(rt.alloc(), &altered) {
-                Ok(other) => {
-                    assert_eq!(rt;
-                        encode_blocks(rt.alloc(), &other)?.as_slice(),
-                        altered.as_slice()
-                    );
-                    read = read.saturating_add(1);
-                }
-                Err(ListError::Form { at }) => named = named.saturating_add(at),
-                Err(ListError::Memory) => assert!(rt; false),
+        for (at, byte) in blocks.iter().enumerate() {
+            let other = altered(&rt, rt.alloc(), &blocks, at, *byte ^ bit);
+            match place_or_list(&rt, rt.alloc(), &other) {
+                None => read = read.saturating_add(1),
+                Some(at) => named = named.saturating_add(at),
             }
         }
         assert_eq!(rt; (read, named), (lists, places));
     }
-    Ok(())
 }
 
 #[test]
-fn a_block_whose_first_document_is_below_the_one_before_is_refused(
-    rt: HostRuntime,
-) -> Result<(), Fail> {
-    let list = long(rt.alloc(), 257)?;
-    let mut blocks = encode_blocks(rt.alloc(), &list)?;
+fn a_block_whose_first_document_is_below_the_one_before_is_refused(rt: HostRuntime) {
     // The first block ends with document 127, and the second one's header, at 526, now says 126.
-    if let Some(first) = blocks.get_mut(536) {
-        *first = 126;
-    }
-    assert_eq!(rt; place(decode_blocks(rt.alloc(), &blocks)), Some(526));
-    Ok(())
+    let blocks = three_blocks(&rt, rt.alloc());
+    let other = altered(&rt, rt.alloc(), &blocks, 536, 126);
+    assert_eq!(rt; place(decode_blocks(rt.alloc(), &other)), Some(526));
+}
+
+/// The blocks of 257 postings, opened.
+fn opened(rt: &impl Abort, alloc: Global) -> Frames {
+    Frames::read(alloc, three_blocks(rt, alloc)).expect(rt, "blocks")
 }
 
 #[test]
-fn blocks_are_opened_one_by_one(rt: HostRuntime) -> Result<(), Fail> {
-    let list = long(rt.alloc(), 257)?;
-    let blocks = encode_blocks(rt.alloc(), &list)?;
-    let whole = Vec::from_slice(rt.alloc(), &blocks)?;
-    let frames = Frames::read(rt.alloc(), whole)?;
-    let mut heads = Vec::new(rt.alloc());
-    for head in frames.heads() {
-        heads.push((head.count, head.size, head.top, head.first.0, head.last.0))?;
-    }
+fn blocks_have_heads(rt: HostRuntime) {
+    let frames = opened(&rt, rt.alloc());
     let wanted = [
         (128, 511, 1, 0, 127),
         (128, 511, 1, 128, 255),
         (1, 3, 1, 256, 256),
     ];
-    assert_eq!(rt; heads.as_slice(), wanted.as_slice());
+    assert_eq!(rt; frames.heads().len(), 3);
+    for (head, wanted) in frames.heads().iter().zip(&wanted) {
+        let told = (head.count, head.size, head.top, head.first.0, head.last.0);
+        assert_eq!(rt; told, *wanted);
+    }
+}
+
+#[test]
+fn blocks_are_opened_one_by_one(rt: HostRuntime) {
+    let frames = opened(&rt, rt.alloc());
     let mut together = Vec::new(rt.alloc());
     for block in 0..frames.heads().len() {
-        together.extend_from_slice(&frames.open(rt.alloc(), block)?)?;
+        let list = frames.open(rt.alloc(), block).expect(&rt, "a block");
+        together.extend_from_slice(&list).expect(&rt, "memory");
     }
+    let list = long(&rt, rt.alloc(), 257);
     assert_eq!(rt; together.as_slice(), list.as_slice());
-    Ok(())
 }
 
 /// Places in three blocks, a byte put there, the place that the headers name, and the place that the
@@ -324,25 +344,18 @@ const BLOCK_FAULTS: [(usize, u8, Option<u64>, Option<u64>); 6] = [
 ];
 
 #[test]
-fn the_place_at_fault_is_counted_from_the_first_byte(rt: HostRuntime) -> Result<(), Fail> {
-    let list = long(rt.alloc(), 257)?;
-    let blocks = encode_blocks(rt.alloc(), &list)?;
+fn the_place_at_fault_is_counted_from_the_first_byte(rt: HostRuntime) {
+    let blocks = three_blocks(&rt, rt.alloc());
     for (at, byte, header, inner) in BLOCK_FAULTS {
-        let mut altered = Vec::from_slice(rt.alloc(), &blocks)?;
-        if let Some(old) = altered.get_mut(at) {
-            *old = byte;
-        }
-        match Frames::read(rt.alloc(), altered) {
+        let other = altered(&rt, rt.alloc(), &blocks, at, byte);
+        match Frames::read(rt.alloc(), other) {
             Ok(frames) => {
                 assert_eq!(rt; header, None);
                 assert!(rt; frames.heads().len() == 3);
-                if 1 < frames.heads().len() {
-                    assert_eq!(rt; place(frames.open(rt.alloc(), 1)), inner);
-                }
+                assert_eq!(rt; place(frames.open(rt.alloc(), 1)), inner);
             }
             Err(ListError::Form { at }) => assert_eq!(rt; header, Some(at)),
             Err(ListError::Memory) => assert!(rt; false),
         }
     }
-    Ok(())
 }

@@ -1,14 +1,15 @@
 //! Sublists that are gathered, or refused.
 use super::given::{
-    BOTH, FIRST, gather_between, gather_on, machine_of, machine_with, no_sublists, posting,
-    store_all, store_between, time,
+    BOTH, FIRST, cuts, docs_of, gather_between, gather_blocks, machine_with, no_sublists, pages_of,
+    places_of, posting, store_all, store_between, time,
 };
+use machine_mem::MemMachine;
 use machine_model::Area;
-use record_codec::Layout;
+use record_codec::{Layout, Place};
 use std::alloc::Global;
 use std::process::Abort;
-use std::test::Fail;
-use sublist_store::{Damage, FetchError, Why};
+use sublist_store::{Damage, FetchError, Sublists, Why};
+use time_base::Time;
 
 /// Windows: their ends, the documents that are found, the postings that are read, and the bytes in
 /// blocks and flat.
@@ -22,44 +23,58 @@ const WINDOWS: [((u64, u64), &[u32], u64, u64, u64); 7] = [
     ((40, 50), &[], 0, 0, 0),
 ];
 
-#[test]
-fn a_window_reads_the_segments_that_it_overlaps(rt: HostRuntime) -> Result<(), Fail> {
-    let alloc = rt.alloc();
-    for layout in [Layout::Blocks, Layout::Flat] {
-        let mut machine = machine_with(&rt, alloc, &[], &[])?;
-        let places = store_all(&rt, alloc, &mut machine, layout)?
-            .ok()
-            .ok_or("they are written")?;
-        for (window, docs, read, in_blocks, flat) in WINDOWS {
-            // None of the pages is kept.
-            let mut sublists = no_sublists(alloc)?;
-            let before = machine.read_of(Area::Pages);
-            let gathered = match gather_on(
-                &rt,
-                alloc,
-                &mut sublists,
-                &mut machine,
-                layout,
-                &places,
-                window,
-            )? {
-                Ok(gathered) => gathered,
-                Err(_) => Err("they are read")?,
-            };
-            let mut found = Vec::new(alloc);
-            for posting in &gathered.list {
-                found.push(posting.doc.0)?;
-            }
-            assert_eq!(rt; found.as_slice(), docs);
-            assert_eq!(rt; gathered.read, read);
-            let bytes = match layout {
-                Layout::Blocks => in_blocks,
-                Layout::Flat => flat,
-            };
-            assert_eq!(rt; machine.read_of(Area::Pages).saturating_sub(before), bytes);
-        }
+/// What is gathered from places for a window between cuts and 40 has these documents, and so many postings are
+/// read.
+fn expect_found(
+    rt: &impl Abort,
+    alloc: Global,
+    sublists: &mut Sublists,
+    machine: &mut MemMachine,
+    layout: Layout,
+    cuts: &[Time],
+    places: &[Place],
+    (window, docs, read): ((u64, u64), &[u32], u64),
+) {
+    let gathered = gather_between(
+        rt, alloc, sublists, machine, layout, cuts, places, window,
+    ).expect(rt, "they are read");
+    assert_eq!(rt; docs_of(rt, alloc, &gathered).as_slice(), docs);
+    assert_eq!(rt; gathered.read, read);
+}
+
+/// Stores the sublists of the two documents in a layout, and asks for each window, with none of the pages kept.
+fn expect_windows(rt: &impl Abort, alloc: Global, layout: Layout) {
+    let mut machine = machine_with(rt, alloc, &[], &[]);
+    let places = store_all(rt, alloc, &mut machine, layout).expect(rt, "they are written");
+    let cuts = cuts(rt);
+    let mut before = 0;
+    for (window, docs, read, in_blocks, flat) in WINDOWS {
+        let mut sublists = no_sublists(rt, alloc);
+        let row = (window, docs, read);
+        expect_found(
+            rt,
+            alloc,
+            &mut sublists,
+            &mut machine,
+            layout,
+            &cuts,
+            &places,
+            row,
+        );
+        let bytes = match layout {
+            Layout::Blocks => in_blocks,
+            Layout::Flat => flat,
+        };
+        let after = machine.read_of(Area::Pages);
+        assert_eq!(rt; after.saturating_sub(before), bytes);
+        before = after;
     }
-    Ok(())
+}
+
+#[test]
+fn a_window_reads_the_segments_that_it_overlaps(rt: HostRuntime) {
+    expect_windows(&rt, rt.alloc(), Layout::Blocks);
+    expect_windows(&rt, rt.alloc(), Layout::Flat);
 }
 
 /// Windows over 1, 2, 3 and 7 of seven segments: their ends, the documents that are found, and the
@@ -72,39 +87,25 @@ const JOINED: [((u64, u64), &[u32], u64); 4] = [
 ];
 
 #[test]
-fn the_lists_of_any_number_of_segments_are_joined(rt: HostRuntime) -> Result<(), Fail> {
+fn the_lists_of_any_number_of_segments_are_joined(rt: HostRuntime) {
     let alloc = rt.alloc();
-    let mut machine = machine_with(&rt, alloc, &[], &[])?;
-    let mut cuts = Vec::new(alloc);
-    for seconds in [10, 15, 20, 25, 30, 35, 38] {
-        cuts.push(time(seconds)?)?;
-    }
-    let places = store_between(alloc, &mut machine, Layout::Flat, &cuts)?
-        .ok()
-        .ok_or("they are written")?;
-    let mut sublists = no_sublists(alloc)?;
-    for (window, docs, read) in JOINED {
-        let gathered = match gather_between(
+    let cuts = [10, 15, 20, 25, 30, 35, 38].map(|seconds| time(&rt, seconds));
+    let layout = Layout::Flat;
+    let mut machine = machine_with(&rt, alloc, &[], &[]);
+    let places = store_between(&rt, alloc, &mut machine, layout, &cuts).expect(&rt, "written");
+    let mut sublists = no_sublists(&rt, alloc);
+    for row in JOINED {
+        expect_found(
             &rt,
             alloc,
             &mut sublists,
             &mut machine,
-            Layout::Flat,
+            layout,
             &cuts,
             &places,
-            window,
-        )? {
-            Ok(gathered) => gathered,
-            Err(_) => Err("they are read")?,
-        };
-        let mut found = Vec::new(alloc);
-        for posting in &gathered.list {
-            found.push(posting.doc.0)?;
-        }
-        assert_eq!(rt; found.as_slice(), docs);
-        assert_eq!(rt; gathered.read, read);
+            row,
+        );
     }
-    Ok(())
 }
 
 /// Why the bytes of three places are refused for a window.
@@ -113,23 +114,15 @@ fn refused(
     alloc: Global,
     pieces: &[&str],
     window: (u64, u64),
-) -> Result<Option<FetchError>, Fail> {
-    let (mut machine, places) = machine_of(rt, alloc, pieces)?;
-    let mut sublists = no_sublists(alloc)?;
-    Ok(gather_on(
-        rt,
-        alloc,
-        &mut sublists,
-        &mut machine,
-        Layout::Blocks,
-        &places,
-        window,
-    )?
-    .err())
+) -> Option<FetchError> {
+    let mut machine = machine_with(rt, alloc, &pages_of(rt, alloc, pieces), &[]);
+    let places = places_of(rt, alloc, pieces);
+    let mut sublists = no_sublists(rt, alloc);
+    gather_blocks(rt, alloc, &mut sublists, &mut machine, &places, window).err()
 }
 
 #[test]
-fn each_refusal_of_a_segment_names_its_place(rt: HostRuntime) -> Result<(), Fail> {
+fn each_refusal_of_a_segment_names_its_place(rt: HostRuntime) {
     let alloc = rt.alloc();
     let second = "01000300000001000000020000000201140a";
     let longer = "010003000000010000000100000001010a28";
@@ -150,7 +143,7 @@ fn each_refusal_of_a_segment_names_its_place(rt: HostRuntime) -> Result<(), Fail
             (10, 11),
             0,
             Why::Astray {
-                posting: posting(2, 20, 30)?,
+                posting: posting(&rt, 2, 20, 30),
             },
         ),
         (
@@ -158,7 +151,7 @@ fn each_refusal_of_a_segment_names_its_place(rt: HostRuntime) -> Result<(), Fail
             (35, 36),
             2,
             Why::Astray {
-                posting: posting(1, 10, 50)?,
+                posting: posting(&rt, 1, 10, 50),
             },
         ),
         // Two postings of a document from 10 on, in two segments.
@@ -167,8 +160,8 @@ fn each_refusal_of_a_segment_names_its_place(rt: HostRuntime) -> Result<(), Fail
             (15, 25),
             1,
             Why::Clash {
-                one: posting(1, 10, 40)?,
-                other: posting(1, 10, 30)?,
+                one: posting(&rt, 1, 10, 40),
+                other: posting(&rt, 1, 10, 30),
             },
         ),
         // No posting in the first segment.
@@ -179,8 +172,8 @@ fn each_refusal_of_a_segment_names_its_place(rt: HostRuntime) -> Result<(), Fail
             (15, 35),
             1,
             Why::Clash {
-                one: posting(1, 10, 40)?,
-                other: posting(1, 10, 30)?,
+                one: posting(&rt, 1, 10, 40),
+                other: posting(&rt, 1, 10, 30),
             },
         ),
         (
@@ -188,8 +181,8 @@ fn each_refusal_of_a_segment_names_its_place(rt: HostRuntime) -> Result<(), Fail
             (15, 35),
             2,
             Why::Clash {
-                one: posting(1, 10, 40)?,
-                other: posting(1, 11, 40)?,
+                one: posting(&rt, 1, 10, 40),
+                other: posting(&rt, 1, 11, 40),
             },
         ),
         // A clash in front of bytes that spell no list, and one behind such.
@@ -198,8 +191,8 @@ fn each_refusal_of_a_segment_names_its_place(rt: HostRuntime) -> Result<(), Fail
             (15, 35),
             1,
             Why::Clash {
-                one: posting(1, 10, 40)?,
-                other: posting(1, 10, 30)?,
+                one: posting(&rt, 1, 10, 40),
+                other: posting(&rt, 1, 10, 30),
             },
         ),
         (
@@ -210,11 +203,10 @@ fn each_refusal_of_a_segment_names_its_place(rt: HostRuntime) -> Result<(), Fail
         ),
     ] {
         assert_eq!(rt;
-            refused(&rt, alloc, &pieces, window)?,
+            refused(&rt, alloc, &pieces, window),
             Some(FetchError::Damaged(Damage { page, why }))
         );
     }
     // A later segment may have none.
-    assert_eq!(rt; refused(&rt, alloc, &[FIRST, "", FIRST], (15, 25))?, None);
-    Ok(())
+    assert_eq!(rt; refused(&rt, alloc, &[FIRST, "", FIRST], (15, 25)), None);
 }

@@ -7,7 +7,6 @@ ghost use Rattle.page_store.specs.Taken.{HasTaken};
 ghost use Rattle.page_cache.specs.Laws.{LieIn};
 ghost use Rattle.sublist_store.specs.Preparing.{extents};
 
-use crate::digits::bytes_of;
 use machine_mem::{Fault, MemMachine};
 use machine_model::{Area, Disk, Failed, Image};
 use postings::merge_distinct;
@@ -15,44 +14,42 @@ use record_codec::{Layout, Place};
 use sha2::{Digest, Sha256};
 use std::alloc::Global;
 use std::process::Abort;
-use std::test::Fail;
 use sublist_store::{FetchError, Gathered, Sublists};
 use time_base::{DocId, Extent, Posting, Span, Time};
 
 /// A posting of frequency 1.
-pub(crate) fn posting(doc: u32, from: u64, to: u64) -> Result<Posting, Fail> {
-    Ok(Posting {
+pub(crate) fn posting(rt: &impl Abort, doc: u32, from: u64, to: u64) -> Posting {
+    Posting {
         doc: DocId(doc),
-        span: Span::new(from, to).ok_or("a span")?,
+        span: Span::new(from, to).expect(rt, "a span"),
         tf: 1,
-    })
-}
-
-/// Document 1 from 10 to 40, and document 2 from 20 to 30.
-pub(crate) fn two_documents(alloc: Global) -> Result<Vec<Posting>, Fail>
-    ensures { IfOk result (λ v. IsList v.items) }
-{
-    documents(alloc, 1, 2)
-}
-
-/// One document from 10 to 40, and another one from 20 to 30.
-pub(crate) fn documents(alloc: Global, one: u32, other: u32) -> Result<Vec<Posting>, Fail>
-    ensures { IfOk result (λ v. IsList v.items) }
-{
-    match merge_distinct(alloc, &[posting(one, 10, 40)?], &[posting(other, 20, 30)?]) {
-        Ok(list) => Ok(list),
-        Err(_) => Err("a list")?,
     }
 }
 
+/// Document 1 from 10 to 40, and document 2 from 20 to 30.
+pub(crate) fn two_documents(rt: &impl Abort, alloc: Global) -> Vec<Posting>
+    ensures { IsList result.items }
+{
+    documents(rt, alloc, 1, 2)
+}
+
+/// One document from 10 to 40, and another one from 20 to 30.
+pub(crate) fn documents(rt: &impl Abort, alloc: Global, one: u32, other: u32) -> Vec<Posting>
+    ensures { IsList result.items }
+{
+    let first = posting(rt, one, 10, 40);
+    let second = posting(rt, other, 20, 30);
+    merge_distinct(alloc, &[first], &[second]).expect(rt, "a list")
+}
+
 /// So many seconds.
-pub(crate) fn time(seconds: u64) -> Result<Time, Fail> {
-    Ok(Time::new(seconds).ok_or("a time")?)
+pub(crate) fn time(rt: &impl Abort, seconds: u64) -> Time {
+    Time::new(seconds).expect(rt, "a time")
 }
 
 /// The cuts 10, 20 and 30.
-pub(crate) fn cuts() -> Result<[Time; 3], Fail> {
-    Ok([time(10)?, time(20)?, time(30)?])
+pub(crate) fn cuts(rt: &impl Abort) -> [Time; 3] {
+    [time(rt, 10), time(rt, 20), time(rt, 30)]
 }
 
 /// A machine without input, with these bytes in Pages.
@@ -61,22 +58,24 @@ pub(crate) fn machine_with(
     alloc: Global,
     pages: &[u8],
     faults: &[Fault],
-) -> Result<MemMachine, Fail> {
+) -> MemMachine {
     assert!(rt; pages.len() <= 1 << 40);
     let image = Image {
         journal: Vec::new(alloc),
-        pages: Vec::from_slice(alloc, pages)?,
+        pages: Vec::from_slice(alloc, pages).expect(rt, "memory"),
     };
-    let faults = Vec::from_slice(alloc, faults)?;
-    Ok(MemMachine::new(alloc, Vec::new(alloc), image, faults)?)
+    let faults = Vec::from_slice(alloc, faults).expect(rt, "memory");
+    MemMachine::new(alloc, Vec::new(alloc), image, faults).expect(rt, "memory")
 }
 
 /// What reads give of Pages.
-pub(crate) fn read_pages(alloc: Global, machine: &mut MemMachine) -> Result<Vec<u8>, Fail> {
-    let len = machine.length(Area::Pages)?;
-    let mut bytes = vec![in alloc; 0; len as usize]?;
-    machine.read(Area::Pages, 0, &mut bytes)?;
-    Ok(bytes)
+pub(crate) fn read_pages(rt: &impl Abort, alloc: Global, machine: &mut MemMachine) -> Vec<u8> {
+    let len = machine.length(Area::Pages).expect(rt, "a length");
+    let mut bytes = vec![in alloc; 0; len as usize].expect(rt, "memory");
+    machine
+        .read(Area::Pages, 0, &mut bytes)
+        .expect(rt, "they are read");
+    bytes
 }
 
 /// Stores the sublists of the two documents between the cuts and 40 in an empty store, and gives their
@@ -86,39 +85,34 @@ pub(crate) fn store_all(
     alloc: Global,
     machine: &mut MemMachine,
     layout: Layout,
-) -> Result<Result<Vec<Place>, Failed>, Fail> {
-    let cuts = cuts()?;
-    store_between(alloc, machine, layout, &cuts)
+) -> Result<Vec<Place>, Failed> {
+    store_between(rt, alloc, machine, layout, &cuts(rt))
 }
 
 /// The same between other cuts and 40.
 pub(crate) fn store_between(
+    rt: &impl Abort,
     alloc: Global,
     machine: &mut MemMachine,
     layout: Layout,
     cuts: &[Time],
-) -> Result<Result<Vec<Place>, Failed>, Fail> {
-    let list = two_documents(alloc)?;
-    let horizon = time(40)?;
-    match Sublists::from_live(alloc, &[], 0) {
-        Ok(sublists) => {
-            let mut sublists = sublists;
-            match sublists.prepare(alloc, layout, &list, cuts, horizon) {
-                Ok(prepared) => match sublists.write(machine, &prepared) {
-                    Ok(()) => {
-                        let places = Vec::from_slice(alloc, prepared.places())?;
-                        sublists.adopt(prepared, &[]);
-                        Ok(Ok(places))
-                    }
-                    Err(Failed) => {
-                        sublists.forget(prepared);
-                        Ok(Err(Failed))
-                    }
-                },
-                Err(_) => Err("the sublists are prepared")?,
-            }
+) -> Result<Vec<Place>, Failed> {
+    let list = two_documents(rt, alloc);
+    let horizon = time(rt, 40);
+    let mut sublists = no_sublists(rt, alloc);
+    let prepared = sublists
+        .prepare(alloc, layout, &list, cuts, horizon)
+        .expect(rt, "they are prepared");
+    match sublists.write(machine, &prepared) {
+        Ok(()) => {
+            let places = Vec::from_slice(alloc, prepared.places()).expect(rt, "memory");
+            sublists.adopt(prepared, &[]);
+            Ok(places)
         }
-        Err(_) => Err("an empty store")?,
+        Err(Failed) => {
+            sublists.forget(prepared);
+            Err(Failed)
+        }
     }
 }
 
@@ -138,24 +132,24 @@ pub(crate) fn fit(places: &[Place], reach: u64) -> bool
     true
 }
 
-/// What is gathered from three places for a window, between the cuts and 40.
-pub(crate) fn gather_on(
+/// What is gathered from three places in blocks for a window, between the cuts and 40.
+pub(crate) fn gather_blocks(
     rt: &impl Abort,
     alloc: Global,
     sublists: &mut Sublists,
     machine: &mut MemMachine,
-    layout: Layout,
     places: &[Place],
     window: (u64, u64),
-) -> Result<Result<Gathered, FetchError>, Fail>
+) -> Result<Gathered, FetchError>
     ensures pages { sublists.new.pages ≡ sublists.old.pages }
     ensures lie { LieIn (extents places.now) sublists.old.cache → LieIn (extents places.now) sublists.new.cache }
 {
-    let cuts = cuts()?;
+    let cuts = cuts(rt);
+    let layout = Layout::Blocks;
     gather_between(rt, alloc, sublists, machine, layout, &cuts, places, window)
 }
 
-/// The same between other cuts and 40.
+/// The same from places in a layout, between other cuts and 40.
 pub(crate) fn gather_between(
     rt: &impl Abort,
     alloc: Global,
@@ -165,16 +159,25 @@ pub(crate) fn gather_between(
     cuts: &[Time],
     places: &[Place],
     window: (u64, u64),
-) -> Result<Result<Gathered, FetchError>, Fail>
+) -> Result<Gathered, FetchError>
     ensures pages { sublists.new.pages ≡ sublists.old.pages }
     ensures lie { LieIn (extents places.now) sublists.old.cache → LieIn (extents places.now) sublists.new.cache }
 {
-    let horizon = time(40)?;
-    let span = Span::new(window.0, window.1).ok_or("a window")?;
-    let reach = machine.length(Area::Pages)?;
+    let horizon = time(rt, 40);
+    let span = Span::new(window.0, window.1).expect(rt, "a window");
+    let reach = machine.length(Area::Pages).expect(rt, "a length");
     assert!(rt; places.len() == cuts.len());
     assert!(rt; fit(places, reach));
-    Ok(sublists.gather(alloc, machine, layout, cuts, horizon, places, span))
+    sublists.gather(alloc, machine, layout, cuts, horizon, places, span)
+}
+
+/// The documents that were gathered, in order.
+pub(crate) fn docs_of(rt: &impl Abort, alloc: Global, gathered: &Gathered) -> Vec<u32> {
+    let mut docs = Vec::new(alloc);
+    for posting in &gathered.list {
+        docs.push(posting.doc.0).expect(rt, "memory");
+    }
+    docs
 }
 
 /// What is fetched from a place between two times, below 40.
@@ -185,23 +188,20 @@ pub(crate) fn fetch_on(
     machine: &mut MemMachine,
     place: &Place,
     ends: (u64, u64),
-) -> Result<Result<Vec<Posting>, FetchError>, Fail> {
-    let horizon = time(40)?;
-    let span = Span::new(ends.0, ends.1).ok_or("a segment")?;
-    let reach = machine.length(Area::Pages)?;
+) -> Result<Vec<Posting>, FetchError> {
+    let horizon = time(rt, 40);
+    let span = Span::new(ends.0, ends.1).expect(rt, "a segment");
+    let reach = machine.length(Area::Pages).expect(rt, "a length");
     assert!(rt; place.extent.first as u64 * 4096 + place.extent.bytes <= reach);
-    Ok(sublists.fetch(alloc, machine, Layout::Blocks, place, span, horizon))
+    sublists.fetch(alloc, machine, Layout::Blocks, place, span, horizon)
 }
 
 /// A store that has taken no page, and keeps none.
-pub(crate) fn no_sublists(alloc: Global) -> Result<Sublists, Fail>
-    ensures taken { IfOk result (λ s. HasTaken s.pages []) }
-    ensures cache { IfOk result (λ s. s.cache ≡ []) }
+pub(crate) fn no_sublists(rt: &impl Abort, alloc: Global) -> Sublists
+    ensures taken { HasTaken result.pages [] }
+    ensures cache { result.cache ≡ [] }
 {
-    match Sublists::from_live(alloc, &[], 0) {
-        Ok(sublists) => Ok(sublists),
-        Err(_) => Err("an empty store")?,
-    }
+    Sublists::from_live(alloc, &[], 0).expect(rt, "an empty store")
 }
 
 /// The block of document 1 from 10 to 40, and its SHA-256.
@@ -216,23 +216,44 @@ pub(crate) const BOTH: &str = "020007000000010000000100000002010a1e0101140a";
 pub(crate) const BOTH_DIGEST: &str =
     "3e9ce0608f1e27488a5d35d6d9ceebc93f2efcc7c2bb9740acf693e348776026";
 
-/// A machine whose pages begin with these bytes, one behind the other, and their places.
-pub(crate) fn machine_of(
-    rt: &impl Abort,
-    alloc: Global,
-    pieces: &[&str],
-) -> Result<(MemMachine, Vec<Place>), Fail> {
+/// The bytes that hexadecimal digits spell.
+pub(crate) fn bytes_of(rt: &impl Abort, alloc: Global, digits: &str) -> Vec<u8> {
+    hex::decode(alloc, digits).expect(rt, "bytes")
+}
+
+/// Pages that begin with these bytes, one behind the other.
+pub(crate) fn pages_of(rt: &impl Abort, alloc: Global, pieces: &[&str]) -> Vec<u8> {
     let mut pages = Vec::new(alloc);
+    for (page, piece) in pieces.iter().enumerate() {
+        pages
+            .resize(page.saturating_mul(4096), 0)
+            .expect(rt, "memory");
+        let bytes = bytes_of(rt, alloc, piece);
+        pages.extend_from_slice(&bytes).expect(rt, "memory");
+    }
+    pages
+}
+
+/// Where these bytes lie, one page behind the other.
+pub(crate) fn places_of(rt: &impl Abort, alloc: Global, pieces: &[&str]) -> Vec<Place> {
     let mut places = Vec::new(alloc);
     let mut first = 0;
     for piece in pieces {
-        let bytes = bytes_of(alloc, piece)?;
-        let extent = Extent::new(first, bytes.len() as u64).ok_or("an extent")?;
+        let bytes = bytes_of(rt, alloc, piece);
+        let extent = Extent::new(first, bytes.len() as u64).expect(rt, "an extent");
         let digest = Sha256::digest(&bytes);
-        places.push(Place { extent, digest })?;
-        pages.extend_from_slice(&bytes)?;
+        places.push(Place { extent, digest }).expect(rt, "memory");
         first = first.saturating_add(1);
-        pages.resize((first as usize).saturating_mul(4096), 0)?;
     }
-    Ok((machine_with(rt, alloc, &pages, &[])?, places))
+    places
+}
+
+/// The first pages and bytes of places.
+pub(crate) fn extents_of(rt: &impl Abort, alloc: Global, places: &[Place]) -> Vec<(u32, u64)> {
+    let mut extents = Vec::new(alloc);
+    for place in places {
+        let extent = (place.extent.first, place.extent.bytes);
+        extents.push(extent).expect(rt, "memory");
+    }
+    extents
 }

@@ -6,9 +6,9 @@ ghost use Rattle.page_cache.specs.Laws.{LieIn};
 ghost use Rattle.sublist_store.specs.Preparing.{extents};
 
 use super::given::{
-    BOTH, FIRST, cuts, documents, fetch_on, gather_on, machine_of, machine_with, no_sublists, time,
+    BOTH, FIRST, bytes_of, cuts, docs_of, documents, extents_of, fetch_on, gather_blocks,
+    machine_with, no_sublists, pages_of, places_of, time,
 };
-use crate::digits::bytes_of;
 use machine_mem::MemMachine;
 use machine_model::{Area, Disk};
 use record_codec::{Layout, Place};
@@ -19,80 +19,72 @@ use std::test::Fail;
 use sublist_store::{Damage, FetchError, Sublists, Why};
 use time_base::{Extent, Posting};
 
-#[test]
-fn bytes_that_were_checked_are_compared_with_what_is_read(rt: HostRuntime) -> Result<(), Fail> {
-    let alloc = rt.alloc();
-    let (mut machine, places) = machine_of(&rt, alloc, &[FIRST, BOTH, FIRST])?;
-    let mut sublists = no_sublists(alloc)?;
-    for _ in 0..2 {
-        let gathered = gather_on(
-            &rt,
-            alloc,
-            &mut sublists,
-            &mut machine,
-            Layout::Blocks,
-            &places,
-            (15, 25),
-        )?;
-        assert_eq!(rt; gathered.ok().map(|g| g.read), Some(3));
-    }
-    // The frequency of document 1 in the second segment, which no one has given back. Another length is
-    // asked for, so that its page is read anew after that.
-    machine.write(Area::Pages, 4096 + 15, &[2])?;
-    let second = *places.get(1).ok_or("a second place")?;
-    let shorter = Place {
-        extent: Extent::new(1, 21).ok_or("an extent")?,
-        digest: second.digest,
-    };
-    fetch_on(&rt, alloc, &mut sublists, &mut machine, &shorter, (20, 30))?
-        .err()
-        .ok_or("it is refused")?;
-    let stored = second.digest;
-    let mut changed = bytes_of(alloc, BOTH)?;
+/// A machine whose pages hold the block of document 1, that of both, and the first again.
+fn machine_of_three(rt: &impl Abort, alloc: Global) -> MemMachine {
+    machine_with(rt, alloc, &pages_of(rt, alloc, &[FIRST, BOTH, FIRST]), &[])
+}
+
+/// Why a place is told apart whose bytes are those of both documents, with a frequency of 2.
+fn changed_digest(rt: &impl Abort, alloc: Global, place: &Place) -> Why {
+    let mut changed = bytes_of(rt, alloc, BOTH);
     if let Some(byte) = changed.get_mut(15) {
         *byte = 2;
     }
     let got = Sha256::digest(&changed);
-    let why = Why::Digest { stored, got };
-    let refused = gather_on(
-        &rt,
-        alloc,
-        &mut sublists,
-        &mut machine,
-        Layout::Blocks,
-        &places,
-        (15, 25),
-    )?;
+    let stored = place.digest;
+    Why::Digest { stored, got }
+}
+
+#[test]
+fn bytes_that_were_checked_are_compared_with_what_is_read(rt: HostRuntime) {
+    let alloc = rt.alloc();
+    let mut machine = machine_of_three(&rt, alloc);
+    let places = places_of(&rt, alloc, &[FIRST, BOTH, FIRST]);
+    let mut sublists = no_sublists(&rt, alloc);
+    for _ in 0..2 {
+        let gathered = gather_blocks(&rt, alloc, &mut sublists, &mut machine, &places, (15, 25));
+        assert_eq!(rt; gathered.expect(&rt, "they are read").read, 3);
+    }
+    // The frequency of document 1 in the second segment, which no one has given back. Another length is
+    // asked for, so that its page is read anew after that.
+    let written = machine.write(Area::Pages, 4096 + 15, &[2]);
+    written.expect(&rt, "it is written");
+    let second = *places.get(1).expect(&rt, "a second place");
+    let shorter = Place {
+        extent: Extent::new(1, 21).expect(&rt, "an extent"),
+        digest: second.digest,
+    };
+    let refused = fetch_on(&rt, alloc, &mut sublists, &mut machine, &shorter, (20, 30));
+    assert!(rt; refused.is_err());
+    let refused = gather_blocks(&rt, alloc, &mut sublists, &mut machine, &places, (15, 25));
+    let why = changed_digest(&rt, alloc, &second);
     assert_eq!(rt;
         refused.err(),
         Some(FetchError::Damaged(Damage { page: 1, why }))
     );
-    Ok(())
 }
 
 #[test]
-fn a_place_that_is_fetched_again_is_read_once(rt: HostRuntime) -> Result<(), Fail> {
+fn a_place_that_is_fetched_again_is_read_once(rt: HostRuntime) {
     let alloc = rt.alloc();
-    let (mut machine, places) = machine_of(&rt, alloc, &[FIRST, BOTH, FIRST])?;
-    let first = places.first().ok_or("a first place")?;
-    let second = places.get(1).ok_or("a second place")?;
-    let mut sublists = no_sublists(alloc)?;
-    for (place, ends, postings, read) in [
-        (first, (10, 20), 1, 18),
-        (first, (10, 20), 1, 18),
-        (second, (20, 30), 2, 40),
+    let mut machine = machine_of_three(&rt, alloc);
+    let places = places_of(&rt, alloc, &[FIRST, BOTH, FIRST]);
+    let mut sublists = no_sublists(&rt, alloc);
+    for (at, ends, postings, read) in [
+        (0, (10, 20), 1, 18),
+        (0, (10, 20), 1, 18),
+        (1, (20, 30), 2, 40),
     ] {
-        let list = fetch_on(&rt, alloc, &mut sublists, &mut machine, place, ends)?
-            .ok()
-            .ok_or("it is fetched")?;
-        assert_eq!(rt; list.len(), postings);
+        let place = places.get(at).expect(&rt, "a place");
+        let fetched = fetch_on(&rt, alloc, &mut sublists, &mut machine, place, ends);
+        assert_eq!(rt; fetched.expect(&rt, "it is fetched").len(), postings);
         assert_eq!(rt; machine.read_of(Area::Pages), read);
     }
-    Ok(())
 }
 
 /// Stores the sublists of a list between the cuts and 40 in place of those in other places.
 fn replaced(
+    rt: &impl Abort,
     alloc: Global,
     sublists: &mut Sublists,
     machine: &mut MemMachine,
@@ -105,8 +97,8 @@ fn replaced(
     ensures taken { IfOk result (λ v. HasTaken sublists.new.pages (extents v.items)) }
     ensures lie { IfOk result (λ v. LieIn (extents v.items) sublists.new.cache) }
 {
-    let cuts = cuts()?;
-    let horizon = time(40)?;
+    let cuts = cuts(rt);
+    let horizon = time(rt, 40);
     let prepared = match sublists.prepare(alloc, Layout::Blocks, list, &cuts, horizon) {
         Ok(prepared) => prepared,
         Err(_) => return Err("the sublists are prepared")?,
@@ -120,37 +112,37 @@ fn replaced(
 #[test]
 fn pages_that_are_written_anew_are_read_anew(rt: HostRuntime) -> Result<(), Fail> {
     let alloc = rt.alloc();
-    let mut machine = machine_with(&rt, alloc, &[], &[])?;
-    let mut sublists = no_sublists(alloc)?;
+    let mut machine = machine_with(&rt, alloc, &[], &[]);
+    let mut sublists = no_sublists(&rt, alloc);
     let early = replaced(
+        &rt,
         alloc,
         &mut sublists,
         &mut machine,
-        &documents(alloc, 1, 2)?,
+        &documents(&rt, alloc, 1, 2),
         &[],
     )?;
-    read_all(&rt, alloc, &mut sublists, &mut machine, &early, 1)?;
+    read_all(&rt, alloc, &mut sublists, &mut machine, &early, 1);
     let between = replaced(
+        &rt,
         alloc,
         &mut sublists,
         &mut machine,
-        &documents(alloc, 1, 2)?,
+        &documents(&rt, alloc, 1, 2),
         &early,
     )?;
     // The pages of the first places are free, and taken again.
     let late = replaced(
+        &rt,
         alloc,
         &mut sublists,
         &mut machine,
-        &documents(alloc, 3, 4)?,
+        &documents(&rt, alloc, 3, 4),
         &between,
     )?;
-    let mut lie = Vec::new(alloc);
-    for place in &late {
-        lie.push((place.extent.first, place.extent.bytes))?;
-    }
+    let lie = extents_of(&rt, alloc, &late);
     assert_eq!(rt; lie.as_slice(), [(0, 18), (1, 22), (2, 18)].as_slice());
-    read_all(&rt, alloc, &mut sublists, &mut machine, &late, 3)?;
+    read_all(&rt, alloc, &mut sublists, &mut machine, &late, 3);
     assert_eq!(rt; machine.read_of(Area::Pages), 116);
     Ok(())
 }
@@ -163,28 +155,14 @@ fn read_all(
     machine: &mut MemMachine,
     places: &[Place],
     doc: u32,
-) -> Result<(), Fail>
+)
     ensures pages { sublists.new.pages ≡ sublists.old.pages }
     ensures lie { LieIn (extents places.now) sublists.old.cache → LieIn (extents places.now) sublists.new.cache }
 {
-    let gathered = gather_on(
+    let gathered = gather_blocks(rt, alloc, sublists, machine, places, (15, 35)).expect(
         rt,
-        alloc,
-        sublists,
-        machine,
-        Layout::Blocks,
-        places,
-        (15, 35),
-    )?;
-    match gathered {
-        Ok(gathered) => {
-            let mut docs = Vec::new(alloc);
-            for posting in &gathered.list {
-                docs.push(posting.doc.0)?;
-            }
-            assert_eq!(rt; docs.as_slice(), [doc, doc.wrapping_add(1)].as_slice());
-            Ok(())
-        }
-        Err(_) => Err("they are read")?,
-    }
+        "they are read",
+    );
+    let docs = docs_of(rt, alloc, &gathered);
+    assert_eq!(rt; docs.as_slice(), [doc, doc.wrapping_add(1)].as_slice());
 }

@@ -11,14 +11,14 @@ use Rattle.sublist_store.proofs.KeptLemmas.{kept_apart, lie_behind, lie_without}
 use Rattle.tests_pages.proofs.sublists.keeping.replaced.Goals as goal
 
 pub write-requires-clause-unkept : goal.write-requires-clause-unkept
-write-requires-clause-unkept c =
+write-requires-clause-unkept g c =
     let mine = extents c.in-Ok.prepared.places in
     let old = extents c.args.old.now in
     let L : List Kept → Type 0 = λ cache. LieIn old cache in
     kept_apart mine old c.prepare.new.self.cache (c.in-Ok.ensures.taken old c.requires.taken).apart (subst L (sym c.prepare.ensures.cache) c.requires.lie)
 
 pub returns-clause-taken : goal.returns-clause-taken
-returns-clause-taken c =
+returns-clause-taken g c =
     let mine = extents c.in-Ok.prepared.places in
     let old = extents c.args.old.now in
     let same = c.in_ok-places.ensures.items ∙ c.places.ensures.value in
@@ -28,7 +28,7 @@ returns-clause-taken c =
     subst P (sym same) (subst M (append-nil mine) (c.adopt.ensures.freed [] (subst O (sym (append-nil old)) (c.in-Ok.ensures.taken old c.requires.taken))))
 
 pub returns-clause-lie : goal.returns-clause-lie
-returns-clause-lie c =
+returns-clause-lie g c =
     let mine = extents c.in-Ok.prepared.places in
     let old = extents c.args.old.now in
     let same = c.in_ok-places.ensures.items ∙ c.places.ensures.value in
