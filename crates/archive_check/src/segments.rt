@@ -50,9 +50,15 @@ pub(crate) fn first_wrong<D: Disk>(
     ensures within { IfOk result (λ o. IfSome o (λ w. w.segment < length cuts.now)) }
     ensures found { D.disk_tells → IfOk result (IsFirstWrong (map (λ p. bytes_in p.extent (D.disk disk.old).holds.pages) places.now) (spellings layout list.now (seconds cuts.now) end.seconds)) }
 {
+    if cuts.is_empty() {
+        return Ok(None);
+    }
     let half = cuts.len() / 2;
     if half == 0 {
-        return only_wrong(alloc, disk, layout, list, cuts, places, end);
+        return match spot_of(alloc, disk, layout, list, cuts[0], end, &places[0])? {
+            Some(spot) => Ok(Some(Wrong { segment: 0, spot })),
+            None => Ok(None),
+        };
     }
     let part = narrowed(alloc, list, cuts, end)?;
     let list = part_or(&part, list);
@@ -79,35 +85,6 @@ fn moved(wrong: Option<Wrong>, before: usize, count: usize) -> Option<Wrong>
             spot: wrong.spot,
         }),
         None => None,
-    }
-}
-
-/// The only segment, if there is one and its place doesn't hold its sublist.
-fn only_wrong<D: Disk>(
-    alloc: Global,
-    disk: &mut D,
-    layout: Layout,
-    list: &[Posting],
-    cuts: &[Time],
-    places: &[Place],
-    end: Time,
-) -> Result<Option<Wrong>, VerifyError>
-    requires list { IsList list.now }
-    requires few { length cuts.now ≤ 1 }
-    requires many { length places.now ≡ length cuts.now }
-    requires inside { All (λ p. IsInside (D.disk disk.old).reach.pages p.extent) places.now }
-    ensures only { D.Disk.only disk.old disk.new }
-    ensures same { OnlyReads (D.disk disk.old) (D.disk disk.new) }
-    ensures failed { IsErrOf result VerifyError.Failed → Rose (D.disk disk.old).faults (D.disk disk.new).faults }
-    ensures within { IfOk result (λ o. IfSome o (λ w. w.segment < length cuts.now)) }
-    ensures found { D.disk_tells → IfOk result (IsFirstWrong (map (λ p. bytes_in p.extent (D.disk disk.old).holds.pages) places.now) (spellings layout list.now (seconds cuts.now) end.seconds)) }
-{
-    if cuts.is_empty() {
-        return Ok(None);
-    }
-    match spot_of(alloc, disk, layout, list, cuts[0], end, &places[0])? {
-        Some(spot) => Ok(Some(Wrong { segment: 0, spot })),
-        None => Ok(None),
     }
 }
 

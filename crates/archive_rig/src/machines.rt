@@ -3,7 +3,7 @@ ghost use Rattle.std.specs.Prelude.{◌≡◌, [], IsTrue, IfOk, OnOk};
 ghost use Rattle.machine_model.specs.Areas.{part};
 ghost use Rattle.archive_core.specs.States.{Reaches};
 ghost use Rattle.machine_mem.specs.Meaning.{disk_state, sink_state, source_state};
-ghost use Rattle.machine_mem.specs.Outcomes.{starved_of};
+ghost use Rattle.machine_mem.specs.Calls.{starved_of};
 ghost use Rattle.machine_mem.specs.Picks.{bytes_of};
 
 use crate::RowError;

@@ -52,7 +52,7 @@ torn_pages at n a image was allowed (inr torn) beside same = (
   was,
   allowed,
   torn.elsewhere Journal (λ other. cc),
-  record { no_shorter = torn.here.no_shorter; same = λ k inside untouched. torn.here.kept k inside untouched.0 },
+  record { no_shorter = torn.here.no_shorter; same = λ k inside untouched. torn.here.untouched k inside untouched.0 },
   same,
 )
 

@@ -158,12 +158,7 @@ struct Spelled {
 }
 
 /// The entry of a draft with these places, if the journal, which ends there, has room for it.
-fn spell_entry(
-    alloc: Global,
-    end: u64,
-    draft: Draft,
-    places: &[Place],
-) -> Result<Spelled, Declined>
+fn spell_entry(alloc: Global, end: u64, draft: Draft, places: &[Place]) -> Result<Spelled, Declined>
     requires good { IsGoodPlan draft.kind draft.list.items draft.factor draft.cuts.items draft.horizon.seconds }
     requires many { length places.now ≡ length draft.cuts.items }
     requires high { end ≤ 2 ^ 40 }

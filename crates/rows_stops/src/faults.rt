@@ -52,10 +52,10 @@ fn fail_each(
     alloc: Global,
     start: &Start<'_>,
     call: CallKind,
-    kept: u64,
+    landed: u64,
 ) -> Result<u64, Fail> {
     for nth in 1..100 {
-        if ends_despite(rt, alloc, start, Fault { call, nth, kept })? {
+        if ends_despite(rt, alloc, start, Fault { call, nth, landed })? {
             return Ok(nth - 1);
         }
     }
@@ -81,14 +81,14 @@ fn fail_all(
         let calls = fail_each(rt, alloc, start, call, 0)?;
         assert!(rt; least <= calls && calls < 100, "{calls} of {call:?}");
     }
-    for (call, kept, want) in [
+    for (call, landed, want) in [
         (CallKind::Write, 0, writes),
         (CallKind::Write, 1, writes),
         (CallKind::Write, u64::MAX, writes),
         (CallKind::Sync, 0, syncs),
         (CallKind::Push, 0, 3),
     ] {
-        let calls = fail_each(rt, alloc, start, call, kept)?;
+        let calls = fail_each(rt, alloc, start, call, landed)?;
         assert_eq!(rt; calls, want, "{call:?}");
     }
     Ok(())

@@ -155,7 +155,11 @@ fn a_fault_before_the_gate_leaves_no_entry(rt: HostRuntime) -> Result<(), Fail> 
         (CallKind::Sync, 3, Status::Disk),
         (CallKind::Pull, 1, Status::Source),
     ] {
-        let fault = Fault { call, nth, landed: 0 };
+        let fault = Fault {
+            call,
+            nth,
+            landed: 0,
+        };
         let mut machine = make_machine(alloc, FIRST_SCRIPT, b"", &[fault])?;
         assert_eq!(rt; run_on(alloc, &mut machine)?, want);
         assert_eq!(rt; machine.shown(), b"".as_slice());

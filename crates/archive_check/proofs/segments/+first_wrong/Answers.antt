@@ -25,8 +25,8 @@ first_wrong-requires g t c κs within =
       ),
     )
 
-pub first_wrong-requires-in-None : goal.first_wrong-requires-in-None
-first_wrong-requires-in-None g t c κs within =
+pub first_wrong-requires-in-None-2 : goal.first_wrong-requires-in-None-2
+first_wrong-requires-in-None-2 g t c κs within =
     let I : ℕ → Place → Type 0 = λ n p. IsInside n p.extent in
     let old = (g.D.Disk.disk c.args.disk.now).reach.pages in (
       omega (arith, c.decreases, c.split_at.ensures.back_len, c.if-half-eq0.false),
@@ -43,13 +43,13 @@ first_wrong-requires-in-None g t c κs within =
       ),
     )
 
-pub returns-in-Some-clause-found : goal.returns-in-Some-clause-found
-returns-in-Some-clause-found g t c = λ told.
+pub returns-in-Some-2-clause-found : goal.returns-in-Some-2-clause-found
+returns-in-Some-2-clause-found g t c = λ told.
     let both = halves c.args.layout (g.D.Disk.disk c.args.disk.now).holds.pages c.args.list.now c.part_or-list.result.now c.args.cuts.now c.split_at.result.0.now c.split_at.result.1.now
     c.args.places.now c.split_at-2.result.0.now c.split_at-2.result.1.now (length c.args.cuts.now / 2) c.index-cuts-half.result c.args.end.seconds (c.part_or-list.ensures _ _ c.requires.list c.in_ok-part.ensures)
     (omega (arith, c.if-half-eq0.false)) c.requires.many c.index-cuts-half.is c.split_at.ensures.front c.split_at.ensures.back c.split_at-2.ensures.front c.split_at-2.ensures.back in
-    left_told _ _ _ _ _ _ _ c.in-Some.wrong both (subst (λ (o : Option Wrong). IsFirstWrong (bytes_at (g.D.Disk.disk c.args.disk.now).holds.pages c.split_at-2.result.0.now)
-    (spellings c.args.layout c.part_or-list.result.now (seconds c.split_at.result.0.now) c.index-cuts-half.result.seconds) o) c.in-Some.is (c.in_ok-wrong.ensures.found told))
+    left_told _ _ _ _ _ _ _ c.in-Some-2.wrong both (subst (λ (o : Option Wrong). IsFirstWrong (bytes_at (g.D.Disk.disk c.args.disk.now).holds.pages c.split_at-2.result.0.now)
+    (spellings c.args.layout c.part_or-list.result.now (seconds c.split_at.result.0.now) c.index-cuts-half.result.seconds) o) c.in-Some-2.is (c.in_ok-wrong.ensures.found told))
 
 pub returns-clause-found : goal.returns-clause-found
 returns-clause-found g t c = λ told.
@@ -58,6 +58,6 @@ returns-clause-found g t c = λ told.
     c.args.places.now c.split_at-2.result.0.now c.split_at-2.result.1.now (length c.args.cuts.now / 2) c.index-cuts-half.result c.args.end.seconds (c.part_or-list.ensures _ _ c.requires.list c.in_ok-part.ensures)
     (omega (arith, c.if-half-eq0.false)) c.requires.many c.index-cuts-half.is c.split_at.ensures.front c.split_at.ensures.back c.split_at-2.ensures.front c.split_at-2.ensures.back in
     let L : Option Wrong → Type 0 = λ o. IsFirstWrong (bytes_at pages c.split_at-2.result.0.now) (spellings c.args.layout c.part_or-list.result.now (seconds c.split_at.result.0.now) c.index-cuts-half.result.seconds) o in
-    let R : List ℕ → Type 0 = λ l. IsFirstWrong (bytes_at l c.split_at-2.result.1.now) (spellings c.args.layout c.part_or-list.result.now (seconds c.split_at.result.1.now) c.args.end.seconds) c.in_ok-wrong-in-None.wrong in
-    right_told _ _ _ _ _ _ _ c.in_ok-wrong-in-None.wrong c.moved.result both (subst L c.in-None.is (c.in_ok-wrong.ensures.found told))
-    (subst R (pages_on (g.D.Disk.disk c.args.disk.now) (g.D.Disk.disk c.first_wrong.new.disk) c.first_wrong.ensures.same) (c.in_ok-wrong-in-None.ensures.found told)) c.moved.ensures
+    let R : List ℕ → Type 0 = λ l. IsFirstWrong (bytes_at l c.split_at-2.result.1.now) (spellings c.args.layout c.part_or-list.result.now (seconds c.split_at.result.1.now) c.args.end.seconds) c.in_ok-wrong-in-None-2.wrong in
+    right_told _ _ _ _ _ _ _ c.in_ok-wrong-in-None-2.wrong c.moved.result both (subst L c.in-None-2.is (c.in_ok-wrong.ensures.found told))
+    (subst R (pages_on (g.D.Disk.disk c.args.disk.now) (g.D.Disk.disk c.first_wrong.new.disk) c.first_wrong.ensures.same) (c.in_ok-wrong-in-None-2.ensures.found told)) c.moved.ensures

@@ -1,7 +1,10 @@
-use Rattle.std.proofs.Common.{◌≡◌, ◌<◌, [], List, length, get_or, Ok, Err, IfOk, IfErr, sym, subst}
+use Rattle.std.proofs.Common.{◌≡◌, ℕ, ◌<◌, [], List, true, length, get_or, Ok, Err, IfOk, IfErr, sym, subst}
+use Rattle.time_base.specs.declared.time.Time.{Time}
 use Rattle.page_cache.specs.Caches.{StandsFor}
 use Rattle.sublist_store.specs.Fetching.{IfDamaged}
-use Rattle.sublist_store.specs.Gathering.{Chosen, Gathers}
+use Rattle.sublist_store.specs.Gathering.{Chosen, ListOrDamage, Gathers, chosen}
+use Rattle.sublist_store.specs.Segments.{seconds}
+use Rattle.record_codec.specs.declared.place.Place.{Place}
 use Rattle.archive_state.specs.Chosen.{GathersOf}
 use Rattle.archive_state.specs.declared.stored.StoredPlan.{StoredPlan}
 use Rattle.plan_shelf.specs.Shelves.{ShelfState, extents_all}
@@ -16,29 +19,29 @@ invariant_of-self g c =
       c.gather.ensures.lie (extents_all plans) (plan_among plans c.args.at c.index.result.now c.as_slice-2.result.now there c.index.ensures c.as_slice-2.ensures) c.self.invariant.1,
     )
 
+-- what is so of all to which the chosen segments of the plan that stands there lead is so of what is gathered of the plan
+gathers_of : {state old : ShelfState} (at a b : ℕ) (s t : StoredPlan) (cuts : List Time) (places : List Place) (pages : List ℕ) (R : (ListOrDamage → Type 0) → Type 0) → state ≡ old
+    → at < length old.plans → s ≡ get_or old.plans at s → t ≡ get_or state.plans at t → cuts ≡ t.plan.cuts → places ≡ t.plan.places → StandsFor old.cache pages
+    → (StandsFor state.cache pages → R (λ o. Gathers t.plan.layout t.plan.horizon.seconds pages (chosen a b t.plan.horizon.seconds true (seconds cuts) places) [] 0 o))
+    → R (λ o. GathersOf pages s.plan a b o)
+gathers_of {state} {old} at a b s t cuts places pages R view there same is cuts_are places_are stands gathered =
+    let h = t.plan.horizon.seconds in
+    let within = subst (λ (x : ShelfState). at < length x.plans) (sym view) there in
+    let here = subst (λ (x : ShelfState). s ≡ get_or x.plans at s) (sym view) same in
+    let was = gathered (subst (λ (x : ShelfState). StandsFor x.cache pages) (sym view) stands) in
+    let segments = chosen_is a b h cuts t.plan.cuts places t.plan.places cuts_are places_are in
+    let now = subst (λ (cs : List Chosen). R (λ (o : ListOrDamage). Gathers t.plan.layout h pages cs [] 0 o)) segments was in
+    subst (λ (u : StoredPlan). R (λ (o : ListOrDamage). GathersOf pages u.plan a b o)) (sym (plan_is state.plans at s t within here is)) now
+
 pub returns-clause-gathered : goal.returns-clause-gathered
 returns-clause-gathered g c = λ tells stands s same.
-    let P = (g.D.Disk.disk c.args.disk.now).holds.pages in
-    let plan = c.index.result.now.plan in
-    let h = plan.horizon.seconds in
-    let there = subst (λ (x : ShelfState). c.args.at < length x.plans) (sym c.self.view_is) c.requires.there in
-    let at = subst (λ (x : ShelfState). s ≡ get_or x.plans c.args.at s) (sym c.self.view_is) same in
-    let was = subst (λ (x : ShelfState). StandsFor x.cache P) (sym c.self.view_is) stands in
-    let segments = chosen_is c.args.span.from c.args.span.to h c.as_slice.result.now plan.cuts c.as_slice-2.result.now plan.places c.as_slice.ensures c.as_slice-2.ensures in
-    let here = subst (λ (cs : List Chosen). IfOk c.gather.result (λ x. Gathers plan.layout h P cs [] 0 (Ok (x.list.items, x.read)))) segments (c.gather.ensures.gathered tells was) in
-    subst (λ (t : StoredPlan). IfOk c.gather.result (λ x. GathersOf P t.plan c.args.span.from c.args.span.to (Ok (x.list.items, x.read)))) (sym (plan_is c.self.inside.plans.items c.args.at s c.index.result.now there at c.index.ensures)) here
+    gathers_of c.args.at c.args.span.from c.args.span.to s c.index.result.now c.as_slice.result.now c.as_slice-2.result.now (g.D.Disk.disk c.args.disk.now).holds.pages
+    (λ (G : ListOrDamage → Type 0). IfOk c.gather.result (λ x. G (Ok (x.list.items, x.read)))) c.self.view_is c.requires.there same c.index.ensures c.as_slice.ensures c.as_slice-2.ensures stands (c.gather.ensures.gathered tells)
 
 pub returns-clause-damaged : goal.returns-clause-damaged
 returns-clause-damaged g c = λ tells stands s same.
-    let P = (g.D.Disk.disk c.args.disk.now).holds.pages in
-    let plan = c.index.result.now.plan in
-    let h = plan.horizon.seconds in
-    let there = subst (λ (x : ShelfState). c.args.at < length x.plans) (sym c.self.view_is) c.requires.there in
-    let at = subst (λ (x : ShelfState). s ≡ get_or x.plans c.args.at s) (sym c.self.view_is) same in
-    let was = subst (λ (x : ShelfState). StandsFor x.cache P) (sym c.self.view_is) stands in
-    let segments = chosen_is c.args.span.from c.args.span.to h c.as_slice.result.now plan.cuts c.as_slice-2.result.now plan.places c.as_slice.ensures c.as_slice-2.ensures in
-    let here = subst (λ (cs : List Chosen). IfErr c.gather.result (IfDamaged (λ d. Gathers plan.layout h P cs [] 0 (Err d)))) segments (c.gather.ensures.damaged tells was) in
-    subst (λ (t : StoredPlan). IfErr c.gather.result (IfDamaged (λ d. GathersOf P t.plan c.args.span.from c.args.span.to (Err d)))) (sym (plan_is c.self.inside.plans.items c.args.at s c.index.result.now there at c.index.ensures)) here
+    gathers_of c.args.at c.args.span.from c.args.span.to s c.index.result.now c.as_slice.result.now c.as_slice-2.result.now (g.D.Disk.disk c.args.disk.now).holds.pages
+    (λ (G : ListOrDamage → Type 0). IfErr c.gather.result (IfDamaged (λ d. G (Err d)))) c.self.view_is c.requires.there same c.index.ensures c.as_slice.ensures c.as_slice-2.ensures stands (c.gather.ensures.damaged tells)
 
 pub returns-clause-stays : goal.returns-clause-stays
 returns-clause-stays g c = λ tells stands.
