@@ -12,5 +12,5 @@ mod StandLemmas
 mod CertifyLemmas
 mod CheckLemmas
 mod ChosenLemmas
-mod CacheLemmas
+pub mod CacheLemmas
 mod DraftLemmas

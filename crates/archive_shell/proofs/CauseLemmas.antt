@@ -1,7 +1,7 @@
 -- What is left of a machine and its archive, over items in a row.
-use Rattle.std.proofs.Common.{◌++◌, sym, subst, arith}
+use Rattle.std.proofs.Common.{◌≡◌, ◌≤◌, ◌++◌, ap, sym, subst, arith}
 use Rattle.machine_model.specs.Pushes.{IsSameBeside}
-use Rattle.machine_model.specs.States.{DiskState, MachineState}
+use Rattle.machine_model.specs.States.{SourceState, SinkState, DiskState, MachineState}
 use Rattle.archive_core.specs.States.{ArchiveState}
 use Rattle.archive_shell.specs.Causes.{IsLater, IsLeft, MayEnd}
 use Rattle.archive_shell.specs.declared.status.Status.{Status}
@@ -9,6 +9,10 @@ use Rattle.archive_shell.proofs.DamageLemmas.{goes_on_further}
 
 pub later_joins : (old mid new : MachineState) → IsLater old mid → IsLater mid new → IsLater old new
 later_joins old mid new one other = record { source = omega (arith, one.source, other.source); sink = omega (arith, one.sink, other.sink); disk = omega (arith, one.disk, other.disk) }
+
+-- a call of the disk is no fault of another part
+pub later_alone : (old new : MachineState) → new.source ≡ old.source → new.sink ≡ old.sink → old.disk.faults ≤ new.disk.faults → IsLater old new
+later_alone old new source sink disk = record { source = omega (arith, ap (λ (s : SourceState). s.faults) source); sink = omega (arith, ap (λ (s : SinkState). s.faults) sink); disk = disk }
 
 -- what ended so since a moment ended so since any earlier one
 pub ends_later : (status : Status) (old mid new : MachineState) → IsLater old mid → MayEnd status mid new → MayEnd status old new

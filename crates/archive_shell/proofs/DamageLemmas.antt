@@ -1,11 +1,10 @@
 -- What is known of an archive in hand as a run goes on, whatever its disk holds.
 use Rattle.std.proofs.Common.{◌≡◌, ℕ, List, [], ◌∷◌, ◌++◌, ap, subst, ◌∙◌, append_assoc}
 use Rattle.machine_model.specs.States.{SourceState}
-use Rattle.commands.specs.declared.command.Command.TheVariants as commands
 use Rattle.commands.specs.declared.command.Item.{Item}
-use Rattle.commands.specs.declared.command.Item.TheVariants as items
 use Rattle.record_codec.specs.declared.entry.Entry.{Entry}
 use Rattle.sublist_store.specs.declared.why.Damage.{Damage}
+use Rattle.archive_state.specs.Chosen.{SpoilsAnswer}
 use Rattle.archive_state.specs.Histories.{History}
 use Rattle.script_read.specs.Items.{Splits}
 use Rattle.script_read.specs.Reading.{ReaderState}
@@ -23,6 +22,7 @@ use Rattle.archive_shell.specs.declared.stop.Halt.TheVariants as halts
 use Rattle.archive_shell.specs.declared.stop.Stop.{Stop}
 use Rattle.archive_shell.specs.declared.stop.Stop.TheVariants as stops
 use Rattle.archive_shell.specs.Outcomes.{GoesOnFrom}
+use Rattle.archive_shell.proofs.FetchLemmas.{asks_question}
 
 -- some entries came, and then more
 pub goes_on_further : (history : History) (more : List Entry) (archive : ArchiveState) → GoesOnFrom (history ++ more) archive → GoesOnFrom history archive
@@ -30,16 +30,7 @@ goes_on_further history more archive (further, stands) = let P : History → Typ
 
 -- what is damaged is so of a question
 pub is_question : (history : History) (pages : List ℕ) (item : Item) (damage : Damage) → Spoils history pages item damage → IsQuestion item
-is_question history pages (items.Command (commands.Find at expr)) damage spoiled = tt
-is_question history pages (items.Command (commands.Between span expr)) damage spoiled = tt
-is_question history pages (items.Command (commands.Arrive doc at text)) damage spoiled = absurd spoiled
-is_question history pages (items.Command (commands.Delete doc at)) damage spoiled = absurd spoiled
-is_question history pages (items.Command (commands.Show doc at)) damage spoiled = absurd spoiled
-is_question history pages (items.Command (commands.Plan word kind fraction)) damage spoiled = absurd spoiled
-is_question history pages (items.Command (commands.Propose word fraction)) damage spoiled = absurd spoiled
-is_question history pages (items.Command (commands.Certificate word)) damage spoiled = absurd spoiled
-is_question history pages (items.Command commands.Verify) damage spoiled = absurd spoiled
-is_question history pages items.Line damage spoiled = absurd spoiled
+is_question history pages item damage spoiled = asks_question (λ a b text. SpoilsAnswer history pages a b text damage) item spoiled
 
 -- a run that is stopped at a damage was halted there
 pub halted_at : (halt : Halt) (damage : Damage) → stop_of_halt halt ≡ stops.Damaged damage → halt ≡ halts.Damaged damage

@@ -1,5 +1,5 @@
 -- A whole run: the load, and then the items.
-use Rattle.std.proofs.Common.{◌≡◌, ◌⊎◌, ℕ, ◌≤◌, false, List, [], length, refl, inl, inr, ap, subst, sym, ◌∙◌, arith}
+use Rattle.std.proofs.Common.{◌≡◌, ◌⊎◌, ℕ, ◌<◌, ◌≤◌, false, List, [], length, refl, inl, inr, ap, subst, sym, ◌∙◌, arith}
 use Rattle.std.proofs.lemmas.List.{append-nil}
 use Rattle.std.proofs.lemmas.List.Elements.{All-nil}
 use Rattle.machine_model.specs.Areas.{Bytes}
@@ -7,7 +7,7 @@ use Rattle.machine_model.specs.Calls.{Syncs}
 use Rattle.machine_model.specs.Causes.{Rose}
 use Rattle.machine_model.specs.Images.{Leaves}
 use Rattle.machine_model.specs.Pulls.{Pull}
-use Rattle.machine_model.specs.States.{SourceState, SinkState, DiskState, MachineState}
+use Rattle.machine_model.specs.States.{SinkState, DiskState, MachineState}
 use Rattle.machine_model.proofs.MomentLemmas.{goes_on_same, left_now}
 use Rattle.script_read.specs.Reading.{ReaderState, fresh}
 use Rattle.archive_state.specs.Histories.{History}
@@ -15,7 +15,9 @@ use Rattle.archive_state.specs.Holding.{HoldsPlan}
 use Rattle.archive_state.specs.Steps.{Reply}
 use Rattle.archive_state.specs.Replies.{reply_text}
 use Rattle.archive_state.specs.Standing.{Carried}
-use Rattle.archive_state.specs.Stands.{Stands, EachStands, StandsIn}
+use Rattle.archive_state.specs.Stands.{Stands, EachStands, StandsIn, IsNotArchive}
+use Rattle.archive_state.proofs.StandsLemmas.{stands_is_archive}
+use Rattle.std.proofs.lemmas.Bool.{cases_lt}
 use Rattle.archive_state.specs.Worlds.{World, world_of}
 use Rattle.archive_state.proofs.RunLemmas.{carried_joins, reopens, state_after_all}
 use Rattle.archive_core.specs.States.{ArchiveState, AreInStep}
@@ -28,7 +30,7 @@ use Rattle.archive_shell.specs.Headline.{EndsEarly, Headline, ComesAfterReplies}
 use Rattle.archive_shell.specs.Serving.{Serving, Serves}
 use Rattle.archive_shell.specs.Statuses.{status_of_load}
 use Rattle.archive_shell.specs.declared.status.Status.{Status}
-use Rattle.archive_shell.specs.declared.status.Status.TheVariants.{Done, NotArchive, Damaged, Disk, Memory}
+use Rattle.archive_shell.specs.declared.status.Status.TheVariants.{NotArchive, Damaged, Disk, Memory}
 use Rattle.archive_shell.proofs.PullLemmas.{not_early, pulling_first, input_early}
 use Rattle.archive_shell.proofs.ShowLemmas.{some_bytes}
 
@@ -50,6 +52,13 @@ keeps_still history d each = record { goes_on = goes_on_same d; images = left_no
 -- and nothing is a sync
 pub syncs_still : (d : DiskState) → Syncs d d
 syncs_still d = record { goes_on = goes_on_same d; holds = refl; beside = refl; during = left_now d (λ image beside. Leaves d.now image beside) (λ image allowed. (allowed, refl)) }
+
+-- a journal that is refused isn't new, and so it was synced
+pub synced_if_refused : (old new : DiskState) (at : ℕ) → IsNotArchive old.holds at → (17 < length old.holds.journal → Syncs old new) → Syncs old new
+synced_if_refused old new at refused longer = elim (cases_lt 17 (length old.holds.journal)) as (λ _. Syncs old new) [
+  | inl long ↦ longer long
+  | inr short ↦ absurd (stands_is_archive [] old.holds at (new_stands old.holds short) refused)
+]
 
 -- where each image left stands for a history, each that may be left now does
 pub keeps_now : (history : History) (old new : DiskState) → KeepsHistory history old new → EachStands new history
@@ -113,37 +122,27 @@ whole_run history status old mid new pulls beside keeps serves = record {
 }
 
 -- how a run ends where the archive isn't loaded
-pub load_early : (error : LoadError) → ((at : ℕ) → error ≡ loads.NotArchive at → ⊥) → EndsEarly (status_of_load error)
-load_early loads.Failed never = inl refl
-load_early (loads.NotArchive at) never = absurd (never at refl)
-load_early loads.Memory never = inr (inr (inl refl))
+pub load_early : (status : Status) (error : LoadError) → status ≡ status_of_load error → ((at : ℕ) → error ≡ loads.NotArchive at → ⊥) → EndsEarly status
+load_early status loads.Failed is never = inl is
+load_early status (loads.NotArchive at) is never = absurd (never at refl)
+load_early status loads.Memory is never = inr (inr (inl is))
 
 -- and nothing was damaged then
-pub load_undamaged : (error : LoadError) (damage : Damage) → status_of_load error ≡ Damaged damage → ⊥
-load_undamaged loads.Failed damage is = cc
-load_undamaged (loads.NotArchive at) damage is = cc
-load_undamaged loads.Memory damage is = cc
+pub load_undamaged : (status : Status) (error : LoadError) → status ≡ status_of_load error → (damage : Damage) → status ≡ Damaged damage → ⊥
+load_undamaged status loads.Failed is damage damaged = cc
+load_undamaged status (loads.NotArchive at) is damage damaged = cc
+load_undamaged status loads.Memory is damage damaged = cc
 
-pub load_refused : (error : LoadError) (at : ℕ) → ((place : ℕ) → error ≡ loads.NotArchive place → place ≡ at)
-    → (status_of_load error ≡ NotArchive at) ⊎ ((status_of_load error ≡ Disk) ⊎ (status_of_load error ≡ Memory))
-load_refused loads.Failed at once = inr (inl refl)
-load_refused (loads.NotArchive place) at once = inl (ap NotArchive (once place refl))
-load_refused loads.Memory at once = inr (inr refl)
+pub load_refused : (status : Status) (error : LoadError) (at : ℕ) → status ≡ status_of_load error → ((place : ℕ) → error ≡ loads.NotArchive place → place ≡ at) → (status ≡ NotArchive at) ⊎ ((status ≡ Disk) ⊎ (status ≡ Memory))
+load_refused status loads.Failed at is once = inr (inl is)
+load_refused status (loads.NotArchive place) at is once = inl (is ∙ ap NotArchive (once place refl))
+load_refused status loads.Memory at is once = inr (inr is)
 
-pub load_completes : (error : LoadError) → (error ≡ loads.Failed → ⊥) → ((at : ℕ) → error ≡ loads.NotArchive at → ⊥)
-    → (status_of_load error ≡ Done) ⊎ ((status_of_load error ≡ Memory) ⊎ ((damage : Damage) × (status_of_load error ≡ Damaged damage)))
-load_completes loads.Failed never archive = absurd (never refl)
-load_completes (loads.NotArchive at) never archive = absurd (archive at refl)
-load_completes loads.Memory never archive = inr (inl refl)
+pub load_completes : (status : Status) (error : LoadError) → status ≡ status_of_load error → (error ≡ loads.Failed → ⊥) → ((at : ℕ) → error ≡ loads.NotArchive at → ⊥) → status ≡ Memory
+load_completes status loads.Failed is never archive = absurd (never refl)
+load_completes status (loads.NotArchive at) is never archive = absurd (archive at refl)
+load_completes status loads.Memory is never archive = is
 
 -- a count that rose rose since any earlier moment
 pub rose_earlier : (a b c : ℕ) → a ≤ b → Rose b c → Rose a c
 rose_earlier a b c early rose = omega (arith, rose)
-
--- what was served of equal states was served of these
-pub serves_of : (world : World) (status : Status) (one other : SourceState) (output third : SinkState) (disk : DiskState) (new : MachineState) (pulls : List Pull) → one ≡ other → output ≡ third
-    → Serves world status (record { source = one; sink = output; disk = disk }) new pulls → Serves world status (record { source = other; sink = third; disk = disk }) new pulls
-serves_of world status one other output third disk new pulls source sink serves =
-    let S : SourceState → Type 0 = λ s. Serves world status (record { source = s; sink = output; disk = disk }) new pulls in
-    let T : SinkState → Type 0 = λ s. Serves world status (record { source = other; sink = s; disk = disk }) new pulls in
-    subst T sink (subst S source serves)

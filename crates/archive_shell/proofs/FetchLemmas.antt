@@ -25,28 +25,32 @@ use Rattle.archive_core.specs.Takes.{found, spanned}
 use Rattle.archive_core.specs.declared.error.AskError.{AskError}
 use Rattle.archive_core.specs.declared.error.AskError.TheVariants as asks
 use Rattle.archive_shell.specs.Asking.{Fetches, HasFetched}
-use Rattle.archive_shell.specs.Fetching.{AllAskFor, ArePiecesOf, AsksFor, IsAsking}
+use Rattle.archive_shell.specs.Fetching.{AllAskFor, ArePiecesOf, AsksFor, AsksOver, IsAsking}
 use Rattle.archive_shell.specs.Questions.{IsQuestion}
 use Rattle.archive_shell.specs.Outcomes.{Writes}
 use Rattle.archive_shell.specs.declared.stop.Halt.{Halt}
-use Rattle.archive_shell.specs.declared.stop.Halt.TheVariants as halts
-use Rattle.archive_shell.proofs.OutcomeLemmas.{anyway, halted}
+use Rattle.archive_shell.proofs.OutcomeLemmas.{anyway, unreplied}
 
--- what is asked is a question
-pub asking_question : (item : Item) → IsAsking item → IsQuestion item
-asking_question (items.Command (commands.Find at expr)) asking = tt
-asking_question (items.Command (commands.Between span expr)) asking = tt
-asking_question (items.Command (commands.Arrive doc at text)) asking = absurd asking
-asking_question (items.Command (commands.Delete doc at)) asking = absurd asking
-asking_question (items.Command (commands.Show doc at)) asking = absurd asking
-asking_question (items.Command (commands.Plan word kind fraction)) asking = absurd asking
-asking_question (items.Command (commands.Propose word fraction)) asking = absurd asking
-asking_question (items.Command (commands.Certificate word)) asking = absurd asking
-asking_question (items.Command commands.Verify) asking = absurd asking
-asking_question items.Line asking = absurd asking
+-- what is shown of each question of what is found is so of an item that asks
+pub by_asking : (P : ℕ → ℕ → List ℕ → Type 0) (Q : Item → Type 0) → ((at : Time) (text : List ℕ) → P at.seconds (at.seconds + 1) text → Q (items.Command (commands.Find at text)))
+    → ((span : Span) (text : List ℕ) → P span.from span.to text → Q (items.Command (commands.Between span text))) → (item : Item) → AsksOver P item → Q item
+by_asking P Q find between (items.Command (commands.Find at text)) asks = find at text asks
+by_asking P Q find between (items.Command (commands.Between span text)) asks = between span text asks
+by_asking P Q find between (items.Command (commands.Arrive doc at text)) asks = absurd asks
+by_asking P Q find between (items.Command (commands.Delete doc at)) asks = absurd asks
+by_asking P Q find between (items.Command (commands.Show doc at)) asks = absurd asks
+by_asking P Q find between (items.Command (commands.Plan word kind fraction)) asks = absurd asks
+by_asking P Q find between (items.Command (commands.Propose word fraction)) asks = absurd asks
+by_asking P Q find between (items.Command (commands.Certificate word)) asks = absurd asks
+by_asking P Q find between (items.Command commands.Verify) asks = absurd asks
+by_asking P Q find between items.Line asks = absurd asks
+
+-- what asks is a question
+pub asks_question : (P : ℕ → ℕ → List ℕ → Type 0) (item : Item) → AsksOver P item → IsQuestion item
+asks_question P item asks = by_asking P IsQuestion (λ at text p. tt) (λ span text p. tt) item asks
 
 pub asking_questions : (items : List Item) → All IsAsking items → All IsQuestion items
-asking_questions items all = All-weaker IsAsking IsQuestion asking_question items all
+asking_questions items all = All-weaker IsAsking IsQuestion (asks_question (λ a b text. Unit {0})) items all
 
 -- ---- one item
 
@@ -72,13 +76,9 @@ pub fetched_find : (h : History) (at : Time) (text : List ℕ) (was now : List K
     → Writes (found r) result page → OnOk result (Fetches h (items.Command (commands.Find at text)) was now old new)
 fetched_find h at text was now old new A (Ok answer) result page (query, read, made, has) refused still writes =
     anyway _ result (fetched_query h (items.Command (commands.Find at text)) at.seconds (at.seconds + 1) text was now old new query (λ pieces are. are) read has)
-fetched_find h at text was now old new A (Err (asks.Refused why)) result page made refused still writes =
-    let (place, read, is) = refused why refl in
-    let same = still why refl in
-    anyway _ result (fetched_none h (items.Command (commands.Find at text)) at.seconds (at.seconds + 1) text was now old new place (λ pieces are. are) read same.0 same.1)
-fetched_find h at text was now old new A (Err asks.Failed) result page made refused still writes = halted (Fetches h (items.Command (commands.Find at text)) was now old new) result halts.Disk writes
-fetched_find h at text was now old new A (Err (asks.Damaged damage)) result page made refused still writes = halted (Fetches h (items.Command (commands.Find at text)) was now old new) result (halts.Damaged damage) writes
-fetched_find h at text was now old new A (Err asks.Memory) result page made refused still writes = halted (Fetches h (items.Command (commands.Find at text)) was now old new) result halts.Memory writes
+fetched_find h at text was now old new A (Err error) result page made refused still writes =
+    unreplied _ error result page (λ why is written. let (place, read, bad) = refused why (ap Err is) in let same = still why (ap Err is) in
+    anyway _ result (fetched_none h (items.Command (commands.Find at text)) at.seconds (at.seconds + 1) text was now old new place (λ pieces are. are) read same.0 same.1)) writes
 
 pub fetched_between : (h : History) (span : Span) (text : List ℕ) (was now : List Kept) (old new : DiskState) (A : SpanAnswer → Query → Type 0) (r : Result SpanAnswer AskError) (result : Result (Unit {0}) Halt) (page : List ℕ)
     → IfOk r (λ answer. (query : Query) × IsRead key_of text (Ok query) × A answer query × HasReadFor h span.from span.to query was now old new)
@@ -86,13 +86,9 @@ pub fetched_between : (h : History) (span : Span) (text : List ℕ) (was now : L
     → Writes (spanned r) result page → OnOk result (Fetches h (items.Command (commands.Between span text)) was now old new)
 fetched_between h span text was now old new A (Ok answer) result page (query, read, made, has) refused still writes =
     anyway _ result (fetched_query h (items.Command (commands.Between span text)) span.from span.to text was now old new query (λ pieces are. are) read has)
-fetched_between h span text was now old new A (Err (asks.Refused why)) result page made refused still writes =
-    let (place, read, is) = refused why refl in
-    let same = still why refl in
-    anyway _ result (fetched_none h (items.Command (commands.Between span text)) span.from span.to text was now old new place (λ pieces are. are) read same.0 same.1)
-fetched_between h span text was now old new A (Err asks.Failed) result page made refused still writes = halted (Fetches h (items.Command (commands.Between span text)) was now old new) result halts.Disk writes
-fetched_between h span text was now old new A (Err (asks.Damaged damage)) result page made refused still writes = halted (Fetches h (items.Command (commands.Between span text)) was now old new) result (halts.Damaged damage) writes
-fetched_between h span text was now old new A (Err asks.Memory) result page made refused still writes = halted (Fetches h (items.Command (commands.Between span text)) was now old new) result halts.Memory writes
+fetched_between h span text was now old new A (Err error) result page made refused still writes =
+    unreplied _ error result page (λ why is written. let (place, read, bad) = refused why (ap Err is) in let same = still why (ap Err is) in
+    anyway _ result (fetched_none h (items.Command (commands.Between span text)) span.from span.to text was now old new place (λ pieces are. are) read same.0 same.1)) writes
 
 -- pushes read nothing
 pub fetched_beside : (h : History) (item : Item) (was now : List Kept) (old mid new : DiskState) → IsSameBeside mid new → Fetches h item was now old mid → Fetches h item was now old new

@@ -1,10 +1,10 @@
 -- What a run pulls, call by call of the reader, and where the input was at its end.
-use Rattle.std.proofs.Common.{◌≡◌, ◌⊎◌, ℕ, ◌<◌, ◌^◌, Bool, true, false, List, [], ◌∷◌, ◌++◌, length, Option, Some, None, Result, Ok, Err, refl, inl, inr, ap, subst, sym, ◌∙◌, arith, append_assoc}
+use Rattle.std.proofs.Common.{◌≡◌, ◌⊎◌, ℕ, ◌<◌, ◌^◌, Bool, true, false, List, [], ◌∷◌, ◌++◌, length, Option, Some, None, Result, Ok, Err, IfErr, refl, inl, inr, ap, subst, sym, ◌∙◌, arith, append_assoc}
 use Rattle.std.proofs.lemmas.List.{append-nil, length-append}
 use Rattle.machine_model.specs.States.{SourceState}
 use Rattle.commands.specs.declared.command.Item.{Item}
 use Rattle.script_read.specs.Items.{first, Items, Splits, IsBrokenAt, IsScript}
-use Rattle.script_read.specs.Reading.{ReaderState, IsCalm, Says, Reads, fresh, given}
+use Rattle.script_read.specs.Reading.{ReaderState, Finds, Reads, fresh, given}
 use Rattle.script_read.specs.declared.first.First.TheVariants.{More}
 use Rattle.script_read.specs.declared.error.ScriptError.{ScriptError}
 use Rattle.script_read.specs.declared.error.ScriptError.TheVariants as errors
@@ -12,24 +12,12 @@ use Rattle.script_read.proofs.Splitting.{broken_once, more-open, not_broken, scr
 use Rattle.script_read.proofs.RunLemmas.{reads_start, reads_on, reads_end}
 use Rattle.sublist_store.specs.declared.why.Damage.{Damage}
 use Rattle.archive_shell.specs.Headline.{CarriesOutAll, EndsEarly, InputAt}
-use Rattle.archive_shell.specs.Serving.{Pulling, Ends}
-use Rattle.archive_shell.specs.Statuses.{status_of_script, status_of_stop}
+use Rattle.archive_shell.specs.Serving.{Ends, Gives, Pulling, next_by}
+use Rattle.archive_shell.specs.Statuses.{status_of_stop}
 use Rattle.archive_shell.specs.declared.stop.Stop.{Stop}
 use Rattle.archive_shell.specs.declared.stop.Stop.TheVariants as stops
 use Rattle.archive_shell.specs.declared.status.Status.{Status}
 use Rattle.archive_shell.specs.declared.status.Status.TheVariants.{Done, Usage, NotArchive, Disk, Sink, Source, Budget, Script, Damaged, NotEmpty, Memory}
-
--- what a call of the reader gave: the bytes that it pulled, and what they say
-pub record Gives (held held_now : ReaderState) (since : List ℕ) (answer : Result (Option Item) ScriptError) (before after : SourceState) : Type 0 where
-  pub more : List ℕ
-  pub gave : before.left ≡ more ++ after.left
-  pub calm : IsCalm since held more held_now
-  pub says : Says held.passed (since ++ more) answer held_now
-  pub told : held_now.ended ≡ true → after.left ≡ []
-
--- what was given for an answer was given for an equal one
-pub gives_as : (held held_now : ReaderState) (since : List ℕ) (one other : Result (Option Item) ScriptError) (before after : SourceState) → one ≡ other → Gives held held_now since one before after → Gives held held_now since other before after
-gives_as held held_now since one other before after same gives = let G : Result (Option Item) ScriptError → Type 0 = λ r. Gives held held_now since r before after in subst G same gives
 
 -- nothing was pulled by a reader that has taken nothing
 pub first_reads : fresh.ended ≡ true → ⊥
@@ -41,41 +29,37 @@ pulling_first source = record { pulled = []; pulled_are = refl; told = λ is. ab
 pub pulling_start : (source : SourceState) (held : ReaderState) → held ≡ fresh → Pulling source source held
 pulling_start source held is = let P : ReaderState → Type 0 = λ h. Pulling source source h in subst P (sym is) (pulling_first source)
 
--- all that was pulled, with what a call gave
-pub all_pulled : (old now source : SourceState) (held held_now : ReaderState) (answer : Result (Option Item) ScriptError) (pulling : Pulling old now held) (gives : Gives held held_now pulling.since answer now source)
-    → old.left ≡ (pulling.pulled ++ gives.more) ++ source.left
-all_pulled old now source held held_now answer pulling gives =
-    pulling.pulled_are ∙ ap (λ (l : List ℕ). pulling.pulled ++ l) gives.gave ∙ sym (append_assoc pulling.pulled gives.more source.left)
+-- the item that comes next, as a list
+abbrev pub given_by : Result Item Status → List Item
+given_by (Ok item) = item ∷ []
+given_by (Err status) = []
+
+pub given_so : (answer : Result (Option Item) ScriptError) → given answer ≡ given_by (next_by answer)
+given_so (Ok (Some item)) = refl
+given_so (Ok None) = refl
+given_so (Err error) = refl
+
+-- what was pulled, with what a call gave
+abbrev pub pulling_on : (old now source : SourceState) (held held_now : ReaderState) (next : Result Item Status) (items : List Item) (pulling : Pulling old now held) → pulling.items ++ given_by next ≡ items → Gives held held_now pulling.since next now source
+    → Pulling old source held_now
+pulling_on old now source held held_now next items pulling are gives = record {
+  pulled = pulling.pulled ++ gives.more;
+  pulled_are = pulling.pulled_are ∙ ap (λ (l : List ℕ). pulling.pulled ++ l) gives.gave ∙ sym (append_assoc pulling.pulled gives.more source.left);
+  told = gives.told;
+  items = items;
+  since = gives.says.rest;
+  reads = (let R : List Item → Type 0 = λ l. Reads (pulling.pulled ++ gives.more) l gives.says.rest held_now in
+      subst R (ap (λ (l : List Item). pulling.items ++ l) (given_so gives.answer ∙ ap given_by (sym gives.next_is)) ∙ are)
+      (reads_on pulling.pulled pulling.items pulling.since held gives.more gives.answer held_now pulling.reads gives.calm gives.says));
+}
 
 -- the call gave an item
-abbrev pub pulling_next : (old now source : SourceState) (held held_now : ReaderState) (item : Item) (pulling : Pulling old now held) → Gives held held_now pulling.since (Ok (Some item)) now source → Pulling old source held_now
-pulling_next old now source held held_now item pulling gives = record {
-  pulled = pulling.pulled ++ gives.more;
-  pulled_are = all_pulled old now source held held_now (Ok (Some item)) pulling gives;
-  told = gives.told;
-  items = pulling.items ++ item ∷ [];
-  since = gives.says.rest;
-  reads = reads_on pulling.pulled pulling.items pulling.since held gives.more (Ok (Some item)) held_now pulling.reads gives.calm gives.says;
-}
+abbrev pub pulling_next : (old now source : SourceState) (held held_now : ReaderState) (item : Item) (pulling : Pulling old now held) → Gives held held_now pulling.since (Ok item) now source → Pulling old source held_now
+pulling_next old now source held held_now item pulling gives = pulling_on old now source held held_now (Ok item) (pulling.items ++ item ∷ []) pulling refl gives
 
 -- the call gave none
-pub reads_still : (old now source : SourceState) (held held_now : ReaderState) (answer : Result (Option Item) ScriptError) → given answer ≡ [] → (pulling : Pulling old now held) (gives : Gives held held_now pulling.since answer now source)
-    → Reads (pulling.pulled ++ gives.more) pulling.items gives.says.rest held_now
-reads_still old now source held held_now answer none pulling gives =
-    let G : List Item → Type 0 = λ l. Reads (pulling.pulled ++ gives.more) (pulling.items ++ l) gives.says.rest held_now in
-    let R : List Item → Type 0 = λ l. Reads (pulling.pulled ++ gives.more) l gives.says.rest held_now in
-    subst R (append-nil pulling.items) (subst G none (reads_on pulling.pulled pulling.items pulling.since held gives.more answer held_now pulling.reads gives.calm gives.says))
-
-abbrev pub pulling_still : (old now source : SourceState) (held held_now : ReaderState) (answer : Result (Option Item) ScriptError) → given answer ≡ [] → (pulling : Pulling old now held) → Gives held held_now pulling.since answer now source
-    → Pulling old source held_now
-pulling_still old now source held held_now answer none pulling gives = record {
-  pulled = pulling.pulled ++ gives.more;
-  pulled_are = all_pulled old now source held held_now answer pulling gives;
-  told = gives.told;
-  items = pulling.items;
-  since = gives.says.rest;
-  reads = reads_still old now source held held_now answer none pulling gives;
-}
+abbrev pub pulling_still : (old now source : SourceState) (held held_now : ReaderState) (status : Status) (pulling : Pulling old now held) → Gives held held_now pulling.since (Err status) now source → Pulling old source held_now
+pulling_still old now source held held_now status pulling gives = pulling_on old now source held held_now (Err status) pulling.items pulling (append-nil pulling.items) gives
 
 -- a run ends where its input stands so
 abbrev pub ends_at : (status : Status) (old new : SourceState) (held : ReaderState) (pulling : Pulling old new held) → InputAt status held.ended pulling.pulled pulling.since → Ends status old new
@@ -103,11 +87,11 @@ pub ends_early : (status : Status) (old new : SourceState) (held : ReaderState) 
 ends_early status old new held early pulling = ends_at status old new held pulling (input_early status held.ended pulling.pulled pulling.since early)
 
 -- a run that is stopped ends early
-pub stops_early : (stop : Stop) → EndsEarly (status_of_stop stop)
-stops_early stops.Disk = inl refl
-stops_early stops.Sink = inr (inl refl)
-stops_early stops.Memory = inr (inr (inl refl))
-stops_early (stops.Damaged damage) = inr (inr (inr (damage, refl)))
+pub stops_early : (status : Status) (stop : Stop) → status ≡ status_of_stop stop → EndsEarly status
+stops_early status stops.Disk is = inl is
+stops_early status stops.Sink is = inr (inl is)
+stops_early status stops.Memory is = inr (inr (inl is))
+stops_early status (stops.Damaged damage) is = inr (inr (inr (damage, is)))
 
 -- where the input was, for each status at which all items are carried out
 input_done : (bytes : List ℕ) (items : List Item) → Items true bytes items [] → InputAt Done true bytes []
@@ -148,43 +132,45 @@ input_budget ended bytes items rest split more all = record {
 
 -- a run ends in which these items are all that is whole in the bytes pulled
 pub record EndsWhole (status : Status) (old new : SourceState) (items : List Item) : Type 0 where
+  pub carried : CarriesOutAll status
   pub ends : Ends status old new
   pub split : Splits ends.ended ends.pulled items ends.rest
 
--- the reader has no next item
-pub whole_by : (old now source : SourceState) (held held_now : ReaderState) (error : ScriptError) → (error ≡ errors.Memory → ⊥) → (pulling : Pulling old now held) → Gives held held_now pulling.since (Err error) now source
-    → EndsWhole (status_of_script error) old source pulling.items
-whole_by old now source held held_now (errors.Broken at) other pulling gives =
-    let still = pulling_still old now source held held_now (Err (errors.Broken at)) refl pulling gives in
-    let ends = reads_end still.pulled still.items still.since held_now (Err (errors.Broken at)) still.reads gives.says.finds in
-    record { ends = ends_at (Script at) old source held_now still (input_script held_now.ended still.pulled still.since at ends.1); split = ends.0 }
-whole_by old now source held held_now errors.Budget other pulling gives =
-    let still = pulling_still old now source held held_now (Err errors.Budget) refl pulling gives in
-    let ends = reads_end still.pulled still.items still.since held_now (Err errors.Budget) still.reads gives.says.finds in
-    record { ends = ends_at Budget old source held_now still (input_budget held_now.ended still.pulled still.items still.since ends.0 ends.1 ends.2); split = ends.0 }
-whole_by old now source held held_now errors.Failed other pulling gives =
-    let still = pulling_still old now source held held_now (Err errors.Failed) refl pulling gives in
-    let ends = reads_end still.pulled still.items still.since held_now (Err errors.Failed) still.reads gives.says.finds in
-    let few : length still.pulled < 2 ^ 40 = omega (arith, still.reads.before, gives.says.finds.1) in
-    record { ends = ends_at Source old source held_now still (input_source held_now.ended still.pulled still.items still.since ends.0 ends.1 few); split = ends.0 }
-whole_by old now source held held_now errors.Memory other pulling gives = absurd (other refl)
-
--- the input is at its end
-pub whole_done : (old now source : SourceState) (held held_now : ReaderState) (pulling : Pulling old now held) → Gives held held_now pulling.since (Ok None) now source → EndsWhole Done old source pulling.items
-whole_done old now source held held_now pulling gives =
-    let still = pulling_still old now source held held_now (Ok None) refl pulling gives in
-    let ends = reads_end still.pulled still.items still.since held_now (Ok None) still.reads gives.says.finds in
-    record {
+-- where an answer is no item the run so ends, or there was no memory
+whole_at : (old source : SourceState) (held : ReaderState) (still : Pulling old source held) (answer : Result (Option Item) ScriptError) → Finds answer held.passed (length still.since) (first held.ended still.since)
+    → IfErr (next_by answer) (λ status. EndsWhole status old source still.items ⊎ (status ≡ Memory))
+whole_at old source held still (Ok (Some item)) finds = tt
+whole_at old source held still (Ok None) finds =
+    let ends = reads_end still.pulled still.items still.since held (Ok None) still.reads finds in
+    inl (record {
+      carried = tt;
       ends = record { pulled = still.pulled; pulled_are = still.pulled_are; ended = true; ended_is = λ is. still.told ends.0; rest = []; input_at = input_done still.pulled still.items ends.1 };
       split = (ends.1, tt);
-    }
+    })
+whole_at old source held still (Err (errors.Broken at)) finds =
+    let ends = reads_end still.pulled still.items still.since held (Err (errors.Broken at)) still.reads finds in
+    inl (record { carried = tt; ends = ends_at (Script at) old source held still (input_script held.ended still.pulled still.since at ends.1); split = ends.0 })
+whole_at old source held still (Err errors.Budget) finds =
+    let ends = reads_end still.pulled still.items still.since held (Err errors.Budget) still.reads finds in
+    inl (record { carried = tt; ends = ends_at Budget old source held still (input_budget held.ended still.pulled still.items still.since ends.0 ends.1 ends.2); split = ends.0 })
+whole_at old source held still (Err errors.Failed) finds =
+    let ends = reads_end still.pulled still.items still.since held (Err errors.Failed) still.reads finds in
+    let few : length still.pulled < 2 ^ 40 = omega (arith, still.reads.before, finds.1) in
+    inl (record { carried = tt; ends = ends_at Source old source held still (input_source held.ended still.pulled still.items still.since ends.0 ends.1 few); split = ends.0 })
+whole_at old source held still (Err errors.Memory) finds = inr refl
 
--- so a run ends where the reader has no next item
-pub ends_by : (old now source : SourceState) (held held_now : ReaderState) (error : ScriptError) (pulling : Pulling old now held) → Gives held held_now pulling.since (Err error) now source → Ends (status_of_script error) old source
-ends_by old now source held held_now (errors.Broken at) pulling gives = (whole_by old now source held held_now (errors.Broken at) (λ is. cc) pulling gives).ends
-ends_by old now source held held_now errors.Budget pulling gives = (whole_by old now source held held_now errors.Budget (λ is. cc) pulling gives).ends
-ends_by old now source held held_now errors.Failed pulling gives = (whole_by old now source held held_now errors.Failed (λ is. cc) pulling gives).ends
-ends_by old now source held held_now errors.Memory pulling gives = ends_early Memory old source held_now (inr (inr (inl refl))) (pulling_still old now source held held_now (Err errors.Memory) refl pulling gives)
+pub whole_or_none : (old now source : SourceState) (held held_now : ReaderState) (status : Status) (pulling : Pulling old now held) → Gives held held_now pulling.since (Err status) now source
+    → EndsWhole status old source pulling.items ⊎ (status ≡ Memory)
+whole_or_none old now source held held_now status pulling gives =
+    let I : Result Item Status → Type 0 = λ next. IfErr next (λ s. EndsWhole s old source pulling.items ⊎ (s ≡ Memory)) in
+    subst I (sym gives.next_is) (whole_at old source held_now (pulling_still old now source held held_now status pulling gives) gives.answer gives.says.finds)
+
+-- so a run ends where there is no next item
+pub ends_by : (old now source : SourceState) (held held_now : ReaderState) (status : Status) (pulling : Pulling old now held) → Gives held held_now pulling.since (Err status) now source → Ends status old source
+ends_by old now source held held_now status pulling gives = elim (whole_or_none old now source held held_now status pulling gives) as (λ _. Ends status old source) [
+  | inl whole ↦ whole.ends
+  | inr none ↦ ends_early status old source held_now (inr (inr (inl none))) (pulling_still old now source held held_now status pulling gives)
+]
 
 -- why a run whose machine didn't fail came to its end, or found no memory or a sublist damaged
 pub completes : (status : Status) (old new : SourceState) → Ends status old new → IsScript old.left → length old.left < 2 ^ 40

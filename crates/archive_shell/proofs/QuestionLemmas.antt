@@ -1,5 +1,5 @@
 -- A question's reply is made by what reads give.
-use Rattle.std.proofs.Common.{◌≡◌, ℕ, Bool, false, true, List, [], ◌∷◌, ◌++◌, length, get_or, Some, None, Result, Ok, Err, IfOk, OnOk, All, refl, inl, inr, ap, subst, sym, ◌∙◌, arith, append_assoc, add-zero}
+use Rattle.std.proofs.Common.{◌≡◌, ℕ, Bool, false, true, List, [], ◌∷◌, ◌++◌, Some, Result, Ok, Err, IfOk, OnOk, All, refl, inl, inr, ap, subst, sym, ◌∙◌, arith, append_assoc, add-zero}
 use Rattle.std.specs.List.{AllZip, flat_map}
 use Rattle.std.proofs.lemmas.Grind.{flat_map-append}
 use Rattle.std.proofs.lemmas.List.{append-nil, get_or_append_left, length-append}
@@ -29,8 +29,12 @@ use Rattle.archive_core.specs.declared.error.AskError.{AskError}
 use Rattle.archive_core.specs.declared.error.AskError.TheVariants as asks
 use Rattle.sublist_store.specs.declared.why.Damage.{Damage}
 use Rattle.archive_shell.specs.Damages.{Spoils}
-use Rattle.archive_shell.specs.Asking.{Asking, Fetches, HasAsked, HasStopped, IsAsked, IsOnPage}
-use Rattle.archive_shell.specs.Fetching.{IsAsking}
+use Rattle.archive_shell.specs.Asking.{Asking, Fetches, HasAsked, HasEnded, HasStopped, IsAsked, IsOnPage}
+use Rattle.archive_shell.specs.Headline.{CarriesOutAll}
+use Rattle.archive_shell.specs.Serving.{Gives}
+use Rattle.archive_shell.specs.declared.status.Status.{Status}
+use Rattle.archive_shell.specs.Fetching.{IsAsking, ReadsMissed}
+use Rattle.archive_core.proofs.CacheLemmas.{stands_but_cache}
 use Rattle.archive_core.specs.States.{ArchiveState, CacheStands, IsSameButCache, StandsFor}
 use Rattle.machine_model.specs.Calls.{OnlyReads}
 use Rattle.machine_model.specs.Pushes.{IsSameBeside}
@@ -38,19 +42,14 @@ use Rattle.script_read.specs.Items.{Items, Splits}
 use Rattle.script_read.specs.Reading.{ReaderState, MayFollow, fresh}
 use Rattle.script_read.proofs.Joins.{items-join}
 use Rattle.script_read.proofs.Splitting.{each_splits, one_split}
-use Rattle.archive_shell.proofs.FetchLemmas.{asking_question, asking_questions, fetched_beside, fetched_more}
-use Rattle.archive_shell.proofs.OutcomeLemmas.{halted}
-use Rattle.archive_shell.proofs.PullLemmas.{Gives, pulling_first, pulling_next, whole_done}
+use Rattle.archive_shell.proofs.FetchLemmas.{asks_question, asking_questions, fetched_beside, fetched_more}
+use Rattle.archive_shell.proofs.OutcomeLemmas.{halted, unreplied}
+use Rattle.archive_shell.proofs.PullLemmas.{EndsWhole, pulling_first, pulling_next, whole_or_none}
 use Rattle.page_cache.specs.Caches.{Kept, IsHeld, StandsFor as IsCacheOf}
-use Rattle.std.proofs.lemmas.List.Elements.{All-nil}
+use Rattle.std.proofs.lemmas.List.Elements.{All-nil, All-pop}
 use Rattle.archive_shell.specs.Questions.{AreMade, AreMadeUpTo, IsMadeReply, IsQuestion}
 use Rattle.archive_shell.specs.Outcomes.{Writes}
-use Rattle.archive_shell.specs.Statuses.{status_of_script, status_of_stop}
-use Rattle.archive_shell.specs.declared.status.Status.TheVariants.{Done, Damaged}
-use Rattle.archive_shell.specs.declared.stop.Stop.{Stop}
-use Rattle.archive_shell.specs.declared.stop.Stop.TheVariants as stops
-use Rattle.script_read.specs.declared.error.ScriptError.{ScriptError}
-use Rattle.script_read.specs.declared.error.ScriptError.TheVariants as errors
+use Rattle.archive_shell.specs.declared.status.Status.TheVariants.{Done}
 use Rattle.archive_shell.specs.declared.stop.Halt.{Halt}
 use Rattle.archive_shell.specs.declared.stop.Halt.TheVariants as halts
 
@@ -66,12 +65,8 @@ pub made_find : (h : History) (image : Bytes) (at : Time) (text : List ℕ) (B :
     → Writes (found r) result page → OnOk result (IsOnPage h image (items.Command (commands.Find at text)) page)
 made_find h image at text B (Ok answer) result page (query, read, made, rest) refused writes =
     on_page h image (items.Command (commands.Find at text)) (Found answer.rows.items answer.read) result page (Ok query, read, (answer.rows.items, answer.read, made, refl)) writes
-made_find h image at text B (Err (asks.Refused why)) result page made refused writes =
-    let (place, read, is) = refused why refl in
-    on_page h image (items.Command (commands.Find at text)) (Refused why) result page (Err place, read, ap Refused is) writes
-made_find h image at text B (Err asks.Failed) result page made refused writes = halted (IsOnPage h image (items.Command (commands.Find at text)) page) result halts.Disk writes
-made_find h image at text B (Err (asks.Damaged damage)) result page made refused writes = halted (IsOnPage h image (items.Command (commands.Find at text)) page) result (halts.Damaged damage) writes
-made_find h image at text B (Err asks.Memory) result page made refused writes = halted (IsOnPage h image (items.Command (commands.Find at text)) page) result halts.Memory writes
+made_find h image at text B (Err error) result page made refused writes =
+    unreplied _ error result page (λ why is. let (place, read, bad) = refused why (ap Err is) in on_page h image (items.Command (commands.Find at text)) (Refused why) result page (Err place, read, ap Refused bad)) writes
 
 pub made_between : (h : History) (image : Bytes) (span : Span) (text : List ℕ) (B : SpanAnswer → Query → Type 0) (r : Result SpanAnswer AskError) (result : Result (Unit {0}) Halt) (page : List ℕ)
     → IfOk r (λ answer. (query : Query) × IsRead key_of text (Ok query) × IsMadeOver h image.pages span.from span.to query answer.rows.items answer.read × B answer query)
@@ -79,12 +74,8 @@ pub made_between : (h : History) (image : Bytes) (span : Span) (text : List ℕ)
     → Writes (spanned r) result page → OnOk result (IsOnPage h image (items.Command (commands.Between span text)) page)
 made_between h image span text B (Ok answer) result page (query, read, made, rest) refused writes =
     on_page h image (items.Command (commands.Between span text)) (Spanned answer.rows.items answer.read) result page (Ok query, read, (answer.rows.items, answer.read, made, refl)) writes
-made_between h image span text B (Err (asks.Refused why)) result page made refused writes =
-    let (place, read, is) = refused why refl in
-    on_page h image (items.Command (commands.Between span text)) (Refused why) result page (Err place, read, ap Refused is) writes
-made_between h image span text B (Err asks.Failed) result page made refused writes = halted (IsOnPage h image (items.Command (commands.Between span text)) page) result halts.Disk writes
-made_between h image span text B (Err (asks.Damaged damage)) result page made refused writes = halted (IsOnPage h image (items.Command (commands.Between span text)) page) result (halts.Damaged damage) writes
-made_between h image span text B (Err asks.Memory) result page made refused writes = halted (IsOnPage h image (items.Command (commands.Between span text)) page) result halts.Memory writes
+made_between h image span text B (Err error) result page made refused writes =
+    unreplied _ error result page (λ why is. let (place, read, bad) = refused why (ap Err is) in on_page h image (items.Command (commands.Between span text)) (Refused why) result page (Err place, read, ap Refused bad)) writes
 
 -- what a check tells is on the page, where there was memory for it
 pub made_verify : (h : History) (image : Bytes) (r : Result Verdict VerifyError) (result : Result (Unit {0}) Halt) (page : List ℕ) → IfOk r (λ verdict. IsChecked h image verdict)
@@ -110,41 +101,22 @@ shown_so h item page piece before mid after old disk new archive archive_now rea
 
 -- ---- a run of questions goes on
 
--- an archive that is the same but for its cache stands for the same history
-stands_still : (h : History) (archive archive_now : ArchiveState) → IsSameButCache archive archive_now → StandsFor archive h → StandsFor archive_now h
-stands_still h archive archive_now same stands =
-    let S : ArchiveState → Type 0 = λ a. StandsFor a h in
-    subst S (sym same) (record {
-      loadable = stands.loadable;
-      end_is = stands.end_is;
-      length_is = stands.length_is;
-      changes_are = stands.changes_are;
-      index_is = stands.index_is;
-      plans_are = stands.plans_are;
-      pages_are = stands.pages_are;
-    })
-
 abbrev none_asked : (h : History) (image : Bytes) (shown : List ℕ) → AreMade h image [] shown shown
 none_asked h image shown = record { replies = []; each = tt; shown = sym (append-nil shown) }
 
-zip_push : (P : Item → Reply → Type 0) (xs : List Item) (ys : List Reply) (x : Item) (y : Reply) → AllZip P xs ys → P x y → AllZip P (xs ++ x ∷ []) (ys ++ y ∷ [])
-zip_push P [] [] x y all one = (one, tt)
-zip_push P [] (b ∷ ys) x y all one = absurd all
-zip_push P (a ∷ xs) [] x y all one = absurd all
-zip_push P (a ∷ xs) (b ∷ ys) x y all one = (all.0, zip_push P xs ys x y all.1 one)
+zip_joins : (P : Item → Reply → Type 0) (xs zs : List Item) (ys ws : List Reply) → AllZip P xs ys → AllZip P zs ws → AllZip P (xs ++ zs) (ys ++ ws)
+zip_joins P [] zs [] ws one other = other
+zip_joins P [] zs (b ∷ ys) ws one other = absurd one
+zip_joins P (a ∷ xs) zs [] ws one other = absurd one
+zip_joins P (a ∷ xs) zs (b ∷ ys) ws one other = (one.0, zip_joins P xs zs ys ws one.1 other)
 
-one_more : (h : History) (image : Bytes) (asked : List Item) (item : Item) (before mid after : List ℕ) → AreMade h image asked before mid → AreMade h image (item ∷ []) mid after → AreMade h image (asked ++ item ∷ []) before after
-one_more h image asked item before mid after made next = go next.replies next.each next.shown
-  where
-    go : (replies : List Reply) → AllZip (IsMadeReply h image) (item ∷ []) replies → after ≡ mid ++ flat_map reply_text replies → AreMade h image (asked ++ item ∷ []) before after
-    go [] each shown = absurd each
-    go (reply ∷ other ∷ replies) each shown = absurd each.1
-    go (reply ∷ []) each shown = record {
-      replies = made.replies ++ reply ∷ [];
-      each = zip_push (IsMadeReply h image) asked made.replies item reply made.each each.0;
-      shown = shown ∙ ap (λ (l : List ℕ). l ++ flat_map reply_text (reply ∷ [])) made.shown ∙ append_assoc before (flat_map reply_text made.replies) (flat_map reply_text (reply ∷ []))
-          ∙ ap (λ (l : List ℕ). before ++ l) (sym (flat_map-append reply_text made.replies (reply ∷ [])));
-    }
+made_joins : (h : History) (image : Bytes) (asked more : List Item) (before mid after : List ℕ) → AreMade h image asked before mid → AreMade h image more mid after → AreMade h image (asked ++ more) before after
+made_joins h image asked more before mid after made next = record {
+  replies = made.replies ++ next.replies;
+  each = zip_joins (IsMadeReply h image) asked more made.replies next.replies made.each next.each;
+  shown = next.shown ∙ ap (λ (l : List ℕ). l ++ flat_map reply_text next.replies) made.shown ∙ append_assoc before (flat_map reply_text made.replies) (flat_map reply_text next.replies)
+      ∙ ap (λ (l : List ℕ). before ++ l) (sym (flat_map-append reply_text made.replies next.replies));
+}
 
 -- an archive that was just loaded keeps no page
 pub cached_first : (d : DiskState) (archive : ArchiveState) → archive.shelf.cache ≡ [] → CacheStands d archive
@@ -164,48 +136,37 @@ asking_start h now archive held is stands none =
 all_part : (P : Item → Type 0) (items rest : List Item) → All P (items ++ rest) → All P items
 all_part P items rest all = λ k d lt. subst P (get_or_append_left items rest d k lt) (all k d (omega (arith, lt, length-append items rest)))
 
-all_front : (P : Item → Type 0) (items : List Item) (item : Item) → All P (items ++ item ∷ []) → All P items
-all_front P items item all = all_part P items (item ∷ []) all
-
-last_there : (items : List Item) (item d : Item) → get_or (items ++ item ∷ []) (length items) d ≡ item
-last_there [] item d = refl
-last_there (x ∷ items) item d = last_there items item d
-
-all_last : (P : Item → Type 0) (items : List Item) (item : Item) → All P (items ++ item ∷ []) → P item
-all_last P items item all = subst P (last_there items item item) (all (length items) item (omega (arith, length-append items (item ∷ []))))
-
 -- the next item was carried out
 pub asking_next : (h : History) (image : Bytes) (old now : MachineState) (source : SourceState) (sink : SinkState) (disk : DiskState) (archive archive_now : ArchiveState) (held held_now : ReaderState) (item : Item)
-    → (asking : Asking h image old now archive held) → Gives held held_now asking.pulling.since (Ok (Some item)) now.source source
+    → (asking : Asking h image old now archive held) → Gives held held_now asking.pulling.since (Ok item) now.source source
     → (StandsFor archive h → CacheStands now.disk archive → IsQuestion item → IsAsked h item now.sink.shown sink.shown now.disk disk archive archive_now) → (CacheStands now.disk archive → CacheStands disk archive_now)
     → Asking h image old (record { source = source; sink = sink; disk = disk }) archive_now held_now
 asking_next h image old now source sink disk archive archive_now held held_now item asking gives out cached = record {
   pulling = pulling_next old.source now.source source held held_now item asking.pulling gives;
   all_asked = λ all.
       let items = asking.pulling.items in
-      let was = asking.all_asked (all_front IsQuestion items item all) in
-      let next = out was.stands was.cached (all_last IsQuestion items item all) in
+      let (front, last) = All-pop IsQuestion (items ++ item ∷ []) items (Some item) refl all in
+      let was = asking.all_asked front in
+      let next = out was.stands was.cached last in
       let P : Bytes → Type 0 = λ b. AreMade h b (item ∷ []) now.sink.shown sink.shown in
       record {
-        stands = stands_still h archive archive_now next.but_cache was.stands;
+        stands = stands_but_cache archive archive_now h next.but_cache was.stands;
         cached = cached was.cached;
         holds_are = next.holds ∙ was.holds_are;
-        made = one_more h image items item old.sink.shown now.sink.shown sink.shown was.made (subst P was.holds_are next.asked);
+        made = made_joins h image items (item ∷ []) old.sink.shown now.sink.shown sink.shown was.made (subst P was.holds_are next.asked);
       };
   all_fetched = λ all.
       let items = asking.pulling.items in
-      let front = all_front IsAsking items item all in
-      let last = all_last IsAsking items item all in
+      let (front, last) = All-pop IsAsking (items ++ item ∷ []) items (Some item) refl all in
       let was = asking.all_asked (asking_questions items front) in
-      let next = out was.stands was.cached (asking_question item last) in
+      let next = out was.stands was.cached (asks_question (λ a b text. Unit {0}) item last) in
       fetched_more h image.pages items item archive.shelf.cache archive_now.shelf.cache old.disk now.disk disk (ap (λ (b : Bytes). b.pages) was.holds_are) (asking.all_fetched front) (next.fetched last);
 }
 
 -- the input is at its end
-pub asked_all : (h : History) (image : Bytes) (old now : MachineState) (source : SourceState) (archive : ArchiveState) (held held_now : ReaderState) (asking : Asking h image old now archive held)
-    → Gives held held_now asking.pulling.since (Ok None) now.source source → HasAsked h image old (record { source = source; sink = now.sink; disk = now.disk })
-asked_all h image old now source archive held held_now asking gives =
-    let whole = whole_done old.source now.source source held held_now asking.pulling gives in
+asked_all : (h : History) (image : Bytes) (old now : MachineState) (source : SourceState) (archive : ArchiveState) (held : ReaderState) (asking : Asking h image old now archive held)
+    → EndsWhole Done old.source source asking.pulling.items → HasAsked h image old (record { source = source; sink = now.sink; disk = now.disk })
+asked_all h image old now source archive held asking whole =
     let done = whole.ends.input_at.done refl in
     let all : old.source.left ≡ whole.ends.pulled = whole.ends.pulled_are ∙ ap (λ (l : List ℕ). whole.ends.pulled ++ l) (whole.ends.ended_is done.0) ∙ append-nil whole.ends.pulled in
     let E : Bool → Type 0 = λ e. Splits e whole.ends.pulled asking.pulling.items whole.ends.rest in
@@ -224,7 +185,7 @@ asked_before false left told = tt
 asked_before true left told = (refl, told refl)
 
 pub asking_stops : (h : History) (image : Bytes) (old now : MachineState) (source : SourceState) (sink : SinkState) (disk : DiskState) (archive : ArchiveState) (held held_now : ReaderState) (item : Item) (damage : Damage)
-    → (asking : Asking h image old now archive held) → Gives held held_now asking.pulling.since (Ok (Some item)) now.source source
+    → (asking : Asking h image old now archive held) → Gives held held_now asking.pulling.since (Ok item) now.source source
     → (StandsFor archive h → CacheStands now.disk archive → Spoils h now.disk.holds.pages item damage × (sink.shown ≡ now.sink.shown))
     → HasStopped h image old (record { source = source; sink = sink; disk = disk }) damage
 asking_stops h image old now source sink disk archive held held_now item damage asking gives out =
@@ -246,32 +207,25 @@ asking_stops h image old now source sink disk archive held held_now item damage 
           subst P was.holds_are (out was.stands was.cached).0;
     }
 
--- a run goes on where neither what was shown nor the disk changed
-pub asking_along : (h : History) (image : Bytes) (old : MachineState) (source : SourceState) (one other : SinkState) (now then : DiskState) (archive : ArchiveState) (held : ReaderState) → other ≡ one → then ≡ now
-    → Asking h image old (record { source = source; sink = one; disk = now }) archive held → Asking h image old (record { source = source; sink = other; disk = then }) archive held
-asking_along h image old source one other now then archive held shown disk asking =
-    let S : SinkState → Type 0 = λ s. Asking h image old (record { source = source; sink = s; disk = now }) archive held in
-    let D : DiskState → Type 0 = λ d. Asking h image old (record { source = source; sink = other; disk = d }) archive held in
-    subst D (sym disk) (subst S (sym shown) asking)
+-- there is no next item
+pub asked_to_end : (h : History) (image : Bytes) (old now : MachineState) (source : SourceState) (archive : ArchiveState) (held held_now : ReaderState) (status : Status) (asking : Asking h image old now archive held)
+    → Gives held held_now asking.pulling.since (Err status) now.source source → HasEnded h image status old (record { source = source; sink = now.sink; disk = now.disk })
+asked_to_end h image old now source archive held held_now status asking gives = elim (whole_or_none old.source now.source source held held_now status asking.pulling gives)
+    as (λ _. HasEnded h image status old (record { source = source; sink = now.sink; disk = now.disk })) [
+      | inl whole ↦ (
+          let E : Status → Type 0 = λ s. EndsWhole s old.source source asking.pulling.items in
+          record { done = λ is. asked_all h image old now source archive held asking (subst E is whole); damaged = λ damage is. absurd (subst CarriesOutAll is whole.carried) }
+          )
+      | inr none ↦ record { done = λ is. absurd cc; damaged = λ damage is. absurd cc }
+    ]
 
--- no other end is the input's
-pub script_not_done : (error : ScriptError) → status_of_script error ≡ Done → ⊥
-script_not_done (errors.Broken at) is = cc
-script_not_done errors.Budget is = cc
-script_not_done errors.Failed is = cc
-script_not_done errors.Memory is = cc
+-- ---- the items of all the input are those that were asked
 
-pub script_not_damaged : (error : ScriptError) (damage : Damage) → status_of_script error ≡ Damaged damage → ⊥
-script_not_damaged (errors.Broken at) damage is = cc
-script_not_damaged errors.Budget damage is = cc
-script_not_damaged errors.Failed damage is = cc
-script_not_damaged errors.Memory damage is = cc
-
-pub stop_not_done : (stop : Stop) → status_of_stop stop ≡ Done → ⊥
-stop_not_done stops.Disk is = cc
-stop_not_done stops.Sink is = cc
-stop_not_done (stops.Damaged damage) is = cc
-stop_not_done stops.Memory is = cc
+pub asked_among : (h : History) (image : Bytes) (old new : MachineState) (asked : List Item) → HasAsked h image old new → Splits true old.source.left asked []
+    → (All IsQuestion asked → AreMade h image asked old.sink.shown new.sink.shown) × (All IsAsking asked → ReadsMissed h image.pages asked old.disk.bytes_read.pages new.disk.bytes_read.pages)
+asked_among h image old new asked has split =
+    let P : List Item → Type 0 = λ l. (All IsQuestion l → AreMade h image l old.sink.shown new.sink.shown) × (All IsAsking l → ReadsMissed h image.pages l old.disk.bytes_read.pages new.disk.bytes_read.pages) in
+    subst P (one_split true old.source.left has.items asked [] [] has.split split).0 (has.made, has.reads)
 
 -- ---- where all the input is questions, the items up to the damage are the first of these
 

@@ -82,22 +82,23 @@ unshown seed count status output output_now old new outcomes run same not_done u
       undamaged = undamaged;
     }
 
-pub fill_not_done : (error : FillError) → status_of_fill error ≡ Done → ⊥
-fill_not_done fills.Failed is = cc
-fill_not_done (fills.Damaged damage) is = cc
-fill_not_done fills.Memory is = cc
+fill_not_done : (status : Status) (error : FillError) → status ≡ status_of_fill error → status ≡ Done → ⊥
+fill_not_done status fills.Failed is done = cc
+fill_not_done status (fills.Damaged damage) is done = cc
+fill_not_done status fills.Memory is done = cc
 
-pub fill_undamaged : (outcomes : List (Outcome Reply World)) (new : DiskState) (archive_now : ArchiveState) (error : FillError) → EndsFilled (world_of []) outcomes new archive_now (Err error) → (damage : Damage) → status_of_fill error ≡ Damaged damage → ⊥
-fill_undamaged outcomes new archive_now fills.Failed ends damage is = cc
-fill_undamaged outcomes new archive_now (fills.Damaged other) ends damage is = ends
-fill_undamaged outcomes new archive_now fills.Memory ends damage is = cc
+pub fill_undamaged : (outcomes : List (Outcome Reply World)) (new : DiskState) (archive_now : ArchiveState) (status : Status) (error : FillError) → status ≡ status_of_fill error
+    → EndsFilled (world_of []) outcomes new archive_now (Err error) → (damage : Damage) → status ≡ Damaged damage → ⊥
+fill_undamaged outcomes new archive_now status fills.Failed is ends damage damaged = cc
+fill_undamaged outcomes new archive_now status (fills.Damaged other) is ends damage damaged = ends
+fill_undamaged outcomes new archive_now status fills.Memory is ends damage damaged = cc
 
 -- the commands were carried out up to an error
-pub filled_to_error : (seed count : ℕ) (error : FillError) (output output_now : SinkState) (old new : DiskState) (archive_now : ArchiveState) → old.now.beside ≡ output.shown → output_now ≡ output
-    → IsFilled [] (sample_of seed count) (Err error) old new archive_now → Sampled seed count (status_of_fill error) output output_now old new
-filled_to_error seed count error output output_now old new archive_now beside same filled =
-    unshown seed count (status_of_fill error) output output_now old new filled.outcomes filled.run (ap (λ (s : SinkState). s.shown) same) (fill_not_done error) (fill_undamaged filled.outcomes new archive_now error filled.ends) filled.fills.goes_on
-    (λ each. filled_reaches filled.outcomes output.shown old new beside filled.fills)
+pub filled_to_error : (seed count : ℕ) (status : Status) (error : FillError) (output output_now : SinkState) (old new : DiskState) (archive_now : ArchiveState) → status ≡ status_of_fill error → old.now.beside ≡ output.shown → output_now ≡ output
+    → IsFilled [] (sample_of seed count) (Err error) old new archive_now → Sampled seed count status output output_now old new
+filled_to_error seed count status error output output_now old new archive_now is beside same filled =
+    unshown seed count status output output_now old new filled.outcomes filled.run (ap (λ (s : SinkState). s.shown) same) (fill_not_done status error is) (fill_undamaged filled.outcomes new archive_now status error is filled.ends)
+    filled.fills.goes_on (λ each. filled_reaches filled.outcomes output.shown old new beside filled.fills)
 
 -- they were carried out, and there was no memory for the lines
 pub filled_unshown : (seed count : ℕ) (report : Report) (output output_now : SinkState) (old new : DiskState) (archive_now : ArchiveState) → old.now.beside ≡ output.shown → output_now ≡ output
@@ -159,15 +160,10 @@ not_loaded seed count status output output_now old new range beside same not_don
 
 -- ---- the load
 
-pub load_not_done : (error : LoadError) → status_of_load error ≡ Done → ⊥
-load_not_done loads.Failed is = cc
-load_not_done (loads.NotArchive at) is = cc
-load_not_done loads.Memory is = cc
-
-pub load_fills : (error : LoadError) → (error ≡ loads.Failed → ⊥) → ((at : ℕ) → error ≡ loads.NotArchive at → ⊥) → (status_of_load error ≡ Done) ⊎ (status_of_load error ≡ Memory)
-load_fills loads.Failed never archive = absurd (never refl)
-load_fills (loads.NotArchive at) never archive = absurd (archive at refl)
-load_fills loads.Memory never archive = inr refl
+pub load_not_done : (status : Status) (error : LoadError) → status ≡ status_of_load error → status ≡ Done → ⊥
+load_not_done status loads.Failed is done = cc
+load_not_done status (loads.NotArchive at) is done = cc
+load_not_done status loads.Memory is done = cc
 
 none_of : (h : History) → length h ≡ 0 → h ≡ []
 none_of [] none = refl
@@ -196,6 +192,6 @@ sample_completes (NotEmpty n) ends disk sink undamaged = absurd ends
 -- ---- words
 
 -- a run that ends at its words, where these ask for something, had no memory to read them
-pub at_words : (P : Status → Type 0) (status : Status) (words : List (List ℕ)) (task : Task) → (status ≡ Memory) ⊎ ((status ≡ Usage) × AreNoWords words) → AreWords words task → P Memory → P status
-at_words P status words task (inl memory) are holds = subst P (sym memory) holds
-at_words P status words task (inr none) are holds = absurd (none.1 task are)
+pub words_memory : (status : Status) (words : List (List ℕ)) (task : Task) → (status ≡ Memory) ⊎ ((status ≡ Usage) × AreNoWords words) → AreWords words task → status ≡ Memory
+words_memory status words task (inl memory) are = memory
+words_memory status words task (inr none) are = absurd (none.1 task are)

@@ -14,7 +14,7 @@ use Rattle.query_lang.specs.Meaning.{words_of}
 use Rattle.query_eval.specs.declared.part.Part.{Part}
 use Rattle.page_cache.specs.Caches.{Kept}
 use Rattle.sublist_store.specs.declared.why.Damage.{Damage}
-use Rattle.archive_state.specs.Chosen.{AreChosen, pieces_for}
+use Rattle.archive_state.specs.Chosen.{AreChosen, SpoilsAnswer, pieces_for}
 use Rattle.archive_state.specs.Histories.{History}
 use Rattle.archive_state.specs.Legal.{IsLoadable}
 use Rattle.archive_state.specs.Stands.{Stands, bodies_of}
@@ -25,9 +25,10 @@ use Rattle.archive_state.proofs.StandsLemmas.{spells_one_history}
 use Rattle.archive_check.specs.Checked.{IsChecked}
 use Rattle.archive_check.proofs.SoundLemmas.{new_sound}
 use Rattle.archive_shell.specs.Damages.{Spoils}
-use Rattle.archive_shell.specs.Fetching.{AllAskFor, AsksFor, ReadsMissed, pieces_by}
+use Rattle.archive_shell.specs.Fetching.{AllAskFor, ArePiecesOf, AsksFor, ReadsMissed, pieces_by}
 use Rattle.archive_shell.specs.Questions.{AreMade, AreMadeUpTo, IsMadeReply, MakesAt, MakesOver}
 use Rattle.archive_shell.proofs.EndLemmas.{new_stands}
+use Rattle.archive_shell.proofs.FetchLemmas.{by_asking}
 
 -- ---- an archive without entries reads no page
 
@@ -86,46 +87,28 @@ replies_anywhere p q [] (reply ∷ replies) all = absurd all
 replies_anywhere p q (item ∷ asked) [] all = absurd all
 replies_anywhere p q (item ∷ asked) (reply ∷ replies) all = (reply_anywhere p q item reply all.0, replies_anywhere p q asked replies all.1)
 
-made_anywhere : (p q : Bytes) (asked : List Item) (before after : List ℕ) → AreMade [] p asked before after → AreMade [] q asked before after
+pub made_anywhere : (p q : Bytes) (asked : List Item) (before after : List ℕ) → AreMade [] p asked before after → AreMade [] q asked before after
 made_anywhere p q asked before after made = record { replies = made.replies; each = replies_anywhere p q asked made.replies made.each; shown = made.shown }
 
--- the bytes were those at the start, or there was nothing to read in them
-pub made_at_start : (h : History) (asked : List Item) (old new : DiskState) (before after : List ℕ) → Spells old.holds.journal (bodies_of h) → IsLoadable h → (17 < length old.holds.journal → Syncs old new)
-    → AreMade h new.holds asked before after → AreMade h old.holds asked before after
-made_at_start h asked old new before after spelled loads longer made = elim (cases_lt 17 (length old.holds.journal)) as (λ _. AreMade h old.holds asked before after) [
-  | inl long ↦ (let P : Bytes → Type 0 = λ b. AreMade h b asked before after in subst P (longer long).holds made)
+-- what is told by the bytes behind the load, and of no entries by any bytes, is told by those at the start
+pub at_start : (P : History → Bytes → Type 0) → ((p q : Bytes) → P [] p → P [] q) → (h : History) (old new : DiskState) → Spells old.holds.journal (bodies_of h) → IsLoadable h → (17 < length old.holds.journal → Syncs old new) → P h new.holds → P h old.holds
+at_start P anywhere h old new spelled loads longer told = elim (cases_lt 17 (length old.holds.journal)) as (λ _. P h old.holds) [
+  | inl long ↦ subst (P h) (longer long).holds told
   | inr short ↦ (
       let new_one : Stands [] old.holds = new_stands old.holds short in
       let none : h ≡ [] = spells_one_history old.holds.journal h [] spelled loads new_one.spelled (legal_loads [] new_one.legal) in
-      let H : History → Type 0 = λ x. AreMade x new.holds asked before after in
-      let B : History → Type 0 = λ x. AreMade x old.holds asked before after in
-      subst B (sym none) (made_anywhere new.holds old.holds asked before after (subst H none made))
+      let N : History → Type 0 = λ x. P x new.holds in
+      let O : History → Type 0 = λ x. P x old.holds in
+      subst O (sym none) (anywhere new.holds old.holds (subst N none told))
       )
 ]
 
 none_spoiled : (pages : List ℕ) (item : Item) (damage : Damage) → Spoils [] pages item damage → ⊥
-none_spoiled pages (items.Command (commands.Find at expr)) damage spoiled = let live = spoiled.first.damaged.live in cc
-none_spoiled pages (items.Command (commands.Between span expr)) damage spoiled = let live = spoiled.first.damaged.live in cc
-none_spoiled pages (items.Command (commands.Arrive doc at text)) damage spoiled = spoiled
-none_spoiled pages (items.Command (commands.Delete doc at)) damage spoiled = spoiled
-none_spoiled pages (items.Command (commands.Show doc at)) damage spoiled = spoiled
-none_spoiled pages (items.Command (commands.Plan word kind fraction)) damage spoiled = spoiled
-none_spoiled pages (items.Command (commands.Propose word fraction)) damage spoiled = spoiled
-none_spoiled pages (items.Command (commands.Certificate word)) damage spoiled = spoiled
-none_spoiled pages (items.Command commands.Verify) damage spoiled = spoiled
-none_spoiled pages items.Line damage spoiled = spoiled
+none_spoiled pages item damage spoiled =
+    by_asking (λ a b text. SpoilsAnswer [] pages a b text damage) (λ i. ⊥) (λ at text s. (let live = s.first.damaged.live in cc)) (λ span text s. (let live = s.first.damaged.live in cc)) item spoiled
 
-pub stopped_at_start : (h : History) (asked : List Item) (damage : Damage) (old new : DiskState) (before after : List ℕ) → Spells old.holds.journal (bodies_of h) → IsLoadable h → (17 < length old.holds.journal → Syncs old new)
-    → AreMadeUpTo h new.holds asked damage before after → AreMadeUpTo h old.holds asked damage before after
-stopped_at_start h asked damage old new before after spelled loads longer made = elim (cases_lt 17 (length old.holds.journal)) as (λ _. AreMadeUpTo h old.holds asked damage before after) [
-  | inl long ↦ (let P : Bytes → Type 0 = λ b. AreMadeUpTo h b asked damage before after in subst P (longer long).holds made)
-  | inr short ↦ (
-      let new_one : Stands [] old.holds = new_stands old.holds short in
-      let none : h ≡ [] = spells_one_history old.holds.journal h [] spelled loads new_one.spelled (legal_loads [] new_one.legal) in
-      let H : History → Type 0 = λ x. Spoils x new.holds.pages made.item damage in
-      absurd (none_spoiled new.holds.pages made.item damage (subst H none made.spoiled))
-      )
-]
+pub stopped_anywhere : (p q : Bytes) (asked : List Item) (damage : Damage) (before after : List ℕ) → AreMadeUpTo [] p asked damage before after → AreMadeUpTo [] q asked damage before after
+stopped_anywhere p q asked damage before after made = absurd (none_spoiled p.pages made.item damage made.spoiled)
 
 -- ---- an archive without entries asks for nothing
 
@@ -138,35 +121,13 @@ pieces_anywhere p q a b (Ok query) = no_pieces p a b (words_of query) ∙ sym (n
 pieces_anywhere p q a b (Err place) = refl
 
 asks_anywhere : (p q : List ℕ) (item : Item) (pieces : List Kept) → AsksFor [] p item pieces → AsksFor [] q item pieces
-asks_anywhere p q (items.Command (commands.Find at expr)) pieces (query, read, is) = (query, read, is ∙ pieces_anywhere p q at.seconds (at.seconds + 1) query)
-asks_anywhere p q (items.Command (commands.Between span expr)) pieces (query, read, is) = (query, read, is ∙ pieces_anywhere p q span.from span.to query)
-asks_anywhere p q (items.Command (commands.Arrive doc at text)) pieces asks = absurd asks
-asks_anywhere p q (items.Command (commands.Delete doc at)) pieces asks = absurd asks
-asks_anywhere p q (items.Command (commands.Show doc at)) pieces asks = absurd asks
-asks_anywhere p q (items.Command (commands.Plan word kind fraction)) pieces asks = absurd asks
-asks_anywhere p q (items.Command (commands.Propose word fraction)) pieces asks = absurd asks
-asks_anywhere p q (items.Command (commands.Certificate word)) pieces asks = absurd asks
-asks_anywhere p q (items.Command commands.Verify) pieces asks = absurd asks
-asks_anywhere p q items.Line pieces asks = absurd asks
+asks_anywhere p q item pieces asks =
+    by_asking (λ a b text. ArePiecesOf [] p a b text pieces) (λ i. AsksFor [] q i pieces) (λ at text (query, read, is). (query, read, is ∙ pieces_anywhere p q at.seconds (at.seconds + 1) query))
+    (λ span text (query, read, is). (query, read, is ∙ pieces_anywhere p q span.from span.to query)) item asks
 
 all_ask_anywhere : (p q : List ℕ) (asked : List Item) (pieces : List Kept) → AllAskFor [] p asked pieces → AllAskFor [] q asked pieces
 all_ask_anywhere p q [] pieces none = none
 all_ask_anywhere p q (item ∷ asked) pieces (front, rest, first, others, is) = (front, rest, asks_anywhere p q item front first, all_ask_anywhere p q asked rest others, is)
 
--- the bytes were those at the start, or there was nothing to ask for in them
-pub fetched_at_start : (h : History) (asked : List Item) (old new : DiskState) (before after : ℕ) → Spells old.holds.journal (bodies_of h) → IsLoadable h → (17 < length old.holds.journal → Syncs old new)
-    → ReadsMissed h new.holds.pages asked before after → ReadsMissed h old.holds.pages asked before after
-fetched_at_start h asked old new before after spelled loads longer reads = elim (cases_lt 17 (length old.holds.journal)) as (λ _. ReadsMissed h old.holds.pages asked before after) [
-  | inl long ↦ (let P : Bytes → Type 0 = λ b. ReadsMissed h b.pages asked before after in subst P (longer long).holds reads)
-  | inr short ↦ (
-      let new_one : Stands [] old.holds = new_stands old.holds short in
-      let none : h ≡ [] = spells_one_history old.holds.journal h [] spelled loads new_one.spelled (legal_loads [] new_one.legal) in
-      let H : History → Type 0 = λ x. AllAskFor x new.holds.pages asked reads.pieces in
-      let B : History → Type 0 = λ x. AllAskFor x old.holds.pages asked reads.pieces in
-      record {
-        pieces = reads.pieces;
-        asked_for = subst B (sym none) (all_ask_anywhere new.holds.pages old.holds.pages asked reads.pieces (subst H none reads.asked_for));
-        read = reads.read;
-      }
-      )
-]
+pub reads_anywhere : (p q : Bytes) (asked : List Item) (before after : ℕ) → ReadsMissed [] p.pages asked before after → ReadsMissed [] q.pages asked before after
+reads_anywhere p q asked before after reads = record { pieces = reads.pieces; asked_for = all_ask_anywhere p.pages q.pages asked reads.pieces reads.asked_for; read = reads.read }

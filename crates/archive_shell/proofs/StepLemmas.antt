@@ -1,5 +1,5 @@
 -- The next item of a run, and how the run ends where there is none.
-use Rattle.std.proofs.Common.{◌≡◌, ℕ, ◌≤◌, Bool, true, false, List, [], ◌∷◌, ◌++◌, length, map, All, Some, None, Ok, Err, refl, inl, inr, ap, subst, sym, ◌∙◌, arith, append_assoc}
+use Rattle.std.proofs.Common.{◌≡◌, ℕ, ◌≤◌, Bool, true, false, List, [], ◌∷◌, ◌++◌, length, All, Ok, Err, refl, inl, inr, ap, subst, sym, ◌∙◌, arith, append_assoc}
 use Rattle.std.proofs.lemmas.List.{append-nil, length-append}
 use Rattle.std.proofs.lemmas.List.Elements.{All-nil, All-append, All-map, All-weaker}
 use Rattle.machine_model.specs.States.{SourceState, SinkState, DiskState, MachineState}
@@ -7,8 +7,6 @@ use Rattle.machine_model.specs.Pulls.{Pull}
 use Rattle.commands.specs.declared.command.Item.{Item}
 use Rattle.script_read.specs.Items.{Waits}
 use Rattle.script_read.specs.Reading.{ReaderState, IsAwaited}
-use Rattle.script_read.specs.declared.error.ScriptError.{ScriptError}
-use Rattle.script_read.specs.declared.error.ScriptError.TheVariants as errors
 use Rattle.script_read.proofs.Splitting.{never-more}
 use Rattle.script_read.proofs.RunLemmas.{pulled_by_then}
 use Rattle.archive_state.specs.Steps.{Reply, Step}
@@ -21,20 +19,16 @@ use Rattle.archive_state.proofs.RunLemmas.{runs_join, last_state_joins, shown_by
 use Rattle.archive_core.specs.States.{ArchiveState, AreInStep}
 use Rattle.archive_core.proofs.AddLemmas.{in_step_stands}
 use Rattle.sublist_store.specs.declared.why.Damage.{Damage}
-use Rattle.archive_shell.specs.Headline.{ComesAfterReplies}
-use Rattle.archive_shell.specs.Serving.{Serving, Serves}
-use Rattle.archive_shell.specs.Statuses.{status_of_script, status_of_stop}
+use Rattle.archive_shell.specs.Headline.{CarriesOutAll, ComesAfterReplies}
+use Rattle.archive_shell.specs.Serving.{AreAwaited, Gives, Serving, Serves, pulls_beside}
+use Rattle.archive_shell.specs.Statuses.{status_of_stop}
 use Rattle.archive_shell.specs.Outcomes.{CarriesOut, StopsAt}
 use Rattle.archive_shell.specs.declared.stop.Stop.{Stop}
 use Rattle.archive_shell.specs.declared.stop.Stop.TheVariants as stops
 use Rattle.archive_shell.specs.declared.status.Status.{Status}
-use Rattle.archive_shell.specs.declared.status.Status.TheVariants.{Done, Damaged, Disk, Sink, Source, Budget, Script, Memory}
-use Rattle.archive_shell.proofs.PullLemmas.{EndsWhole, Gives, pulling_next, pulling_still, stops_early, whole_by, whole_done}
+use Rattle.archive_shell.specs.declared.status.Status.TheVariants.{Damaged, Disk, Sink}
+use Rattle.archive_shell.proofs.PullLemmas.{EndsWhole, pulling_next, pulling_still, stops_early, whole_or_none}
 use Rattle.archive_shell.proofs.ServeLemmas.{ended_early, all_after_replies}
-
--- what was left before each pull of a call: nothing waited, and the end was not told
-abbrev pub AreAwaited : ReaderState → List ℕ → List ℕ → List (List ℕ) → Type 0
-AreAwaited held since all lefts = All (λ left. IsAwaited since all left × (held.ended ≡ false)) lefts
 
 -- pulls of a call: none once the end was told
 pub pulls_in : (held : ReaderState) (since all : List ℕ) (P : List (List ℕ) → Type 0) → ((Waits held.ended since → ⊥) → P [])
@@ -46,10 +40,6 @@ pulls_in held since all P calm made = go held.ended refl
         let never : Waits held.ended since → ⊥ = λ waits. (let W : Bool → Type 0 = λ b. Waits b since in let there = subst W is waits in never-more there.0 there.2) in
         ([], calm never, All-nil (λ left. IsAwaited since all left × (held.ended ≡ false)))
     go false is = (made.0, made.1, All-weaker (IsAwaited since all) (λ left. IsAwaited since all left × (held.ended ≡ false)) (λ left one. (one, is)) made.0 made.2)
-
--- the pulls of a machine that these are
-abbrev pub pulls_beside : List ℕ → List (List ℕ) → List Pull
-pulls_beside shown lefts = map (λ left. record { left = left; shown = shown }) lefts
 
 -- a pull in which nothing waited comes after the replies
 awaited_after_replies : (world : World) (old now : MachineState) (archive : ArchiveState) (held : ReaderState) (pulls : List Pull) (serving : Serving world old now archive held pulls) (left : List ℕ)
@@ -83,9 +73,10 @@ all_pulls world old now archive held before lefts serving awaited =
 
 -- a run in which all items are carried out ends
 ended_whole : (world : World) (status : Status) (old now : MachineState) (archive : ArchiveState) (held : ReaderState) (before : List Pull) (source : SourceState) (lefts : List (List ℕ)) (serving : Serving world old now archive held before)
-    → AreAwaited held serving.pulling.since now.source.left lefts → EndsWhole status old.source source serving.pulling.items → (status ≡ Disk → ⊥) → (status ≡ Sink → ⊥) → ((damage : Damage) → status ≡ Damaged damage → ⊥)
+    → AreAwaited held serving.pulling.since now.source.left lefts → EndsWhole status old.source source serving.pulling.items
     → Serves world status old (record { source = source; sink = now.sink; disk = now.disk }) (before ++ pulls_beside now.sink.shown lefts)
-ended_whole world status old now archive held before source lefts serving awaited whole no_disk no_sink no_damage =
+ended_whole world status old now archive held before source lefts serving awaited whole =
+    let never = λ (s : Status) (is : status ≡ s). subst CarriesOutAll is whole.carried in
     let E : World → Type 0 = λ w. EachStands now.disk w.history in
     let all = in_step_stands now.disk archive (last_state world serving.outcomes).history serving.in_step in
     record {
@@ -104,49 +95,41 @@ ended_whole world status old now archive held before source lefts serving awaite
         shown_is = serving.shown;
         front = ([], sym (append-nil (shown_by reply_text serving.outcomes)));
         whole = λ carried. refl;
-        unfinished = λ fault. absurd (elim fault [ inl is ↦ no_disk is | inr is ↦ no_sink is ]);
+        unfinished = λ fault. absurd (elim fault [ inl is ↦ never Disk is | inr is ↦ never Sink is ]);
         after_replies = all_pulls world old now archive held before lefts serving awaited;
       };
       carried = serving.carried;
-      undamaged = no_damage;
+      undamaged = λ damage is. never (Damaged damage) is;
       last = λ carried. all;
       steady = λ not_disk. (length serving.outcomes, omega arith, subst E (sym (state_after_all world serving.outcomes)) all);
     }
 
--- the reader has no next item
-pub ended_by : (world : World) (old now : MachineState) (archive : ArchiveState) (held held_now : ReaderState) (before : List Pull) (error : ScriptError) (source : SourceState) (lefts : List (List ℕ)) (serving : Serving world old now archive held before)
-    → AreAwaited held serving.pulling.since now.source.left lefts → Gives held held_now serving.pulling.since (Err error) now.source source
-    → Serves world (status_of_script error) old (record { source = source; sink = now.sink; disk = now.disk }) (before ++ pulls_beside now.sink.shown lefts)
-ended_by world old now archive held held_now before (errors.Broken at) source lefts serving awaited gives =
-    ended_whole world (Script at) old now archive held before source lefts serving awaited (whole_by old.source now.source source held held_now (errors.Broken at) (λ is. cc) serving.pulling gives) (λ is. cc) (λ is. cc) (λ damage is. cc)
-ended_by world old now archive held held_now before errors.Budget source lefts serving awaited gives =
-    ended_whole world Budget old now archive held before source lefts serving awaited (whole_by old.source now.source source held held_now errors.Budget (λ is. cc) serving.pulling gives) (λ is. cc) (λ is. cc) (λ damage is. cc)
-ended_by world old now archive held held_now before errors.Failed source lefts serving awaited gives =
-    ended_whole world Source old now archive held before source lefts serving awaited (whole_by old.source now.source source held held_now errors.Failed (λ is. cc) serving.pulling gives) (λ is. cc) (λ is. cc) (λ damage is. cc)
-ended_by world old now archive held held_now before errors.Memory source lefts serving awaited gives =
-    let E : World → Type 0 = λ w. EachStands now.disk w.history in
-    ended_early world Memory old (record { source = source; sink = now.sink; disk = now.disk }) held_now (before ++ pulls_beside now.sink.shown lefts) (record {
-      legal = serving.legal;
-      early = inr (inr (inl refl));
-      undamaged = λ damage is. cc;
-      pulling = pulling_still old.source now.source source held held_now (Err errors.Memory) refl serving.pulling gives;
-      outcomes = serving.outcomes;
-      run = serving.run;
-      shown = shown_by reply_text serving.outcomes;
-      shown_is = serving.shown;
-      front = ([], sym (append-nil (shown_by reply_text serving.outcomes)));
-      unfinished = λ fault. absurd (elim fault [ inl is ↦ cc | inr is ↦ cc ]);
-      after_replies = all_pulls world old now archive held before lefts serving awaited;
-      carried = serving.carried;
-      steady = λ not_disk. (length serving.outcomes, omega arith, subst E (sym (state_after_all world serving.outcomes)) (in_step_stands now.disk archive (last_state world serving.outcomes).history serving.in_step));
-    })
-
--- the input is at its end
-pub ended_done : (world : World) (old now : MachineState) (archive : ArchiveState) (held held_now : ReaderState) (before : List Pull) (source : SourceState) (lefts : List (List ℕ)) (serving : Serving world old now archive held before)
-    → AreAwaited held serving.pulling.since now.source.left lefts → Gives held held_now serving.pulling.since (Ok None) now.source source
-    → Serves world Done old (record { source = source; sink = now.sink; disk = now.disk }) (before ++ pulls_beside now.sink.shown lefts)
-ended_done world old now archive held held_now before source lefts serving awaited gives =
-    ended_whole world Done old now archive held before source lefts serving awaited (whole_done old.source now.source source held held_now serving.pulling gives) (λ is. cc) (λ is. cc) (λ damage is. cc)
+-- there is no next item
+pub ended_by : (world : World) (old now : MachineState) (archive : ArchiveState) (held held_now : ReaderState) (before : List Pull) (status : Status) (source : SourceState) (lefts : List (List ℕ)) (serving : Serving world old now archive held before)
+    → AreAwaited held serving.pulling.since now.source.left lefts → Gives held held_now serving.pulling.since (Err status) now.source source
+    → Serves world status old (record { source = source; sink = now.sink; disk = now.disk }) (before ++ pulls_beside now.sink.shown lefts)
+ended_by world old now archive held held_now before status source lefts serving awaited gives = elim (whole_or_none old.source now.source source held held_now status serving.pulling gives)
+    as (λ _. Serves world status old (record { source = source; sink = now.sink; disk = now.disk }) (before ++ pulls_beside now.sink.shown lefts)) [
+      | inl whole ↦ ended_whole world status old now archive held before source lefts serving awaited whole
+      | inr none ↦ (
+          let E : World → Type 0 = λ w. EachStands now.disk w.history in
+          ended_early world status old (record { source = source; sink = now.sink; disk = now.disk }) held_now (before ++ pulls_beside now.sink.shown lefts) (record {
+            legal = serving.legal;
+            early = inr (inr (inl none));
+            undamaged = λ damage is. absurd cc;
+            pulling = pulling_still old.source now.source source held held_now status serving.pulling gives;
+            outcomes = serving.outcomes;
+            run = serving.run;
+            shown = shown_by reply_text serving.outcomes;
+            shown_is = serving.shown;
+            front = ([], sym (append-nil (shown_by reply_text serving.outcomes)));
+            unfinished = λ fault. absurd (elim fault [ inl is ↦ cc | inr is ↦ cc ]);
+            after_replies = all_pulls world old now archive held before lefts serving awaited;
+            carried = serving.carried;
+            steady = λ not_disk. (length serving.outcomes, omega arith, subst E (sym (state_after_all world serving.outcomes)) (in_step_stands now.disk archive (last_state world serving.outcomes).history serving.in_step));
+          })
+          )
+    ]
 
 -- what the texts of the outcomes so far and of one more show
 shown_next : (outcomes : List (Outcome Reply World)) (outcome : Outcome Reply World) → shown_by reply_text (outcomes ++ outcome ∷ []) ≡ shown_by reply_text outcomes ++ reply_text outcome.reply
@@ -154,7 +137,7 @@ shown_next outcomes outcome = shown_by_joins reply_text outcomes (outcome ∷ []
 
 -- the next item was carried out and its reply shown
 pub serving_next : (world : World) (old now : MachineState) (sink : SinkState) (disk : DiskState) (archive archive_new : ArchiveState) (held held_now : ReaderState) (before : List Pull) (item : Item) (source : SourceState) (lefts : List (List ℕ))
-    → (serving : Serving world old now archive held before) → AreAwaited held serving.pulling.since now.source.left lefts → Gives held held_now serving.pulling.since (Ok (Some item)) now.source source
+    → (serving : Serving world old now archive held before) → AreAwaited held serving.pulling.since now.source.left lefts → Gives held held_now serving.pulling.since (Ok item) now.source source
     → CarriesOut (last_state world serving.outcomes).history item (Ok tt) now.sink.shown sink.shown now.disk disk archive_new
     → Serving world old (record { source = source; sink = sink; disk = disk }) archive_new held_now (before ++ pulls_beside now.sink.shown lefts)
 serving_next world old now sink disk archive archive_new held held_now before item source lefts serving awaited gives out =
@@ -176,19 +159,19 @@ serving_next world old now sink disk archive archive_new held held_now before it
     }
 
 -- the run was stopped at the next item
-pub stopped : (world : World) (old now : MachineState) (sink : SinkState) (disk : DiskState) (archive archive_new : ArchiveState) (held held_now : ReaderState) (before : List Pull) (item : Item) (stop : Stop) (source : SourceState) (lefts : List (List ℕ))
-    → (serving : Serving world old now archive held before) → AreAwaited held serving.pulling.since now.source.left lefts → Gives held held_now serving.pulling.since (Ok (Some item)) now.source source
-    → CarriesOut (last_state world serving.outcomes).history item (Err stop) now.sink.shown sink.shown now.disk disk archive_new
-    → Serves world (status_of_stop stop) old (record { source = source; sink = sink; disk = disk }) (before ++ pulls_beside now.sink.shown lefts)
-stopped world old now sink disk archive archive_new held held_now before item stop source lefts serving awaited gives out =
+pub stopped : (world : World) (old now : MachineState) (sink : SinkState) (disk : DiskState) (archive archive_new : ArchiveState) (held held_now : ReaderState) (before : List Pull) (item : Item) (status : Status) (stop : Stop) (source : SourceState) (lefts : List (List ℕ))
+    → (serving : Serving world old now archive held before) → AreAwaited held serving.pulling.since now.source.left lefts → Gives held held_now serving.pulling.since (Ok item) now.source source
+    → status ≡ status_of_stop stop → CarriesOut (last_state world serving.outcomes).history item (Err stop) now.sink.shown sink.shown now.disk disk archive_new
+    → Serves world status old (record { source = source; sink = sink; disk = disk }) (before ++ pulls_beside now.sink.shown lefts)
+stopped world old now sink disk archive archive_new held held_now before item status stop source lefts serving awaited gives is out =
     let items = serving.pulling.items in
     let outcome = out.outcome in
     let start : List ℕ = old.sink.shown in
     let earlier = shown_by reply_text serving.outcomes in
-    ended_early world (status_of_stop stop) old (record { source = source; sink = sink; disk = disk }) held_now (before ++ pulls_beside now.sink.shown lefts) (record {
+    ended_early world status old (record { source = source; sink = sink; disk = disk }) held_now (before ++ pulls_beside now.sink.shown lefts) (record {
       legal = serving.legal;
-      early = stops_early stop;
-      undamaged = λ damage is. undamaged stop out.ends.1 damage is;
+      early = stops_early status stop is;
+      undamaged = λ damage same. undamaged stop out.ends.1 damage (sym is ∙ same);
       pulling = pulling_next old.source now.source source held held_now item serving.pulling gives;
       outcomes = serving.outcomes ++ outcome ∷ [];
       run = runs_join Step world items (item ∷ []) serving.outcomes (outcome ∷ []) serving.run (out.step, tt);
@@ -199,7 +182,7 @@ stopped world old now sink disk archive archive_new held held_now before item st
       after_replies = all_after_replies old.source old.sink items (item ∷ []) serving.outcomes (outcome ∷ []) (before ++ pulls_beside now.sink.shown lefts) (all_pulls world old now archive held before lefts serving awaited);
       carried = (let C : List ℕ → Type 0 = λ b. Carried reply_text StandsIn (last_state world serving.outcomes) (outcome ∷ []) b now.disk disk in
           carried_joins (outcome ∷ []) disk serving.carried (subst C serving.shown out.carried));
-      steady = λ not_disk. steady stop out.ends.1 not_disk;
+      steady = λ not_disk. steady stop out.ends.1 (λ same. not_disk (is ∙ same));
     })
   where
     before_it : EachStands disk (last_state world serving.outcomes).history → (j : ℕ) × (j ≤ length (serving.outcomes ++ out.outcome ∷ [])) × EachStands disk (state_after world (serving.outcomes ++ out.outcome ∷ []) j).history
@@ -229,14 +212,7 @@ stopped world old now sink disk archive archive_new held held_now before item st
     undamaged stops.Sink ends damage is = cc
     undamaged stops.Memory ends damage is = cc
 
--- a run goes on where neither what was shown nor the disk changed
-pub serving_along : (world : World) (old : MachineState) (source : SourceState) (one other : SinkState) (now then : DiskState) (archive : ArchiveState) (held : ReaderState) (pulls : List Pull) → other ≡ one → then ≡ now
-    → Serving world old (record { source = source; sink = one; disk = now }) archive held pulls → Serving world old (record { source = source; sink = other; disk = then }) archive held pulls
-serving_along world old source one other now then archive held pulls shown disk serving =
-    let S : SinkState → Type 0 = λ s. Serving world old (record { source = source; sink = s; disk = now }) archive held pulls in
-    let D : DiskState → Type 0 = λ d. Serving world old (record { source = source; sink = other; disk = d }) archive held pulls in
-    subst D (sym disk) (subst S (sym shown) serving)
-
--- a run that ended in one way ended in an equal one
-pub serves_as : (world : World) (status other : Status) (old new : MachineState) (pulls : List Pull) → other ≡ status → Serves world status old new pulls → Serves world other old new pulls
-serves_as world status other old new pulls same serves = let P : Status → Type 0 = λ s. Serves world s old new pulls in subst P (sym same) serves
+-- what holds of two things holds of those that are equal to them
+pub along : {A B : Type 0} (P : A → B → Type 0) (a then : A) (b now : B) → then ≡ a → now ≡ b → P a b → P then now
+along P a then b now first second holds =
+    subst (P then) (sym second) (subst (λ x. P x b) (sym first) holds)

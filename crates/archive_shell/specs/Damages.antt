@@ -1,9 +1,7 @@
 -- What a run tells that ends at a damaged sublist, whatever the disk holds: which question it was, and what it read.
-use Rattle.std.specs.Prelude.{◌≡◌, ℕ, ◌+◌, Bool, true, List, [], ◌∷◌, ◌++◌}
+use Rattle.std.specs.Prelude.{◌≡◌, ℕ, Bool, true, List, [], ◌∷◌, ◌++◌}
 use Rattle.machine_model.specs.States.{DiskState, SourceState}
-use Rattle.commands.specs.declared.command.Command.TheVariants as commands
 use Rattle.commands.specs.declared.command.Item.{Item}
-use Rattle.commands.specs.declared.command.Item.TheVariants as items
 use Rattle.gate_journal.specs.Spelled.{Spells}
 use Rattle.record_codec.specs.declared.entry.Entry.{Entry}
 use Rattle.script_read.specs.Items.{Splits}
@@ -11,19 +9,11 @@ use Rattle.sublist_store.specs.declared.why.Damage.{Damage}
 use Rattle.archive_state.specs.Chosen.{SpoilsAnswer}
 use Rattle.archive_state.specs.Histories.{History}
 use Rattle.archive_state.specs.Stands.{bodies_of}
+use Rattle.archive_shell.specs.Fetching.{AsksOver}
 
 -- the item asks what is found, and this is the first that is damaged of what is read for it
 abbrev pub Spoils : History → List ℕ → Item → Damage → Type 0
-Spoils history pages (items.Command (commands.Find at expr)) damage = SpoilsAnswer history pages at.seconds (at.seconds + 1) expr damage
-Spoils history pages (items.Command (commands.Between span expr)) damage = SpoilsAnswer history pages span.from span.to expr damage
-Spoils history pages (items.Command (commands.Arrive doc at text)) damage = ⊥
-Spoils history pages (items.Command (commands.Delete doc at)) damage = ⊥
-Spoils history pages (items.Command (commands.Show doc at)) damage = ⊥
-Spoils history pages (items.Command (commands.Plan word kind fraction)) damage = ⊥
-Spoils history pages (items.Command (commands.Propose word fraction)) damage = ⊥
-Spoils history pages (items.Command (commands.Certificate word)) damage = ⊥
-Spoils history pages (items.Command commands.Verify) damage = ⊥
-Spoils history pages items.Line damage = ⊥
+Spoils history pages item damage = AsksOver (λ a b text. SpoilsAnswer history pages a b text damage) item
 
 -- The item is one of those of the bytes that were pulled since; that their end is the input's is known only where it was told.
 pub record IsPulled (old new : SourceState) (item : Item) : Type 0 where

@@ -19,18 +19,23 @@ pieces_by history pages a b (Err place) = []
 abbrev pub ArePiecesOf : History → List ℕ → ℕ → ℕ → List ℕ → List Kept → Type 0
 ArePiecesOf history pages a b text pieces = (query : Result Query ℕ) × IsRead key_of text query × (pieces ≡ pieces_by history pages a b query)
 
--- The item asks what is found, at a time or over a window, and these are the pieces of pages that are asked for.
+-- The item asks what is found, at a time, which is a window up to the next one, or over a window; and this is so of the window's bounds and the
+-- text.
+abbrev pub AsksOver : (ℕ → ℕ → List ℕ → Type 0) → Item → Type 0
+AsksOver P (items.Command (commands.Find at expr)) = P at.seconds (at.seconds + 1) expr
+AsksOver P (items.Command (commands.Between span expr)) = P span.from span.to expr
+AsksOver P (items.Command (commands.Arrive doc at text)) = ⊥
+AsksOver P (items.Command (commands.Delete doc at)) = ⊥
+AsksOver P (items.Command (commands.Show doc at)) = ⊥
+AsksOver P (items.Command (commands.Plan word kind fraction)) = ⊥
+AsksOver P (items.Command (commands.Propose word fraction)) = ⊥
+AsksOver P (items.Command (commands.Certificate word)) = ⊥
+AsksOver P (items.Command commands.Verify) = ⊥
+AsksOver P items.Line = ⊥
+
+-- the item asks what is found, and these are the pieces of pages that are asked for
 abbrev pub AsksFor : History → List ℕ → Item → List Kept → Type 0
-AsksFor history pages (items.Command (commands.Find at expr)) pieces = ArePiecesOf history pages at.seconds (at.seconds + 1) expr pieces
-AsksFor history pages (items.Command (commands.Between span expr)) pieces = ArePiecesOf history pages span.from span.to expr pieces
-AsksFor history pages (items.Command (commands.Arrive doc at text)) pieces = ⊥
-AsksFor history pages (items.Command (commands.Delete doc at)) pieces = ⊥
-AsksFor history pages (items.Command (commands.Show doc at)) pieces = ⊥
-AsksFor history pages (items.Command (commands.Plan word kind fraction)) pieces = ⊥
-AsksFor history pages (items.Command (commands.Propose word fraction)) pieces = ⊥
-AsksFor history pages (items.Command (commands.Certificate word)) pieces = ⊥
-AsksFor history pages (items.Command commands.Verify) pieces = ⊥
-AsksFor history pages items.Line pieces = ⊥
+AsksFor history pages item pieces = AsksOver (λ a b text. ArePiecesOf history pages a b text pieces) item
 
 -- for items in their order: those of the first, and then those of the others
 abbrev pub AllAskFor : History → List ℕ → List Item → List Kept → Type 0
@@ -40,16 +45,7 @@ AllAskFor history pages (item ∷ items) pieces =
 
 -- the item asks what is found, at a time or over a window
 abbrev pub IsAsking : Item → Type 0
-IsAsking (items.Command (commands.Find at expr)) = Unit {0}
-IsAsking (items.Command (commands.Between span expr)) = Unit {0}
-IsAsking (items.Command (commands.Arrive doc at text)) = ⊥
-IsAsking (items.Command (commands.Delete doc at)) = ⊥
-IsAsking (items.Command (commands.Show doc at)) = ⊥
-IsAsking (items.Command (commands.Plan word kind fraction)) = ⊥
-IsAsking (items.Command (commands.Propose word fraction)) = ⊥
-IsAsking (items.Command (commands.Certificate word)) = ⊥
-IsAsking (items.Command commands.Verify) = ⊥
-IsAsking items.Line = ⊥
+IsAsking item = AsksOver (λ a b text. Unit {0}) item
 
 -- a run that began with no page kept read of Pages the pieces that were missed, of those that its items asked for
 pub record ReadsMissed (history : History) (pages : List ℕ) (asked : List Item) (before after : ℕ) : Type 0 where

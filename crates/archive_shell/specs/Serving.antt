@@ -1,9 +1,10 @@
 -- A run while it goes on, and when it has ended: what it pulled, and what it did.
-use Rattle.std.specs.Prelude.{◌≡◌, ◌≤◌, ℕ, Bool, true, List, [], ◌++◌, length, All}
+use Rattle.std.specs.Prelude.{◌≡◌, ◌≤◌, ℕ, Bool, true, false, List, [], ◌++◌, length, map, All, Option, Some, None, Result, Ok, Err}
 use Rattle.machine_model.specs.Pulls.{Pull}
 use Rattle.machine_model.specs.States.{SourceState, MachineState}
 use Rattle.commands.specs.declared.command.Item.{Item}
-use Rattle.script_read.specs.Reading.{ReaderState, Reads}
+use Rattle.script_read.specs.Reading.{ReaderState, IsAwaited, IsCalm, Says, Reads}
+use Rattle.script_read.specs.declared.error.ScriptError.{ScriptError}
 use Rattle.archive_state.specs.Legal.{IsLegal}
 use Rattle.archive_state.specs.Steps.{Reply, Step}
 use Rattle.archive_state.specs.Replies.{reply_text}
@@ -15,7 +16,8 @@ use Rattle.archive_core.specs.States.{ArchiveState, AreInStep}
 use Rattle.archive_shell.specs.Headline.{CarriesOutAll, ComesAfterReplies, Ran, InputAt}
 use Rattle.sublist_store.specs.declared.why.Damage.{Damage}
 use Rattle.archive_shell.specs.declared.status.Status.{Status}
-use Rattle.archive_shell.specs.declared.status.Status.TheVariants.{Damaged, Disk}
+use Rattle.archive_shell.specs.declared.status.Status.TheVariants.{Damaged, Disk, Done}
+use Rattle.archive_shell.specs.Statuses.{status_of_script}
 
 -- Since a run began, these bytes were pulled: items that were given out, and then what is held.
 pub record Pulling (old now : SourceState) (held : ReaderState) : Type 0 where
@@ -25,6 +27,30 @@ pub record Pulling (old now : SourceState) (held : ReaderState) : Type 0 where
   pub items : List Item
   pub since : List ℕ
   pub reads : Reads pulled items since held
+
+-- What an answer of the reader is to a run: the next item, or how the run ends where there is none.
+abbrev pub next_by : Result (Option Item) ScriptError → Result Item Status
+next_by (Ok (Some item)) = Ok item
+next_by (Ok None) = Err Done
+next_by (Err error) = Err (status_of_script error)
+
+-- What a call of the reader gave, behind these bytes since the last item: the bytes that it pulled, and what they say.
+pub record Gives (held held_now : ReaderState) (since : List ℕ) (next : Result Item Status) (before after : SourceState) : Type 0 where
+  pub answer : Result (Option Item) ScriptError
+  pub next_is : next ≡ next_by answer
+  pub more : List ℕ
+  pub gave : before.left ≡ more ++ after.left
+  pub calm : IsCalm since held more held_now
+  pub says : Says held.passed (since ++ more) answer held_now
+  pub told : held_now.ended ≡ true → after.left ≡ []
+
+-- What was left before each pull of a call: nothing waited, and the end was not told.
+abbrev pub AreAwaited : ReaderState → List ℕ → List ℕ → List (List ℕ) → Type 0
+AreAwaited held since all lefts = All (λ left. IsAwaited since all left × (held.ended ≡ false)) lefts
+
+-- The pulls of a machine that shows this, where this was left before each.
+abbrev pub pulls_beside : List ℕ → List (List ℕ) → List Pull
+pulls_beside shown lefts = map (λ left. record { left = left; shown = shown }) lefts
 
 -- A run has ended with this status: these bytes were pulled, and the input was there.
 pub record Ends (status : Status) (old new : SourceState) : Type 0 where

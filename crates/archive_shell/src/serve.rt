@@ -3,7 +3,7 @@ ghost use Rattle.std.specs.Prelude.{◌≡◌, ◌<◌, ◌≤◌, ◌^◌, ◌+
 ghost use Rattle.machine_model.specs.Areas.{Bytes};
 ghost use Rattle.machine_model.specs.Pulls.{Pull};
 ghost use Rattle.machine_model.specs.States.{SourceState, MachineState, state_by};
-ghost use Rattle.commands.specs.declared.command.Item.{Item};
+ghost use Rattle.commands.specs.declared.command.Item.{Item as PlainItem};
 ghost use Rattle.record_codec.specs.declared.entry.Entry.{Entry};
 ghost use Rattle.archive_state.specs.Histories.{History};
 ghost use Rattle.archive_state.specs.Worlds.{World};
@@ -11,17 +11,47 @@ ghost use Rattle.archive_core.specs.States.{CacheStands, StandsFor};
 ghost use Rattle.archive_shell.specs.Damages.{IsPulled, Spoils};
 ghost use Rattle.archive_shell.specs.Asking.{Asking, HasEnded};
 ghost use Rattle.archive_shell.specs.Causes.{IsLater, IsLeft, MayEnd};
-ghost use Rattle.archive_shell.specs.Serving.{Pulling, Ends, Serving, Serves};
+ghost use Rattle.archive_shell.specs.Serving.{AreAwaited, Gives, Pulling, Ends, Serving, Serves, pulls_beside};
 ghost use Rattle.archive_shell.specs.Outcomes.{CanGoOn};
 
 use crate::carry_out::carry_out;
 use crate::status::Status;
 use archive_core::Archive;
 use archive_replies::ReplyPage;
+use commands::Item;
 use machine_model::Machine;
 use script_read::Reader;
 use std::alloc::Global;
 use sublist_store::Damage;
+
+/// Takes the next item of the input, or says how the run ends where there is none.
+fn next_item<M: Machine>(
+    alloc: Global,
+    machine: &mut M,
+    reader: &mut Reader,
+) -> Result<Item, Status>
+    ensures sink { M.sink machine.new ≡ M.sink machine.old }
+    ensures disk { M.disk machine.new ≡ M.disk machine.old }
+    ensures later { (M.source machine.old).faults ≤ (M.source machine.new).faults }
+    ensures cause { IfErr result (λ status. MayEnd status (state_by M.source M.sink M.disk machine.old)
+        (state_by M.source M.sink M.disk machine.new)) }
+    ensures undamaged { (d : Damage) → IsErrOf result (Status.Damaged d) → ⊥ }
+    ensures nearer { OnOk result (reader.old.passed < reader.new.passed) }
+    ensures bound { reader.new.passed ≤ 2 ^ 40 }
+    ensures asked { M.source_tells → (began : SourceState) → (p : Pulling began (M.source machine.old) reader.old) → (lefts : List (List ℕ)) ×
+        M.asked machine.old (pulls_beside (M.sink machine.new).shown lefts) machine.new × AreAwaited reader.old p.since (M.source machine.old).left lefts }
+    ensures gives { M.source_tells → (began : SourceState) → (p : Pulling began (M.source machine.old) reader.old) →
+        Gives reader.old reader.new p.since result (M.source machine.old) (M.source machine.new) }
+{
+    let item = match reader.next_item(alloc, machine) {
+        Ok(item) => item,
+        Err(error) => return Err(Status::from(error)),
+    };
+    let Some(item) = item else {
+        return Err(Status::Done);
+    };
+    Ok(item)
+}
 
 /// Carries out the next item of the input and shows its reply, or says how the run ends.
 pub(crate) fn step<M: Machine>(
@@ -38,7 +68,7 @@ pub(crate) fn step<M: Machine>(
         (state_by M.source M.sink M.disk machine.new)) }
     ensures left { OnOk result (IsLeft M.disk_tells (M.disk machine.old) (M.disk machine.new) archive.old archive.new) }
     ensures damaged { M.disk_tells → (h : History) → StandsFor archive.old h → CacheStands (M.disk machine.old) archive.old → (d : Damage) → IsErrOf result (Status.Damaged d) →
-        (item : Item) × Spoils h (M.disk machine.new).holds.pages item d
+        (item : PlainItem) × Spoils h (M.disk machine.new).holds.pages item d
         × (M.source_tells → (began : SourceState) → Pulling began (M.source machine.old) reader.old → IsPulled began (M.source machine.new) item) }
     ensures nearer { OnOk result (reader.old.passed < reader.new.passed) }
     ensures bound { reader.new.passed ≤ 2 ^ 40 }
@@ -54,12 +84,9 @@ pub(crate) fn step<M: Machine>(
         (λ _. Asking h image began (state_by M.source M.sink M.disk machine.new) archive.new reader.new)
         (λ status. HasEnded h image status began (state_by M.source M.sink M.disk machine.new)) }
 {
-    let item = match reader.next_item(alloc, machine) {
+    let item = match next_item(alloc, machine, reader) {
         Ok(item) => item,
-        Err(error) => return Err(Status::from(error)),
-    };
-    let Some(item) = item else {
-        return Err(Status::Done);
+        Err(status) => return Err(status),
     };
     match carry_out(alloc, machine, archive, page, item) {
         Ok(()) => Ok(()),
@@ -81,7 +108,7 @@ pub(crate) fn serve<M: Machine>(
     ensures cause { MayEnd result (state_by M.source M.sink M.disk machine.old)
         (state_by M.source M.sink M.disk machine.new) }
     ensures damaged { M.disk_tells → (h : History) → StandsFor archive.old h → CacheStands (M.disk machine.old) archive.old → (d : Damage) → result ≡ Status.Damaged d →
-        (item : Item) × ((more : List Entry) × Spoils (h ++ more) (M.disk machine.new).holds.pages item d)
+        (item : PlainItem) × ((more : List Entry) × Spoils (h ++ more) (M.disk machine.new).holds.pages item d)
         × (M.source_tells → Pulling (M.source machine.old) (M.source machine.old) reader.old → IsPulled (M.source machine.old) (M.source machine.new) item) }
     ensures ends { M.source_tells → Pulling (M.source machine.old) (M.source machine.old) reader.old → Ends result (M.source machine.old) (M.source machine.new) }
     ensures served { M.source_tells → M.sink_tells → M.disk_tells → (w : World) →

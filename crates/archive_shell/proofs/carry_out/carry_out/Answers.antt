@@ -1,11 +1,16 @@
-use Rattle.std.proofs.Common.{◌≡◌, List, ℕ, [], Ok, Err, ap, sym, subst, ◌∙◌}
+use Rattle.std.proofs.Common.{◌≡◌, List, ℕ, [], Result, Ok, Err, ap, sym, subst, ◌∙◌}
 use Rattle.machine_model.specs.States.{DiskState, SinkState}
+use Rattle.archive_state.specs.Histories.{History}
+use Rattle.archive_core.specs.States.{AreInStep}
 use Rattle.archive_shell.specs.Outcomes.{Answers, CarriesOut}
+use Rattle.archive_shell.specs.declared.stop.Stop.{Stop}
 use Rattle.archive_shell.specs.declared.stop.Stop.TheVariants.{Damaged, Sink}
 use Rattle.archive_shell.proofs.CauseLemmas.{left_beside}
 use Rattle.archive_shell.proofs.DamageLemmas.{halted_at, is_question}
 use Rattle.archive_shell.proofs.QuestionLemmas.{shown_so}
-use Rattle.archive_shell.proofs.ShowLemmas.{cut_short, carried_out}
+use Rattle.archive_shell.proofs.ShowLemmas.{ShownTo, cut_short, carried_out}
+use Rattle.archive_shell.proofs.carry_out.carry_out.Given.{Over}
+use Rattle.archive_shell.proofs.carry_out.carry_out.Goals.{After-show}
 use Rattle.archive_shell.proofs.carry_out.carry_out.Goals as goal
 
 pub returns-in-Err-clause-asked : goal.returns-in-Err-clause-asked
@@ -20,49 +25,38 @@ returns-in-Err-clause-outcome g c = λ disk_tells sink_tells h in_step.
     let P : List ℕ → Type 0 = λ after. CarriesOut h c.args.item (Err c.from.result) (g.M.Sink.sink c.args.machine.now).shown after (g.M.Disk.disk c.args.machine.now) (g.M.Disk.disk c.answer.new.disk) c.answer.new.archive in
     subst P (sym shown) cut
 
-pub returns-in-Ok-show-clause-asked : goal.returns-in-Ok-show-clause-asked
-returns-in-Ok-show-clause-asked g c =
+-- no pull was made
+asked : (g : Over) (c : After-show g) → g.M.Machine.asked c.args.machine.now [] c.show.new.sink
+asked g c =
     g.M.Machine.asked_joins c.args.machine.now c.answer.new.disk c.show.new.sink [] [] (g.met.M.Machine.disk_asks_nothing c.args.machine.now c.answer.new.disk c.answer.ensures.only)
     (g.met.M.Machine.sink_asks_nothing c.answer.new.disk c.show.new.sink c.show.ensures.only)
+
+-- the item has an outcome, and its reply was shown, or a front of it
+outcome : (g : Over) (c : After-show g) (result : Result (Unit {0}) Stop) → g.M.Disk.disk_tells → g.M.Sink.sink_tells → (h : History) → AreInStep (g.M.Disk.disk c.args.machine.now) c.args.archive.now h
+    → ShownTo (g.M.Sink.sink c.answer.new.disk).shown (g.M.Sink.sink c.show.new.sink).shown c.as_bytes.result.now result
+    → CarriesOut h c.args.item result (g.M.Sink.sink c.args.machine.now).shown (g.M.Sink.sink c.show.new.sink).shown (g.M.Disk.disk c.args.machine.now) (g.M.Disk.disk c.show.new.sink) c.answer.new.archive
+outcome g c result disk_tells sink_tells h in_step to =
+    let m = g.met.M.Machine in
+    let mid = c.answer.new.disk in
+    let last = c.show.new.sink in
+    let shown = ap (λ (s : SinkState). s.shown) (m.disk_alone c.args.machine.now mid c.answer.ensures.only).1 in
+    let A : List ℕ → Type 0 = λ page. Answers h c.args.item (Ok tt) (g.M.Disk.disk c.args.machine.now) (g.M.Disk.disk mid) c.answer.new.archive page in
+    let P : List ℕ → Type 0 = λ before. CarriesOut h c.args.item result before (g.M.Sink.sink last).shown (g.M.Disk.disk c.args.machine.now) (g.M.Disk.disk last) c.answer.new.archive in
+    subst P shown (carried_out h c.args.item result (g.M.Sink.sink mid).shown (g.M.Sink.sink last).shown (g.M.Disk.disk c.args.machine.now) (g.M.Disk.disk mid) (g.M.Disk.disk last) c.answer.new.archive c.as_bytes.result.now
+    (subst A (sym c.as_bytes.ensures) (c.in-Ok.ensures.outcome disk_tells h in_step)) (m.beside_shown c.args.machine.now sink_tells disk_tells ∙ sym shown)
+    (m.shows mid last sink_tells disk_tells c.show.ensures.only) (m.sink_alone mid last c.show.ensures.only).1 (c.show.ensures.front sink_tells) to)
+
+pub returns-in-Ok-show-clause-asked : goal.returns-in-Ok-show-clause-asked
+returns-in-Ok-show-clause-asked g c = asked g (goal.at.returns-in-Ok-show-clause-asked g c).After-show
 
 pub returns-in-Ok-show-clause-outcome : goal.returns-in-Ok-show-clause-outcome
-returns-in-Ok-show-clause-outcome g c = λ disk_tells sink_tells h in_step.
-    let m = g.met.M.Machine in
-    let mid = c.answer.new.disk in
-    let alone = m.disk_alone c.args.machine.now mid c.answer.ensures.only in
-    let shown : (g.M.Sink.sink mid).shown ≡ (g.M.Sink.sink c.args.machine.now).shown = ap (λ (s : SinkState). s.shown) alone.1 in
-    let after = (g.M.Sink.sink c.show.new.sink).shown in
-    let out = carried_out h c.args.item (Ok tt) (g.M.Sink.sink mid).shown after
-    (g.M.Disk.disk c.args.machine.now) (g.M.Disk.disk mid) (g.M.Disk.disk c.show.new.sink) c.answer.new.archive c.as_bytes.result.now
-    (let A : List ℕ → Type 0 = λ page. Answers h c.args.item (Ok tt) (g.M.Disk.disk c.args.machine.now) (g.M.Disk.disk mid) c.answer.new.archive page in
-    subst A (sym c.as_bytes.ensures) (c.in-Ok.ensures.outcome disk_tells h in_step))
-    (m.beside_shown c.args.machine.now sink_tells disk_tells ∙ sym shown)
-    (m.shows mid c.show.new.sink sink_tells disk_tells c.show.ensures.only) (m.sink_alone mid c.show.new.sink c.show.ensures.only).1
-    (c.in-Ok-show.ensures.front sink_tells) (c.in-Ok-show.ensures.whole sink_tells) in
-    let P : List ℕ → Type 0 = λ before. CarriesOut h c.args.item (Ok tt) before after (g.M.Disk.disk c.args.machine.now) (g.M.Disk.disk c.show.new.sink) c.answer.new.archive in
-    subst P shown out
+returns-in-Ok-show-clause-outcome g c = λ disk_tells sink_tells h in_step. outcome g (goal.at.returns-in-Ok-show-clause-outcome g c).After-show (Ok tt) disk_tells sink_tells h in_step (c.in-Ok-show.ensures.whole sink_tells)
 
 pub returns-in-Err-show-clause-asked : goal.returns-in-Err-show-clause-asked
-returns-in-Err-show-clause-asked g c =
-    g.M.Machine.asked_joins c.args.machine.now c.answer.new.disk c.show.new.sink [] [] (g.met.M.Machine.disk_asks_nothing c.args.machine.now c.answer.new.disk c.answer.ensures.only)
-    (g.met.M.Machine.sink_asks_nothing c.answer.new.disk c.show.new.sink c.show.ensures.only)
+returns-in-Err-show-clause-asked g c = asked g (goal.at.returns-in-Err-show-clause-asked g c).After-show
 
 pub returns-in-Err-show-clause-outcome : goal.returns-in-Err-show-clause-outcome
-returns-in-Err-show-clause-outcome g c = λ disk_tells sink_tells h in_step.
-    let m = g.met.M.Machine in
-    let mid = c.answer.new.disk in
-    let alone = m.disk_alone c.args.machine.now mid c.answer.ensures.only in
-    let shown : (g.M.Sink.sink mid).shown ≡ (g.M.Sink.sink c.args.machine.now).shown = ap (λ (s : SinkState). s.shown) alone.1 in
-    let after = (g.M.Sink.sink c.show.new.sink).shown in
-    let out = carried_out h c.args.item (Err Sink) (g.M.Sink.sink mid).shown after
-    (g.M.Disk.disk c.args.machine.now) (g.M.Disk.disk mid) (g.M.Disk.disk c.show.new.sink) c.answer.new.archive c.as_bytes.result.now
-    (let A : List ℕ → Type 0 = λ page. Answers h c.args.item (Ok tt) (g.M.Disk.disk c.args.machine.now) (g.M.Disk.disk mid) c.answer.new.archive page in
-    subst A (sym c.as_bytes.ensures) (c.in-Ok.ensures.outcome disk_tells h in_step))
-    (m.beside_shown c.args.machine.now sink_tells disk_tells ∙ sym shown)
-    (m.shows mid c.show.new.sink sink_tells disk_tells c.show.ensures.only) (m.sink_alone mid c.show.new.sink c.show.ensures.only).1
-    (c.in-Err-show.ensures.front sink_tells) (c.in-Err-show.ensures.short sink_tells) in
-    let P : List ℕ → Type 0 = λ before. CarriesOut h c.args.item (Err Sink) before after (g.M.Disk.disk c.args.machine.now) (g.M.Disk.disk c.show.new.sink) c.answer.new.archive in
-    subst P shown out
+returns-in-Err-show-clause-outcome g c = λ disk_tells sink_tells h in_step. outcome g (goal.at.returns-in-Err-show-clause-outcome g c).After-show (Err Sink) disk_tells sink_tells h in_step (c.in-Err-show.ensures.short sink_tells)
 
 pub returns-in-Ok-show-clause-question : goal.returns-in-Ok-show-clause-question
 returns-in-Ok-show-clause-question g c = λ disk_tells sink_tells h stands cached question.

@@ -1,45 +1,40 @@
-use Rattle.std.proofs.Common.{◌≡◌, ◌⊎◌, ℕ, [], length, refl, inl, inr, subst}
+use Rattle.std.proofs.Common.{◌≡◌, [], refl, inl, inr, sym, subst}
 use Rattle.machine_model.proofs.MomentLemmas.{goes_on_same}
-use Rattle.machine_model.specs.States.{MachineState, state_by}
+use Rattle.machine_model.specs.States.{state_by}
 use Rattle.program_words.specs.Words.{AreWords, texts}
 use Rattle.program_words.specs.declared.task.Task.{Task}
 use Rattle.program_words.specs.declared.task.Task.TheVariants as tasks
 use Rattle.sample_commands.proofs.LawLemmas.{documents}
-use Rattle.sublist_store.specs.declared.why.Damage.{Damage}
-use Rattle.archive_shell.specs.Headline.{Headline}
-use Rattle.archive_shell.specs.Sampling.{EndsSample, Sampled}
-use Rattle.archive_shell.specs.declared.status.Status.{Status}
-use Rattle.archive_shell.specs.declared.status.Status.TheVariants.{Done, NotArchive, Disk, Damaged, NotEmpty, Memory}
+use Rattle.archive_shell.specs.Sampling.{EndsSample}
+use Rattle.archive_shell.specs.declared.status.Status.TheVariants.{Memory}
 use Rattle.archive_shell.proofs.EndLemmas.{keeps_still, not_begun}
-use Rattle.archive_shell.proofs.SampleLemmas.{at_words, not_loaded}
+use Rattle.archive_shell.proofs.SampleLemmas.{not_loaded, words_memory}
+use Rattle.archive_shell.proofs.program.run.Given.{Over}
+use Rattle.archive_shell.proofs.program.run.Goals.{In-Err}
 use Rattle.archive_shell.proofs.program.run.Goals as goal
+
+-- there was no memory for words that ask for something
+memory : (g : Over) (c : In-Err g) (task : Task) → AreWords (texts c.args.words.now) task → c.in-Err.status ≡ Memory
+memory g c task are = words_memory c.in-Err.status (texts c.args.words.now) task c.in-Err.ensures.refused are
 
 pub returns-in-Err-clause-headline : goal.returns-in-Err-clause-headline
 returns-in-Err-clause-headline g c = λ source_tells sink_tells disk_tells are h stands.
     let m = c.args.machine.now in
-    let state : MachineState = state_by g.M.Source.source g.M.Sink.sink g.M.Disk.disk m in
-    let P : Status → Type 0 = λ s. Headline h s state state [] in (
+    let none = memory g (goal.at.returns-in-Err-clause-headline g c).In-Err tasks.Script are in (
       [],
       g.met.M.Machine.disk_asks_nothing m m (g.met.M.Disk.only_same m),
-      at_words P c.in-Err.status (texts c.args.words.now) tasks.Script c.in-Err.ensures.refused are
-          (not_begun h Memory state (g.M.Sink.sink m) (g.M.Disk.disk m) (inr (inr (inl refl))) (λ damage is. cc) refl
-          (g.met.M.Machine.beside_shown m sink_tells disk_tells) (λ each. keeps_still h (g.M.Disk.disk m) each)),
+      not_begun h c.in-Err.status (state_by g.M.Source.source g.M.Sink.sink g.M.Disk.disk m) (g.M.Sink.sink m) (g.M.Disk.disk m) (inr (inr (inl none))) (λ damage is. cc) refl
+          (g.met.M.Machine.beside_shown m sink_tells disk_tells) (λ each. keeps_still h (g.M.Disk.disk m) each),
     )
 
 pub returns-in-Err-clause-complete : goal.returns-in-Err-clause-complete
-returns-in-Err-clause-complete g c = λ source_tells sink_tells disk_tells are archive script few disk source sink.
-    let P : Status → Type 0 = λ s. (s ≡ Done) ⊎ ((s ≡ Memory) ⊎ ((damage : Damage) × (s ≡ Damaged damage))) in
-    at_words P c.in-Err.status (texts c.args.words.now) tasks.Script c.in-Err.ensures.refused are (inr (inl refl))
+returns-in-Err-clause-complete g c = λ source_tells sink_tells disk_tells are archive script few disk source sink. inr (inl (memory g (goal.at.returns-in-Err-clause-complete g c).In-Err tasks.Script are))
 
 pub returns-in-Err-clause-sample_ends : goal.returns-in-Err-clause-sample_ends
-returns-in-Err-clause-sample_ends g c = λ numbers are.
-    let P : Status → Type 0 = λ s. EndsSample s ⊎ (((at : ℕ) × (s ≡ NotArchive at)) ⊎ ((n : ℕ) × (s ≡ NotEmpty n))) in
-    at_words P c.in-Err.status (texts c.args.words.now) (tasks.Generate numbers) c.in-Err.ensures.refused are (inl tt)
+returns-in-Err-clause-sample_ends g c = λ numbers are. inl (subst EndsSample (sym (memory g (goal.at.returns-in-Err-clause-sample_ends g c).In-Err (tasks.Generate numbers) are)) tt)
 
 pub returns-in-Err-clause-occupied : goal.returns-in-Err-clause-occupied
-returns-in-Err-clause-occupied g c = λ disk_tells numbers are h spelled loads some.
-    let P : Status → Type 0 = λ s. (s ≡ NotEmpty (length h)) ⊎ ((s ≡ Disk) ⊎ ((s ≡ Memory) ⊎ ((at : ℕ) × (s ≡ NotArchive at)))) in
-    at_words P c.in-Err.status (texts c.args.words.now) (tasks.Generate numbers) c.in-Err.ensures.refused are (inr (inr (inl refl)))
+returns-in-Err-clause-occupied g c = λ disk_tells numbers are h spelled loads some. inr (inr (inl (memory g (goal.at.returns-in-Err-clause-occupied g c).In-Err (tasks.Generate numbers) are)))
 
 pub returns-in-Err-clause-spared : goal.returns-in-Err-clause-spared
 returns-in-Err-clause-spared g c = λ disk_tells numbers are h each some. (refl, keeps_still h (g.M.Disk.disk c.args.machine.now) each)
@@ -48,15 +43,12 @@ pub returns-in-Err-clause-sampled : goal.returns-in-Err-clause-sampled
 returns-in-Err-clause-sampled g c = λ sink_tells disk_tells numbers are stands.
     let m = c.args.machine.now in
     let d = g.M.Disk.disk m in
-    let P : Status → Type 0 = λ s. Sampled numbers.seed numbers.count s (g.M.Sink.sink m) (g.M.Sink.sink m) d d in
-    at_words P c.in-Err.status (texts c.args.words.now) (tasks.Generate numbers) c.in-Err.ensures.refused are
-    (not_loaded numbers.seed numbers.count Memory (g.M.Sink.sink m) (g.M.Sink.sink m) d d (documents numbers.seed numbers.count) (g.met.M.Machine.beside_shown m sink_tells disk_tells) refl
-    (λ is. cc) (λ damage is. cc) (goes_on_same d) (λ each. keeps_still [] d each))
+    let none = memory g (goal.at.returns-in-Err-clause-sampled g c).In-Err (tasks.Generate numbers) are in
+    not_loaded numbers.seed numbers.count c.in-Err.status (g.M.Sink.sink m) (g.M.Sink.sink m) d d (documents numbers.seed numbers.count) (g.met.M.Machine.beside_shown m sink_tells disk_tells) refl
+    (λ is. cc) (λ damage is. cc) (goes_on_same d) (λ each. keeps_still [] d each)
 
 pub returns-in-Err-clause-filled : goal.returns-in-Err-clause-filled
-returns-in-Err-clause-filled g c = λ disk_tells numbers are stands disk sink.
-    let P : Status → Type 0 = λ s. (s ≡ Done) ⊎ (s ≡ Memory) in
-    at_words P c.in-Err.status (texts c.args.words.now) (tasks.Generate numbers) c.in-Err.ensures.refused are (inr refl)
+returns-in-Err-clause-filled g c = λ disk_tells numbers are stands disk sink. inr (memory g (goal.at.returns-in-Err-clause-filled g c).In-Err (tasks.Generate numbers) are)
 
 pub returns-in-Script-clause-refused : goal.returns-in-Script-clause-refused
 returns-in-Script-clause-refused g c = λ disk_tells task are at refused. c.run_script.ensures.refused disk_tells at refused

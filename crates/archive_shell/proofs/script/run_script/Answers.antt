@@ -1,25 +1,27 @@
-use Rattle.std.proofs.Common.{◌≡◌, ◌⊎◌, ℕ, true, List, [], length, All, Err, refl, inl, inr, ap, sym, subst}
-use Rattle.std.proofs.lemmas.Bool.{cases_lt}
-use Rattle.machine_model.specs.Calls.{Syncs}
-use Rattle.machine_model.specs.Causes.{Rose}
-use Rattle.machine_model.specs.States.{SourceState, SinkState, state_by}
+use Rattle.std.proofs.Common.{ℕ, [], Err, refl, inl, inr, ap, sym, subst}
+use Rattle.machine_model.specs.States.{SourceState, state_by}
 use Rattle.archive_state.proofs.StandsLemmas.{stands_is_archive, not_archive_once}
 use Rattle.archive_state.specs.Worlds.{world_of}
-use Rattle.sublist_store.specs.declared.why.Damage.{Damage}
-use Rattle.archive_shell.specs.Headline.{Headline, EndsEarly}
-use Rattle.archive_shell.specs.Serving.{Ends}
-use Rattle.archive_shell.specs.declared.status.Status.{Status}
-use Rattle.archive_shell.specs.declared.status.Status.TheVariants.{Done, NotArchive, Damaged, Disk, Memory}
-use Rattle.archive_shell.proofs.EndLemmas.{new_stands, keeps_still, syncs_still, not_begun, serving_start, whole_run, load_early, load_refused, load_undamaged, load_completes, rose_earlier, serves_of}
+use Rattle.archive_shell.specs.Headline.{Headline}
+use Rattle.archive_shell.specs.Serving.{Ends, Serves}
+use Rattle.archive_shell.specs.declared.status.Status.TheVariants.{Memory}
+use Rattle.archive_shell.proofs.EndLemmas.{keeps_still, syncs_still, synced_if_refused, not_begun, serving_start, whole_run, load_early, load_refused, load_undamaged, load_completes}
+use Rattle.archive_shell.proofs.CauseLemmas.{ends_later, later_alone}
 use Rattle.archive_shell.proofs.PullLemmas.{completes, pulling_start}
-use Rattle.commands.specs.declared.command.Item.{Item}
-use Rattle.script_read.specs.Items.{Splits}
-use Rattle.script_read.proofs.Splitting.{one_split}
-use Rattle.archive_shell.specs.Fetching.{IsAsking, ReadsMissed}
-use Rattle.archive_shell.specs.Questions.{AreMade, AreMadeUpTo, IsQuestion}
+use Rattle.machine_model.specs.Areas.{Bytes}
+use Rattle.gate_journal.specs.Spelled.{Spells}
+use Rattle.archive_state.specs.Histories.{History}
+use Rattle.archive_state.specs.Stands.{bodies_of}
+use Rattle.archive_shell.specs.Asking.{HasEnded}
+use Rattle.archive_shell.specs.Fetching.{ReadsMissed}
+use Rattle.archive_shell.specs.Questions.{AreMade, AreMadeUpTo}
+use Rattle.archive_shell.specs.Causes.{MayEnd}
 use Rattle.archive_shell.specs.Damages.{IsPulled}
-use Rattle.archive_shell.proofs.QuestionLemmas.{asking_start, cached_first, stopped_among}
-use Rattle.archive_shell.proofs.StartLemmas.{fetched_at_start, made_at_start, stopped_at_start}
+use Rattle.archive_shell.proofs.QuestionLemmas.{asked_among, asking_start, cached_first, stopped_among}
+use Rattle.archive_shell.proofs.StartLemmas.{at_start, made_anywhere, reads_anywhere, stopped_anywhere}
+use Rattle.archive_shell.proofs.StepLemmas.{along}
+use Rattle.archive_shell.proofs.script.run_script.Given.{Over}
+use Rattle.archive_shell.proofs.script.run_script.Goals.{After-serve}
 use Rattle.archive_shell.proofs.script.run_script.Goals as goal
 
 pub returns-in-Err-clause-left_alone : goal.returns-in-Err-clause-left_alone
@@ -36,20 +38,15 @@ returns-in-Err-clause-headline g c = λ source_tells sink_tells disk_tells h sta
 
 pub returns-in-Err-load-clause-refused : goal.returns-in-Err-load-clause-refused
 returns-in-Err-load-clause-refused g c = λ disk_tells at refused.
-    let P : Status → Type 0 = λ s. (s ≡ NotArchive at) ⊎ ((s ≡ Disk) ⊎ (s ≡ Memory)) in
-    subst P (sym c.from.ensures) (load_refused c.in-Err-load.error at (λ place is. not_archive_once (g.M.Disk.disk c.args.machine.now).holds place at (c.in-Err-load.ensures.not_archive disk_tells place (ap Err is)) refused))
+    load_refused c.from.result c.in-Err-load.error at c.from.ensures (λ place is. not_archive_once (g.M.Disk.disk c.args.machine.now).holds place at (c.in-Err-load.ensures.not_archive disk_tells place (ap Err is)) refused)
 
 pub returns-in-Err-load-clause-left_alone : goal.returns-in-Err-load-clause-left_alone
 returns-in-Err-load-clause-left_alone g c = λ disk_tells at refused.
     let m = c.args.machine.now in
-    let image = (g.M.Disk.disk m).holds in
     let alone = g.met.M.Machine.disk_alone m c.load.new.disk c.load.ensures.only in (
       alone.0,
       alone.1,
-      elim (cases_lt 17 (length image.journal)) as (λ _. Syncs (g.M.Disk.disk m) (g.M.Disk.disk c.load.new.disk)) [
-        | inl long ↦ c.in-Err-load.ensures.longer disk_tells long
-        | inr short ↦ absurd (stands_is_archive [] image at (new_stands image short) refused)
-      ],
+      synced_if_refused (g.M.Disk.disk m) (g.M.Disk.disk c.load.new.disk) at refused (c.in-Err-load.ensures.longer disk_tells),
     )
 
 pub returns-in-Err-load-clause-headline : goal.returns-in-Err-load-clause-headline
@@ -57,37 +54,32 @@ returns-in-Err-load-clause-headline g c = λ source_tells sink_tells disk_tells 
     let m = c.args.machine.now in
     let n = c.load.new.disk in
     let alone = g.met.M.Machine.disk_alone m n c.load.ensures.only in
-    let early = load_early c.in-Err-load.error (λ at is. stands_is_archive h (g.M.Disk.disk m).holds at stands (c.in-Err-load.ensures.not_archive disk_tells at (ap Err is))) in
-    let E : Status → Type 0 = λ s. EndsEarly s in
-    let U : Status → Type 0 = λ s. (damage : Damage) → s ≡ Damaged damage → ⊥ in
+    let early = load_early c.from.result c.in-Err-load.error c.from.ensures (λ at is. stands_is_archive h (g.M.Disk.disk m).holds at stands (c.in-Err-load.ensures.not_archive disk_tells at (ap Err is))) in
     let S : SourceState → Type 0 = λ s. Headline h c.from.result (state_by g.M.Source.source g.M.Sink.sink g.M.Disk.disk m) (record { source = s; sink = g.M.Sink.sink n; disk = g.M.Disk.disk n }) [] in (
       [],
       g.met.M.Machine.disk_asks_nothing m n c.load.ensures.only,
-      subst S (sym alone.0) (not_begun h c.from.result (state_by g.M.Source.source g.M.Sink.sink g.M.Disk.disk m) (g.M.Sink.sink n) (g.M.Disk.disk n) (subst E (sym c.from.ensures) early) (subst U (sym c.from.ensures) (load_undamaged c.in-Err-load.error)) alone.1
+      subst S (sym alone.0) (not_begun h c.from.result (state_by g.M.Source.source g.M.Sink.sink g.M.Disk.disk m) (g.M.Sink.sink n) (g.M.Disk.disk n) early (load_undamaged c.from.result c.in-Err-load.error c.from.ensures) alone.1
           (g.met.M.Machine.beside_shown m sink_tells disk_tells) (λ each. c.in-Err-load.ensures.crash disk_tells h each)),
     )
 
 pub returns-in-Err-load-clause-complete : goal.returns-in-Err-load-clause-complete
 returns-in-Err-load-clause-complete g c = λ source_tells sink_tells disk_tells archive script few disk source sink.
-    let P : Status → Type 0 = λ s. (s ≡ Done) ⊎ ((s ≡ Memory) ⊎ ((damage : Damage) × (s ≡ Damaged damage))) in
-    subst P (sym c.from.ensures) (load_completes c.in-Err-load.error (λ is. disk (c.in-Err-load.ensures.failed (ap Err is))) (λ at is. archive at (c.in-Err-load.ensures.not_archive disk_tells at (ap Err is))))
+    inr (inl (load_completes c.from.result c.in-Err-load.error c.from.ensures (λ is. disk (c.in-Err-load.ensures.failed (ap Err is))) (λ at is. archive at (c.in-Err-load.ensures.not_archive disk_tells at (ap Err is)))))
+
+-- the load pulls and shows nothing, so what the run may end with behind it it may end with
+cause : (g : Over) (c : After-serve g) → MayEnd c.serve.result (state_by g.M.Source.source g.M.Sink.sink g.M.Disk.disk c.args.machine.now) (state_by g.M.Source.source g.M.Sink.sink g.M.Disk.disk c.serve.new.machine)
+cause g c =
+    let alone = g.met.M.Machine.disk_alone c.args.machine.now c.load.new.disk c.load.ensures.only in
+    ends_later _ _ _ _ (later_alone _ _ alone.0 alone.1 (g.met.M.Disk.only_faults c.args.machine.now c.load.new.disk c.load.ensures.only)) c.serve.ensures.cause
 
 pub returns-clause-disk_fault : goal.returns-clause-disk_fault
-returns-clause-disk_fault g c = λ is.
-    rose_earlier (g.M.Disk.disk c.args.machine.now).faults (g.M.Disk.disk c.load.new.disk).faults (g.M.Disk.disk c.serve.new.machine).faults
-    (g.met.M.Disk.only_faults c.args.machine.now c.load.new.disk c.load.ensures.only) (c.serve.ensures.cause.disk is)
+returns-clause-disk_fault g c = (cause g (goal.at.returns-clause-disk_fault g c).After-serve).disk
 
 pub returns-clause-source_fault : goal.returns-clause-source_fault
-returns-clause-source_fault g c = λ is.
-    let alone = g.met.M.Machine.disk_alone c.args.machine.now c.load.new.disk c.load.ensures.only in
-    let S : SourceState → Type 0 = λ s. Rose s.faults (g.M.Source.source c.serve.new.machine).faults in
-    subst S alone.0 (c.serve.ensures.cause.source is)
+returns-clause-source_fault g c = (cause g (goal.at.returns-clause-source_fault g c).After-serve).source
 
 pub returns-clause-sink_fault : goal.returns-clause-sink_fault
-returns-clause-sink_fault g c = λ is.
-    let alone = g.met.M.Machine.disk_alone c.args.machine.now c.load.new.disk c.load.ensures.only in
-    let S : SinkState → Type 0 = λ s. Rose s.faults (g.M.Sink.sink c.serve.new.machine).faults in
-    subst S alone.1 (c.serve.ensures.cause.sink is)
+returns-clause-sink_fault g c = (cause g (goal.at.returns-clause-sink_fault g c).After-serve).sink
 
 pub returns-clause-not_archive : goal.returns-clause-not_archive
 returns-clause-not_archive g c = λ disk_tells at is. absurd (c.serve.ensures.cause.no_load at is)
@@ -119,8 +111,7 @@ returns-clause-headline g c = λ source_tells sink_tells disk_tells h stands.
     let served = c.serve.ensures.served source_tells sink_tells disk_tells (world_of h)
     (serving_start h (state_by g.M.Source.source g.M.Sink.sink g.M.Disk.disk n) c.in-Ok-load.archive c.in-Ok.desk.reader c.in-Ok.ensures (g.met.M.Machine.beside_shown n sink_tells disk_tells)
     (c.in-Ok-load.ensures.in_step disk_tells h stands)) in
-    let here = serves_of (world_of h) c.serve.result (g.M.Source.source n) (g.M.Source.source m) (g.M.Sink.sink n) (g.M.Sink.sink m) (g.M.Disk.disk n)
-    (state_by g.M.Source.source g.M.Sink.sink g.M.Disk.disk last) served.0 alone.0 alone.1 served.2 in (
+    let here = along (λ s t. Serves (world_of h) c.serve.result (record { source = s; sink = t; disk = g.M.Disk.disk n }) (state_by g.M.Source.source g.M.Sink.sink g.M.Disk.disk last) served.0) _ _ _ _ (sym alone.0) (sym alone.1) served.2 in (
       served.0,
       g.M.Machine.asked_joins m n last [] served.0 (g.met.M.Machine.disk_asks_nothing m n c.load.ensures.only) served.1,
       whole_run h c.serve.result (state_by g.M.Source.source g.M.Sink.sink g.M.Disk.disk m) (g.M.Disk.disk n)
@@ -136,65 +127,46 @@ returns-clause-complete g c = λ source_tells sink_tells disk_tells archive scri
     let alone = g.met.M.Machine.disk_alone m n c.load.ensures.only in
     let E : SourceState → Type 0 = λ s. Ends c.serve.result s (g.M.Source.source last) in
     let ends = subst E alone.0 (c.serve.ensures.ends source_tells (pulling_start (g.M.Source.source n) c.in-Ok.desk.reader c.in-Ok.ensures)) in
-    let S : SourceState → Type 0 = λ s. Rose s.faults (g.M.Source.source last).faults in
-    let T : SinkState → Type 0 = λ s. Rose s.faults (g.M.Sink.sink last).faults in
-    completes c.serve.result (g.M.Source.source m) (g.M.Source.source last) ends script few c.serve.ensures.cause.no_usage c.serve.ensures.cause.no_load c.serve.ensures.cause.not_full
-    (λ is. disk (rose_earlier (g.M.Disk.disk m).faults (g.M.Disk.disk n).faults (g.M.Disk.disk last).faults (g.met.M.Disk.only_faults m n c.load.ensures.only) (c.serve.ensures.cause.disk is)))
-    (λ is. source (subst S alone.0 (c.serve.ensures.cause.source is))) (λ is. sink (subst T alone.1 (c.serve.ensures.cause.sink is)))
+    let may = cause g (goal.at.returns-clause-complete g c).After-serve in
+    completes c.serve.result (g.M.Source.source m) (g.M.Source.source last) ends script few may.no_usage may.no_load may.not_full (λ is. disk (may.disk is)) (λ is. source (may.source is)) (λ is. sink (may.sink is))
+
+-- how the run of questions ended, by the bytes behind the load
+ended : (g : Over) (c : After-serve g) → g.M.Source.source_tells → g.M.Sink.sink_tells → (tells : g.M.Disk.disk_tells)
+    → HasEnded (c.in-Ok-load.ensures.found tells).0 (g.M.Disk.disk c.load.new.disk).holds c.serve.result
+    (record { source = g.M.Source.source c.args.machine.now; sink = g.M.Sink.sink c.args.machine.now; disk = g.M.Disk.disk c.load.new.disk }) (state_by g.M.Source.source g.M.Sink.sink g.M.Disk.disk c.serve.new.machine)
+ended g c source_tells sink_tells tells =
+    let n = c.load.new.disk in
+    let last = state_by g.M.Source.source g.M.Sink.sink g.M.Disk.disk c.serve.new.machine in
+    let alone = g.met.M.Machine.disk_alone c.args.machine.now n c.load.ensures.only in
+    let found = c.in-Ok-load.ensures.found tells in
+    let image = (g.M.Disk.disk n).holds in
+    along (λ s t. HasEnded found.0 image c.serve.result (record { source = s; sink = t; disk = g.M.Disk.disk n }) last) _ _ _ _ (sym alone.0) (sym alone.1)
+    (c.serve.ensures.asks source_tells sink_tells tells found.0 image
+    (asking_start found.0 (state_by g.M.Source.source g.M.Sink.sink g.M.Disk.disk n) c.in-Ok-load.archive c.in-Ok.desk.reader c.in-Ok.ensures found.1.0 c.in-Ok-load.ensures.empty))
+
+-- what is told by these bytes, for the history that was found, is told by those at entry
+loaded : (g : Over) (c : After-serve g) (tells : g.M.Disk.disk_tells) (P : History → Bytes → Type 0) → ((p q : Bytes) → P [] p → P [] q) → P (c.in-Ok-load.ensures.found tells).0 (g.M.Disk.disk c.load.new.disk).holds
+    → (h : History) × Spells (g.M.Disk.disk c.args.machine.now).holds.journal (bodies_of h) × P h (g.M.Disk.disk c.args.machine.now).holds
+loaded g c tells P anywhere told =
+    let found = c.in-Ok-load.ensures.found tells in
+    (found.0, found.1.1, at_start P anywhere found.0 (g.M.Disk.disk c.args.machine.now) (g.M.Disk.disk c.load.new.disk) found.1.1 found.1.0.loadable (c.in-Ok-load.ensures.longer tells) told)
 
 pub returns-clause-questions : goal.returns-clause-questions
 returns-clause-questions g c = λ source_tells sink_tells disk_tells asked split all is.
-    let m = c.args.machine.now in
-    let n = c.load.new.disk in
-    let last = c.serve.new.machine in
-    let alone = g.met.M.Machine.disk_alone m n c.load.ensures.only in
-    let found = c.in-Ok-load.ensures.found disk_tells in
-    let image = (g.M.Disk.disk n).holds in
-    let ended = c.serve.ensures.asks source_tells sink_tells disk_tells found.0 image
-    (asking_start found.0 (state_by g.M.Source.source g.M.Sink.sink g.M.Disk.disk n) c.in-Ok-load.archive c.in-Ok.desk.reader c.in-Ok.ensures found.1.0 c.in-Ok-load.ensures.empty) in
-    let has = ended.done is in
-    let S : SourceState → Type 0 = λ s. Splits true s.left asked [] in
-    let same : has.items ≡ asked = (one_split true (g.M.Source.source n).left has.items asked [] [] has.split (subst S (sym alone.0) split)).0 in
-    let A : List Item → Type 0 = λ l. All IsQuestion l in
-    let M : List Item → Type 0 = λ l. AreMade found.0 image l (g.M.Sink.sink n).shown (g.M.Sink.sink last).shown in
-    let K : SinkState → Type 0 = λ s. AreMade found.0 image asked s.shown (g.M.Sink.sink last).shown in
-    let made = subst K alone.1 (subst M same (has.made (subst A (sym same) all))) in
-    (found.0, found.1.1, made_at_start found.0 asked (g.M.Disk.disk m) (g.M.Disk.disk n) (g.M.Sink.sink m).shown (g.M.Sink.sink last).shown found.1.1 found.1.0.loadable (c.in-Ok-load.ensures.longer disk_tells) made)
+    let at = goal.at.returns-clause-questions g c in
+    loaded g at.After-serve disk_tells (λ h b. AreMade h b asked (g.M.Sink.sink c.args.machine.now).shown (g.M.Sink.sink c.serve.new.machine).shown) (λ p q. made_anywhere p q asked _ _)
+    ((asked_among _ _ _ _ asked ((ended g at.After-serve source_tells sink_tells disk_tells).done is) split).0 all)
 
 pub returns-clause-stopped : goal.returns-clause-stopped
 returns-clause-stopped g c = λ source_tells sink_tells disk_tells asked split all d is.
-    let m = c.args.machine.now in
-    let n = c.load.new.disk in
-    let last = c.serve.new.machine in
-    let alone = g.met.M.Machine.disk_alone m n c.load.ensures.only in
-    let found = c.in-Ok-load.ensures.found disk_tells in
-    let image = (g.M.Disk.disk n).holds in
-    let ended = c.serve.ensures.asks source_tells sink_tells disk_tells found.0 image
-    (asking_start found.0 (state_by g.M.Source.source g.M.Sink.sink g.M.Disk.disk n) c.in-Ok-load.archive c.in-Ok.desk.reader c.in-Ok.ensures found.1.0 c.in-Ok-load.ensures.empty) in
-    let S : SourceState → Type 0 = λ s. Splits true s.left asked [] in
-    let stopped = stopped_among found.0 image _ _ d asked (ended.damaged d is) (subst S (sym alone.0) split) all in
-    let K : SinkState → Type 0 = λ s. AreMadeUpTo found.0 image asked d s.shown (g.M.Sink.sink last).shown in
-    (found.0, found.1.1, stopped_at_start found.0 asked d (g.M.Disk.disk m) (g.M.Disk.disk n) (g.M.Sink.sink m).shown (g.M.Sink.sink last).shown found.1.1 found.1.0.loadable (c.in-Ok-load.ensures.longer disk_tells) (subst K alone.1 stopped))
+    let at = goal.at.returns-clause-stopped g c in
+    loaded g at.After-serve disk_tells (λ h b. AreMadeUpTo h b asked d (g.M.Sink.sink c.args.machine.now).shown (g.M.Sink.sink c.serve.new.machine).shown) (λ p q. stopped_anywhere p q asked d _ _)
+    (stopped_among _ _ _ _ d asked ((ended g at.After-serve source_tells sink_tells disk_tells).damaged d is) split all)
 
 pub returns-clause-reads : goal.returns-clause-reads
 returns-clause-reads g c = λ source_tells sink_tells disk_tells asked split all is.
-    let m = c.args.machine.now in
-    let n = c.load.new.disk in
-    let last = c.serve.new.machine in
-    let alone = g.met.M.Machine.disk_alone m n c.load.ensures.only in
-    let found = c.in-Ok-load.ensures.found disk_tells in
-    let image = (g.M.Disk.disk n).holds in
-    let ended = c.serve.ensures.asks source_tells sink_tells disk_tells found.0 image
-    (asking_start found.0 (state_by g.M.Source.source g.M.Sink.sink g.M.Disk.disk n) c.in-Ok-load.archive c.in-Ok.desk.reader c.in-Ok.ensures found.1.0 c.in-Ok-load.ensures.empty) in
-    let has = ended.done is in
-    let S : SourceState → Type 0 = λ s. Splits true s.left asked [] in
-    let same : has.items ≡ asked = (one_split true (g.M.Source.source n).left has.items asked [] [] has.split (subst S (sym alone.0) split)).0 in
-    let A : List Item → Type 0 = λ l. All IsAsking l in
-    let after = (g.M.Disk.disk last).bytes_read.pages in
-    let R : List Item → Type 0 = λ l. ReadsMissed found.0 image.pages l (g.M.Disk.disk n).bytes_read.pages after in
-    let B : ℕ → Type 0 = λ before. ReadsMissed found.0 image.pages asked before after in (
-      found.0,
-      found.1.1,
-      fetched_at_start found.0 asked (g.M.Disk.disk m) (g.M.Disk.disk n) (g.M.Disk.disk m).bytes_read.pages after found.1.1 found.1.0.loadable (c.in-Ok-load.ensures.longer disk_tells)
-          (subst B (c.load.ensures.unread disk_tells) (subst R same (has.reads (subst A (sym same) all)))),
-    )
+    let at = goal.at.returns-clause-reads g c in
+    let after = (g.M.Disk.disk c.serve.new.machine).bytes_read.pages in
+    let B : ℕ → Type 0 = λ before. ReadsMissed (c.in-Ok-load.ensures.found disk_tells).0 (g.M.Disk.disk c.load.new.disk).holds.pages asked before after in
+    loaded g at.After-serve disk_tells (λ h b. ReadsMissed h b.pages asked (g.M.Disk.disk c.args.machine.now).bytes_read.pages after) (λ p q. reads_anywhere p q asked _ _)
+    (subst B (c.load.ensures.unread disk_tells) ((asked_among _ _ _ _ asked ((ended g at.After-serve source_tells sink_tells disk_tells).done is) split).1 all))
