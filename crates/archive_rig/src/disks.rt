@@ -5,6 +5,7 @@ use crate::journals::{
 use crate::rows::expect_row;
 use crate::{Row, RowError, copy_image, machine_on, read_image, run_on};
 use archive_shell::Status;
+use machine_mem::MemMachine;
 use machine_model::Image;
 use std::alloc::{AllocError, Global};
 
@@ -37,6 +38,13 @@ pub fn new_disk(alloc: Global) -> Image {
         journal: Vec::new(alloc),
         pages: Vec::new(alloc),
     }
+}
+
+/// The machine on which a script was run to its end, with its replies, on this disk.
+pub fn machine_after(alloc: Global, disk: Image, row: &Row<'_>) -> Result<MemMachine, RowError> {
+    let mut machine = machine_on(alloc, row.script, disk, &[])?;
+    expect_row(alloc, &mut machine, 0, row)?;
+    Ok(machine)
 }
 
 /// The disk that a script leaves on a copy of this one, which comes to its end with its replies.

@@ -23,7 +23,8 @@ mod sublists;
 pub use changes::{Change, expect_change, expect_changes, made, refused, three_changes};
 pub use disks::{
     FIRST_CERTIFICATE, FIRST_PLAN, FOUR_CHANGES, GAP_CHANGES, disk_after, disk_after_all,
-    disk_with, expect_held, expect_left, expect_on, expect_status, first_disk, flat_disk, new_disk,
+    disk_with, expect_held, expect_left, expect_on, expect_status, first_disk, flat_disk,
+    machine_after, new_disk,
 };
 pub use error::RowError;
 pub use journals::{
@@ -41,7 +42,9 @@ pub use scripts::{
     FIRST_JOURNAL, FIRST_SCRIPT, MIXED_ENDS, MIXED_JOURNAL, MIXED_REPLIES, MIXED_SCRIPT,
     NEW_JOURNAL,
 };
-pub use stops::{EXTRAS, FILLS, expect_entries, expect_shown, pick_entries, pick_image};
+pub use stops::{
+    EXTRAS, FILLS, expect_entries, expect_shown, pick_entries, pick_image, whole_images,
+};
 pub use sublists::{
     CLIPPED_LIFE_OF_1, CLIPPED_LIVES, FIRST_LIFE, FLAT_LIFE, FLAT_LIVES, LIFE_OF_1, LIFE_OF_3,
     LIVES_OF_1_AND_2, NOTHING, SECOND_LIFE, Sublist,

@@ -5,6 +5,7 @@ ghost use Rattle.machine_mem.specs.Picks.{IsPicked};
 
 use crate::{RowError, load_image};
 use machine_mem::{Fill, MemMachine, Pick, Picked, Tail};
+use machine_model::Image;
 use std::alloc::Global;
 
 /// The lengths above the least that images are picked with, in bytes.
@@ -31,6 +32,22 @@ pub fn pick_image(
     };
     let picked = machine.image_at(alloc, moment, pick)?;
     Ok(picked)
+}
+
+/// The images that a stop may leave at any moment with all bytes that were written by then: one with each
+/// filling in `FILLS`, the first moment's first.
+pub fn whole_images(alloc: Global, machine: &MemMachine) -> Result<Vec<Image>, RowError> {
+    let mut images = Vec::new(alloc);
+    for moment in 0..machine.moments() {
+        for fill in FILLS {
+            let tail = Tail {
+                extra: u64::MAX,
+                fill,
+            };
+            images.push(pick_image(alloc, machine, moment, tail)?.image)?;
+        }
+    }
+    Ok(images)
 }
 
 /// The number of entries in an image that a stop may leave at a moment, which has to load.

@@ -1,8 +1,8 @@
 //! What a stop may leave of a run that stores plans: after each device call, and within the load that
 //! follows.
 use archive_rig::{
-    EXTRAS, FILLS, FOUR_CHANGES, Row, disk_after, expect_entries, load_image, machine_on, new_disk,
-    pick_image, run_on,
+    EXTRAS, FILLS, FOUR_CHANGES, Row, disk_after, expect_entries, load_image, machine_after,
+    machine_on, new_disk, pick_image, run_on, whole_images,
 };
 use archive_shell::Status;
 use machine_mem::{MemMachine, Tail};
@@ -95,14 +95,6 @@ fn images_at(
     Ok((images, least))
 }
 
-/// The machine on which a script was run, with its replies.
-fn machine_after(rt: &impl Abort, alloc: Global, row: &Row<'_>) -> Result<MemMachine, Fail> {
-    let mut machine = machine_on(alloc, row.script, new_disk(alloc), &[])?;
-    assert_eq!(rt; run_on(alloc, &mut machine)?, Status::Done);
-    assert_eq!(rt; machine.shown(), row.replies);
-    Ok(machine)
-}
-
 /// Each image that a stop may leave of a script's run has the changes that were acknowledged, or one more. The
 /// run has so many moments.
 fn expect_acknowledged(
@@ -111,7 +103,7 @@ fn expect_acknowledged(
     row: &Row<'_>,
     moments: usize,
 ) -> Result<(), Fail> {
-    let machine = machine_after(rt, alloc, row)?;
+    let machine = machine_after(alloc, new_disk(alloc), row)?;
     assert_eq!(rt; machine.moments(), moments);
     let mut least = 0;
     for moment in 0..moments {
@@ -152,17 +144,10 @@ fn a_stop_inside_the_load_that_follows_leaves_the_same_changes(
     rt: HostRuntime,
 ) -> Result<(), Fail> {
     let alloc = rt.alloc();
-    let machine = machine_after(&rt, alloc, &MIXED)?;
-    for moment in 0..machine.moments() {
-        for fill in FILLS {
-            let tail = Tail {
-                extra: u64::MAX,
-                fill,
-            };
-            let picked = pick_image(alloc, &machine, moment, tail)?;
-            let (archive, second) = load_image(alloc, picked.image)?;
-            expect_same(&rt, alloc, &second, archive.length())?;
-        }
+    let machine = machine_after(alloc, new_disk(alloc), &MIXED)?;
+    for image in whole_images(alloc, &machine)? {
+        let (archive, second) = load_image(alloc, image)?;
+        expect_same(&rt, alloc, &second, archive.length())?;
     }
     Ok(())
 }
@@ -174,15 +159,8 @@ fn expect_same(
     machine: &MemMachine,
     changes: u64,
 ) -> Result<(), Fail> {
-    for moment in 0..machine.moments() {
-        for fill in FILLS {
-            let tail = Tail {
-                extra: u64::MAX,
-                fill,
-            };
-            let picked = pick_image(alloc, machine, moment, tail)?;
-            assert_eq!(rt; changes_on(rt, alloc, picked.image)?, changes);
-        }
+    for image in whole_images(alloc, machine)? {
+        assert_eq!(rt; changes_on(rt, alloc, image)?, changes);
     }
     Ok(())
 }

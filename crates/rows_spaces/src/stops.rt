@@ -1,26 +1,16 @@
 //! What a stop may leave of a run that stores a plan under a space bound: after each device call, and within
 //! the load that follows.
 use crate::plans::{four_disk, planned_disk};
-use archive_rig::{EXTRAS, FILLS, Row, copy_image, expect_entries, machine_on, pick_image, run_on};
+use archive_rig::{
+    EXTRAS, FILLS, Row, copy_image, expect_entries, machine_after, machine_on, pick_image, run_on,
+    whole_images,
+};
 use archive_shell::Status;
 use machine_mem::{MemMachine, Tail};
 use machine_model::Image;
 use std::alloc::Global;
 use std::process::Abort;
 use std::test::Fail;
-
-/// The machine on which the script of a row was run, with its replies.
-fn machine_after(
-    rt: &impl Abort,
-    alloc: Global,
-    disk: Image,
-    row: &Row<'_>,
-) -> Result<MemMachine, Fail> {
-    let mut machine = machine_on(alloc, row.script, disk, &[])?;
-    assert_eq!(rt; run_on(alloc, &mut machine)?, Status::Done);
-    assert_eq!(rt; machine.shown(), row.replies);
-    Ok(machine)
-}
 
 // The load syncs. The sublists are written and synced, and then the entry is appended: it is written
 // behind the closed gate and synced, and the gate is opened and synced. At last the reply is shown.
@@ -50,7 +40,7 @@ fn an_entry_is_there_when_its_gate_is_open(rt: HostRuntime) -> Result<(), Fail> 
             6,
         ),
     ] {
-        let machine = machine_after(&rt, alloc, four_disk(alloc)?, &row)?;
+        let machine = machine_after(alloc, four_disk(alloc)?, &row)?;
         assert_eq!(rt; machine.moments(), opens.saturating_add(3));
         for moment in 0..machine.moments() {
             let least = if moment <= opens { 4 } else { 5 };
@@ -97,15 +87,15 @@ fn has_new_plan(rt: &impl Abort, alloc: Global, disk: Image) -> Result<bool, Fai
 }
 
 /// The machine on which the new plan took the old one's place.
-fn replaced(rt: &impl Abort, alloc: Global) -> Result<MemMachine, Fail> {
-    machine_after(rt, alloc, planned_disk(alloc, OLD_PLAN)?, &NEW_PLAN)
+fn replaced(alloc: Global) -> Result<MemMachine, Fail> {
+    Ok(machine_after(alloc, planned_disk(alloc, OLD_PLAN)?, &NEW_PLAN)?)
 }
 
 // The gate is opened by the eighth call. While that one's bytes are pending, either plan may be there.
 #[test]
 fn a_stop_leaves_the_old_plan_or_the_new_one(rt: HostRuntime) -> Result<(), Fail> {
     let alloc = rt.alloc();
-    let machine = replaced(&rt, alloc)?;
+    let machine = replaced(alloc)?;
     assert_eq!(rt; machine.moments(), 11);
     for moment in 0..machine.moments() {
         for fill in FILLS {
@@ -122,38 +112,14 @@ fn a_stop_leaves_the_old_plan_or_the_new_one(rt: HostRuntime) -> Result<(), Fail
 #[test]
 fn a_stop_inside_the_load_that_follows_leaves_the_same_plan(rt: HostRuntime) -> Result<(), Fail> {
     let alloc = rt.alloc();
-    let machine = replaced(&rt, alloc)?;
-    for moment in 0..machine.moments() {
-        for fill in FILLS {
-            let tail = Tail {
-                extra: u64::MAX,
-                fill,
-            };
-            let picked = pick_image(alloc, &machine, moment, tail)?;
-            let is_new = has_new_plan(&rt, alloc, copy_image(alloc, &picked.image)?)?;
-            let mut second = machine_on(alloc, b"", picked.image, &[])?;
-            assert_eq!(rt; run_on(alloc, &mut second)?, Status::Done);
-            expect_same(&rt, alloc, &second, is_new)?;
-        }
-    }
-    Ok(())
-}
-
-/// Each image that a stop may leave of this load answers by the one plan.
-fn expect_same(
-    rt: &impl Abort,
-    alloc: Global,
-    machine: &MemMachine,
-    is_new: bool,
-) -> Result<(), Fail> {
-    for moment in 0..machine.moments() {
-        for fill in FILLS {
-            let tail = Tail {
-                extra: u64::MAX,
-                fill,
-            };
-            let picked = pick_image(alloc, machine, moment, tail)?;
-            assert_eq!(rt; has_new_plan(rt, alloc, picked.image)?, is_new);
+    let machine = replaced(alloc)?;
+    for image in whole_images(alloc, &machine)? {
+        let is_new = has_new_plan(&rt, alloc, copy_image(alloc, &image)?)?;
+        let mut second = machine_on(alloc, b"", image, &[])?;
+        assert_eq!(rt; run_on(alloc, &mut second)?, Status::Done);
+        // Each image that a stop may leave of this load answers by the same plan.
+        for left in whole_images(alloc, &second)? {
+            assert_eq!(rt; has_new_plan(&rt, alloc, left)?, is_new);
         }
     }
     Ok(())

@@ -4,7 +4,7 @@ use archive_rig::{
     expect_entries, expect_shown, load_image, make_machine, pick_entries, pick_image, run_on,
 };
 use archive_shell::Status;
-use machine_mem::{CallKind, Fault, Fill, Picked, Tail};
+use machine_mem::{CallKind, Fault, Fill, MemMachine, Picked, Tail};
 use std::alloc::Global;
 use std::process::Abort;
 use std::test::Fail;
@@ -115,17 +115,30 @@ fn a_stop_inside_the_load_that_follows_leaves_the_same_history(
     Ok(())
 }
 
-#[test]
-fn where_the_gate_is_not_synced_its_byte_decides(rt: HostRuntime) -> Result<(), Fail> {
-    let alloc = rt.alloc();
+/// The machine on which the first script ran until this call failed: it ended with this status, and showed
+/// nothing.
+fn cut_short(
+    rt: &impl Abort,
+    alloc: Global,
+    call: CallKind,
+    nth: u64,
+    want: Status,
+) -> Result<MemMachine, Fail> {
     let fault = Fault {
-        call: CallKind::Sync,
-        nth: 4,
+        call,
+        nth,
         landed: 0,
     };
     let mut machine = make_machine(alloc, FIRST_SCRIPT, b"", &[fault])?;
-    assert_eq!(rt; run_on(alloc, &mut machine)?, Status::Disk);
+    assert_eq!(rt; run_on(alloc, &mut machine)?, want);
     assert_eq!(rt; machine.shown(), b"".as_slice());
+    Ok(machine)
+}
+
+#[test]
+fn where_the_gate_is_not_synced_its_byte_decides(rt: HostRuntime) -> Result<(), Fail> {
+    let alloc = rt.alloc();
+    let machine = cut_short(&rt, alloc, CallKind::Sync, 4, Status::Disk)?;
     for moment in 0..6 {
         expect_entries(alloc, &machine, moment, 0, 0)?;
     }
@@ -155,14 +168,7 @@ fn a_fault_before_the_gate_leaves_no_entry(rt: HostRuntime) -> Result<(), Fail> 
         (CallKind::Sync, 3, Status::Disk),
         (CallKind::Pull, 1, Status::Source),
     ] {
-        let fault = Fault {
-            call,
-            nth,
-            landed: 0,
-        };
-        let mut machine = make_machine(alloc, FIRST_SCRIPT, b"", &[fault])?;
-        assert_eq!(rt; run_on(alloc, &mut machine)?, want);
-        assert_eq!(rt; machine.shown(), b"".as_slice());
+        let machine = cut_short(&rt, alloc, call, nth, want)?;
         for moment in 0..machine.moments() {
             expect_entries(alloc, &machine, moment, 0, 0)?;
         }
@@ -173,14 +179,7 @@ fn a_fault_before_the_gate_leaves_no_entry(rt: HostRuntime) -> Result<(), Fail> 
 #[test]
 fn an_arrival_whose_reply_fails_is_in_the_journal(rt: HostRuntime) -> Result<(), Fail> {
     let alloc = rt.alloc();
-    let fault = Fault {
-        call: CallKind::Push,
-        nth: 1,
-        landed: 0,
-    };
-    let mut machine = make_machine(alloc, FIRST_SCRIPT, b"", &[fault])?;
-    assert_eq!(rt; run_on(alloc, &mut machine)?, Status::Sink);
-    assert_eq!(rt; machine.shown(), b"".as_slice());
+    let machine = cut_short(&rt, alloc, CallKind::Push, 1, Status::Sink)?;
     let last = machine.moments() - 1;
     expect_entries(alloc, &machine, last, 1, 1)?;
     expect_shown(alloc, &machine, 0)?;

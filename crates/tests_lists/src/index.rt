@@ -10,7 +10,6 @@ use fold_tokens::NumberError;
 use std::alloc::{AllocError, Global};
 use std::process::Abort;
 use std::str;
-use std::test::Fail;
 use time_base::{DocId, Key, NOW, Posting, Span, Time};
 use version_index::{Index, Loader};
 
@@ -106,13 +105,15 @@ fn posting(doc: u32, from: u64, to: u64, tf: u32) -> Posting
     }
 }
 
-fn key(rt: &impl Abort, alloc: Global, word: &str) -> Result<Key, AllocError> {
-    Ok(Key::new(alloc, word)?.expect(rt, "a key"))
+fn key(rt: &impl Abort, alloc: Global, word: &str) -> Key {
+    Key::new(alloc, word)
+        .expect(rt, "memory")
+        .expect(rt, "a key")
 }
 
 // What is wanted is worked out by hand, here and below, from the changes at 10, 20, 30, .. seconds.
 #[test]
-fn a_word_comes_in_any_spelling_and_goes(rt: HostRuntime) -> Result<(), Fail> {
+fn a_word_comes_in_any_spelling_and_goes(rt: HostRuntime) {
     let alloc = rt.alloc();
     let rows = [
         (7, Some("Die Straße")),
@@ -125,20 +126,25 @@ fn a_word_comes_in_any_spelling_and_goes(rt: HostRuntime) -> Result<(), Fail> {
         posting(7, 20, 30, 3),
         posting(7, 40, NOW, 1),
     ];
-    let strasse = key(&rt, alloc, "strasse")?;
-    let die = key(&rt, alloc, "die")?;
-    for index in [committed(&rt, alloc, &rows)?, loaded(&rt, alloc, &rows)?] {
-        assert_eq!(rt; index.list(alloc, &strasse)?.as_slice(), street.as_slice());
+    let strasse = key(&rt, alloc, "strasse");
+    let die = key(&rt, alloc, "die");
+    for index in [
+        committed(&rt, alloc, &rows).expect(&rt, "memory"),
+        loaded(&rt, alloc, &rows).expect(&rt, "memory"),
+    ] {
         assert_eq!(rt;
-            index.list(alloc, &die)?.as_slice(),
+            index.list(alloc, &strasse).expect(&rt, "memory").as_slice(),
+            street.as_slice()
+        );
+        assert_eq!(rt;
+            index.list(alloc, &die).expect(&rt, "memory").as_slice(),
             [posting(7, 10, 20, 1)].as_slice()
         );
     }
-    Ok(())
 }
 
 #[test]
-fn a_word_stands_in_two_documents(rt: HostRuntime) -> Result<(), Fail> {
+fn a_word_stands_in_two_documents(rt: HostRuntime) {
     let alloc = rt.alloc();
     let rows = [
         (9, Some("red blue")),
@@ -153,21 +159,26 @@ fn a_word_stands_in_two_documents(rt: HostRuntime) -> Result<(), Fail> {
         posting(9, 10, 30, 1),
         posting(9, 30, 50, 2),
     ];
-    for index in [committed(&rt, alloc, &rows)?, loaded(&rt, alloc, &rows)?] {
+    for index in [
+        committed(&rt, alloc, &rows).expect(&rt, "memory"),
+        loaded(&rt, alloc, &rows).expect(&rt, "memory"),
+    ] {
         for (word, wanted) in [("red", red.as_slice()), ("blue", blue.as_slice())] {
-            let word = key(&rt, alloc, word)?;
-            assert_eq!(rt; index.list(alloc, &word)?.as_slice(), wanted);
+            let word = key(&rt, alloc, word);
+            assert_eq!(rt;
+                index.list(alloc, &word).expect(&rt, "memory").as_slice(),
+                wanted
+            );
             assert!(rt; index.knows(&word));
         }
-        let green = key(&rt, alloc, "green")?;
-        assert!(rt; index.list(alloc, &green)?.is_empty());
+        let green = key(&rt, alloc, "green");
+        assert!(rt; index.list(alloc, &green).expect(&rt, "memory").is_empty());
         assert!(rt; !index.knows(&green));
     }
-    Ok(())
 }
 
 #[test]
-fn versions_with_a_word_as_often_make_one_posting(rt: HostRuntime) -> Result<(), Fail> {
+fn versions_with_a_word_as_often_make_one_posting(rt: HostRuntime) {
     let alloc = rt.alloc();
     let rows = [
         (1, None),
@@ -178,45 +189,49 @@ fn versions_with_a_word_as_often_make_one_posting(rt: HostRuntime) -> Result<(),
     let to = [posting(1, 20, NOW, 2)];
     let or = [posting(1, 20, 40, 1)];
     let not = [posting(1, 20, 40, 1), posting(2, 30, NOW, 1)];
-    for index in [committed(&rt, alloc, &rows)?, loaded(&rt, alloc, &rows)?] {
+    for index in [
+        committed(&rt, alloc, &rows).expect(&rt, "memory"),
+        loaded(&rt, alloc, &rows).expect(&rt, "memory"),
+    ] {
         for (word, wanted) in [
             ("to", to.as_slice()),
             ("be", to.as_slice()),
             ("or", or.as_slice()),
             ("not", not.as_slice()),
         ] {
-            let word = key(&rt, alloc, word)?;
-            assert_eq!(rt; index.list(alloc, &word)?.as_slice(), wanted);
+            let word = key(&rt, alloc, word);
+            assert_eq!(rt;
+                index.list(alloc, &word).expect(&rt, "memory").as_slice(),
+                wanted
+            );
         }
     }
-    Ok(())
 }
 
 #[test]
-fn a_change_that_is_dropped_changes_no_answer(rt: HostRuntime) -> Result<(), Fail> {
+fn a_change_that_is_dropped_changes_no_answer(rt: HostRuntime) {
     let alloc = rt.alloc();
-    let mut index = committed(&rt, alloc, &[(1, Some("red"))])?;
+    let mut index = committed(&rt, alloc, &[(1, Some("red"))]).expect(&rt, "memory");
     let dropped = index.prepare(alloc, DocId(1), Some("blue red red"));
     drop(dropped.expect(&rt, "room"));
-    let red = key(&rt, alloc, "red")?;
-    let blue = key(&rt, alloc, "blue")?;
+    let red = key(&rt, alloc, "red");
+    let blue = key(&rt, alloc, "blue");
     assert!(rt; !index.knows(&blue));
     assert_eq!(rt;
-        index.list(alloc, &red)?.as_slice(),
+        index.list(alloc, &red).expect(&rt, "memory").as_slice(),
         [posting(1, 10, NOW, 1)].as_slice()
     );
     commit(&rt, alloc, &mut index, DocId(1), time_at(1), Some("green"));
     assert!(rt; !index.knows(&blue));
     assert_eq!(rt;
-        index.list(alloc, &red)?.as_slice(),
+        index.list(alloc, &red).expect(&rt, "memory").as_slice(),
         [posting(1, 10, 20, 1)].as_slice()
     );
-    let green = key(&rt, alloc, "green")?;
+    let green = key(&rt, alloc, "green");
     assert_eq!(rt;
-        index.list(alloc, &green)?.as_slice(),
+        index.list(alloc, &green).expect(&rt, "memory").as_slice(),
         [posting(1, 20, NOW, 1)].as_slice()
     );
-    Ok(())
 }
 
 /// The part that the word's list has in a span is this, of a list so long.
@@ -228,16 +243,15 @@ fn expect_part(
     ends: (u64, u64),
     wanted: &[Posting],
     whole: u64,
-) -> Result<(), Fail> {
-    let span = Span::new(ends.0, ends.1).ok_or("a span")?;
-    let part = index.part_in(alloc, word, span)?;
+) {
+    let span = Span::new(ends.0, ends.1).expect(rt, "a span");
+    let part = index.part_in(alloc, word, span).expect(rt, "memory");
     assert_eq!(rt; part.rows.as_slice(), wanted);
     assert_eq!(rt; part.whole, whole);
-    Ok(())
 }
 
 #[test]
-fn a_span_has_a_part_of_a_list(rt: HostRuntime) -> Result<(), Fail> {
+fn a_span_has_a_part_of_a_list(rt: HostRuntime) {
     let alloc = rt.alloc();
     let rows = [
         (9, Some("red")),
@@ -245,21 +259,23 @@ fn a_span_has_a_part_of_a_list(rt: HostRuntime) -> Result<(), Fail> {
         (9, None),
         (9, Some("red")),
     ];
-    let red = key(&rt, alloc, "red")?;
-    let green = key(&rt, alloc, "green")?;
+    let red = key(&rt, alloc, "red");
+    let green = key(&rt, alloc, "green");
     let early = posting(9, 10, 30, 1);
     let twice = posting(3, 20, NOW, 2);
     let late = posting(9, 40, NOW, 1);
     let all = [twice, early, late];
-    for index in [committed(&rt, alloc, &rows)?, loaded(&rt, alloc, &rows)?] {
-        expect_part(&rt, alloc, &index, &red, (5, 10), &all[..0], 3)?;
-        expect_part(&rt, alloc, &index, &red, (5, 11), &all[1..2], 3)?;
-        expect_part(&rt, alloc, &index, &red, (29, 40), &all[..2], 3)?;
-        expect_part(&rt, alloc, &index, &red, (30, 31), &all[..1], 3)?;
-        expect_part(&rt, alloc, &index, &red, (29, 41), &all, 3)?;
-        expect_part(&rt, alloc, &index, &green, (5, 100), &all[..0], 0)?;
+    for index in [
+        committed(&rt, alloc, &rows).expect(&rt, "memory"),
+        loaded(&rt, alloc, &rows).expect(&rt, "memory"),
+    ] {
+        expect_part(&rt, alloc, &index, &red, (5, 10), &all[..0], 3);
+        expect_part(&rt, alloc, &index, &red, (5, 11), &all[1..2], 3);
+        expect_part(&rt, alloc, &index, &red, (29, 40), &all[..2], 3);
+        expect_part(&rt, alloc, &index, &red, (30, 31), &all[..1], 3);
+        expect_part(&rt, alloc, &index, &red, (29, 41), &all, 3);
+        expect_part(&rt, alloc, &index, &green, (5, 100), &all[..0], 0);
     }
-    Ok(())
 }
 
 const DIGITS: &[u8; 36] = b"0123456789abcdefghijklmnopqrstuvwxyz";
@@ -283,22 +299,22 @@ fn refusal(rt: &impl Abort, alloc: Global, index: &mut Index, text: &str) -> Opt
 }
 
 #[test]
-fn there_may_be_2_to_the_20_words_and_no_more(rt: HostRuntime) -> Result<(), Fail> {
+fn there_may_be_2_to_the_20_words_and_no_more(rt: HostRuntime) {
     let alloc = rt.alloc();
-    let most = distinct_words(alloc, 1 << 20)?;
-    let more = distinct_words(alloc, (1 << 20) + 1)?;
-    let most = str::from_utf8(&most).map_err(|_| "a text")?;
-    let more = str::from_utf8(&more).map_err(|_| "a text")?;
-    let mut index = Index::new(alloc)?;
+    let most = distinct_words(alloc, 1 << 20).expect(&rt, "memory");
+    let more = distinct_words(alloc, (1 << 20) + 1).expect(&rt, "memory");
+    let most = str::from_utf8(&most).expect(&rt, "a text");
+    let more = str::from_utf8(&more).expect(&rt, "a text");
+    let mut index = Index::new(alloc).expect(&rt, "memory");
     assert_eq!(rt;
         refusal(&rt, alloc, &mut index, more),
         Some(NumberError::Full)
     );
-    let time = Time::new(10).ok_or("a time")?;
+    let time = Time::new(10).expect(&rt, "a time");
     commit(&rt, alloc, &mut index, DocId(7), time, Some(most));
-    let last = key(&rt, alloc, "mh33")?;
+    let last = key(&rt, alloc, "mh33");
     assert_eq!(rt;
-        index.list(alloc, &last)?.as_slice(),
+        index.list(alloc, &last).expect(&rt, "memory").as_slice(),
         [posting(7, 10, NOW, 1)].as_slice()
     );
     assert_eq!(rt; refusal(&rt, alloc, &mut index, "MH33 0000"), None);
@@ -306,5 +322,4 @@ fn there_may_be_2_to_the_20_words_and_no_more(rt: HostRuntime) -> Result<(), Fai
         refusal(&rt, alloc, &mut index, "mh33 mh34"),
         Some(NumberError::Full)
     );
-    Ok(())
 }

@@ -5,7 +5,6 @@ ghost use Rattle.postings.specs.Lists.{IsList};
 use coalesce::coalesce;
 use postings::merge_distinct;
 use std::alloc::Global;
-use std::test::Fail;
 use time_base::{DocId, NOW, Posting, Span};
 
 /// The list of one document's postings by start, end and frequency.
@@ -29,7 +28,7 @@ fn listed(alloc: Global, parts: &[(u64, u64, u32)]) -> Option<Vec<Posting>>
 }
 
 #[test]
-fn postings_of_one_frequency_that_touch_become_one(rt: HostRuntime) -> Result<(), Fail> {
+fn postings_of_one_frequency_that_touch_become_one(rt: HostRuntime) {
     let alloc = rt.alloc();
     for (parts, joined) in [
         // three versions of one frequency
@@ -46,9 +45,8 @@ fn postings_of_one_frequency_that_touch_become_one(rt: HostRuntime) -> Result<()
         ),
         (&[], &[]),
     ] {
-        let list = listed(alloc, parts).ok_or("a list")?;
-        let wanted = listed(alloc, joined).ok_or("the coalesced list")?;
-        assert_eq!(rt; coalesce(alloc, &list)?, wanted);
+        let list = listed(alloc, parts).expect(&rt, "a list");
+        let wanted = listed(alloc, joined).expect(&rt, "the coalesced list");
+        assert_eq!(rt; coalesce(alloc, &list).expect(&rt, "memory"), wanted);
     }
-    Ok(())
 }

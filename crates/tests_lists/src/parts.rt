@@ -1,6 +1,5 @@
 //! What a list shows at a time and over a span, and lists that are merged.
 use postings::{MergeError, as_of, clip, merge_distinct, overlap};
-use std::test::Fail;
 use time_base::{DocId, NOW, Posting, Span, Time};
 
 fn posting(doc: u32, from: u64, to: u64) -> Option<Posting> {
@@ -13,37 +12,36 @@ fn posting(doc: u32, from: u64, to: u64) -> Option<Posting> {
 }
 
 #[test]
-fn a_span_holds_its_start_and_not_its_end(rt: HostRuntime) -> Result<(), Fail> {
+fn a_span_holds_its_start_and_not_its_end(rt: HostRuntime) {
     let alloc = rt.alloc();
-    let first = posting(1, 10, 20).ok_or("the posting [10, 20)")?;
-    let second = posting(1, 20, 30).ok_or("the posting [20, 30)")?;
-    let open = posting(2, 15, NOW).ok_or("the posting [15, now)")?;
+    let first = posting(1, 10, 20).expect(&rt, "the posting [10, 20)");
+    let second = posting(1, 20, 30).expect(&rt, "the posting [20, 30)");
+    let open = posting(2, 15, NOW).expect(&rt, "the posting [15, now)");
     let list = [first, second, open];
-    let t = Time::new(20).ok_or("the time 20")?;
-    let span = Span::new(12, 20).ok_or("the span [12, 20)")?;
+    let t = Time::new(20).expect(&rt, "the time 20");
+    let span = Span::new(12, 20).expect(&rt, "the span [12, 20)");
     assert_eq!(rt;
-        as_of(alloc, &list, t)?.as_slice(),
+        as_of(alloc, &list, t).expect(&rt, "memory").as_slice(),
         [second, open].as_slice()
     );
     assert_eq!(rt;
-        overlap(alloc, &list, span)?.as_slice(),
+        overlap(alloc, &list, span).expect(&rt, "memory").as_slice(),
         [first, open].as_slice()
     );
-    let cut = posting(1, 12, 20).ok_or("the posting [12, 20)")?;
-    let ended = posting(2, 15, 20).ok_or("the posting [15, 20)")?;
+    let cut = posting(1, 12, 20).expect(&rt, "the posting [12, 20)");
+    let ended = posting(2, 15, 20).expect(&rt, "the posting [15, 20)");
     assert_eq!(rt;
-        clip(alloc, &list, span)?.as_slice(),
+        clip(alloc, &list, span).expect(&rt, "memory").as_slice(),
         [cut, ended].as_slice()
     );
-    Ok(())
 }
 
 #[test]
-fn a_union_has_each_posting_once_and_no_overlap(rt: HostRuntime) -> Result<(), Fail> {
+fn a_union_has_each_posting_once_and_no_overlap(rt: HostRuntime) {
     let alloc = rt.alloc();
-    let first = posting(1, 10, 20).ok_or("the posting [10, 20)")?;
-    let second = posting(1, 20, 30).ok_or("the posting [20, 30)")?;
-    let across = posting(1, 15, 30).ok_or("the posting [15, 30)")?;
+    let first = posting(1, 10, 20).expect(&rt, "the posting [10, 20)");
+    let second = posting(1, 20, 30).expect(&rt, "the posting [20, 30)");
+    let across = posting(1, 15, 30).expect(&rt, "the posting [15, 30)");
     let touching = merge_distinct(alloc, &[first], &[second]).ok();
     assert_eq!(rt;
         touching.as_ref().map(|u| u.as_slice()),
@@ -62,5 +60,4 @@ fn a_union_has_each_posting_once_and_no_overlap(rt: HostRuntime) -> Result<(), F
             other: across
         })
     );
-    Ok(())
 }

@@ -1,7 +1,6 @@
 //! Which version is valid at a time, and what may come next.
 use std::alloc::AllocError;
 use std::process::Abort;
-use std::test::Fail;
 use time_base::{DocId, NOW, Span, TextPlace, Time};
 use version_store::{Directory, VersionRefusal};
 
@@ -36,8 +35,8 @@ fn change(
 }
 
 #[test]
-fn a_version_is_valid_from_its_time_until_the_next_ones(rt: HostRuntime) -> Result<(), Fail> {
-    let mut directory = Directory::new(rt.alloc())?;
+fn a_version_is_valid_from_its_time_until_the_next_ones(rt: HostRuntime) {
+    let mut directory = Directory::new(rt.alloc()).expect(&rt, "memory");
     assert_eq!(rt; directory.last(), None);
     for (doc, at, bytes) in [
         (7, 10, Some(1)),
@@ -47,7 +46,9 @@ fn a_version_is_valid_from_its_time_until_the_next_ones(rt: HostRuntime) -> Resu
         (7, 50, Some(4)),
         (7, 60, Some(5)),
     ] {
-        let allowed = change(&mut directory, DocId(doc), time(&rt, at), bytes)?;
+        let allowed = change(&mut directory, DocId(doc), time(&rt, at), bytes).expect(
+            &rt, "memory",
+        );
         assert_eq!(rt; allowed, Ok(()), "at {at}");
     }
     assert_eq!(rt; directory.last(), Some(time(&rt, 60)));
@@ -76,60 +77,68 @@ fn a_version_is_valid_from_its_time_until_the_next_ones(rt: HostRuntime) -> Resu
         );
     }
     assert_eq!(rt;
-        directory.alive(rt.alloc(), time(&rt, 25))?.as_slice(),
+        directory
+            .alive(rt.alloc(), time(&rt, 25))
+            .expect(&rt, "memory")
+            .as_slice(),
         [DocId(3), DocId(7)].as_slice()
     );
     assert_eq!(rt;
-        directory.alive(rt.alloc(), time(&rt, 30))?.as_slice(),
+        directory
+            .alive(rt.alloc(), time(&rt, 30))
+            .expect(&rt, "memory")
+            .as_slice(),
         [DocId(3)].as_slice()
     );
-    Ok(())
 }
 
 #[test]
-fn refuses_in_order(rt: HostRuntime) -> Result<(), Fail> {
-    let mut directory = Directory::new(rt.alloc())?;
+fn refuses_in_order(rt: HostRuntime) {
+    let mut directory = Directory::new(rt.alloc()).expect(&rt, "memory");
     let at = time(&rt, 10);
     assert_eq!(rt;
-        change(&mut directory, DocId(1), at, None)?,
+        change(&mut directory, DocId(1), at, None).expect(&rt, "memory"),
         Err(VersionRefusal::NoDocument)
     );
-    assert_eq!(rt; change(&mut directory, DocId(1), at, Some(1))?, Ok(()));
     assert_eq!(rt;
-        change(&mut directory, DocId(1), at, Some(2))?,
+        change(&mut directory, DocId(1), at, Some(1)).expect(&rt, "memory"),
+        Ok(())
+    );
+    assert_eq!(rt;
+        change(&mut directory, DocId(1), at, Some(2)).expect(&rt, "memory"),
         Err(VersionRefusal::SameTime)
     );
     assert_eq!(rt;
-        change(&mut directory, DocId(1), at, None)?,
+        change(&mut directory, DocId(1), at, None).expect(&rt, "memory"),
         Err(VersionRefusal::SameTime)
     );
     let back = VersionRefusal::TimeBack { last: at };
     assert_eq!(rt;
-        change(&mut directory, DocId(1), time(&rt, 9), Some(2))?,
+        change(&mut directory, DocId(1), time(&rt, 9), Some(2)).expect(&rt, "memory"),
         Err(back)
     );
     assert_eq!(rt;
-        change(&mut directory, DocId(2), time(&rt, 9), None)?,
+        change(&mut directory, DocId(2), time(&rt, 9), None).expect(&rt, "memory"),
         Err(back)
     );
     let later = time(&rt, 11);
-    assert_eq!(rt; change(&mut directory, DocId(1), later, None)?, Ok(()));
     assert_eq!(rt;
-        change(&mut directory, DocId(1), later, None)?,
+        change(&mut directory, DocId(1), later, None).expect(&rt, "memory"),
+        Ok(())
+    );
+    assert_eq!(rt;
+        change(&mut directory, DocId(1), later, None).expect(&rt, "memory"),
         Err(VersionRefusal::NoDocument)
     );
     assert_eq!(rt;
-        change(&mut directory, DocId(1), later, Some(2))?,
+        change(&mut directory, DocId(1), later, Some(2)).expect(&rt, "memory"),
         Err(VersionRefusal::SameTime)
     );
-    Ok(())
 }
 
 #[test]
-fn lives_go_on_over_new_versions_and_end_where_a_document_is_deleted(
-    rt: HostRuntime,
-) -> Result<(), Fail> {
-    let mut directory = Directory::new(rt.alloc())?;
+fn lives_go_on_over_new_versions_and_end_where_a_document_is_deleted(rt: HostRuntime) {
+    let mut directory = Directory::new(rt.alloc()).expect(&rt, "memory");
     for (doc, at, bytes) in [
         (7, 10, Some(1)),
         (7, 20, Some(2)),
@@ -137,7 +146,9 @@ fn lives_go_on_over_new_versions_and_end_where_a_document_is_deleted(
         (7, 30, None),
         (7, 35, Some(4)),
     ] {
-        let allowed = change(&mut directory, DocId(doc), time(&rt, at), bytes)?;
+        let allowed = change(&mut directory, DocId(doc), time(&rt, at), bytes).expect(
+            &rt, "memory",
+        );
         assert_eq!(rt; allowed, Ok(()), "at {at}");
     }
     for (from, to, wanted) in [
@@ -153,12 +164,13 @@ fn lives_go_on_over_new_versions_and_end_where_a_document_is_deleted(
         ),
         (0, 10, [].as_slice()),
     ] {
-        let span = Span::new(from, to).ok_or("a span")?;
+        let span = Span::new(from, to).expect(&rt, "a span");
         let mut lives = Vec::new(rt.alloc());
-        for life in directory.lives(rt.alloc(), span)? {
-            lives.push((life.doc.0, life.span.from, life.span.to))?;
+        for life in directory.lives(rt.alloc(), span).expect(&rt, "memory") {
+            lives
+                .push((life.doc.0, life.span.from, life.span.to))
+                .expect(&rt, "memory");
         }
         assert_eq!(rt; lives.as_slice(), wanted, "in [{from}, {to})");
     }
-    Ok(())
 }

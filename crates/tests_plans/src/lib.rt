@@ -10,6 +10,8 @@ mod choices;
 #[cfg(test)]
 mod fitting;
 #[cfg(test)]
+mod given;
+#[cfg(test)]
 mod guarantees;
 #[cfg(test)]
 mod spaces;

@@ -2,5 +2,4 @@
 
 mod brute_force;
 mod calls;
-mod given;
 mod rows;

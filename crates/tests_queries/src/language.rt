@@ -1,7 +1,8 @@
 //! Texts that are queries, texts that are none, and scores.
+use super::given::read;
 use query_lang::{Pile, Query, QueryError};
-use std::alloc::{AllocError, Global};
-use std::test::Fail;
+use std::alloc::Global;
+use std::process::Abort;
 
 /// The place at which a text shows that it is no query, of at most 4,096 bytes.
 fn refused_at(alloc: Global, text: &str) -> Option<u64> {
@@ -16,40 +17,38 @@ fn refused_at(alloc: Global, text: &str) -> Option<u64> {
 }
 
 /// The score by a query of a text with so many `red`, `blue` and `green`; None where it doesn't match.
-fn score_of(alloc: Global, text: &str, colours: [u32; 3]) -> Result<Option<u64>, AllocError> {
-    if text.len() > 4096 {
-        return Ok(None);
-    }
-    let Ok(query) = Query::read(alloc, text) else {
-        return Ok(None);
-    };
+fn score_of(rt: &impl Abort, alloc: Global, text: &str, colours: [u32; 3]) -> Option<u64> {
+    let query = read(rt, alloc, text);
     let mut counts = Vec::new(alloc);
     for word in query.words() {
-        counts.push(match word.as_str() {
+        let count = match word.as_str() {
             "red" => colours[0],
             "blue" => colours[1],
             "green" => colours[2],
             _ => 0,
-        })?;
+        };
+        counts.push(count).expect(rt, "memory");
     }
-    if counts.len() == query.words().len() && query.matches(&counts, &mut Pile::new(alloc))? {
-        Ok(Some(query.score(&counts)))
+    assert!(rt; counts.len() == query.words().len());
+    let mut pile = Pile::new(alloc);
+    if query.matches(&counts, &mut pile).expect(rt, "memory") {
+        Some(query.score(&counts))
     } else {
-        Ok(None)
+        None
     }
 }
 
 /// A text so many times.
-fn many(alloc: Global, times: usize, text: &str) -> Result<String, AllocError> {
+fn many(rt: &impl Abort, alloc: Global, times: usize, text: &str) -> String {
     let mut all = String::new(alloc);
     for _ in 0..times {
-        all.push_str(text)?;
+        all.push_str(text).expect(rt, "memory");
     }
-    Ok(all)
+    all
 }
 
 #[test]
-fn a_refusal_names_the_token_behind_the_longest_front(rt: HostRuntime) -> Result<(), Fail> {
+fn a_refusal_names_the_token_behind_the_longest_front(rt: HostRuntime) {
     for (text, at) in [
         ("", Some(0)),
         ("red or", Some(6)),
@@ -67,11 +66,10 @@ fn a_refusal_names_the_token_behind_the_longest_front(rt: HostRuntime) -> Result
     ] {
         assert_eq!(rt; refused_at(rt.alloc(), text), at, "{text}");
     }
-    Ok(())
 }
 
 #[test]
-fn sixty_four_may_be_open(rt: HostRuntime) -> Result<(), Fail> {
+fn sixty_four_may_be_open(rt: HostRuntime) {
     let alloc = rt.alloc();
     for (times, open, close, at) in [
         (64, "(", ")", None),
@@ -79,16 +77,16 @@ fn sixty_four_may_be_open(rt: HostRuntime) -> Result<(), Fail> {
         (64, "not ", "", None),
         (65, "not ", "", Some(256)),
     ] {
-        let mut text = many(alloc, times, open)?;
-        text.push_str("red")?;
-        text.push_str(many(alloc, times, close)?.as_str())?;
+        let mut text = many(&rt, alloc, times, open);
+        text.push_str("red").expect(&rt, "memory");
+        let closed = many(&rt, alloc, times, close);
+        text.push_str(closed.as_str()).expect(&rt, "memory");
         assert_eq!(rt; refused_at(alloc, text.as_str()), at, "{text}");
     }
-    Ok(())
 }
 
 #[test]
-fn a_text_matches_and_scores_by_its_tree(rt: HostRuntime) -> Result<(), Fail> {
+fn a_text_matches_and_scores_by_its_tree(rt: HostRuntime) {
     for (text, colours, score) in [
         ("red", [3, 0, 0], Some(3)),
         ("RED", [3, 0, 0], Some(3)),
@@ -106,25 +104,18 @@ fn a_text_matches_and_scores_by_its_tree(rt: HostRuntime) -> Result<(), Fail> {
         ("red or not red", [4, 0, 0], Some(4)),
         ("not not red", [4, 0, 0], Some(4)),
     ] {
-        let found = score_of(rt.alloc(), text, colours)?;
+        let found = score_of(&rt, rt.alloc(), text, colours);
         assert_eq!(rt; found, score, "{text}");
     }
-    Ok(())
 }
 
 #[test]
-fn a_long_chain_is_read(rt: HostRuntime) -> Result<(), Fail> {
+fn a_long_chain_is_read(rt: HostRuntime) {
     let alloc = rt.alloc();
-    let text = many(alloc, 1365, "a b")?;
+    let text = many(&rt, alloc, 1365, "a b");
     assert_eq!(rt; refused_at(alloc, text.as_str()), None);
-    let text = many(alloc, 2047, "a ")?;
-    let mut words = 0;
-    if text.len() <= 4096 {
-        if let Ok(query) = Query::read(alloc, text.as_str()) {
-            words = query.words().len();
-            assert!(rt; !query.matches_without_words() && query.positive().len() == 1);
-        }
-    }
-    assert_eq!(rt; words, 1);
-    Ok(())
+    let text = many(&rt, alloc, 2047, "a ");
+    let query = read(&rt, alloc, text.as_str());
+    assert!(rt; !query.matches_without_words() && query.positive().len() == 1);
+    assert_eq!(rt; query.words().len(), 1);
 }

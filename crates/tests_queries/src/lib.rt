@@ -6,6 +6,8 @@
 #[cfg(test)]
 mod answers;
 #[cfg(test)]
+mod given;
+#[cfg(test)]
 mod language;
 #[cfg(test)]
 mod trees;

@@ -1,9 +1,13 @@
 //! Random queries over random lists and lives, beside a look at each document and each second.
+ghost use Rattle.std.specs.Prelude.{◌≡◌, length};
+ghost use Rattle.query_lang.specs.Meaning.{words_of};
+
+use super::given::read;
 use query_eval::{Part, answer_from, answer_over};
 use query_lang::Query;
 use std::alloc::{AllocError, Global};
+use std::process::Abort;
 use std::string::String;
-use std::test::Fail;
 use stretches::Life;
 use time_base::{DocId, Posting, Span, Time};
 
@@ -80,12 +84,12 @@ fn name(word: u32) -> &'static str {
 }
 
 /// A query of at most seven parts; the last is the whole.
-fn random_query(alloc: Global, numbers: &mut Numbers) -> Result<Vec<Node>, AllocError> {
+fn random_query(rt: &impl Abort, alloc: Global, numbers: &mut Numbers) -> Vec<Node> {
     let mut nodes = Vec::new(alloc);
     for before in 0..numbers.below(7).saturating_add(1) {
-        nodes.push(numbers.node(before))?;
+        nodes.push(numbers.node(before)).expect(rt, "memory");
     }
-    Ok(nodes)
+    nodes
 }
 
 fn part_of(texts: &[String], place: usize) -> &str {
@@ -208,12 +212,12 @@ impl World {
     }
 
     /// One with random lives and postings, which may overlap.
-    fn random(alloc: Global, numbers: &mut Numbers) -> Result<World, AllocError> {
+    fn random(rt: &impl Abort, alloc: Global, numbers: &mut Numbers) -> World {
         let mut world = World::new(alloc);
         for _ in 0..numbers.below(7) {
             let doc = DocId(numbers.below(DOCS));
             if let Some(span) = numbers.span() {
-                world.lives.push(Life { doc, span })?;
+                world.lives.push(Life { doc, span }).expect(rt, "memory");
             }
         }
         for _ in 0..numbers.below(16) {
@@ -221,10 +225,11 @@ impl World {
             let tf = numbers.below(3).saturating_add(1);
             let word = numbers.below(3);
             if let Some(span) = numbers.span() {
-                world.list_mut(word).push(Posting { doc, span, tf })?;
+                let list = world.list_mut(word);
+                list.push(Posting { doc, span, tf }).expect(rt, "memory");
             }
         }
-        Ok(world)
+        world
     }
 
     fn list_mut(&mut self, word: u32) -> &mut Vec<Posting> {
@@ -289,13 +294,16 @@ impl World {
     }
 
     /// The parts of the lists of a query's words.
-    fn parts(&self, alloc: Global, query: &Query) -> Result<Vec<Part>, AllocError> {
+    fn parts(&self, rt: &impl Abort, alloc: Global, query: &Query) -> Vec<Part>
+        ensures { length result.items ≡ length (words_of query.now) }
+    {
         let mut parts = Vec::new(alloc);
         for word in query.words() {
-            let list = Vec::from_slice(alloc, self.list(word.as_str()))?;
-            parts.push(Part { list, read: 3 })?;
+            let list = Vec::from_slice(alloc, self.list(word.as_str())).expect(rt, "memory");
+            parts.push(Part { list, read: 3 }).expect(rt, "memory");
         }
-        Ok(parts)
+        assert!(rt; parts.len() == query.words().len());
+        parts
     }
 
     /// The rows at a second, by a look at each document.
@@ -347,65 +355,98 @@ impl World {
     }
 }
 
-#[test]
-fn answers_are_those_of_a_look_at_each_document(rt: HostRuntime) -> Result<(), Fail> {
-    let alloc = rt.alloc();
-    let mut numbers = Numbers { state: 2007 };
-    for _ in 0..300 {
-        let nodes = random_query(alloc, &mut numbers)?;
-        let world = World::random(alloc, &mut numbers)?;
-        let text = text_of(alloc, &nodes)?;
-        if text.len() > 4096 {
-            return Err("a shorter query".into());
-        }
-        let query = Query::read(alloc, text.as_str()).ok().ok_or("a query")?;
-        let parts = world.parts(alloc, &query)?;
-        if parts.len() != query.words().len() {
-            return Err("a part for each word".into());
-        }
-        for second in 0..END {
-            let t = Time::new(second).ok_or("a time")?;
-            let mut alive = Vec::new(alloc);
-            for doc in 0..DOCS {
-                if world.is_alive(doc, second) {
-                    alive.push(DocId(doc))?;
-                }
-            }
-            let mut rows = Vec::new(alloc);
-            for row in answer_from(alloc, &query, t, &parts, &alive)?.rows {
-                rows.push((row.doc.0, row.score))?;
-            }
-            let wanted = world.looked_at(alloc, &nodes, second)?;
-            assert_eq!(rt; rows.as_slice(), wanted.as_slice(), "{text} at {second}");
+/// A query in parts and as a text, and the world that it is asked of.
+#[derive(Drop)]
+struct Case {
+    nodes: Vec<Node>,
+    world: World,
+    text: String,
+}
+
+impl Case {
+    fn random(rt: &impl Abort, alloc: Global, numbers: &mut Numbers) -> Case {
+        let nodes = random_query(rt, alloc, numbers);
+        let world = World::random(rt, alloc, numbers);
+        let text = text_of(alloc, &nodes).expect(rt, "memory");
+        Case { nodes, world, text }
+    }
+}
+
+/// The documents and scores that answer a query at a second.
+fn answered_at(
+    rt: &impl Abort,
+    alloc: Global,
+    query: &Query,
+    parts: &[Part],
+    world: &World,
+    second: u64,
+) -> Vec<(u32, u64)>
+    requires { length parts.now ≡ length (words_of query.now) }
+{
+    let t = Time::new(second).expect(rt, "a time");
+    let mut alive = Vec::new(alloc);
+    for doc in 0..DOCS {
+        if world.is_alive(doc, second) {
+            alive.push(DocId(doc)).expect(rt, "memory");
         }
     }
-    Ok(())
+    let answer = answer_from(alloc, query, t, parts, &alive).expect(rt, "memory");
+    let mut rows = Vec::new(alloc);
+    for row in answer.rows {
+        rows.push((row.doc.0, row.score)).expect(rt, "memory");
+    }
+    rows
 }
 
 #[test]
-fn windows_are_those_of_a_look_at_each_second(rt: HostRuntime) -> Result<(), Fail> {
+fn answers_are_those_of_a_look_at_each_document(rt: HostRuntime) {
+    let alloc = rt.alloc();
+    let mut numbers = Numbers { state: 2007 };
+    for _ in 0..300 {
+        let Case { nodes, world, text } = Case::random(&rt, alloc, &mut numbers);
+        let query = read(&rt, alloc, text.as_str());
+        let parts = world.parts(&rt, alloc, &query);
+        for second in 0..END {
+            let rows = answered_at(&rt, alloc, &query, &parts, &world, second);
+            let wanted = world.looked_at(alloc, &nodes, second).expect(&rt, "memory");
+            assert_eq!(rt; rows.as_slice(), wanted.as_slice(), "{text} at {second}");
+        }
+    }
+}
+
+/// The documents, spans and scores that answer a query over a window.
+fn answered_over(
+    rt: &impl Abort,
+    alloc: Global,
+    query: &Query,
+    parts: &[Part],
+    world: &World,
+    span: Span,
+) -> Vec<(u32, u64, u64, u64)>
+    requires { length parts.now ≡ length (words_of query.now) }
+{
+    let answer = answer_over(alloc, query, span, parts, &world.lives).expect(rt, "memory");
+    let mut rows = Vec::new(alloc);
+    for row in answer.rows {
+        rows.push((row.doc.0, row.span.from, row.span.to, row.score))
+            .expect(rt, "memory");
+    }
+    rows
+}
+
+#[test]
+fn windows_are_those_of_a_look_at_each_second(rt: HostRuntime) {
     let alloc = rt.alloc();
     let mut numbers = Numbers { state: 1997 };
     for _ in 0..300 {
-        let nodes = random_query(alloc, &mut numbers)?;
-        let world = World::random(alloc, &mut numbers)?;
-        let text = text_of(alloc, &nodes)?;
-        if text.len() > 4096 {
-            return Err("a shorter query".into());
-        }
-        let query = Query::read(alloc, text.as_str()).ok().ok_or("a query")?;
-        let parts = world.parts(alloc, &query)?;
-        if parts.len() != query.words().len() {
-            return Err("a part for each word".into());
-        }
+        let Case { nodes, world, text } = Case::random(&rt, alloc, &mut numbers);
+        let query = read(&rt, alloc, text.as_str());
+        let parts = world.parts(&rt, alloc, &query);
         for from in 0..END {
             for to in from.saturating_add(1)..END {
-                let span = Span::new(from, to).ok_or("a window")?;
-                let mut rows = Vec::new(alloc);
-                for row in answer_over(alloc, &query, span, &parts, &world.lives)?.rows {
-                    rows.push((row.doc.0, row.span.from, row.span.to, row.score))?;
-                }
-                let wanted = world.looked_over(alloc, &nodes, span)?;
+                let span = Span::new(from, to).expect(&rt, "a window");
+                let rows = answered_over(&rt, alloc, &query, &parts, &world, span);
+                let wanted = world.looked_over(alloc, &nodes, span).expect(&rt, "memory");
                 assert_eq!(rt;
                     rows.as_slice(),
                     wanted.as_slice(),
@@ -414,5 +455,4 @@ fn windows_are_those_of_a_look_at_each_second(rt: HostRuntime) -> Result<(), Fai
             }
         }
     }
-    Ok(())
 }

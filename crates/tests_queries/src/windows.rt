@@ -1,36 +1,22 @@
 //! The answer to a query over a window.
 ghost use Rattle.std.specs.Prelude.{[]};
 
-use query_eval::{EvalError, Lists, Part, SpanRow, answer_between, answer_over};
-use query_lang::Query;
+use super::given::{listed, read};
+use query_eval::{Lists, Part, SpanRow, answer_between, answer_over};
 use std::alloc::{AllocError, Global};
-use std::test::Fail;
+use std::process::Abort;
 use stretches::Life;
 use time_base::{DocId, Key, NOW, Posting, Span, Time};
 
-fn life(doc: u32, from: u64, to: u64) -> Option<Life> {
-    let span = Span::new(from, to)?;
-    Some(Life {
+fn life(rt: &impl Abort, doc: u32, from: u64, to: u64) -> Life {
+    Life {
         doc: DocId(doc),
-        span,
-    })
-}
-
-fn posting(doc: u32, from: u64, to: u64, tf: u32) -> Option<Posting> {
-    let span = Span::new(from, to)?;
-    if tf == 0 {
-        return None;
+        span: Span::new(from, to).expect(rt, "a span"),
     }
-    Some(Posting {
-        doc: DocId(doc),
-        span,
-        tf,
-    })
 }
 
 /// The list of a word: red or blue.
-fn list_of(alloc: Global, word: &str) -> Result<Vec<Posting>, AllocError> {
-    let mut list = Vec::new(alloc);
+fn list_of(rt: &impl Abort, alloc: Global, word: &str) -> Vec<Posting> {
     let red = [
         (1, 10, 20, 2),
         (1, 20, 30, 1),
@@ -43,52 +29,53 @@ fn list_of(alloc: Global, word: &str) -> Result<Vec<Posting>, AllocError> {
         (4, 10, 20, 1),
         (4, 20, 30, 1),
     ];
-    for (doc, from, to, tf) in if word == "red" { red } else { blue } {
-        if let Some(posting) = posting(doc, from, to, tf) {
-            list.push(posting)?;
-        }
-    }
-    Ok(list)
+    listed(rt, alloc, if word == "red" { &red } else { &blue })
 }
 
-/// What a query finds in a window; none where the text is no query or the window is empty.
+/// What a query finds in a window.
 fn found(
+    rt: &impl Abort,
     alloc: Global,
     text: &str,
     from: u64,
     to: u64,
     lives: &[Life],
-    red: &[Posting],
-    blue: &[Posting],
-) -> Result<Vec<SpanRow>, AllocError> {
-    if text.len() > 4096 {
-        return Ok(Vec::new(alloc));
-    }
-    let (Ok(query), Some(span)) = (Query::read(alloc, text), Span::new(from, to)) else {
-        return Ok(Vec::new(alloc));
-    };
+) -> Vec<SpanRow> {
+    let query = read(rt, alloc, text);
+    let span = Span::new(from, to).expect(rt, "a window");
     let mut parts = Vec::new(alloc);
     for word in query.words() {
-        let mut list = Vec::new(alloc);
-        list.extend_from_slice(if word.as_str() == "red" { red } else { blue })?;
-        parts.push(Part { list, read: 3 })?;
+        let list = list_of(rt, alloc, word.as_str());
+        parts.push(Part { list, read: 3 }).expect(rt, "memory");
     }
-    if parts.len() != query.words().len() {
-        return Ok(Vec::new(alloc));
+    assert!(rt; parts.len() == query.words().len());
+    let answer = answer_over(alloc, &query, span, &parts, lives).expect(rt, "memory");
+    answer.rows
+}
+
+/// The rows of these documents, spans and scores.
+fn rows_of(rt: &impl Abort, alloc: Global, wanted: &[(u32, u64, u64, u64)]) -> Vec<SpanRow> {
+    let mut rows = Vec::new(alloc);
+    for (doc, from, to, score) in wanted {
+        let row = SpanRow {
+            doc: DocId(*doc),
+            span: Span::new(*from, *to).expect(rt, "a span"),
+            score: *score,
+        };
+        rows.push(row).expect(rt, "memory");
     }
-    let answer = answer_over(alloc, &query, span, &parts, lives)?;
-    Ok(answer.rows)
+    rows
 }
 
 #[test]
-fn rows_are_the_longest_spans_of_one_score(rt: HostRuntime) -> Result<(), Fail> {
+fn rows_are_the_longest_spans_of_one_score(rt: HostRuntime) {
     let alloc = rt.alloc();
-    let red = list_of(alloc, "red")?;
-    let blue = list_of(alloc, "blue")?;
-    let mut lives = Vec::new(alloc);
-    for (doc, from, to) in [(3, 10, NOW), (2, 30, NOW), (1, 10, 40), (2, 10, 20)] {
-        lives.push(life(doc, from, to).ok_or("a life")?)?;
-    }
+    let lives = [
+        life(&rt, 3, 10, NOW),
+        life(&rt, 2, 30, NOW),
+        life(&rt, 1, 10, 40),
+        life(&rt, 2, 10, 20),
+    ];
     for (text, from, to, wanted) in [
         (
             "red",
@@ -160,23 +147,14 @@ fn rows_are_the_longest_spans_of_one_score(rt: HostRuntime) -> Result<(), Fail> 
             .as_slice(),
         ),
     ] {
-        let mut rows = Vec::new(alloc);
-        for (doc, from, to, score) in wanted {
-            let span = Span::new(*from, *to).ok_or("a span")?;
-            rows.push(SpanRow {
-                doc: DocId(*doc),
-                span,
-                score: *score,
-            })?;
-        }
-        let answer = found(alloc, text, from, to, &lives, &red, &blue)?;
+        let rows = rows_of(&rt, alloc, wanted);
+        let answer = found(&rt, alloc, text, from, to, &lives);
         assert_eq!(rt;
             answer.as_slice(),
             rows.as_slice(),
             "{text} in [{from}, {to})"
         );
     }
-    Ok(())
 }
 
 /// Lists in which document 1 has each word twice at each time that is asked for.
@@ -198,9 +176,13 @@ impl Lists for Everywhere {
 
     fn at(&mut self, _word: &Key, t: Time) -> Result<Part, AllocError> {
         let mut list = Vec::new(self.alloc);
-        if let Some(posting) = posting(1, t.seconds, t.seconds.saturating_add(1), 2) {
-            if posting.span.holds(t) {
-                list.push(posting)?;
+        if let Some(span) = Span::new(t.seconds, t.seconds.saturating_add(1)) {
+            if span.holds(t) {
+                list.push(Posting {
+                    doc: DocId(1),
+                    span,
+                    tf: 2,
+                })?;
             }
         }
         Ok(Part { list, read: 1 })
@@ -218,24 +200,16 @@ impl Lists for Everywhere {
 }
 
 #[test]
-fn lists_are_asked_for_each_word(rt: HostRuntime) -> Result<(), Fail> {
+fn lists_are_asked_for_each_word(rt: HostRuntime) {
     let alloc = rt.alloc();
-    let query = Query::read(alloc, "red blue").ok().ok_or("a query")?;
-    let span = Span::new(5, 30).ok_or("a span")?;
-    let lives = [life(1, 10, 20).ok_or("a life")?];
+    let query = read(&rt, alloc, "red blue");
+    let span = Span::new(5, 30).expect(&rt, "a span");
+    let lives = [life(&rt, 1, 10, 20)];
     let mut lists = Everywhere { alloc };
-    let answer = match answer_between(alloc, &query, span, &mut lists, &lives) {
-        Ok(answer) => answer,
-        Err(EvalError::Lists(e)) => return Err(e.into()),
-        Err(EvalError::Memory) => return Err("no memory".into()),
-    };
+    let answer = answer_between(alloc, &query, span, &mut lists, &lives)
+        .ok()
+        .expect(&rt, "an answer");
     assert_eq!(rt; answer.read, 2);
-    let alive = Span::new(10, 20).ok_or("a span")?;
-    let row = SpanRow {
-        doc: DocId(1),
-        span: alive,
-        score: 4,
-    };
-    assert_eq!(rt; answer.rows.as_slice(), [row].as_slice());
-    Ok(())
+    let rows = rows_of(&rt, alloc, &[(1, 10, 20, 4)]);
+    assert_eq!(rt; answer.rows.as_slice(), rows.as_slice());
 }

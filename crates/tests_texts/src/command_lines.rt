@@ -1,7 +1,7 @@
 //! Words of a command line that ask for something, and words that do not.
 use program_words::{SampleNumbers, Task, WordsError, read_words};
 use std::alloc::{AllocError, Global};
-use std::test::Fail;
+use std::process::Abort;
 
 /// The words between the spaces of a line.
 fn words_of(alloc: Global, line: &str) -> Result<Vec<String>, AllocError> {
@@ -13,28 +13,30 @@ fn words_of(alloc: Global, line: &str) -> Result<Vec<String>, AllocError> {
 }
 
 /// The numbers of the sample that the words of a line ask for; None where they are refused.
-fn sample_in(alloc: Global, line: &str) -> Result<Option<(u64, u32)>, Fail> {
-    match read_words(alloc, &words_of(alloc, line)?) {
-        Ok(Task::Generate(SampleNumbers { seed, count })) => Ok(Some((seed, count))),
-        Ok(Task::Script) => Err("no option is given")?,
-        Err(WordsError::Refused) => Ok(None),
-        Err(WordsError::Memory) => Err("no memory")?,
+fn sample_in(rt: &impl Abort, alloc: Global, line: &str) -> Option<(u64, u32)> {
+    let words = words_of(alloc, line).expect(rt, "memory");
+    match read_words(alloc, &words) {
+        Ok(Task::Generate(SampleNumbers { seed, count })) => Some((seed, count)),
+        Err(WordsError::Refused) => None,
+        other => {
+            assert!(rt; false, "{other:?}");
+            None
+        }
     }
 }
 
 #[test]
-fn no_option_asks_for_the_script(rt: HostRuntime) -> Result<(), Fail> {
+fn no_option_asks_for_the_script(rt: HostRuntime) {
     let alloc = rt.alloc();
     assert_eq!(rt; read_words(alloc, &[]), Ok(Task::Script));
     assert_eq!(rt;
-        read_words(alloc, &words_of(alloc, "--")?),
+        read_words(alloc, &words_of(alloc, "--").expect(&rt, "memory")),
         Ok(Task::Script)
     );
-    Ok(())
 }
 
 #[test]
-fn both_options_ask_for_a_sample(rt: HostRuntime) -> Result<(), Fail> {
+fn both_options_ask_for_a_sample(rt: HostRuntime) {
     for (line, sample) in [
         ("--generate 0 --count 2", (0, 2)),
         ("--count 2 --generate 0", (0, 2)),
@@ -48,13 +50,12 @@ fn both_options_ask_for_a_sample(rt: HostRuntime) -> Result<(), Fail> {
         ),
         ("--generate 0 --count 2 --", (0, 2)),
     ] {
-        assert_eq!(rt; sample_in(rt.alloc(), line)?, Some(sample), "{line}");
+        assert_eq!(rt; sample_in(&rt, rt.alloc(), line), Some(sample), "{line}");
     }
-    Ok(())
 }
 
 #[test]
-fn other_words_are_refused(rt: HostRuntime) -> Result<(), Fail> {
+fn other_words_are_refused(rt: HostRuntime) {
     for line in [
         "--generate",
         "--count",
@@ -96,7 +97,6 @@ fn other_words_are_refused(rt: HostRuntime) -> Result<(), Fail> {
         "--Generate 0 --count 2",
         "--verbose",
     ] {
-        assert_eq!(rt; sample_in(rt.alloc(), line)?, None, "{line}");
+        assert_eq!(rt; sample_in(&rt, rt.alloc(), line), None, "{line}");
     }
-    Ok(())
 }

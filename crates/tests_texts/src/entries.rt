@@ -3,7 +3,6 @@ use record_codec::{
     CodecError, Entry, VersionText, decode, encode, encode_arrival, encode_deletion,
 };
 use std::alloc::{AllocError, Global};
-use std::test::Fail;
 use time_base::{DocId, Time};
 
 /// Document 7 arrives at time 10 with the text `red a`.
@@ -15,15 +14,15 @@ const ARRIVAL: [u8; 18] = [
 const DELETION: [u8; 13] = [2, 0, 0, 0, 7, 0, 0, 0, 255, 255, 255, 255, 255];
 
 #[test]
-fn an_arrival_has_eighteen_bytes(rt: HostRuntime) -> Result<(), Fail> {
-    let at = Time::new(10).ok_or("a time")?;
+fn an_arrival_has_eighteen_bytes(rt: HostRuntime) {
+    let at = Time::new(10).expect(&rt, "a time");
     let doc = DocId(7);
-    let spelled = encode_arrival(rt.alloc(), doc, at, "red a")?;
+    let spelled = encode_arrival(rt.alloc(), doc, at, "red a").expect(&rt, "memory");
     assert_eq!(rt; spelled.as_slice(), ARRIVAL.as_slice());
-    let text = VersionText::new(String::from_str(rt.alloc(), "red a")?);
-    let spelled = encode(rt.alloc(), &Entry::Arrive { doc, at, text })?;
+    let text = VersionText::new(String::from_str(rt.alloc(), "red a").expect(&rt, "memory"));
+    let spelled = encode(rt.alloc(), &Entry::Arrive { doc, at, text }).expect(&rt, "memory");
     assert_eq!(rt; spelled.as_slice(), ARRIVAL.as_slice());
-    match decode(rt.alloc(), &ARRIVAL)? {
+    match decode(rt.alloc(), &ARRIVAL).expect(&rt, "memory") {
         Entry::Arrive { doc, at, text } => {
             assert_eq!(rt; doc.0, 7);
             assert_eq!(rt; at.seconds(), 10);
@@ -32,22 +31,20 @@ fn an_arrival_has_eighteen_bytes(rt: HostRuntime) -> Result<(), Fail> {
         Entry::Delete { .. } => assert!(rt; false, "a deletion was read"),
         Entry::Planned(_) => assert!(rt; false, "a plan was read"),
     }
-    Ok(())
 }
 
 #[test]
-fn a_deletion_has_thirteen_bytes(rt: HostRuntime) -> Result<(), Fail> {
-    match decode(rt.alloc(), &DELETION)? {
+fn a_deletion_has_thirteen_bytes(rt: HostRuntime) {
+    match decode(rt.alloc(), &DELETION).expect(&rt, "memory") {
         Entry::Delete { doc, at } => {
             assert_eq!(rt; doc.0, 7);
             assert_eq!(rt; at.seconds(), 1_099_511_627_775);
-            let spelled = encode_deletion(rt.alloc(), doc, at)?;
+            let spelled = encode_deletion(rt.alloc(), doc, at).expect(&rt, "memory");
             assert_eq!(rt; spelled.as_slice(), DELETION.as_slice());
         }
         Entry::Arrive { .. } => assert!(rt; false, "an arrival was read"),
         Entry::Planned(_) => assert!(rt; false, "a plan was read"),
     }
-    Ok(())
 }
 
 #[test]
@@ -94,14 +91,13 @@ fn long_arrival(alloc: Global, text_bytes: u32) -> Result<Vec<u8>, AllocError> {
 }
 
 #[test]
-fn a_text_has_at_most_four_mebibytes(rt: HostRuntime) -> Result<(), Fail> {
+fn a_text_has_at_most_four_mebibytes(rt: HostRuntime) {
     for (text_bytes, at) in [(4_194_304, None), (4_194_305, Some(13))] {
-        let body = long_arrival(rt.alloc(), text_bytes)?;
+        let body = long_arrival(rt.alloc(), text_bytes).expect(&rt, "memory");
         let named = match decode(rt.alloc(), &body) {
             Err(CodecError::Form { at }) => Some(at),
             _ => None,
         };
         assert_eq!(rt; named, at, "a text of {text_bytes} bytes");
     }
-    Ok(())
 }

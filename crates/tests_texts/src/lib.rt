@@ -10,6 +10,8 @@ mod command_lines;
 #[cfg(test)]
 mod entries;
 #[cfg(test)]
+mod in_words;
+#[cfg(test)]
 mod plan_entries;
 #[cfg(test)]
 mod replies;

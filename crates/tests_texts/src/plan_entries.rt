@@ -1,29 +1,9 @@
 //! Stored plans as bytes, and bytes that spell none.
 use commands::Kind;
 use record_codec::{CodecError, Entry, Layout, Places, decode, encode, encode_plan};
-use std::alloc::{AllocError, Global};
+use std::alloc::Global;
+use std::process::Abort;
 use std::test::Fail;
-
-/// The bytes that hexadecimal digits spell.
-fn bytes_of(alloc: Global, digits: &str) -> Result<Vec<u8>, AllocError> {
-    let mut bytes = Vec::new(alloc);
-    let mut high = None;
-    for digit in digits.bytes() {
-        let value = if digit >= b'a' {
-            digit.saturating_sub(87)
-        } else {
-            digit.saturating_sub(48)
-        };
-        match high {
-            None => high = Some(value % 16),
-            Some(first) => {
-                bytes.push(first.wrapping_mul(16).wrapping_add(value % 16))?;
-                high = None;
-            }
-        }
-    }
-    Ok(bytes)
-}
 
 /// A plan of the word `v`: guarantee 1/1, horizon 40, cuts 10, 20 and 30, in blocks of 18, 22 and 18
 /// bytes.
@@ -49,13 +29,13 @@ const FROM_A_TIME_ON: [&str; 2] = [
 ];
 
 /// The bytes of a plan in parts.
-fn joined(alloc: Global, parts: &[&str]) -> Result<Vec<u8>, AllocError> {
+fn joined(rt: &impl Abort, alloc: Global, parts: &[&str]) -> Vec<u8> {
     let mut bytes = Vec::new(alloc);
     for part in parts {
-        let more = bytes_of(alloc, part)?;
-        bytes.extend_from_slice(&more)?;
+        let more = hex::decode(alloc, *part).expect(rt, "bytes");
+        bytes.extend_from_slice(&more).expect(rt, "memory");
     }
-    Ok(bytes)
+    bytes
 }
 
 /// The place that a reading names.
@@ -68,7 +48,7 @@ fn named(read: Result<Entry, CodecError>) -> Option<u64> {
 
 #[test]
 fn a_plan_in_blocks_has_a_hundred_and_eighty_one_bytes(rt: HostRuntime) -> Result<(), Fail> {
-    let body = joined(rt.alloc(), &IN_BLOCKS)?;
+    let body = joined(&rt, rt.alloc(), &IN_BLOCKS);
     assert_eq!(rt; body.len(), 181);
     let Entry::Planned(plan) = decode(rt.alloc(), &body)? else {
         return Err(Fail::from("no plan was read"));
@@ -80,42 +60,44 @@ fn a_plan_in_blocks_has_a_hundred_and_eighty_one_bytes(rt: HostRuntime) -> Resul
     assert_eq!(rt; plan.horizon.seconds(), 40);
     let mut cuts = Vec::new(rt.alloc());
     for cut in plan.cuts.as_slice() {
-        cuts.push(cut.seconds())?;
+        cuts.push(cut.seconds()).expect(&rt, "memory");
     }
     assert_eq!(rt; cuts.as_slice(), [10, 20, 30].as_slice());
     let mut places = Vec::new(rt.alloc());
     for place in plan.places.as_slice() {
-        places.push((place.extent.first, place.extent.bytes, place.digest[31]))?;
+        places
+            .push((place.extent.first, place.extent.bytes, place.digest[31]))
+            .expect(&rt, "memory");
     }
     assert_eq!(rt;
         places.as_slice(),
         [(0, 18, 161), (1, 22, 178), (2, 18, 195)].as_slice()
     );
-    let spelled = encode_plan(rt.alloc(), &plan)?;
+    let spelled = encode_plan(rt.alloc(), &plan).expect(&rt, "memory");
     assert_eq!(rt; spelled.as_slice(), body.as_slice());
     Ok(())
 }
 
 #[test]
 fn a_plan_of_an_archive_with_flat_lists_is_read(rt: HostRuntime) -> Result<(), Fail> {
-    let body = joined(rt.alloc(), &WITH_FLAT_LISTS)?;
+    let body = joined(&rt, rt.alloc(), &WITH_FLAT_LISTS);
     let Entry::Planned(plan) = decode(rt.alloc(), &body)? else {
         return Err(Fail::from("no plan was read"));
     };
     assert!(rt; plan.layout == Layout::Flat);
     let mut lengths = Vec::new(rt.alloc());
     for place in plan.places.as_slice() {
-        lengths.push(place.extent.bytes)?;
+        lengths.push(place.extent.bytes).expect(&rt, "memory");
     }
     assert_eq!(rt; lengths.as_slice(), [24, 48, 24].as_slice());
-    let spelled = encode(rt.alloc(), &Entry::Planned(plan))?;
+    let spelled = encode(rt.alloc(), &Entry::Planned(plan)).expect(&rt, "memory");
     assert_eq!(rt; spelled.as_slice(), body.as_slice());
     Ok(())
 }
 
 #[test]
 fn a_plan_since_a_time_has_eight_bytes_more(rt: HostRuntime) -> Result<(), Fail> {
-    let body = joined(rt.alloc(), &FROM_A_TIME_ON)?;
+    let body = joined(&rt, rt.alloc(), &FROM_A_TIME_ON);
     assert_eq!(rt; body.len(), 85);
     let Entry::Planned(plan) = decode(rt.alloc(), &body)? else {
         return Err(Fail::from("no plan was read"));
@@ -126,7 +108,7 @@ fn a_plan_since_a_time_has_eight_bytes_more(rt: HostRuntime) -> Result<(), Fail>
     };
     assert_eq!(rt; since, Some(5));
     assert_eq!(rt; (plan.fraction.over(), plan.fraction.under()), (3, 2));
-    let spelled = encode(rt.alloc(), &Entry::Planned(plan))?;
+    let spelled = encode(rt.alloc(), &Entry::Planned(plan)).expect(&rt, "memory");
     assert_eq!(rt; spelled.as_slice(), body.as_slice());
     Ok(())
 }
@@ -175,10 +157,10 @@ const FAULTS: [(usize, u8, u64); 30] = [
 ];
 
 #[test]
-fn the_first_wrong_field_of_a_plan_is_named(rt: HostRuntime) -> Result<(), Fail> {
-    let body = joined(rt.alloc(), &IN_BLOCKS)?;
+fn the_first_wrong_field_of_a_plan_is_named(rt: HostRuntime) {
+    let body = joined(&rt, rt.alloc(), &IN_BLOCKS);
     for (place, byte, at) in FAULTS {
-        let mut changed = Vec::from_slice(rt.alloc(), &body)?;
+        let mut changed = Vec::from_slice(rt.alloc(), &body).expect(&rt, "memory");
         if let Some(old) = changed.get_mut(place) {
             *old = byte;
         }
@@ -188,7 +170,6 @@ fn the_first_wrong_field_of_a_plan_is_named(rt: HostRuntime) -> Result<(), Fail>
             "byte {place} as {byte}"
         );
     }
-    Ok(())
 }
 
 /// Where the fields of the plan in blocks begin.
@@ -197,8 +178,8 @@ const FIELDS: [u64; 21] = [
 ];
 
 #[test]
-fn a_field_of_a_plan_that_is_cut_short_is_named(rt: HostRuntime) -> Result<(), Fail> {
-    let body = joined(rt.alloc(), &IN_BLOCKS)?;
+fn a_field_of_a_plan_that_is_cut_short_is_named(rt: HostRuntime) {
+    let body = joined(&rt, rt.alloc(), &IN_BLOCKS);
     for len in 0..body.len() {
         let mut at = 0;
         for field in FIELDS {
@@ -206,17 +187,15 @@ fn a_field_of_a_plan_that_is_cut_short_is_named(rt: HostRuntime) -> Result<(), F
                 at = field;
             }
         }
-        let mut short = Vec::from_slice(rt.alloc(), &body)?;
+        let mut short = Vec::from_slice(rt.alloc(), &body).expect(&rt, "memory");
         short.truncate(len);
         assert_eq!(rt; named(decode(rt.alloc(), &short)), Some(at), "{len} bytes");
     }
-    Ok(())
 }
 
 #[test]
-fn a_byte_behind_a_plan_is_named(rt: HostRuntime) -> Result<(), Fail> {
-    let mut body = joined(rt.alloc(), &IN_BLOCKS)?;
-    body.push(0)?;
+fn a_byte_behind_a_plan_is_named(rt: HostRuntime) {
+    let mut body = joined(&rt, rt.alloc(), &IN_BLOCKS);
+    body.push(0).expect(&rt, "memory");
     assert_eq!(rt; named(decode(rt.alloc(), &body)), Some(181));
-    Ok(())
 }

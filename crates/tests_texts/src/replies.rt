@@ -3,24 +3,24 @@ use archive_replies::{ReplyPage, Summary, Tally};
 use archive_state::{Refusal, Verdict};
 use proposals::{Node, Segment};
 use query_eval::{Row, SpanRow};
-use std::test::Fail;
+use std::alloc::Global;
+use std::process::Abort;
 use time_base::{DocId, Key, Span, Time, Which};
 
 #[test]
-fn accepted_commands_are_answered_by_the_number_of_entries(rt: HostRuntime) -> Result<(), Fail> {
-    let mut page = ReplyPage::new(rt.alloc())?;
+fn accepted_commands_are_answered_by_the_number_of_entries(rt: HostRuntime) {
+    let mut page = ReplyPage::new(rt.alloc()).expect(&rt, "memory");
     assert_eq!(rt; page.as_bytes(), "".as_bytes());
     page.accepted(4194304);
     assert_eq!(rt; page.as_bytes(), "ok 4194304\n".as_bytes());
     page.accepted(1);
     assert_eq!(rt; page.as_bytes(), "ok 1\n".as_bytes());
-    Ok(())
 }
 
 #[test]
-fn refusals_are_answered_by_number_name_and_detail(rt: HostRuntime) -> Result<(), Fail> {
-    let mut page = ReplyPage::new(rt.alloc())?;
-    let last = Time::new(10).ok_or("a time of 10 seconds")?;
+fn refusals_are_answered_by_number_name_and_detail(rt: HostRuntime) {
+    let mut page = ReplyPage::new(rt.alloc()).expect(&rt, "memory");
+    let last = Time::new(10).expect(&rt, "a time of 10 seconds");
     for (refusal, text) in [
         (Refusal::Line, "no 1 Line\n"),
         (Refusal::TimeBack { last }, "no 2 TimeBack 10\n"),
@@ -49,7 +49,6 @@ fn refusals_are_answered_by_number_name_and_detail(rt: HostRuntime) -> Result<()
         page.refused(refusal);
         assert_eq!(rt; page.as_bytes(), text.as_bytes());
     }
-    Ok(())
 }
 
 fn full(which: Which) -> Refusal {
@@ -58,18 +57,18 @@ fn full(which: Which) -> Refusal {
 }
 
 #[test]
-fn answers_are_a_line_a_row_and_an_end(rt: HostRuntime) -> Result<(), Fail> {
-    let mut page = ReplyPage::new(rt.alloc())?;
-    page.found(&[row(7, 1)], 1)?;
+fn answers_are_a_line_a_row_and_an_end(rt: HostRuntime) {
+    let mut page = ReplyPage::new(rt.alloc()).expect(&rt, "memory");
+    page.found(&[row(7, 1)], 1).expect(&rt, "memory");
     assert_eq!(rt; page.as_bytes(), "hit 7 1\nend 1 read 1\n".as_bytes());
-    page.found(&[], 0)?;
+    page.found(&[], 0).expect(&rt, "memory");
     assert_eq!(rt; page.as_bytes(), "end 0 read 0\n".as_bytes());
-    page.found(&[row(2, 3), row(5, 1), row(4294967295, 1)], 6)?;
+    page.found(&[row(2, 3), row(5, 1), row(4294967295, 1)], 6)
+        .expect(&rt, "memory");
     assert_eq!(rt;
         page.as_bytes(),
         "hit 2 3\nhit 5 1\nhit 4294967295 1\nend 3 read 6\n".as_bytes()
     );
-    Ok(())
 }
 
 fn row(doc: u32, score: u64) -> Row {
@@ -78,54 +77,55 @@ fn row(doc: u32, score: u64) -> Row {
 }
 
 #[test]
-fn answers_over_a_window_are_a_line_a_span_and_an_end(rt: HostRuntime) -> Result<(), Fail> {
-    let mut page = ReplyPage::new(rt.alloc())?;
-    page.spanned(&[span_row(7, 10, 20, 1)?], 1)?;
+fn answers_over_a_window_are_a_line_a_span_and_an_end(rt: HostRuntime) {
+    let mut page = ReplyPage::new(rt.alloc()).expect(&rt, "memory");
+    page.spanned(&[span_row(&rt, 7, 10, 20, 1)], 1)
+        .expect(&rt, "memory");
     assert_eq!(rt;
         page.as_bytes(),
         "span 7 10 20 1\nend 1 read 1\n".as_bytes()
     );
-    page.spanned(&[], 3)?;
+    page.spanned(&[], 3).expect(&rt, "memory");
     assert_eq!(rt; page.as_bytes(), "end 0 read 3\n".as_bytes());
     page.spanned(
         &[
-            span_row(2, 0, 1, 0)?,
-            span_row(2, 15, 1099511627776, 3)?,
-            span_row(4294967295, 86400, 172800, 1)?,
+            span_row(&rt, 2, 0, 1, 0),
+            span_row(&rt, 2, 15, 1099511627776, 3),
+            span_row(&rt, 4294967295, 86400, 172800, 1),
         ],
         6,
-    )?;
+    )
+    .expect(&rt, "memory");
     assert_eq!(rt;
         page.as_bytes(),
         "span 2 0 1 0\nspan 2 15 1099511627776 3\nspan 4294967295 86400 172800 1\nend 3 read 6\n".as_bytes()
     );
-    Ok(())
 }
 
-fn span_row(doc: u32, from: u64, to: u64, score: u64) -> Result<SpanRow, Fail> {
+fn span_row(rt: &impl Abort, doc: u32, from: u64, to: u64, score: u64) -> SpanRow {
     let doc = DocId(doc);
-    let span = Span::new(from, to).ok_or("a span")?;
-    Ok(SpanRow { doc, span, score })
+    let span = Span::new(from, to).expect(rt, "a span");
+    SpanRow { doc, span, score }
 }
 
 #[test]
-fn plans_are_a_line_a_segment_a_line_a_boundary_and_an_end(rt: HostRuntime) -> Result<(), Fail> {
-    let mut page = ReplyPage::new(rt.alloc())?;
+fn plans_are_a_line_a_segment_a_line_a_boundary_and_an_end(rt: HostRuntime) {
+    let mut page = ReplyPage::new(rt.alloc()).expect(&rt, "memory");
     page.proposed(
-        &[segment(10, 20, 2)?, segment(20, 50, 3)?],
+        &[segment(&rt, 10, 20, 2), segment(&rt, 20, 50, 3)],
         &[node(10, 0), node(20, 2), node(30, 4), node(50, 5)],
         5,
-    )?;
+    )
+    .expect(&rt, "memory");
     assert_eq!(rt;
         page.as_bytes(),
         "segment 10 20 2\nsegment 20 50 3\nnode 10 0\nnode 20 2\nnode 30 4\nnode 50 5\nend 2 space 5\n".as_bytes()
     );
-    Ok(())
 }
 
-fn segment(from: u64, to: u64, size: u64) -> Result<Segment, Fail> {
-    let span = Span::new(from, to).ok_or("a span")?;
-    Ok(Segment { span, size })
+fn segment(rt: &impl Abort, from: u64, to: u64, size: u64) -> Segment {
+    let span = Span::new(from, to).expect(rt, "a span");
+    Segment { span, size }
 }
 
 fn node(at: u64, pi: u64) -> Node {
@@ -133,8 +133,8 @@ fn node(at: u64, pi: u64) -> Node {
 }
 
 #[test]
-fn stored_plans_are_answered_by_one_line(rt: HostRuntime) -> Result<(), Fail> {
-    let mut page = ReplyPage::new(rt.alloc())?;
+fn stored_plans_are_answered_by_one_line(rt: HostRuntime) {
+    let mut page = ReplyPage::new(rt.alloc()).expect(&rt, "memory");
     page.planned(Summary {
         length: 5,
         segments: 3,
@@ -147,12 +147,11 @@ fn stored_plans_are_answered_by_one_line(rt: HostRuntime) -> Result<(), Fail> {
         page.as_bytes(),
         "plan 5 segments 3 space 4 full 2 horizon 40\n".as_bytes()
     );
-    Ok(())
 }
 
 #[test]
-fn a_plan_under_a_space_bound_is_answered_with_its_cost(rt: HostRuntime) -> Result<(), Fail> {
-    let mut page = ReplyPage::new(rt.alloc())?;
+fn a_plan_under_a_space_bound_is_answered_with_its_cost(rt: HostRuntime) {
+    let mut page = ReplyPage::new(rt.alloc()).expect(&rt, "memory");
     for (cost, text) in [
         (60, "plan 5 segments 1 space 2 full 2 horizon 40 cost 60\n"),
         (0, "plan 5 segments 1 space 2 full 2 horizon 40 cost 0\n"),
@@ -171,12 +170,11 @@ fn a_plan_under_a_space_bound_is_answered_with_its_cost(rt: HostRuntime) -> Resu
         });
         assert_eq!(rt; page.as_bytes(), text.as_bytes());
     }
-    Ok(())
 }
 
 #[test]
-fn a_new_page_has_room_for_the_greatest_numbers(rt: HostRuntime) -> Result<(), Fail> {
-    let mut page = ReplyPage::new(rt.alloc())?;
+fn a_new_page_has_room_for_the_greatest_numbers(rt: HostRuntime) {
+    let mut page = ReplyPage::new(rt.alloc()).expect(&rt, "memory");
     page.planned(Summary {
         length: u64::MAX,
         segments: u64::MAX,
@@ -190,79 +188,80 @@ fn a_new_page_has_room_for_the_greatest_numbers(rt: HostRuntime) -> Result<(), F
         "plan 18446744073709551615 segments 18446744073709551615 space 18446744073709551615 full 18446744073709551615 horizon 18446744073709551615 cost 340282366920938463463374607431768211455\n".as_bytes()
     );
     assert_eq!(rt; page.as_bytes().len(), 183);
-    Ok(())
 }
 
 #[test]
-fn texts_stand_behind_their_length(rt: HostRuntime) -> Result<(), Fail> {
-    let mut page = ReplyPage::new(rt.alloc())?;
-    page.version(b"red a")?;
+fn texts_stand_behind_their_length(rt: HostRuntime) {
+    let mut page = ReplyPage::new(rt.alloc()).expect(&rt, "memory");
+    page.version(b"red a").expect(&rt, "memory");
     assert_eq!(rt; page.as_bytes(), "text 5\nred a\n".as_bytes());
     page.none();
     assert_eq!(rt; page.as_bytes(), "none\n".as_bytes());
-    page.version(b"")?;
+    page.version(b"").expect(&rt, "memory");
     assert_eq!(rt; page.as_bytes(), "text 0\n\n".as_bytes());
     let long = [b'x'; 1000];
-    page.version(&long)?;
+    page.version(&long).expect(&rt, "memory");
     assert_eq!(rt; page.as_bytes().len(), 1011);
     page.accepted(1);
     assert_eq!(rt; page.as_bytes(), "ok 1\n".as_bytes());
-    Ok(())
 }
 
 #[test]
-fn a_sound_archive_is_told_with_its_plans_and_segments(rt: HostRuntime) -> Result<(), Fail> {
-    let mut page = ReplyPage::new(rt.alloc())?;
+fn a_sound_archive_is_told_with_its_plans_and_segments(rt: HostRuntime) {
+    let mut page = ReplyPage::new(rt.alloc()).expect(&rt, "memory");
     let (words, segments) = (12, 23);
-    page.verified(&Verdict::Sound { words, segments })?;
+    page.verified(&Verdict::Sound { words, segments })
+        .expect(&rt, "memory");
     assert_eq!(rt; page.as_bytes(), "sound 12 23\n".as_bytes());
-    Ok(())
+}
+
+fn key(rt: &impl Abort, alloc: Global, word: &str) -> Key {
+    let key = Key::new(alloc, word).expect(rt, "memory");
+    key.expect(rt, "a key")
 }
 
 #[test]
-fn a_byte_that_differs_has_two_digits_and_one_that_is_missing_none(
-    rt: HostRuntime,
-) -> Result<(), Fail> {
-    let mut page = ReplyPage::new(rt.alloc())?;
-    let word = Key::new(rt.alloc(), "v")?.ok_or("a key of one byte")?;
+fn a_byte_that_differs_has_two_digits_and_one_that_is_missing_none(rt: HostRuntime) {
+    let mut page = ReplyPage::new(rt.alloc()).expect(&rt, "memory");
+    let word = key(&rt, rt.alloc(), "v");
     page.verified(&Verdict::Differs {
         word,
         segment: 0,
         place: 6,
         found: Some(2),
         wanted: Some(171),
-    })?;
+    })
+    .expect(&rt, "memory");
     assert_eq!(rt; page.as_bytes(), "differs v 0 6 02 ab\n".as_bytes());
-    let word = Key::new(rt.alloc(), "wörter")?.ok_or("a key of seven bytes")?;
+    let word = key(&rt, rt.alloc(), "wörter");
     page.verified(&Verdict::Differs {
         word,
         segment: 2,
         place: 23,
         found: None,
         wanted: Some(240),
-    })?;
+    })
+    .expect(&rt, "memory");
     assert_eq!(rt; page.as_bytes(), "differs wörter 2 23 -- f0\n".as_bytes());
-    Ok(())
 }
 
 #[test]
-fn a_plan_that_takes_too_much_and_a_text_that_is_none_are_told(
-    rt: HostRuntime,
-) -> Result<(), Fail> {
-    let mut page = ReplyPage::new(rt.alloc())?;
-    let word = Key::new(rt.alloc(), "v")?.ok_or("a key of one byte")?;
+fn a_plan_that_takes_too_much_and_a_text_that_is_none_are_told(rt: HostRuntime) {
+    let mut page = ReplyPage::new(rt.alloc()).expect(&rt, "memory");
+    let word = key(&rt, rt.alloc(), "v");
     let (taken, least) = (5, 4);
-    page.verified(&Verdict::NotLeast { word, taken, least })?;
+    page.verified(&Verdict::NotLeast { word, taken, least })
+        .expect(&rt, "memory");
     assert_eq!(rt; page.as_bytes(), "notleast v 5 4\n".as_bytes());
-    let at = Time::new(10).ok_or("a time of 10 seconds")?;
-    page.verified(&Verdict::BadText { doc: DocId(7), at })?;
+    let at = Time::new(10).expect(&rt, "a time of 10 seconds");
+    page.verified(&Verdict::BadText { doc: DocId(7), at })
+        .expect(&rt, "memory");
     assert_eq!(rt; page.as_bytes(), "badtext 7 10\n".as_bytes());
-    Ok(())
 }
 
 #[test]
-fn a_sample_is_told_in_two_lines(rt: HostRuntime) -> Result<(), Fail> {
-    let mut page = ReplyPage::new(rt.alloc())?;
+fn a_sample_is_told_in_two_lines(rt: HostRuntime) {
+    let mut page = ReplyPage::new(rt.alloc()).expect(&rt, "memory");
     let tally = Tally {
         accepted: 7,
         refused: 3,
@@ -270,8 +269,8 @@ fn a_sample_is_told_in_two_lines(rt: HostRuntime) -> Result<(), Fail> {
         read: 4,
     };
     let (words, segments) = (5, 5);
-    page.generated(2, &tally, &Verdict::Sound { words, segments })?;
+    page.generated(2, &tally, &Verdict::Sound { words, segments })
+        .expect(&rt, "memory");
     let lines = "generated 2 accepted 7 refused 3 hits 2 read 4\nsound 5 5\n";
     assert_eq!(rt; page.as_bytes(), lines.as_bytes());
-    Ok(())
 }

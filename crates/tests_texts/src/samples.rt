@@ -1,8 +1,6 @@
 //! A whole sample against a table that another program made, and the ends of samples.
-use commands::{Command, Kind, Text};
+use crate::in_words::command_in_words;
 use sample_commands::{MOST_CHANGES, Sample};
-use std::alloc::Global;
-use std::test::Fail;
 
 /// The sample of 123456789 with 25 changes, as lines of a script, each text behind its arrival. This
 /// program in Python 3 prints them:
@@ -66,64 +64,32 @@ const LINES: [&str; 44] = [
     "verify",
 ];
 
-fn text_of(alloc: Global, text: Text) -> Result<String, Fail> {
-    match text {
-        Text::Bytes(content) => Ok(String::from_utf8(content.into_vec())?),
-        Text::TooLong { bytes } => Ok(format!(in alloc; "too long {bytes}")?),
-    }
-}
-
-/// A command of a sample as a line.
-fn line_of(alloc: Global, command: Command) -> Result<String, Fail> {
-    match command {
-        Command::Arrive { doc, at, text } => {
-            let text = text_of(alloc, text)?;
-            Ok(format!(in alloc; "arrive {} {} {text}", doc.0, at.seconds())?)
-        }
-        Command::Delete { doc, at } => {
-            Ok(format!(in alloc; "delete {} {}", doc.0, at.seconds())?)
-        }
-        Command::Plan {
-            word,
-            kind: Kind::Guarantee,
-            fraction,
-        } => {
-            let (over, under) = (fraction.over(), fraction.under());
-            Ok(format!(in alloc; "plan {} guarantee {over}/{under}", word.as_str())?)
-        }
-        Command::Find { at, expr } => {
-            Ok(format!(in alloc; "find {} {}", at.seconds(), expr.as_str())?)
-        }
-        Command::Verify => Ok(String::from_str(alloc, "verify")?),
-        other => Ok(format!(in alloc; "{other:?}")?),
-    }
-}
-
 #[test]
-fn a_sample_is_what_another_program_says(rt: HostRuntime) -> Result<(), Fail> {
+fn a_sample_is_what_another_program_says(rt: HostRuntime) {
     let alloc = rt.alloc();
     let mut sample = Sample::new(123_456_789, 25);
     for want in LINES {
-        let command = sample.next_command(alloc)?.ok_or("one command more")?;
-        let line = line_of(alloc, command)?;
+        let command = sample
+            .next_command(alloc)
+            .expect(&rt, "memory")
+            .expect(&rt, "one command more");
+        let line = command_in_words(&rt, alloc, command);
         assert_eq!(rt; line.as_str(), want);
     }
-    assert!(rt; sample.next_command(alloc)?.is_none());
-    assert!(rt; sample.next_command(alloc)?.is_none());
-    Ok(())
+    assert!(rt; sample.next_command(alloc).expect(&rt, "memory").is_none());
+    assert!(rt; sample.next_command(alloc).expect(&rt, "memory").is_none());
 }
 
 #[test]
-fn the_longest_sample_ends(rt: HostRuntime) -> Result<(), Fail> {
+fn the_longest_sample_ends(rt: HostRuntime) {
     let alloc = rt.alloc();
     let mut sample = Sample::new(u64::MAX, MOST_CHANGES);
     let mut given = 0u32;
     for _ in 0..MOST_CHANGES + 19 {
-        if sample.next_command(alloc)?.is_some() {
+        if sample.next_command(alloc).expect(&rt, "memory").is_some() {
             given = given.saturating_add(1);
         }
     }
     assert_eq!(rt; given, MOST_CHANGES + 19);
-    assert!(rt; sample.next_command(alloc)?.is_none());
-    Ok(())
+    assert!(rt; sample.next_command(alloc).expect(&rt, "memory").is_none());
 }

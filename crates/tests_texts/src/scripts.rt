@@ -1,10 +1,11 @@
 //! A script in pieces of any size gives the same items.
 ghost use Rattle.std.specs.Prelude.{◌^◌, ◌<◌};
 
+use crate::in_words::command_in_words;
 use machine_model::{Failed, Source};
-use script_read::{Command, Item, Kind, Reader, ScriptError, Text};
-use std::alloc::Global;
-use std::test::Fail;
+use script_read::{Item, Reader, ScriptError};
+use std::alloc::{AllocError, Global};
+use std::process::Abort;
 
 /// A source that gives its bytes in pieces, after some pulls that fail.
 #[derive(Drop)]
@@ -58,96 +59,45 @@ impl Source for Pieces<'_> {
     }
 }
 
-fn text_in_words(alloc: Global, text: Text) -> Result<String, Fail> {
-    match text {
-        Text::Bytes(content) => Ok(String::from_utf8(content.into_vec())?),
-        Text::TooLong { bytes } => Ok(format!(in alloc; "too long {bytes}")?),
-    }
-}
-
-fn kind_in_words(alloc: Global, kind: Kind) -> Result<String, Fail> {
-    match kind {
-        Kind::Guarantee => Ok(String::from_str(alloc, "guarantee")?),
-        Kind::Uniform => Ok(String::from_str(alloc, "uniform")?),
-        Kind::Since { at } => Ok(format!(in alloc; "since {}", at.seconds())?),
-    }
-}
-
-/// A command in words: its name, its numbers, and what it holds.
-fn command_in_words(alloc: Global, command: Command) -> Result<String, Fail> {
-    match command {
-        Command::Arrive { doc, at, text } => {
-            let text = text_in_words(alloc, text)?;
-            Ok(format!(in alloc; "arrive {} {} {text}", doc.0, at.seconds())?)
-        }
-        Command::Delete { doc, at } => {
-            Ok(format!(in alloc; "delete {} {}", doc.0, at.seconds())?)
-        }
-        Command::Plan {
-            word,
-            kind,
-            fraction,
-        } => {
-            let kind = kind_in_words(alloc, kind)?;
-            let (over, under) = (fraction.over(), fraction.under());
-            Ok(format!(in alloc; "plan {} {kind} {over}/{under}", word.as_str())?)
-        }
-        Command::Propose { word, fraction } => {
-            let (over, under) = (fraction.over(), fraction.under());
-            Ok(format!(in alloc; "propose {} {over}/{under}", word.as_str())?)
-        }
-        Command::Find { at, expr } => {
-            Ok(format!(in alloc; "find {} {}", at.seconds(), expr.as_str())?)
-        }
-        Command::Between { span, expr } => {
-            Ok(format!(in alloc; "between {} {} {}", span.from, span.to, expr.as_str())?)
-        }
-        Command::Show { doc, at } => Ok(format!(in alloc; "show {} {}", doc.0, at.seconds())?),
-        Command::Certificate { word } => { Ok(format!(in alloc; "certificate {}", word.as_str())?) }
-        Command::Verify => Ok(String::from_str(alloc, "verify")?),
-    }
-}
-
-fn item_in_words(alloc: Global, item: Option<Item>) -> Result<String, Fail> {
+fn item_in_words(rt: &impl Abort, alloc: Global, item: Option<Item>) -> String {
     match item {
-        Some(Item::Command(command)) => command_in_words(alloc, command),
-        Some(Item::Line) => Ok(String::from_str(alloc, "line")?),
-        None => Ok(String::from_str(alloc, "finished")?),
+        Some(Item::Command(command)) => command_in_words(rt, alloc, command),
+        Some(Item::Line) => String::from_str(alloc, "line").expect(rt, "memory"),
+        None => String::from_str(alloc, "finished").expect(rt, "memory"),
     }
 }
 
 /// An answer in words: an item, or why there is none.
-fn in_words(alloc: Global, answer: Result<Option<Item>, ScriptError>) -> Result<String, Fail> {
+fn in_words(rt: &impl Abort, alloc: Global, answer: Result<Option<Item>, ScriptError>) -> String {
     match answer {
-        Ok(item) => item_in_words(alloc, item),
-        Err(ScriptError::Broken { at }) => Ok(format!(in alloc; "broken at {at}")?),
-        Err(ScriptError::Budget) => Ok(String::from_str(alloc, "budget")?),
-        Err(ScriptError::Failed) => Ok(String::from_str(alloc, "failed")?),
-        Err(ScriptError::Memory) => Ok(String::from_str(alloc, "memory")?),
+        Ok(item) => item_in_words(rt, alloc, item),
+        Err(ScriptError::Broken { at }) => {
+            format!(in alloc; "broken at {at}").expect(rt, "memory")
+        }
+        Err(ScriptError::Budget) => String::from_str(alloc, "budget").expect(rt, "memory"),
+        Err(ScriptError::Failed) => String::from_str(alloc, "failed").expect(rt, "memory"),
+        Err(ScriptError::Memory) => String::from_str(alloc, "memory").expect(rt, "memory"),
     }
 }
 
-/// Whether a reader answers this, call after call, of a script in pieces of that size whose first
-/// pull fails.
-fn answers(alloc: Global, script: &[u8], piece: usize, want: &[&str]) -> Result<bool, Fail> {
+/// A reader answers this, call after call, of a script in pieces of that size whose first pull fails.
+fn expect_answers(rt: &impl Abort, alloc: Global, script: &[u8], piece: usize, want: &[&str]) {
     let mut source = Pieces {
         rest: script,
         piece,
         fails: 1,
         faults: 0,
     };
-    let mut reader = Reader::new(alloc)?;
+    let mut reader = Reader::new(alloc).expect(rt, "memory");
     for words in want {
         let answer = reader.next_item(alloc, &mut source);
-        if in_words(alloc, answer)?.as_str() != *words {
-            return Ok(false);
-        }
+        let answer = in_words(rt, alloc, answer);
+        assert_eq!(rt; answer.as_str(), *words);
     }
-    Ok(true)
 }
 
 #[test]
-fn reads_every_command_in_any_pieces(rt: HostRuntime) -> Result<(), Fail> {
+fn reads_every_command_in_any_pieces(rt: HostRuntime) {
     let script =
         "# note\n\narrive 7 2007-07-23 5\r\nred a\r\n  delete 7  020 \n   \nplan Straße guarantee 3/2\nplan v space 3/2 uniform\nplan v space 5/1 since 30\npropose v guarantee 3/2\nfind 1969-12-31 red\nfind 2007-07-23  red  blue \nbetween 15 35 v\nbetween 35 35 v\nshow 4294967295 0\nhello\ncertificate v\n#\nverify";
     let want = [
@@ -169,13 +119,12 @@ fn reads_every_command_in_any_pieces(rt: HostRuntime) -> Result<(), Fail> {
         "finished",
     ];
     for piece in [1, 2, 3, 7, 4096] {
-        assert!(rt; answers(rt.alloc(), script.as_bytes(), piece, &want)?);
+        expect_answers(&rt, rt.alloc(), script.as_bytes(), piece, &want);
     }
-    Ok(())
 }
 
 #[test]
-fn names_the_place_of_what_is_broken(rt: HostRuntime) -> Result<(), Fail> {
+fn names_the_place_of_what_is_broken(rt: HostRuntime) {
     let faulty = [
         (b"arrive 7 70 9\nblue".as_slice(), "broken at 38"),
         (b"arrive 7 70 3\nred a\n".as_slice(), "broken at 37"),
@@ -187,17 +136,18 @@ fn names_the_place_of_what_is_broken(rt: HostRuntime) -> Result<(), Fail> {
     ];
     for piece in [1, 2, 3, 7, 4096] {
         for (line, place) in faulty {
-            let mut script = Vec::from_slice(rt.alloc(), b"arrive 7 10 5\nred a\n")?;
-            script.extend_from_slice(line)?;
+            let mut script = Vec::from_slice(rt.alloc(), b"arrive 7 10 5\nred a\n").expect(
+                &rt, "memory",
+            );
+            script.extend_from_slice(line).expect(&rt, "memory");
             let want = ["failed", "arrive 7 10 red a", place];
-            assert!(rt; answers(rt.alloc(), script.as_slice(), piece, &want)?);
+            expect_answers(&rt, rt.alloc(), script.as_slice(), piece, &want);
         }
     }
-    Ok(())
 }
 
 /// A script whose first item is `front`, so many bytes and `back`, and whose second is `verify`.
-fn around(alloc: Global, front: &[u8], n: usize, back: &[u8]) -> Result<Vec<u8>, Fail> {
+fn around(alloc: Global, front: &[u8], n: usize, back: &[u8]) -> Result<Vec<u8>, AllocError> {
     let mut script = Vec::from_slice(alloc, front)?;
     for _ in 0..n {
         script.push(b'a')?;
@@ -208,30 +158,30 @@ fn around(alloc: Global, front: &[u8], n: usize, back: &[u8]) -> Result<Vec<u8>,
 }
 
 #[test]
-fn a_line_has_at_most_4096_bytes(rt: HostRuntime) -> Result<(), Fail> {
+fn a_line_has_at_most_4096_bytes(rt: HostRuntime) {
     for (n, end, words) in [
         (4095, b"\n".as_slice(), "line"),
         (4096, b"\r\n".as_slice(), "line"),
         (4097, b"\n".as_slice(), "broken at 0"),
         (4096, b"\r\r\n".as_slice(), "broken at 0"),
     ] {
-        let script = around(rt.alloc(), b"", n, end)?;
+        let script = around(rt.alloc(), b"", n, end).expect(&rt, "memory");
         let want = ["failed", words];
-        assert!(rt; answers(rt.alloc(), script.as_slice(), 7, &want)?);
+        expect_answers(&rt, rt.alloc(), script.as_slice(), 7, &want);
     }
-    Ok(())
 }
 
 #[test]
-fn a_text_above_the_limit_is_passed_over(rt: HostRuntime) -> Result<(), Fail> {
+fn a_text_above_the_limit_is_passed_over(rt: HostRuntime) {
     let limit = commands::MOST_TEXT_BYTES;
-    let script = around(rt.alloc(), b"arrive 7 10 4194305\n", limit + 1, b"\r\n")?;
+    let script = around(rt.alloc(), b"arrive 7 10 4194305\n", limit + 1, b"\r\n").expect(
+        &rt, "memory",
+    );
     let want = [
         "failed",
         "arrive 7 10 too long 4194305",
         "verify",
         "finished",
     ];
-    assert!(rt; answers(rt.alloc(), script.as_slice(), 65536, &want)?);
-    Ok(())
+    expect_answers(&rt, rt.alloc(), script.as_slice(), 65536, &want);
 }

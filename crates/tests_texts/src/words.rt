@@ -4,27 +4,25 @@ ghost use Rattle.std.specs.Prelude.{◌≡◌, ◌∷◌, [], IfOk};
 use fold_tokens::{NumberError, Places, Vocabulary, Weighed, occurrences, one_term, terms};
 use std::alloc::{AllocError, Global};
 use std::process::Abort;
-use std::test::Fail;
 use time_base::{Key, WordId};
 
 /// The terms of a text as a text, each with its count behind it.
-fn shown(rt: &impl Abort, alloc: Global, text: &str) -> Result<String, AllocError> {
+fn shown(rt: &impl Abort, alloc: Global, text: &str) -> String {
     assert!(rt; text.len() < 4294967296);
     let mut out = String::new(alloc);
-    for (key, count) in &terms(alloc, text)? {
-        let term = format!(in alloc; "{} {}, ", key.as_str(), *count)?;
-        out.push_str(term.as_str())?;
+    for (key, count) in &terms(alloc, text).expect(rt, "memory") {
+        let term = format!(in alloc; "{} {}, ", key.as_str(), *count).expect(rt, "memory");
+        out.push_str(term.as_str()).expect(rt, "memory");
     }
-    Ok(out)
+    out
 }
 
 /// Asserts of each row that the terms of its first text are shown as the second.
-fn assert_terms(rt: &impl Abort, alloc: Global, rows: &[(&str, &str)]) -> Result<(), AllocError> {
+fn assert_terms(rt: &impl Abort, alloc: Global, rows: &[(&str, &str)]) {
     for (text, wanted) in rows {
-        let found = shown(rt, alloc, text)?;
+        let found = shown(rt, alloc, text);
         assert_eq!(rt; found.as_str(), *wanted, "in {text}");
     }
-    Ok(())
 }
 
 /// A text so many times over.
@@ -39,7 +37,7 @@ fn repeated(alloc: Global, text: &str, times: usize) -> Result<String, AllocErro
 // What is wanted is from Python 3.11: `unicodedata.normalize('NFD', ..)` and `str.casefold`, over
 // the runs by `unicodedata.category`.
 #[test]
-fn terms_are_those_of_unicode(rt: HostRuntime) -> Result<(), Fail> {
+fn terms_are_those_of_unicode(rt: HostRuntime) {
     let rows = [
         ("", ""),
         ("e-mail", "e 1, mail 1, "),
@@ -66,14 +64,14 @@ fn terms_are_those_of_unicode(rt: HostRuntime) -> Result<(), Fail> {
         ("\u{1f469}\u{1f3fd}\u{200d}\u{1f680}", ""),
         ("\u{2764}\u{fe0f}", "\u{fe0f} 1, "),
     ];
-    Ok(assert_terms(&rt, rt.alloc(), &rows)?)
+    assert_terms(&rt, rt.alloc(), &rows);
 }
 
 // What is wanted is written down from the Unicode Character Database: categories, canonical
 // decompositions and combining classes from UnicodeData.txt, folds from the lines C and F of
 // CaseFolding.txt, and Hangul syllables by section 3.12 of The Unicode Standard.
 #[test]
-fn terms_of_eight_scripts(rt: HostRuntime) -> Result<(), Fail> {
+fn terms_of_eight_scripts(rt: HostRuntime) {
     let rows = [
         ("Straße İSTANBUL", "strasse 1, i\u{307}stanbul 1, "),
         ("\u{1e9b}\u{323} \u{1c5}", "s\u{323}\u{307} 1, \u{1c6} 1, "),
@@ -92,19 +90,21 @@ fn terms_of_eight_scripts(rt: HostRuntime) -> Result<(), Fail> {
         ("漢字、\u{f900}", "漢字 1, \u{8c48} 1, "),
         ("1\u{fe0f}\u{20e3} \u{1f600}", "1\u{fe0f}\u{20e3} 1, "),
     ];
-    Ok(assert_terms(&rt, rt.alloc(), &rows)?)
+    assert_terms(&rt, rt.alloc(), &rows);
 }
 
 /// How often the word occurs in the text.
-fn times(rt: &impl Abort, alloc: Global, word: &str, text: &str) -> Result<u32, AllocError> {
+fn times(rt: &impl Abort, alloc: Global, word: &str, text: &str) -> u32 {
     assert!(rt; text.len() < 4294967296);
-    let key = one_term(alloc, word)?.expect(rt, "a term");
-    occurrences(alloc, &key, text)
+    let key = one_term(alloc, word)
+        .expect(rt, "memory")
+        .expect(rt, "a term");
+    occurrences(alloc, &key, text).expect(rt, "memory")
 }
 
 // What is wanted is from Python 3.11, as above.
 #[test]
-fn occurrences_are_runs_of_the_same_key(rt: HostRuntime) -> Result<(), Fail> {
+fn occurrences_are_runs_of_the_same_key(rt: HostRuntime) {
     let alloc = rt.alloc();
     for (word, text, wanted) in [
         ("red", "Red, red; RED reddish", 3),
@@ -117,19 +117,18 @@ fn occurrences_are_runs_of_the_same_key(rt: HostRuntime) -> Result<(), Fail> {
         ("k", "\u{212a} k K kk", 3),
         ("t", "e-mail snake_case don't T", 2),
     ] {
-        let found = times(&rt, alloc, word, text)?;
+        let found = times(&rt, alloc, word, text);
         assert_eq!(rt; found, wanted, "{word} in {text}");
     }
-    let mut text = repeated(alloc, "a", 256)?;
-    text.push_str(" a")?;
-    let found = times(&rt, alloc, "a", text.as_str())?;
+    let mut text = repeated(alloc, "a", 256).expect(&rt, "memory");
+    text.push_str(" a").expect(&rt, "memory");
+    let found = times(&rt, alloc, "a", text.as_str());
     assert_eq!(rt; found, 1, "beside a run that is no term");
-    Ok(())
 }
 
 // By UnicodeData.txt U+0390 decomposes into three characters of two bytes each.
 #[test]
-fn long_runs_are_no_terms(rt: HostRuntime) -> Result<(), Fail> {
+fn long_runs_are_no_terms(rt: HostRuntime) {
     let alloc = rt.alloc();
     for (unit, times, found) in [
         ("a", 255, true),
@@ -140,20 +139,19 @@ fn long_runs_are_no_terms(rt: HostRuntime) -> Result<(), Fail> {
         ("\u{390}", 43, false),
         ("a", 1 << 20, false),
     ] {
-        let text = repeated(alloc, unit, times)?;
-        let term = one_term(alloc, text.as_str())?;
+        let text = repeated(alloc, unit, times).expect(&rt, "memory");
+        let term = one_term(alloc, text.as_str()).expect(&rt, "memory");
         assert_eq!(rt; term.is_some(), found, "{unit} times {times}");
-        let all = shown(&rt, alloc, text.as_str())?;
+        let all = shown(&rt, alloc, text.as_str());
         assert_eq!(rt; !all.is_empty(), found, "{unit} times {times}");
     }
-    let text = repeated(alloc, "a ", 1 << 19)?;
-    let found = shown(&rt, alloc, text.as_str())?;
+    let text = repeated(alloc, "a ", 1 << 19).expect(&rt, "memory");
+    let found = shown(&rt, alloc, text.as_str());
     assert_eq!(rt; found.as_str(), "a 524288, ");
-    Ok(())
 }
 
 #[test]
-fn one_term_is_the_only_run(rt: HostRuntime) -> Result<(), Fail> {
+fn one_term_is_the_only_run(rt: HostRuntime) {
     let alloc = rt.alloc();
     for (text, wanted) in [
         ("", ""),
@@ -162,17 +160,16 @@ fn one_term_is_the_only_run(rt: HostRuntime) -> Result<(), Fail> {
         ("...", ""),
         ("word", "word"),
     ] {
-        let found = match one_term(alloc, text)? {
-            Some(key) => String::from_str(alloc, key.as_str())?,
+        let found = match one_term(alloc, text).expect(&rt, "memory") {
+            Some(key) => String::from_str(alloc, key.as_str()).expect(&rt, "memory"),
             None => String::new(alloc),
         };
         assert_eq!(rt; found.as_str(), wanted, "in {text}");
     }
-    let mut text = repeated(alloc, "a", 256)?;
-    text.push_str(" word")?;
-    let found = one_term(alloc, text.as_str())?;
+    let mut text = repeated(alloc, "a", 256).expect(&rt, "memory");
+    text.push_str(" word").expect(&rt, "memory");
+    let found = one_term(alloc, text.as_str()).expect(&rt, "memory");
     assert!(rt; found.is_none(), "two runs, of which one is no term");
-    Ok(())
 }
 
 /// A list of the key alone.
@@ -199,9 +196,9 @@ fn number(
 }
 
 #[test]
-fn words_are_numbered_in_the_order_in_which_they_come(rt: HostRuntime) -> Result<(), Fail> {
+fn words_are_numbered_in_the_order_in_which_they_come(rt: HostRuntime) {
     let alloc = rt.alloc();
-    let mut vocabulary = Vocabulary::new(alloc)?;
+    let mut vocabulary = Vocabulary::new(alloc).expect(&rt, "memory");
     for (text, wanted) in [
         ("To", Some(0)),
         ("be", Some(1)),
@@ -217,20 +214,23 @@ fn words_are_numbered_in_the_order_in_which_they_come(rt: HostRuntime) -> Result
     let id = WordId::new(2).expect(&rt, "a number");
     assert!(rt; id.number() < vocabulary.len());
     assert_eq!(rt; vocabulary.word(id).as_str(), "or");
-    let key = one_term(alloc, "OR")?.expect(&rt, "a term");
+    let key = one_term(alloc, "OR")
+        .expect(&rt, "memory")
+        .expect(&rt, "a term");
     assert_eq!(rt; vocabulary.find(&key), Some(id));
-    let key = one_term(alloc, "not")?.expect(&rt, "a term");
+    let key = one_term(alloc, "not")
+        .expect(&rt, "memory")
+        .expect(&rt, "a term");
     assert_eq!(rt; vocabulary.find(&key), None);
-    Ok(())
 }
 
 /// A vocabulary of these terms, in order.
-fn numbered(rt: &impl Abort, alloc: Global, terms: &[&str]) -> Result<Vocabulary, AllocError> {
-    let mut vocabulary = Vocabulary::new(alloc)?;
+fn numbered(rt: &impl Abort, alloc: Global, terms: &[&str]) -> Vocabulary {
+    let mut vocabulary = Vocabulary::new(alloc).expect(rt, "memory");
     for term in terms {
         let _ = number(alloc, &mut vocabulary, term).expect(rt, "room");
     }
-    Ok(vocabulary)
+    vocabulary
 }
 
 /// What is weighed as a text: the words that have a number by it, and then the others.
@@ -254,20 +254,19 @@ fn assert_weights(
     vocabulary: &Vocabulary,
     places: &mut Places,
     rows: &[(&str, &str)],
-) -> Result<(), AllocError> {
+) {
     for (text, wanted) in rows {
         assert!(rt; text.len() < 4294967296);
-        let found = vocabulary.weigh(alloc, places, text)?;
-        let out = shown_weights(alloc, &found)?;
+        let found = vocabulary.weigh(alloc, places, text).expect(rt, "memory");
+        let out = shown_weights(alloc, &found).expect(rt, "memory");
         assert_eq!(rt; out.as_str(), *wanted, "in {text}");
     }
-    Ok(())
 }
 
 #[test]
-fn words_are_weighed_by_number_or_by_key(rt: HostRuntime) -> Result<(), Fail> {
+fn words_are_weighed_by_number_or_by_key(rt: HostRuntime) {
     let alloc = rt.alloc();
-    let vocabulary = numbered(&rt, alloc, &["be", "or", "\u{e9}"])?;
+    let vocabulary = numbered(&rt, alloc, &["be", "or", "\u{e9}"]);
     let mut places = Places::new(alloc);
     let rows = [
         ("", ""),
@@ -275,37 +274,38 @@ fn words_are_weighed_by_number_or_by_key(rt: HostRuntime) -> Result<(), Fail> {
         ("E\u{301} Be \u{c9} NOT bE", "2 2, 0 2, not 1, "),
         ("or", "1 1, "),
     ];
-    Ok(assert_weights(&rt, alloc, &vocabulary, &mut places, &rows)?)
+    assert_weights(&rt, alloc, &vocabulary, &mut places, &rows);
 }
 
 /// Asserts that so many words that stand twice in a text are weighed each by its own number.
-fn assert_own_numbers(rt: &impl Abort, alloc: Global, words: u32) -> Result<(), AllocError> {
-    let mut vocabulary = Vocabulary::new(alloc)?;
+fn assert_own_numbers(rt: &impl Abort, alloc: Global, words: u32) {
+    let mut vocabulary = Vocabulary::new(alloc).expect(rt, "memory");
     let mut text = String::new(alloc);
     for at in 0..words {
-        let word = format!(in alloc; "w{at} ")?;
+        let word = format!(in alloc; "w{at} ").expect(rt, "memory");
         let _ = number(alloc, &mut vocabulary, word.as_str()).expect(rt, "room");
-        text.push_str(word.as_str())?;
+        text.push_str(word.as_str()).expect(rt, "memory");
     }
-    let text = repeated(alloc, text.as_str(), 2)?;
+    let text = repeated(alloc, text.as_str(), 2).expect(rt, "memory");
     assert!(rt; text.len() < 4294967296);
     let mut places = Places::new(alloc);
-    let found = vocabulary.weigh(alloc, &mut places, text.as_str())?;
+    let found = vocabulary
+        .weigh(alloc, &mut places, text.as_str())
+        .expect(rt, "memory");
     assert_eq!(rt; found.known.len(), words as usize);
     assert!(rt; found.fresh.is_empty());
     for (place, (number, count)) in found.known.iter().enumerate() {
         assert_eq!(rt; *number as usize, place);
         assert_eq!(rt; *count, 2, "word {place}");
     }
-    Ok(())
 }
 
 // There are 2,048 slots for guesses: `ferry` and `place` have the same one, and so have two of any 2,049
 // words.
 #[test]
-fn a_guess_is_believed_where_it_is_right(rt: HostRuntime) -> Result<(), Fail> {
+fn a_guess_is_believed_where_it_is_right(rt: HostRuntime) {
     let alloc = rt.alloc();
-    let vocabulary = numbered(&rt, alloc, &["ferry", "place", "strasse"])?;
+    let vocabulary = numbered(&rt, alloc, &["ferry", "place", "strasse"]);
     let mut places = Places::new(alloc);
     let rows = [
         ("ferry ferry place ferry place place", "0 3, 1 3, "),
@@ -313,40 +313,41 @@ fn a_guess_is_believed_where_it_is_right(rt: HostRuntime) -> Result<(), Fail> {
         ("STRASSE Straße strasse STRASSE", "2 4, "),
         ("ferry\u{301} ferry", "0 1, ferry\u{301} 1, "),
     ];
-    assert_weights(&rt, alloc, &vocabulary, &mut places, &rows)?;
-    Ok(assert_own_numbers(&rt, alloc, 2049)?)
+    assert_weights(&rt, alloc, &vocabulary, &mut places, &rows);
+    assert_own_numbers(&rt, alloc, 2049);
 }
 
 #[test]
-fn guesses_outlive_their_vocabulary(rt: HostRuntime) -> Result<(), Fail> {
+fn guesses_outlive_their_vocabulary(rt: HostRuntime) {
     let alloc = rt.alloc();
     let mut places = Places::new(alloc);
-    let mut vocabulary = numbered(&rt, alloc, &["ferry", "toll"])?;
+    let mut vocabulary = numbered(&rt, alloc, &["ferry", "toll"]);
     let rows = [("toll ferry Toll bridge", "1 2, 0 1, bridge 1, ")];
-    assert_weights(&rt, alloc, &vocabulary, &mut places, &rows)?;
+    assert_weights(&rt, alloc, &vocabulary, &mut places, &rows);
     let _ = number(alloc, &mut vocabulary, "bridge").expect(&rt, "room");
     let rows = [("bridge Toll bridge ferry", "2 2, 1 1, 0 1, ")];
-    assert_weights(&rt, alloc, &vocabulary, &mut places, &rows)?;
-    let fewer = numbered(&rt, alloc, &["toll"])?;
+    assert_weights(&rt, alloc, &vocabulary, &mut places, &rows);
+    let fewer = numbered(&rt, alloc, &["toll"]);
     let rows = [("toll ferry toll bridge", "0 2, ferry 1, bridge 1, ")];
-    assert_weights(&rt, alloc, &fewer, &mut places, &rows)?;
-    let others = numbered(&rt, alloc, &["bridge", "ferry", "toll"])?;
+    assert_weights(&rt, alloc, &fewer, &mut places, &rows);
+    let others = numbered(&rt, alloc, &["bridge", "ferry", "toll"]);
     let rows = [("toll ferry bridge", "2 1, 1 1, 0 1, ")];
-    Ok(assert_weights(&rt, alloc, &others, &mut places, &rows)?)
+    assert_weights(&rt, alloc, &others, &mut places, &rows);
 }
 
 #[test]
-fn long_runs_are_weighed_as_none(rt: HostRuntime) -> Result<(), Fail> {
+fn long_runs_are_weighed_as_none(rt: HostRuntime) {
     let alloc = rt.alloc();
-    let longest = repeated(alloc, "a", 255)?;
-    let vocabulary = numbered(&rt, alloc, &[longest.as_str()])?;
+    let longest = repeated(alloc, "a", 255).expect(&rt, "memory");
+    let vocabulary = numbered(&rt, alloc, &[longest.as_str()]);
     let mut places = Places::new(alloc);
     let text = format!(in alloc;
         "{} {}a {}",
         longest.as_str(),
         longest.as_str(),
         longest.as_str()
-    )?;
+    )
+    .expect(&rt, "memory");
     let rows = [(text.as_str(), "0 2, "), (text.as_str(), "0 2, ")];
-    Ok(assert_weights(&rt, alloc, &vocabulary, &mut places, &rows)?)
+    assert_weights(&rt, alloc, &vocabulary, &mut places, &rows);
 }

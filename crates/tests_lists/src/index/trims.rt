@@ -3,7 +3,6 @@
 use super::{commit, committed, expect_part, is_short, key, loaded, posting, time_at};
 use std::alloc::Global;
 use std::process::Abort;
-use std::test::Fail;
 use time_base::{DocId, Key, NOW, Posting, Time};
 use version_index::Index;
 
@@ -15,22 +14,18 @@ fn expect_trimmed(
     word: &Key,
     seconds: u64,
     wanted: &[Posting],
-) -> Result<(), Fail> {
-    let h = Time::new(seconds).ok_or("a time")?;
+) {
+    let h = Time::new(seconds).expect(rt, "a time");
     index.trim(word, h);
     expect_list(rt, alloc, index, word, wanted)
 }
 
 /// The word's list is this.
-fn expect_list(
-    rt: &impl Abort,
-    alloc: Global,
-    index: &Index,
-    word: &Key,
-    wanted: &[Posting],
-) -> Result<(), Fail> {
-    assert_eq!(rt; index.list(alloc, word)?.as_slice(), wanted);
-    Ok(())
+fn expect_list(rt: &impl Abort, alloc: Global, index: &Index, word: &Key, wanted: &[Posting]) {
+    assert_eq!(rt;
+        index.list(alloc, word).expect(rt, "memory").as_slice(),
+        wanted
+    );
 }
 
 /// Documents 9 and 3 with red and blue, and without them.
@@ -42,29 +37,29 @@ const RED_AND_BLUE: [(u32, Option<&str>); 4] = [
 ];
 
 /// Red is trimmed at 0, before an end, at it, behind it, and no further by an earlier time.
-fn expect_trims(rt: &impl Abort, alloc: Global, index: &mut Index) -> Result<(), Fail> {
-    let red = key(rt, alloc, "red")?;
+fn expect_trims(rt: &impl Abort, alloc: Global, index: &mut Index) {
+    let red = key(rt, alloc, "red");
     let late = posting(9, 40, NOW, 1);
     let whole = [posting(3, 20, NOW, 2), posting(9, 10, 30, 1), late];
-    expect_trimmed(rt, alloc, index, &red, 0, &whole)?;
+    expect_trimmed(rt, alloc, index, &red, 0, &whole);
     let last_second = [posting(3, 29, NOW, 2), posting(9, 29, 30, 1), late];
-    expect_trimmed(rt, alloc, index, &red, 29, &last_second)?;
-    expect_trimmed(rt, alloc, index, &red, 30, &[posting(3, 30, NOW, 2), late])?;
+    expect_trimmed(rt, alloc, index, &red, 29, &last_second);
+    expect_trimmed(rt, alloc, index, &red, 30, &[posting(3, 30, NOW, 2), late]);
     let between = [posting(3, 35, NOW, 2), late];
-    expect_trimmed(rt, alloc, index, &red, 35, &between)?;
+    expect_trimmed(rt, alloc, index, &red, 35, &between);
     expect_trimmed(rt, alloc, index, &red, 20, &between)
 }
 
 /// Red has these parts once it is trimmed at 35, blue has its whole list, and a word that no text has none.
-fn expect_parts(rt: &impl Abort, alloc: Global, index: &mut Index) -> Result<(), Fail> {
-    let red = key(rt, alloc, "red")?;
+fn expect_parts(rt: &impl Abort, alloc: Global, index: &mut Index) {
+    let red = key(rt, alloc, "red");
     let late = posting(9, 40, NOW, 1);
     let kept = [posting(3, 35, NOW, 2), late];
-    expect_part(rt, alloc, index, &red, (5, 35), &kept[..0], 2)?;
-    expect_part(rt, alloc, index, &red, (5, 36), &kept[..1], 2)?;
-    expect_part(rt, alloc, index, &red, (40, 41), &kept, 2)?;
-    expect_trimmed(rt, alloc, index, &key(rt, alloc, "green")?, 25, &[])?;
-    let blue = key(rt, alloc, "blue")?;
+    expect_part(rt, alloc, index, &red, (5, 35), &kept[..0], 2);
+    expect_part(rt, alloc, index, &red, (5, 36), &kept[..1], 2);
+    expect_part(rt, alloc, index, &red, (40, 41), &kept, 2);
+    expect_trimmed(rt, alloc, index, &key(rt, alloc, "green"), 25, &[]);
+    let blue = key(rt, alloc, "blue");
     expect_part(
         rt,
         alloc,
@@ -77,30 +72,30 @@ fn expect_parts(rt: &impl Abort, alloc: Global, index: &mut Index) -> Result<(),
 }
 
 #[test]
-fn a_trimmed_list_has_what_it_had_from_that_time_on(rt: HostRuntime) -> Result<(), Fail> {
-    let mut index = committed(&rt, rt.alloc(), &RED_AND_BLUE)?;
-    expect_trims(&rt, rt.alloc(), &mut index)?;
+fn a_trimmed_list_has_what_it_had_from_that_time_on(rt: HostRuntime) {
+    let mut index = committed(&rt, rt.alloc(), &RED_AND_BLUE).expect(&rt, "memory");
+    expect_trims(&rt, rt.alloc(), &mut index);
     expect_parts(&rt, rt.alloc(), &mut index)
 }
 
 #[test]
-fn a_loaded_list_is_trimmed_alike(rt: HostRuntime) -> Result<(), Fail> {
-    let mut index = loaded(&rt, rt.alloc(), &RED_AND_BLUE)?;
-    expect_trims(&rt, rt.alloc(), &mut index)?;
+fn a_loaded_list_is_trimmed_alike(rt: HostRuntime) {
+    let mut index = loaded(&rt, rt.alloc(), &RED_AND_BLUE).expect(&rt, "memory");
+    expect_trims(&rt, rt.alloc(), &mut index);
     expect_parts(&rt, rt.alloc(), &mut index)
 }
 
 /// Document 9 changes at the very time at which red was trimmed, and ten seconds later.
 #[test]
-fn a_trimmed_list_goes_on_at_that_time_and_later(rt: HostRuntime) -> Result<(), Fail> {
+fn a_trimmed_list_goes_on_at_that_time_and_later(rt: HostRuntime) {
     let alloc = rt.alloc();
-    let red = key(&rt, alloc, "red")?;
+    let red = key(&rt, alloc, "red");
     let twice = posting(3, 50, NOW, 2);
-    let mut index = loaded(&rt, alloc, &RED_AND_BLUE)?;
+    let mut index = loaded(&rt, alloc, &RED_AND_BLUE).expect(&rt, "memory");
     let at_first = [twice, posting(9, 50, NOW, 1)];
-    expect_trimmed(&rt, alloc, &mut index, &red, 50, &at_first)?;
+    expect_trimmed(&rt, alloc, &mut index, &red, 50, &at_first);
     commit(&rt, alloc, &mut index, DocId(9), time_at(4), Some("blue"));
-    expect_list(&rt, alloc, &index, &red, &[twice])?;
+    expect_list(&rt, alloc, &index, &red, &[twice]);
     commit(
         &rt,
         alloc,
@@ -131,14 +126,13 @@ fn commit_behind_a_trim(
 }
 
 #[test]
-fn a_change_that_has_room_is_committed_behind_a_trim(rt: HostRuntime) -> Result<(), Fail> {
+fn a_change_that_has_room_is_committed_behind_a_trim(rt: HostRuntime) {
     let alloc = rt.alloc();
-    let red = key(&rt, alloc, "red")?;
-    let mut index = committed(&rt, alloc, &RED_AND_BLUE)?;
+    let red = key(&rt, alloc, "red");
+    let mut index = committed(&rt, alloc, &RED_AND_BLUE).expect(&rt, "memory");
     commit_behind_a_trim(&rt, alloc, &mut index, &red, time_at(4), "red green");
     assert_eq!(rt;
-        index.list(alloc, &red)?.as_slice(),
+        index.list(alloc, &red).expect(&rt, "memory").as_slice(),
         [posting(3, 50, NOW, 1), posting(9, 50, NOW, 1)].as_slice()
     );
-    Ok(())
 }

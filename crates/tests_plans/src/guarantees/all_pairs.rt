@@ -1,7 +1,8 @@
 //! Plans of random lists beside a planner that compares all pairs of boundaries.
 ghost use Rattle.std.specs.Prelude.{◌<◌, length};
 
-use super::given::{Numbers, factor, listed, table_of};
+use super::given::Numbers;
+use crate::given::{factor, listed, table_of};
 use elementary::Table;
 use guarantee_planner::plan;
 use plan_certificate::check;

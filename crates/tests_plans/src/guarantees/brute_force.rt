@@ -1,5 +1,6 @@
 //! Plans of small lists beside the least space that trying every set of cuts finds.
-use super::given::{Numbers, factor, listed, table_of};
+use super::given::Numbers;
+use crate::given::{factor, listed, table_of};
 use guarantee_planner::plan;
 use plan_certificate::check;
 use std::test::Fail;

@@ -1,5 +1,6 @@
 //! What `check` takes for a certificate, and what not.
-use super::given::{FIVE, cut_at, factor, listed, table_of};
+use super::given::{FIVE, cut_at};
+use crate::given::{factor, listed, table_of};
 use plan_certificate::{Certificate, check};
 use std::test::Fail;
 

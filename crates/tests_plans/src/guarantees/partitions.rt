@@ -1,5 +1,6 @@
 //! Tables and partitions of two documents that overlap.
-use super::given::{OVERLAP, cut_at, factor, listed, table_of};
+use super::given::cut_at;
+use crate::given::{OVERLAP, factor, listed, table_of};
 use elementary::Partition;
 use std::test::Fail;
 use time_base::Time;

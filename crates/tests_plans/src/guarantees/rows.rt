@@ -1,5 +1,6 @@
 //! Plans that were worked out by hand.
-use super::given::{FIVE, OVERLAP, factor, listed, table_of};
+use super::given::FIVE;
+use crate::given::{OVERLAP, factor, listed, table_of};
 use guarantee_planner::{PlanError, WIDEST, plan};
 use plan_certificate::check;
 use std::test::Fail;

@@ -1,7 +1,7 @@
 //! Plans and fronts beside those that trying every set of cuts finds.
 ghost use Rattle.std.specs.Prelude.{◌<◌};
 
-use super::given::{Alike, factor, table_of};
+use crate::given::{Alike, factor, listed, table_of};
 use elementary::Table;
 use space_planner::{Load, front, plan};
 use std::alloc::Global;
@@ -82,7 +82,7 @@ fn compare(
     since: u64,
     (over, under): (u32, u32),
 ) -> Result<(), Fail> {
-    let table = table_of(alloc, alike, horizon)?;
+    let table = table_of(alloc, &listed(alloc, alike)?, horizon)?;
     let factor = factor(over, under)?;
     let cap = table.postings().saturating_mul(u64::from(factor.over())) / u64::from(factor.under());
     let unit = cap.div_ceil(4096).max(1);

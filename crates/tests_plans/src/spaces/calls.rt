@@ -1,7 +1,7 @@
 //! Which spans a load is asked for.
 ghost use Rattle.std.specs.Prelude.{◌≤◌, ◌^◌};
 
-use super::given::{OVERLAP, factor, table_of};
+use crate::given::{OVERLAP, factor, listed, table_of};
 use space_planner::{Load, front, plan};
 use std::cell::RefCell;
 use std::test::Fail;
@@ -21,7 +21,7 @@ fn noted(calls: &RefCell<Vec<Span>>, span: Span) -> u64
 #[test]
 fn a_load_is_asked_once_for_each_elementary_interval(rt: HostRuntime) -> Result<(), Fail> {
     let alloc = rt.alloc();
-    let table = table_of(alloc, OVERLAP, 50)?;
+    let table = table_of(alloc, &listed(alloc, OVERLAP)?, 50)?;
     let calls = RefCell::new(Vec::new(alloc));
     let load = Load::new(|span: Span| noted(&calls, span));
     let _ = front(alloc, &table, factor(2, 1)?, &load)?;

@@ -1,5 +1,5 @@
 //! Plans that were worked out by hand.
-use super::given::{Alike, OVERLAP, factor, table_of};
+use crate::given::{Alike, OVERLAP, factor, listed, table_of};
 use space_planner::{Load, front, plan};
 use std::test::Fail;
 use time_base::Span;
@@ -7,7 +7,7 @@ use time_base::Span;
 #[test]
 fn plans_of_two_overlapping_documents(rt: HostRuntime) -> Result<(), Fail> {
     let alloc = rt.alloc();
-    let table = table_of(alloc, OVERLAP, 40)?;
+    let table = table_of(alloc, &listed(alloc, OVERLAP)?, 40)?;
     // the time since which times are asked for, the factor, the segments, and the expected cost
     for (since, (over, under), segments, cost) in [
         (0u64, (1, 1), 1, 60u128),
@@ -44,7 +44,7 @@ fn cuts_of_many_boundaries_are_strides_apart(rt: HostRuntime) -> Result<(), Fail
         for at in 0..seconds {
             alike.push((1, at, at + 1))?;
         }
-        let table = table_of(alloc, &alike, seconds)?;
+        let table = table_of(alloc, &listed(alloc, &alike)?, seconds)?;
         let (partition, least) = plan(alloc, &table, factor(1, 1)?, &load)?;
         assert_eq!(rt; partition.segments(), segments, "{seconds} seconds");
         assert_eq!(rt; least, cost, "{seconds} seconds");
@@ -58,13 +58,13 @@ fn cuts_of_many_boundaries_are_strides_apart(rt: HostRuntime) -> Result<(), Fail
 fn charges_are_rounded_up(rt: HostRuntime) -> Result<(), Fail> {
     let alloc = rt.alloc();
     let load = Load::new(|span: Span| span.to - span.from);
-    let even = table_of(alloc, &[(3000, 0, 10), (3000, 10, 20)], 20)?;
+    let even = table_of(alloc, &listed(alloc, &[(3000, 0, 10), (3000, 10, 20)])?, 20)?;
     let (partition, least) = plan(alloc, &even, factor(1, 1)?, &load)?;
     assert_eq!(rt; partition.segments(), 2);
     assert_eq!(rt; least, 60_000);
     assert_eq!(rt; front(alloc, &even, factor(1, 1)?, &load)?.len(), 1);
 
-    let odd = table_of(alloc, &[(3001, 0, 10), (3000, 10, 20)], 20)?;
+    let odd = table_of(alloc, &listed(alloc, &[(3001, 0, 10), (3000, 10, 20)])?, 20)?;
     let (partition, least) = plan(alloc, &odd, factor(1, 1)?, &load)?;
     assert_eq!(rt; partition.segments(), 1);
     assert_eq!(rt; least, 120_020);

@@ -2,4 +2,4 @@ use Rattle.tail_lists.specs.Weights.{AreWeights}
 use Rattle.tests_lists.proofs.tails.passed.Given as goal
 
 abbrev pub invariant-loop-at : goal.invariant-loop-at
-invariant-loop-at l = AreWeights l.old.items
+invariant-loop-at g l = AreWeights l.old.items

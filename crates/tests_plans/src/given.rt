@@ -1,4 +1,4 @@
-//! Tables for the tests.
+//! Lists, tables and factors for the tests.
 use elementary::Table;
 use std::alloc::Global;
 use std::test::Fail;
@@ -10,11 +10,11 @@ pub(crate) type Alike = (u32, u64, u64);
 /// Two documents that overlap in `[20, 30)`.
 pub(crate) const OVERLAP: &[Alike] = &[(1, 10, 30), (1, 20, 40)];
 
-/// The table of the documents up to a horizon.
-pub(crate) fn table_of(alloc: Global, alike: &[Alike], horizon: u64) -> Result<Table, Fail> {
+/// The list of so many documents with each of the spans, numbered in order.
+pub(crate) fn listed(alloc: Global, spans: &[Alike]) -> Result<Vec<Posting>, Fail> {
     let mut list = Vec::new(alloc);
     let mut doc = 0u32;
-    for (documents, from, to) in alike {
+    for (documents, from, to) in spans {
         let span = Span::new(*from, *to).ok_or("a span")?;
         for _ in 0..*documents {
             doc = doc.wrapping_add(1);
@@ -25,16 +25,20 @@ pub(crate) fn table_of(alloc: Global, alike: &[Alike], horizon: u64) -> Result<T
             })?;
         }
     }
-    let horizon = Time::new(horizon).ok_or("a horizon")?;
-    let end = horizon.seconds();
-    let early = list.iter().all(|p| p.span.to <= end);
-    if !early || list.is_empty() || list.len() >= 1 << 38 {
-        return Err(Fail::new("no table"));
-    }
-    Ok(Table::new(alloc, &list, horizon)?)
+    Ok(list)
 }
 
-/// The factor of so many to so many.
+/// The table of a list up to a horizon.
+pub(crate) fn table_of(alloc: Global, list: &[Posting], horizon: u64) -> Result<Table, Fail> {
+    let horizon = Time::new(horizon).ok_or("a horizon")?;
+    let end = horizon.seconds();
+    if list.is_empty() || list.len() >= 1 << 38 || !list.iter().all(|p| p.span.to <= end) {
+        return Err(Fail::new("a list that has a table"));
+    }
+    Ok(Table::new(alloc, list, horizon)?)
+}
+
+/// The factor `over / under`.
 pub(crate) fn factor(over: u32, under: u32) -> Result<Fraction, Fail> {
     Ok(Fraction::new(over, under).ok_or("a factor")?)
 }
