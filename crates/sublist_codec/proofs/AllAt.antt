@@ -1,9 +1,11 @@
 -- Reading front after front, as a loop does.
 use Rattle.std.specs.Prelude.{◌≡◌, ℕ, zero, suc, ◌+◌, ◌-◌, ◌<◌, ◌≤◌, List, [], ◌∷◌, ◌++◌, length, Option, Result, Ok, Err, refl}
-use Rattle.std.proofs.Common.{sym, ap, ◌∙◌, append_assoc, arith}
+use Rattle.std.proofs.Common.{sym, ap, subst, ◌∙◌, append_assoc, arith}
 use Rattle.std.proofs.lemmas.List.{append-nil}
 use Rattle.time_base.specs.Reading.{◌>>=◌}
 use Rattle.sublist_codec.specs.Steps.{last_of, all_at}
+use Rattle.time_base.proofs.Bytes.{IsBytes}
+use Rattle.sublist_codec.proofs.Readings.{Reads, StandsIn, stands_within, reads_ok, reads_err, reads_then}
 
 -- what was read before, and what is still read
 abbrev pub with_front : {A : Type 0} → List A → Result (List A) ℕ → Result (List A) ℕ
@@ -64,24 +66,15 @@ pub all_step : {A : Type 0} (front_at : Option A → List ℕ → Result (List A
 all_step front_at n before [] xs behind some e = absurd (omega arith)
 all_step front_at n before (b ∷ bytes) xs behind some e = rw e refl
 
-pub all_left : {A : Type 0} (front_at : Option A → List ℕ → Result (List A × List ℕ) ℕ)
-    → ((before : Option A) (bytes : List ℕ) (left : ℕ) → front_at before bytes ≡ Err left → left ≤ length bytes)
-    → ((before : Option A) (bytes : List ℕ) (x : List A × List ℕ) → front_at before bytes ≡ Ok x → length x.1 ≤ length bytes)
-    → (n : ℕ) (before : Option A) (bytes : List ℕ) (left : ℕ) → all_at front_at n before bytes ≡ Err left → left ≤ length bytes
-all_left front_at fails shorter n before [] left e = absurd cc
-all_left front_at fails shorter zero before (b ∷ bytes) left e = let same : length bytes + 1 ≡ left = cc in omega arith
-all_left {A} front_at fails shorter (suc n) before (b ∷ bytes) left e =
-    go (front_at before (b ∷ bytes)) (λ l is. fails before (b ∷ bytes) l is) (λ x is. shorter before (b ∷ bytes) x is) (λ x is. all_left front_at fails shorter n (last_of before x.0) x.1 left is) e
-  where
-    next : (xs : List A) (r : Result (List A) ℕ) → (r >>= λ ys. Ok (xs ++ ys)) ≡ Err left → r ≡ Err left
-    next xs (Ok ys) e = absurd cc
-    next xs (Err m) e = cc
-
-    go : (r : Result (List A × List ℕ) ℕ) → ((l : ℕ) → r ≡ Err l → l ≤ length (b ∷ bytes)) → ((x : List A × List ℕ) → r ≡ Ok x → length x.1 ≤ length (b ∷ bytes))
-        → ((x : List A × List ℕ) → all_at front_at n (last_of before x.0) x.1 ≡ Err left → left ≤ length x.1)
-        → (r >>= λ x. all_at front_at n (last_of before x.0) x.1 >>= λ ys. Ok (x.0 ++ ys)) ≡ Err left → left ≤ length (b ∷ bytes)
-    go (Ok x) f s again e =
-        let le = s x refl in
-        let h = again x (next x.0 (all_at front_at n (last_of before x.0) x.1) e) in
-        omega arith
-    go (Err m) f s again e = let same : m ≡ left = cc in let le = f m refl in omega arith
+-- What holds of no values at no bytes, and of a front and what holds of the others behind it, holds of all that is read.
+pub all_reads : {A : Type 0} (front_at : Option A → List ℕ → Result (List A × List ℕ) ℕ) (spell : List A → List ℕ) (Is : Option A → List A × List ℕ → Type 0) (Are : Option A → List ℕ → List A → Type 0)
+    → ((before : Option A) → Are before [] [])
+    → ((before : Option A) (bytes : List ℕ) → IsBytes bytes → Reads (StandsIn spell (Is before) bytes) (length bytes) (front_at before bytes))
+    → ((before : Option A) (x : List A × List ℕ) (ys : List A) → Is before x → Are (last_of before x.0) x.1 ys → Are before (spell x.0 ++ x.1) (x.0 ++ ys))
+    → (n : ℕ) (before : Option A) (bytes : List ℕ) → IsBytes bytes → Reads (Are before bytes) (length bytes) (all_at front_at n before bytes)
+all_reads front_at spell Is Are none front more n before [] fits = reads_ok (Are before []) 0 [] (none before)
+all_reads front_at spell Is Are none front more zero before (b ∷ bytes) fits = reads_err (Are before (b ∷ bytes)) (length (b ∷ bytes)) (length bytes + 1) (omega arith)
+all_reads front_at spell Is Are none front more (suc n) before (b ∷ bytes) fits =
+    reads_then (StandsIn spell (Is before) (b ∷ bytes)) (Are before (b ∷ bytes)) (length (b ∷ bytes)) (length (b ∷ bytes)) (front_at before (b ∷ bytes)) _ (front before (b ∷ bytes) fits) (omega arith) (λ x is.
+    reads_then (Are (last_of before x.0) x.1) (Are before (b ∷ bytes)) (length x.1) (length (b ∷ bytes)) (all_at front_at n (last_of before x.0) x.1) _ (all_reads front_at spell Is Are none front more n (last_of before x.0) x.1 is.rest_fits) (stands_within spell (Is before) (b ∷ bytes) x is) (λ ys are.
+    reads_ok (Are before (b ∷ bytes)) (length (b ∷ bytes)) (x.0 ++ ys) (subst (λ (bs : List ℕ). Are before bs (x.0 ++ ys)) (sym is.parts) (more before x ys is.holds are))))

@@ -1,32 +1,22 @@
 -- Blocks: what is read as a block is spelled so, and what is spelled so is read; and so along all blocks of a list.
-use Rattle.std.specs.Prelude.{◌≡◌, ◌⊎◌, ℕ, zero, suc, ◌+◌, ◌-◌, ◌^◌, ◌<◌, ◌≤◌, max, true, false, cond, nat_lt, ◌==◌, ◌&&◌, List, [], ◌∷◌, ◌++◌, length, take, drop, Option, Some, Result, Ok, Err, refl}
+use Rattle.std.specs.Prelude.{◌≡◌, ◌⊎◌, ℕ, zero, suc, ◌+◌, ◌^◌, ◌<◌, ◌≤◌, max, true, false, cond, nat_lt, List, [], ◌∷◌, ◌++◌, length, take, drop, Option, Some, None, Result, Ok, Err, refl}
 use Rattle.std.proofs.Common.{sym, ap, subst, ◌∙◌, inl, inr, arith, append_assoc}
 use Rattle.std.specs.List.{flat_map}
 use Rattle.std.specs.Int.{w16, w32, to_be_bytes}
-use Rattle.std.proofs.lemmas.Bool.{cases_lt, and_parts, eqb-true, ltb-false, le-ltb, eq-eqb}
+use Rattle.std.proofs.lemmas.Bool.{cases_lt, ltb-false, le-ltb, eq-eqb}
 use Rattle.std.proofs.lemmas.Bool.Decides.{nat_tests}
 use Rattle.std.proofs.lemmas.List.{append-nil, length-append, length-take, length-drop, nil_from_length, take-append-drop, take_at, drop_at, take_all, drop_all}
 use Rattle.sublist_codec.specs.Fields.{Fields}
 use Rattle.time_base.specs.Reading.{◌>>=◌}
 use Rattle.sublist_codec.specs.Steps.{last_of, all_at}
-use Rattle.sublist_codec.specs.Blocks.{inside, Head, top_of, last_doc, head_bytes, head_for, block, pieces, head_front, doc_before, may_lead, is_true, before_more, postings_at, body_at, block_at}
-use Rattle.time_base.proofs.Readings.{ok_is, bind_ok}
-use Rattle.sublist_codec.proofs.Steps.{guard_ok, test_ok}
+use Rattle.sublist_codec.specs.Blocks.{inside, Head, top_of, last_doc, head_bytes, head_for, block, pieces, head_front, doc_before, may_lead, is_true, before_more, postings_at, body_at, block_at, blocks_at}
 use Rattle.time_base.proofs.Bytes.{IsBytes, IsBytes-take, IsBytes-drop, wide16, wide32, number_again}
-use Rattle.sublist_codec.proofs.AllAt.{all_step}
+use Rattle.sublist_codec.proofs.Readings.{Reads, StandsIn, reads_ok, reads_err, reads_if}
+use Rattle.sublist_codec.proofs.AllAt.{all_step, all_reads}
 use Rattle.sublist_codec.proofs.WriteLemmas.{inside_length}
 use Rattle.sublist_codec.proofs.FrontLemmas.{front_is}
-use Rattle.sublist_codec.proofs.BlockLaws.{AreNext, postings_taken, postings_again}
-
--- ---- postings of a block or of several
-
-next-parts : (before : Option Fields) (ps rest : List Fields) → AreNext before (ps ++ rest) → AreNext before ps × AreNext (last_of before ps) rest
-next-parts before [] rest next = (tt, next)
-next-parts before (p ∷ ps) rest next = let more = next-parts (Some p) ps rest next.1 in ((next.0, more.0), more.1)
-
-next-join : (before : Option Fields) (ps rest : List Fields) → AreNext before ps → AreNext (last_of before ps) rest → AreNext before (ps ++ rest)
-next-join before [] rest next more = more
-next-join before (p ∷ ps) rest next more = (next.0, next-join (Some p) ps rest next.1 more)
+use Rattle.sublist_codec.proofs.FieldLemmas.{AreNext, next-parts, next-join}
+use Rattle.sublist_codec.proofs.BlockLaws.{ArePostings, postings_reads, postings_again}
 
 -- ---- headers
 
@@ -81,67 +71,63 @@ lead_passes before head behind lead = grind (arith, nat_tests, lead.some, lead.m
 
 -- ---- a block
 
--- a block that was read is spelled there, and may stand there
-pub record IsBlock (before : Option Fields) (bytes : List ℕ) (read : List Fields × List ℕ) : Type 0 where
+-- the postings of a block: they may stand there, and are as many as can be, or the last
+pub record IsBlock (before : Option Fields) (read : List Fields × List ℕ) : Type 0 where
   pub from : AreNext before read.0
   pub some : 1 ≤ length read.0
   pub most : length read.0 ≤ 128
   pub full : (length read.0 ≡ 128) ⊎ (read.1 ≡ [])
-  pub parts : bytes ≡ block read.0 ++ read.1
-  pub rest_fits : IsBytes read.1
-
-more_ok : {A : Type 0} (behind : ℕ) (r : Result A ℕ) (x : A) → before_more behind r ≡ Ok x → r ≡ Ok x
-more_ok behind (Ok y) x e = e
-more_ok behind (Err left) x e = absurd cc
 
 -- the header of a block is that of its postings
-head_is : (before : Option Fields) (head : Head) (rest : List ℕ) (p : Fields) (ps : List Fields) → IsLead before head (length rest) → p.doc ≡ head.first → length ps ≡ head.count - 1
-    → take head.size rest ≡ inside (p ∷ ps) → head.top ≡ top_of 0 (p ∷ ps) → head.last ≡ last_doc 0 (p ∷ ps) → head ≡ head_for (p ∷ ps)
-head_is before head rest p ps lead doc count same top last =
-    let some = lead.some in
-    let within = lead.within in
-    let count-is : head.count ≡ length (p ∷ ps) = omega arith in
-    let size-is : head.size ≡ length (inside (p ∷ ps)) = omega (arith, length-take head.size rest, ap (λ (xs : List ℕ). length xs) same) in
-    λ i. record { count = count-is i; size = size-is i; top = top i; first = sym doc i; last = last i }
+head_is : (before : Option Fields) (head : Head) (rest : List ℕ) (ps : List Fields) → head.size ≤ length rest → ArePostings before head.first head.count (ps, []) → take head.size rest ≡ inside ps → head.top ≡ top_of 0 ps → head.last ≡ last_doc 0 ps → head ≡ head_for ps
+head_is before head rest ps within are same top last =
+    let size-is : head.size ≡ length (inside ps) = omega (arith, length-take head.size rest, ap (λ (xs : List ℕ). length xs) same) in
+    λ i. record { count = sym are.0 i; size = size-is i; top = top i; first = sym are.1 i; last = last i }
 
-body_taken : (before : Option Fields) (bytes : List ℕ) (head : Head) (rest : List ℕ) (read : List Fields × List ℕ) → head.first < 2 ^ 32 → IsBytes rest → bytes ≡ head_bytes head ++ rest
-    → IsLead before head (length rest) → body_at before bytes head rest ≡ Ok read → IsBlock before bytes read
+body_reads : (before : Option Fields) (bytes : List ℕ) (head : Head) (rest : List ℕ) → head.first < 2 ^ 32 → IsBytes rest → bytes ≡ head_bytes head ++ rest → IsLead before head (length rest) → Reads (StandsIn block (IsBlock before) bytes) (length bytes) (body_at before bytes head rest)
 unfolding body_at
-body_taken before bytes head rest read numbered fits parts lead e =
-    let b = bind_ok (before_more (length (drop head.size rest)) (postings_at before head.first head.count (take head.size rest))) _ read e in
-    let p = postings_taken before head.first head.count (take head.size rest) b.0 numbered lead.doc (IsBytes-take head.size rest fits) (more_ok (length (drop head.size rest)) (postings_at before head.first head.count (take head.size rest)) b.0 b.1) in
-    let t = test_ok (is_true head b.0) (Ok (b.0.0, drop head.size rest)) (length bytes) read b.2 in
-    let w = and_parts (length b.0.1 == 0 && head.top == top_of 0 b.0.0) (head.last == last_doc 0 b.0.0) t.0 in
-    let v = and_parts (length b.0.1 == 0) (head.top == top_of 0 b.0.0) w.0 in
-    let whole = p.first ∷ p.others in
-    let none = nil_from_length b.0.1 (eqb-true (length b.0.1) 0 v.0) in
-    let inner : take head.size rest ≡ inside whole = p.parts ∙ ap (λ (xs : List ℕ). inside whole ++ xs) none ∙ append-nil (inside whole) in
-    let top = subst (λ (ps : List Fields). head.top ≡ top_of 0 ps) p.are (eqb-true head.top (top_of 0 b.0.0) v.1) in
-    let last = subst (λ (ps : List Fields). head.last ≡ last_doc 0 ps) p.are (eqb-true head.last (last_doc 0 b.0.0) w.1) in
-    let is = head_is before head rest p.first p.others lead p.doc_is p.count_is inner top last in
-    let some = lead.some in
-    let most = lead.most in
-    let count = p.count_is in
-    subst (IsBlock before bytes) ((λ i. (sym p.are i, drop head.size rest)) ∙ ok_is (b.0.0, drop head.size rest) read t.1) (record {
-      from = p.next;
-      some = omega arith;
-      most = omega arith;
-      full = elim lead.full as (λ _. (length whole ≡ 128) ⊎ (drop head.size rest ≡ [])) [
-        | inl full ↦ inl (omega arith)
-        | inr end ↦ inr (drop_all head.size rest (omega arith))
-      ];
-      parts = parts ∙ (λ i. head_bytes (is i) ++ sym (take-append-drop head.size rest) i) ∙ ap (λ (xs : List ℕ). head_bytes (head_for whole) ++ (xs ++ drop head.size rest)) inner
-          ∙ sym (append_assoc (head_bytes (head_for whole)) (inside whole) (drop head.size rest));
-      rest_fits = IsBytes-drop head.size rest fits;
-    })
+body_reads before bytes head rest numbered fits parts lead =
+    go (postings_at before head.first head.count (take head.size rest)) (postings_reads before head.first head.count (take head.size rest) numbered lead.some (IsBytes-take head.size rest fits))
+  where
+    go : (r : Result (List Fields × List ℕ) ℕ) → Reads (StandsIn inside (ArePostings before head.first head.count) (take head.size rest)) (length (take head.size rest)) r
+        → Reads (StandsIn block (IsBlock before) bytes) (length bytes) (before_more (length (drop head.size rest)) r >>= λ read. cond (is_true head read) (Ok (read.0, drop head.size rest)) (Err (length bytes)))
+    go (Err left) w = reads_err _ _ (left + length (drop head.size rest)) (omega (arith, w.fails left refl, length-take head.size rest, length-drop head.size rest, lead.within, ap (λ (xs : List ℕ). length xs) parts, length-append (head_bytes head) rest))
+    go (Ok x) w = reads_if _ _ (is_true head x) _ _ (λ e.
+        (let s = w.read x refl in
+        let none : length x.1 ≡ 0 = grind (arith, nat_tests) in
+        let top : head.top ≡ top_of 0 x.0 = grind (arith, nat_tests) in
+        let last : head.last ≡ last_doc 0 x.0 = grind (arith, nat_tests) in
+        let inner : take head.size rest ≡ inside x.0 = s.parts ∙ ap (λ (xs : List ℕ). inside x.0 ++ xs) (nil_from_length x.1 none) ∙ append-nil (inside x.0) in
+        let is = head_is before head rest x.0 lead.within s.holds inner top last in
+        let count = s.holds.0 in
+        let some = lead.some in
+        let most = lead.most in
+        reads_ok _ _ (x.0, drop head.size rest) (record {
+          parts = parts ∙ (λ i. head_bytes (is i) ++ sym (take-append-drop head.size rest) i) ∙ ap (λ (xs : List ℕ). head_bytes (head_for x.0) ++ (xs ++ drop head.size rest)) inner
+              ∙ sym (append_assoc (head_bytes (head_for x.0)) (inside x.0) (drop head.size rest));
+          rest_fits = IsBytes-drop head.size rest fits;
+          holds = record {
+            from = s.holds.2 lead.doc;
+            some = omega arith;
+            most = omega arith;
+            full = elim lead.full as (λ _. (length x.0 ≡ 128) ⊎ (drop head.size rest ≡ [])) [ inl full ↦ inl (omega arith) | inr end ↦ inr (drop_all head.size rest (omega arith)) ];
+          };
+        }))) (λ e. reads_err _ _ (length bytes) (omega arith))
 
-pub block_taken : (before : Option Fields) (bytes : List ℕ) (read : List Fields × List ℕ) → IsBytes bytes → block_at before bytes ≡ Ok read → IsBlock before bytes read
+pub block_reads : (before : Option Fields) (bytes : List ℕ) → IsBytes bytes → Reads (StandsIn block (IsBlock before) bytes) (length bytes) (block_at before bytes)
 unfolding block_at
-block_taken before bytes read fits e =
-    let g = guard_ok (nat_lt (length bytes) 15) (length bytes) _ read e in
-    let t = test_ok (may_lead before (head_front bytes).0 (length (head_front bytes).1)) _ (length bytes) read g.1 in
-    let h = head_back bytes fits (ltb-false (length bytes) 15 g.0) in
-    body_taken before bytes (head_front bytes).0 (head_front bytes).1 read h.first_fits h.rest_fits h.parts (lead_is before (head_front bytes).0 (length (head_front bytes).1) t.0) t.1
+block_reads before bytes fits =
+    let front = head_front bytes in
+    reads_if _ _ (nat_lt (length bytes) 15) _ _ (λ e. reads_err _ _ (length bytes) (omega arith)) (λ e. reads_if _ _ (may_lead before front.0 (length front.1)) _ _
+    (λ f. (let h = head_back bytes fits (ltb-false (length bytes) 15 e) in body_reads before bytes front.0 front.1 h.first_fits h.rest_fits h.parts (lead_is before front.0 (length front.1) f)))
+    (λ f. reads_err _ _ (length bytes) (omega arith)))
+
+block_long : (ps : List Fields) (rest : List ℕ) → 15 + length rest ≤ length (block ps ++ rest)
+block_long ps rest = omega (arith, length-append (block ps) rest, length-append (head_bytes (head_for ps)) (inside ps))
+
+-- what is left behind a block
+pub block_rest : (before : Option Fields) (bytes : List ℕ) (x : List Fields × List ℕ) → IsBytes bytes → block_at before bytes ≡ Ok x → (length x.1 < length bytes) × IsBytes x.1
+block_rest before bytes x fits e = let is = (block_reads before bytes fits).read x e in (omega (arith, block_long x.0 x.1, ap (λ (bs : List ℕ). length bs) is.parts), is.rest_fits)
 
 top_below : (top : ℕ) (before : Option Fields) (ps : List Fields) → top < 2 ^ 32 → AreNext before ps → top_of top ps < 2 ^ 32
 top_below top before [] lt next = lt
@@ -222,26 +208,20 @@ parts_more ps rest bytes behind some short full one more zero le = absurd (omega
 parts_more ps rest bytes behind some short full one more (suc most) le =
     one ∙ ap (λ (xs : List ℕ). block ps ++ xs) (more most (omega (arith, length-append ps rest))) ∙ sym (ap (flat_map block) (piece_more most ps rest some short full))
 
-none_read : (n : ℕ) (before : Option Fields) (bytes : List ℕ) (ps : List Fields) → bytes ≡ [] → all_at block_at n before bytes ≡ Ok ps → ps ≡ []
-none_read n before [] ps none e = sym (ok_is [] ps e)
-none_read n before (b ∷ bytes) ps none e = absurd cc
+none_left : (ps : List Fields) → [] ≡ flat_map block (pieces (length ps) ps) → ps ≡ []
+none_left [] e = refl
+none_left (p ∷ ps) e = absurd cc
 
-pub blocks_taken : (n : ℕ) (before : Option Fields) (bytes : List ℕ) (ps : List Fields) → IsBytes bytes → all_at block_at n before bytes ≡ Ok ps → AreBlocks before bytes ps
-blocks_taken n before [] ps fits e = subst (AreBlocks before []) (ok_is [] ps e) (record { from = tt; parts = λ most le. sym (ap (flat_map block) (pieces_none most)) })
-blocks_taken zero before (b ∷ bytes) ps fits e = absurd cc
-blocks_taken (suc n) before (b ∷ bytes) ps fits e =
-    let f = bind_ok (block_at before (b ∷ bytes)) _ ps e in
-    let t = block_taken before (b ∷ bytes) f.0 fits f.1 in
-    let o = bind_ok (all_at block_at n (last_of before f.0.0) f.0.1) _ ps f.2 in
-    let s = blocks_taken n (last_of before f.0.0) f.0.1 o.0 t.rest_fits o.1 in
-    let end : (length f.0.0 ≡ 128) ⊎ (o.0 ≡ []) = elim t.full as (λ _. (length f.0.0 ≡ 128) ⊎ (o.0 ≡ [])) [ inl full ↦ inl full | inr none ↦ inr (none_read n (last_of before f.0.0) f.0.1 o.0 none o.1) ] in
-    subst (AreBlocks before (b ∷ bytes)) (ok_is (f.0.0 ++ o.0) ps o.2) (record {
-      from = next-join before f.0.0 o.0 t.from s.from;
-      parts = parts_more f.0.0 o.0 (b ∷ bytes) f.0.1 t.some t.most end t.parts s.parts;
-    })
+blocks_more : (before : Option Fields) (x : List Fields × List ℕ) (ys : List Fields) → IsBlock before x → AreBlocks (last_of before x.0) x.1 ys → AreBlocks before (block x.0 ++ x.1) (x.0 ++ ys)
+blocks_more before x ys is are = record {
+  from = next-join before x.0 ys is.from are.from;
+  parts = parts_more x.0 ys (block x.0 ++ x.1) x.1 is.some is.most
+      (elim is.full as (λ _. (length x.0 ≡ 128) ⊎ (ys ≡ [])) [ inl full ↦ inl full | inr none ↦ inr (none_left ys (sym none ∙ are.parts (length ys) (omega arith))) ]) refl are.parts;
+}
 
-block_long : (ps : List Fields) (rest : List ℕ) → 15 + length rest ≤ length (block ps ++ rest)
-block_long ps rest = omega (arith, length-append (block ps) rest, length-append (head_bytes (head_for ps)) (inside ps))
+pub blocks_reads : (bytes : List ℕ) → IsBytes bytes → Reads (AreBlocks None bytes) (length bytes) (blocks_at bytes)
+unfolding blocks_at
+blocks_reads bytes fits = all_reads block_at block IsBlock AreBlocks (λ before. record { from = tt; parts = λ most le. sym (ap (flat_map block) (pieces_none most)) }) block_reads blocks_more (length bytes) None bytes fits
 
 pub blocks_again : (n most : ℕ) (before : Option Fields) (ps : List Fields) → AreNext before ps → length ps ≤ most → length (flat_map block (pieces most ps)) ≤ n → all_at block_at n before (flat_map block (pieces most ps)) ≡ Ok ps
 blocks_again n zero before [] from le long = refl

@@ -13,7 +13,7 @@ use Rattle.sublist_codec.proofs.FieldLemmas.{same_all}
 pub record IsCodec (spelling : List Posting → List ℕ) (reading : List ℕ → Result (List Fields) ℕ) : Type 0 where
   pub again : (list : List Posting) → IsList list → reading (spelling list) ≡ Ok (map fields list)
   pub back : (bytes : List ℕ) (xs : List Fields) → IsBytes bytes → reading bytes ≡ Ok xs → (list : List Posting) × IsList list × (map fields list ≡ xs) × (bytes ≡ spelling list)
-  pub left : (bytes : List ℕ) (left : ℕ) → reading bytes ≡ Err left → left ≤ length bytes
+  pub left : (bytes : List ℕ) (left : ℕ) → IsBytes bytes → reading bytes ≡ Err left → left ≤ length bytes
 
 -- what is read as the numbers of postings is their list, and spelled so
 pub codec_found : (spelling : List Posting → List ℕ) (reading : List ℕ → Result (List Fields) ℕ) → IsCodec spelling reading
@@ -37,7 +37,7 @@ a_fault spelling reading codec bytes fits none = go (reading bytes) refl
   where
     go : (r : Result (List Fields) ℕ) → reading bytes ≡ r → (at : ℕ) × IsFaultOf reading bytes at
     go (Ok xs) is = let s = codec.back bytes xs fits is in absurd (none s.0 s.1 s.3)
-    go (Err left) is = let le = codec.left bytes left is in (length bytes - left, (left, omega arith, is))
+    go (Err left) is = let le = codec.left bytes left fits is in (length bytes - left, (left, omega arith, is))
 
 one_fault : (reading : List ℕ → Result (List Fields) ℕ) (bytes : List ℕ) (a b : ℕ) → IsFaultOf reading bytes a → IsFaultOf reading bytes b → a ≡ b
 one_fault reading bytes a b f g = let same : f.0 ≡ g.0 = left_is f.0 g.0 (sym f.2 ∙ g.2) in let x = f.1 in let y = g.1 in omega arith

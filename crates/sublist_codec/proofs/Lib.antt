@@ -1,4 +1,5 @@
 mod Steps
+mod Readings
 mod AllAt
 mod FieldLemmas
 pub mod LayoutLemmas

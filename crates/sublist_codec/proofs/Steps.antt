@@ -14,15 +14,6 @@ pub guard_some : {A : Type 0} (b : Bool) (o : Option A) (y : A) → cond b None 
 guard_some true o y e = absurd cc
 guard_some false o y e = (refl, e)
 
--- a test whose failure is one, and which passed
-pub guard_ok : {A : Type 0} (b : Bool) (left : ℕ) (r : Result A ℕ) (y : A) → cond b (Err left) r ≡ Ok y → (b ≡ false) × (r ≡ Ok y)
-guard_ok true left r y e = absurd cc
-guard_ok false left r y e = (refl, e)
-
-pub test_ok : {A : Type 0} (b : Bool) (r : Result A ℕ) (left : ℕ) (y : A) → cond b r (Err left) ≡ Ok y → (b ≡ true) × (r ≡ Ok y)
-test_ok true r left y e = (refl, e)
-test_ok false r left y e = absurd cc
-
 abbrev pub failed : {A : Type 0} → ℕ → Result A ℕ
 failed left = Err left
 

@@ -1,7 +1,11 @@
 use Rattle.std.proofs.Common.{arith}
 use Rattle.sublist_codec.specs.Fields.{seen}
-use Rattle.sublist_codec.proofs.BlockLemmas.{postings_left}
+use Rattle.time_base.proofs.Bytes.{IsBytes-take}
+use Rattle.sublist_codec.proofs.BlockLaws.{postings_reads}
 use Rattle.sublist_codec.proofs.block_reading.body_at.Goals as goal
 
 pub overflow_add-result : goal.overflow_add-result
-overflow_add-result c = let h = postings_left (seen c.args.before) c.args.head.first.0 c.args.head.count c.split_at.result.0.now c.in-Err-Form.left (rw c.in-Err-Form.field-0-is at c.in-Err-Form.ensures) in let a = c.split_at.ensures.front_len in let b = c.split_at.ensures.back_len in rw c.in-Err-Form.field-0-is (omega arith)
+overflow_add-result c =
+    let inside = postings_reads (seen c.args.before) c.args.head.first.0 c.args.head.count c.split_at.result.0.now c.requires.doc c.requires.some (rw c.split_at.ensures.front (IsBytes-take c.args.head.size c.args.rest.now (λ i. omega (arith, c.type_inv.rest i)))) in
+    let h = inside.fails c.in-Err-Form.left (rw c.in-Err-Form.field-0-is at c.in-Err-Form.ensures) in
+    rw c.in-Err-Form.field-0-is (omega (arith, h, c.split_at.ensures.front_len, c.split_at.ensures.back_len))

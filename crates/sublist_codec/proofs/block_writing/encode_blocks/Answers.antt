@@ -1,10 +1,10 @@
-use Rattle.std.proofs.Common.{◌<◌, ◌∙◌, length, sym, ap, arith}
+use Rattle.std.proofs.Common.{◌∙◌, length, sym, ap, arith}
 use Rattle.std.proofs.lemmas.Bool.{eqb-false}
 use Rattle.std.proofs.lemmas.List.{length-take, length-drop}
 use Rattle.std.specs.Prelude.{List, ◌++◌, map}
 use Rattle.time_base.specs.declared.posting.Posting.{Posting}
 use Rattle.sublist_codec.specs.Fields.{fields}
-use Rattle.sublist_codec.specs.Blocks.{block, block_spelling}
+use Rattle.sublist_codec.specs.Blocks.{block}
 use Rattle.sublist_codec.proofs.WriteLemmas.{cut_begins, cut_more, list-take, list-drop}
 use Rattle.sublist_codec.proofs.block_writing.encode_blocks.Goals as goal
 

@@ -1,4 +1,4 @@
-use Rattle.std.proofs.Common.{◌<◌, ◌≤◌, length, ◌∙◌, sym, arith}
+use Rattle.std.proofs.Common.{length, ◌∙◌, sym, arith}
 use Rattle.std.proofs.lemmas.Bool.{eqb-false}
 use Rattle.sublist_codec.specs.Heads.{head_of}
 use Rattle.sublist_codec.proofs.FrameLemmas.{framed_begins, framed_more, framed_shorter, framed_fails}
