@@ -19,7 +19,7 @@ use Rattle.archive_check.specs.Checked.{IsChecked}
 use Rattle.archive_check.specs.Verdicts.{Tells, with_texts}
 use Rattle.archive_check.proofs.SoundLemmas.{stands_sound}
 use Rattle.archive_check.proofs.LawLemmas.{verdicts_are_one}
-use Rattle.archive_replay.proofs.TextLemmas.{texts_are}
+use Rattle.archive_replay.proofs.PlaceLemmas.{texts_are}
 use Rattle.version_store.specs.declared.change.Change.{Change}
 use Rattle.archive_state.specs.Plans.{live_plans}
 use Rattle.archive_audit.specs.Laws.{OneVerdictOnAnImage}

@@ -21,7 +21,7 @@ use Rattle.archive_state.specs.Histories.{changes}
 use Rattle.archive_state.specs.declared.stored.StoredPlan.{StoredPlan}
 use Rattle.archive_replay.specs.Texts.{bare, nothing}
 use Rattle.archive_replay.proofs.PlaceLemmas.{bare_changes}
-use Rattle.archive_replay.proofs.RisingLemmas.{loadable_rises}
+use Rattle.archive_replay.proofs.IndexLemmas.{loadable_rises}
 use Rattle.archive_state.specs.declared.verdict.Verdict.{Verdict}
 use Rattle.archive_state.specs.declared.verdict.Verdict.TheVariants.{Sound, Differs, NotLeast, BadText}
 use Rattle.archive_check.specs.Verdicts.{with_texts, IsText, IsUpTo, IsFirstBad, IsPlanned, found_in, wanted_of, DifferAt, SegmentDiffers, IsLeastSpace, IsSound, HasDifference, TakesMore, FirstFault, AllSound, Says}

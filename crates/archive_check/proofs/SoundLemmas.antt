@@ -31,7 +31,7 @@ use Rattle.archive_state.specs.Stands.{Stands}
 use Rattle.archive_state.specs.Steps.{sound_of}
 use Rattle.archive_state.proofs.LiveLemmas.{live_planned}
 use Rattle.archive_replay.specs.Places.{ArePlaced}
-use Rattle.archive_replay.proofs.TextLemmas.{texts_are}
+use Rattle.archive_replay.proofs.PlaceLemmas.{texts_are}
 use Rattle.archive_check.specs.Orders.{AreByNumber}
 use Rattle.archive_check.specs.Verdicts.{with_texts, IsText, IsSound, Tells, IsVerdict}
 use Rattle.archive_check.specs.Laws.{WhatStandsIsSound, ANewArchiveIsSound}

@@ -20,7 +20,7 @@ use Rattle.archive_state.specs.Stands.{bodies_of}
 use Rattle.archive_core.specs.States.{ArchiveState, StandsFor, AreInStep}
 use Rattle.archive_replay.specs.Places.{pair_of, placed_by, places}
 use Rattle.archive_replay.specs.Texts.{text_in, LiesIn}
-use Rattle.archive_replay.proofs.TextLemmas.{texts_are}
+use Rattle.archive_replay.proofs.PlaceLemmas.{texts_are}
 
 -- what reads give spells the bodies of the history that is in step with them
 pub in_step_spelled : (d : DiskState) (a : ArchiveState) (h : History) → MayLeave d.now d.holds → AreInStep d a h → Spells d.holds.journal (bodies_of h)

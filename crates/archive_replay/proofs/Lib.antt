@@ -1,6 +1,4 @@
 pub mod PlaceLemmas
-pub mod TextLemmas
-pub mod RisingLemmas
 pub mod IndexLemmas
 mod ListLemmas
 mod LiveLemmas

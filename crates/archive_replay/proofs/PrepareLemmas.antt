@@ -24,10 +24,7 @@ use Rattle.archive_replay.specs.Entries.{IsNext}
 use Rattle.archive_replay.proofs.IndexLemmas.{words_full, words_within}
 use Rattle.archive_replay.proofs.PlaceLemmas.{placed_arrive_refusal, placed_delete_refusal}
 
--- the directory's refusal of a change is the history's
-arrival_as : (cs : List (Change TextPlace)) (h : History) (doc : DocId) (at : Time) → ArePlaced 16 h cs → arrive_refusal doc at cs ≡ arrive_refusal doc at (changes h)
-arrival_as cs h doc at placed = placed_arrive_refusal doc at 16 h cs placed
-
+-- the directory's refusal of a deletion is the history's
 deletion_as : (cs : List (Change TextPlace)) (h : History) (doc : DocId) (at : Time) → ArePlaced 16 h cs → option_map refusal_of (delete_refusal doc at cs) ≡ entry_refusal h (Delete doc at)
 deletion_as cs h doc at placed = ap (option_map refusal_of) (placed_delete_refusal doc at 16 h cs placed)
 
@@ -35,7 +32,7 @@ pub arrive_refused : (cs : List (Change TextPlace)) (h : History) (doc : DocId) 
     → length text ≤ most_text → IsUtf8 text → arrive_refusal doc at cs ≡ Some v → why ≡ refusal_of v → arrival_refusal h doc at text ≡ Some why
 arrive_refused cs h doc at text v why placed short good refused same =
     arrival_refused-good h doc at text short good
-    ∙ cause-not_allowed h (Arrive doc at text) why (arrival-refused h doc at text v (sym (arrival_as cs h doc at placed) ∙ refused) ∙ ap (λ (w : Refusal). Some w) (sym same))
+    ∙ cause-not_allowed h (Arrive doc at text) why (arrival-refused h doc at text v (sym (placed_arrive_refusal doc at 16 h cs placed) ∙ refused) ∙ ap (λ (w : Refusal). Some w) (sym same))
 
 -- there would be too many words
 pub words_refused : (cs : List (Change TextPlace)) (h : History) (doc : DocId) (at : Time) (text : List ℕ) → ArePlaced 16 h cs → length text ≤ most_text → IsUtf8 text → arrive_refusal doc at cs ≡ None
@@ -44,7 +41,7 @@ words_refused cs h doc at text placed short good allowed over =
     let full = words_full h (Arrive doc at text) tt over in
     arrival_refused-good h doc at text short good
     ∙ cause-not_allowed h (Arrive doc at text) (Full Words (limit_of Words))
-    (arrival-words h doc at text (sym (arrival_as cs h doc at placed) ∙ allowed) ∙ ap (λ (o : Option Refusal). first_of (o ∷ [])) full)
+    (arrival-words h doc at text (sym (placed_arrive_refusal doc at 16 h cs placed) ∙ allowed) ∙ ap (λ (o : Option Refusal). first_of (o ∷ [])) full)
 
 pub delete_refused : (cs : List (Change TextPlace)) (h : History) (doc : DocId) (at : Time) (v : VersionRefusal) (why : Refusal) → ArePlaced 16 h cs
     → delete_refusal doc at cs ≡ Some v → why ≡ refusal_of v → deletion_refusal h doc at ≡ Some why
@@ -58,7 +55,7 @@ pub arrival_prepared : (cs : List (Change TextPlace)) (h : History) (doc : DocId
     → IsNext h (Arrive doc at text) (record { doc = doc; at = at; held = Some (length str) }) body × (arrival_refusal h doc at text ≡ first_of (full_journal h (Arrive doc at text) ∷ []))
 arrival_prepared cs h doc at text str body placed fits short good same allowed within spelled =
     let may : entry_refusal h (Arrive doc at text) ≡ None =
-    arrival-words h doc at text (sym (arrival_as cs h doc at placed) ∙ allowed) ∙ ap (λ (o : Option Refusal). first_of (o ∷ [])) (words_within h (Arrive doc at text) tt within) in (
+    arrival-words h doc at text (sym (placed_arrive_refusal doc at 16 h cs placed) ∙ allowed) ∙ ap (λ (o : Option Refusal). first_of (o ∷ [])) (words_within h (Arrive doc at text) tt within) in (
       record {
         legal = record { ranges = (fits, at.before_now, short, good); allowed = may; planned = tt };
         makes = (refl, refl, ap (λ (l : List ℕ). Some (length l)) same);

@@ -171,11 +171,8 @@ placed_last : (h : History) (cs : List (Change TextPlace)) → ArePlaced 16 h cs
 placed_last h cs placed =
     sym (last_time-mapped (nothing {A = TextPlace}) cs) ∙ ap last_time (bare_changes 16 h cs placed) ∙ last_time-mapped (nothing {A = List ℕ}) (changes h)
 
-timely_same : (h : History) (cs : List (Change TextPlace)) (plan : PlanEntry) → ArePlaced 16 h cs → IsTimely cs plan → IsTimely (changes h) plan
-timely_same h cs plan placed timely = (timely.0, (sym (placed_last h cs placed) ∙ timely.1.0, timely.1.1))
-
-timely_back : (h : History) (cs : List (Change TextPlace)) (plan : PlanEntry) → ArePlaced 16 h cs → IsTimely (changes h) plan → IsTimely cs plan
-timely_back h cs plan placed timely = (timely.0, (placed_last h cs placed ∙ timely.1.0, timely.1.1))
+timely_by : {A B : Type 0} (cs : List (Change A)) (ds : List (Change B)) (plan : PlanEntry) → last_time cs ≡ last_time ds → IsTimely cs plan → IsTimely ds plan
+timely_by cs ds plan same timely = (timely.0, (sym same ∙ timely.1.0, timely.1.1))
 
 -- the test of it
 pub timely_at : (cs : List (Change TextPlace)) (plan : PlanEntry) (last : Time) (b : Bool) → last_time cs ≡ Some last → (IsTrue b ↔ (plan.horizon.seconds ≤ last.seconds)) → IsTrue b ↔ IsTimely cs plan
@@ -200,7 +197,7 @@ plan_over gate h plan cs plans loader reached ranges timely loads =
       entry = Planned plan;
       spelled = refl;
       reached = record {
-        opens = open_push [] h (Planned plan) reached.opens (record { ranges = ranges; allowed = refl; timely = timely_same h cs plan reached.placed timely });
+        opens = open_push [] h (Planned plan) reached.opens (record { ranges = ranges; allowed = refl; timely = timely_by cs (changes h) plan (placed_last h cs reached.placed) timely });
         gate_is = omega (arith, reached.gate_is, end_of-push h (Planned plan));
         placed = placed_plan h cs plan reached.placed;
         plans_are = ap (λ (l : List StoredPlan). l ++ record { gate = gate; plan = plan } ∷ []) reached.plans_are ∙ sym (plans_push h (Planned plan) gate reached.gate_is);
@@ -211,7 +208,7 @@ plan_over gate h plan cs plans loader reached ranges timely loads =
 pub plan_there : (gate : ℕ) (h : History) (plan : PlanEntry) (cs : List (Change TextPlace)) (plans : List StoredPlan) (at : ℕ)
     → IsReached gate h cs plans → IsEntry (Planned plan) → (IsTimely cs plan → ⊥) → at ≡ gate → IsFaulty gate h (spelling (Planned plan)) at
 plan_there gate h plan cs plans at reached ranges late here =
-    inr (record { entry = Planned plan; ranges = ranges; spelled = refl; refused = λ may. late (timely_back h cs plan reached.placed (planned_timely h plan may.planned)) }, here)
+    inr (record { entry = Planned plan; ranges = ranges; spelled = refl; refused = λ may. late (timely_by (changes h) cs plan (sym (placed_last h cs reached.placed)) (planned_timely h plan may.planned)) }, here)
 
 -- ---- bodies, one after another
 

@@ -23,11 +23,11 @@ use Rattle.archive_state.specs.Legal.{MayCome, EachMayCome, IsLoadable, IsLoadab
 use Rattle.postings.proofs.Clipping.{one_list_of}
 use Rattle.archive_state.specs.Answers.{frequency_at}
 use Rattle.archive_state.specs.Planning.{IsListUpTo, last_second}
-use Rattle.archive_state.specs.Plans.{with_plan, with_entry, live_after, live_plans}
+use Rattle.archive_state.specs.Plans.{IsChange, with_plan, with_entry, live_after, live_plans}
 use Rattle.archive_state.specs.Stands.{bodies_of}
 use Rattle.archive_state.proofs.HistoryLemmas.{come-push, end_of-push, end_of_is}
 use Rattle.archive_state.proofs.LiveLemmas.{list_stays, list_was}
-use Rattle.archive_replay.specs.Replaying.{IsTimely, AreOpen, plans_in, plans_from, IsFitIn, IsFirstUnfit, IsNextBad, IsReplayed, IsBadAmong}
+use Rattle.archive_replay.specs.Replaying.{IsTimely, IsOpen, AreOpen, plans_in, plans_from, IsFitIn, IsFirstUnfit, IsNextBad, IsReplayed, IsBadAmong}
 use Rattle.gate_journal.proofs.HeadLemmas.{length-front, length_heads, row_end}
 use Rattle.archive_replay.proofs.ReplayLemmas.{open_allowed}
 
@@ -66,18 +66,20 @@ may_fit whole before h gate plan is opens may =
 further : (whole before h : History) (e : Entry) → whole ≡ before ++ e ∷ h → whole ≡ (before ++ e ∷ []) ++ h
 further whole before h e is = is ∙ sym (append_assoc before (e ∷ []) h)
 
+-- a change of a document may come as far as was asked of it
+change_may : (before : History) (e : Entry) → IsChange e → IsOpen before e → MayCome IsFitFor before e
+change_may before (Arrive doc at text) change opens = record { ranges = opens.ranges; allowed = opens.allowed; planned = tt }
+change_may before (Delete doc at) change opens = record { ranges = opens.ranges; allowed = opens.allowed; planned = tt }
+change_may before (Planned plan) change opens = absurd change
+
 -- ---- all of them
 
 settle_all : (whole before h : History) (gate : ℕ) → whole ≡ before ++ h → AreOpen before h → All (IsFitIn whole) (plans_from gate h) → EachMayCome IsFitFor before h
 settle_all whole before [] gate is opens fit = tt
-settle_all whole before (Arrive doc at text ∷ h) gate is opens fit = (
-  record { ranges = opens.0.ranges; allowed = opens.0.allowed; planned = tt },
-  settle_all whole (before ++ Arrive doc at text ∷ []) h (gate + 5 + length (spelling (Arrive doc at text))) (further whole before h (Arrive doc at text) is) opens.1 fit,
-)
-settle_all whole before (Delete doc at ∷ h) gate is opens fit = (
-  record { ranges = opens.0.ranges; allowed = opens.0.allowed; planned = tt },
-  settle_all whole (before ++ Delete doc at ∷ []) h (gate + 5 + length (spelling (Delete doc at))) (further whole before h (Delete doc at) is) opens.1 fit,
-)
+settle_all whole before (Arrive doc at text ∷ h) gate is opens fit =
+    let e = Arrive doc at text in (change_may before e tt opens.0, settle_all whole (before ++ e ∷ []) h (gate + 5 + length (spelling e)) (further whole before h e is) opens.1 fit)
+settle_all whole before (Delete doc at ∷ h) gate is opens fit =
+    let e = Delete doc at in (change_may before e tt opens.0, settle_all whole (before ++ e ∷ []) h (gate + 5 + length (spelling e)) (further whole before h e is) opens.1 fit)
 settle_all whole before (Planned plan ∷ h) gate is opens fit =
     let then = gate + 5 + length (spelling (Planned plan)) in
     let s : StoredPlan = record { gate = gate; plan = plan } in (
@@ -129,12 +131,12 @@ settle_first whole before [] gate at is opens loads here unfit = absurd (none un
     none (f ∷ front) same = omega (arith, ap length same)
 settle_first whole before (Arrive doc at_ text ∷ h) gate at is opens loads here unfit =
     let e = Arrive doc at_ text in
-    settle_first whole (before ++ e ∷ []) h (gate + 5 + length (spelling e)) at (further whole before h e is) opens.1
-    (come-push IsFitFor before e loads (record { ranges = opens.0.ranges; allowed = opens.0.allowed; planned = tt })) (next_gate before e gate here) unfit
+    settle_first whole (before ++ e ∷ []) h (gate + 5 + length (spelling e)) at (further whole before h e is) opens.1 (come-push IsFitFor before e loads (change_may before e tt opens.0))
+    (next_gate before e gate here) unfit
 settle_first whole before (Delete doc at_ ∷ h) gate at is opens loads here unfit =
     let e = Delete doc at_ in
-    settle_first whole (before ++ e ∷ []) h (gate + 5 + length (spelling e)) at (further whole before h e is) opens.1
-    (come-push IsFitFor before e loads (record { ranges = opens.0.ranges; allowed = opens.0.allowed; planned = tt })) (next_gate before e gate here) unfit
+    settle_first whole (before ++ e ∷ []) h (gate + 5 + length (spelling e)) at (further whole before h e is) opens.1 (come-push IsFitFor before e loads (change_may before e tt opens.0))
+    (next_gate before e gate here) unfit
 settle_first whole before (Planned plan ∷ h) gate at is opens loads here unfit =
     elim (unfit_further whole (record { gate = gate; plan = plan }) (plans_from (gate + 5 + length (spelling (Planned plan))) h) at unfit) [
       | inl on ↦ settle_first whole (before ++ Planned plan ∷ []) h (gate + 5 + length (spelling (Planned plan))) at (further whole before h (Planned plan) is) opens.1

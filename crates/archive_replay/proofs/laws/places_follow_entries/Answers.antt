@@ -1,5 +1,4 @@
-use Rattle.archive_replay.proofs.PlaceLemmas.{bare_changes, placed_more, placed_plan}
-use Rattle.archive_replay.proofs.TextLemmas.{texts_are}
+use Rattle.archive_replay.proofs.PlaceLemmas.{bare_changes, placed_more, placed_plan, texts_are}
 use Rattle.archive_replay.proofs.laws.places_follow_entries.Goals as goal
 
 pub returns-clause-alike : goal.returns-clause-alike
