@@ -1,5 +1,5 @@
 -- Sizes between any times by those between boundaries.
-use Rattle.std.specs.Prelude.{◌≡◌, ◌⊎◌, ℕ, ◌-◌, ◌+◌, ◌<◌, ◌≤◌, ◌&&◌, nat_lt, List, length, slice_index, Contains}
+use Rattle.std.specs.Prelude.{◌≡◌, ◌⊎◌, ℕ, ◌-◌, ◌+◌, ◌<◌, ◌≤◌, ◌&&◌, nat_lt, List, slice_index, Contains}
 use Rattle.std.specs.List.Sorted.{IsStrictlyIncreasing}
 use Rattle.std.proofs.Common.{arith, ap}
 use Rattle.std.proofs.lemmas.Bool.Decides.{nat_tests}
@@ -10,13 +10,7 @@ use Rattle.elementary.specs.Boundaries.{AreBoundaries}
 use Rattle.elementary.proofs.Places.{apart}
 use Rattle.elementary.proofs.Sums.{bit, sum_same}
 use Rattle.elementary.proofs.Tables.{ends_in}
-
--- Place k has the first of the times that is after t, and one isn't.
-pub record IsNext (times : List ℕ) (t k : ℕ) : Type 0 where
-  pub behind : 0 < k
-  pub inside : k < length times
-  pub to : slice_index times (k - 1) ≤ t
-  pub after : t < slice_index times k
+use Rattle.stored_plans.specs.Steps.{IsNext}
 
 -- no time is between
 beside : (times : List ℕ) → IsStrictlyIncreasing times → (t k x : ℕ) → IsNext times t k → Contains times x → (x ≤ slice_index times (k - 1)) ⊎ (slice_index times k ≤ x)

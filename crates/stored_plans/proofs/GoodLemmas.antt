@@ -1,25 +1,30 @@
--- What holds of plans by their kinds. Under a space bound it is so for any load.
-use Rattle.std.specs.Prelude.{◌≡◌, ℕ, ◌-◌, ◌^◌, ◌<◌, ◌≤◌, List, [], ◌∷◌, length, slice_index, All, Some, None, refl}
+-- What holds of plans by their kinds, and what is tested of them. Under a space bound it is so for any load.
+use Rattle.std.specs.Prelude.{◌≡◌, ◌↔◌, ℕ, suc, ◌-◌, ◌^◌, ◌<◌, ◌≤◌, List, [], ◌∷◌, ◌++◌, map, drop, length, slice_index, All, Contains, Some, None, refl}
 use Rattle.std.specs.List.Sorted.{IsStrictlyIncreasing}
 use Rattle.std.proofs.Common.{arith, ap, sym, ◌∙◌, subst, inl, inr}
+use Rattle.std.proofs.Math.ListN.{length-append}
+use Rattle.std.proofs.lemmas.List.{length-map}
+use Rattle.std.proofs.lemmas.List.Elements.{All-cons}
 use Rattle.time_base.specs.declared.time.Time.{Time}
 use Rattle.time_base.specs.declared.posting.Posting.{Posting}
 use Rattle.time_base.specs.declared.fraction.Fraction.{Fraction}
 use Rattle.commands.specs.declared.command.Kind.{Kind}
 use Rattle.commands.specs.declared.command.Kind.TheVariants.{Guarantee, Uniform, Since}
-use Rattle.elementary.specs.Boundaries.{IsFirst, AreBoundaries}
+use Rattle.elementary.specs.Boundaries.{AreBoundaries}
+use Rattle.elementary.specs.Partitions.{widest, space, Covers, IsPartition, IsFitting}
 use Rattle.elementary.proofs.Ordering.{each_has_boundaries, one_list_of_boundaries}
 use Rattle.elementary.proofs.Places.{rises}
 use Rattle.elementary.proofs.Tables.{two_boundaries, last_is_horizon}
+use Rattle.space_planner.specs.Caps.{cap}
 use Rattle.space_planner.specs.Costs.{Ascends, expected_cost}
 use Rattle.space_planner.specs.Loads.{weights_by}
-use Rattle.space_planner.specs.Plans.{IsEligible, IsBestUnder}
+use Rattle.space_planner.specs.Plans.{IsEligible}
 use Rattle.space_planner.proofs.CapLemmas.{capped}
 use Rattle.space_planner.proofs.ShortLemmas.{short}
 use Rattle.space_planner.proofs.ThereIsABest.{each_has_a_best}
-use Rattle.stored_plans.specs.Plans.{later, each_second, each_second_since, IsBest, IsBestPlan, IsCappedPlan, IsPlanCost, IsFitFor}
-use Rattle.stored_plans.specs.Laws.{GoodPlansAreFit, EachListHasAGoodPlan, EachGoodPlanHasACost, GoodPlansCostTheSame, GoodPlansAreShort, FitPlansAreWellCut}
-use Rattle.stored_plans.proofs.PlanLemmas.{least_is_fit, each_has_a_plan, seconds_are, later_long, ascends_is, first_is, fit_ascends, narrow_cuts}
+use Rattle.stored_plans.specs.Plans.{later, each_second, each_second_since, IsBestPlan, IsNarrow, IsFitPlan, IsCappedPlan, IsPlanCost, IsFitFor}
+use Rattle.stored_plans.specs.Laws.{BeginsFirst, GoodPlansAreFit, EachListHasAGoodPlan, EachGoodPlanHasACost, GoodPlansCostTheSame, GoodPlansAreShort, FitPlansAreWellCut}
+use Rattle.stored_plans.proofs.PlanLemmas.{least_is_fit, each_has_a_plan, seconds_are, later_long, ends_at, ascends_is, first_is, fit_ascends, narrow_cuts}
 
 -- ---- ascending cuts
 
@@ -68,21 +73,15 @@ best_has_a_cost : (load : ℕ → ℕ → ℕ) (list : List Posting) (factor : F
 best_has_a_cost load list factor [] h b = absurd b
 best_has_a_cost load list factor (f ∷ cuts) h b = (expected_cost list f.seconds (later cuts h) b.times (weights_by load b.times), (b.times, b.times_are, refl))
 
--- a best partition by other names of the boundaries and of the first of them
-best_at : (load : ℕ → ℕ → ℕ) (list : List Posting) (factor : Fraction) (f : ℕ) (cuts : List ℕ) (h : ℕ) (times : List ℕ) → AreBoundaries list h times → IsBest load list factor f cuts h
-    → (f ≡ slice_index times 0) × IsBestUnder list times (weights_by load times) factor (slice_index times 0) h cuts
-best_at load list factor f cuts h times b x =
-    let e = (first_is list h times b f).0 x.first in
-    (e, rw (one_list_of_boundaries list h x.times times x.times_are b, e) at x.best)
-
 best_cost_the_same : (load : ℕ → ℕ → ℕ) (list : List Posting) (factor : Fraction) (one other : List Time) (h n m : ℕ) → IsBestPlan load list factor one h → IsBestPlan load list factor other h
     → IsPlanCost load list one h n → IsPlanCost load list other h m → n ≡ m
 best_cost_the_same load list factor [] other h n m x y c d = absurd x
 best_cost_the_same load list factor (f ∷ one) [] h n m x y c d = absurd y
 best_cost_the_same load list factor (f ∷ one) (g ∷ other) h n m x y (times, b, c) (those, b', d) =
-    let (e, u) = best_at load list factor f.seconds (later one h) h times b x in
-    let (i, v) = best_at load list factor g.seconds (later other h) h times b y in
-    omega (arith, rw e at c, rw (one_list_of_boundaries list h those times b' b, i) at d, u.best (later other h) v.eligible, v.best (later one h) u.eligible)
+    let first : g.seconds ≡ f.seconds = omega (arith, x.first.none_before g.seconds y.first.is, y.first.none_before f.seconds x.first.is) in
+    let same = λ (ts : List ℕ) (a : AreBoundaries list h ts). one_list_of_boundaries list h ts x.times a x.times_are in
+    let v = rw (same y.times y.times_are, first) at y.best in
+    omega (arith, rw (same times b) at c, rw (same those b', first) at d, x.best.best (later other h) v.eligible, v.best (later one h) x.best.eligible)
 
 best_is_short : (load : ℕ → ℕ → ℕ) (list : List Posting) (factor : Fraction) (cuts : List Time) (h : ℕ) → IsBestPlan load list factor cuts h → length cuts ≤ 1048575
 best_is_short load list factor [] h b = absurd b
@@ -117,18 +116,53 @@ good_are_short Guarantee list factor cuts horizon (n, least) = narrow_cuts list 
 good_are_short Uniform list factor cuts horizon b = best_is_short each_second list factor cuts horizon.seconds b
 good_are_short (Since at) list factor cuts horizon b = best_is_short (each_second_since at.seconds) list factor cuts horizon.seconds b
 
-none_is_fit : (kind : Kind) (list : List Posting) (factor : Fraction) (h : ℕ) → IsFitFor kind list factor [] h → ⊥
-none_is_fit Guarantee list factor h fit = fit.1
-none_is_fit Uniform list factor h fit = fit
-none_is_fit (Since at) list factor h fit = fit
+-- ---- what is tested
 
-fit_begins : (kind : Kind) (list : List Posting) (factor : Fraction) (f : Time) (cuts : List Time) (h : ℕ) → IsFitFor kind list factor (f ∷ cuts) h → IsFirst list h f.seconds × IsStrictlyIncreasing (later (f ∷ cuts) h)
-fit_begins Guarantee list factor f cuts h (n, fit) = (fit.first, fit_ascends list factor f cuts h fit)
-fit_begins Uniform list factor f cuts h fit = (fit.first, (ascends_is f cuts h).1 fit.ascends)
-fit_begins (Since at) list factor f cuts h fit = (fit.first, (ascends_is f cuts h).1 fit.ascends)
+capped_well_cut : (list : List Posting) (factor : Fraction) (cuts : List Time) (horizon : Time) → IsCappedPlan list factor cuts horizon.seconds
+    → (1 ≤ length cuts) × BeginsFirst list cuts horizon.seconds × IsStrictlyIncreasing (map (λ (t : Time). t.seconds) (cuts ++ horizon ∷ []))
+capped_well_cut list factor [] horizon fit = absurd fit
+capped_well_cut list factor (f ∷ cuts) horizon fit = (omega arith, fit.first, subst (λ (xs : List ℕ). IsStrictlyIncreasing xs) (seconds_are f cuts horizon) ((ascends_is f cuts horizon.seconds).1 fit.ascends))
 
 pub fit_well_cut : FitPlansAreWellCut
-fit_well_cut kind list factor [] horizon fit = absurd (none_is_fit kind list factor horizon.seconds fit)
-fit_well_cut kind list factor (f ∷ cuts) horizon fit =
-    let (first, up) = fit_begins kind list factor f cuts horizon.seconds fit in
-    (omega arith, first, subst (λ (xs : List ℕ). IsStrictlyIncreasing xs) (seconds_are f cuts horizon) up)
+fit_well_cut Guarantee list factor [] horizon (n, fit) = absurd fit
+fit_well_cut Guarantee list factor (f ∷ cuts) horizon (n, fit) = (omega arith, fit.first, subst (λ (xs : List ℕ). IsStrictlyIncreasing xs) (seconds_are f cuts horizon) (fit_ascends list factor f cuts horizon.seconds fit))
+fit_well_cut Uniform list factor cuts horizon fit = capped_well_cut list factor cuts horizon fit
+fit_well_cut (Since at) list factor cuts horizon fit = capped_well_cut list factor cuts horizon fit
+
+-- a plan that may be loaded is a partition
+pub fit_is_partition : (kind : Kind) (list : List Posting) (factor : Fraction) (cuts : List Time) (horizon : Time) → IsFitFor kind list factor cuts horizon.seconds → IsPartition (map (λ (t : Time). t.seconds) (cuts ++ horizon ∷ []))
+fit_is_partition kind list factor cuts horizon fit =
+    let w = fit_well_cut kind list factor cuts horizon fit in
+    record { many = omega (arith, w.0, length-map (cuts ++ horizon ∷ []) (λ (t : Time). t.seconds), length-append cuts (horizon ∷ [])); ascending = w.2 }
+
+-- the test of one under a space bound, and that of one that keeps to a guarantee
+pub keeps_bound : (list : List Posting) (factor : Fraction) (times p : List ℕ) (cuts : List Time) (horizon : Time) → AreBoundaries list horizon.seconds times → IsPartition p → p ≡ map (λ (t : Time). t.seconds) (cuts ++ horizon ∷ [])
+    → ((slice_index p 0 ≡ slice_index times 0) × (space list (slice_index p 0) (drop 1 p) ≤ cap factor (length list))) ↔ IsCappedPlan list factor cuts horizon.seconds
+keeps_bound list factor times p [] horizon b part e = absurd (omega (arith, part.many, ap length e))
+keeps_bound list factor times p (f ∷ cuts) horizon b part e =
+    let first = first_is list horizon.seconds times b f.seconds in
+    let whole : p ≡ f.seconds ∷ later cuts horizon.seconds = e ∙ sym (seconds_are f cuts horizon) in
+    rw whole (
+      λ k. record { first = first.1 k.0; ascends = (ascends_is f cuts horizon.seconds).0 (rw whole at part.ascending); capped = k.1 },
+      λ fit. (first.0 fit.first, fit.capped),
+    )
+
+pub keeps_guarantee : (list : List Posting) (factor : Fraction) (times p : List ℕ) (cuts : List Time) (horizon : Time) → AreBoundaries list horizon.seconds times → All (λ p. p.span.to ≤ horizon.seconds) list
+    → IsPartition p → p ≡ map (λ (t : Time). t.seconds) (cuts ++ horizon ∷ [])
+    → ((length times ≤ widest) × IsFitting times p × Covers list factor (slice_index p 0) (drop 1 p) horizon.seconds) ↔ (IsNarrow list horizon.seconds × IsFitPlan list factor cuts horizon.seconds)
+keeps_guarantee list factor times p [] horizon b early part e = absurd (omega (arith, part.many, ap length e))
+keeps_guarantee list factor times p (f ∷ cuts) horizon b early part e =
+    let first = first_is list horizon.seconds times b f.seconds in
+    let whole : p ≡ f.seconds ∷ later cuts horizon.seconds = e ∙ sym (seconds_are f cuts horizon) in
+    rw whole (
+      λ (few, fits, covers). ((times, b, few), record { first = first.1 fits.first; at_boundaries = λ i d l. (b.each _).0 (fits.inside (suc i) d (omega (arith, l))); covers = covers }),
+      λ ((those, c, few), fit). (
+        omega (arith, few, ap length (one_list_of_boundaries list horizon.seconds times those b c)),
+        record {
+          first = first.0 fit.first;
+          last = ends_at (f ∷ cuts) horizon.seconds ∙ sym (last_is_horizon list horizon.seconds times b early);
+          inside = All-cons (Contains times) f.seconds (later cuts horizon.seconds) ((b.each _).1 fit.first.is) (λ i d l. (b.each _).1 (fit.at_boundaries i d l));
+        },
+        fit.covers,
+      ),
+    )

@@ -1,4 +1,3 @@
 mod CapLemmas
-mod FitLemmas
 pub mod GoodLemmas
 pub mod PlanLemmas

@@ -7,6 +7,7 @@ ghost use Rattle.postings.specs.Sizes.{size};
 ghost use Rattle.elementary.specs.Counts.{Tabulates};
 ghost use Rattle.elementary.specs.Partitions.{space};
 ghost use Rattle.space_planner.specs.Caps.{cap};
+ghost use Rattle.stored_plans.specs.Steps.{IsNext};
 
 use elementary::{Partition, Table};
 use time_base::Fraction;
@@ -18,10 +19,7 @@ fn first_after(times: &[u64], t: u64) -> usize
     requires some { 0 < length times.now }
     requires first { slice_index times.now 0 ≤ t }
     requires last { t < slice_index times.now (length times.now - 1) }
-    ensures behind { 0 < result }
-    ensures inside { result < length times.now }
-    ensures to { slice_index times.now (result - 1) ≤ t }
-    ensures after { t < slice_index times.now result }
+    ensures { IsNext times.now t result }
 {
     times.partition_point(|x| *x <= t)
 }
@@ -43,6 +41,7 @@ fn size_of(table: &Table, f: u64, g: u64) -> u64
 
 /// The sizes of the segments between the cuts, added up. Costs time in the cuts, and for each the
 /// logarithm of the boundaries.
+#[tactic(auto, using(elementary::proofs::Places::not_falling, elementary::proofs::Places::rises))]
 fn space_of(table: &Table, cuts: &[u64]) -> u128
     requires ascending { IsStrictlyIncreasing cuts.now }
     requires some { 0 < length cuts.now }
@@ -51,17 +50,17 @@ fn space_of(table: &Table, cuts: &[u64]) -> u128
     ensures { (list : List Posting) (horizon : ℕ) → Tabulates list horizon table.now → result ≡ space list (slice_index cuts.now 0) (drop 1 cuts.now) }
 {
     let mut total = 0;
-    for k in 1..cuts.len() {
-        total += u128::from(size_of(table, cuts[k - 1], cuts[k]));
+    for k in 0..cuts.len() - 1 {
+        total += u128::from(size_of(table, cuts[k], cuts[k + 1]));
     }
     total
 }
 
-/// The most postings that a plan of the table's list may take under a factor.
-fn cap_of(table: &Table, factor: Fraction) -> u128
-    ensures { (list : List Posting) (horizon : ℕ) → Tabulates list horizon table.now → result ≡ cap factor (length list) }
+/// The most postings that a plan of a list of so many may take under a factor.
+fn cap_of(factor: Fraction, postings: u64) -> u128
+    ensures { result ≡ cap factor postings }
 {
-    u128::from(factor.over) * u128::from(table.postings()) / u128::from(factor.under)
+    u128::from(factor.over) * u128::from(postings) / u128::from(factor.under)
 }
 
 /// Whether a partition begins at the table's first boundary, and its segments together have at most the
@@ -72,5 +71,5 @@ pub(crate) fn keeps_cap(table: &Table, partition: &Partition, factor: Fraction) 
     ensures { (list : List Posting) (horizon : ℕ) → Tabulates list horizon table.now → (IsTrue result ↔ ((slice_index partition.now 0 ≡ slice_index table.now.boundaries 0) × (space list (slice_index partition.now 0) (drop 1 partition.now) ≤ cap factor (length list)))) }
 {
     let cuts = partition.cuts();
-    cuts[0] == table.boundaries()[0] && space_of(table, cuts) <= cap_of(table, factor)
+    cuts[0] == table.boundaries()[0] && space_of(table, cuts) <= cap_of(factor, table.postings())
 }

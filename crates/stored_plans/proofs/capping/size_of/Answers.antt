@@ -1,6 +1,6 @@
 use Rattle.std.proofs.Common.{◌-◌, ◌∙◌, arith, sym}
 use Rattle.elementary.proofs.Places.{place_below}
-use Rattle.stored_plans.proofs.CapLemmas.{IsNext, size_around}
+use Rattle.stored_plans.proofs.CapLemmas.{size_around}
 use Rattle.stored_plans.proofs.capping.size_of.Goals as goal
 
 pub size-requires-clause-order : goal.size-requires-clause-order
@@ -10,10 +10,5 @@ size-requires-clause-order c =
 
 pub returns-clause-count : goal.returns-clause-count
 returns-clause-count c list horizon t =
-    let from = c.first_after-from.ensures in
-    let to = c.first_after-to.ensures in
-    let left : IsNext c.boundaries-times.result.now c.args.f c.first_after-from.result = record { behind = from.behind; inside = from.inside; to = from.to; after = from.after } in
-    let right : IsNext c.boundaries-times.result.now (c.args.g - 1) c.first_after-to.result = record { behind = to.behind; inside = to.inside; to = to.to; after = to.after } in
     let same = c.boundaries-times.ensures.value in
-    c.size.ensures.count list horizon t ∙ sym (size_around list horizon c.args.table.now.boundaries t.boundaries c.args.f c.args.g c.first_after-from.result c.first_after-to.result c.requires.order
-    (rw same at left) (rw same at right))
+    c.size.ensures.count list horizon t ∙ sym (size_around list horizon c.args.table.now.boundaries t.boundaries c.args.f c.args.g _ _ c.requires.order (rw same at c.first_after-from.ensures) (rw same at c.first_after-to.ensures))

@@ -1,4 +1,4 @@
-use Rattle.std.proofs.Common.{◌≡◌, ℕ, ◌+◌, ◌-◌, ◌*◌, ◌^◌, ◌≤◌, List, drop}
+use Rattle.std.proofs.Common.{◌≡◌, ℕ, ◌+◌, ◌*◌, ◌^◌, ◌≤◌, List, drop}
 use Rattle.std.specs.Prelude.{slice_index}
 use Rattle.time_base.specs.declared.posting.Posting.{Posting}
 use Rattle.elementary.specs.Counts.{Tabulates}
@@ -7,8 +7,6 @@ use Rattle.stored_plans.proofs.capping.space_of.Given as goal
 
 abbrev pub invariant-loop-k : goal.invariant-loop-k
 invariant-loop-k l = record {
-  some : 1 ≤ l.k;
-  left : (list : List Posting) (horizon : ℕ) → Tabulates list horizon l.table
-      → l.total + space list (slice_index l.cuts (l.k - 1)) (drop l.k l.cuts) ≡ space list (slice_index l.cuts 0) (drop 1 l.cuts);
-  bound : l.total ≤ (l.k - 1) * 2 ^ 38;
+  left : (list : List Posting) (horizon : ℕ) → Tabulates list horizon l.table → l.total + space list (slice_index l.cuts l.k) (drop (l.k + 1) l.cuts) ≡ space list (slice_index l.cuts 0) (drop 1 l.cuts);
+  bound : l.total ≤ l.k * 2 ^ 38;
 }
