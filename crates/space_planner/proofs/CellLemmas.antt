@@ -1,13 +1,13 @@
 -- The cells of one more stop, by those of the lower ones.
-use Rattle.std.specs.Prelude.{◌≡◌, ◌⊎◌, ℕ, zero, suc, ◌+◌, ◌-◌, ◌*◌, ◌^◌, ◌<◌, ◌≤◌, Option, Some, None, List, [], ◌∷◌, ◌++◌, length, slice_index, slice_index_or, All, IfSome, refl}
-use Rattle.std.proofs.Common.{arith, ap, sym, ◌∙◌, subst, inl, inr, le-leb, length-append}
+use Rattle.std.specs.Prelude.{◌≡◌, ◌⊎◌, ℕ, ◌+◌, ◌-◌, ◌*◌, ◌^◌, ◌<◌, ◌≤◌, Option, Some, None, List, [], ◌∷◌, ◌++◌, length, slice_index, slice_index_or, All, IfSome, refl}
+use Rattle.std.proofs.Common.{arith, sym, subst, inl, inr, le-leb, length-append}
 use Rattle.std.proofs.lemmas.Bool.{cases_lt, lt-leb}
 use Rattle.std.proofs.lemmas.Nat.{mul-add-lt}
 use Rattle.std.proofs.lemmas.List.{get_or_append_left, get_or-append-add}
 use Rattle.std.proofs.lemmas.List.Elements.{All-append, All-from_get_or}
 use Rattle.space_planner.specs.Costs.{along}
-use Rattle.space_planner.specs.Steps.{IsLeast, IsPath, IsCell, cell, AreCells, plus, through, least_of, lesser, IsRow}
-use Rattle.space_planner.proofs.LeastLemmas.{Begins, least_behind, From, least_of_all}
+use Rattle.space_planner.specs.Steps.{IsLeast, IsPath, IsCell, cell, AreCells, plus, through, IsLeastWay, IsRow}
+use Rattle.space_planner.proofs.LeastLemmas.{Begins, least_behind, BeginsBelow, least_of_all}
 
 -- the place of a cell
 pub flat : (i n c width : ℕ) → i < n → c < width → i * width + c < n * width
@@ -26,22 +26,17 @@ module _ (charge cost : ℕ → ℕ → ℕ) (width n i c : ℕ) (cells : List (
           (least_behind (IsPath charge j (c - slice_index charges j)) (λ x. IsPath charge i c (j ∷ x)) (along cost j) (along cost i) j (cost i j) (cell cells width j (c - slice_index charges j)) (λ x. refl)
           (λ x p. ((l, p.0), omega (arith, p.1, q j l, ge))) (λ x p. (p.0.1, omega (arith, p.1, q j l))) (s.each j (c - slice_index charges j) (omega arith) (omega arith)))
 
-  pub cell_by : 0 < i → IsCell charge cost i c (least_of (through cells width charges costs c) i)
+  pub cell_by : 0 < i → (o : Option ℕ) → IsLeastWay (through cells width charges costs c) i o → IsCell charge cost i c o
   cell_by some = least_of_all (IsPath charge i c) (along cost i) (through cells width charges costs c) i from by_leg
     where
-      from : (x : List ℕ) → IsPath charge i c x → From (IsPath charge i c) i x
+      from : (x : List ℕ) → IsPath charge i c x → BeginsBelow i x
       from [] p = absurd (omega (arith, some, p.0))
-      from (j ∷ x) p = (p.0.0, p)
+      from (j ∷ x) p = p.0.0
 
 -- bounds on costs
-least_low : (m : ℕ) (ways : ℕ → Option ℕ) (n : ℕ) → ((j : ℕ) → j < n → IfSome (ways j) (λ w. w ≤ m)) → IfSome (least_of ways n) (λ w. w ≤ m)
-least_low m ways zero h = tt
-least_low m ways (suc n) h = both (least_of ways n) (ways n) (least_low m ways n (λ j l. h j (omega arith))) (h n (omega arith))
-  where
-    both : (a b : Option ℕ) → IfSome a (λ w. w ≤ m) → IfSome b (λ w. w ≤ m) → IfSome (lesser a b) (λ w. w ≤ m)
-    both None b p q = q
-    both (Some v) None p q = p
-    both (Some v) (Some w) p q = omega (arith, p, q)
+least_low : (m : ℕ) (ways : ℕ → Option ℕ) (n : ℕ) (o : Option ℕ) → IsLeastWay ways n o → ((j : ℕ) → j < n → IfSome (ways j) (λ w. w ≤ m)) → IfSome o (λ w. w ≤ m)
+least_low m ways n None none h = tt
+least_low m ways n (Some v) (to, (l, e, low)) h = rw e at (h to l)
 
 plus_low : (x a b : ℕ) (o : Option ℕ) → x ≤ a → IfSome o (λ w. w ≤ b) → IfSome (plus x o) (λ w. w ≤ a + b)
 plus_low x a b None l h = tt
@@ -70,8 +65,8 @@ cells_more charge cost width n cells row charges costs some s q k few long r = r
       (All-from_get_or (λ o. IfSome o (λ w. w ≤ (n + 1) * 2 ^ 118)) row None (λ c l. low c (omega (arith, r.long))));
 }
   where
-    here : (c : ℕ) → c < width → slice_index_or row c None ≡ least_of (through cells width charges costs c) n
-    here c m = r.each c m ∙ ap (λ x. least_of (through cells width charges costs c) x) long
+    here : (c : ℕ) → c < width → IsLeastWay (through cells width charges costs c) n (slice_index_or row c None)
+    here c m = rw long at (r.each c m)
 
     go : (i c : ℕ) → c < width → ((i < n) ⊎ (n ≤ i)) → i < n + 1 → IsCell charge cost i c (cell (cells ++ row) width i c)
     go i c m (inl lt) u = subst (λ (o : Option ℕ). IsCell charge cost i c o) (sym (get_or_append_left cells row None (i * width + c) (omega (arith, flat i n c width lt m, s.long)))) (s.each i c lt m)
@@ -79,9 +74,9 @@ cells_more charge cost width n cells row charges costs some s q k few long r = r
         let e : n ≡ i = omega arith in
         let f : length cells + c ≡ n * width + c = omega (arith, s.long) in
         subst (λ j. IsCell charge cost j c (cell (cells ++ row) width j c)) e
-        (subst (λ (o : Option ℕ). IsCell charge cost n c o) (sym (subst (λ p. slice_index_or (cells ++ row) p None ≡ least_of (through cells width charges costs c) n) f (get_or-append-add cells row c None ∙ here c m)))
-        (cell_by charge cost width n n c cells charges costs (omega arith) m s q k some))
+        (subst (λ (o : Option ℕ). IsCell charge cost n c o) (sym (subst (λ p. slice_index_or (cells ++ row) p None ≡ slice_index_or row c None) f (get_or-append-add cells row c None)))
+        (cell_by charge cost width n n c cells charges costs (omega arith) m s q k some (slice_index_or row c None) (here c m)))
 
     low : (c : ℕ) → c < width → IfSome (slice_index_or row c None) (λ w. w ≤ (n + 1) * 2 ^ 118)
-    low c m = subst (λ (o : Option ℕ). IfSome o (λ w. w ≤ (n + 1) * 2 ^ 118)) (sym (here c m)) (least_low ((n + 1) * 2 ^ 118) (through cells width charges costs c) n
-        (λ j l. wider (2 ^ 118 + n * 2 ^ 118) ((n + 1) * 2 ^ 118) (through cells width charges costs c j) (omega arith) (through_low cells width n c j charges costs s.small (omega (arith, s.long)) few (omega (arith, long)) l m)))
+    low c m = least_low ((n + 1) * 2 ^ 118) (through cells width charges costs c) n (slice_index_or row c None) (here c m)
+        (λ j l. wider (2 ^ 118 + n * 2 ^ 118) ((n + 1) * 2 ^ 118) (through cells width charges costs c j) (omega arith) (through_low cells width n c j charges costs s.small (omega (arith, s.long)) few (omega (arith, long)) l m))

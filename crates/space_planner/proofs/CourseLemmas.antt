@@ -3,7 +3,7 @@ use Rattle.std.specs.Prelude.{◌≡◌, ℕ, ◌-◌, ◌<◌, ◌≤◌, Optio
 use Rattle.std.proofs.Common.{arith, ap, sym, ◌∙◌, subst}
 use Rattle.std.proofs.lemmas.List.{append_assoc, append-nil}
 use Rattle.space_planner.specs.Costs.{along}
-use Rattle.space_planner.specs.Steps.{IsLeastOf, IsLeast, IsPath, IsCell, AreCells, through, IsBestOf, IsCourse}
+use Rattle.space_planner.specs.Steps.{IsLeastOf, IsLeast, IsPath, AreCells, through, IsBestOf, IsCourse}
 use Rattle.space_planner.specs.declared.steps.Next.{Next}
 use Rattle.space_planner.proofs.CellLemmas.{by_leg, cell_by}
 use Rattle.space_planner.proofs.LeastLemmas.{Begins, behind_of}
@@ -33,22 +33,19 @@ module _ (charge cost : ℕ → ℕ → ℕ) (width n at left : ℕ) (cells : Li
     (q : (j : ℕ) → j < at → slice_index charges j ≡ charge at j) (k : (j : ℕ) → j < at → slice_index costs j ≡ cost at j) (some : 0 < at) where
   -- where there is a path there is a way on
   pub way_on : (path : List ℕ) → IsPath charge at left path → (next : Option Next) → IsBestOf (through cells width charges costs left) at next → IsSome next
-  way_on path p None b = absurd (none path p)
-    where
-      none : IsCell charge cost at left None
-      none = subst (λ (o : Option ℕ). IsCell charge cost at left o) b (cell_by charge cost width n at left cells charges costs le w s q k some)
+  way_on path p None b = absurd (cell_by charge cost width n at left cells charges costs le w s q k some None b path p)
   way_on path p (Some next) b = refl
 
   pub course_more : (times places : List ℕ) (m i c most : ℕ) (cuts : List ℕ) (x y : ℕ) (next : Next) → at ≤ m → IsBestOf (through cells width charges costs left) at (Some next)
       → x ≡ slice_index times (slice_index places next.to) → y ≡ slice_index charges next.to
       → IsUnderway charge cost times places m i c most cuts at left → IsUnderway charge cost times places m i c most (cuts ++ x ∷ []) next.to (left - y)
-  course_more times places m i c most cuts x y next a (to, is, least) t l u = go (behind_of (λ z. IsPath charge at left (next.to ∷ z)) (along cost at) next.to next.cost leg)
+  course_more times places m i c most cuts x y next a (to, is, low) t l u = go (behind_of (λ z. IsPath charge at left (next.to ∷ z)) (along cost at) next.to next.cost leg)
     where
       leg : IsLeastOf (Begins (λ z. IsPath charge at left (next.to ∷ z)) next.to) (along cost at) next.cost
       leg = subst (λ (o : Option ℕ). IsLeast (Begins (λ z. IsPath charge at left (next.to ∷ z)) next.to) (along cost at) o) is (by_leg charge cost width n at left cells charges costs le w s q k next.to to)
 
       all : IsLeastOf (IsPath charge at left) (along cost at) next.cost
-      all = subst (λ (o : Option ℕ). IsCell charge cost at left o) least (cell_by charge cost width n at left cells charges costs le w s q k some)
+      all = cell_by charge cost width n at left cells charges costs le w s q k some (Some next.cost) (next.to, (to, is, low))
 
       go : (path : List ℕ) × IsPath charge at left (next.to ∷ path) × (along cost at (next.to ∷ path) ≡ next.cost) → IsUnderway charge cost times places m i c most (cuts ++ x ∷ []) next.to (left - y)
       go (path, p, e) = record {

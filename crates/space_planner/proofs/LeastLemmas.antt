@@ -1,8 +1,8 @@
 -- The least cost of lists of which one of two things holds, and of lists by their first number.
-use Rattle.std.specs.Prelude.{◌≡◌, ◌⊎◌, ℕ, zero, suc, ◌+◌, ◌<◌, ◌≤◌, min, Option, Some, None, List, [], ◌∷◌, refl}
-use Rattle.std.proofs.Common.{arith, ap, sym, ◌∙◌, subst, inl, inr}
+use Rattle.std.specs.Prelude.{◌≡◌, ◌⊎◌, ℕ, zero, suc, ◌+◌, ◌<◌, ◌≤◌, min, Option, Some, None, List, [], ◌∷◌, IfSome, refl}
+use Rattle.std.proofs.Common.{arith, ap, ◌∙◌, subst, inl, inr, below_none, below_more}
 use Rattle.std.proofs.lemmas.Bool.{cases_lt}
-use Rattle.space_planner.specs.Steps.{IsLeastOf, IsLeast, lesser, least_of, plus}
+use Rattle.space_planner.specs.Steps.{IsLeastOf, IsLeast, IsLeastWay, IsBestWay, lesser, plus}
 
 -- the least cost of other lists of the same costs
 pub least_by : (P Q : List ℕ → Type 0) (cost all : List ℕ → ℕ) (o : Option ℕ) → ((x : List ℕ) → P x → (y : List ℕ) × Q y × (all y ≡ cost x)) → ((y : List ℕ) → Q y → (x : List ℕ) × P x × (all y ≡ cost x)) → IsLeast P cost o → IsLeast Q all o
@@ -52,33 +52,59 @@ behind_of Q all g v h = go h.list h.is h.takes
     go [] b t = absurd b
     go (j ∷ x) (e, q) t = (x, q, ap (λ i. all (i ∷ x)) e ∙ t)
 
--- it holds of the list, which begins with a number below another
-abbrev pub From : (List ℕ → Type 0) → ℕ → List ℕ → Type 0
-From P n [] = ⊥
-From P n (j ∷ x) = (j < n) × P (j ∷ x)
+-- the list begins with a number below another
+abbrev pub BeginsBelow : ℕ → List ℕ → Type 0
+BeginsBelow n [] = ⊥
+BeginsBelow n (j ∷ x) = j < n
 
-least_from : (P : List ℕ → Type 0) (cost : List ℕ → ℕ) (ways : ℕ → Option ℕ) (n : ℕ) → ((j : ℕ) → j < n → IsLeast (Begins (λ x. P (j ∷ x)) j) cost (ways j)) → IsLeast (From P n) cost (least_of ways n)
-least_from P cost ways zero h = none
-  where
-    none : (x : List ℕ) → ¬ (From P zero x)
-    none [] b = b
-    none (j ∷ x) (l, p) = omega (arith, l)
-least_from P cost ways (suc n) h = least_either (From P n) (Begins (λ x. P (n ∷ x)) n) (From P (suc n)) cost (least_of ways n) (ways n) to from (least_from P cost ways n (λ j l. h j (omega arith))) (h n (omega arith))
-  where
-    to : (x : List ℕ) → From P n x ⊎ Begins (λ y. P (n ∷ y)) n x → From P (suc n) x
-    to [] (inl b) = b
-    to [] (inr b) = b
-    to (j ∷ x) (inl (l, p)) = (omega (arith, l), p)
-    to (j ∷ x) (inr (e, p)) = (omega (arith, e), subst (λ i. P (i ∷ x)) e p)
+none_less : (P : List ℕ → Type 0) (cost : List ℕ → ℕ) (v : ℕ) (o : Option ℕ) → IsLeast P cost o → IfSome o (λ w. v ≤ w) → (x : List ℕ) → P x → v ≤ cost x
+none_less P cost v None h low x p = absurd (h x p)
+none_less P cost v (Some w) h low x p = omega (arith, low, h.least x p)
 
-    from : (x : List ℕ) → From P (suc n) x → From P n x ⊎ Begins (λ y. P (n ∷ y)) n x
-    from [] b = inl b
-    from (j ∷ x) (l, p) = elim (cases_lt j n) [ inl m ↦ inl (m, p) | inr m ↦ let e : n ≡ j = omega (arith, l, m) in inr (e, subst (λ i. P (i ∷ x)) (sym e) p) ]
-
--- where each of the lists begins with such a number
-pub least_of_all : (P : List ℕ → Type 0) (cost : List ℕ → ℕ) (ways : ℕ → Option ℕ) (n : ℕ) → ((x : List ℕ) → P x → From P n x) → ((j : ℕ) → j < n → IsLeast (Begins (λ x. P (j ∷ x)) j) cost (ways j)) → IsLeast P cost (least_of ways n)
-least_of_all P cost ways n from h = least_by (From P n) P cost cost (least_of ways n) to (λ x p. (x, from x p, refl)) (least_from P cost ways n h)
+-- where each of the lists begins with such a number, the least of their costs by that number
+pub least_of_all : (P : List ℕ → Type 0) (cost : List ℕ → ℕ) (ways : ℕ → Option ℕ) (n : ℕ) → ((x : List ℕ) → P x → BeginsBelow n x) → ((j : ℕ) → j < n → IsLeast (Begins (λ x. P (j ∷ x)) j) cost (ways j))
+    → (o : Option ℕ) → IsLeastWay ways n o → IsLeast P cost o
+least_of_all P cost ways n from each None none = no_list
   where
-    to : (x : List ℕ) → From P n x → (y : List ℕ) × P y × (cost y ≡ cost x)
-    to [] p = absurd p
-    to (j ∷ x) (l, p) = (j ∷ x, p, refl)
+    no_list : (x : List ℕ) → ¬ (P x)
+    no_list [] p = from [] p
+    no_list (j ∷ x) p = (rw (none j (from (j ∷ x) p)) at (each j (from (j ∷ x) p))) (j ∷ x) (refl, p)
+least_of_all P cost ways n from each (Some v) (to, (l, e, low)) =
+    let (x, p, t) = behind_of (λ x. P (to ∷ x)) cost to v (rw e at (each to l)) in
+    record { list = to ∷ x; is = p; takes = t; least = least }
+  where
+    least : (x : List ℕ) → P x → v ≤ cost x
+    least [] p = absurd (from [] p)
+    least (j ∷ x) p = none_less (Begins (λ y. P (j ∷ y)) j) cost v (ways j) (each j (from (j ∷ x) p)) (low j (from (j ∷ x) p)) (j ∷ x) (refl, p)
+
+-- ---- one way more
+
+lower : (v w : ℕ) (o : Option ℕ) → w ≤ v → IfSome o (λ x. v ≤ x) → IfSome o (λ x. w ≤ x)
+lower v w None l h = tt
+lower v w (Some x) l h = omega (arith, l, h)
+
+-- it costs no less than the best
+way_kept : (ways : ℕ → Option ℕ) (n to v : ℕ) → IsBestWay ways n to v → IfSome (ways n) (λ w. v ≤ w) → IsBestWay ways (n + 1) to v
+way_kept ways n to v (l, e, low) h = (omega arith, e, below_more (λ j. IfSome (ways j) (λ w. v ≤ w)) n low h)
+
+-- it costs no more than any
+way_new : (ways : ℕ → Option ℕ) (n v : ℕ) → ways n ≡ Some v → ((j : ℕ) → j < n → IfSome (ways j) (λ w. v ≤ w)) → IsBestWay ways (n + 1) n v
+way_new ways n v e low = (omega arith, e, below_more (λ j. IfSome (ways j) (λ w. v ≤ w)) n low (rw e (omega arith)))
+
+-- the least cost, then, is the lesser of the least so far and that of the new way
+pub least_more : (ways : ℕ → Option ℕ) (n : ℕ) (a b : Option ℕ) → ways n ≡ b → IsLeastWay ways n a → IsLeastWay ways (n + 1) (lesser a b)
+least_more ways n None None e none = below_more (λ j. ways j ≡ None) n none e
+least_more ways n None (Some w) e none = (n, way_new ways n w e (λ j l. rw (none j l) tt))
+least_more ways n (Some v) None e (to, b) = (to, way_kept ways n to v b (rw e tt))
+least_more ways n (Some v) (Some w) e (to, b) = elim (cases_lt v w) [
+  | inl l ↦ let is : min v w ≡ v = omega (arith, l) in rw is (to, way_kept ways n to v b (rw e (omega (arith, l))))
+  | inr l ↦ let is : min v w ≡ w = omega (arith, l) in rw is (n, way_new ways n w e (λ j m. lower v w (ways j) l (b.2 j m)))
+]
+
+-- there is a least one, or none
+pub least_way : (ways : ℕ → Option ℕ) (n : ℕ) → (o : Option ℕ) × IsLeastWay ways n o
+least_way ways zero = (None, below_none (λ j. ways j ≡ None))
+least_way ways (suc n) =
+    let (o, h) = least_way ways n in
+    let e : n + 1 ≡ suc n = omega arith in
+    (lesser o (ways n), subst (λ m. IsLeastWay ways m (lesser o (ways n))) e (least_more ways n o (ways n) refl h))

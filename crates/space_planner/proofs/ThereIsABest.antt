@@ -9,9 +9,9 @@ use Rattle.space_planner.specs.Caps.{cap, unit, budget, charge, IsCandidate}
 use Rattle.space_planner.specs.Costs.{Ascends, along, expected_cost}
 use Rattle.space_planner.specs.Laws.{EachListHasABest}
 use Rattle.space_planner.specs.Plans.{IsWithin, IsEligible, IsBestUnder}
-use Rattle.space_planner.specs.Steps.{IsLeast, lesser, least_of, plus}
+use Rattle.space_planner.specs.Steps.{IsLeast, lesser, plus}
 use Rattle.space_planner.proofs.CostLemmas.{weighed, cost_by_segments}
-use Rattle.space_planner.proofs.LeastLemmas.{least_by, least_either, Begins, least_behind, From, least_of_all}
+use Rattle.space_planner.proofs.LeastLemmas.{least_by, least_either, Begins, least_behind, BeginsBelow, least_of_all, least_way}
 use Rattle.space_planner.proofs.ShortLemmas.{place, numbered}
 
 -- whether a time is a candidate is decided by the first 128 numbers
@@ -75,9 +75,9 @@ module _ (list : List Posting) (times weights : List ℕ) (u horizon : ℕ) wher
   ]
 
   -- before the end there is a first cut
-  cut : (f c : ℕ) → f < horizon → (x : List ℕ) → IsWithin list times u c f horizon x → From (IsWithin list times u c f horizon) (horizon + 1) x
+  cut : (f c : ℕ) → f < horizon → (x : List ℕ) → IsWithin list times u c f horizon x → BeginsBelow (horizon + 1) x
   cut f c l [] w = absurd (omega (arith, l, w.ascends))
-  cut f c l (g ∷ x) w = (omega (arith, ends x g w.ascends.1), w)
+  cut f c l (g ∷ x) w = omega (arith, ends x g w.ascends.1)
 
   -- the least cost from f on, for at most the charge c
   least_cost : (n f c : ℕ) → horizon ≤ f + n → (o : Option ℕ) × IsLeast (IsWithin list times u c f horizon) (along (value list times weights) f) o
@@ -87,7 +87,8 @@ module _ (list : List Posting) (times weights : List ℕ) (u horizon : ℕ) wher
     | inl h ↦ let way : (g : ℕ) → (o : Option ℕ) × IsLeast (Begins (λ x. IsWithin list times u c f horizon (g ∷ x)) g) (along (value list times weights) f) o =
         λ g. behind_cut f c g (both_or_not (f < g) (IsCandidate times g × (charge u (size f g list) ≤ c)) (at_most_or_not (suc f) g) (both_or_not (IsCandidate times g) (charge u (size f g list) ≤ c) (candidate_or_not times g) (at_most_or_not (charge u (size f g list)) c)))
         (λ m. least_cost n g (c - charge u (size f g list)) (omega (arith, l, m))) in
-        (least_of (λ g. (way g).0) (horizon + 1), least_of_all (IsWithin list times u c f horizon) (along (value list times weights) f) (λ g. (way g).0) (horizon + 1) (λ x w. cut f c h x w) (λ g m. (way g).1))
+        let (o, least) = least_way (λ g. (way g).0) (horizon + 1) in
+        (o, least_of_all (IsWithin list times u c f horizon) (along (value list times weights) f) (λ g. (way g).0) (horizon + 1) (λ x w. cut f c h x w) (λ g m. (way g).1) o least)
   ]
 
 -- the least cost of the one piece and of what keeps the budget

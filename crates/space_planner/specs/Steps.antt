@@ -1,5 +1,5 @@
 -- The steps of planning. Stops are the candidates, numbered from the last; a leg leads from a stop to a lower one.
-use Rattle.std.specs.Prelude.{◌≡◌, ◌⊎◌, ◌↔◌, ℕ, zero, suc, ◌+◌, ◌-◌, ◌*◌, ◌^◌, ◌<◌, ◌≤◌, nat_le, nat_lt, if◌then◌else◌, min, Option, Some, None, List, [], ◌∷◌, ◌++◌, map, length, slice_index, slice_index_or, All, Contains, IfSome}
+use Rattle.std.specs.Prelude.{◌≡◌, ◌⊎◌, ◌↔◌, ℕ, ◌+◌, ◌-◌, ◌*◌, ◌^◌, ◌<◌, ◌≤◌, nat_le, nat_lt, if◌then◌else◌, min, Option, Some, None, List, [], ◌∷◌, ◌++◌, map, length, slice_index, slice_index_or, All, Contains, IfSome}
 use Rattle.std.specs.List.Sorted.{IsStrictlyIncreasing}
 use Rattle.space_planner.specs.declared.point.Point.{Point}
 use Rattle.elementary.specs.Counts.{Counts, size_between}
@@ -88,20 +88,28 @@ lesser None b = b
 lesser (Some v) None = Some v
 lesser (Some v) (Some w) = Some (min v w)
 
--- The least of the first costs.
-abbrev pub least_of : (ℕ → Option ℕ) → ℕ → Option ℕ
-least_of ways zero = None
-least_of ways (suc n) = lesser (least_of ways n) (ways n)
+-- There is no way among the first n.
+abbrev pub IsNoWay : (ℕ → Option ℕ) → ℕ → Type 0
+IsNoWay ways n = (j : ℕ) → j < n → ways j ≡ None
+
+-- The one to stop `to` costs v, and none of the first n costs less.
+abbrev pub IsBestWay : (ℕ → Option ℕ) → ℕ → ℕ → ℕ → Type 0
+IsBestWay ways n to v = (to < n) × (ways to ≡ Some v) × ((j : ℕ) → j < n → IfSome (ways j) (λ w. v ≤ w))
+
+-- The least of the first n costs, where there are any: one of the ways costs so much, and none costs less.
+abbrev pub IsLeastWay : (ℕ → Option ℕ) → ℕ → Option ℕ → Type 0
+IsLeastWay ways n None = IsNoWay ways n
+IsLeastWay ways n (Some v) = (to : ℕ) × IsBestWay ways n to v
 
 -- The best way on among the first n: none where there is no way.
 abbrev pub IsBestOf : (ℕ → Option ℕ) → ℕ → Option Next → Type 0
-IsBestOf ways n None = least_of ways n ≡ None
-IsBestOf ways n (Some next) = (next.to < n) × (ways next.to ≡ Some next.cost) × (least_of ways n ≡ Some next.cost)
+IsBestOf ways n None = IsNoWay ways n
+IsBestOf ways n (Some next) = IsBestWay ways n next.to next.cost
 
 -- The cells of one more stop, by its first legs.
 pub record IsRow (cells : List (Option ℕ)) (width : ℕ) (charges costs : List ℕ) (row : List (Option ℕ)) (legs : ℕ) : Type 0 where
   pub long : length row ≡ width
-  pub each : (c : ℕ) → c < width → slice_index_or row c None ≡ least_of (through cells width charges costs c) legs
+  pub each : (c : ℕ) → c < width → IsLeastWay (through cells width charges costs c) legs (slice_index_or row c None)
 
 -- The cuts are the times of a path from stop i that is charged and costs at most so much.
 pub record IsCourse (charge cost : ℕ → ℕ → ℕ) (times places : List ℕ) (i c v : ℕ) (cuts : List ℕ) : Type 0 where

@@ -1,6 +1,6 @@
 //! One step of the dynamic program: the legs from a stop, and the best of them.
 ghost use Rattle.std.specs.Prelude.{◌≡◌, ℕ, ◌+◌, ◌-◌, ◌*◌, ◌<◌, ◌≤◌, ◌^◌, Option, List, length, slice_index, slice_index_or, All, IfOk, IfSome, None};
-ghost use Rattle.space_planner.specs.Steps.{AreStops, AreLegs, leg_charge, leg_cost, through, IsBestOf, lesser, IsRow};
+ghost use Rattle.space_planner.specs.Steps.{AreStops, AreLegs, leg_charge, leg_cost, through, lesser, IsLeastWay, IsBestOf, IsRow};
 
 use crate::limits::{Limits, charge};
 use elementary::Table;
@@ -137,7 +137,8 @@ fn lesser(one: Option<u128>, other: Option<u128>) -> Option<u128>
     Some(cost.min(against))
 }
 
-/// Lowers the cells of a row to what the leg to stop `j` makes possible.
+/// Lowers the cells of a row, the least costs by the legs to the stops before `j`, to what the leg to
+/// stop `j` makes possible.
 fn lower_by(row: &mut [Option<u128>], cells: &[Option<u128>], legs: &Legs, j: usize)
     requires inside { j < length legs.now.costs.items }
     requires same { length legs.now.charges.items ≡ length legs.now.costs.items }
@@ -146,7 +147,8 @@ fn lower_by(row: &mut [Option<u128>], cells: &[Option<u128>], legs: &Legs, j: us
     requires stops { length legs.now.costs.items ≤ 128 }
     requires small { All (λ w. w ≤ 2 ^ 118) legs.now.costs.items }
     requires cells { All (λ v. IfSome v (λ w. w ≤ 2 ^ 126)) cells.now }
-    ensures { (c : ℕ) → c < length row.old → slice_index_or row.new c None ≡ lesser (slice_index_or row.old c None) (through cells.now (length row.old) legs.now.charges.items legs.now.costs.items c j) }
+    ensures { (c : ℕ) → c < length row.old → IsLeastWay (through cells.now (length row.old) legs.now.charges.items legs.now.costs.items c) j (slice_index_or row.old c None)
+        → IsLeastWay (through cells.now (length row.old) legs.now.charges.items legs.now.costs.items c) (j + 1) (slice_index_or row.new c None) }
 {
     let width = row.len();
     for c in 0..width {
