@@ -1,14 +1,15 @@
--- Least spaces from boundary to boundary, and the least partition that takes the last of them.
-use Rattle.std.specs.Prelude.{◌≡◌, ℕ, zero, suc, ◌+◌, ◌-◌, ◌^◌, ◌<◌, ◌≤◌, List, [], ◌∷◌, ◌++◌, map, length, slice_index, All, refl}
-use Rattle.std.proofs.Common.{arith, ap, sym, ◌∙◌, subst, inl, inr, below_none}
+-- Least spaces from boundary to boundary, and the least partition that takes the last of them: each is found by a search.
+use Rattle.std.proofs.Common.{arith, ap, sym, ◌∙◌, subst, inl, inr, below_none, ◌≡◌, ℕ, zero, suc, ◌+◌, ◌-◌, ◌^◌, ◌<◌, ◌≤◌, List, [], ◌∷◌, ◌++◌, map, length, slice_index, All, refl, below_more, ◌⊎◌, ◌*◌, nat_lt, nat_le, Bool, true, ◌&&◌, ◌||◌, Decides}
 use Rattle.std.proofs.lemmas.List.{ext_get_or, length_push}
 use Rattle.std.proofs.lemmas.List.Elements.{All-nil, All-cons, All-append, All-head, All-tail, Contains-get_or}
+use Rattle.std.proofs.lemmas.Bool.{cases_lt, cases_Bool}
+use Rattle.std.proofs.lemmas.Bool.Decides.{nat_tests, not_from_Decides, Decides-below_and}
 use Rattle.time_base.specs.declared.time.Time.{Time}
 use Rattle.time_base.specs.declared.posting.Posting.{Posting}
 use Rattle.time_base.specs.declared.fraction.Fraction.{Fraction}
 use Rattle.postings.specs.Sizes.{size, begun, ended}
 use Rattle.elementary.specs.Boundaries.{IsBoundary, IsFirst, AreBoundaries}
-use Rattle.elementary.specs.Counts.{Counts, Tabulates, AdmissibleBetween}
+use Rattle.elementary.specs.Counts.{Counts, Tabulates, AdmissibleBetween, size_between, alive_in}
 use Rattle.elementary.specs.Partitions.{IsAdmissible, Covers, space, IsLeast, IsBest, AreBest}
 use Rattle.elementary.specs.Laws.{EachListHasBest, OneListOfBest, EachListHasALeast, EachListHasALeastPlan}
 use Rattle.elementary.proofs.Places.{rises}
@@ -16,8 +17,51 @@ use Rattle.elementary.proofs.Tables.{some_time, first_le, last_is_horizon, admis
 use Rattle.elementary.proofs.Walk.{AreBounds, paths_cost}
 use Rattle.elementary.proofs.Reaching.{elementary_admissible}
 use Rattle.elementary.proofs.Ordering.{each_has_boundaries}
-use Rattle.elementary.proofs.Searching.{up_to, cheapest, admissible_or_not}
 use Rattle.elementary.proofs.Pushing.{at_end, kept_before}
+
+-- what holds below a number and at it holds below the next
+up_to : (P : ℕ → Type 0) (n : ℕ) → ((i : ℕ) → i < n → P i) → P n → (i : ℕ) → i < suc n → P i
+up_to P n below at i l = below_more P n below at i (omega (arith, l))
+
+-- of these numbers it holds, and of none that costs less
+record IsCheapest (P : ℕ → Type 0) (cost : ℕ → ℕ) (n place : ℕ) : Type 0 where
+  pub below : place < n
+  pub is : P place
+  pub none_cheaper : (i : ℕ) → i < n → P i → cost place ≤ cost i
+
+-- there is a cheapest one, or none at all
+cheapest : (P : ℕ → Type 0) (cost : ℕ → ℕ) (n : ℕ) → ((i : ℕ) → i < n → P i ⊎ ¬ (P i)) → ((place : ℕ) × IsCheapest P cost n place) ⊎ ((i : ℕ) → i < n → ¬ (P i))
+cheapest P cost zero decide = inr (λ i l. absurd (omega (arith, l)))
+cheapest P cost (suc n) decide = go (decide n (omega arith)) (cheapest P cost n (λ i l. decide i (omega (arith, l))))
+  where
+    -- the last one, which costs no more than any other
+    last : P n → ((i : ℕ) → i < n → P i → cost n ≤ cost i) → (place : ℕ) × IsCheapest P cost (suc n) place
+    last so le = (n, record { below = omega arith; is = so; none_cheaper = up_to (λ i. P i → cost n ≤ cost i) n le (λ p. omega arith) })
+
+    -- the cheapest of the others, which costs no more than the last
+    kept : (place : ℕ) → IsCheapest P cost n place → (P n → cost place ≤ cost n) → (best : ℕ) × IsCheapest P cost (suc n) best
+    kept place c le = (place, record { below = omega (arith, c.below); is = c.is; none_cheaper = up_to (λ i. P i → cost place ≤ cost i) n c.none_cheaper le })
+
+    go : P n ⊎ ¬ (P n) → ((place : ℕ) × IsCheapest P cost n place) ⊎ ((i : ℕ) → i < n → ¬ (P i)) → ((place : ℕ) × IsCheapest P cost (suc n) place) ⊎ ((i : ℕ) → i < suc n → ¬ (P i))
+    go (inl so) (inl (place, c)) = inl (elim (cases_lt (cost n) (cost place)) [ inl lt ↦ last so (λ i l p. omega (arith, lt, c.none_cheaper i l p)) | inr le ↦ kept place c (λ p. le) ])
+    go (inl so) (inr none) = inl (last so (λ i l p. absurd (none i l p)))
+    go (inr not_so) (inl (place, c)) = inl (kept place c (λ p. absurd (not_so p)))
+    go (inr not_so) (inr none) = inr (up_to (λ i. ¬ (P i)) n none not_so)
+
+-- a test of the elementary intervals below a number: whether the segment is within the factor of each that lies in it
+abbrev tested : Counts → Fraction → ℕ → ℕ → ℕ → Bool
+tested table factor j k zero = true
+tested table factor j k (suc i) = (nat_lt i j || nat_le (size_between table j k * factor.under) (factor.over * alive_in table i)) && tested table factor j k i
+
+-- so it is decided whether a segment is admissible
+admissible_or_not : (table : Counts) (factor : Fraction) (j k : ℕ) → AdmissibleBetween table factor j k ⊎ ¬ (AdmissibleBetween table factor j k)
+admissible_or_not table factor j k =
+    let decides : Decides (tested table factor j k k) ((i : ℕ) → i < k → j ≤ i → size_between table j k * factor.under ≤ factor.over * alive_in table i) =
+    Decides-below_and (λ i. nat_lt i j || nat_le (size_between table j k * factor.under) (factor.over * alive_in table i)) (λ i. j ≤ i → size_between table j k * factor.under ≤ factor.over * alive_in table i)
+    (tested table factor j k) (λ i. (λ t le. grind (arith, nat_tests), λ w. grind (arith, nat_tests))) refl (λ _. refl) k in elim (cases_Bool (tested table factor j k k)) [
+      | inl t ↦ inl (λ i a b. decides.0 t i b a)
+      | inr f ↦ inr (λ adm. not_from_Decides _ decides f (λ i b a. adm i a b))
+    ]
 
 -- the counts of a list at its boundaries
 abbrev counted : List Posting → List ℕ → Counts
@@ -120,12 +164,11 @@ each_has_best list factor horizon times early b =
     let bounds : AreBounds list factor horizon times numbers = record { times_are = b; edges = λ j k lt l adm. s.edges k (omega arith) j lt adm } in
     (numbers, are_best list factor horizon times numbers bounds s.starts (omega (arith, s.long)) (λ k l. s.ways k (omega arith)))
 
-one_best : (list : List Posting) (factor : Fraction) (horizon f t a b : ℕ) → IsBest list factor horizon f t a → IsBest list factor horizon f t b → a ≡ b
-one_best list factor horizon f t a b x y = omega (arith, x.takes, y.takes, x.least y.cuts y.covers, y.least x.cuts x.covers)
-
 pub one_list_of_best : OneListOfBest
-one_list_of_best list factor horizon times a b x y =
-    ext_get_or 0 a b (x.long ∙ sym y.long) (λ k l. one_best list factor horizon _ _ _ _ (x.each k (omega (arith, l, x.long))) (y.each k (omega (arith, l, x.long))))
+one_list_of_best list factor horizon times a b x y = ext_get_or 0 a b (x.long ∙ sym y.long) (λ k l.
+    let p = x.each k (omega (arith, l, x.long)) in
+    let q = y.each k (omega (arith, l, x.long)) in
+    omega (arith, p.takes, q.takes, p.least q.cuts q.covers, q.least p.cuts p.covers))
 
 -- the least partition is the best one to the last boundary
 pub each_has_a_least : EachListHasALeast
@@ -133,18 +176,14 @@ each_has_a_least list factor horizon early =
     let (times, b) = each_has_boundaries list horizon in
     let (numbers, best) = each_has_best list factor horizon times early b in
     let some : 0 < length times = some_time list horizon times b in
-    let last : IsBest list factor horizon (slice_index times 0) horizon (slice_index numbers (length times - 1)) = rw (last_is_horizon list horizon times b early) at (best.each (length times - 1) (omega arith)) in (
-      slice_index times 0,
-      (
-        last.cuts,
-        record {
-          first = record { is = (b.each _).0 (Contains-get_or times 0 0 some); none_before = λ t c. first_le times b.ascending t ((b.each t).1 c) };
-          at_boundaries = last.at_boundaries;
-          covers = last.covers;
-          least = λ other c. omega (arith, last.takes, last.least other c);
-        },
-      ),
-    )
+    let last : IsBest list factor horizon (slice_index times 0) horizon (slice_index numbers (length times - 1)) = rw (last_is_horizon list horizon times b early) at (best.each (length times - 1) (omega arith)) in
+    let least : IsLeast list factor (slice_index times 0) last.cuts horizon = record {
+      first = record { is = (b.each _).0 (Contains-get_or times 0 0 some); none_before = λ t c. first_le times b.ascending t ((b.each t).1 c) };
+      at_boundaries = last.at_boundaries;
+      covers = last.covers;
+      least = λ other c. omega (arith, last.takes, last.least other c);
+    } in
+    (slice_index times 0, (last.cuts, least))
 
 -- cuts lead to no earlier time
 pub covers_to : (list : List Posting) (factor : Fraction) (cuts : List ℕ) (f end : ℕ) → Covers list factor f cuts end → f ≤ end

@@ -1,15 +1,13 @@
 -- Cuts by their places.
-use Rattle.std.specs.Prelude.{◌≡◌, ◌↔◌, ℕ, ◌+◌, ◌-◌, ◌<◌, ◌≤◌, nat_lt, nat_le, Bool, IsTrue, true, false, List, [], ◌∷◌, ◌++◌, drop, length, slice_index, All, Contains}
+use Rattle.std.proofs.Common.{arith, sym, subst, nat_eq, ◌≡◌, ◌↔◌, ℕ, ◌+◌, ◌-◌, ◌<◌, ◌≤◌, nat_le, Bool, IsTrue, true, false, List, drop, length, slice_index, All, Contains, leb-true, leb-false}
 use Rattle.std.specs.List.Sorted.{IsStrictlyIncreasing}
-use Rattle.std.proofs.Common.{arith, sym, ◌∙◌, subst, nat_eq}
-use Rattle.std.proofs.lemmas.List.{append_assoc, append-nil, drop_more, drop_all, at_drop_more, at_drop_all}
-use Rattle.std.proofs.lemmas.Bool.{leb-true, leb-false, ltb-true, ltb-false}
+use Rattle.std.proofs.lemmas.List.{at_drop_more, at_drop_all}
 use Rattle.std.proofs.lemmas.Bool.Decides.{nat_tests}
 use Rattle.std.proofs.lemmas.List.Elements.{All-get_or}
 use Rattle.time_base.specs.declared.posting.Posting.{Posting}
 use Rattle.time_base.specs.declared.fraction.Fraction.{Fraction}
 use Rattle.postings.specs.Sizes.{size}
-use Rattle.elementary.specs.Partitions.{IsAdmissible, Covers, space, sizes}
+use Rattle.elementary.specs.Partitions.{IsAdmissible, space}
 use Rattle.elementary.specs.Counts.{Counts, Tabulates, AdmissibleBetween}
 use Rattle.elementary.proofs.Places.{place_of, rises}
 use Rattle.elementary.proofs.Tables.{admissible_from_counts, counts_from_admissible}
@@ -63,19 +61,3 @@ space_more list cuts k m total s whole f l e h = subst (λ n. total + s + space 
 
 pub space_end : (list : List Posting) (cuts : List ℕ) (k total f whole : ℕ) → length cuts ≤ k → total + space list f (drop k cuts) ≡ whole → total ≡ whole
 space_end list cuts k total f whole l h = omega (arith, at_drop_all (λ cs. space list f cs) cuts k l)
-
--- the same of the sizes themselves
-pub sizes_step : (list : List Posting) (cuts : List ℕ) (k f : ℕ) (front : List ℕ) (s : ℕ) (whole : List ℕ) → k < length cuts → s ≡ size f (slice_index cuts k) list → front ++ sizes list f (drop k cuts) ≡ whole
-    → (front ++ s ∷ []) ++ sizes list (slice_index cuts k) (drop (k + 1) cuts) ≡ whole
-sizes_step list cuts k f front s whole l e h = rw (append_assoc, e) (rw (drop_more cuts k 0 l) at h)
-
-pub sizes_end : (list : List Posting) (cuts : List ℕ) (k : ℕ) (front : List ℕ) (f : ℕ) (whole : List ℕ) → length cuts ≤ k → front ++ sizes list f (drop k cuts) ≡ whole → front ≡ whole
-sizes_end list cuts k front f whole l h = sym (append-nil front) ∙ (rw (drop_all k cuts l) at h)
-
--- the first segment of what is left
-pub covers_step : (list : List Posting) (factor : Fraction) (cuts : List ℕ) (k f end : ℕ) (P : Type 0) → k < length cuts → (Covers list factor f (drop k cuts) end ↔ P)
-    → ((f < slice_index cuts k) × IsAdmissible list factor f (slice_index cuts k) × Covers list factor (slice_index cuts k) (drop (k + 1) cuts) end) ↔ P
-covers_step list factor cuts k f end P l h = rw (drop_more cuts k 0 l) at h
-
-pub covers_end : (list : List Posting) (factor : Fraction) (cuts : List ℕ) (k f end : ℕ) (P : Type 0) → length cuts ≤ k → (Covers list factor f (drop k cuts) end ↔ P) → (f ≡ end) ↔ P
-covers_end list factor cuts k f end P l h = rw (drop_all k cuts l) at h

@@ -6,6 +6,5 @@ pub mod Walk
 pub mod Pushing
 mod Reaching
 pub mod Ordering
-mod Searching
 pub mod Bests
 pub mod Narrow

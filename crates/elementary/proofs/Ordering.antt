@@ -1,12 +1,10 @@
 -- Numbers put in order, each once.
-use Rattle.std.specs.Prelude.{◌≡◌, ◌⊎◌, ◌↔◌, ℕ, zero, suc, ◌+◌, ◌<◌, ◌≤◌, Bool, true, not, nat_eq, List, [], ◌∷◌, length, slice_index, sum_by, Contains, ⊤, refl}
+use Rattle.std.specs.Prelude.{◌≡◌, ◌↔◌, ℕ, zero, suc, ◌+◌, ◌<◌, ◌≤◌, Bool, true, not, nat_eq, List, [], ◌∷◌, length, slice_index, sum_by, Contains, ⊤, refl}
 use Rattle.std.specs.List.{filter, list_any, range_with_len}
 use Rattle.std.specs.List.Sorted.{IsStrictlyIncreasing}
-use Rattle.std.specs.Bool.{Decides}
+use Rattle.std.proofs.Common.{arith, sym, subst, inl, inr, Decides, nat_cmp}
 use Rattle.std.specs.BTreeSet.{BTreeSet, contains}
-use Rattle.std.specs.Ordering.{nat_cmp}
 use Rattle.std.proofs.lemmas.Cmp.{nat_cmp_total, nat_eq_equiv}
-use Rattle.std.proofs.Common.{arith, sym, subst, inl, inr}
 use Rattle.std.proofs.lemmas.Bool.{both_ways, not-true}
 use Rattle.std.proofs.lemmas.Bool.Decides.{same_from_decides}
 use Rattle.std.proofs.lemmas.List.Elements.{All-contains, Contains-append_cases, filter_passes}
@@ -25,17 +23,6 @@ use Rattle.elementary.specs.Laws.{EachListHasBoundaries, OneListOfBoundaries}
 abbrev pub Rise : ℕ → List ℕ → Type 0
 Rise low [] = ⊤
 Rise low (x ∷ xs) = (low ≤ x) × Rise (suc x) xs
-
-pub here : (x : ℕ) (xs : List ℕ) → Contains (x ∷ xs) x
-here x xs = (0, omega arith, refl)
-
-pub behind : (x t : ℕ) (xs : List ℕ) → Contains xs t → Contains (x ∷ xs) t
-behind x t xs (k, l, e) = (suc k, omega (arith, l), e)
-
--- an element is the first, or stands behind it
-pub either : (x t : ℕ) (xs : List ℕ) → Contains (x ∷ xs) t → (x ≡ t) ⊎ Contains xs t
-either x t xs (zero, l, e) = inl e
-either x t xs (suc k, l, e) = inr (k, omega (arith, l), e)
 
 pub increasing : (low : ℕ) (xs : List ℕ) → Rise low xs → IsStrictlyIncreasing xs
 increasing low [] r k l = absurd (omega (arith, l))
@@ -70,11 +57,6 @@ in_order xs =
     let to : (t : ℕ) → Contains xs t → Contains (filter among all) t = λ t c. kept among all t (list_any-from_Contains nat_eq_equiv t xs c)
     (let below : t < bound = omega (arith, get_or-le-sum_by (λ x. x) xs c.0 t c.1, c.2) in (t, omega arith, omega (arith, get_or-range_with_len 0 bound t t below))) in
     (filter among all, (rising 0 (filter among all) (omega arith) (IsStrictlyIncreasing-filter among all up), λ t. (from t, to t)))
-
--- an element of rising numbers isn't below their bound
-pub bounded : (low t : ℕ) (xs : List ℕ) → Rise low xs → Contains xs t → low ≤ t
-bounded low t [] r (k, l, e) = absurd (omega (arith, l))
-bounded low t (x ∷ xs) r c = elim (either x t xs c) [ inl e ↦ omega (arith, e, r.0) | inr d ↦ omega (arith, r.0, bounded (suc x) t xs r.1 d) ]
 
 pub each_has_boundaries : EachListHasBoundaries
 each_has_boundaries list horizon =

@@ -1,8 +1,7 @@
 -- Ascending times by their places.
-use Rattle.std.specs.Prelude.{◌≡◌, ◌⊎◌, ℕ, ◌+◌, ◌-◌, ◌<◌, ◌≤◌, nat_le, List, map, length, get_or, slice_index, Contains}
+use Rattle.std.proofs.Common.{arith, sym, ◌∙◌, subst, inl, inr, ◌≡◌, ◌⊎◌, ℕ, ◌+◌, ◌-◌, ◌<◌, ◌≤◌, nat_le, List, map, length, get_or, slice_index, Contains}
 use Rattle.std.specs.List.{prefix_len}
 use Rattle.std.specs.List.Sorted.{IsStrictlyIncreasing, IsNonDecreasing}
-use Rattle.std.proofs.Common.{arith, sym, ◌∙◌, subst, inl, inr}
 use Rattle.std.proofs.lemmas.Bool.{cases_lt, leb-true, leb-false}
 use Rattle.std.proofs.lemmas.Grind.{get_or_default_zero}
 use Rattle.std.proofs.lemmas.List.{get_or-map, length-map}
@@ -58,11 +57,10 @@ floor_of xs up t some le =
     let stops : n < length xs → t < slice_index xs n = λ l. leb-false _ _ (prefix_len_stops (λ x. nat_le x t) xs 0 l) in
     let first : n < length xs → 0 < n = λ l. place_below xs up 0 n some (omega (arith, stops l)) in
     let within : n ≤ length xs = prefix_len-le-length (λ x. nat_le x t) xs in
-    let front : 0 < n = grind (arith, first) in (
-      n - 1,
-      record {
-        inside = omega arith;
-        at = leb-true _ _ (prefix_len_passes (λ x. nat_le x t) xs (n - 1) 0 (omega arith));
-        above = λ k a l. omega (arith, stops (omega arith), not_falling xs up n k (omega arith) l);
-      },
-    )
+    let front : 0 < n = grind (arith, first) in
+    let floor : IsFloor xs t (n - 1) = record {
+      inside = omega arith;
+      at = leb-true _ _ (prefix_len_passes (λ x. nat_le x t) xs (n - 1) 0 (omega arith));
+      above = λ k a l. omega (arith, stops (omega arith), not_falling xs up n k (omega arith) l);
+    } in
+    (n - 1, floor)

@@ -1,7 +1,5 @@
 -- Admissible segments inside admissible ones, and how far back they reach.
-use Rattle.std.specs.Prelude.{◌≡◌, ◌↔◌, ℕ, ◌+◌, ◌-◌, ◌*◌, ◌<◌, ◌≤◌, Bool, IsTrue, List, [], ◌∷◌, ◌++◌, length, slice_index}
-use Rattle.std.proofs.Common.{arith, ap, ◌∙◌, inl, inr, below_more}
-use Rattle.std.proofs.Math.Nat.{mul-le-mul_left, mul-le-mul_right}
+use Rattle.std.proofs.Common.{arith, ap, ◌∙◌, inl, inr, below_more, ◌≡◌, ◌↔◌, ℕ, ◌+◌, ◌-◌, ◌*◌, ◌<◌, ◌≤◌, Bool, IsTrue, List, [], ◌∷◌, ◌++◌, length, slice_index, mul-le-mul_left, mul-le-mul_right, zero, suc}
 use Rattle.std.proofs.lemmas.Bool.{cases_lt}
 use Rattle.std.proofs.lemmas.List.{get_or_default}
 use Rattle.std.proofs.lemmas.List.Sorted.{IsNonDecreasingBy-short, IsNonDecreasingBy-push}
@@ -15,22 +13,15 @@ use Rattle.elementary.specs.Reaches.{IsReach, AreReaches, NoneBefore}
 pub elementary_admissible : (table : Counts) (factor : Fraction) (m k : ℕ) → m + 1 ≡ k → AdmissibleBetween table factor m k
 elementary_admissible table factor m k e i a b =
     let f : i ≡ m = omega arith in
-    rw (f, ← e) (bound (alive_in table m) factor.under factor.over factor.at_least_one)
-  where
-    bound : (a u o : ℕ) → u ≤ o → a * u ≤ o * a
-    bound a u o le = grind (arith, mul-le-mul_left a le)
+    rw (f, ← e) (omega (arith, mul-le-mul_left (alive_in table m) factor.at_least_one))
 
 -- a segment inside an admissible one is admissible
 pub inside_admissible : (table : Counts) (factor : Fraction) (j i m k : ℕ) → AreOrdered table.boundaries table.begun table.ended → k < length table.boundaries → j ≤ i → i ≤ m → m ≤ k → AdmissibleBetween table factor j k
     → AdmissibleBetween table factor i m
-inside_admissible table factor j i m k o l a b c adm x d e = omega (arith, mul-le-mul_right factor.under smaller, adm x (omega arith) (omega arith))
-  where
-    smaller : size_between table i m ≤ size_between table j k
-    smaller = omega (arith, o.begun_each, o.ended_each, o.begun_rises m k 0 c (omega (arith, o.begun_each)), o.ended_rises j i 0 a (omega (arith, o.ended_each)))
-
--- what reaches too far back to a boundary does so to the next one
-pub none_more : (table : Counts) (factor : Fraction) (k m low : ℕ) → AreOrdered table.boundaries table.begun table.ended → m < length table.boundaries → low ≤ k → k ≤ m → NoneBefore table factor k low → NoneBefore table factor m low
-none_more table factor k m low o l a b none j lt adm = none j lt (inside_admissible table factor j j k m o l (omega arith) (omega arith) b adm)
+inside_admissible table factor j i m k o l a b c adm x d e =
+    let smaller : size_between table i m ≤ size_between table j k =
+    omega (arith, o.begun_each, o.ended_each, o.begun_rises m k 0 c (omega (arith, o.begun_each)), o.ended_rises j i 0 a (omega (arith, o.ended_each))) in
+    omega (arith, mul-le-mul_right factor.under smaller, adm x (omega arith) (omega arith))
 
 -- the start of an admissible segment, where none before it is
 pub reach_is : (table : Counts) (factor : Fraction) (k low : ℕ) → AreOrdered table.boundaries table.begun table.ended → k < length table.boundaries → low < k → AdmissibleBetween table factor low k → NoneBefore table factor k low
@@ -39,9 +30,6 @@ reach_is table factor k low o l before adm none = record {
   before = before;
   each = λ j lt. (λ a. elim (cases_lt j low) [ inl h ↦ absurd (none j h a) | inr h ↦ h ], λ le. inside_admissible table factor low j k k o l le (omega arith) (omega arith) adm);
 }
-
-pub reach_none : (table : Counts) (factor : Fraction) (k low : ℕ) → IsReach table factor k low → NoneBefore table factor k low
-reach_none table factor k low r j lt adm = omega (arith, r.before, (r.each j (omega (arith, r.before))).0 adm)
 
 -- one more boundary is passed over
 pub none_next : (table : Counts) (factor : Fraction) (k low : ℕ) → (AdmissibleBetween table factor low k → ⊥) → NoneBefore table factor k low → NoneBefore table factor k (low + 1)
@@ -80,3 +68,13 @@ reaches_next table factor lows lows' k low made up new r = record {
   rising = rw made (IsNonDecreasingBy-push (λ x. x) lows low r.rising
       (λ d l. let last : length lows - 1 ≡ k = omega (arith, r.long) in rw (last, get_or_default lows k d 0 (omega (arith, r.long))) up));
 }
+
+-- what reaches too far back to a boundary does so to the next one
+pub none_yet : (table : Counts) (factor : Fraction) (lows : List ℕ) (k low : ℕ) → AreOrdered table.boundaries table.begun table.ended → k + 1 < length table.boundaries → slice_index lows k ≡ low
+    → AreReaches table factor lows (k + 1) → (low ≤ k) × NoneBefore table factor (k + 1) low
+none_yet table factor lows zero low o l e r = (omega (arith, e, r.starts), λ j lt. absurd (omega (arith, e, r.starts, lt)))
+none_yet table factor lows (suc k) low o l e r =
+    let reach : IsReach table factor (suc k) low = rw e at (r.each (suc k) (omega arith) (omega arith)) in (
+      omega (arith, reach.before),
+      λ j lt adm. omega (arith, lt, (reach.each j (omega (arith, lt, reach.before))).0 (inside_admissible table factor j j (suc k) (suc k + 1) o l (omega arith) (omega (arith, lt, reach.before)) (omega arith) adm)),
+    )

@@ -1,7 +1,6 @@
 -- Sums and counts, element by element.
-use Rattle.std.specs.Prelude.{◌≡◌, ℕ, zero, suc, ◌≤◌, Bool, true, false, cond, List, [], ◌∷◌, map, length, sum_by, count_by, All, refl}
-use Rattle.std.specs.List.Sorted.{IsPartitionPoint, IsPermutation}
-use Rattle.std.proofs.Common.{arith, ap, ◌∙◌}
+use Rattle.std.proofs.Common.{arith, ap, ◌∙◌, ◌≡◌, ℕ, zero, suc, ◌≤◌, Bool, true, false, cond, List, [], ◌∷◌, map, length, sum_by, count_by, All, refl, IsPermutation}
+use Rattle.std.specs.List.Sorted.{IsPartitionPoint}
 use Rattle.std.proofs.lemmas.List.Sorted.{sum_by-IsPermutation}
 use Rattle.std.proofs.lemmas.List.Sums.{sum_by-cons, sum_by-le}
 use Rattle.std.proofs.lemmas.List.Elements.{All-head, All-tail}
@@ -33,7 +32,7 @@ count_split p (x ∷ xs) (suc i) l (a, b) =
 -- counts over numbers put in order are those over the list that they came from
 pub counted : {X : Type 0} (p : ℕ → ℕ → Bool) (g : X → ℕ) (list : List X) (s z n times : List ℕ) → s ≡ map g list → IsPermutation s z → n ≡ z
     → map (λ t. count_by (λ x. p x t) n) times ≡ map (λ t. count_by (λ x. p (g x) t) list) times
-counted p g list s z n times a m c = simp (c, moved)
-  where
-    moved : (t : ℕ) → count_by (λ x. p x t) z ≡ count_by (λ x. p (g x) t) list
-    moved t = sum_by-IsPermutation (λ y. bit (p y t)) s z m ∙ (ap (λ l. count_by (λ x. p x t) l) a ∙ sum_by-map (λ y. bit (p y t)) g list)
+counted p g list s z n times a m c =
+    let moved : (t : ℕ) → count_by (λ x. p x t) z ≡ count_by (λ x. p (g x) t) list =
+    λ t. sum_by-IsPermutation (λ y. bit (p y t)) s z m ∙ (ap (λ l. count_by (λ x. p x t) l) a ∙ sum_by-map (λ y. bit (p y t)) g list) in
+    simp (c, moved)

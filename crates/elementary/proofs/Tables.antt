@@ -1,8 +1,6 @@
 -- What the counts at boundaries say of a list.
-use Rattle.std.specs.Prelude.{◌≡◌, ◌⊎◌, ℕ, ◌+◌, ◌-◌, ◌^◌, ◌<◌, ◌≤◌, nat_lt, nat_le, ◌&&◌, cond, List, [], ◌∷◌, ◌++◌, map, length, get_or, slice_index, All, Contains, refl}
+use Rattle.std.proofs.Common.{arith, ap, sym, ◌∙◌, ◌≡◌, ◌⊎◌, ℕ, ◌+◌, ◌-◌, ◌^◌, ◌<◌, ◌≤◌, nat_lt, nat_le, ◌&&◌, cond, List, [], ◌∷◌, ◌++◌, map, length, get_or, slice_index, All, Contains, refl, lt-ltb}
 use Rattle.std.specs.List.Sorted.{IsStrictlyIncreasing, IsNonDecreasing}
-use Rattle.std.proofs.Common.{arith, ap, sym, ◌∙◌}
-use Rattle.std.proofs.lemmas.Bool.{lt-ltb}
 use Rattle.std.proofs.lemmas.Bool.Decides.{nat_tests}
 use Rattle.std.proofs.lemmas.List.{get_or-map, length-map}
 use Rattle.std.proofs.lemmas.List.Sums.{count_by-le-length, sum_by-le, sum_by-le-sum_by}
@@ -66,9 +64,6 @@ ended_le list f g le = sum_by-le-sum_by (λ (p : Posting). bit (nat_le p.span.to
 pub ended_begun : (list : List Posting) (f g : ℕ) → f ≤ g → ended f list ≤ begun g list
 ended_begun list f g le = sum_by-le-sum_by (λ (p : Posting). bit (nat_le p.span.to f)) (λ (p : Posting). bit (nat_lt p.span.from g)) list (λ p. let o : p.span.from < p.span.to = p.span.ordered in grind (arith, nat_tests))
 
-none_one : (x y f : ℕ) → x < y → f ≤ x → bit (nat_le y f) ≤ 0
-none_one x y f lt le = grind (arith, nat_tests)
-
 pub first_le : (times : List ℕ) → IsStrictlyIncreasing times → (x : ℕ) → Contains times x → slice_index times 0 ≤ x
 first_le times up x c = let (k, l, e) = place_of times x c in omega (arith, not_falling times up 0 k (omega arith) l)
 
@@ -77,7 +72,7 @@ none_ended list horizon times b =
     omega (
       arith,
       sum_by-le (λ (p : Posting). cond (nat_le p.span.to (slice_index times 0)) 1 0) 0 list
-          (λ i d l. none_one _ _ _ (get_or list i d).span.ordered (first_le times b.ascending _ (ends_in list horizon times b i d l).0)),
+          (λ i d l. let o : (get_or list i d).span.from < (get_or list i d).span.to = (get_or list i d).span.ordered in grind (arith, nat_tests, first_le times b.ascending _ (ends_in list horizon times b i d l).0)),
     )
 
 pub two_boundaries : (list : List Posting) (horizon : ℕ) (times : List ℕ) → AreBoundaries list horizon times → 0 < length list → 2 ≤ length times

@@ -1,8 +1,6 @@
 -- What bounds the space of every admissible partition, whatever its cut times.
-use Rattle.std.specs.Prelude.{◌≡◌, ◌⊎◌, ℕ, ◌+◌, ◌*◌, ◌<◌, ◌≤◌, nat_lt, nat_le, ◌&&◌, List, [], ◌∷◌, length, slice_index, Contains}
+use Rattle.std.proofs.Common.{arith, ap, inl, inr, ◌≡◌, ◌⊎◌, ℕ, ◌+◌, ◌*◌, ◌<◌, ◌≤◌, List, [], ◌∷◌, length, slice_index, Contains, mul-le-mul_left, mul-le-mul_right}
 use Rattle.std.specs.List.Sorted.{IsStrictlyIncreasing}
-use Rattle.std.proofs.Common.{arith, ap, inl, inr}
-use Rattle.std.proofs.Math.Nat.{mul-le-mul_left, mul-le-mul_right}
 use Rattle.std.proofs.lemmas.Bool.{cases_lt}
 use Rattle.std.proofs.lemmas.Bool.Decides.{nat_tests}
 use Rattle.time_base.specs.declared.posting.Posting.{Posting}
@@ -28,23 +26,17 @@ above_floor xs t j x up f c = let (i, l, e) = place_of xs x c in elim (cases_lt 
   | inr ge ↦ inl (omega (arith, not_falling xs up i j ge f.inside))
 ]
 
-size_one : (a b f g x y : ℕ) → b ≤ g → a ≤ f → (y ≤ a) ⊎ (f < y) → bit (nat_lt x b && nat_lt a y) ≤ bit (nat_lt x g && nat_lt f y)
-size_one a b f g x y l m h = grind (arith, nat_tests)
-
 -- with both ends moved down to their floors a segment is no larger
 size_lowered : (list : List Posting) (horizon : ℕ) (times : List ℕ) → AreBoundaries list horizon times → (f g j k : ℕ) → IsFloor times f j → IsFloor times g k
     → size (slice_index times j) (slice_index times k) list ≤ size f g list
 size_lowered list horizon times b f g j k p q =
     sum_le (λ (r : Posting). bit (meets (slice_index times j) (slice_index times k) r)) (λ (r : Posting). bit (meets f g r)) list
-    (λ i d l. size_one _ _ f g _ _ q.at p.at (above_floor times f j _ b.ascending p (ends_in list horizon times b i d l).1))
-
-alive_one : (a f t x y : ℕ) → a ≤ t → t ≤ f → (x ≤ a) ⊎ (f < x) → bit (nat_le x f && nat_lt f y) ≤ bit (nat_le x t && nat_lt t y)
-alive_one a f t x y l m h = grind (arith, nat_tests)
+    (λ i d l. let past = above_floor times f j _ b.ascending p (ends_in list horizon times b i d l).1 in grind (arith, nat_tests, past, q.at, p.at))
 
 alive_lowered : (list : List Posting) (horizon : ℕ) (times : List ℕ) → AreBoundaries list horizon times → (f t j : ℕ) → IsFloor times f j → slice_index times j ≤ t → t ≤ f → alive_count f list ≤ alive_count t list
 alive_lowered list horizon times b f t j p l m =
     sum_le (λ (r : Posting). bit (holds f r)) (λ (r : Posting). bit (holds t r)) list
-    (λ i d h. alive_one _ f t _ _ l m (above_floor times f j _ b.ascending p (ends_in list horizon times b i d h).0))
+    (λ i d h. let past = above_floor times f j _ b.ascending p (ends_in list horizon times b i d h).0 in grind (arith, nat_tests, past))
 
 bound_lowered : (s r a b u o : ℕ) → r ≤ s → a ≤ b → s * u ≤ o * a → r * u ≤ o * b
 bound_lowered s r a b u o e f h = omega (arith, mul-le-mul_right u e, mul-le-mul_left o f)

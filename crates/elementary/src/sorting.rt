@@ -1,22 +1,22 @@
 //! Numbers in order, and how many of them lie on one side of a number.
-ghost use Rattle.std.specs.Prelude.{◌≡◌, ◌↔◌, ℕ, ◌<◌, ◌≤◌, IfOk, IsTrue, nat_le, nat_lt, count_by, map, length, slice_index, Contains};
-ghost use Rattle.std.specs.List.Sorted.{IsNonDecreasing, IsStrictlyIncreasing, IsSorted, IsPermutation};
+ghost use Rattle.std.specs.Prelude.{◌≡◌, ◌↔◌, ℕ, ◌<◌, ◌≤◌, List, ◌∷◌, ◌++◌, IfOk, IsTrue, nat_le, nat_lt, count_by, map, length, slice_index, Contains};
+ghost use Rattle.std.specs.List.Sorted.{IsStrictlyIncreasing, IsSorted, IsPermutation};
 ghost use Rattle.std.specs.Ordering.{nat_cmp};
 ghost use Rattle.postings.specs.Sizes.{begun, ended};
-ghost use Rattle.elementary.specs.Boundaries.{AreBoundaries};
+ghost use Rattle.time_base.specs.declared.posting.Posting.{Posting};
 
 use std::alloc::{AllocError, Global};
 use time_base::Posting;
 
 /// When the postings begin.
-fn starts_of(alloc: Global, list: &[Posting]) -> Result<Vec<u64>, AllocError>
+pub(crate) fn starts_of(alloc: Global, list: &[Posting]) -> Result<Vec<u64>, AllocError>
     ensures { IfOk result (λ v. v.items ≡ map (λ p. p.span.from) list.now) }
 {
     list.iter().map(|p| p.span.from).collect(alloc)
 }
 
 /// When the postings end.
-fn stops_of(alloc: Global, list: &[Posting]) -> Result<Vec<u64>, AllocError>
+pub(crate) fn stops_of(alloc: Global, list: &[Posting]) -> Result<Vec<u64>, AllocError>
     ensures { IfOk result (λ v. v.items ≡ map (λ p. p.span.to) list.now) }
 {
     list.iter().map(|p| p.span.to).collect(alloc)
@@ -24,8 +24,7 @@ fn stops_of(alloc: Global, list: &[Posting]) -> Result<Vec<u64>, AllocError>
 
 /// The numbers, ascending.
 fn sorted(numbers: Vec<u64>) -> Vec<u64>
-    ensures ascending { IsNonDecreasing result.items }
-    ensures sorted { IsSorted nat_cmp result.items }
+    ensures ascending { IsSorted nat_cmp result.items }
     ensures same { IsPermutation numbers.items result.items }
 {
     let mut numbers = numbers;
@@ -35,7 +34,7 @@ fn sorted(numbers: Vec<u64>) -> Vec<u64>
 
 /// How many of the ascending numbers are below `t`.
 fn count_below(numbers: &[u64], t: u64) -> u64
-    requires { IsNonDecreasing numbers.now }
+    requires { IsSorted nat_cmp numbers.now }
     ensures { result ≡ count_by (λ x. nat_lt x t) numbers.now }
 {
     numbers.partition_point(|x| *x < t) as u64
@@ -43,7 +42,7 @@ fn count_below(numbers: &[u64], t: u64) -> u64
 
 /// How many of the ascending numbers are at most `t`.
 fn count_to(numbers: &[u64], t: u64) -> u64
-    requires { IsNonDecreasing numbers.now }
+    requires { IsSorted nat_cmp numbers.now }
     ensures { result ≡ count_by (λ x. nat_le x t) numbers.now }
 {
     numbers.partition_point(|x| *x <= t) as u64
@@ -88,7 +87,7 @@ pub(crate) fn is_at(numbers: &[u64], place: usize, t: u64) -> bool
 
 /// For each time, how many of the ascending numbers are below it.
 fn counts_below(alloc: Global, numbers: &[u64], times: &[u64]) -> Result<Vec<u64>, AllocError>
-    requires { IsNonDecreasing numbers.now }
+    requires { IsSorted nat_cmp numbers.now }
     ensures { IfOk result (λ v. v.items ≡ map (λ t. count_by (λ x. nat_lt x t) numbers.now) times.now) }
 {
     times
@@ -99,49 +98,52 @@ fn counts_below(alloc: Global, numbers: &[u64], times: &[u64]) -> Result<Vec<u64
 
 /// For each time, how many of the ascending numbers are at most it.
 fn counts_to(alloc: Global, numbers: &[u64], times: &[u64]) -> Result<Vec<u64>, AllocError>
-    requires { IsNonDecreasing numbers.now }
+    requires { IsSorted nat_cmp numbers.now }
     ensures { IfOk result (λ v. v.items ≡ map (λ t. count_by (λ x. nat_le x t) numbers.now) times.now) }
 {
     times.iter().map(|t| count_to(numbers, *t)).collect(alloc)
 }
 
-/// The boundaries of the list in seconds, ascending. Costs time in `n log n` for `n` postings.
+/// The boundaries in seconds, ascending, of a list whose postings begin and end at these times. Costs
+/// time in `n log n` for `n` postings.
 pub(crate) fn boundaries_of(
     alloc: Global,
-    list: &[Posting],
+    starts: &[u64],
+    stops: &[u64],
     horizon: u64,
 ) -> Result<Vec<u64>, AllocError>
-    ensures { IfOk result (λ v. AreBoundaries list.now horizon v.items) }
+    ensures ascending { IfOk result (λ v. IsStrictlyIncreasing v.items) }
+    ensures each { IfOk result (λ v. (t : ℕ) → Contains v.items t ↔ Contains (horizon ∷ (starts.now ++ stops.now)) t) }
 {
     let mut times = Vec::new(alloc);
     times.push(horizon)?;
-    times.extend_from_slice(&starts_of(alloc, list)?)?;
-    times.extend_from_slice(&stops_of(alloc, list)?)?;
+    times.extend_from_slice(starts)?;
+    times.extend_from_slice(stops)?;
     let mut times = sorted(times);
     times.dedup();
     Ok(times)
 }
 
-/// For each time, how many postings begin before it. Costs time in `n log n` for `n` postings and times.
+/// For each time, how many postings begin before it, from when each begins. Costs time in `n log n` for
+/// `n` postings and times.
 pub(crate) fn begun_at(
     alloc: Global,
-    list: &[Posting],
+    starts: Vec<u64>,
     times: &[u64],
 ) -> Result<Vec<u64>, AllocError>
-    ensures { IfOk result (λ v. v.items ≡ map (λ t. begun t list.now) times.now) }
+    ensures { (list : List Posting) → starts.items ≡ map (λ p. p.span.from) list → IfOk result (λ v. v.items ≡ map (λ t. begun t list) times.now) }
 {
-    let starts = sorted(starts_of(alloc, list)?);
-    counts_below(alloc, &starts, times)
+    counts_below(alloc, &sorted(starts), times)
 }
 
-/// For each time, how many postings have ended at it. Costs time in `n log n` for `n` postings and times.
+/// For each time, how many postings have ended at it, from when each ends. Costs time in `n log n` for
+/// `n` postings and times.
 pub(crate) fn ended_at(
     alloc: Global,
-    list: &[Posting],
+    stops: Vec<u64>,
     times: &[u64],
 ) -> Result<Vec<u64>, AllocError>
-    ensures { IfOk result (λ v. v.items ≡ map (λ t. ended t list.now) times.now) }
+    ensures { (list : List Posting) → stops.items ≡ map (λ p. p.span.to) list → IfOk result (λ v. v.items ≡ map (λ t. ended t list) times.now) }
 {
-    let stops = sorted(stops_of(alloc, list)?);
-    counts_to(alloc, &stops, times)
+    counts_to(alloc, &sorted(stops), times)
 }

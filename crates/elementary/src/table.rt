@@ -5,7 +5,7 @@ ghost use Rattle.time_base.specs.declared.posting.Posting.{Posting};
 ghost use Rattle.postings.specs.Sizes.{size, alive_count};
 ghost use Rattle.elementary.specs.Counts.{Tabulates, AreOrdered, size_between, alive_in};
 
-use crate::sorting::{begun_at, boundaries_of, ended_at};
+use crate::sorting::{begun_at, boundaries_of, ended_at, starts_of, stops_of};
 use std::alloc::{AllocError, Global};
 use std::marker::Model;
 use time_base::{Posting, Time};
@@ -39,9 +39,11 @@ impl Table {
         requires early { All (λ p. p.span.to ≤ horizon.seconds) list.now }
         ensures { IfOk result (Tabulates list.now horizon.seconds) }
     {
-        let boundaries = boundaries_of(alloc, list, horizon.seconds())?;
-        let begun = begun_at(alloc, list, &boundaries)?;
-        let ended = ended_at(alloc, list, &boundaries)?;
+        let starts = starts_of(alloc, list)?;
+        let stops = stops_of(alloc, list)?;
+        let boundaries = boundaries_of(alloc, &starts, &stops, horizon.seconds())?;
+        let begun = begun_at(alloc, starts, &boundaries)?;
+        let ended = ended_at(alloc, stops, &boundaries)?;
         Ok(Table {
             boundaries,
             begun,
@@ -76,7 +78,7 @@ impl Table {
         ensures bound { result < 2 ^ 38 }
         ensures count { (list : List Posting) (horizon t : ℕ) → Tabulates list horizon self.now → slice_index self.now.boundaries k ≤ t → t < slice_index self.now.boundaries (k + 1) → result ≡ alive_count t list }
     {
-        self.begun[k + 1] - self.ended[k]
+        self.postings_in(k, k)
     }
 
     /// How many postings have a time between boundaries `j` and `k`. Constant cost.
@@ -87,6 +89,16 @@ impl Table {
         ensures bound { result < 2 ^ 38 }
         ensures count { (list : List Posting) (horizon : ℕ) → Tabulates list horizon self.now → result ≡ size (slice_index self.now.boundaries j) (slice_index self.now.boundaries k) list }
     {
-        self.begun[k] - self.ended[j]
+        self.postings_in(j, k - 1)
+    }
+
+    /// How many postings have a time in the elementary intervals from `first` to `last`, both counted.
+    fn postings_in(&self, first: usize, last: usize) -> u64
+        requires order { first ≤ last }
+        requires inside { last + 1 < length self.now.boundaries }
+        ensures value { result ≡ size_between self.now first (last + 1) }
+        ensures bound { result < 2 ^ 38 }
+    {
+        self.begun[last + 1] - self.ended[first]
     }
 }

@@ -1,5 +1,4 @@
-use Rattle.std.proofs.Common.{arith, ◌+◌, sym, refl, below_none, below_more}
-use Rattle.std.specs.Prelude.{Contains}
+use Rattle.std.proofs.Common.{arith, ◌+◌, sym, refl, below_none, below_more, Contains}
 use Rattle.std.proofs.lemmas.Bool.{iff_false}
 use Rattle.std.proofs.lemmas.List.Elements.{All-get_or, All-from_get_or}
 use Rattle.elementary.proofs.Places.{contains_at, rises}

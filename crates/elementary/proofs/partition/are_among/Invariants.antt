@@ -1,5 +1,4 @@
-use Rattle.std.proofs.Common.{◌≡◌, ℕ, ◌+◌, ◌<◌, length}
-use Rattle.std.specs.Prelude.{Contains, slice_index}
+use Rattle.std.proofs.Common.{◌≡◌, ℕ, ◌+◌, ◌<◌, length, Contains, slice_index}
 use Rattle.elementary.proofs.partition.are_among.Given as goal
 
 abbrev pub invariant-loop-k : goal.invariant-loop-k

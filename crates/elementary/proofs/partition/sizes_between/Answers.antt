@@ -1,8 +1,7 @@
-use Rattle.std.proofs.Common.{arith, ℕ, List, length, ◌+◌, ◌++◌, drop, ap, sym}
-use Rattle.std.specs.Prelude.{slice_index}
-use Rattle.std.proofs.lemmas.List.{length_push}
+use Rattle.std.proofs.Common.{arith, ℕ, List, length, ◌+◌, ◌++◌, drop, ap, sym, slice_index, append_assoc, append-nil, ◌∙◌}
+use Rattle.std.proofs.lemmas.List.{length_push, drop_more, drop_all}
 use Rattle.elementary.specs.Partitions.{sizes}
-use Rattle.elementary.proofs.Cuts.{some_inside, sizes_step, sizes_end}
+use Rattle.elementary.proofs.Cuts.{some_inside}
 use Rattle.elementary.proofs.partition.sizes_between.Goals as goal
 
 pub loop-k-init : goal.loop-k-init
@@ -18,9 +17,9 @@ loop-k-preserved c = record {
   many = omega (arith, ap length c.in_ok-push.ensures.items, length_push c.loop-k.sizes.items c.size.result, c.loop-k.invariant.many);
   inside = c.next_place-next.ensures.inside;
   here = c.next_place-next.ensures.there;
-  left = λ list horizon t. rw c.in_ok-push.ensures.items (sizes_step list c.args.cuts.now (c.loop-k.k + 1) _ c.loop-k.sizes.items c.size.result _ (omega arith)
-      (rw (c.loop-k.invariant.here, c.next_place-next.ensures.there) at (c.size.ensures.count list horizon t)) (c.loop-k.invariant.left list horizon t));
+  left = λ list horizon t. rw (c.in_ok-push.ensures.items, append_assoc, rw (c.loop-k.invariant.here, c.next_place-next.ensures.there) at (c.size.ensures.count list horizon t))
+      (rw (drop_more c.args.cuts.now (c.loop-k.k + 1) 0 (omega arith)) at (c.loop-k.invariant.left list horizon t));
 }
 
 pub returns : goal.returns
-returns c = record { many = omega (arith, c.loop-k.invariant.many, c.requires.some); value = λ list horizon t. sizes_end list c.args.cuts.now (c.loop-k.k + 1) c.loop-k.sizes.items _ _ (omega arith) (c.loop-k.invariant.left list horizon t) }
+returns c = record { many = omega (arith, c.loop-k.invariant.many, c.requires.some); value = λ list horizon t. sym (append-nil c.loop-k.sizes.items) ∙ (rw (drop_all (c.loop-k.k + 1) c.args.cuts.now (omega arith)) at (c.loop-k.invariant.left list horizon t)) }

@@ -1,5 +1,4 @@
-use Rattle.std.proofs.Common.{◌≡◌, ℕ, ◌+◌, ◌<◌, ◌++◌, List, drop, length}
-use Rattle.std.specs.Prelude.{slice_index}
+use Rattle.std.proofs.Common.{◌≡◌, ℕ, ◌+◌, ◌<◌, ◌++◌, List, drop, length, slice_index}
 use Rattle.time_base.specs.declared.posting.Posting.{Posting}
 use Rattle.elementary.specs.Counts.{Tabulates}
 use Rattle.elementary.specs.Partitions.{sizes}

@@ -1,16 +1,13 @@
-use Rattle.std.proofs.Common.{◌≡◌, ◌+◌, ◌≤◌}
-use Rattle.std.specs.Prelude.{slice_index}
+use Rattle.std.proofs.Common.{◌≡◌, ◌+◌, slice_index}
 use Rattle.window_min.specs.Windows.{IsOver}
 use Rattle.elementary.specs.Counts.{alive_in}
-use Rattle.elementary.specs.Reaches.{AreReaches, NoneBefore}
+use Rattle.elementary.specs.Reaches.{AreReaches}
 use Rattle.elementary.proofs.reach.reaches.Given as goal
 
 abbrev pub invariant-loop-k : goal.invariant-loop-k
 invariant-loop-k l = record {
   alive : IsOver (alive_in l.table) l.window;
   next : l.window.next ≡ l.k;
-  before : l.window.from ≤ l.k;
-  none : NoneBefore l.table l.factor l.k l.window.from;
   last : slice_index l.lows.items l.k ≡ l.window.from;
   reaches : AreReaches l.table l.factor l.lows.items (l.k + 1);
 }

@@ -4,5 +4,4 @@ use Rattle.elementary.proofs.Sums.{counted}
 use Rattle.elementary.proofs.sorting.begun_at.Goals as goal
 
 pub returns : goal.returns
-returns c =
-    rw (counted nat_lt (λ (p : Posting). p.span.from) c.args.list.now _ _ _ c.args.times.now c.in_ok-starts_of.ensures c.sorted-starts.ensures.same c.deref.ensures.value) at c.counts_below.ensures
+returns c list made = rw (counted nat_lt (λ (p : Posting). p.span.from) list _ _ _ c.args.times.now made c.sorted.ensures.same c.deref.ensures.value) at c.counts_below.ensures

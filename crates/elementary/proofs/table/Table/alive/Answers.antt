@@ -1,7 +1,5 @@
-use Rattle.std.proofs.Common.{arith}
-use Rattle.std.proofs.lemmas.Grind.{common_steps}
 use Rattle.elementary.proofs.Tables.{alive_in_is}
 use Rattle.elementary.proofs.table.Table.alive.Goals as goal
 
 pub returns-clause-count : goal.returns-clause-count
-returns-clause-count c list horizon t is le lt = grind (arith, common_steps, alive_in_is list horizon c.args.self.now is c.args.k t c.requires.inside le lt)
+returns-clause-count c list horizon t is le lt = rw c.postings_in.ensures.value (alive_in_is list horizon c.args.self.now is c.args.k t c.requires.inside le lt)

@@ -3,9 +3,9 @@ use Rattle.elementary.proofs.table.Table.new.Goals as goal
 
 pub returns : goal.returns
 returns c = record {
-  boundaries = rw c.seconds.ensures.value at c.in_ok-boundaries.ensures;
-  begun = rw c.deref.ensures.value at c.in_ok-begun.ensures;
-  ended = rw c.deref-2.ensures.value at c.in_ok-ended.ensures;
+  boundaries = record { ascending = c.in_ok-boundaries.ensures.ascending; each = rw (c.seconds.ensures.value, c.deref.ensures.value, c.deref-2.ensures.value, c.in_ok-starts.ensures, c.in_ok-stops.ensures) at c.in_ok-boundaries.ensures.each };
+  begun = rw c.deref-3.ensures.value at (c.in_ok-begun.ensures c.args.list.now c.in_ok-starts.ensures);
+  ended = rw c.deref-4.ensures.value at (c.in_ok-ended.ensures c.args.list.now c.in_ok-stops.ensures);
   early = c.requires.early;
 }
 
