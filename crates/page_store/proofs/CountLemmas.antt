@@ -1,26 +1,27 @@
 -- How many extents have a page: what is taken and what is apart, told by numbers.
-use Rattle.std.proofs.Common.{◌≡◌, ◌⊎◌, Bool, ◌&&◌, ℕ, ◌+◌, ◌≤◌, List, [], ◌∷◌, ◌++◌, inl, inr, ap, arith, cond, nat_le, nat_lt, sum_by}
-use Rattle.std.proofs.lemmas.Bool.{cases_lt, le-leb, lt-leb, lt-ltb, le-ltb}
+use Rattle.std.proofs.Common.{◌≡◌, ◌⊎◌, ℕ, ◌+◌, ◌%◌, ◌<◌, ◌≤◌, ◌^◌, List, [], ◌∷◌, ◌++◌, inl, inr, arith, sum_by}
+use Rattle.std.specs.List.{count_by}
+use Rattle.std.proofs.lemmas.Bool.{cases_lt}
 use Rattle.std.proofs.lemmas.List.Sums.{sum_by-cons, sum_by-append}
 use Rattle.time_base.specs.declared.extent.Extent.{Extent}
 use Rattle.page_store.specs.Runs.{IsPageOf, IsTaken, pages_for}
-use Rattle.page_store.specs.Taken.{AreApart}
-
--- 1 where the page is one of an extent's
-abbrev pub holds : ℕ → Extent → ℕ
-holds p e = cond (nat_le e.first p && nat_lt p (e.first + pages_for e.bytes)) 1 0
+use Rattle.page_store.specs.Edges.{edges_to, holds}
+use Rattle.page_store.specs.Taken.{AreApart, PagesState, HasTaken, has_pages}
+use Rattle.page_store.proofs.EdgeLemmas.{step_on, step_off}
 
 abbrev pub holders : List Extent → ℕ → ℕ
 holders extents p = sum_by (holds p) extents
 
 pub page_or_not : (e : Extent) (p : ℕ) → (IsPageOf e p × (holds p e ≡ 1)) ⊎ ((IsPageOf e p → ⊥) × (holds p e ≡ 0))
-page_or_not e p = elim (cases_lt p e.first) [
-  | inl before ↦ inr ((λ mine. omega (arith, before, mine.0)), ap {B = ℕ} (λ (b : Bool). cond (b && nat_lt p (e.first + pages_for e.bytes)) 1 0) (lt-leb e.first p before))
-  | inr from ↦ elim (cases_lt p (e.first + pages_for e.bytes)) [
-    | inl within ↦ inl ((from, within), (λ i. cond (le-leb e.first p from i && lt-ltb p (e.first + pages_for e.bytes) within i) 1 0))
-    | inr behind ↦ inr ((λ mine. omega (arith, behind, mine.1)), (λ i. cond (le-leb e.first p from i && le-ltb p (e.first + pages_for e.bytes) behind i) 1 0))
-  ]
-]
+page_or_not e p =
+    let end = e.first + pages_for e.bytes in
+    elim (cases_lt p e.first) [
+      | inl before ↦ inr ((λ mine. omega (arith, before, mine.0)), omega (arith, step_off p e.first before))
+      | inr from ↦ elim (cases_lt p end) [
+        | inl within ↦ inl ((from, within), omega (arith, step_on p e.first from, step_off p end within))
+        | inr behind ↦ inr ((λ mine. omega (arith, behind, mine.1)), omega (arith, step_on p e.first from, step_on p end behind))
+      ]
+    ]
 
 -- a page is taken where one has it
 pub taken_counts : (extents : List Extent) (p : ℕ) → IsTaken extents p → 1 ≤ holders extents p
@@ -72,3 +73,31 @@ apart_parts xs ys apart = (
   (λ p one other. omega (arith, apart_counts (xs ++ ys) apart p, sum_by-append (holds p) xs ys, taken_counts xs p one, taken_counts ys p other)),
   counts_apart ys (λ p. omega (arith, apart_counts (xs ++ ys) apart p, sum_by-append (holds p) xs ys)),
 )
+
+-- ---- what is taken
+
+-- no page is of two extents, and an odd number of edges leads to those of one
+pub record IsCounted (store : PagesState) (extents : List Extent) : Type 0 where
+  pub once : (p : ℕ) → holders extents p ≤ 1
+  pub counted : count_by has_pages extents ≡ store.taken
+  pub odd : (p : ℕ) → p < 2 ^ 28 → edges_to store.edges p % 2 ≡ holders extents p
+
+pub counts : (store : PagesState) (extents : List Extent) → HasTaken store extents → IsCounted store extents
+counts store extents has = record {
+  once = apart_counts extents has.apart;
+  counted = has.counted;
+  odd = λ p below. elim (taken_or_not extents p) [
+    | inr free ↦ omega (arith, ((has.free_are p).1 (below, free)).1, λ (some : 1 ≤ holders extents p). free (counts_taken extents p some))
+    | inl taken ↦ omega (arith, taken_counts extents p taken, apart_counts extents has.apart p, λ (even : edges_to store.edges p % 2 ≡ 0). ((has.free_are p).0 (below, even)).1 taken)
+  ];
+}
+
+pub taken_by_counts : (store : PagesState) (extents : List Extent) → IsCounted store extents → HasTaken store extents
+taken_by_counts store extents are = record {
+  apart = counts_apart extents are.once;
+  counted = are.counted;
+  free_are = λ p. (
+    (λ is. (is.0, λ taken. omega (arith, are.odd p is.0, is.1, taken_counts extents p taken))),
+    (λ free. (free.0, omega (arith, are.odd p free.0, are.once p, λ (some : 1 ≤ holders extents p). free.1 (counts_taken extents p some)))),
+  );
+}

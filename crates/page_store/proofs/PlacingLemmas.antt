@@ -53,13 +53,13 @@ one_run extents n a b x y = omega (arith, x.lowest b y.is, y.lowest a x.is)
 one_extent : (extents : List Extent) (bytes : ℕ) (a b : Extent) → a.bytes ≡ bytes → b.bytes ≡ bytes → IsLowestRun extents (pages_for bytes) a.first → IsLowestRun extents (pages_for bytes) b.first → a ≡ b
 one_extent extents bytes a b e f x y = same_extent a b (one_run extents (pages_for bytes) a.first b.first x y) (omega (arith, e, f))
 
-pub placed_and_not : NoneIsPlacedAndNot
-placed_and_not taken [] extents p h = h
-placed_and_not taken (bytes ∷ sizes) [] p h = p
-placed_and_not taken (bytes ∷ sizes) (e ∷ extents) p (inl none) = none e.first p.1.is
-placed_and_not taken (bytes ∷ sizes) (e ∷ extents) p (inr (d, f, lowest, n)) =
+pub none_is_placed_and_not : NoneIsPlacedAndNot
+none_is_placed_and_not taken [] extents p h = h
+none_is_placed_and_not taken (bytes ∷ sizes) [] p h = p
+none_is_placed_and_not taken (bytes ∷ sizes) (e ∷ extents) p (inl none) = none e.first p.1.is
+none_is_placed_and_not taken (bytes ∷ sizes) (e ∷ extents) p (inr (d, f, lowest, n)) =
     let same : d ≡ e = one_extent taken bytes d e f p.0 lowest p.1 in
-    placed_and_not (e ∷ taken) sizes extents p.2 (subst (λ x. HaveNoRoom (x ∷ taken) sizes) same n)
+    none_is_placed_and_not (e ∷ taken) sizes extents p.2 (subst (λ x. HaveNoRoom (x ∷ taken) sizes) same n)
 
 pub one_list_of_places : OneListOfPlaces
 one_list_of_places taken [] [] [] p q = refl

@@ -19,21 +19,25 @@ pub fn extents_apart_stay()
 {}
 
 /// After good writes to extents that share no page all of their bytes stand there.
+#[tactic(auto, using(crate::proofs::WroteLemmas::wrote_join))]
 pub fn good_writes_join()
     ensures { GoodWritesJoin }
 {}
 
 /// Whatever is taken, parts of so many bytes each are placed, or there is no room for them.
+#[tactic(auto, using(crate::proofs::PlacingLemmas::placed_or_not))]
 pub fn each_is_placed_or_not()
     ensures { EachIsPlacedOrNot }
 {}
 
 /// Parts that are placed have room.
+#[tactic(auto, using(crate::proofs::PlacingLemmas::none_is_placed_and_not))]
 pub fn none_is_placed_and_not()
     ensures { NoneIsPlacedAndNot }
 {}
 
 /// Parts of so many bytes each are placed in one way.
+#[tactic(auto, using(crate::proofs::PlacingLemmas::one_list_of_places))]
 pub fn one_list_of_places()
     ensures { OneListOfPlaces }
 {}

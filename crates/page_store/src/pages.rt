@@ -49,7 +49,7 @@ impl Model for Pages {
     ghost view = { λ p. record { edges = p.edges.items; taken = p.taken } };
 
     // The edges are in order, no two at one page; and there is room for two more for each extent taken.
-    ghost invariant = { λ p. AreEdges 0 p.edges.items × (vec_len p.edges + 2 * p.taken ≤ vec_capacity p.edges) };
+    ghost invariant = { λ p. AreEdges p.edges.items × (vec_len p.edges + 2 * p.taken ≤ vec_capacity p.edges) };
 }
 
 impl Pages {

@@ -1,7 +1,9 @@
-use Rattle.std.proofs.Common.{◌+◌, length, get_or, inl, inr, arith}
-use Rattle.std.proofs.lemmas.Bool.{cases_lt, leb-true, leb-false}
+use Rattle.std.proofs.Common.{◌^◌, arith, rules}
+use Rattle.std.proofs.lemmas.Bool.{leb-false}
+use Rattle.std.proofs.lemmas.List.{get_or_default}
 use Rattle.page_store.specs.Runs.{pages_for}
-use Rattle.page_store.proofs.EdgeLemmas.{count_at, rise, free_between, taken_from}
+use Rattle.page_store.specs.Edges.{edge}
+use Rattle.page_store.proofs.EdgeLemmas.{count_at, free_between, next_edge, taken_from}
 use Rattle.page_store.proofs.edges.are_free.Goals as goal
 
 pub returns-then-at-eq1-clause-no : goal.returns-then-at-eq1-clause-no
@@ -11,21 +13,18 @@ returns-then-at-eq1-clause-no c is =
 
 pub returns-clause-yes : goal.returns-clause-yes
 returns-clause-yes c is =
-    free_between c.args.edges.now c.up_to-at.result c.args.extent.first (pages_for c.args.extent.bytes) c.requires.order c.up_to-at.ensures.within (omega (arith, c.if-at-eq1.false)) c.up_to-at.ensures.before
-    (λ within. omega (arith, leb-true _ _ is, c.end_at.ensures.edge within, c.pages.ensures.value))
+    free_between c.args.edges.now c.up_to-at.result c.args.extent.first (pages_for c.args.extent.bytes) c.requires.order c.up_to-at.ensures.within (omega (arith, c.if-at-eq1.false)) c.up_to-at.ensures.before (search rules)
 
 pub returns-clause-no : goal.returns-clause-no
 returns-clause-no c is =
     let edges = c.args.edges.now in
     let at = c.up_to-at.result in
     let short = leb-false _ _ is in
-    elim (cases_lt at (length edges)) [
-      | inl within ↦ (
-        get_or edges at 0,
-        (
-          (omega (arith, c.up_to-at.ensures.behind at (omega arith) within), omega (arith, short, c.end_at.ensures.edge within, c.pages.ensures.value)),
-          taken_from edges at (get_or edges at 0) c.requires.order within (omega (arith, c.if-at-eq1.false)) (omega arith) (λ more. rise 0 edges at (at + 1) c.requires.order (omega arith) more),
-        ),
-      )
-      | inr past ↦ absurd (omega (arith, short, c.end_at.ensures.end past, c.pages.ensures.in_pages))
-    ]
+    let next = next_edge edges at c.requires.order (omega (arith, short, c.end_at.ensures.edge, c.pages.ensures.in_pages)) in
+    let from = get_or_default edges at (2 ^ 28) 0 next.0 in (
+      edge edges at,
+      (
+        (omega (arith, from, c.up_to-at.ensures.behind at (omega arith) next.0), omega (arith, short, c.end_at.ensures.edge, c.pages.ensures.value)),
+        taken_from edges at (edge edges at) c.requires.order (omega (arith, c.if-at-eq1.false)) next.0 (omega arith) next.1,
+      ),
+    )

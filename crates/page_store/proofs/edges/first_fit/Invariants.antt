@@ -1,6 +1,6 @@
-use Rattle.std.specs.Prelude.{◌≡◌, ◌+◌, ◌-◌, ◌%◌, ◌<◌, ◌≤◌, ◌^◌, ℕ, length, slice_index}
+use Rattle.std.specs.Prelude.{◌≡◌, ◌-◌, ◌%◌, ◌<◌, ◌≤◌, ℕ, length, slice_index}
 use Rattle.page_store.specs.Runs.{pages_for}
-use Rattle.page_store.specs.Edges.{AreFree}
+use Rattle.page_store.specs.Edges.{BeginNoEarlier}
 use Rattle.page_store.proofs.edges.first_fit.Given as goal
 
 abbrev pub invariant-loop-bytes : goal.invariant-loop-bytes
@@ -8,7 +8,7 @@ invariant-loop-bytes l = record {
   within : l.at ≤ length l.edges;
   even : l.at % 2 ≡ 0;
   low : (k : ℕ) → k < l.at → slice_index l.edges k ≤ l.first;
-  lowest : (other : ℕ) → other + pages_for l.bytes ≤ 2 ^ 28 → AreFree l.edges other (pages_for l.bytes) → l.first ≤ other;
+  lowest : BeginNoEarlier (pages_for l.bytes) l.edges l.first;
 }
 
 abbrev pub decreases-loop-bytes : goal.decreases-loop-bytes

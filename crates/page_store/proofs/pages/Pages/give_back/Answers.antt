@@ -1,15 +1,15 @@
-use Rattle.std.proofs.Common.{ℕ, List, ◌++◌, ap, subst, arith}
-use Rattle.page_store.specs.Edges.{IsTurned}
-use Rattle.page_store.specs.Taken.{PagesState}
-use Rattle.page_store.proofs.TakenLemmas.{one_less, none_less, adds_one, to_front}
+use Rattle.std.proofs.Common.{◌++◌, arith, rules}
+use Rattle.std.proofs.lemmas.Bool.Decides.{nat_tests}
+use Rattle.std.proofs.lemmas.List.Sorted.{IsPermutation-middle}
+use Rattle.page_store.proofs.OrderLemmas.{taken_permuted}
+use Rattle.page_store.proofs.TakenLemmas.{one_less, none_less}
 use Rattle.page_store.proofs.pages.Pages.give_back.Goals as goal
 
 pub returns-then-extent-eq0 : goal.returns-then-extent-eq0
-returns-then-extent-eq0 c = record { freed = λ before after has. none_less c.args.self.now (before ++ after) c.args.extent c.if-extent-eq0.true (to_front c.args.self.now before after c.args.extent has) }
+returns-then-extent-eq0 c = record { freed = λ before after has. none_less c.args.self.now (before ++ after) c.args.extent c.if-extent-eq0.true (taken_permuted c.args.self.now _ _ (IsPermutation-middle before c.args.extent after) has) }
 
 pub returns : goal.returns
 returns c = record {
   freed = λ before after has.
-      one_less c.args.self.now _ (before ++ after) c.args.extent (subst (λ (es : List ℕ). IsTurned c.args.extent es c.turn.new.edges.items) (ap (λ (s : PagesState). s.edges) c.self.view_is) c.turn.ensures.turned)
-      (omega (arith, adds_one c.args.extent (omega (arith, c.if-extent-eq0.false)), ap (λ (s : PagesState). s.taken) c.self.view_is)) (to_front c.args.self.now before after c.args.extent has);
+      one_less c.args.self.now _ (before ++ after) c.args.extent (search rules) (grind (arith, nat_tests)) (taken_permuted c.args.self.now _ _ (IsPermutation-middle before c.args.extent after) has);
 }
