@@ -1,5 +1,5 @@
 -- Pages that are written, asked for and given back.
-use Rattle.std.proofs.Common.{◌≡◌, ℕ, ◌+◌, ◌*◌, ◌<◌, ◌≤◌, true, not, ◌&&◌, List, [], ◌∷◌, ◌++◌, length, drop, map, get_or, All, refl, sym, ap, subst, ◌∙◌, inl, inr, arith, nat_le, nat_lt, add_assoc, zero-add}
+use Rattle.std.proofs.Common.{◌≡◌, ℕ, ◌+◌, ◌*◌, ◌<◌, ◌≤◌, true, not, ◌&&◌, List, [], ◌∷◌, ◌++◌, length, drop, map, get_or, All, refl, sym, ap, subst, ◌∙◌, inl, inr, arith, nat_le, nat_lt, zero-add}
 use Rattle.std.specs.List.{range_with_len}
 use Rattle.std.proofs.lemmas.Bool.{le-leb, lt-ltb}
 use Rattle.std.proofs.lemmas.List.{length-take, length-drop}
@@ -9,7 +9,7 @@ use Rattle.time_base.specs.declared.extent.Extent.{Extent}
 use Rattle.page_store.specs.Ranges.{SameOutside, range_of}
 use Rattle.page_store.specs.Runs.{IsPageOf, IsTaken, pages_for}
 use Rattle.page_store.proofs.StayLemmas.{untouched, part_stays}
-use Rattle.page_cache.specs.Caches.{Kept, after_asking, after_asking_all, missed, missed_by_all, IsHeld, StandsFor}
+use Rattle.page_cache.specs.Caches.{Kept, after_asking, after_asking_all, missed_by_all, IsHeld, StandsFor}
 use Rattle.page_cache.specs.Pieces.{piece, first_pieces, without_pages}
 use Rattle.page_cache.specs.Laws.{LieIn}
 use Rattle.page_cache.proofs.CacheLemmas.{all-asked}
@@ -21,9 +21,7 @@ askings-join (k ∷ ks) ls cache = askings-join ks ls (after_asking k cache)
 
 pub misses-join : (ks ls cache : List Kept) → missed_by_all (ks ++ ls) cache ≡ missed_by_all ks cache + missed_by_all ls (after_asking_all ks cache)
 misses-join [] ls cache = omega arith
-misses-join (k ∷ ks) ls cache =
-    ap (λ m. missed k cache + m) (misses-join ks ls (after_asking k cache))
-    ∙ sym (add_assoc (missed k cache) (missed_by_all ks (after_asking k cache)) (missed_by_all ls (after_asking_all ks (after_asking k cache))))
+misses-join (k ∷ ks) ls cache = omega (arith, misses-join ks ls (after_asking k cache))
 
 -- what is kept of a page that isn't among those of extents stays
 held-stays : (k : Kept) (extents : List Extent) (was pages : List ℕ) → (IsTaken extents k.page → ⊥) → SameOutside (map range_of extents) was pages → IsHeld was k → IsHeld pages k

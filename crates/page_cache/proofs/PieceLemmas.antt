@@ -1,65 +1,72 @@
 -- The pieces of bytes.
-use Rattle.std.proofs.Common.{◌≡◌, ℕ, zero, suc, ◌+◌, ◌*◌, ◌≤◌, List, [], ◌∷◌, ◌++◌, length, take, drop, All, refl, sym, ap, subst, ◌∙◌, arith}
-use Rattle.std.proofs.Math.Numerals.{add-one}
+use Rattle.std.proofs.Common.{◌≡◌, ℕ, zero, suc, ◌+◌, ◌-◌, ◌*◌, ◌<◌, ◌≤◌, min, List, [], ◌∷◌, ◌++◌, length, take, drop, All, refl, sym, ap, subst, ◌∙◌, inl, inr, arith}
 use Rattle.std.proofs.Math.Seq.{take-add}
-use Rattle.std.proofs.lemmas.List.{length-take, take-take, drop-take, drop-drop, length-append, length_push, get_or_append_left, get_or_push}
-use Rattle.std.proofs.lemmas.List.FromFn.{map-range_with_len_more}
+use Rattle.std.proofs.lemmas.Bool.{cases_lt}
+use Rattle.std.proofs.lemmas.List.{length-append, length-take, length-drop, take-take, take_min, drop-take, drop-drop}
+use Rattle.std.proofs.lemmas.List.FromFn.{fill_by_all, length-map-range_with_len, get_or-map-range_with_len, map-range_with_len_more}
+use Rattle.std.proofs.lemmas.Slice.{between-put_mid, take-put_mid_below}
+use borrow.Rule.Slice.PartMut.{put_mid}
 use Rattle.page_cache.specs.Caches.{Kept, IsHeld}
 use Rattle.page_cache.specs.Pieces.{piece, first_pieces}
 
--- one page more
-pub pieces-more : (n first : ℕ) (bytes : List ℕ) → first_pieces (suc n) first bytes ≡ first_pieces n first bytes ++ piece first bytes n ∷ []
-pieces-more n first bytes =
-    subst (λ m. first_pieces m first bytes ≡ first_pieces n first bytes ++ piece first bytes n ∷ []) (add-one n)
-    (map-range_with_len_more (piece first bytes) 0 n n (omega arith))
+-- what holds of the pieces holds of each
+pub each-piece : (P : Kept → Type 0) (n first : ℕ) (bytes : List ℕ) → All P (first_pieces n first bytes) → (k : ℕ) → k < n → P (piece first bytes k)
+each-piece P n first bytes all k below =
+    subst P (get_or-map-range_with_len (piece first bytes) 0 n k k (piece first bytes 0) below (omega arith))
+    (all k (piece first bytes 0) (omega (arith, length-map-range_with_len (piece first bytes) 0 n)))
 
--- a piece is by the bytes up to its end
-piece-front : (first i : ℕ) (bytes : List ℕ) → piece first bytes i ≡ record { page = first + i; bytes = drop (4096 * i) (take (4096 * i + 4096) bytes) }
-piece-front first i bytes = ap (λ l. record { page = first + i; bytes = l }) (sym (drop-take (4096 * i) 4096 bytes))
+-- the first pieces are by the bytes up to their end
+piece-front : (n k : ℕ) (bytes : List ℕ) → k < n → take 4096 (drop (4096 * k) bytes) ≡ drop (4096 * k) (take (4096 * k + 4096) (take (4096 * n) bytes))
+piece-front n k bytes below =
+    sym (drop-take (4096 * k) 4096 bytes) ∙ ap (drop (4096 * k)) (sym (take-take (4096 * k + 4096) (4096 * n) bytes (omega arith)))
 
-pub pieces-same : (n first : ℕ) (xs ys : List ℕ) (a : ℕ) → 4096 * n ≤ a → take a xs ≡ take a ys → first_pieces n first xs ≡ first_pieces n first ys
-pieces-same zero first xs ys a within same = refl
-pieces-same (suc n) first xs ys a within same =
-    let end : 4096 * n + 4096 ≤ a = omega arith in
-    let before : 4096 * n ≤ a = omega arith in
-    let front : take (4096 * n + 4096) xs ≡ take (4096 * n + 4096) ys =
-    sym (take-take (4096 * n + 4096) a xs end) ∙ ap (λ l. take (4096 * n + 4096) l) same ∙ take-take (4096 * n + 4096) a ys end in
-    let last : piece first xs n ≡ piece first ys n =
-    piece-front first n xs ∙ ap (λ l. record { page = first + n; bytes = drop (4096 * n) l }) front ∙ sym (piece-front first n ys) in
-    pieces-more n first xs
-    ∙ ap (λ l. l ++ piece first xs n ∷ []) (pieces-same n first xs ys a before same)
-    ∙ ap (λ k. first_pieces n first ys ++ k ∷ []) last
-    ∙ sym (pieces-more n first ys)
-
-All-front : {X : Type 0} (P : X → Type 0) (xs ys : List X) → All P (xs ++ ys) → All P xs
-All-front P xs ys all k d within = subst P (get_or_append_left xs ys d k within) (all k d (omega (arith, within, length-append xs ys)))
-
-All-last : {X : Type 0} (P : X → Type 0) (xs : List X) (x : X) → All P (xs ++ x ∷ []) → P x
-All-last P xs x all = subst P (get_or_push xs x x (length xs) refl) (all (length xs) x (omega (arith, length_push xs x)))
+pub pieces-same : (n first : ℕ) (xs ys : List ℕ) → take (4096 * n) xs ≡ take (4096 * n) ys → first_pieces n first xs ≡ first_pieces n first ys
+pieces-same n first xs ys same =
+    fill_by_all (piece first ys) (first_pieces n first xs) n (piece first xs 0) (length-map-range_with_len (piece first xs) 0 n) (λ k below.
+    get_or-map-range_with_len (piece first xs) 0 n k k (piece first xs 0) below (omega arith)
+    ∙ ap (λ l. record { page = first + k; bytes = l }) (piece-front n k xs below ∙ ap (λ l. drop (4096 * k) (take (4096 * k + 4096) l)) same ∙ sym (piece-front n k ys below)))
 
 -- Where each piece is what Pages holds, so are the bytes.
-pub pieces-held : (n first : ℕ) (bytes pages : List ℕ) → 4096 * n ≤ length bytes + 4095 → All (IsHeld pages) (first_pieces n first bytes)
-    → take (4096 * n) bytes ≡ take (length (take (4096 * n) bytes)) (drop (first * 4096) pages)
-pieces-held zero first bytes pages within held = refl
-pieces-held (suc n) first bytes pages within held =
-    let full : 4096 * n ≤ length bytes = omega arith in
-    let ks : List Kept = first_pieces n first bytes in
-    let k : Kept = piece first bytes n in
-    let all : All (IsHeld pages) (ks ++ k ∷ []) = subst (All (IsHeld pages)) (pieces-more n first bytes) held in
-    let front : take (4096 * n) bytes ≡ take (length (take (4096 * n) bytes)) (drop (first * 4096) pages) =
-    pieces-held n first bytes pages (omega arith) (All-front (IsHeld pages) ks (k ∷ []) all) in
-    let long : length (take (4096 * n) bytes) ≡ 4096 * n = omega (arith, length-take (4096 * n) bytes) in
-    let last : k.bytes ≡ take (length k.bytes) (drop (k.page * 4096) pages) = (All-last (IsHeld pages) ks k all).bytes in
-    let there : k.page * 4096 ≡ first * 4096 + 4096 * n = omega arith in
-    let behind : drop (4096 * n) (drop (first * 4096) pages) ≡ drop (k.page * 4096) pages = drop-drop (4096 * n) (first * 4096) pages ∙ ap (λ at. drop at pages) (sym there) in
-    let parts : take (4096 * suc n) bytes ≡ take (4096 * n) bytes ++ k.bytes =
-    ap (λ m. take m bytes) (more n) ∙ take-add (4096 * n) 4096 bytes in
-    let both : length (take (4096 * suc n) bytes) ≡ 4096 * n + length k.bytes = ap length parts ∙ length-append (take (4096 * n) bytes) k.bytes ∙ ap (λ m. m + length k.bytes) long in
-    parts
-    ∙ ap (λ l. l ++ k.bytes) (front ∙ ap (λ m. take m (drop (first * 4096) pages)) long)
-    ∙ ap (λ l. take (4096 * n) (drop (first * 4096) pages) ++ l) (last ∙ ap (λ l. take (length k.bytes) l) (sym behind))
-    ∙ sym (take-add (4096 * n) (length k.bytes) (drop (first * 4096) pages))
-    ∙ ap (λ m. take m (drop (first * 4096) pages)) (sym both)
-  where
-    more : (n : ℕ) → 4096 * suc n ≡ 4096 * n + 4096
-    more n = omega arith
+pub pieces-held : (n m first : ℕ) (bytes pages : List ℕ) → m ≤ 4096 * n → m ≤ length bytes → ((k : ℕ) → k < n → IsHeld pages (piece first bytes k))
+    → take m bytes ≡ take m (drop (first * 4096) pages)
+pieces-held zero m first bytes pages low within held = let none : m ≡ 0 = omega arith in rw none refl
+pieces-held (suc n) m first bytes pages low within held = elim (cases_lt m (4096 * n)) [
+  | inl before ↦ pieces-held n m first bytes pages (omega arith) within (λ k below. held k (omega arith))
+  | inr from ↦ (
+      let at : ℕ = 4096 * n in
+      let r : ℕ = m - at in
+      let there : List ℕ = drop (first * 4096) pages in
+      let k : Kept = piece first bytes n in
+      let is : m ≡ at + r = omega arith in
+      let page : k.page * 4096 ≡ first * 4096 + at = omega arith in
+      let long : r ≤ length k.bytes = omega (arith, length-take 4096 (drop at bytes), length-drop at bytes) in
+      let front : take at bytes ≡ take at there = pieces-held n at first bytes pages (omega arith) (omega arith) (λ i below. held i (omega arith)) in
+      let last : k.bytes ≡ take (length k.bytes) (drop at there) =
+      (held n (omega arith)).bytes ∙ ap (take (length k.bytes)) (ap (λ i. drop i pages) page ∙ sym (drop-drop at (first * 4096) pages)) in
+      let rest : take r (drop at bytes) ≡ take r (drop at there) =
+      sym (take-take r 4096 (drop at bytes) (omega arith)) ∙ ap (take r) last ∙ take-take r (length k.bytes) (drop at there) long in
+      ap (λ i. take i bytes) is ∙ take-add at r bytes ∙ rw (front, rest) refl ∙ sym (take-add at r there) ∙ ap (λ i. take i there) (sym is))
+]
+
+-- A part of `bytes` that is written leaves the pieces in front, and is the piece there.
+pub written-pieces : (first n end : ℕ) (bytes part : List ℕ) → 4096 * n ≤ length bytes → end ≡ min (length bytes) (4096 * (n + 1)) → length part ≡ end - 4096 * n
+    → (first_pieces n first (put_mid (4096 * n) (end - 4096 * n) bytes part) ≡ first_pieces n first bytes)
+    × (first_pieces (n + 1) first (put_mid (4096 * n) (end - 4096 * n) bytes part) ≡ first_pieces n first bytes ++ record { page = first + n; bytes = part } ∷ [])
+written-pieces first n end bytes part within end_is long =
+    let at : ℕ = 4096 * n in
+    let written : List ℕ = put_mid at (end - at) bytes part in
+    let kept : first_pieces n first written ≡ first_pieces n first bytes =
+    pieces-same n first written bytes (take-put_mid_below at (end - at) bytes part at (omega arith) within) in
+    let rest : List ℕ = drop (end - at) (drop at bytes) in
+    let size : min 4096 (length (drop at written)) ≡ end - at = omega (
+      arith,
+      length-drop at written,
+      length-append (take at bytes) (part ++ rest),
+      length-append part rest,
+      length-take at bytes,
+      length-drop (end - at) (drop at bytes),
+      length-drop at bytes,
+    ) in
+    let here : take 4096 (drop at written) ≡ part =
+    sym (take_min 4096 (drop at written)) ∙ ap (λ m. take m (drop at written)) size ∙ between-put_mid at (end - at) bytes part end within long in
+    (kept, map-range_with_len_more (piece first written) 0 n n (omega arith) ∙ rw (kept, here) refl)

@@ -1,48 +1,43 @@
 -- What is missed, by pages and lengths.
-use Rattle.std.proofs.Common.{◌≡◌, ℕ, ◌+◌, Bool, true, false, not, ◌&&◌, ◌||◌, List, [], ◌∷◌, length, take, cond, refl, sym, ap, ◌∙◌, nat_eq}
-use Rattle.std.specs.List.{filter, list_any}
-use Rattle.std.proofs.lemmas.List.{take-map}
-use Rattle.page_cache.specs.Caches.{Kept, is_hit, without_page, after_asking, missed_by_all}
-use Rattle.page_cache.specs.Laws.{sizes_of}
+use Rattle.std.proofs.Common.{◌≡◌, ℕ, ◌+◌, List, [], ◌∷◌, length, take, map, replicate, refl, sym, ap, ◌∙◌, nat_eq, inl, inr}
+use Rattle.std.proofs.lemmas.Bool.{cases_Bool}
+use Rattle.std.proofs.lemmas.List.{take-map, length-replicate}
+use Rattle.std.proofs.lemmas.Simd.{map-map}
+use Rattle.page_cache.specs.Caches.{Kept, is_hit, missed, without_page, after_asking, missed_by_all}
+use Rattle.page_cache.specs.Laws.{sizes_of, MissesAreBySizes}
 
-abbrev Size : Type 0
-Size = ℕ × ℕ
+-- a page with a piece of this length, whatever its bytes
+abbrev plain : ℕ × ℕ → Kept
+plain x = record { page = x.0; bytes = replicate x.1 0 }
 
-abbrev size_of : Kept → Size
-size_of k = (k.page, length k.bytes)
+-- the same page, with such a piece of the same length
+abbrev likened : Kept → Kept
+likened k = plain (k.page, length k.bytes)
 
--- the same words over sizes
-abbrev hits : Size → List Size → Bool
-hits x sizes = list_any (λ y. (nat_eq x.0 y.0) && (nat_eq x.1 y.1)) sizes
+-- hits, what is kept without a page and what is missed are alike for these
+hit-plain : (page size : ℕ) (cache : List Kept) → is_hit page size (map likened cache) ≡ is_hit page size cache
+hit-plain page size [] = refl
+hit-plain page size (k ∷ cache) = rw (length-replicate {A = ℕ} (length k.bytes) 0, hit-plain page size cache) refl
 
-abbrev others : ℕ → List Size → List Size
-others page sizes = filter (λ y. not (nat_eq page y.0)) sizes
+without-plain : (page : ℕ) (cache : List Kept) → map likened (without_page page cache) ≡ without_page page (map likened cache)
+without-plain page [] = refl
+without-plain page (k ∷ cache) = elim (cases_Bool (nat_eq page k.page)) [
+  | inl same ↦ rw same (without-plain page cache)
+  | inr other ↦ rw other (ap (λ l. likened k ∷ l) (without-plain page cache))
+]
 
-abbrev behind : Size → List Size → List Size
-behind x sizes = take 1024 (x ∷ others x.0 sizes)
+missed-plain : (ks cache : List Kept) → missed_by_all ks cache ≡ missed_by_all (map likened ks) (map likened cache)
+missed-plain [] cache = refl
+missed-plain (k ∷ ks) cache =
+    rw (length-replicate {A = ℕ} (length k.bytes) 0, hit-plain k.page (length k.bytes) cache) (ap (λ m. missed k cache + m)
+    (missed-plain ks (after_asking k cache)
+    ∙ ap (λ l. missed_by_all (map likened ks) (likened k ∷ l)) (sym (take-map likened 1023 (without_page k.page cache)) ∙ ap (take 1023) (without-plain k.page cache))))
 
-abbrev pub misses : List Size → List Size → ℕ
-misses [] sizes = 0
-misses (x ∷ xs) sizes = cond (hits x sizes) 0 x.1 + misses xs (behind x sizes)
+-- and they are by pages and lengths alone
+likened-same : (ks ls : List Kept) → sizes_of ks ≡ sizes_of ls → map likened ks ≡ map likened ls
+likened-same ks ls same =
+    let all = map-map plain (λ (k : Kept). (k.page, length k.bytes)) in
+    sym (all ks) ∙ ap (map plain) same ∙ all ls
 
--- and that they say the same
-hit-sizes : (page size : ℕ) (cache : List Kept) → is_hit page size cache ≡ hits (page, size) (sizes_of cache)
-hit-sizes page size [] = refl
-hit-sizes page size (k ∷ cache) = ap (λ b. (nat_eq page k.page && nat_eq size (length k.bytes)) || b) (hit-sizes page size cache)
-
-others-sizes : (page : ℕ) (cache : List Kept) → sizes_of (without_page page cache) ≡ others page (sizes_of cache)
-others-sizes page [] = refl
-others-sizes page (k ∷ cache) = (elim (nat_eq page k.page) as (λ b. nat_eq page k.page ≡ b → sizes_of (without_page page (k ∷ cache)) ≡ others page (sizes_of (k ∷ cache))) [
-  | true ↦ λ same. rw same (others-sizes page cache)
-  | false ↦ λ other. rw other (ap (λ l. size_of k ∷ l) (others-sizes page cache))
-]) refl
-
-behind-sizes : (k : Kept) (cache : List Kept) → sizes_of (after_asking k cache) ≡ behind (size_of k) (sizes_of cache)
-behind-sizes k cache = ap (λ l. size_of k ∷ l) (sym (take-map size_of 1023 (without_page k.page cache)) ∙ ap (λ l. take 1023 l) (others-sizes k.page cache))
-
-pub missed-sizes : (ks cache : List Kept) → missed_by_all ks cache ≡ misses (sizes_of ks) (sizes_of cache)
-missed-sizes [] cache = refl
-missed-sizes (k ∷ ks) cache =
-    ap (λ b. cond b 0 (length k.bytes) + missed_by_all ks (after_asking k cache)) (hit-sizes k.page (length k.bytes) cache)
-    ∙ ap (λ m. cond (hits (size_of k) (sizes_of cache)) 0 (length k.bytes) + m)
-    (missed-sizes ks (after_asking k cache) ∙ ap (λ l. misses (sizes_of ks) l) (behind-sizes k cache))
+pub missed-sizes : MissesAreBySizes
+missed-sizes ks ls cache other same alike = missed-plain ks cache ∙ rw (likened-same ks ls same, likened-same cache other alike) (sym (missed-plain ls other))

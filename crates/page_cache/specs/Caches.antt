@@ -1,6 +1,6 @@
 -- A cache: pages that are kept with what was read of them, the most recently used first.
-use Rattle.std.specs.Prelude.{◌≡◌, ℕ, ◌+◌, ◌*◌, ◌≤◌, ◌==◌, Bool, false, not, ◌&&◌, nat_eq, if◌then◌else◌, IsTrue, List, [], ◌∷◌, length, take, drop, map, All, Contains}
-use Rattle.std.specs.List.{filter, list_any, IsDistinct}
+use Rattle.std.specs.Prelude.{◌≡◌, ◌≢◌, ℕ, ◌+◌, ◌*◌, ◌≤◌, ◌==◌, Bool, false, not, ◌&&◌, if◌then◌else◌, IsTrue, List, [], ◌∷◌, length, take, drop, All, AllPairs, Contains}
+use Rattle.std.specs.List.{filter, list_any}
 
 -- a page that is kept, with its piece: the bytes that were read of it
 pub record Kept : Type 0 where
@@ -11,13 +11,9 @@ pub record Kept : Type 0 where
 abbrev pub is_hit : ℕ → ℕ → List Kept → Bool
 is_hit page size cache = list_any (λ k. (page == k.page) && (size == length k.bytes)) cache
 
--- the numbers of the kept pages
-abbrev pub pages_of : List Kept → List ℕ
-pages_of cache = map (λ k. k.page) cache
-
 -- no page is kept twice
 abbrev pub AreDistinct : List Kept → Type 0
-AreDistinct cache = IsDistinct nat_eq (pages_of cache)
+AreDistinct cache = AllPairs (λ j k. j.page ≢ k.page) cache
 
 -- the kept pages but for one
 abbrev pub without_page : ℕ → List Kept → List Kept

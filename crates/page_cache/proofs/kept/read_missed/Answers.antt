@@ -1,13 +1,12 @@
 use Rattle.std.proofs.Common.{◌≡◌, None, IsOk, sym, ◌∙◌, nat_eq, rules}
 use Rattle.std.specs.Map.{lookup}
-use Rattle.page_cache.specs.Inside.{kept_of}
 use Rattle.page_cache.proofs.EntryLemmas.{front-asked, added-asked, order-asked, of-ok}
 use Rattle.page_cache.proofs.kept.read_missed.Goals as goal
 
 pub returns-then-contains-clause-asked : goal.returns-then-contains-clause-asked
 returns-then-contains-clause-asked g c =
-    front-asked (record { page = c.args.page; bytes = c.refill.new.buf }) c.args.kept.now.entries (kept_of c.refill.new.kept.entries)
-    c.requires.order.distinct c.requires.order.most (sym c.contains.ensures ∙ c.if-contains.true) c.in_ok-refill.ensures.first
+    c.in_ok-refill.ensures.first
+    ∙ front-asked (record { page = c.args.page; bytes = c.refill.new.buf }) c.args.kept.now c.requires.order (sym c.contains.ensures ∙ c.if-contains.true)
 
 pub returns-then-contains-clause-order : goal.returns-then-contains-clause-order
 returns-then-contains-clause-order g c =
