@@ -1,10 +1,11 @@
 -- What was fetched and then joined is what is gathered.
-use Rattle.std.proofs.Common.{◌≡◌, ℕ, ◌+◌, List, [], ◌∷◌, ◌++◌, length, Ok, Err, Result, OnOk, IfErr, inl, inr, refl, ap, sym, subst, ◌∙◌, arith, add-zero}
+use Rattle.std.proofs.Common.{◌≡◌, ℕ, ◌+◌, List, [], ◌∷◌, ◌++◌, length, false, Ok, Err, Result, OnOk, IfErr, inl, inr, refl, ap, sym, subst, ◌∙◌, arith, add-zero}
 use Rattle.std.proofs.lemmas.List.Sums.{sum_by-cons}
 use Rattle.time_base.specs.declared.posting.Posting.{Posting}
 use Rattle.record_codec.specs.declared.place.Layout.{Layout}
 use Rattle.postings.specs.Unions.{IsUnion}
-use Rattle.sublist_store.specs.Gathering.{Chosen, Joins, Refuses, Gathers, ListOrDamage}
+use Rattle.sublist_store.specs.Fetching.{Explains}
+use Rattle.sublist_store.specs.Gathering.{Chosen, Joins, Refuses, Gathers, ListOrDamage, bytes_of}
 use Rattle.sublist_store.specs.Joining.{Paged, size_of_all, JoinInTurn, IsFound, AreFetched, RefusesAlone, StopsAt}
 use Rattle.sublist_store.specs.declared.why.Why.{Why}
 use Rattle.sublist_store.specs.declared.why.Why.TheVariants.{Clash}
@@ -80,9 +81,14 @@ gathers_clash layout h pages (c ∷ all) (l ∷ lists) rest union n d fetched (i
     inr (both, (length l.1, (joins_found layout h pages c l union both fetched.0 is, gathers_clash layout h pages all lists rest both (n + length l.1) d fetched.1 more)))
 
 -- why a segment is refused alone, it is refused behind others
-refuses : (layout : Layout) (h : ℕ) (pages : List ℕ) (c : Chosen) (union : List Posting) (why : Why) → RefusesAlone layout h pages c why → Refuses layout h pages c union why
+refuses : (layout : Layout) (h : ℕ) (pages : List ℕ) (c : Chosen) (union : List Posting) (why : Why) → RefusesAlone layout h (bytes_of c pages) c why → Refuses layout h pages c union why
 refuses layout h pages c union why (inl explained) = inl explained
 refuses layout h pages c union why (inr (list, (fetched, bare))) = inr (list, (fetched, inl bare))
+
+-- where a list may be empty, the bytes themselves are refused
+pub explained : (layout : Layout) (h : ℕ) (bytes : List ℕ) (c : Chosen) (why : Why) → c.first ≡ false → RefusesAlone layout h bytes c why → Explains layout c.place.digest c.from c.to h bytes why
+explained layout h bytes c why late (inl is) = is
+explained layout h bytes c why late (inr (list, (fetched, (bare, told)))) = let first = bare.0 in absurd (cc)
 
 -- the segment behind the lists is refused
 pub gathers_stop : (layout : Layout) (h : ℕ) (pages : List ℕ) (all : List Chosen) (lists : List Paged) (rest : List Chosen) (joined : List Posting) (d : Damage)
@@ -112,8 +118,8 @@ found_same layout h g pages were c l one two found =
     subst Q two (subst P one found)
 
 pub stops_at : (layout : Layout) (h g : ℕ) (pages were : List ℕ) (rest new : List Chosen) (c : Chosen) (d : Damage) → g ≡ h → were ≡ pages → rest ≡ c ∷ new
-    → (d.page ≡ c.place.extent.first) × RefusesAlone layout g were c d.why → StopsAt layout h pages rest d
+    → (d.page ≡ c.place.extent.first) × RefusesAlone layout g (bytes_of c were) c d.why → StopsAt layout h pages rest d
 stops_at layout h g pages were rest new c d one two is refused =
-    let P : ℕ → Type 0 = λ x. RefusesAlone layout x were c d.why in
-    let Q : List ℕ → Type 0 = λ x. RefusesAlone layout h x c d.why in
+    let P : ℕ → Type 0 = λ x. RefusesAlone layout x (bytes_of c were) c d.why in
+    let Q : List ℕ → Type 0 = λ x. RefusesAlone layout h (bytes_of c x) c d.why in
     subst (λ (cs : List Chosen). StopsAt layout h pages cs d) (sym is) (refused.0, subst Q two (subst P one refused.1))

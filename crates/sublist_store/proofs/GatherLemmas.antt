@@ -12,7 +12,7 @@ use Rattle.sublist_store.specs.declared.why.FetchError.{FetchError}
 use Rattle.sublist_store.specs.declared.why.FetchError.TheVariants.{Failed, Damaged, Memory}
 use Rattle.sublist_store.specs.Segments.{seconds, next_cut}
 use Rattle.sublist_store.specs.Gathering.{Chosen, chosen, overlapping}
-use Rattle.sublist_store.specs.declared.gathering.Segment.{Segment}
+use Rattle.sublist_store.specs.declared.fetching.Segment.{Segment}
 use Rattle.sublist_store.specs.declared.why.Damage.{Damage}
 
 -- the segments that overlap the window, from segment k on

@@ -47,13 +47,13 @@ AreFetched layout h pages segments [] rest = rest ≡ segments
 AreFetched layout h pages [] (l ∷ lists) rest = ⊥
 AreFetched layout h pages (c ∷ segments) (l ∷ lists) rest = IsFound layout h pages c l × AreFetched layout h pages segments lists rest
 
--- why the segment is refused, whatever stands in front of it
+-- why the segment is refused by the bytes of its place, whatever stands in front of it
 abbrev pub RefusesAlone : Layout → ℕ → List ℕ → Chosen → Why → Type 0
-RefusesAlone layout h pages c why =
-    Explains layout c.place.digest c.from c.to h (bytes_of c pages) why
-    ⊎ ((list : List Posting) × (IsFetched layout c.place.digest c.from c.to h (bytes_of c pages) list × (IsBare c.first list × (why ≡ Bare))))
+RefusesAlone layout h bytes c why =
+    Explains layout c.place.digest c.from c.to h bytes why
+    ⊎ ((list : List Posting) × (IsFetched layout c.place.digest c.from c.to h bytes list × (IsBare c.first list × (why ≡ Bare))))
 
 -- the first of the segments is refused
 abbrev pub StopsAt : Layout → ℕ → List ℕ → List Chosen → Damage → Type 0
 StopsAt layout h pages [] d = ⊥
-StopsAt layout h pages (c ∷ segments) d = (d.page ≡ c.place.extent.first) × RefusesAlone layout h pages c d.why
+StopsAt layout h pages (c ∷ segments) d = (d.page ≡ c.place.extent.first) × RefusesAlone layout h (bytes_of c pages) c d.why

@@ -1,5 +1,5 @@
 //! Fetching a sublist from its place.
-ghost use Rattle.std.specs.Prelude.{◌≡◌, ◌+◌, ◌*◌, ◌≤◌, ℕ, true, List, All, length, IfOk, OnOk, IfErr, MatchOption};
+ghost use Rattle.std.specs.Prelude.{◌≡◌, ◌+◌, ◌*◌, ◌≤◌, ℕ, true, false, List, All, length, IfOk, OnOk, IfErr, MatchOption};
 ghost use Rattle.machine_model.specs.Areas.{replaced};
 ghost use Rattle.machine_model.specs.Causes.{Rose};
 ghost use Rattle.time_base.specs.declared.extent.Extent.{Extent};
@@ -8,8 +8,10 @@ ghost use Rattle.page_store.specs.Runs.{IsPageOf, IsTaken};
 ghost use Rattle.page_cache.specs.Caches.{after_asking_all, missed_by_all, StandsFor};
 ghost use Rattle.page_cache.specs.Laws.{LieIn};
 ghost use Rattle.sublist_store.specs.Caching.{pieces_at};
-ghost use Rattle.sublist_store.specs.Layouts.{Spells};
-ghost use Rattle.sublist_store.specs.Fetching.{IsFetched, IsFirstAstray, Explains, IfDamaged, IfFailed, belongs};
+ghost use Rattle.postings.specs.Lists.{IsList};
+ghost use Rattle.sublist_store.specs.Fetching.{IsFetched, IsFirstAstray, IfDamaged, IfFailed, belongs};
+ghost use Rattle.sublist_store.specs.Gathering.{IsBare};
+ghost use Rattle.sublist_store.specs.Joining.{RefusesAlone};
 
 use crate::checker::{CheckError, Checker};
 use crate::why::{Damage, FetchError, Why};
@@ -27,16 +29,23 @@ pub(crate) struct Bounds {
     pub(crate) horizon: u64,
 }
 
-/// Asks for a place's bytes, and lends the list that they spell.
-pub(crate) fn lend<'c, D: Disk>(
+/// A segment, and whether it is the first of all, which has a posting.
+#[derive(Clone, Copy)]
+pub(crate) struct Segment {
+    pub(crate) bounds: Bounds,
+    pub(crate) first: bool,
+}
+
+/// Asks for the bytes of a segment's place, and gives the list that they spell.
+pub(crate) fn fetch_one<D: Disk>(
     cache: &mut PageCache,
-    checker: &'c mut Checker,
+    checker: &mut Checker,
     alloc: Global,
     disk: &mut D,
     layout: Layout,
     place: &Place,
-    bounds: Bounds,
-) -> Result<&'c [Posting], FetchError>
+    segment: Segment,
+) -> Result<Vec<Posting>, FetchError>
     requires inside { place.now.extent.first * 4096 + place.now.extent.bytes ≤ (D.disk disk.old).reach.pages }
     ensures only { D.Disk.only disk.old disk.new }
     ensures failed { IfErr result (IfFailed (Rose (D.disk disk.old).faults (D.disk disk.new).faults)) }
@@ -47,11 +56,14 @@ pub(crate) fn lend<'c, D: Disk>(
         + missed_by_all (pieces_at (D.disk disk.old).holds.pages place.now.extent) cache.old)) }
     ensures stays { D.disk_tells → StandsFor cache.old (D.disk disk.old).holds.pages → StandsFor cache.new (D.disk disk.new).holds.pages }
     ensures lie { (taken : List Extent) → ((p : ℕ) → IsPageOf place.now.extent p → IsTaken taken p) → LieIn taken cache.old → LieIn taken cache.new }
-    ensures spelled { IfOk result (λ list. (bytes : List ℕ) × ((length bytes ≡ place.now.extent.bytes) × Spells layout bytes list.now)) }
+    ensures list { IfOk result (λ v. IsList v.items) }
+    ensures short { IfOk result (λ v. length v.items ≤ place.now.extent.bytes) }
+    ensures some { IfOk result (λ v. ¬ (IsBare segment.first v.items)) }
     ensures found { D.disk_tells → StandsFor cache.old (D.disk disk.old).holds.pages
-        → IfOk result (λ list. IsFetched layout place.now.digest bounds.from bounds.to bounds.horizon (bytes_in place.now.extent (D.disk disk.old).holds.pages) list.now) }
+        → IfOk result (λ v. IsFetched layout place.now.digest segment.bounds.from segment.bounds.to segment.bounds.horizon (bytes_in place.now.extent (D.disk disk.old).holds.pages) v.items) }
     ensures damaged { D.disk_tells → StandsFor cache.old (D.disk disk.old).holds.pages
-        → IfErr result (IfDamaged (λ d. (d.page ≡ place.now.extent.first) × Explains layout place.now.digest bounds.from bounds.to bounds.horizon (bytes_in place.now.extent (D.disk disk.old).holds.pages) d.why)) }
+        → IfErr result (IfDamaged (λ d. (d.page ≡ place.now.extent.first) × RefusesAlone layout segment.bounds.horizon (bytes_in place.now.extent (D.disk disk.old).holds.pages)
+        (record { from = segment.bounds.from; to = segment.bounds.to; place = place.now; first = segment.first }) d.why)) }
 {
     let mut bytes = match vec![in alloc; 0; place.extent.bytes as usize] {
         Ok(bytes) => bytes,
@@ -62,30 +74,37 @@ pub(crate) fn lend<'c, D: Disk>(
         Err(PageError::Failed) => return Err(FetchError::Failed),
         Err(PageError::Memory) => return Err(FetchError::Memory),
     }
-    sifted(checker, alloc, layout, place, &bytes, bounds)
+    sifted(checker, alloc, layout, place, &bytes, segment)
 }
 
-/// The list that a place's bytes spell, if they have its digest and each posting belongs there.
-fn sifted<'c>(
-    checker: &'c mut Checker,
+/// The list that the bytes of a segment's place spell, if they have its digest and the list may stand
+/// there.
+fn sifted(
+    checker: &mut Checker,
     alloc: Global,
     layout: Layout,
     place: &Place,
     bytes: &[u8],
-    bounds: Bounds,
-) -> Result<&'c [Posting], FetchError>
-    ensures found { IfOk result (λ list. IsFetched layout place.now.digest bounds.from bounds.to bounds.horizon bytes.now list.now) }
+    segment: Segment,
+) -> Result<Vec<Posting>, FetchError>
+    ensures found { IfOk result (λ v. IsFetched layout place.now.digest segment.bounds.from segment.bounds.to segment.bounds.horizon bytes.now v.items) }
+    ensures some { IfOk result (λ v. ¬ (IsBare segment.first v.items)) }
     ensures failed { IfErr result (IfFailed ⊥) }
-    ensures damaged { IfErr result (IfDamaged (λ d. (d.page ≡ place.now.extent.first) × Explains layout place.now.digest bounds.from bounds.to bounds.horizon bytes.now d.why)) }
+    ensures damaged { IfErr result (IfDamaged (λ d. (d.page ≡ place.now.extent.first) × RefusesAlone layout segment.bounds.horizon bytes.now
+        (record { from = segment.bounds.from; to = segment.bounds.to; place = place.now; first = segment.first }) d.why)) }
 {
     let page = place.extent.first;
     match checker.check(alloc, page, layout, &place.digest, bytes) {
         Ok(list) => {
-            if let Some(posting) = first_astray(list, bounds) {
+            if let Some(posting) = first_astray(list, segment.bounds) {
                 let why = Why::Astray { posting };
                 return Err(FetchError::Damaged(Damage { page, why }));
             }
-            Ok(list)
+            if is_bare(segment.first, list) {
+                let why = Why::Bare;
+                return Err(FetchError::Damaged(Damage { page, why }));
+            }
+            Ok(Vec::from_slice(alloc, list)?)
         }
         Err(CheckError::Digest { got }) => {
             let stored = place.digest;
@@ -119,4 +138,12 @@ fn belongs_to(posting: &Posting, bounds: Bounds) -> bool
     posting.span.from < bounds.to
         && bounds.from < posting.span.to
         && posting.span.to <= bounds.horizon
+}
+
+/// Whether it is the first segment of all, and without a posting.
+fn is_bare(first: bool, list: &[Posting]) -> bool
+    ensures yes { result ≡ true → IsBare first list.now }
+    ensures no { result ≡ false → IsBare first list.now → ⊥ }
+{
+    first && list.is_empty()
 }

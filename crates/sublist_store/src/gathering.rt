@@ -1,26 +1,26 @@
 //! Gathering the sublists of the segments that overlap a window.
-ghost use Rattle.std.specs.Prelude.{◌≡◌, [], ◌∷◌, ◌+◌, ◌*◌, ◌^◌, ◌==◌, ◌<◌, ◌≤◌, ◌&&◌, nat_lt, true, false, ℕ, List, All, drop, length, sum_by, Ok, Err, IfOk, OnOk, IfErr};
+ghost use Rattle.std.specs.Prelude.{◌≡◌, [], ◌∷◌, ◌+◌, ◌^◌, ◌==◌, ◌<◌, ◌≤◌, ◌&&◌, nat_lt, true, false, ℕ, List, All, drop, length, sum_by, Ok, Err, IfOk, OnOk, IfErr};
 ghost use Rattle.time_base.specs.declared.extent.Extent.{Extent};
 ghost use Rattle.record_codec.specs.declared.place.Place.{Place as PlainPlace};
 ghost use Rattle.machine_model.specs.Areas.{replaced};
 ghost use Rattle.machine_model.specs.Causes.{Rose};
 ghost use Rattle.postings.specs.Lists.{IsList};
 ghost use Rattle.page_store.specs.Live.{IsInside};
-ghost use Rattle.page_store.specs.Runs.{IsPageOf, IsTaken};
+ghost use Rattle.page_store.specs.Runs.{IsTaken};
 ghost use Rattle.page_cache.specs.Caches.{after_asking_all, missed_by_all, StandsFor};
 ghost use Rattle.page_cache.specs.Laws.{LieIn};
-ghost use Rattle.sublist_store.specs.Caching.{pieces_at, pieces_of_all};
+ghost use Rattle.sublist_store.specs.Caching.{pieces_of_all};
 ghost use Rattle.sublist_store.specs.Preparing.{extents};
 ghost use Rattle.sublist_store.specs.Segments.{seconds, next_cut};
 ghost use Rattle.sublist_store.specs.Fetching.{IfDamaged, IfFailed};
-ghost use Rattle.sublist_store.specs.Gathering.{Chosen, chosen, IsBare, Gathers};
-ghost use Rattle.sublist_store.specs.Joining.{Paged, size_of_all, IsFound, AreFetched, RefusesAlone, StopsAt};
+ghost use Rattle.sublist_store.specs.Gathering.{Chosen, chosen, Gathers};
+ghost use Rattle.sublist_store.specs.Joining.{Paged, size_of_all, AreFetched, StopsAt};
 
 use crate::checker::Checker;
-use crate::fetching::{Bounds, lend};
+use crate::fetching::{Bounds, Segment, fetch_one};
 use crate::joining::{Sublist, join_all};
 use crate::store::Sublists;
-use crate::why::{Damage, FetchError, Why};
+use crate::why::FetchError;
 use machine_model::{Area, Disk};
 use page_cache::PageCache;
 use record_codec::{Layout, Place};
@@ -36,11 +36,14 @@ pub struct Gathered {
     pub read: u64,
 }
 
-/// A segment, and whether it is the first of all.
+/// The segments that begin at the cuts, the last of which ends at the horizon, with the places of their
+/// sublists.
 #[derive(Clone, Copy)]
-pub(crate) struct Segment {
-    pub(crate) bounds: Bounds,
-    pub(crate) first: bool,
+struct Placed<'p> {
+    layout: Layout,
+    cuts: &'p [Time],
+    horizon: Time,
+    places: &'p [Place],
 }
 
 impl Sublists {
@@ -85,15 +88,18 @@ impl Sublists {
         ensures lie { (taken : List Extent) → ((p : ℕ) → IsTaken (extents places.now) p → IsTaken taken p) → LieIn taken self.old.cache → LieIn taken self.new.cache }
     {
         let mut lists = Vec::new(alloc);
+        let placed = Placed {
+            layout,
+            cuts,
+            horizon,
+            places,
+        };
         let fetched = fetch_all(
             &mut self.cache,
             &mut self.checker,
             alloc,
             disk,
-            layout,
-            cuts,
-            horizon,
-            places,
+            &placed,
             span,
             &mut lists,
         );
@@ -117,105 +123,51 @@ fn fetch_all<D: Disk>(
     checker: &mut Checker,
     alloc: Global,
     disk: &mut D,
-    layout: Layout,
-    cuts: &[Time],
-    horizon: Time,
-    places: &[Place],
+    placed: &Placed,
     span: Span,
     lists: &mut Vec<Sublist>,
 ) -> Result<u64, FetchError>
     requires none { lists.old.items ≡ [] }
-    requires as_many { length places.now ≡ length cuts.now }
-    requires inside { All (λ (p : PlainPlace). IsInside (D.disk disk.old).reach.pages p.extent) places.now }
-    requires few { sum_by (λ (p : PlainPlace). p.extent.bytes) places.now ≤ 2 ^ 60 }
+    requires as_many { length placed.now.places.now ≡ length placed.now.cuts.now }
+    requires inside { All (λ (p : PlainPlace). IsInside (D.disk disk.old).reach.pages p.extent) placed.now.places.now }
+    requires few { sum_by (λ (p : PlainPlace). p.extent.bytes) placed.now.places.now ≤ 2 ^ 60 }
     ensures only { D.Disk.only disk.old disk.new }
     ensures failed { IfErr result (IfFailed (Rose (D.disk disk.old).faults (D.disk disk.new).faults)) }
     ensures same { D.disk disk.new ≡ record (D.disk disk.old) { faults = (D.disk disk.new).faults; bytes_read = (D.disk disk.new).bytes_read } }
     ensures asked { D.disk_tells → StandsFor cache.old (D.disk disk.old).holds.pages
-        → OnOk result (cache.new ≡ after_asking_all (pieces_of_all (D.disk disk.old).holds.pages (chosen span.from span.to horizon.seconds true (seconds cuts.now) places.now)) cache.old) }
+        → OnOk result (cache.new ≡ after_asking_all (pieces_of_all (D.disk disk.old).holds.pages (chosen span.from span.to placed.now.horizon.seconds true (seconds placed.now.cuts.now) placed.now.places.now)) cache.old) }
     ensures count { D.disk_tells → StandsFor cache.old (D.disk disk.old).holds.pages
         → OnOk result ((D.disk disk.new).bytes_read ≡ replaced (D.disk disk.old).bytes_read Area.Pages ((D.disk disk.old).bytes_read.pages
-        + missed_by_all (pieces_of_all (D.disk disk.old).holds.pages (chosen span.from span.to horizon.seconds true (seconds cuts.now) places.now)) cache.old)) }
+        + missed_by_all (pieces_of_all (D.disk disk.old).holds.pages (chosen span.from span.to placed.now.horizon.seconds true (seconds placed.now.cuts.now) placed.now.places.now)) cache.old)) }
     ensures stays { D.disk_tells → StandsFor cache.old (D.disk disk.old).holds.pages → StandsFor cache.new (D.disk disk.new).holds.pages }
-    ensures lie { (taken : List Extent) → ((p : ℕ) → IsTaken (extents places.now) p → IsTaken taken p) → LieIn taken cache.old → LieIn taken cache.new }
+    ensures lie { (taken : List Extent) → ((p : ℕ) → IsTaken (extents placed.now.places.now) p → IsTaken taken p) → LieIn taken cache.old → LieIn taken cache.new }
     ensures lists { All (λ (l : Paged). IsList l.1) lists.new.items }
     ensures read { IfOk result (λ n. n ≡ size_of_all lists.new.items) }
     ensures fetched { D.disk_tells → StandsFor cache.old (D.disk disk.old).holds.pages
-        → OnOk result (AreFetched layout horizon.seconds (D.disk disk.old).holds.pages (chosen span.from span.to horizon.seconds true (seconds cuts.now) places.now) lists.new.items []) }
+        → OnOk result (AreFetched placed.now.layout placed.now.horizon.seconds (D.disk disk.old).holds.pages (chosen span.from span.to placed.now.horizon.seconds true (seconds placed.now.cuts.now) placed.now.places.now) lists.new.items []) }
     ensures stopped { D.disk_tells → StandsFor cache.old (D.disk disk.old).holds.pages
-        → IfErr result (λ e. (rest : List Chosen) × (AreFetched layout horizon.seconds (D.disk disk.old).holds.pages (chosen span.from span.to horizon.seconds true (seconds cuts.now) places.now) lists.new.items rest
-        × IfDamaged (StopsAt layout horizon.seconds (D.disk disk.old).holds.pages rest) e)) }
+        → IfErr result (λ e. (rest : List Chosen) × (AreFetched placed.now.layout placed.now.horizon.seconds (D.disk disk.old).holds.pages (chosen span.from span.to placed.now.horizon.seconds true (seconds placed.now.cuts.now) placed.now.places.now) lists.new.items rest
+        × IfDamaged (StopsAt placed.now.layout placed.now.horizon.seconds (D.disk disk.old).holds.pages rest) e)) }
 {
     let mut read = 0;
-    for k in 0..cuts.len() {
+    let places = placed.places;
+    for k in 0..placed.cuts.len() {
         let place = &places[k];
-        let segment = segment_at(cuts, horizon, k);
+        let segment = segment_at(placed.cuts, placed.horizon, k);
         if !overlaps(segment, span) {
             continue;
         }
-        let found = match fetch_one(cache, checker, alloc, disk, layout, place, segment) {
+        let found = match fetch_one(cache, checker, alloc, disk, placed.layout, place, segment) {
             Ok(found) => found,
             Err(error) => return Err(error),
         };
-        read += found.postings().len() as u64;
-        match lists.push(found) {
+        read += found.len() as u64;
+        match lists.push(Sublist::new(place.extent.first, found)) {
             Ok(()) => {}
             Err(_) => return Err(FetchError::Memory),
         }
     }
     Ok(read)
-}
-
-/// Fetches the sublist of a segment.
-fn fetch_one<D: Disk>(
-    cache: &mut PageCache,
-    checker: &mut Checker,
-    alloc: Global,
-    disk: &mut D,
-    layout: Layout,
-    place: &Place,
-    segment: Segment,
-) -> Result<Sublist, FetchError>
-    requires inside { IsInside (D.disk disk.old).reach.pages place.now.extent }
-    ensures only { D.Disk.only disk.old disk.new }
-    ensures failed { IfErr result (IfFailed (Rose (D.disk disk.old).faults (D.disk disk.new).faults)) }
-    ensures same { D.disk disk.new ≡ record (D.disk disk.old) { faults = (D.disk disk.new).faults; bytes_read = (D.disk disk.new).bytes_read } }
-    ensures asked { D.disk_tells → StandsFor cache.old (D.disk disk.old).holds.pages → OnOk result (cache.new ≡ after_asking_all (pieces_at (D.disk disk.old).holds.pages place.now.extent) cache.old) }
-    ensures count { D.disk_tells → StandsFor cache.old (D.disk disk.old).holds.pages
-        → OnOk result ((D.disk disk.new).bytes_read ≡ replaced (D.disk disk.old).bytes_read Area.Pages ((D.disk disk.old).bytes_read.pages
-        + missed_by_all (pieces_at (D.disk disk.old).holds.pages place.now.extent) cache.old)) }
-    ensures stays { D.disk_tells → StandsFor cache.old (D.disk disk.old).holds.pages → StandsFor cache.new (D.disk disk.new).holds.pages }
-    ensures lie { (taken : List Extent) → ((p : ℕ) → IsPageOf place.now.extent p → IsTaken taken p) → LieIn taken cache.old → LieIn taken cache.new }
-    ensures list { IfOk result (λ s. IsList s.1) }
-    ensures short { IfOk result (λ s. length s.1 ≤ place.now.extent.bytes) }
-    ensures found { D.disk_tells → StandsFor cache.old (D.disk disk.old).holds.pages
-        → IfOk result (λ s. IsFound layout segment.bounds.horizon (D.disk disk.old).holds.pages
-        (record { from = segment.bounds.from; to = segment.bounds.to; place = place.now; first = segment.first }) s) }
-    ensures damaged { D.disk_tells → StandsFor cache.old (D.disk disk.old).holds.pages
-        → IfErr result (IfDamaged (λ d. (d.page ≡ place.now.extent.first) × RefusesAlone layout segment.bounds.horizon (D.disk disk.old).holds.pages
-        (record { from = segment.bounds.from; to = segment.bounds.to; place = place.now; first = segment.first }) d.why)) }
-{
-    let page = place.extent.first;
-    let found = match lend(cache, checker, alloc, disk, layout, place, segment.bounds) {
-        Ok(found) => found,
-        Err(error) => return Err(error),
-    };
-    if is_bare(segment.first, found) {
-        let why = Why::Bare;
-        return Err(FetchError::Damaged(Damage { page, why }));
-    }
-    match Vec::from_slice(alloc, found) {
-        Ok(postings) => Ok(Sublist::new(page, postings)),
-        Err(_) => Err(FetchError::Memory),
-    }
-}
-
-/// Whether it is the first segment of all, and without a posting.
-fn is_bare(first: bool, list: &[Posting]) -> bool
-    ensures yes { result ≡ true → IsBare first list.now }
-    ensures no { result ≡ false → IsBare first list.now → ⊥ }
-{
-    first && list.is_empty()
 }
 
 /// The segment that begins at a cut.

@@ -13,7 +13,7 @@ ghost use Rattle.sublist_store.specs.Caching.{pieces_at};
 ghost use Rattle.sublist_store.specs.Fetching.{IsFetched, Explains, IfDamaged, IfFailed};
 
 use crate::checker::Checker;
-use crate::fetching::{Bounds, lend};
+use crate::fetching::{Bounds, Segment, fetch_one};
 use crate::why::FetchError;
 use machine_model::{Area, Disk, Failed};
 use page_cache::PageCache;
@@ -121,18 +121,19 @@ impl Sublists {
             to: span.to,
             horizon: horizon.seconds,
         };
-        let list = match lend(
+        // A list without a posting is fetched like any other.
+        let segment = Segment {
+            bounds,
+            first: false,
+        };
+        fetch_one(
             &mut self.cache,
             &mut self.checker,
             alloc,
             disk,
             layout,
             place,
-            bounds,
-        ) {
-            Ok(list) => list,
-            Err(error) => return Err(error),
-        };
-        Ok(Vec::from_slice(alloc, list)?)
+            segment,
+        )
     }
 }

@@ -1,45 +1,36 @@
-use Rattle.std.proofs.Common.{List, sym, subst}
-use Rattle.time_base.specs.declared.posting.Posting.{Posting}
+use Rattle.std.proofs.Common.{◌≡◌, false, refl, sym, subst}
+use Rattle.std.proofs.lemmas.Result.{IfErr-weaker}
 use Rattle.page_store.specs.Ranges.{bytes_in}
 use Rattle.page_cache.specs.Caches.{StandsFor}
 use Rattle.page_cache.specs.Laws.{LieIn}
 use Rattle.sublist_store.specs.Caching.{SublistsState}
-use Rattle.sublist_store.specs.Fetching.{IsFetched}
+use Rattle.sublist_store.specs.Fetching.{Explains, IfDamaged}
+use Rattle.sublist_store.specs.Gathering.{Chosen}
+use Rattle.sublist_store.specs.Joining.{RefusesAlone}
+use Rattle.sublist_store.specs.declared.why.Damage.{Damage}
+use Rattle.sublist_store.proofs.GatherLemmas.{if_damaged}
+use Rattle.sublist_store.proofs.FetchLemmas.{explained}
 use Rattle.sublist_store.proofs.store.Sublists.fetch.Goals as goal
-
-pub returns-in-Err-clause-damaged : goal.returns-in-Err-clause-damaged
-returns-in-Err-clause-damaged g c = λ tells stands.
-    let S : SublistsState → Type 0 = λ s. StandsFor s.cache (g.D.Disk.disk c.args.disk.now).holds.pages in
-    c.in-Err.ensures.damaged tells (subst S (sym c.self.view_is) stands)
-
-pub returns-in-Err-clause-stays : goal.returns-in-Err-clause-stays
-returns-in-Err-clause-stays g c = λ tells stands.
-    let S : SublistsState → Type 0 = λ s. StandsFor s.cache (g.D.Disk.disk c.args.disk.now).holds.pages in
-    c.lend.ensures.stays tells (subst S (sym c.self.view_is) stands)
-
-pub returns-in_err-from_slice-clause-stays : goal.returns-in_err-from_slice-clause-stays
-returns-in_err-from_slice-clause-stays g c = λ tells stands.
-    let S : SublistsState → Type 0 = λ s. StandsFor s.cache (g.D.Disk.disk c.args.disk.now).holds.pages in
-    c.lend.ensures.stays tells (subst S (sym c.self.view_is) stands)
-
-pub returns-in_err-from_slice-clause-lie : goal.returns-in_err-from_slice-clause-lie
-returns-in_err-from_slice-clause-lie g c = λ taken within lie.
-    let L : SublistsState → Type 0 = λ s. LieIn taken s.cache in
-    c.lend.ensures.lie taken within (subst L (sym c.self.view_is) lie)
 
 pub returns-clause-found : goal.returns-clause-found
 returns-clause-found g c = λ tells stands.
-    let S : SublistsState → Type 0 = λ s. StandsFor s.cache (g.D.Disk.disk c.args.disk.now).holds.pages in
-    let bytes = bytes_in c.args.place.now.extent (g.D.Disk.disk c.args.disk.now).holds.pages in
-    let F : List Posting → Type 0 = λ list. IsFetched c.args.layout c.args.place.now.digest c.args.span.from c.args.span.to c.args.horizon.seconds bytes list in
-    subst F (sym c.in_ok-from_slice.ensures.items) (c.in-Ok.ensures.found tells (subst S (sym c.self.view_is) stands))
+    c.fetch_one.ensures.found tells (subst (λ (s : SublistsState). StandsFor s.cache (g.D.Disk.disk c.args.disk.now).holds.pages) (sym c.self.view_is) stands)
+
+pub returns-clause-damaged : goal.returns-clause-damaged
+returns-clause-damaged g c = λ tells stands.
+    let h = c.args.horizon.seconds in
+    let pages = (g.D.Disk.disk c.args.disk.now).holds.pages in
+    let place = c.args.place.now in
+    let bytes = bytes_in place.extent pages in
+    let one : Chosen = record { from = c.args.span.from; to = c.args.span.to; place = place; first = false } in
+    let P : Damage → Type 0 = λ d. (d.page ≡ place.extent.first) × RefusesAlone c.args.layout h bytes one d.why in
+    let Q : Damage → Type 0 = λ d. (d.page ≡ place.extent.first) × Explains c.args.layout place.digest one.from one.to h bytes d.why in
+    IfErr-weaker c.fetch_one.result (IfDamaged P) (IfDamaged Q) (if_damaged P Q (λ d is. (is.0, explained c.args.layout h bytes one d.why refl is.1)))
+    (c.fetch_one.ensures.damaged tells (subst (λ (s : SublistsState). StandsFor s.cache pages) (sym c.self.view_is) stands))
 
 pub returns-clause-stays : goal.returns-clause-stays
 returns-clause-stays g c = λ tells stands.
-    let S : SublistsState → Type 0 = λ s. StandsFor s.cache (g.D.Disk.disk c.args.disk.now).holds.pages in
-    c.lend.ensures.stays tells (subst S (sym c.self.view_is) stands)
+    c.fetch_one.ensures.stays tells (subst (λ (s : SublistsState). StandsFor s.cache (g.D.Disk.disk c.args.disk.now).holds.pages) (sym c.self.view_is) stands)
 
 pub returns-clause-lie : goal.returns-clause-lie
-returns-clause-lie g c = λ taken within lie.
-    let L : SublistsState → Type 0 = λ s. LieIn taken s.cache in
-    c.lend.ensures.lie taken within (subst L (sym c.self.view_is) lie)
+returns-clause-lie g c = λ taken within lie. c.fetch_one.ensures.lie taken within (subst (λ (s : SublistsState). LieIn taken s.cache) (sym c.self.view_is) lie)

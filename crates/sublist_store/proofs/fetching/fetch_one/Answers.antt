@@ -1,6 +1,9 @@
-use Rattle.std.proofs.Common.{arith}
+use Rattle.std.proofs.Common.{◌≤◌, length, arith}
+use Rattle.std.proofs.lemmas.Result.{IfOk-weaker}
+use Rattle.sublist_store.specs.Fetching.{IsFetched}
 use Rattle.sublist_store.proofs.AskLemmas.{lie_asked, lie_partly}
-use Rattle.sublist_store.proofs.fetching.lend.Goals as goal
+use Rattle.sublist_store.proofs.Longer.{spells_more}
+use Rattle.sublist_store.proofs.fetching.fetch_one.Goals as goal
 
 pub returns-in-Err-Failed-clause-lie : goal.returns-in-Err-Failed-clause-lie
 returns-in-Err-Failed-clause-lie g c = λ taken within lie.
@@ -14,3 +17,10 @@ returns-in-Err-Memory-clause-lie g c = λ taken within lie.
 
 pub returns-clause-lie : goal.returns-clause-lie
 returns-clause-lie g c = λ taken within lie. lie_asked taken c.args.place.now.extent c.read.new.buf c.args.cache.now c.read.new.self (omega (arith, c.in-Ok.ensures.len)) c.in-Ok-read.ensures.asked within lie
+
+pub returns-clause-short : goal.returns-clause-short
+returns-clause-short g c =
+    let s = c.args.segment in
+    let bytes = c.deref.result.now in
+    IfOk-weaker c.sifted.result (λ v. IsFetched c.args.layout c.args.place.now.digest s.bounds.from s.bounds.to s.bounds.horizon bytes v.items) (λ v. length v.items ≤ c.args.place.now.extent.bytes)
+    (λ v fetched. omega (arith, c.in-Ok.ensures.len, c.deref.ensures.len, spells_more c.args.layout bytes v.items fetched.checked.spelled)) c.sifted.ensures.found
