@@ -1,9 +1,9 @@
 -- Spelling segments from the postings that overlap them all, and half by half.
-use Rattle.std.proofs.Common.{◌≡◌, ◌≤◌, ◌<◌, ℕ, ◌+◌, Bool, true, false, cond, List, [], ◌∷◌, ◌++◌, length, filter, take, drop, get_or, All, refl, ap, sym, subst, ◌∙◌, arith}
+use Rattle.std.proofs.Common.{◌≡◌, ◌≤◌, ◌<◌, ℕ, ◌+◌, Bool, true, false, cond, List, [], ◌∷◌, ◌++◌, length, filter, take, drop, get_or, min, max, suc, add-one, All, refl, ap, sym, ◌∙◌, arith}
 use Rattle.std.proofs.Math.Seq.{drop-cons}
 use Rattle.std.proofs.lemmas.Bool.Decides.{nat_tests}
-use Rattle.std.proofs.lemmas.List.{map-append, take-append-drop, take_more}
-use Rattle.std.proofs.lemmas.List.Elements.{All-nil, All-cons, All-head, All-tail, All-append}
+use Rattle.std.proofs.lemmas.List.{map-append, take-append-drop}
+use Rattle.std.proofs.lemmas.List.Elements.{All-nil, All-cons, All-head, All-tail}
 use Rattle.time_base.specs.declared.posting.Posting.{Posting}
 use Rattle.time_base.specs.declared.time.Time.{Time}
 use Rattle.record_codec.specs.declared.place.Layout.{Layout}
@@ -11,7 +11,7 @@ use Rattle.postings.specs.Lists.{IsList, meets, sublist}
 use Rattle.postings.proofs.Clipping.{sublist_list}
 use Rattle.sublist_store.specs.Layouts.{spelling_in}
 use Rattle.sublist_store.specs.Segments.{seconds, next_cut}
-use Rattle.sublist_store.specs.Preparing.{spellings, Serves}
+use Rattle.sublist_store.specs.Preparing.{spellings, Serves, earliest, latest}
 
 -- ---- from a part of the list
 
@@ -31,13 +31,25 @@ meets_within f g a b p x y m = grind (arith, nat_tests)
 abbrev pub AreWithin : ℕ → ℕ → List Time → Type 0
 AreWithin f g cuts = All (λ (c : Time). (f ≤ c.seconds) × (c.seconds ≤ g)) cuts
 
--- one cut more
-pub within_more : (a b f g : ℕ) (cuts : List Time) (i : ℕ) (c : Time) → i < length cuts → c ≡ get_or cuts i c → f ≤ a → b ≤ g → f ≤ c.seconds → c.seconds ≤ g → AreWithin a b (take i cuts) → AreWithin f g (take (i + 1) cuts)
-within_more a b f g cuts i c inside is x y from to within =
-    let W : Time → Type 0 = λ t. (f ≤ t.seconds) × (t.seconds ≤ g) in
-    let wider : AreWithin f g (take i cuts) = λ k d l. let w = within k d l in (omega (arith, w.0, x), omega (arith, w.1, y)) in
-    let one : All W (c ∷ []) = All-cons W c [] (from, to) (All-nil W) in
-    subst (λ (l : List Time). All W l) (ap (λ (t : Time). take i cuts ++ t ∷ []) is ∙ sym (take_more cuts i c inside)) (All-append W (take i cuts) (c ∷ []) wider one)
+earliest_first : (t : ℕ) (cuts : List ℕ) → earliest t cuts ≤ t
+earliest_first t [] = omega arith
+earliest_first t (f ∷ cuts) = omega (arith, earliest_first (min t f) cuts)
+
+pub latest_last : (t : ℕ) (cuts : List ℕ) → t ≤ latest t cuts
+latest_last t [] = omega arith
+latest_last t (f ∷ cuts) = omega (arith, latest_last (max t f) cuts)
+
+pub within_reach : (f g : ℕ) (cuts : List Time) → AreWithin (earliest f (seconds cuts)) (latest g (seconds cuts)) cuts
+within_reach f g [] = All-nil (λ (t : Time). (f ≤ t.seconds) × (t.seconds ≤ g))
+within_reach f g (c ∷ cuts) =
+    let a : ℕ = min f c.seconds in
+    let b : ℕ = max g c.seconds in
+    All-cons (λ (t : Time). (earliest a (seconds cuts) ≤ t.seconds) × (t.seconds ≤ latest b (seconds cuts))) c cuts
+    (omega (arith, earliest_first a (seconds cuts)), omega (arith, latest_last b (seconds cuts))) (within_reach a b cuts)
+
+-- the cuts from one on
+pub cuts_from : (cuts : List Time) (i : ℕ) (c : Time) → i < length cuts → c ≡ get_or cuts i c → seconds (drop i cuts) ≡ c.seconds ∷ seconds (drop (i + 1) cuts)
+cuts_from cuts i c inside is = ap seconds (drop-cons cuts i c (omega (arith, inside)) ∙ ap (λ (x : Time). x ∷ drop (suc i) cuts) (sym is) ∙ ap (λ (n : ℕ). c ∷ drop n cuts) (sym (add-one i)))
 
 next_within : (f g h : ℕ) (cuts : List Time) → AreWithin f g cuts → h ≤ g → next_cut (seconds cuts) h ≤ g
 next_within f g h [] within ends = ends

@@ -1,5 +1,5 @@
 -- Sublists that are to be written: their bytes and their places.
-use Rattle.std.specs.Prelude.{◌≡◌, ℕ, List, [], ◌∷◌, ◌++◌, length, map, All}
+use Rattle.std.specs.Prelude.{◌≡◌, ◌*◌, ◌<◌, ℕ, List, [], ◌∷◌, ◌++◌, length, map, min, max, All}
 use Rattle.std.specs.List.{AllZip}
 use Rattle.sha2.specs.Sha256.{sha256}
 use Rattle.time_base.specs.declared.extent.Extent.{Extent}
@@ -7,6 +7,7 @@ use Rattle.time_base.specs.declared.posting.Posting.{Posting}
 use Rattle.record_codec.specs.declared.place.Layout.{Layout}
 use Rattle.record_codec.specs.declared.place.Place.{Place}
 use Rattle.postings.specs.Lists.{IsList, sublist}
+use Rattle.postings.specs.Sizes.{size}
 use Rattle.page_store.specs.Runs.{IsLowestRun, pages_for}
 use Rattle.page_store.specs.Taken.{PagesState, HasTaken}
 use Rattle.page_store.specs.Wrote.{Piece, HoldsPiece}
@@ -22,6 +23,20 @@ spellings layout list (f ∷ cuts) h = spelling_in layout (sublist f (next_cut c
 pub record Serves (cuts : List ℕ) (h : ℕ) (list given : List Posting) : Type 0 where
   pub ordered : IsList given
   pub same : (layout : Layout) → spellings layout given cuts h ≡ spellings layout list cuts h
+
+-- the earliest of a time and some others
+abbrev pub earliest : ℕ → List ℕ → ℕ
+earliest t [] = t
+earliest t (f ∷ cuts) = earliest (min t f) cuts
+
+-- the latest of them
+abbrev pub latest : ℕ → List ℕ → ℕ
+latest t [] = t
+latest t (f ∷ cuts) = latest (max t f) cuts
+
+-- more than half of the list overlaps the time from the earliest of the cuts and the end to the latest
+abbrev pub IsMostlyMet : List ℕ → ℕ → List Posting → Type 0
+IsMostlyMet cuts h list = length list < 2 * size (earliest h cuts) (latest h cuts) list
 
 -- how many bytes each of them has
 abbrev pub sizes : List (List ℕ) → List ℕ

@@ -1,10 +1,10 @@
 //! Parts of a list from which segments are spelled, and the bytes of one segment's sublist.
-ghost use Rattle.std.specs.Prelude.{◌≡◌, ◌≤◌, ℕ, List, All, IfOk, IfSome};
-ghost use Rattle.time_base.specs.declared.time.Time.{Time as PlainTime};
+ghost use Rattle.std.specs.Prelude.{◌≡◌, ◌*◌, ◌≤◌, ℕ, List, length, min, max, None, IfOk, IfSome};
 ghost use Rattle.postings.specs.Lists.{IsList, sublist};
+ghost use Rattle.postings.specs.Sizes.{size};
 ghost use Rattle.sublist_store.specs.Layouts.{spelling_in};
 ghost use Rattle.sublist_store.specs.Segments.{seconds};
-ghost use Rattle.sublist_store.specs.Preparing.{Serves};
+ghost use Rattle.sublist_store.specs.Preparing.{Serves, earliest, latest, IsMostlyMet};
 
 use crate::spelling::encoded;
 use record_codec::Layout;
@@ -21,10 +21,8 @@ struct Reach {
 impl Reach {
     /// The reach of these times and one more.
     fn with(self, time: Time) -> Reach
-        ensures earlier { result.from ≤ self.from }
-        ensures later { self.to ≤ result.to }
-        ensures from { result.from ≤ time.seconds }
-        ensures to { time.seconds ≤ result.to }
+        ensures from { result.from ≡ min self.from time.seconds }
+        ensures to { result.to ≡ max self.to time.seconds }
     {
         Reach {
             from: self.from.min(time.seconds),
@@ -35,8 +33,8 @@ impl Reach {
 
 /// The reach of both ends of all segments that begin at the cuts, in whatever order these are.
 fn reach_of(cuts: &[Time], end: Time) -> Reach
-    ensures cuts { All (λ (c : PlainTime). (result.from ≤ c.seconds) × (c.seconds ≤ result.to)) cuts.now }
-    ensures end { end.seconds ≤ result.to }
+    ensures from { result.from ≡ earliest end.seconds (seconds cuts.now) }
+    ensures to { result.to ≡ latest end.seconds (seconds cuts.now) }
 {
     let mut reach = Reach {
         from: end.seconds,
@@ -46,6 +44,15 @@ fn reach_of(cuts: &[Time], end: Time) -> Reach
         reach = reach.with(*cut);
     }
     reach
+}
+
+/// How many postings have a time in a reach.
+fn met(list: &[Posting], reach: Reach) -> usize
+    ensures { result ≡ size reach.from reach.to list.now }
+{
+    list.iter()
+        .filter(|p| p.span.from < reach.to && reach.from < p.span.to)
+        .count()
 }
 
 /// The postings that overlap the segments that begin at the cuts, the last of which ends at `end`, where
@@ -58,14 +65,12 @@ pub fn narrowed(
     end: Time,
 ) -> Result<Option<Vec<Posting>>, AllocError>
     requires { IsList list.now }
-    ensures { IfOk result (λ part. IfSome part (λ v. Serves (seconds cuts.now) end.seconds list.now v.items)) }
+    ensures serves { IfOk result (λ part. IfSome part (λ v. Serves (seconds cuts.now) end.seconds list.now v.items)) }
+    ensures half { IfOk result (λ part. IfSome part (λ v. 2 * length v.items ≤ length list.now)) }
+    ensures none { IfOk result (λ part. part ≡ None → IsMostlyMet (seconds cuts.now) end.seconds list.now) }
 {
     let reach = reach_of(cuts, end);
-    let count = list
-        .iter()
-        .filter(|p| p.span.from < reach.to && reach.from < p.span.to)
-        .count();
-    if count > list.len() / 2 {
+    if met(list, reach) > list.len() / 2 {
         return Ok(None);
     }
     Ok(Some(sublist(alloc, list, reach.from, reach.to)?))

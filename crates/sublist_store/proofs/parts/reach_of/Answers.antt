@@ -1,17 +1,15 @@
-use Rattle.std.proofs.Common.{List, subst, arith}
-use Rattle.std.proofs.lemmas.List.{take_all}
-use Rattle.time_base.specs.declared.time.Time.{Time}
-use Rattle.sublist_store.proofs.SpellLemmas.{AreWithin, within_more}
+use Rattle.std.proofs.Common.{ℕ, ◌+◌, List, drop, ap, sym, ◌∙◌, arith}
+use Rattle.sublist_store.specs.Segments.{seconds}
+use Rattle.sublist_store.specs.Preparing.{earliest, latest}
+use Rattle.sublist_store.proofs.SpellLemmas.{cuts_from}
 use Rattle.sublist_store.proofs.parts.reach_of.Goals as goal
 
 pub loop-cut-preserved : goal.loop-cut-preserved
 loop-cut-preserved c =
-    let w = c.with-reach.ensures in
-    let r = c.loop-cut.reach in
+    let was = c.loop-cut.invariant in
+    let rest = seconds (drop (c.loop-cut.cut-index + 1) c.args.cuts.now) in
+    let next = cuts_from c.args.cuts.now c.loop-cut.cut-index c.cut-item.result (omega arith) c.cut-item.is in
     record {
-      cuts = within_more r.from r.to c.with-reach.result.from c.with-reach.result.to c.args.cuts.now c.loop-cut.cut-index c.cut-item.result (omega arith) c.cut-item.is w.earlier w.later w.from w.to c.loop-cut.invariant.cuts;
-      end = omega (arith, c.loop-cut.invariant.end, w.later);
+      from = ap (λ (t : ℕ). earliest t rest) c.with-reach.ensures.from ∙ ap (λ (cuts : List ℕ). earliest c.loop-cut.reach.from cuts) (sym next) ∙ was.from;
+      to = ap (λ (t : ℕ). latest t rest) c.with-reach.ensures.to ∙ ap (λ (cuts : List ℕ). latest c.loop-cut.reach.to cuts) (sym next) ∙ was.to;
     }
-
-pub returns-clause-cuts : goal.returns-clause-cuts
-returns-clause-cuts c = subst (λ (l : List Time). AreWithin c.loop-cut.reach.from c.loop-cut.reach.to l) (take_all c.loop-cut.cut-index c.args.cuts.now (omega arith)) c.loop-cut.invariant.cuts

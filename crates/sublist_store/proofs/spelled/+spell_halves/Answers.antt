@@ -8,11 +8,11 @@ use Rattle.sublist_store.proofs.spelled.+spell_halves.Goals as goal
 
 pub spell_halves-requires : goal.spell_halves-requires
 spell_halves-requires t c =
-    (omega (arith, c.decreases, c.split_at.ensures.front_len, c.if-half-eq0.false), (c.part_or-list.ensures _ _ c.requires c.in_ok-part.ensures).ordered)
+    (omega (arith, c.decreases, c.split_at.ensures.front_len, c.if-half-eq0.false), (c.part_or-list.ensures _ _ c.requires c.in_ok-part.ensures.serves).ordered)
 
 pub spell_halves-requires-2 : goal.spell_halves-requires-2
 spell_halves-requires-2 t c =
-    (omega (arith, c.decreases, c.split_at.ensures.back_len, c.if-half-eq0.false), (c.part_or-list.ensures _ _ c.requires c.in_ok-part.ensures).ordered)
+    (omega (arith, c.decreases, c.split_at.ensures.back_len, c.if-half-eq0.false), (c.part_or-list.ensures _ _ c.requires c.in_ok-part.ensures.serves).ordered)
 
 pub returns : goal.returns
 returns t c =
@@ -20,5 +20,5 @@ returns t c =
     let front : List (List ℕ) = spellings c.args.layout c.part_or-list.result.now (seconds c.split_at.result.0.now) c.index-cuts-half.result.seconds in
     let back : List (List ℕ) = spellings c.args.layout c.part_or-list.result.now (seconds c.split_at.result.1.now) c.args.end.seconds in
     let both : front ++ back ≡ spellings c.args.layout c.args.list.now (seconds c.args.cuts.now) c.args.end.seconds =
-    both_halves _ _ _ _ _ _ (length c.args.cuts.now / 2) _ _ (c.part_or-list.ensures _ _ c.requires c.in_ok-part.ensures) (omega (arith, c.if-half-eq0.false)) c.index-cuts-half.is c.split_at.ensures.front c.split_at.ensures.back in
+    both_halves _ _ _ _ _ _ (length c.args.cuts.now / 2) _ _ (c.part_or-list.ensures _ _ c.requires c.in_ok-part.ensures.serves) (omega (arith, c.if-half-eq0.false)) c.index-cuts-half.is c.split_at.ensures.front c.split_at.ensures.back in
     on_ok_weaker c.spell_halves-2.result (λ e. e ∙ ap (λ (l : List (List ℕ)). l ++ back) c.in_ok-spell_halves.ensures ∙ append_assoc old front back ∙ ap (λ (l : List (List ℕ)). old ++ l) both) c.spell_halves-2.ensures
