@@ -1,6 +1,8 @@
 //! A count that can't pass its last value.
 ghost use Rattle.std.specs.Prelude.{◌≡◌, ◌+◌, ◌-◌, ◌^◌, ◌≤◌, min};
 
+use machine_model::Failed;
+
 /// A count that stays at 2^64 - 1 once it is there.
 #[derive(Debug, Drop)]
 pub struct Counter {
@@ -22,5 +24,13 @@ impl Counter {
         ensures { self.new.value ≡ min (self.old.value + 1) (2 ^ 64 - 1) }
     {
         self.value = self.value.saturating_add(1);
+    }
+
+    /// One more, for a call that fails.
+    pub(crate) fn fails(&mut self) -> Failed
+        ensures { self.new.value ≡ min (self.old.value + 1) (2 ^ 64 - 1) }
+    {
+        self.rise();
+        Failed
     }
 }

@@ -58,8 +58,7 @@ impl Disk for MemMachine {
         ensures stays { Stays self.old self.new }
     {
         if self.script.due(CallKind::Length).is_some() {
-            self.disk_faults.rise();
-            return Err(Failed);
+            return Err(self.disk_faults.fails());
         }
         Ok(self.store(area).held.len() as u64)
     }
@@ -81,8 +80,7 @@ impl Disk for MemMachine {
         ensures stays { Stays self.old self.new }
     {
         if self.script.due(CallKind::Read).is_some() {
-            self.disk_faults.rise();
-            return Err(Failed);
+            return Err(self.disk_faults.fails());
         }
         match self.count_read(area, buf.len() as u64) {
             Ok(()) => {
@@ -92,8 +90,7 @@ impl Disk for MemMachine {
             }
             Err(_) => {
                 self.starved.rise();
-                self.disk_faults.rise();
-                Err(Failed)
+                Err(self.disk_faults.fails())
             }
         }
     }
@@ -121,21 +118,16 @@ impl Disk for MemMachine {
                 Ok(()) => Ok(()),
                 Err(_) => {
                     self.starve();
-                    self.disk_faults.rise();
-                    Err(Failed)
+                    Err(self.disk_faults.fails())
                 }
             },
             Some(landed) => {
                 let landed = landed.min(bytes.len() as u64) as usize;
                 match self.try_write(area, at, bytes, landed) {
-                    Ok(()) => {
-                        self.disk_faults.rise();
-                        Err(Failed)
-                    }
+                    Ok(()) => Err(self.disk_faults.fails()),
                     Err(_) => {
                         self.starve();
-                        self.disk_faults.rise();
-                        Err(Failed)
+                        Err(self.disk_faults.fails())
                     }
                 }
             }
@@ -163,19 +155,14 @@ impl Disk for MemMachine {
                 Ok(()) => Ok(()),
                 Err(_) => {
                     self.starve();
-                    self.disk_faults.rise();
-                    Err(Failed)
+                    Err(self.disk_faults.fails())
                 }
             },
             Some(_) => match self.try_pass() {
-                Ok(()) => {
-                    self.disk_faults.rise();
-                    Err(Failed)
-                }
+                Ok(()) => Err(self.disk_faults.fails()),
                 Err(_) => {
                     self.starve();
-                    self.disk_faults.rise();
-                    Err(Failed)
+                    Err(self.disk_faults.fails())
                 }
             },
         }

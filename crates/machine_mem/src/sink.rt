@@ -48,19 +48,14 @@ impl Sink for MemMachine {
                 Ok(()) => Ok(bytes.len()),
                 Err(_) => {
                     self.starve();
-                    self.sink_faults.rise();
-                    Err(Failed)
+                    Err(self.sink_faults.fails())
                 }
             },
             Some(_) => match self.try_pass() {
-                Ok(()) => {
-                    self.sink_faults.rise();
-                    Err(Failed)
-                }
+                Ok(()) => Err(self.sink_faults.fails()),
                 Err(_) => {
                     self.starve();
-                    self.sink_faults.rise();
-                    Err(Failed)
+                    Err(self.sink_faults.fails())
                 }
             },
         }

@@ -53,8 +53,7 @@ impl Source for MemMachine {
         ensures stays { Stays self.old self.new }
     {
         if self.script.due(CallKind::Pull).is_some() {
-            self.source_faults.rise();
-            return Err(Failed);
+            return Err(self.source_faults.fails());
         }
         Ok(self.input.pull(buf))
     }
