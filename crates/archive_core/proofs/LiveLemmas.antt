@@ -1,5 +1,6 @@
 -- The live plan of a word, and what holds of the extents of live plans with one more.
-use Rattle.std.proofs.Common.{◌≡◌, ℕ, zero, suc, ◌+◌, ◌<◌, Bool, true, false, not, bytes_eq, cond, List, [], ◌∷◌, ◌++◌, length, filter, take, get_or, All, Some, None, refl, ap, subst, sym, ◌∙◌, arith}
+use Rattle.std.proofs.Common.{◌≡◌, ℕ, zero, suc, ◌+◌, ◌<◌, Bool, true, false, bytes_eq, cond, List, [], ◌∷◌, ◌++◌, length, filter, take, get_or, All, Some, None, refl, ap, subst, sym, ◌∙◌, arith}
+use Rattle.std.proofs.lemmas.Bool.{not-true}
 use Rattle.std.proofs.lemmas.List.{append-nil, length-append, get_or_append_left, get_or-append-add}
 use Rattle.std.proofs.lemmas.List.Concat.{flat_map-append}
 use Rattle.std.proofs.lemmas.List.Elements.{All-head, All-tail, All-append}
@@ -14,10 +15,6 @@ use Rattle.plan_shelf.specs.Shelves.{extents_all}
 
 -- ---- the plan of a word
 
-not_true : (b : Bool) → not b ≡ true → b ≡ false
-not_true true e = absurd cc
-not_true false e = refl
-
 found_at : (live : List StoredPlan) (word : List ℕ) (at : ℕ) (s : StoredPlan) → at < length live → (get_or live at s).plan.word ≡ word
     → All (λ other. is_another word other ≡ true) (take at live) → s ≡ get_or live at s → first_plan (filter (λ stored. bytes_eq stored.plan.word word) live) ≡ Some s.plan
 found_at [] word at s within is before same = absurd (omega (arith, within))
@@ -26,7 +23,7 @@ found_at (x ∷ live) word zero s within is before same =
     ap (λ (b : Bool). first_plan (cond b (x ∷ filter (λ stored. bytes_eq stored.plan.word word) live) (filter (λ stored. bytes_eq stored.plan.word word) live))) yes
     ∙ ap (λ (y : StoredPlan). Some y.plan) (sym same)
 found_at (x ∷ live) word (suc at) s within is before same =
-    let quiet : bytes_eq x.plan.word word ≡ false = not_true (bytes_eq x.plan.word word) (All-head (λ other. is_another word other ≡ true) x (take at live) before) in
+    let quiet : bytes_eq x.plan.word word ≡ false = not-true (bytes_eq x.plan.word word) (All-head (λ other. is_another word other ≡ true) x (take at live) before) in
     ap (λ (b : Bool). first_plan (cond b (x ∷ filter (λ stored. bytes_eq stored.plan.word word) live) (filter (λ stored. bytes_eq stored.plan.word word) live))) quiet
     ∙ found_at live word at s (omega (arith, within)) is (All-tail (λ other. is_another word other ≡ true) x (take at live) before) same
 
@@ -36,7 +33,7 @@ plan_found h word at s is same = found_at (live_plans h) word at s is.within (is
 no_plan : (live : List StoredPlan) (word : List ℕ) → All (λ s. is_another word s ≡ true) live → first_plan (filter (λ stored. bytes_eq stored.plan.word word) live) ≡ None
 no_plan [] word others = refl
 no_plan (x ∷ live) word others =
-    let quiet : bytes_eq x.plan.word word ≡ false = not_true (bytes_eq x.plan.word word) (All-head (λ other. is_another word other ≡ true) x live others) in
+    let quiet : bytes_eq x.plan.word word ≡ false = not-true (bytes_eq x.plan.word word) (All-head (λ other. is_another word other ≡ true) x live others) in
     ap (λ (b : Bool). first_plan (cond b (x ∷ filter (λ stored. bytes_eq stored.plan.word word) live) (filter (λ stored. bytes_eq stored.plan.word word) live))) quiet
     ∙ no_plan live word (All-tail (λ other. is_another word other ≡ true) x live others)
 

@@ -1,10 +1,12 @@
--- What is proposed is of the history that an archive stands for.
-use Rattle.std.proofs.Common.{Bool, true, false, ◌==◌, ◌≡◌, ℕ, ◌+◌, ◌<◌, ◌≤◌, ◌^◌, List, [], ◌∷◌, length, drop, Contains, Option, Some, None, option_map, unwrap_or, Result, Ok, Err, IfOk, refl, ap, sym, subst, ◌∙◌, inl, inr, arith}
+-- What is planned and certified for a word is of the history that an archive stands for.
+use Rattle.std.proofs.Common.{Bool, true, false, ◌==◌, ◌≡◌, ℕ, ◌+◌, ◌<◌, ◌≤◌, ◌^◌, List, [], ◌∷◌, length, drop, Contains, Option, Some, None, option_map, unwrap_or, Result, Err, refl, ap, sym, subst, ◌∙◌, inl, inr, arith, if◌then◌else◌, Ok, IfOk, IsUtf8, zero, suc, bytes_eq, ◌++◌, map, get_or, All}
 use Rattle.std.specs.Prelude.{slice_index}
 use Rattle.std.proofs.lemmas.Bool.Decides.{nat_tests}
 use Rattle.std.proofs.lemmas.List.{length-drop}
 use Rattle.std.proofs.lemmas.List.Elements.{All-nil}
-use Rattle.machine_model.specs.States.{DiskState}
+use Rattle.std.proofs.lemmas.Str.{is_utf8-from_IsUtf8}
+use Rattle.std.specs.List.Sorted.{IsStrictlyIncreasing}
+use Rattle.std.proofs.lemmas.Simd.{map-map}
 use Rattle.time_base.specs.declared.fraction.Fraction.{Fraction}
 use Rattle.time_base.specs.declared.time.Time.{Time}
 use Rattle.time_base.specs.declared.text_place.TextPlace.{TextPlace}
@@ -13,31 +15,44 @@ use Rattle.postings.specs.ListsOf.{IsListOf}
 use Rattle.elementary.specs.Counts.{Counts, Tabulates}
 use Rattle.elementary.specs.Partitions.{widest, IsLeast, AreBest, space}
 use Rattle.elementary.proofs.Narrow.{narrow}
-use Rattle.proposals.specs.Proposals.{AreSegments, AreNodes, IsProposal}
+use Rattle.proposals.specs.Proposals.{AreSegments, AreNodes, IsProposal, pieces, bare_segment}
 use Rattle.proposals.specs.declared.proposal.Proposal.{Proposal}
 use Rattle.fold_tokens.specs.Terms.{one_term}
 use Rattle.version_store.specs.Changes.{last_time}
 use Rattle.version_store.proofs.Mapped.{last_time-mapped}
 use Rattle.version_index.specs.Words.{words_in}
-use Rattle.commands.specs.declared.command.Command.TheVariants as commands
-use Rattle.commands.specs.declared.command.Item.TheVariants as items
 use Rattle.commands.specs.declared.command.Kind.{Kind}
 use Rattle.commands.specs.declared.command.Kind.TheVariants.{Guarantee, Uniform, Since}
 use Rattle.archive_state.specs.declared.refusal.Refusal.{Refusal}
 use Rattle.archive_state.specs.declared.refusal.Refusal.TheVariants as refusals
 use Rattle.archive_state.specs.Histories.{History, changes}
-use Rattle.archive_state.specs.Planning.{IsKnown, IsListUpTo, OfBoundaries, OfWidth, OfList, OfWord, OfPhrase, last_second}
-use Rattle.archive_state.specs.Steps.{Refused, Proposed, Proposes, ProposesPlan}
-use Rattle.archive_state.proofs.OutcomeLemmas.{each_proposes}
-use Rattle.archive_core.specs.States.{ArchiveState, StandsFor, AreInStep}
+use Rattle.archive_state.specs.Planning.{IsKnown, IsListUpTo, OfBoundaries, OfWidth, OfList, OfWord, OfPhrase, last_second, OfKnown, OfTerm}
+use Rattle.archive_state.specs.Steps.{Refused, Proposed, Proposes, ProposesPlan, spelled_key, Reply, IsCertificate, CertifiesPlan, CertifiesLive, Certifies}
+use Rattle.archive_core.specs.States.{ArchiveState, StandsFor}
 use Rattle.archive_core.specs.Sealing.{IsSealed}
 use Rattle.archive_replay.specs.Texts.{nothing}
-use Rattle.archive_core.specs.Takes.{Replied, Starved, Takes, proposed}
 use Rattle.archive_replay.specs.declared.error.Declined.{Declined}
 use Rattle.archive_replay.specs.declared.error.Declined.TheVariants as declines
 use Rattle.archive_replay.proofs.IndexLemmas.{words_are}
 use Rattle.archive_replay.proofs.PlaceLemmas.{bare_changes}
-use Rattle.archive_core.proofs.TakeLemmas.{takes_question}
+use Rattle.postings.proofs.Clipping.{one_list_of}
+use Rattle.elementary.proofs.Cuts.{there}
+use Rattle.elementary.proofs.Places.{place_of, place_below, rises}
+use Rattle.proposals.specs.declared.proposal.Segment.{Segment}
+use Rattle.record_codec.specs.declared.plan.PlanEntry.{PlanEntry}
+use Rattle.sublist_store.specs.Segments.{seconds}
+use Rattle.stored_plans.specs.Plans.{later, IsLeastPlan, IsGoodPlan}
+use Rattle.stored_plans.proofs.PlanLemmas.{seconds_are}
+use Rattle.archive_state.specs.Answers.{frequency_at}
+use Rattle.archive_state.specs.Legal.{MayBePlanned, IsLegal}
+use Rattle.archive_state.specs.declared.stored.StoredPlan.{StoredPlan}
+use Rattle.archive_state.specs.Plans.{is_another, plan_of, live_plans}
+use Rattle.archive_state.proofs.CertifyingLemmas.{live_has}
+use Rattle.archive_state.proofs.LiveLemmas.{live_planned}
+use Rattle.archive_replay.specs.Live.{IsPlanAt}
+use Rattle.archive_core.proofs.LiveLemmas.{plan_found, none_found}
+
+-- ---- what is proposed
 
 -- an archive has the last time of its history
 pub last_is : (a : ArchiveState) (h : History) → StandsFor a h → last_time a.changes ≡ last_time (changes h)
@@ -56,11 +71,11 @@ known_there h word c = subst (λ (ws : List (List ℕ)). Contains ws word) (word
 
 -- nothing happens before the first second
 pub none_before : (f : ℕ → ℕ → ℕ) (h : ℕ) → h ≡ 0 → IsListOf f 0 h []
-none_before f h zero = record {
+none_before f h none = record {
   ordered = tt;
   coalesced = tt;
   inside = All-nil (λ p. (0 ≤ p.span.from) × (p.span.to ≤ h));
-  same = λ d t from to. absurd (omega (arith, to, zero));
+  same = λ d t from to. absurd (omega (arith, to, none));
 }
 
 -- a partition that fits a table has few cuts, and there is a number for each boundary
@@ -70,29 +85,11 @@ few_cuts list factor horizon table cuts t many within least =
     let few = narrow list factor horizon table.boundaries (slice_index cuts 0) (drop 1 cuts) horizon t.boundaries least.first.is least.at_boundaries least.covers in
     omega (arith, few.1, within, length-drop 1 cuts)
 
--- a plan of a table, as it is shown, is a proposal for its list
-pub is_least : (list : List Posting) (factor : Fraction) (horizon : ℕ) (table : Counts) (cuts numbers : List ℕ) (p : Proposal) → Tabulates list horizon table → length table.boundaries ≤ widest
-    → IsLeast list factor (slice_index cuts 0) (drop 1 cuts) horizon → AreBest list factor horizon table.boundaries numbers
-    → AreSegments list (slice_index cuts 0) (drop 1 cuts) p.segments.items → AreNodes table.boundaries numbers p.nodes.items → p.space ≡ space list (slice_index cuts 0) (drop 1 cuts)
-    → OfBoundaries horizon list (λ because. ⊥) (IsProposal list factor horizon p.segments.items p.nodes.items p.space)
-is_least list factor horizon table cuts numbers p t within least best segments nodes total = (
-  table.boundaries,
-  t.boundaries,
-  inr (
-    within,
-    record {
-      first = slice_index cuts 0;
-      cuts = drop 1 cuts;
-      least = least;
-      segments_are = segments;
-      total_is = total;
-      times = table.boundaries;
-      numbers = numbers;
-      best = best;
-      nodes_are = nodes;
-    },
-  ),
-)
+-- a least plan, as it is shown, is a proposal for its list
+pub proposal_is : (list : List Posting) (factor : Fraction) (horizon first : ℕ) (cuts times numbers : List ℕ) (p : Proposal) → IsLeast list factor first cuts horizon → AreBest list factor horizon times numbers
+    → AreSegments list first cuts p.segments.items → AreNodes times numbers p.nodes.items → p.space ≡ space list first cuts → IsProposal list factor horizon p.segments.items p.nodes.items p.space
+proposal_is list factor horizon first cuts times numbers p least best segments nodes total =
+    record { first = first; cuts = cuts; least = least; segments_are = segments; total_is = total; times = times; numbers = numbers; best = best; nodes_are = nodes }
 
 -- the tests by other names of what they come to
 module _ (h : ℕ) (One Other : Refusal → Type 0) (refused : (why : Refusal) → One why → Other why) where
@@ -109,9 +106,14 @@ module _ (h : ℕ) (One Other : Refusal → Type 0) (refused : (why : Refusal) �
   map_list kind [] A B goes of = refused refusals.NothingSealed of
   map_list kind (p ∷ list) A B goes of = map_width kind (p ∷ list) A B goes of
 
-  some_list : (kind : Kind) (list : List Posting) (A B : Type 0) → 0 < length list → (A → B) → OfWidth kind h list One A → OfList kind h list Other B
-  some_list kind [] A B some goes of = absurd (omega (arith, some))
-  some_list kind (p ∷ list) A B some goes of = map_width kind (p ∷ list) A B goes of
+-- a word whose list has a posting goes on
+pub goes_on : (kind : Kind) (h : History) (key : Option (List ℕ)) (word : List ℕ) (list : List Posting) (Refuses : Refusal → Type 0) (GoesOn : List ℕ → List Posting → Type 0) → key ≡ Some word → IsKnown h word
+    → IsListUpTo h word (last_second h) list → 0 < length list → OfWidth kind (last_second h) list Refuses (GoesOn word list) → OfPhrase kind h key Refuses GoesOn
+goes_on kind h key word list Refuses GoesOn is known listed some of = subst (λ (k : Option (List ℕ)). OfPhrase kind h k Refuses GoesOn) (sym is) (inr (known, (list, listed, go list some of)))
+  where
+    go : (list : List Posting) → 0 < length list → OfWidth kind (last_second h) list Refuses (GoesOn word list) → OfList kind (last_second h) list Refuses (GoesOn word list)
+    go [] some of = absurd (omega (arith, some))
+    go (p ∷ list) some of = of
 
 pub map_phrase : (kind : Kind) (h : History) (key : Option (List ℕ)) (One Other : Refusal → Type 0) (A B : List ℕ → List Posting → Type 0) → ((why : Refusal) → One why → Other why)
     → ((word : List ℕ) (list : List Posting) → A word list → B word list) → OfPhrase kind h key One A → OfPhrase kind h key Other B
@@ -120,29 +122,14 @@ map_phrase kind h (Some word) One Other A B refused goes (inl unknown) = inl (un
 map_phrase kind h (Some word) One Other A B refused goes (inr (known, (list, is, of))) =
     inr (known, (list, is, map_list (last_second h) One Other refused kind list (A word list) (B word list) (goes word list) of))
 
-sealed_phrase : (kind : Kind) (h : History) (phrase word : List ℕ) (list : List Posting) (horizon : ℕ) (One Other : Refusal → Type 0) (A : Type 0) (B : List ℕ → List Posting → Type 0) → IsSealed h phrase word list horizon → 0 < length list
-    → ((why : Refusal) → One why → Other why) → (A → B word list) → OfWidth kind horizon list One A → OfPhrase kind h (one_term phrase) Other B
-sealed_phrase kind h phrase word list horizon One Other A B sealed some refused goes of =
-    let here = subst (λ (n : ℕ). OfWidth kind n list One A) sealed.horizon_is of in
-    let P : Option (List ℕ) → Type 0 = λ key. OfPhrase kind h key Other B in
-    subst P (sym sealed.word_is) (inr (sealed.known, (list, sealed.list_is, some_list (last_second h) One Other refused kind list A (B word list) some goes here)))
-
 pub least_proposed : (h : History) (phrase word : List ℕ) (factor : Fraction) (list : List Posting) (horizon : ℕ) (p : Proposal) → IsSealed h phrase word list horizon → 0 < length list
     → OfBoundaries horizon list (λ because. ⊥) (IsProposal list factor horizon p.segments.items p.nodes.items p.space) → Proposes h phrase factor (Proposed p.segments.items p.nodes.items p.space)
 least_proposed h phrase word factor list horizon p sealed some of =
-    sealed_phrase Guarantee h phrase word list horizon (λ because. ⊥) (λ because. Proposed p.segments.items p.nodes.items p.space ≡ Refused because) (IsProposal list factor horizon p.segments.items p.nodes.items p.space)
-    (λ word list. ProposesPlan factor (last_second h) list (Proposed p.segments.items p.nodes.items p.space)) sealed some
-    (λ because none. absurd none)
-    (λ proposal.
-    let here = subst (λ (n : ℕ). IsProposal list factor n p.segments.items p.nodes.items p.space) sealed.horizon_is proposal in
-    (p.segments.items, p.nodes.items, p.space, here, refl)) of
-
-pub ok_proposed : {E : Type 0} (h : History) (phrase word : List ℕ) (factor : Fraction) (list here : List Posting) (horizon : ℕ) (r : Result Proposal E) → IsSealed h phrase word list horizon → 0 < length list → here ≡ list
-    → IfOk r (λ p. OfBoundaries horizon here (λ because. ⊥) (IsProposal here factor horizon p.segments.items p.nodes.items p.space))
-    → IfOk r (λ p. Proposes h phrase factor (Proposed p.segments.items p.nodes.items p.space))
-ok_proposed h phrase word factor list here horizon (Ok p) sealed some same of =
-    least_proposed h phrase word factor list horizon p sealed some (subst (λ (l : List Posting). OfBoundaries horizon l (λ because. ⊥) (IsProposal l factor horizon p.segments.items p.nodes.items p.space)) same of)
-ok_proposed h phrase word factor list here horizon (Err e) sealed some same of = tt
+    let reply = Proposed p.segments.items p.nodes.items p.space in
+    let here = subst (λ (n : ℕ). OfBoundaries n list (λ because. ⊥) (IsProposal list factor n p.segments.items p.nodes.items p.space)) sealed.horizon_is of in
+    goes_on Guarantee h (one_term phrase) word list (λ because. reply ≡ Refused because) (λ word list. ProposesPlan factor (last_second h) list reply) sealed.word_is sealed.known sealed.list_is some
+    (map_bounded (last_second h) (λ because. ⊥) (λ because. reply ≡ Refused because) (λ because none. absurd none) list (IsProposal list factor (last_second h) p.segments.items p.nodes.items p.space)
+    (ProposesPlan factor (last_second h) list reply) (λ proposal. (p.segments.items, p.nodes.items, p.space, proposal, refl)) here)
 
 -- a phrase that is refused before its list is planned
 pub phrase_refused : (h : History) (phrase : List ℕ) (factor : Fraction) (why : Refusal) → OfPhrase Guarantee h (one_term phrase) (λ because. why ≡ because) (λ word list. ⊥) → Proposes h phrase factor (Refused why)
@@ -150,34 +137,15 @@ phrase_refused h phrase factor why of =
     map_phrase Guarantee h (one_term phrase) (λ because. why ≡ because) (λ because. Refused why ≡ Refused because) (λ word list. ⊥) (λ word list. ProposesPlan factor (last_second h) list (Refused why))
     (λ because e. ap Refused e) (λ word list no_plan. absurd no_plan) of
 
--- a proposal that was asked for
-pub takes_propose : (h : History) (phrase : List ℕ) (factor : Fraction) (r : Result Proposal Declined) (d : DiskState) (a : ArchiveState)
-    → ((why : Refusal) → r ≡ Err (declines.Refused why) → Proposes h phrase factor (Refused why))
-    → IfOk r (λ p. Proposes h phrase factor (Proposed p.segments.items p.nodes.items p.space))
-    → AreInStep d a h → Takes h (items.Command (commands.Propose phrase factor)) (proposed r) d d a
-takes_propose h phrase factor (Ok p) d a refused proposes in_step =
-    takes_question h (items.Command (commands.Propose phrase factor)) (Proposed p.segments.items p.nodes.items p.space) (proposed (Ok p)) d d a (refl, proposes) refl in_step refl
-takes_propose h phrase factor (Err (declines.Refused why)) d a refused proposes in_step =
-    takes_question h (items.Command (commands.Propose phrase factor)) (Refused why) (Replied (Refused why)) d d a (refl, refused why refl) refl in_step refl
-takes_propose h phrase factor (Err declines.Memory) d a refused proposes in_step =
-    let any = each_proposes h phrase factor in_step.legal in
-    takes_question h (items.Command (commands.Propose phrase factor)) any.0 Starved d d a (refl, any.1) refl in_step tt
-
 -- refusals that are the same in two results
-abbrev why_of : {T : Type 0} → Refusal → Result T Declined → Refusal
-why_of other (Ok x) = other
-why_of other (Err (declines.Refused why)) = why
-why_of other (Err declines.Memory) = other
-
 pub one_why : {T : Type 0} (a b : Refusal) → ◌≡◌ {A = Result T Declined} (Err (declines.Refused a)) (Err (declines.Refused b)) → b ≡ a
-one_why a b e = sym (ap (why_of a) e)
+one_why a b e = cc
 
 pub none_left : (n : ℕ) → n == 0 ≡ true → n ≡ 0
 none_left n e = grind (arith, nat_tests)
 
 pub not_both : (b : Bool) → b ≡ false → b ≡ true → ⊥
-not_both true f t = absurd cc
-not_both false f t = absurd cc
+not_both b f t = absurd cc
 
 -- a word of which a history has no postings before its last time
 pub nothing_sealed : (kind : Kind) (h : History) (word : List ℕ) (list : List Posting) (why : Refusal) → IsKnown h word → IsListUpTo h word (last_second h) list → length list ≡ 0 → why ≡ refusals.NothingSealed
@@ -188,3 +156,104 @@ nothing_sealed kind h word (p ∷ list) why known is none e = absurd (omega (ari
 -- nor is there a last time where there is no change
 pub no_second : (a : ArchiveState) (h : History) → StandsFor a h → last_time a.changes ≡ None → last_second h ≡ 0
 no_second a h stands e = ap (λ (o : Option Time). unwrap_or (option_map (λ t. t.seconds) o) 0) (sym (last_is a h stands) ∙ e)
+
+-- ---- the word of a plan that is drafted
+
+-- a term's key that is text is spelled as it is
+pub spelled_same : (o : Option (List ℕ)) (word : List ℕ) → o ≡ Some word → IsUtf8 word → spelled_key o ≡ Some word
+spelled_same o word is utf8 = ap spelled_key is ∙ ap (λ b. if b then Some word else None) (is_utf8-from_IsUtf8 word utf8)
+
+pub term_spelled : {T E : Type 0} (word_of : T → List ℕ) (o : Option (List ℕ)) (word : List ℕ) (r : Result T E) → o ≡ Some word → IsUtf8 word → IfOk r (λ s. word_of s ≡ word) → IfOk r (λ s. spelled_key o ≡ Some (word_of s))
+term_spelled word_of o word (Ok s) is utf8 same = spelled_same o word is utf8 ∙ ap Some (sym same)
+term_spelled word_of o word (Err e) is utf8 same = tt
+
+-- ---- cuts among times
+
+-- a cut stands among the times no earlier than among the cuts
+place_behind : (times cuts : List ℕ) → IsStrictlyIncreasing times → IsStrictlyIncreasing cuts → All (Contains times) cuts → (k : ℕ) → k < length cuts
+    → (j : ℕ) × ((k ≤ j) × ((j < length times) × (slice_index times j ≡ slice_index cuts k)))
+place_behind times cuts up rise inside zero below =
+    let (j, within, is) = place_of times (slice_index cuts 0) (there times times cuts 0 refl below inside) in
+    (j, (omega arith, (within, is)))
+place_behind times cuts up rise inside (suc k) below =
+    let (i, (le, (low, was))) = place_behind times cuts up rise inside k (omega (arith, below)) in
+    let (j, within, is) = place_of times (slice_index cuts (suc k)) (there times times cuts (suc k) refl below inside) in
+    let next : slice_index times i < slice_index times j = omega (arith, rises cuts rise k (suc k) (omega arith) below, was, is) in
+    (j, (omega (arith, place_below times up i j low next, le), (within, is)))
+
+-- so there are no more cuts than times
+pub few_fit : (times cuts : List ℕ) → IsStrictlyIncreasing times → IsStrictlyIncreasing cuts → All (Contains times) cuts → length cuts ≤ length times
+few_fit times [] up rise inside = omega arith
+few_fit times (x ∷ cuts) up rise inside =
+    let (j, (le, (within, is))) = place_behind times (x ∷ cuts) up rise inside (length cuts) (omega arith) in
+    omega (arith, le, within)
+
+-- ---- what is certified of a plan
+
+begin_of : ℕ × ℕ × ℕ → ℕ
+begin_of piece = piece.0
+
+-- the pieces up to a horizon begin at the cuts
+pieces_begin : (list : List Posting) (f : ℕ) (cuts : List ℕ) (h : ℕ) → map begin_of (pieces list f (cuts ++ h ∷ [])) ≡ f ∷ cuts
+unfolding begin_of
+pieces_begin list f [] h = refl
+pieces_begin list f (g ∷ cuts) h = ap (λ (l : List ℕ). f ∷ l) (pieces_begin list g cuts h)
+
+segments_begin : (list : List Posting) (f : ℕ) (cuts : List ℕ) (h : ℕ) (segments : List Segment) → AreSegments list f (cuts ++ h ∷ []) segments → map (λ s. s.span.from) segments ≡ f ∷ cuts
+unfolding begin_of
+segments_begin list f cuts h segments are =
+    sym (map-map begin_of bare_segment segments) ∙ ap (λ (l : List (ℕ × ℕ × ℕ)). map begin_of l) are ∙ pieces_begin list f cuts h
+
+-- a stored plan that is least, as it is certified
+pub certified_by : (list : List Posting) (factor : Fraction) (cuts : List Time) (horizon : Time) (table : Counts) (part numbers : List ℕ) (p : Proposal) → part ≡ map (λ (t : Time). t.seconds) (cuts ++ horizon ∷ [])
+    → AreBest list factor horizon.seconds table.boundaries numbers → AreSegments list (slice_index part 0) (drop 1 part) p.segments.items → AreNodes table.boundaries numbers p.nodes.items
+    → p.space ≡ space list (slice_index part 0) (drop 1 part) → IsLeastPlan list factor cuts horizon.seconds
+    → IsProposal list factor horizon.seconds p.segments.items p.nodes.items p.space × (map (λ (s : Segment). s.span.from) p.segments.items ≡ seconds cuts)
+certified_by list factor [] horizon table part numbers p same best segments nodes total least = absurd least
+certified_by list factor (f ∷ cuts) horizon table part numbers p same best segments nodes total least =
+    let here : part ≡ f.seconds ∷ later cuts horizon.seconds = same ∙ sym (seconds_are f cuts horizon) in
+    let are = subst (λ (c : List ℕ). AreSegments list (slice_index c 0) (drop 1 c) p.segments.items) here segments in
+    let spaced = total ∙ ap (λ (c : List ℕ). space list (slice_index c 0) (drop 1 c)) here in
+    (proposal_is list factor horizon.seconds f.seconds (later cuts horizon.seconds) table.boundaries numbers p least best are nodes spaced, segments_begin list f.seconds (seconds cuts) horizon.seconds p.segments.items are)
+
+-- a live plan that keeps to a guarantee is least for its word's list
+live_least : (h : History) (plan : PlanEntry) (list : List Posting) → IsLegal h → plan_of h plan.word ≡ Some plan → plan.kind ≡ Guarantee → IsListUpTo h plan.word plan.horizon.seconds list
+    → IsLeastPlan list plan.fraction plan.cuts plan.horizon.seconds
+live_least h plan list legal live kind is =
+    let may = live_has (λ p. MayBePlanned IsGoodPlan h p) (λ stored. bytes_eq stored.plan.word plan.word) (live_plans h) plan (live_planned IsGoodPlan h legal) live in
+    let suits = subst (λ (k : Kind). IsGoodPlan k may.list plan.fraction plan.cuts plan.horizon.seconds) kind may.suits in
+    let one = one_list_of (λ d t. frequency_at h plan.word (record { 0 = d }) t) 0 plan.horizon.seconds may.list list may.list_is is in
+    subst (λ (l : List Posting). IsLeastPlan l plan.fraction plan.cuts plan.horizon.seconds) one suits.1
+
+pub plan_certified : {E : Type 0} (h : History) (plan : PlanEntry) (list here : List Posting) (r : Result Proposal E) → IsLegal h → plan_of h plan.word ≡ Some plan → plan.kind ≡ Guarantee
+    → IsListUpTo h plan.word plan.horizon.seconds list → here ≡ list
+    → IfOk r (λ p. IsLeastPlan here plan.fraction plan.cuts plan.horizon.seconds → IsCertificate plan here p.segments.items p.nodes.items p.space)
+    → IfOk r (λ p. CertifiesPlan h plan Guarantee (Proposed p.segments.items p.nodes.items p.space))
+plan_certified h plan list here (Ok p) legal live kind is same certifies =
+    let least = live_least h plan list legal live kind is in
+    let certificate = subst (λ (l : List Posting). IsLeastPlan l plan.fraction plan.cuts plan.horizon.seconds → IsCertificate plan l p.segments.items p.nodes.items p.space) same certifies least in
+    (list, is, (p.segments.items, p.nodes.items, p.space, certificate, refl))
+plan_certified h plan list here (Err e) legal live kind is same certifies = tt
+
+-- ---- what is certified for a phrase
+
+pub term_certifies : (h : History) (phrase word : List ℕ) (reply : Reply) → one_term phrase ≡ Some word → OfKnown h word (λ why. reply ≡ Refused why) (CertifiesLive h (plan_of h word) reply) → Certifies h phrase reply
+term_certifies h phrase word reply term of = subst (λ (key : Option (List ℕ)). OfTerm h key (λ why. reply ≡ Refused why) (λ word. CertifiesLive h (plan_of h word) reply)) (sym term) of
+
+-- the live plan of a word, as a search finds it among those in hand
+pub found_live : (a : ArchiveState) (h : History) (word : List ℕ) (plans : List StoredPlan) (s : StoredPlan) → plans ≡ a.shelf.plans → StandsFor a h → (at : ℕ) × IsPlanAt plans word at × (s ≡ get_or plans at s)
+    → (plan_of h word ≡ Some s.plan) × (s.plan.word ≡ word)
+found_live a h word plans s same stands (at, is, here) =
+    let all : plans ≡ live_plans h = same ∙ stands.plans_are in (
+      plan_found h word at s (subst (λ (l : List StoredPlan). IsPlanAt l word at) all is) (here ∙ ap (λ (l : List StoredPlan). get_or l at s) all),
+      ap (λ (x : StoredPlan). x.plan.word) here ∙ is.is s,
+    )
+
+pub none_live : (a : ArchiveState) (h : History) (word : List ℕ) (plans : List StoredPlan) → plans ≡ a.shelf.plans → StandsFor a h → All (λ s. is_another word s ≡ true) plans → plan_of h word ≡ None
+none_live a h word plans same stands others =
+    none_found h word (subst (λ (l : List StoredPlan). All (λ s. is_another word s ≡ true) l) (same ∙ stands.plans_are) others)
+
+-- what is certified of it, by its kind
+pub live_as : (h : History) (o : Option PlanEntry) (plan : PlanEntry) (kind : Kind) (reply : Reply) → o ≡ Some plan → plan.kind ≡ kind → CertifiesPlan h plan kind reply → CertifiesLive h o reply
+live_as h o plan kind reply is kind_is certifies =
+    subst (λ (o : Option PlanEntry). CertifiesLive h o reply) (sym is) (subst (λ (k : Kind). CertifiesPlan h plan k reply) (sym kind_is) certifies)

@@ -1,11 +1,10 @@
--- A plan that is stored.
-use Rattle.std.proofs.Common.{◌≡◌, ◌⊎◌, ℕ, ◌+◌, ◌-◌, ◌<◌, ◌≤◌, List, [], ◌∷◌, ◌++◌, length, All, Option, Some, None, Result, Ok, Err, IsOk, IfOk, true, inl, inr, refl, ap, sym, subst, ◌∙◌, arith}
+-- A plan is stored: its sublists are written apart from the live places, and then its entry. What the archive and each image left stand for.
+use Rattle.std.proofs.Common.{◌≡◌, ◌⊎◌, ℕ, ◌+◌, ◌-◌, ◌<◌, ◌≤◌, List, [], ◌∷◌, ◌++◌, length, All, Option, Some, None, Result, Ok, Err, IsOk, IfOk, true, inl, inr, refl, ap, sym, subst, ◌∙◌, arith, map}
 use Rattle.std.specs.List.{AllZip}
 use Rattle.std.proofs.lemmas.List.{length_push}
 use Rattle.std.proofs.lemmas.List.Elements.{All-map}
 use Rattle.std.proofs.lemmas.Bool.{lt-ltb, le-ltb}
-use Rattle.machine_model.specs.Areas.{Both}
-use Rattle.machine_model.specs.States.{DiskState}
+use Rattle.machine_model.specs.States.{DiskState, moment}
 use Rattle.time_base.specs.Limits.{limit_of}
 use Rattle.time_base.specs.declared.extent.Extent.{Extent}
 use Rattle.time_base.specs.declared.fraction.Fraction.{Fraction}
@@ -25,17 +24,16 @@ use Rattle.page_store.specs.Taken.{PagesState, HasTaken}
 use Rattle.record_codec.specs.declared.entry.Entry.TheVariants.{Planned}
 use Rattle.record_codec.specs.declared.place.Place.{Place}
 use Rattle.record_codec.specs.declared.plan.PlanEntry.{PlanEntry}
-use Rattle.sublist_store.specs.Preparing.{IsFor, extents, spellings}
+use Rattle.sublist_store.specs.Preparing.{IsFor, extents, spellings, PreparedState, pieces}
 use Rattle.sublist_store.specs.Segments.{seconds}
 use Rattle.archive_state.specs.declared.refusal.Refusal.{Refusal}
 use Rattle.archive_state.specs.declared.refusal.Refusal.TheVariants as refusals
 use Rattle.archive_state.specs.declared.stored.StoredPlan.{StoredPlan}
 use Rattle.archive_state.specs.Histories.{History, end_of}
-use Rattle.archive_state.specs.Legal.{IsLegalEntry}
-use Rattle.archive_state.specs.Planning.{IsKnown, IsListUpTo, OfWidth, OfList, OfPhrase, last_second}
+use Rattle.archive_state.specs.Legal.{IsLegalEntry, IsLegal}
+use Rattle.archive_state.specs.Planning.{IsKnown, IsListUpTo, OfWidth, OfPhrase, last_second}
 use Rattle.archive_state.specs.Plans.{with_plan, live_plans, live_extents}
 use Rattle.archive_state.specs.Worlds.{world_of}
-use Rattle.archive_state.specs.Stands.{EachStands}
 use Rattle.archive_state.specs.Steps as steps
 use Rattle.archive_state.specs.Steps.{Reply, Refused, Summary, Declines, AddsPlan, StoresCuts, StoresPlan, Plans, full_journal, spelled_key}
 use Rattle.archive_state.proofs.HistoryLemmas.{end_of-push, loadable-push, entry_loads}
@@ -43,26 +41,36 @@ use Rattle.archive_state.proofs.LiveLemmas.{live_plans-push}
 use Rattle.archive_state.proofs.RefusalLemmas.{when_true, when_false}
 use Rattle.archive_state.proofs.StoringLemmas.{plan_legal}
 use Rattle.archive_state.proofs.OutcomeLemmas.{each_plans}
-use Rattle.archive_core.specs.Adding.{GivesUp, HasSameShelf}
-use Rattle.archive_core.specs.Changing.{LeadsTo}
-use Rattle.archive_core.specs.States.{ArchiveState, StandsFor, CacheStands, AreInStep, Reaches}
+use Rattle.archive_core.specs.Adding.{HasSameShelf}
+use Rattle.archive_core.specs.After.{IsDone}
+use Rattle.archive_core.specs.Changing.{LeadsTo, KeepsHistory}
+use Rattle.archive_core.specs.States.{ArchiveState, StandsFor, CacheStands, AreInStep}
 use Rattle.plan_shelf.specs.Shelves.{ShelfState, extents_all}
-use Rattle.plan_shelf.specs.Readying.{HasPlaces, IsFull, IsReady, plan_with, tells_of}
+use Rattle.plan_shelf.specs.Readying.{HasPlaces, IsFull, IsReady, plan_with, tells_of, summary_of}
 use Rattle.archive_core.specs.Storing.{IsDraft, IsStorable, IsStoredAs}
 use Rattle.archive_core.specs.Takes.{Takes, planned}
-use Rattle.plan_shelf.specs.Readying.{summary_of}
 use Rattle.archive_core.specs.declared.error.ChangeError.{ChangeError}
 use Rattle.archive_core.specs.declared.error.ChangeError.TheVariants as changes
-use Rattle.archive_replay.specs.declared.error.Declined.{Declined}
-use Rattle.archive_replay.specs.declared.error.Declined.TheVariants as declines
 use Rattle.plan_shelf.specs.declared.readying.Draft.{Draft}
 use Rattle.plan_shelf.specs.declared.readying.PlanReport.{PlanReport}
 use Rattle.plan_shelf.specs.declared.readying.Ready.{Ready}
-use Rattle.archive_core.proofs.AddLemmas.{inside_on, in_step_stands, leads_nowhere, step_at}
 use Rattle.archive_replay.proofs.IndexLemmas.{changes_still}
 use Rattle.archive_replay.proofs.PlaceLemmas.{placed_plan}
-use Rattle.archive_core.proofs.CacheLemmas.{cached_on}
-use Rattle.archive_core.proofs.PlanLemmas.{map_phrase}
+use Rattle.machine_model.specs.Images.{MayLeave}
+use Rattle.machine_model.specs.declared.range.Range.{Range}
+use Rattle.machine_model.proofs.MomentLemmas.{joined, goes_on_joins, allowed_left}
+use Rattle.gate_journal.specs.Spelled.{Spells}
+use Rattle.gate_journal.specs.InStep.{IsInStep}
+use Rattle.gate_journal.specs.Crash.{Appends, KeepsPages}
+use Rattle.page_store.specs.Ranges.{SameOutside, range_of}
+use Rattle.page_store.specs.Wrote.{Stored, ranges_of}
+use Rattle.page_store.specs.Crash.{ChangesOnly}
+use Rattle.archive_state.specs.Holding.{HoldsPlans}
+use Rattle.archive_state.specs.Stands.{bodies_of, Stands, EachStands}
+use Rattle.archive_state.proofs.HoldLemmas.{held_stays, held_more, piece_extents}
+use Rattle.archive_core.proofs.AddLemmas.{inside_on, step_at, EachHolds, bodies_more, still_holds, step_stands, leads_more}
+use Rattle.archive_core.proofs.TakeLemmas.{takes_unmade}
+use Rattle.archive_core.proofs.PlanLemmas.{goes_on, map_phrase}
 use Rattle.archive_core.proofs.LiveLemmas.{all_inside_with}
 
 -- ---- what is ready may come next
@@ -118,14 +126,11 @@ stands_planned a h draft end count last r shelf stands is at ready ends placed p
       pages_are = subst (λ (l : List StoredPlan). HasTaken shelf.pages (extents_all l)) plans pages;
     }
 
-pub reaches_planned : (a : ArchiveState) (last : ℕ) (shelf : ShelfState) (stored : StoredPlan) (places : List Place) (old new : Both ℕ) → Reaches old a → old.pages ≤ new.pages → last ≤ new.journal
-    → shelf.plans ≡ with_plan a.shelf.plans stored → stored.plan.places ≡ places → All (λ (p : Place). IsInside new.pages p.extent) places → Reaches new (after_plan a last shelf)
-reaches_planned a last shelf stored places old new reaches more end placed same inside = (
-  end,
-  subst (λ (l : List StoredPlan). All (IsInside new.pages) (extents_all l)) (sym placed)
-      (all_inside_with new.pages a.shelf.plans stored (inside_on old.pages new.pages (extents_all a.shelf.plans) more reaches.1)
-      (subst (λ (ps : List Place). All (IsInside new.pages) (extents ps)) (sym same) (All-map (IsInside new.pages) (λ (p : Place). p.extent) places inside))),
-)
+-- a disk that reached as far as the live plans reaches as far with one more, whose places it reaches
+pub placed_inside : (n m : ℕ) (before after : List StoredPlan) (stored : StoredPlan) (places : List Place) → n ≤ m → All (IsInside n) (extents_all before)
+    → after ≡ with_plan before stored → stored.plan.places ≡ places → All (λ (p : Place). IsInside m p.extent) places → All (IsInside m) (extents_all after)
+placed_inside n m before after stored places more was placed same inside =
+    rw placed (all_inside_with m before stored (inside_on n m (extents_all before) more was) (subst (λ (ps : List Place). All (IsInside m) (extents ps)) (sym same) (All-map (IsInside m) (λ (p : Place). p.extent) places inside)))
 
 -- ---- an archive that has what it had
 
@@ -152,14 +157,6 @@ stands_still a h shelf stands plans pages = record {
   pages_are = pages;
 }
 
-pub full_refused : (reason : Declined) (r : Result PlanReport ChangeError) (a b : ArchiveState) (h : History) (draft : Draft) (end : ℕ) (why : Refusal) → GivesUp reason r a b
-    → ((because : Refusal) → ◌≡◌ {A = Result Ready Declined} (Err reason) (Err (declines.Refused because)) → IsFull draft (live_extents h) end because) → StandsFor a h → r ≡ Err (changes.Refused why)
-    → IsFull draft (live_extents h) end why × StandsFor b h
-full_refused (declines.Refused because) r a b h draft end why not full stands is =
-    let same : because ≡ why = (let one = not.0 in cc) in
-    (subst (λ (w : Refusal). IsFull draft (live_extents h) end w) same (full because refl), subst (λ (s : ArchiveState). StandsFor s h) (sym not.1) stands)
-full_refused declines.Memory r a b h draft end why not full stands is = let one = not.0 in absurd cc
-
 -- ---- what becomes of a phrase that is to be planned
 
 -- a list with a posting goes on, where it has a plan that is what its kind promises
@@ -168,21 +165,16 @@ wide_or_not Guarantee h list factor cuts Refuses GoesOn ((times, are, few), leas
 wide_or_not Uniform h list factor cuts Refuses GoesOn good goes = goes
 wide_or_not (Since at) h list factor cuts Refuses GoesOn good goes = goes
 
-good_list : (kind : Kind) (h : ℕ) (list : List Posting) (factor : Fraction) (cuts : List Time) (Refuses : Refusal → Type 0) (GoesOn : Type 0) → 0 < length list → IsGoodPlan kind list factor cuts h → GoesOn → OfList kind h list Refuses GoesOn
-good_list kind h [] factor cuts Refuses GoesOn some good goes = absurd (omega (arith, some))
-good_list kind h (p ∷ list) factor cuts Refuses GoesOn some good goes = wide_or_not kind h (p ∷ list) factor cuts Refuses GoesOn good goes
-
 -- a draft is a plan for its phrase, and so is what comes of its cuts
 plans_draft : (h : History) (phrase : List ℕ) (kind : Kind) (factor : Fraction) (draft : Draft) (reply : Reply) (next : History) → spelled_key (one_term phrase) ≡ Some draft.word → IsKnown h draft.word
     → draft.kind ≡ kind → draft.factor ≡ factor → IsDraft h draft → StoresCuts h draft.word draft.kind draft.factor draft.horizon draft.cuts.items draft.list.items reply next → Plans h phrase kind factor reply next
 plans_draft h phrase kind factor draft reply next term known kind_is same is stores =
     let list = draft.list.items in
-    let P : Option (List ℕ) → Type 0 = λ key. OfPhrase draft.kind h key (λ why. Declines h why reply next) (λ word list. StoresPlan h draft.kind draft.factor word list reply next) in
-    let G : ℕ → Type 0 = λ n. IsGoodPlan draft.kind list draft.factor draft.cuts.items n in
     let goes : StoresPlan h draft.kind draft.factor draft.word list reply next = record { horizon = draft.horizon; horizon_is = is.horizon_is; cuts = draft.cuts.items; good = is.good; stores = stores } in
-    let of =
-    good_list draft.kind (last_second h) list draft.factor draft.cuts.items (λ why. Declines h why reply next) (StoresPlan h draft.kind draft.factor draft.word list reply next) is.some (subst G is.horizon_is is.good) goes in
-    let all : Plans h phrase draft.kind draft.factor reply next = subst P (sym term) (inr (known, (list, is.list_is, of))) in
+    let good = subst (λ (n : ℕ). IsGoodPlan draft.kind list draft.factor draft.cuts.items n) is.horizon_is is.good in
+    let of = wide_or_not draft.kind (last_second h) list draft.factor draft.cuts.items (λ why. Declines h why reply next) (StoresPlan h draft.kind draft.factor draft.word list reply next) good goes in
+    let all : Plans h phrase draft.kind draft.factor reply next =
+    goes_on draft.kind h (spelled_key (one_term phrase)) draft.word list (λ why. Declines h why reply next) (λ word list. StoresPlan h draft.kind draft.factor word list reply next) term known is.list_is is.some of in
     subst (λ (f : Fraction). Plans h phrase kind f reply next) same (subst (λ (k : Kind). Plans h phrase k draft.factor reply next) kind_is all)
 
 pub plans_full : (h : History) (phrase : List ℕ) (kind : Kind) (factor : Fraction) (draft : Draft) (end : ℕ) (why : Refusal) → spelled_key (one_term phrase) ≡ Some draft.word → IsKnown h draft.word
@@ -193,10 +185,9 @@ plans_full h phrase kind factor draft end why term known kind_is same is at full
     go (inl pages) = inl (pages.0, (refl, ap Refused pages.1))
     go (inr (places, (has, over, because))) =
         let plan = plan_with draft places in
-        let A : Option Refusal → Type 0 = λ o. AddsPlan h plan o draft.list.items (Refused why) h in
         let passes : limit_of Journal < end_of (h ++ Planned plan ∷ []) = omega (arith, over, at, end_of-push h (Planned plan)) in
         let refused : full_journal h (Planned plan) ≡ Some (refusals.Full Journal (limit_of Journal)) = when_true _ (refusals.Full Journal (limit_of Journal)) (lt-ltb (limit_of Journal) (end_of (h ++ Planned plan ∷ [])) passes) in
-        inr (places, has.placed, has.each, subst A (sym refused) (refl, ap Refused because))
+        inr (places, has.placed, has.each, subst (λ (o : Option Refusal). AddsPlan h plan o draft.list.items (Refused why) h) (sym refused) (refl, ap Refused because))
 
 pub plans_stored : (h : History) (phrase : List ℕ) (kind : Kind) (factor : Fraction) (draft : Draft) (plan : PlanEntry) → spelled_key (one_term phrase) ≡ Some draft.word → IsKnown h draft.word
     → draft.kind ≡ kind → draft.factor ≡ factor → IsDraft h draft → IsStoredAs h draft plan → Plans h phrase kind factor (steps.Planned (tells_of draft (length h + 1))) (h ++ Planned plan ∷ [])
@@ -218,29 +209,11 @@ plans_stored h phrase kind factor draft plan term known kind_is same is stored =
     ))
 
 -- a phrase that is refused before its list is planned
-pub plans_refused : (h : History) (phrase : List ℕ) (kind : Kind) (factor : Fraction) (reason : Declined) (r : Result PlanReport ChangeError) (a b : ArchiveState) (why : Refusal) → GivesUp reason r a b
-    → ((because : Refusal) → ◌≡◌ {A = Result Draft Declined} (Err reason) (Err (declines.Refused because)) → OfPhrase kind h (spelled_key (one_term phrase)) (λ other. because ≡ other) (λ word list. ⊥))
-    → StandsFor a h → r ≡ Err (changes.Refused why) → Plans h phrase kind factor (Refused why) h × StandsFor b h
-plans_refused h phrase kind factor (declines.Refused because) r a b why gives refused stands is =
-    let same : because ≡ why = (let one = gives.0 in cc) in
-    let of = subst (λ (w : Refusal). OfPhrase kind h (spelled_key (one_term phrase)) (λ other. w ≡ other) (λ word list. ⊥)) same (refused because refl) in (
-      map_phrase kind h (spelled_key (one_term phrase)) (λ other. why ≡ other) (λ other. Declines h other (Refused why) h) (λ word list. ⊥) (λ word list. StoresPlan h kind factor word list (Refused why) h)
-          (λ other e. (refl, ap Refused e)) (λ word list none. absurd none) of,
-      subst (λ (s : ArchiveState). StandsFor s h) (sym gives.1) stands,
-    )
-plans_refused h phrase kind factor declines.Memory r a b why gives refused stands is = let one = gives.0 in absurd cc
-
--- what is given up is refused, or there was no memory
-pub given_up_never : {T : Type 0} (Q : Type 0) (reason : Declined) (r : Result T ChangeError) (a b : ArchiveState) → GivesUp reason r a b → IsOk r ⊎ (r ≡ Err changes.Failed) → Q
-given_up_never {T} Q (declines.Refused because) r a b gives (inl ok) = let bad = subst (λ (s : Result T ChangeError). IsOk s) gives.0 ok in absurd cc
-given_up_never {T} Q declines.Memory r a b gives (inl ok) = let bad = subst (λ (s : Result T ChangeError). IsOk s) gives.0 ok in absurd cc
-given_up_never Q (declines.Refused because) r a b gives (inr failed) = let one = gives.0 in absurd cc
-given_up_never Q declines.Memory r a b gives (inr failed) = let one = gives.0 in absurd cc
-
--- and what it keeps is as it was
-pub given_up_cached : {T : Type 0} (reason : Declined) (r : Result T ChangeError) (a b : ArchiveState) (d : DiskState) → GivesUp reason r a b → CacheStands d a → CacheStands d b
-given_up_cached (declines.Refused because) r a b d gives cached = cached_on a.shelf.cache b.shelf.cache d d (ap (λ (s : ArchiveState). s.shelf.cache) gives.1) refl cached
-given_up_cached declines.Memory r a b d gives cached = cached_on a.shelf.cache b.shelf.cache d d (ap (λ (s : ArchiveState). s.shelf.cache) gives.1) refl cached
+pub plans_refused : (h : History) (phrase : List ℕ) (kind : Kind) (factor : Fraction) (why : Refusal) → OfPhrase kind h (spelled_key (one_term phrase)) (λ because. why ≡ because) (λ word list. ⊥)
+    → Plans h phrase kind factor (Refused why) h
+plans_refused h phrase kind factor why of =
+    map_phrase kind h (spelled_key (one_term phrase)) (λ because. why ≡ because) (λ because. Declines h because (Refused why) h) (λ word list. ⊥) (λ word list. StoresPlan h kind factor word list (Refused why) h)
+    (λ because e. (refl, ap Refused e)) (λ word list none. absurd none) of
 
 -- a plan was written, or a part of it: what it is, and what each image left stands for
 pub record IsWritten (h : History) (phrase : List ℕ) (kind : Kind) (factor : Fraction) (r : Result PlanReport ChangeError) (old new : DiskState) (b : ArchiveState) : Type 0 where
@@ -252,33 +225,90 @@ pub record IsWritten (h : History) (phrase : List ℕ) (kind : Kind) (factor : F
 
 pub takes_plan : (h : History) (phrase : List ℕ) (kind : Kind) (factor : Fraction) (r : Result PlanReport ChangeError) (old new : DiskState) (a b : ArchiveState) → AreInStep old a h
     → ((why : Refusal) → r ≡ Err (changes.Refused why) → Plans h phrase kind factor (Refused why) h × StandsFor b h) → ((why : Refusal) → r ≡ Err (changes.Refused why) → new ≡ old) → (r ≡ Err changes.Memory → new ≡ old)
-    → (IsOk r ⊎ (r ≡ Err changes.Failed) → IsWritten h phrase kind factor r old new b) → (IsOk r ⊎ ((why : Refusal) × (r ≡ Err (changes.Refused why))) → CacheStands new b)
-    → Takes h (items.Command (commands.Plan phrase kind factor)) (planned r) old new b
+    → (IsOk r ⊎ (r ≡ Err changes.Failed) → IsWritten h phrase kind factor r old new b) → (IsDone r → CacheStands new b) → Takes h (items.Command (commands.Plan phrase kind factor)) (planned r) old new b
 takes_plan h phrase kind factor (Ok report) old new a b in_step refused same memory written cached =
     let is = written (inl refl) in
     record { outcome = record { reply = steps.Planned is.told; next = world_of is.next }; step = is.plans; leads = is.leads; ends = (ap steps.Planned (sym is.in_step.0), is.in_step.1) }
-takes_plan h phrase kind factor (Err (changes.Refused why)) old new a b in_step refused same memory written cached =
-    let is = refused why refl in
-    let still = same why refl in
-    let L : DiskState → Type 0 = λ d. LeadsTo h h old d in
-    let K : DiskState → Type 0 = λ d. AreInStep d b h in
-    let C : DiskState → Type 0 = λ d. CacheStands d b in
+takes_plan h phrase kind factor (Err error) old new a b in_step refused same memory written cached =
+    let (any, plans) = each_plans h phrase kind factor in_step.legal in
+    takes_unmade h (items.Command (commands.Plan phrase kind factor)) error old new a b in_step
+    (λ why is.
+    let (declines, stands) = refused why (ap Err is) in
+    let still = same why (ap Err is) in
+    let kept : CacheStands new b = cached (inr (why, ap Err is)) in
+    (still, declines, record { stands = stands; journal = step_at b.end (in_step.stands.end_is ∙ sym stands.end_is) in_step.journal; legal = in_step.legal; held = in_step.held; cached = rw still at kept }))
+    (λ is. let w = written (inr (ap Err is)) in (steps.Planned w.told, (w.next, (w.plans, w.leads)))) (λ is. memory (ap Err is)) (any.reply, (any.next, plans))
+
+-- ---- what each image left stands for
+
+-- writes to places that are apart from the live ones: each image stands for the history as before
+pub writes_keep : (h : History) (plan : PlanEntry) (prepared : PreparedState) (frame : List ℕ) (old new : DiskState) → IsStorable h plan prepared frame → EachStands old h
+    → ChangesOnly (ranges_of (pieces prepared)) old new → KeepsHistory h old new
+writes_keep h plan prepared frame old new ready each changes = record {
+  goes_on = changes.goes_on;
+  images = λ image beside left.
+      let was = changes.images image beside left in
+      let stood = each was.0 was.1 in
+      let same = subst (λ (rs : List Range). SameOutside rs was.0.pages image.pages) (ap (map range_of) (piece_extents prepared.places prepared.spellings ready.each)) was.3 in (
+        record {
+          spelled = subst (λ (l : List ℕ). Spells l (bodies_of h)) (sym was.2) stood.spelled;
+          legal = stood.legal;
+          held = held_stays h (extents prepared.places) was.0.pages image.pages ready.apart same stood.held;
+        },
+        was.4,
+      );
+}
+
+-- the journal stays in step over writes to pages
+pub step_stays : (ranges : List Range) (old new : DiskState) (end : ℕ) (bodies : List (List ℕ)) → ChangesOnly ranges old new → IsInStep old end bodies → IsInStep new end bodies
+step_stays ranges old new end bodies changes step = record {
+  gate = step.gate;
+  shut = step.shut;
+  fit = step.fit;
+  end_is = step.end_is;
+  images = λ image allowed.
+      let was = changes.images image new.now.beside (allowed_left new (moment old) image allowed) in
+      let is = step.images was.0 was.1 in
+      (is.0, was.2 ∙ is.1);
+}
+
+-- where the sublists are stored, the pages hold what the live plans need, and the new one is among them
+pub stored_holds : (h : History) (plan : PlanEntry) (prepared : PreparedState) (frame : List ℕ) (old mid : DiskState) → IsStorable h plan prepared frame → IsLegal h
+    → HoldsPlans h old.holds.pages → Stored (pieces prepared) old mid → EachHolds mid (h ++ Planned plan ∷ [])
+stored_holds h plan prepared frame old mid ready legal held stored = λ image allowed.
+    rw (stored.only image allowed) (held_more IsGoodPlan h plan ready.list old.holds mid.holds legal (rw ready.places ready.apart) (rw (ready.places, ← ready.spelled) ready.each)
+    ready.list_is ready.entry.planned.past held (rw (ready.places, ← ready.spelled) stored.wrote))
+
+-- the writes alone
+pub written_leads : (h : History) (plan : PlanEntry) (prepared : PreparedState) (frame : List ℕ) (end : ℕ) (old mid : DiskState) → IsStorable h plan prepared frame → IsLegal h
+    → IsInStep old end (bodies_of h) → EachHolds old h → ChangesOnly (ranges_of (pieces prepared)) old mid → LeadsTo h (h ++ Planned plan ∷ []) old mid
+written_leads h plan prepared frame end old mid ready legal step held changes =
+    let keeps = writes_keep h plan prepared frame old mid ready (step_stands old end h step legal held) changes in
+    record { goes_on = keeps.goes_on; images = λ image beside left. let was = keeps.images image beside left in (inl was.0, was.1) }
+
+-- the writes, made durable, and the entry
+pub stored_leads : (h : History) (plan : PlanEntry) (prepared : PreparedState) (frame : List ℕ) (end : ℕ) (old mid new : DiskState) → IsStorable h plan prepared frame → IsLegal h
+    → IsInStep old end (bodies_of h) → EachHolds old h → MayLeave old.now old.holds → ChangesOnly (ranges_of (pieces prepared)) old mid → mid.now.beside ≡ old.now.beside
+    → Stored (pieces prepared) old mid → ((bodies : List (List ℕ)) → IsInStep mid end bodies → Appends bodies frame mid new) → KeepsPages mid new
+    → LeadsTo h (h ++ Planned plan ∷ []) old new
+stored_leads h plan prepared frame end old mid new ready legal step held allowed changes same stored appends pages =
+    let next = h ++ Planned plan ∷ [] in
+    let keeps = writes_keep h plan prepared frame old mid ready (step_stands old end h step legal held) changes in
+    let still : EachHolds mid h = λ image left. (keeps.images image mid.now.beside (allowed_left mid (moment old) image left)).0.held in
+    let leads = leads_more h (Planned plan) frame mid new legal ready.entry ready.framed still (stored_holds h plan prepared frame old mid ready legal (held old.holds allowed) stored)
+    (appends (bodies_of h) (step_stays (ranges_of (pieces prepared)) old mid end (bodies_of h) changes step)) pages in
     record {
-      outcome = record { reply = Refused why; next = world_of h };
-      step = is.0;
-      leads = subst L (sym still) (leads_nowhere old a h h in_step);
-      ends = (refl, subst K (sym still) (record { stands = is.1; journal = step_at b.end (in_step.stands.end_is ∙ sym is.1.end_is) in_step.journal; legal = in_step.legal; held = in_step.held; cached = subst C still (cached (inr (why, refl))) }));
+      goes_on = goes_on_joins keeps.goes_on leads.goes_on;
+      images = joined (λ image beside. (Stands h image ⊎ Stands next image) × (beside ≡ old.now.beside)) keeps.goes_on
+          (λ image beside left. let was = keeps.images image beside left in (inl was.0, was.1)) leads.goes_on
+          (λ image beside left. let was = leads.images image beside left in (was.0, was.1 ∙ same));
     }
-takes_plan h phrase kind factor (Err changes.Failed) old new a b in_step refused same memory written cached =
-    let is = written (inr refl) in
-    record { outcome = record { reply = steps.Planned is.told; next = world_of is.next }; step = is.plans; leads = is.leads; ends = tt }
-takes_plan h phrase kind factor (Err changes.Memory) old new a b in_step refused same memory written cached =
-    let (outcome, step) = each_plans h phrase kind factor in_step.legal in
-    let L : DiskState → Type 0 = λ d. LeadsTo h outcome.next old d in
-    let E : DiskState → Type 0 = λ d. EachStands d h in
-    record {
-      outcome = record { reply = outcome.reply; next = world_of outcome.next };
-      step = step;
-      leads = subst L (sym (memory refl)) (leads_nowhere old a h outcome.next in_step);
-      ends = subst E (sym (memory refl)) (in_step_stands old a h in_step);
-    }
+
+-- after Ok the journal has the entry and each image holds what it needs
+pub stored_in_step : (h : History) (plan : PlanEntry) (prepared : PreparedState) (frame : List ℕ) (end : ℕ) (old mid new : DiskState) → IsStorable h plan prepared frame → IsLegal h
+    → EachHolds old h → MayLeave old.now old.holds → Stored (pieces prepared) old mid → IsInStep new end (bodies_of h ++ frame ∷ []) → KeepsPages mid new
+    → IsInStep new end (bodies_of (h ++ Planned plan ∷ [])) × EachHolds new (h ++ Planned plan ∷ [])
+stored_in_step h plan prepared frame end old mid new ready legal held allowed stored step pages = (
+  rw (← bodies_more h (Planned plan) frame ready.framed) step,
+  still_holds (h ++ Planned plan ∷ []) mid new (stored_holds h plan prepared frame old mid ready legal (held old.holds allowed) stored) pages,
+)

@@ -1,5 +1,5 @@
 -- A call that carries out an item is a step of the abstract machine.
-use Rattle.std.proofs.Common.{◌≡◌, ◌⊎◌, ℕ, ◌+◌, List, [], ◌∷◌, ◌++◌, length, Option, Result, Ok, Err, OnOk, IfOk, IsOk, refl, inl, inr, ap, subst, sym, arith, length-append, append-nil}
+use Rattle.std.proofs.Common.{◌≡◌, ℕ, ◌+◌, List, [], ◌∷◌, ◌++◌, length, Option, Result, Ok, Err, OnOk, IfOk, refl, inl, inr, ap, subst, sym, arith, length-append, append-nil}
 use Rattle.std.specs.Option.{option_map}
 use Rattle.machine_model.specs.Areas.{Bytes}
 use Rattle.machine_model.specs.Images.{MayLeave}
@@ -12,92 +12,91 @@ use Rattle.commands.specs.declared.command.Command.TheVariants as commands
 use Rattle.commands.specs.declared.command.Item.{Item}
 use Rattle.commands.specs.declared.command.Item.TheVariants as items
 use Rattle.record_codec.specs.declared.entry.Entry.{Entry}
-use Rattle.query_lang.specs.Grammar.{Query, IsRead}
-use Rattle.archive_state.specs.Chosen.{IsMadeAt, IsMadeOver, SpoilsAnswer}
+use Rattle.query_lang.specs.Grammar.{Query}
+use Rattle.archive_state.specs.Chosen.{SpoilsAnswer}
 use Rattle.archive_state.specs.Legal.{IsLoadable}
 use Rattle.archive_state.proofs.ChosenLemmas.{held_undamaged, made_at, made_over}
-use Rattle.query_lang.specs.Tokens.{key_of}
 use Rattle.query_eval.specs.declared.answer.Answer.{Answer}
 use Rattle.query_eval.specs.declared.spans.SpanAnswer.{SpanAnswer}
+use Rattle.proposals.specs.declared.proposal.Proposal.{Proposal}
 use Rattle.sublist_store.specs.declared.why.Damage.{Damage}
 use Rattle.time_base.specs.declared.time.Span.{Span}
 use Rattle.archive_state.specs.declared.refusal.Refusal.{Refusal}
-use Rattle.archive_state.specs.declared.refusal.Refusal.TheVariants as refusals
 use Rattle.archive_state.specs.Histories.{History, text_at}
 use Rattle.archive_state.specs.Steps as machine
-use Rattle.archive_state.specs.Steps.{Reply, Accepted, Refused, Found, Spanned, Version, Finds, Spans, Step}
-use Rattle.archive_state.specs.Stands.{EachStands, bodies_of}
+use Rattle.archive_state.specs.Steps.{Reply, Accepted, Refused, Proposed, Version, IsReplied, Finds, FindsBy, Spans, SpansBy, Step, Verified, sound_of}
+use Rattle.archive_state.specs.Stands.{bodies_of}
 use Rattle.archive_state.specs.Worlds.{world_of}
 use Rattle.archive_state.proofs.OutcomeLemmas.{adds_outcome, each_finds, each_spans}
-use Rattle.archive_core.specs.After.{AfterQuestion}
+use Rattle.archive_state.specs.declared.verdict.Verdict.{Verdict}
+use Rattle.archive_check.specs.Checked.{IsChecked}
+use Rattle.archive_check.proofs.SoundLemmas.{stands_sound}
+use Rattle.archive_check.specs.declared.error.VerifyError.{VerifyError}
+use Rattle.archive_check.specs.declared.error.VerifyError.TheVariants as checks
+use Rattle.archive_core.specs.After.{AfterQuestion, IsDone}
 use Rattle.archive_core.specs.Answering.{AnswersAt, AnswersOver, IsNoQuery}
 use Rattle.archive_core.specs.States.{ArchiveState, StandsFor, AreInStep}
-use Rattle.plan_shelf.specs.declared.readying.PlanReport.{PlanReport}
-use Rattle.record_codec.specs.declared.plan.PlanEntry.{PlanEntry}
-use Rattle.record_codec.specs.declared.entry.Entry.TheVariants as entries
 use Rattle.archive_core.specs.Adding.{Adds}
 use Rattle.archive_core.specs.Changing.{LeadsTo}
-use Rattle.archive_core.specs.Takes.{Ending, Replied, Starved, Faulted, Spoiled, Takes, changed, found, spanned, unanswered, version_shown}
+use Rattle.archive_core.specs.Takes.{Ending, Replied, Starved, Faulted, Spoiled, Takes, changed, found, proposed, spanned, unanswered, unchanged, version_shown, verified}
 use Rattle.archive_core.specs.declared.error.ChangeError.{ChangeError}
 use Rattle.archive_core.specs.declared.error.ChangeError.TheVariants as changes
 use Rattle.archive_replay.specs.declared.error.ReadError.{ReadError}
 use Rattle.archive_replay.specs.declared.error.ReadError.TheVariants as reads
+use Rattle.archive_replay.specs.declared.error.Declined.{Declined}
+use Rattle.archive_replay.specs.declared.error.Declined.TheVariants as declines
 use Rattle.archive_core.specs.declared.error.AskError.{AskError}
 use Rattle.archive_core.specs.declared.error.AskError.TheVariants as asks
-use Rattle.archive_core.proofs.AddLemmas.{in_step_stands, leads_nowhere}
+use Rattle.archive_core.proofs.AddLemmas.{in_step_stands, leads_nowhere, step_reads}
 use Rattle.archive_core.proofs.CacheLemmas.{cache_reads, takes_but_cache}
-use Rattle.archive_core.proofs.LoadLemmas.{step_reads}
+
+-- a change that was not made: it is refused, or it failed and each image stands for the history before an outcome or after it, or there was no memory
+pub takes_unmade : (h : History) (item : Item) (error : ChangeError) (old new : DiskState) (a b : ArchiveState) → AreInStep old a h
+    → ((why : Refusal) → error ≡ changes.Refused why → (new ≡ old) × Step (world_of h) item (Refused why) (world_of h) × AreInStep old b h)
+    → (error ≡ changes.Failed → (reply : Reply) × ((next : History) × (Step (world_of h) item reply (world_of next) × LeadsTo h next old new)))
+    → (error ≡ changes.Memory → new ≡ old) → (reply : Reply) × ((next : History) × Step (world_of h) item reply (world_of next)) → Takes h item (unchanged error) old new b
+takes_unmade h item (changes.Refused why) old new a b in_step refused failed memory any =
+    let (still, step, same) = refused why refl in
+    record { outcome = record { reply = Refused why; next = world_of h }; step = step; leads = rw still (leads_nowhere old a h h in_step); ends = (refl, rw still same) }
+takes_unmade h item changes.Failed old new a b in_step refused failed memory any =
+    let (reply, (next, (step, leads))) = failed refl in
+    record { outcome = record { reply = reply; next = world_of next }; step = step; leads = leads; ends = tt }
+takes_unmade h item changes.Memory old new a b in_step refused failed memory (reply, (next, step)) =
+    let still = memory refl in
+    record { outcome = record { reply = reply; next = world_of next }; step = step; leads = rw still (leads_nowhere old a h next in_step); ends = rw still (in_step_stands old a h in_step) }
 
 -- an item that adds an entry, or is refused
 pub takes_entry : (h : History) (item : Item) (e : Entry) (refusal : Option Refusal) (r : Result ℕ ChangeError) (old new : DiskState) (a b : ArchiveState)
     → ((reply : Reply) (next : History) → machine.Adds h e refusal reply next → Step (world_of h) item reply (world_of next))
     → AreInStep old a h → Adds h e refusal r b → ((why : Refusal) → r ≡ Err (changes.Refused why) → (b ≡ a) × (new ≡ old)) → (r ≡ Err changes.Memory → new ≡ old)
     → LeadsTo h (h ++ e ∷ []) old new × OnOk r (AreInStep new b (h ++ e ∷ [])) → Takes h item (changed r) old new b
-takes_entry h item e refusal (Ok n) old new a b step in_step adds same memory leads =
-    let P : Option Refusal → Type 0 = λ o. machine.Adds h e o (Accepted (length (h ++ e ∷ []))) (h ++ e ∷ []) in
+takes_entry h item e refusal (Ok n) old new a b step in_step adds same memory (leads, there) =
+    let next = h ++ e ∷ [] in
+    let added = subst (λ (o : Option Refusal). machine.Adds h e o (Accepted (length next)) next) (sym (adds.allowed (inl refl))) (refl, refl) in
     record {
-      outcome = record { reply = Accepted (length (h ++ e ∷ [])); next = world_of (h ++ e ∷ []) };
-      step = step (Accepted (length (h ++ e ∷ []))) (h ++ e ∷ []) (subst P (sym (adds.allowed (inl refl))) (refl, refl));
-      leads = leads.0;
-      ends = (ap Accepted (omega (arith, adds.stands.1, length-append h (e ∷ []))), leads.1);
+      outcome = record { reply = Accepted (length next); next = world_of next };
+      step = step (Accepted (length next)) next added;
+      leads = leads;
+      ends = (ap Accepted (omega (arith, adds.stands.1, length-append h (e ∷ []))), there);
     }
-takes_entry h item e refusal (Err (changes.Refused why)) old new a b step in_step adds same memory leads =
-    let P : Option Refusal → Type 0 = λ o. machine.Adds h e o (Refused why) h in
-    let still = same why refl in
-    let L : DiskState → Type 0 = λ d. LeadsTo h h old d in
-    let K : DiskState → Type 0 = λ d. AreInStep d b h in
-    let A : ArchiveState → Type 0 = λ x. AreInStep old x h in
-    record {
-      outcome = record { reply = Refused why; next = world_of h };
-      step = step (Refused why) h (subst P (sym (adds.refused why refl)) (refl, refl));
-      leads = subst L (sym still.1) (leads_nowhere old a h h in_step);
-      ends = (refl, subst K (sym still.1) (subst A (sym still.0) in_step));
-    }
-takes_entry h item e refusal (Err changes.Failed) old new a b step in_step adds same memory leads =
-    let P : Option Refusal → Type 0 = λ o. machine.Adds h e o (Accepted (length (h ++ e ∷ []))) (h ++ e ∷ []) in
-    record {
-      outcome = record { reply = Accepted (length (h ++ e ∷ [])); next = world_of (h ++ e ∷ []) };
-      step = step (Accepted (length (h ++ e ∷ []))) (h ++ e ∷ []) (subst P (sym (adds.allowed (inr refl))) (refl, refl));
-      leads = leads.0;
-      ends = tt;
-    }
-takes_entry h item e refusal (Err changes.Memory) old new a b step in_step adds same memory leads =
+takes_entry h item e refusal (Err error) old new a b step in_step adds same memory (leads, there) =
+    let next = h ++ e ∷ [] in
     let outcome = adds_outcome h e refusal in
-    let L : DiskState → Type 0 = λ d. LeadsTo h outcome.0.next old d in
-    let E : DiskState → Type 0 = λ d. EachStands d h in
-    record {
-      outcome = record { reply = outcome.0.reply; next = world_of outcome.0.next };
-      step = step outcome.0.reply outcome.0.next outcome.1;
-      leads = subst L (sym (memory refl)) (leads_nowhere old a h outcome.0.next in_step);
-      ends = subst E (sym (memory refl)) (in_step_stands old a h in_step);
-    }
+    takes_unmade h item error old new a b in_step
+    (λ why is.
+    let (was, still) = same why (ap Err is) in
+    let refused = subst (λ (o : Option Refusal). machine.Adds h e o (Refused why) h) (sym (adds.refused why (ap Err is))) (refl, refl) in
+    (still, step (Refused why) h refused, rw was in_step))
+    (λ is.
+    let added = subst (λ (o : Option Refusal). machine.Adds h e o (Accepted (length next)) next) (sym (adds.allowed (inr (ap Err is)))) (refl, refl) in
+    (Accepted (length next), (next, (step (Accepted (length next)) next added, leads))))
+    (λ is. memory (ap Err is)) (outcome.0.reply, (outcome.0.next, step outcome.0.reply outcome.0.next outcome.1))
 
 -- reads leave what they find
 reads_lead : (h : History) (old new : DiskState) (a : ArchiveState) → AreInStep old a h → OnlyReads old new → LeadsTo h h old new
 reads_lead h old new a in_step same =
-    let P : DiskState → Type 0 = λ d. LeadsTo h h old d in
     let still = leads_nowhere old a h h in_step in
-    subst P (sym same) (record {
+    subst (λ (d : DiskState). LeadsTo h h old d) (sym same) (record {
       goes_on = let g = still.goes_on in record { later = g.later; nothing_else = g.nothing_else; keeps = g.keeps };
       images = still.images;
     })
@@ -111,134 +110,98 @@ reads_keep h old new a in_step same = record {
   cached = cache_reads old new a same in_step.cached;
 }
 
--- the reply of an outcome is the one that was given, if one was
-abbrev pub Gives : Reply → Ending → Type 0
-Gives reply (Replied given) = reply ≡ given
-Gives reply Starved = Unit {0}
-Gives reply Faulted = Unit {0}
-Gives reply (Spoiled damage) = ⊥
+-- what a question is answered, if it is
+abbrev pub IsAnswered : (Reply → Type 0) → Ending → Type 0
+IsAnswered Q (Replied reply) = Q reply
+IsAnswered Q Starved = Unit {0}
+IsAnswered Q Faulted = Unit {0}
+IsAnswered Q (Spoiled damage) = ⊥
 
--- a question, which leaves the history as it is
-pub takes_question : (h : History) (item : Item) (reply : Reply) (ending : Ending) (old new : DiskState) (a : ArchiveState)
-    → Step (world_of h) item reply (world_of h) → OnlyReads old new → AreInStep old a h → Gives reply ending → Takes h item ending old new a
-takes_question h item reply (Replied given) old new a step same in_step gives =
-    record { outcome = record { reply = reply; next = world_of h }; step = step; leads = reads_lead h old new a in_step same; ends = (gives, reads_keep h old new a in_step same) }
-takes_question h item reply Starved old new a step same in_step gives =
-    record { outcome = record { reply = reply; next = world_of h }; step = step; leads = reads_lead h old new a in_step same; ends = in_step_stands new a h (reads_keep h old new a in_step same) }
-takes_question h item reply (Spoiled damage) old new a step same in_step gives = absurd gives
-takes_question h item reply Faulted old new a step same in_step gives =
-    record { outcome = record { reply = reply; next = world_of h }; step = step; leads = reads_lead h old new a in_step same; ends = tt }
+-- a question, which leaves the history as it is; it has a reply, if one is given or not
+pub takes_question : (Q : Reply → Type 0) (h : History) (item : Item) (ending : Ending) (old new : DiskState) (a : ArchiveState)
+    → ((reply : Reply) → Q reply → Step (world_of h) item reply (world_of h)) → (reply : Reply) × Q reply → OnlyReads old new → AreInStep old a h → IsAnswered Q ending → Takes h item ending old new a
+takes_question Q h item (Replied reply) old new a step any same in_step is =
+    record { outcome = record { reply = reply; next = world_of h }; step = step reply is; leads = reads_lead h old new a in_step same; ends = (refl, reads_keep h old new a in_step same) }
+takes_question Q h item Starved old new a step (reply, is) same in_step none =
+    record { outcome = record { reply = reply; next = world_of h }; step = step reply is; leads = reads_lead h old new a in_step same; ends = in_step_stands new a h (reads_keep h old new a in_step same) }
+takes_question Q h item Faulted old new a step (reply, is) same in_step none =
+    record { outcome = record { reply = reply; next = world_of h }; step = step reply is; leads = reads_lead h old new a in_step same; ends = tt }
+takes_question Q h item (Spoiled damage) old new a step any same in_step none = absurd none
 
--- a query that was not answered
-pub takes_unanswered : (h : History) (item : Item) (text : List ℕ) (error : AskError) (old new : DiskState) (a : ArchiveState)
-    → ((why : Refusal) → error ≡ asks.Refused why → IsNoQuery text why) → ((damage : Damage) → error ≡ asks.Damaged damage → ⊥)
-    → ((place : ℕ) → IsRead key_of text (Err place) → Step (world_of h) item (Refused (refusals.BadQuery place)) (world_of h)) → (reply : Reply) × Step (world_of h) item reply (world_of h)
-    → OnlyReads old new → AreInStep old a h → Takes h item (unanswered error) old new a
-takes_unanswered h item text (asks.Refused why) old new a refused undamaged no_query any same in_step =
-    let (place, read, is) = refused why refl in
-    takes_question h item (Refused (refusals.BadQuery place)) (Replied (Refused why)) old new a (no_query place read) same in_step (sym (ap Refused is))
-takes_unanswered h item text (asks.Damaged damage) old new a refused undamaged no_query any same in_step = absurd (undamaged damage refl)
-takes_unanswered h item text asks.Failed old new a refused undamaged no_query any same in_step = takes_question h item any.0 Faulted old new a any.1 same in_step tt
-takes_unanswered h item text asks.Memory old new a refused undamaged no_query any same in_step = takes_question h item any.0 Starved old new a any.1 same in_step tt
-
--- a query that was asked
-pub takes_find : (h : History) (at : Time) (text : List ℕ) (r : Result Answer AskError) (old new : DiskState) (a : ArchiveState)
-    → ((why : Refusal) → r ≡ Err (asks.Refused why) → IsNoQuery text why)
-    → ((damage : Damage) → r ≡ Err (asks.Damaged damage) → ⊥) → IfOk r (λ answer. Finds h at text (Found answer.rows.items answer.read))
-    → OnlyReads old new → AreInStep old a h → Takes h (items.Command (commands.Find at text)) (found r) old new a
-takes_find h at text (Ok answer) old new a refused undamaged finds same in_step =
-    takes_question h (items.Command (commands.Find at text)) (Found answer.rows.items answer.read) (found (Ok answer)) old new a (refl, finds) same in_step refl
-takes_find h at text (Err error) old new a refused undamaged finds same in_step =
-    let any = each_finds h at text in_step.legal in
-    takes_unanswered h (items.Command (commands.Find at text)) text error old new a (λ why is. refused why (ap Err is)) (λ damage is. undamaged damage (ap Err is))
-    (λ place read. (refl, (Err place, read, refl))) (any.0, (refl, any.1)) same in_step
-
--- a query that was asked over a window
-pub takes_between : (h : History) (span : Span) (text : List ℕ) (r : Result SpanAnswer AskError) (old new : DiskState) (a : ArchiveState)
-    → ((why : Refusal) → r ≡ Err (asks.Refused why) → IsNoQuery text why)
-    → ((damage : Damage) → r ≡ Err (asks.Damaged damage) → ⊥) → IfOk r (λ answer. Spans h span text (Spanned answer.rows.items answer.read))
-    → OnlyReads old new → AreInStep old a h → Takes h (items.Command (commands.Between span text)) (spanned r) old new a
-takes_between h span text (Ok answer) old new a refused undamaged spans same in_step =
-    takes_question h (items.Command (commands.Between span text)) (Spanned answer.rows.items answer.read) (spanned (Ok answer)) old new a (refl, spans) same in_step refl
-takes_between h span text (Err error) old new a refused undamaged spans same in_step =
-    let any = each_spans h span text in_step.legal in
-    takes_unanswered h (items.Command (commands.Between span text)) text error old new a (λ why is. refused why (ap Err is)) (λ damage is. undamaged damage (ap Err is))
-    (λ place read. (refl, (Err place, read, refl))) (any.0, (refl, any.1)) same in_step
+-- a question that needs no disk
+pub takes_proposal : (Q : Reply → Type 0) (h : History) (item : Item) (r : Result Proposal Declined) (d : DiskState) (a : ArchiveState)
+    → ((reply : Reply) → Q reply → Step (world_of h) item reply (world_of h)) → (reply : Reply) × Q reply → AreInStep d a h
+    → ((why : Refusal) → r ≡ Err (declines.Refused why) → Q (Refused why)) → IfOk r (λ p. Q (Proposed p.segments.items p.nodes.items p.space)) → Takes h item (proposed r) d d a
+takes_proposal Q h item (Ok p) d a step any in_step refused told = takes_question Q h item (proposed (Ok p)) d d a step any refl in_step told
+takes_proposal Q h item (Err (declines.Refused why)) d a step any in_step refused told = takes_question Q h item (Replied (Refused why)) d d a step any refl in_step (refused why refl)
+takes_proposal Q h item (Err declines.Memory) d a step any in_step refused told = takes_question Q h item Starved d d a step any refl in_step tt
 
 -- a version that was asked for
 pub takes_show : {T : Type 0} (bytes : T → List ℕ) (h : History) (doc : DocId) (at : Time) (r : Result (Option T) ReadError) (old new : DiskState) (a : ArchiveState)
     → IfOk r (λ text. option_map bytes text ≡ text_at h doc at.seconds) → OnlyReads old new → AreInStep old a h → Takes h (items.Command (commands.Show doc at)) (version_shown bytes r) old new a
-takes_show bytes h doc at (Ok text) old new a is same in_step =
-    takes_question h (items.Command (commands.Show doc at)) (Version (text_at h doc at.seconds)) (version_shown bytes (Ok text)) old new a (refl, refl) same in_step (ap Version (sym is))
-takes_show bytes h doc at (Err reads.Failed) old new a is same in_step =
-    takes_question h (items.Command (commands.Show doc at)) (Version (text_at h doc at.seconds)) Faulted old new a (refl, refl) same in_step tt
-takes_show bytes h doc at (Err reads.Memory) old new a is same in_step =
-    takes_question h (items.Command (commands.Show doc at)) (Version (text_at h doc at.seconds)) Starved old new a (refl, refl) same in_step tt
+takes_show {T} bytes h doc at r old new a is same in_step =
+    let text = text_at h doc at.seconds in
+    takes_question (λ reply. reply ≡ Version text) h (items.Command (commands.Show doc at)) (version_shown bytes r) old new a (λ reply shown. (refl, shown)) (Version text, refl) same in_step (go r is)
+  where
+    go : (r : Result (Option T) ReadError) → IfOk r (λ text. option_map bytes text ≡ text_at h doc at.seconds) → IsAnswered (λ reply. reply ≡ Version (text_at h doc at.seconds)) (version_shown bytes r)
+    go (Ok text) is = ap Version is
+    go (Err reads.Failed) is = tt
+    go (Err reads.Memory) is = tt
 
--- pages that hold the live plans spoil no answer
-undamaged : (h : History) (pages : List ℕ) (a b : ℕ) (text : List ℕ) (d : Damage) → IsLoadable h → HoldsPlans h pages → SpoilsAnswer h pages a b text d → ⊥
-undamaged h pages a b text d loads held spoils = held_undamaged h pages spoils.first.word a b d loads held spoils.first.damaged
+-- a check of an archive that is in step with its disk
+pub takes_verify : (h : History) (r : Result Verdict VerifyError) (old new : DiskState) (a : ArchiveState) → MayLeave old.now old.holds → IfOk r (IsChecked h old.holds)
+    → OnlyReads old new → AreInStep old a h → Takes h (items.Command commands.Verify) (verified r) old new a
+takes_verify h r old new a allowed checked same in_step =
+    takes_question (λ reply. reply ≡ Verified (sound_of h)) h (items.Command commands.Verify) (verified r) old new a (λ reply is. (refl, is)) (Verified (sound_of h), refl) same in_step (go r checked)
+  where
+    go : (r : Result Verdict VerifyError) → IfOk r (IsChecked h old.holds) → IsAnswered (λ reply. reply ≡ Verified (sound_of h)) (verified r)
+    go (Ok verdict) checked = ap Verified (stands_sound h old.holds verdict (in_step_stands old a h in_step old.holds allowed) checked)
+    go (Err checks.Failed) checked = tt
+    go (Err checks.Memory) checked = tt
 
--- an answer that was made from the lists chosen, in pages that hold the live plans
-pub finds_made : (h : History) (pages : List ℕ) (at : Time) (text : List ℕ) (B : Answer → Query → Type 0) (r : Result Answer AskError) → IsLoadable h → HoldsPlans h pages
-    → IfOk r (λ answer. (query : Query) × IsRead key_of text (Ok query) × IsMadeAt h pages at.seconds query answer.rows.items answer.read × B answer query)
-    → IfOk r (λ answer. Finds h at text (Found answer.rows.items answer.read))
-finds_made h pages at text B (Ok answer) loads held (query, read, made, rest) =
-    let stands = made_at h pages at.seconds query answer.rows.items answer.read loads held at.before_now made in
-    (Ok query, read, (answer.rows.items, answer.read, stands.0, stands.1, refl))
-finds_made h pages at text B (Err e) loads held made = made
+-- a query that has no answer: pages that hold the live plans spoil none
+unanswered_by : (By : Query → Reply → Type 0) (h : History) (pages : List ℕ) (a b : ℕ) (text : List ℕ) (error : AskError) → IsLoadable h → HoldsPlans h pages
+    → ((why : Refusal) → error ≡ asks.Refused why → IsNoQuery text why) → ((d : Damage) → error ≡ asks.Damaged d → SpoilsAnswer h pages a b text d) → IsAnswered (IsReplied By text) (unanswered error)
+unanswered_by By h pages a b text (asks.Refused why) loads held refused damaged = let (place, read, is) = refused why refl in (Err place, read, ap Refused is)
+unanswered_by By h pages a b text (asks.Damaged d) loads held refused damaged = let spoils = damaged d refl in held_undamaged h pages spoils.first.word a b d loads held spoils.first.damaged
+unanswered_by By h pages a b text asks.Failed loads held refused damaged = tt
+unanswered_by By h pages a b text asks.Memory loads held refused damaged = tt
 
-pub spans_made : (h : History) (pages : List ℕ) (span : Span) (text : List ℕ) (B : SpanAnswer → Query → Type 0) (r : Result SpanAnswer AskError) → IsLoadable h → HoldsPlans h pages
-    → IfOk r (λ answer. (query : Query) × IsRead key_of text (Ok query) × IsMadeOver h pages span.from span.to query answer.rows.items answer.read × B answer query)
-    → IfOk r (λ answer. Spans h span text (Spanned answer.rows.items answer.read))
-spans_made h pages span text B (Ok answer) loads held (query, read, made, rest) =
-    let stands = made_over h pages span.from span.to query answer.rows.items answer.read loads held span.in_time made in
-    (Ok query, read, (answer.rows.items, answer.read, stands.0, stands.1, refl))
-spans_made h pages span text B (Err e) loads held made = made
+-- a query, with the cache that it leaves
+takes_query : {T tells : Type 0} (Q : Reply → Type 0) (h : History) (item : Item) (ending : Ending) (text : List ℕ) (r : Result T AskError) (old new : DiskState) (a b : ArchiveState)
+    → ((reply : Reply) → Q reply → Step (world_of h) item reply (world_of h)) → (reply : Reply) × Q reply → tells → AfterQuestion tells text r old new a b → AreInStep old a h → IsAnswered Q ending
+    → Takes h item ending old new b
+takes_query Q h item ending text r old new a b step any told after in_step answered =
+    takes_but_cache h item ending old new a b after.but_cache (after.cached told in_step.cached) (takes_question Q h item ending old new a step any after.same in_step answered)
 
--- so a query is a step, with the cache that it leaves
+-- at a time: its answer was made from the lists chosen
 pub find_takes : {tells : Type 0} (h : History) (at : Time) (text : List ℕ) (r : Result Answer AskError) (old new : DiskState) (a b : ArchiveState) → tells → MayLeave old.now old.holds → AfterQuestion tells text r old new a b
     → IfOk r (λ answer. AnswersAt h at.seconds text a.shelf.cache b.shelf.cache old new answer.rows.items answer.read)
     → ((d : Damage) → r ≡ Err (asks.Damaged d) → SpoilsAnswer h old.holds.pages at.seconds (at.seconds + 1) text d) → AreInStep old a h → Takes h (items.Command (commands.Find at text)) (found r) old new b
-find_takes h at text r old new a b told allowed after made damaged in_step =
-    let held = in_step.held old.holds allowed in
-    takes_but_cache h (items.Command (commands.Find at text)) (found r) old new a b after.but_cache (after.cached told in_step.cached)
-    (takes_find h at text r old new a after.refused (λ d is. undamaged h old.holds.pages _ _ text d in_step.stands.loadable held (damaged d is)) (finds_made h old.holds.pages at text _ r in_step.stands.loadable held made) after.same in_step)
+find_takes h at text (Ok answer) old new a b told allowed after (query, read, made, rest) damaged in_step =
+    let stands = made_at h old.holds.pages at.seconds query answer.rows.items answer.read in_step.stands.loadable (in_step.held old.holds allowed) at.before_now made in
+    takes_query (Finds h at text) h (items.Command (commands.Find at text)) (found (Ok answer)) text (Ok answer) old new a b (λ reply is. (refl, is)) (each_finds h at text in_step.legal) told after in_step
+    (Ok query, read, (answer.rows.items, answer.read, stands.0, stands.1, refl))
+find_takes h at text (Err error) old new a b told allowed after made damaged in_step =
+    takes_query (Finds h at text) h (items.Command (commands.Find at text)) (unanswered error) text (Err error) old new a b (λ reply is. (refl, is)) (each_finds h at text in_step.legal) told after in_step
+    (unanswered_by (FindsBy h at) h old.holds.pages _ _ text error in_step.stands.loadable (in_step.held old.holds allowed) (λ why is. after.refused why (ap Err is)) (λ d is. damaged d (ap Err is)))
 
+-- and over a window
 pub between_takes : {tells : Type 0} (h : History) (span : Span) (text : List ℕ) (r : Result SpanAnswer AskError) (old new : DiskState) (a b : ArchiveState) → tells → MayLeave old.now old.holds → AfterQuestion tells text r old new a b
     → IfOk r (λ answer. AnswersOver h span.from span.to text a.shelf.cache b.shelf.cache old new answer.rows.items answer.read)
     → ((d : Damage) → r ≡ Err (asks.Damaged d) → SpoilsAnswer h old.holds.pages span.from span.to text d) → AreInStep old a h → Takes h (items.Command (commands.Between span text)) (spanned r) old new b
-between_takes h span text r old new a b told allowed after made damaged in_step =
-    let held = in_step.held old.holds allowed in
-    takes_but_cache h (items.Command (commands.Between span text)) (spanned r) old new a b after.but_cache (after.cached told in_step.cached)
-    (takes_between h span text r old new a after.refused (λ d is. undamaged h old.holds.pages _ _ text d in_step.stands.loadable held (damaged d is)) (spans_made h old.holds.pages span text _ r in_step.stands.loadable held made) after.same in_step)
+between_takes h span text (Ok answer) old new a b told allowed after (query, read, made, rest) damaged in_step =
+    let stands = made_over h old.holds.pages span.from span.to query answer.rows.items answer.read in_step.stands.loadable (in_step.held old.holds allowed) span.in_time made in
+    takes_query (Spans h span text) h (items.Command (commands.Between span text)) (spanned (Ok answer)) text (Ok answer) old new a b (λ reply is. (refl, is)) (each_spans h span text in_step.legal) told after in_step
+    (Ok query, read, (answer.rows.items, answer.read, stands.0, stands.1, refl))
+between_takes h span text (Err error) old new a b told allowed after made damaged in_step =
+    takes_query (Spans h span text) h (items.Command (commands.Between span text)) (unanswered error) text (Err error) old new a b (λ reply is. (refl, is)) (each_spans h span text in_step.legal) told after in_step
+    (unanswered_by (SpansBy h span) h old.holds.pages _ _ text error in_step.stands.loadable (in_step.held old.holds allowed) (λ why is. after.refused why (ap Err is)) (λ d is. damaged d (ap Err is)))
 
 -- ---- what an archive stands for begins with what it stood for
 
-abbrev pub GoesOn : {T : Type 0} → History → Result T ChangeError → ArchiveState → Type 0
-GoesOn h r b = IsOk r ⊎ ((why : Refusal) × (r ≡ Err (changes.Refused why))) → (more : History) × StandsFor b (h ++ more)
-
-stays_on : (h : History) (b : ArchiveState) → StandsFor b h → (more : History) × StandsFor b (h ++ more)
-stays_on h b stands = let S : History → Type 0 = λ x. StandsFor b x in ([], subst S (sym (append-nil h)) stands)
-
-pub adds_follow : (h : History) (e : Entry) (refusal : Option Refusal) (r : Result ℕ ChangeError) (a b : ArchiveState) (D : Type 0) → StandsFor a h → Adds h e refusal r b
-    → ((why : Refusal) → r ≡ Err (changes.Refused why) → (b ≡ a) × D) → GoesOn h r b
-adds_follow h e refusal (Ok n) a b D stands adds same is = (e ∷ [], adds.stands.0)
-adds_follow h e refusal (Err (changes.Refused why)) a b D stands adds same is =
-    let S : ArchiveState → Type 0 = λ x. StandsFor x h in stays_on h b (subst S (sym (same why refl).0) stands)
-adds_follow h e refusal (Err changes.Failed) a b D stands adds same (inl ok) = absurd cc
-adds_follow h e refusal (Err changes.Failed) a b D stands adds same (inr (why, is)) = absurd cc
-adds_follow h e refusal (Err changes.Memory) a b D stands adds same (inl ok) = absurd cc
-adds_follow h e refusal (Err changes.Memory) a b D stands adds same (inr (why, is)) = absurd cc
-
--- a plan that was stored or refused
-pub plan_follows : {T : Type 0} (h : History) (r : Result T ChangeError) (b : ArchiveState) → (IsOk r → (more : History) × StandsFor b (h ++ more))
-    → ((why : Refusal) → r ≡ Err (changes.Refused why) → StandsFor b h) → GoesOn h r b
-plan_follows h r b stores refused (inl ok) = stores ok
-plan_follows h r b stores refused (inr (why, is)) = stays_on h b (refused why is)
-
--- as a plan's call tells it
-pub stored_follows : (h : History) (r : Result PlanReport ChangeError) (b : ArchiveState) (P : PlanReport → PlanEntry → Type 0) (Q : PlanReport → Type 0)
-    → IfOk r (λ report. (plan : PlanEntry) × (P report plan × Q report × StandsFor b (h ++ entries.Planned plan ∷ []))) → IsOk r → (more : History) × StandsFor b (h ++ more)
-stored_follows h (Ok report) b P Q (plan, (stored, told, stands)) ok = (entries.Planned plan ∷ [], stands)
-stored_follows h (Err e) b P Q stores ok = absurd cc
+pub follows_on : {T : Type 0} (h : History) (r : Result T ChangeError) (b : ArchiveState) → IfOk r (λ x. (more : History) × StandsFor b (h ++ more))
+    → ((why : Refusal) → r ≡ Err (changes.Refused why) → StandsFor b h) → IsDone r → (more : History) × StandsFor b (h ++ more)
+follows_on h (Ok x) b made refused is = made
+follows_on h (Err error) b made refused (inl ok) = absurd cc
+follows_on h (Err error) b made refused (inr (why, is)) = ([], rw append-nil (refused why is))

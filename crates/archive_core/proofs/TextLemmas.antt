@@ -1,5 +1,5 @@
 -- Texts by their places: what a place of an archive in hand holds, and that it lies in front of the journal's end.
-use Rattle.std.proofs.Common.{◌≡◌, ℕ, ◌+◌, ◌≤◌, List, [], ◌∷◌, length, map, sum_by, All, Option, Some, None, inr, ap, subst, sym, ◌∙◌, arith}
+use Rattle.std.proofs.Common.{◌≡◌, ℕ, ◌+◌, ◌≤◌, List, [], ◌∷◌, length, map, sum_by, All, Option, Some, None, ap, subst, sym, ◌∙◌, arith}
 use Rattle.std.specs.Option.{option_map}
 use Rattle.std.proofs.lemmas.List.Elements.{All-nil, All-cons, All-head, All-tail, All-append}
 use Rattle.std.proofs.lemmas.List.Sums.{sum_by-cons}
@@ -7,7 +7,6 @@ use Rattle.machine_model.specs.States.{DiskState}
 use Rattle.machine_model.specs.Images.{MayLeave}
 use Rattle.time_base.specs.declared.ids.DocId.{DocId}
 use Rattle.time_base.specs.declared.text_place.TextPlace.{TextPlace}
-use Rattle.gate_journal.specs.Spelled.{Spells}
 use Rattle.version_store.specs.declared.change.Change.{Change}
 use Rattle.version_store.specs.Changes.{mapped, held_at}
 use Rattle.version_store.proofs.Mapped.{held_at-mapped}
@@ -21,19 +20,14 @@ use Rattle.archive_core.specs.States.{ArchiveState, StandsFor, AreInStep}
 use Rattle.archive_replay.specs.Places.{pair_of, placed_by, places}
 use Rattle.archive_replay.specs.Texts.{text_in, LiesIn}
 use Rattle.archive_replay.proofs.PlaceLemmas.{texts_are}
-
--- what reads give spells the bodies of the history that is in step with them
-pub in_step_spelled : (d : DiskState) (a : ArchiveState) (h : History) → MayLeave d.now d.holds → AreInStep d a h → Spells d.holds.journal (bodies_of h)
-in_step_spelled d a h allowed in_step =
-    let is = in_step.journal.images d.holds allowed in
-    inr (record { gate = in_step.journal.gate; rest = is.0; shut = in_step.journal.shut; fit = in_step.journal.fit; whole = is.1 })
+use Rattle.archive_core.proofs.AddLemmas.{step_spells}
 
 -- the text of a document that is alive at a time, by its place
 pub text_is : (d : DiskState) (a : ArchiveState) (h : History) (doc : DocId) (t : ℕ) → MayLeave d.now d.holds → AreInStep d a h
     → option_map (text_in d.holds.journal) (held_at doc t a.changes) ≡ text_at h doc t
 text_is d a h doc t allowed in_step =
     sym (held_at-mapped (text_in d.holds.journal) doc t a.changes)
-    ∙ ap (held_at doc t) (texts_are d.holds.journal h a.changes (in_step_spelled d a h allowed in_step) in_step.stands.changes_are)
+    ∙ ap (held_at doc t) (texts_are d.holds.journal h a.changes (step_spells d a.end (bodies_of h) in_step.journal d.holds allowed) in_step.stands.changes_are)
 
 -- each place lies in front of the end
 abbrev LiesBy : ℕ → Option (ℕ × ℕ) → Type 0
@@ -65,8 +59,7 @@ places_lie end gate (e ∷ h) within =
 
 pub all_lie : (a : ArchiveState) (h : History) → StandsFor a h → All (λ c. LiesIn a.end c.held) a.changes
 all_lie a h stands =
-    let P : List (Change (ℕ × ℕ)) → Type 0 = λ cs. All (λ c. LiesBy a.end c.held) cs in
-    pairs_lie a.end a.changes (subst P (sym stands.changes_are) (places_lie a.end 16 h (omega (arith, stands.end_is))))
+    pairs_lie a.end a.changes (subst (λ (cs : List (Change (ℕ × ℕ))). All (λ c. LiesBy a.end c.held) cs) (sym stands.changes_are) (places_lie a.end 16 h (omega (arith, stands.end_is))))
 
 -- a place that is found lies in front of the end
 pub found_lies : (a : ArchiveState) (h : History) (doc : DocId) (t : ℕ) (place : TextPlace) → StandsFor a h → held_at doc t a.changes ≡ Some place → place.at + place.bytes ≤ a.end

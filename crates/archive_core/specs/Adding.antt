@@ -52,6 +52,6 @@ pub record Adds (history : History) (entry : Entry) (refusal : Option Refusal) (
   pub stands : IfOk result (λ n. StandsFor new (history ++ entry ∷ []) × (n ≡ length history + 1))
 
 -- what comes of a change, or a plan, that was declined: it is refused, or the archive is spent
-abbrev pub GivesUp : {T : Type 0} → Declined → Result T ChangeError → ArchiveState → ArchiveState → Type 0
-GivesUp (declines.Refused why) result old new = (result ≡ Err (changes.Refused why)) × (new ≡ old)
-GivesUp declines.Memory result old new = (result ≡ Err changes.Memory) × (new ≡ record old { live = false })
+abbrev pub GivesUp : Declined → ChangeError → ArchiveState → ArchiveState → Type 0
+GivesUp (declines.Refused why) error old new = (error ≡ changes.Refused why) × (new ≡ old)
+GivesUp declines.Memory error old new = (error ≡ changes.Memory) × (new ≡ record old { live = false })

@@ -84,12 +84,7 @@ impl Archive {
     ) -> Archive
         requires few { entries + 17 ≤ journal.end }
         requires stands { (h : History) × StandsFor (record { end = journal.end; live = journal.live; length = entries; changes = directory.changes; index = state_of index; shelf = shelf }) h }
-        ensures end { result.end ≡ journal.end }
-        ensures live { result.live ≡ journal.live }
-        ensures length { result.length ≡ entries }
-        ensures changes { result.changes ≡ directory.changes }
-        ensures index { result.index ≡ state_of index }
-        ensures shelf { result.shelf ≡ shelf }
+        ensures { result ≡ record { end = journal.end; live = journal.live; length = entries; changes = directory.changes; index = state_of index; shelf = shelf } }
     {
         let live = journal.is_live();
         Archive {
@@ -200,7 +195,7 @@ impl Archive {
         ensures takes { D.disk_tells → (h : History) → AreInStep (D.disk disk.old) self.old h → Takes h (items.Command (commands.Arrive doc at (texts.Bytes text.now))) (changed result) (D.disk disk.old) (D.disk disk.new) self.new }
         ensures pages { D.disk_tells → KeepsPages (D.disk disk.old) (D.disk disk.new) }
     {
-        let prepared = prepare_arrival(alloc, &self.directory, &mut self.index, doc, at, text);
+        let prepared = self.arrival(alloc, doc, at, text);
         self.add(alloc, disk, prepared)
     }
 
@@ -234,7 +229,7 @@ impl Archive {
         ensures takes { D.disk_tells → (h : History) → AreInStep (D.disk disk.old) self.old h → Takes h (items.Command (commands.Delete doc at)) (changed result) (D.disk disk.old) (D.disk disk.new) self.new }
         ensures pages { D.disk_tells → KeepsPages (D.disk disk.old) (D.disk disk.new) }
     {
-        let prepared = prepare_deletion(alloc, &self.directory, &mut self.index, doc, at);
+        let prepared = self.deletion(alloc, doc, at);
         self.add(alloc, disk, prepared)
     }
 
@@ -273,7 +268,7 @@ impl Archive {
     {
         match self.draft(alloc, word, kind, factor) {
             Ok(draft) => self.store(alloc, disk, draft),
-            Err(declined) => self.give_up(declined),
+            Err(declined) => Err(self.give_up(declined)),
         }
     }
 
@@ -310,7 +305,7 @@ impl Archive {
             draft,
         ) {
             Ok(ready) => ready,
-            Err(why) => return self.give_up(why),
+            Err(why) => return Err(self.give_up(why)),
         };
         self.live = false;
         match write_ready(disk, &mut self.journal, &mut self.shelf, ready) {
@@ -321,6 +316,32 @@ impl Archive {
             }
             Err(_) => Err(ChangeError::Failed),
         }
+    }
+
+    // An arrival that may come next, or why it may not. Nothing is changed.
+    fn arrival(
+        &mut self,
+        alloc: Global,
+        doc: DocId,
+        at: Time,
+        text: &[u8],
+    ) -> Result<Prepared, Declined>
+        ensures same { self.new ≡ self.old }
+        ensures fits { IfOk result (λ p. length p.body.items < 2 ^ 32) }
+        ensures allowed { IfOk result (λ p. change_refusal p.change self.old.changes ≡ None) }
+        ensures prepared { (h : History) → StandsFor self.old h → IsPrepared h self.old.index (entries.Arrive doc at text.now) (arrival_refusal h doc at text.now) result }
+    {
+        prepare_arrival(alloc, &self.directory, &mut self.index, doc, at, text)
+    }
+
+    // A deletion that may come next, or why it may not. Nothing is changed.
+    fn deletion(&mut self, alloc: Global, doc: DocId, at: Time) -> Result<Prepared, Declined>
+        ensures same { self.new ≡ self.old }
+        ensures fits { IfOk result (λ p. length p.body.items < 2 ^ 32) }
+        ensures allowed { IfOk result (λ p. change_refusal p.change self.old.changes ≡ None) }
+        ensures prepared { (h : History) → StandsFor self.old h → IsPrepared h self.old.index (entries.Delete doc at) (deletion_refusal h doc at) result }
+    {
+        prepare_deletion(alloc, &self.directory, &mut self.index, doc, at)
     }
 
     // Adds what was prepared, or hands on why it was not.
@@ -344,19 +365,19 @@ impl Archive {
     {
         match prepared {
             Ok(prepared) => self.commit(alloc, disk, prepared),
-            Err(why) => self.give_up(why),
+            Err(why) => Err(self.give_up(why)),
         }
     }
 
     // A change, or a plan, that was declined: it is refused, or there was no memory for it.
-    fn give_up<T>(&mut self, why: Declined) -> Result<T, ChangeError>
+    fn give_up(&mut self, why: Declined) -> ChangeError
         ensures { GivesUp why result self.old self.new }
     {
         match why {
-            Declined::Refused(why) => Err(ChangeError::Refused(why)),
+            Declined::Refused(why) => ChangeError::Refused(why),
             Declined::Memory => {
                 self.live = false;
-                Err(ChangeError::Memory)
+                ChangeError::Memory
             }
         }
     }

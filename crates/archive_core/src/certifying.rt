@@ -13,7 +13,7 @@ ghost use Rattle.commands.specs.declared.command.Item.TheVariants as items;
 
 use crate::archive::Archive;
 use crate::planning::planned;
-use archive_replay::{Declined, MANY_POSTINGS, list_up_to};
+use archive_replay::{Declined, MANY_POSTINGS};
 use archive_state::Refusal;
 use commands::{Kind, Phrase};
 use elementary::Table;
@@ -51,7 +51,7 @@ impl Archive {
         let Some(key) = one_term(alloc, word.as_str())? else {
             return Err(Declined::Refused(Refusal::NotOneTerm));
         };
-        if !self.index().knows(&key) {
+        if !self.knows(&key) {
             return Err(Declined::Refused(Refusal::UnknownWord));
         }
         self.certificate_of_word(alloc, &key)
@@ -81,8 +81,7 @@ impl Archive {
         requires kind { plan.now.kind ≡ Kind.Guarantee }
         ensures { (h : History) → StandsFor self.now h → IsLegal h → IfOk result (λ p. CertifiesPlan h plan.now Kind.Guarantee (Proposed p.segments.items p.nodes.items p.space)) }
     {
-        let whole = self.index().list(alloc, &plan.word)?;
-        let list = list_up_to(alloc, &whole, plan.horizon)?;
+        let list = self.list_until(alloc, &plan.word, plan.horizon)?;
         if list.is_empty() || list.len() >= MANY_POSTINGS {
             return Err(AllocError);
         }

@@ -1,5 +1,5 @@
 //! What is planned for a word.
-ghost use Rattle.std.specs.Prelude.{◌≡◌, ◌<◌, ◌≤◌, ◌^◌, ℕ, List, length, drop, slice_index, All, IfOk, IsErrOf, Some};
+ghost use Rattle.std.specs.Prelude.{◌≡◌, ◌↔◌, ◌<◌, ◌≤◌, ◌^◌, ℕ, List, length, drop, slice_index, All, IfOk, IsErrOf, IsTrue, Some};
 ghost use Rattle.time_base.specs.declared.posting.Posting.{Posting as PlainPosting};
 ghost use Rattle.elementary.specs.Counts.{Tabulates};
 ghost use Rattle.elementary.specs.Partitions.{IsFitting, IsLeast, AreBest, widest};
@@ -26,7 +26,7 @@ use fold_tokens::one_term;
 use guarantee_planner::{PlanError, plan};
 use plan_certificate::Certificate;
 use proposals::Proposal;
-use std::alloc::Global;
+use std::alloc::{AllocError, Global};
 use time_base::{Fraction, Key, Posting, Time};
 
 /// A word with its list up to the last time.
@@ -107,14 +107,13 @@ impl Archive {
         ensures few { IfOk result (λ s. length s.list.items < 2 ^ 38) }
         ensures early { IfOk result (λ s. All (λ p. p.span.to ≤ s.horizon.seconds) s.list.items) }
     {
-        if !self.index().knows(&key) {
+        if !self.knows(&key) {
             return Err(Declined::Refused(Refusal::UnknownWord));
         }
         let Some(horizon) = self.directory().last() else {
             return Err(Declined::Refused(Refusal::NothingSealed));
         };
-        let whole = self.index().list(alloc, &key)?;
-        let list = list_up_to(alloc, &whole, horizon)?;
+        let list = self.list_until(alloc, &key, horizon)?;
         if list.is_empty() {
             return Err(Declined::Refused(Refusal::NothingSealed));
         }
@@ -126,6 +125,28 @@ impl Archive {
             list,
             horizon,
         })
+    }
+
+    /// Whether some text has a word.
+    pub(crate) fn knows(&self, word: &Key) -> bool
+        ensures { (h : History) → StandsFor self.now h → IsTrue result ↔ IsKnown h word.now }
+    {
+        self.index().knows(word)
+    }
+
+    /// The list of a word up to a time.
+    pub(crate) fn list_until(
+        &self,
+        alloc: Global,
+        word: &Key,
+        horizon: Time,
+    ) -> Result<Vec<Posting>, AllocError>
+        ensures list { (h : History) → StandsFor self.now h → IfOk result (λ l. IsListUpTo h word.now horizon.seconds l.items) }
+        ensures early { IfOk result (λ l. All (λ p. p.span.to ≤ horizon.seconds) l.items) }
+    {
+        let whole = self.index().list(alloc, word)?;
+        let list = list_up_to(alloc, &whole, horizon)?;
+        Ok(list)
     }
 }
 

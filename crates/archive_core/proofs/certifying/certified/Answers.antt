@@ -2,7 +2,7 @@ use Rattle.std.proofs.Common.{◌≡◌, ℕ, List, length, map, Option, IfSome,
 use Rattle.std.specs.List.Sorted.{IsStrictlyIncreasing}
 use Rattle.time_base.specs.declared.time.Time.{Time}
 use Rattle.proposals.specs.Proposals.{AreNodes}
-use Rattle.archive_core.proofs.CertifyLemmas.{few_fit, is_certificate}
+use Rattle.archive_core.proofs.PlanLemmas.{certified_by, few_fit}
 use Rattle.archive_core.proofs.certifying.certified.Goals as goal
 
 pub of-requires-clause-few : goal.of-requires-clause-few
@@ -22,9 +22,10 @@ returns c = λ least.
     let t = c.in_ok-table.ensures in
     let whole : List ℕ = map (λ (t : Time). t.seconds) (c.as_slice.result.now ++ c.args.plan.now.horizon ∷ []) in
     let same : c.in-Some.partition ≡ whole = subst (λ (o : Option (List ℕ)). IfSome o (λ p. p ≡ whole)) c.in-Some.is c.in_ok-partition.ensures.value in
-    is_certificate c.args.list.now c.args.plan.now c.in_ok-table.table c.in-Some.partition c.in-Ok.certificate c.in_ok-proposal.proposal
+    let (proposal, stored) = certified_by c.args.list.now c.args.plan.now.fraction c.args.plan.now.cuts c.args.plan.now.horizon c.in_ok-table.table c.in-Some.partition c.in-Ok.certificate c.in_ok-proposal.proposal
     (same ∙ ap (λ (cuts : List Time). map (λ (t : Time). t.seconds) (cuts ++ c.args.plan.now.horizon ∷ [])) c.as_slice.ensures)
     (c.in-Ok.ensures.best c.args.list.now c.args.plan.now.horizon.seconds t)
     (c.in_ok-proposal.ensures.segments c.args.list.now c.args.plan.now.horizon.seconds t)
     (subst (λ (ns : List ℕ). AreNodes c.in_ok-table.table.boundaries ns c.in_ok-proposal.proposal.nodes.items) c.pi.ensures c.in_ok-proposal.ensures.nodes)
-    (c.in_ok-proposal.ensures.space c.args.list.now c.args.plan.now.horizon.seconds t) least
+    (c.in_ok-proposal.ensures.space c.args.list.now c.args.plan.now.horizon.seconds t) least in
+    record { proposal = proposal; stored = stored }

@@ -1,16 +1,18 @@
-use Rattle.std.proofs.Common.{◌∙◌, length, ap, refl, sym, subst}
+use Rattle.std.proofs.Common.{ℕ, List, length, arith, sym, subst, subst₂}
 use Rattle.std.proofs.lemmas.Result.{err_from_is_err_and}
-use Rattle.page_store.specs.Taken.{HasTaken}
+use Rattle.page_store.specs.Live.{AreLive}
 use Rattle.gate_journal.specs.Spelled.{Spells}
 use Rattle.gate_journal.proofs.LoadLemmas.{exit_is}
+use Rattle.archive_state.specs.declared.stored.StoredPlan.{StoredPlan}
 use Rattle.archive_state.specs.Histories.{History}
+use Rattle.archive_state.specs.Histories as histories
+use Rattle.archive_state.proofs.HistoryLemmas.{end_of-least}
 use Rattle.archive_state.proofs.StandsLemmas.{loaded_is_archive}
 use Rattle.version_index.specs.Indexes.{state_of, Indexes}
-use Rattle.archive_state.specs.Histories as histories
-use Rattle.plan_shelf.specs.Shelves.{ShelfState, extents_all}
+use Rattle.plan_shelf.specs.Shelves.{extents_all}
 use Rattle.archive_core.specs.States.{StandsFor}
 use Rattle.archive_replay.specs.Replaying.{IsReplayed}
-use Rattle.archive_core.proofs.LoadLemmas.{IsMadeOf, few_heads, stands_replayed, bad_archive, bad_shelf, pages_long, all_live}
+use Rattle.archive_core.proofs.AddLemmas.{stands_replayed, bad_archive, bad_shelf, pages_long}
 use Rattle.archive_core.proofs.loading.archive_of.Given.{Over}
 use Rattle.archive_core.proofs.loading.archive_of.Goals as goal
 
@@ -35,35 +37,20 @@ pub of-requires-2-clause-few : goal.of-requires-2-clause-few
 of-requires-2-clause-few g c =
     let all = c.in_ok-replayed.ensures.stands in
     let counted = c.in_ok-replayed.ensures.counted all.0 all.1 in
-    few_heads all.0 (length c.args.heads.now) c.args.journal.end counted.0 counted.1
+    omega (arith, end_of-least all.0, counted.0, counted.1)
 
 pub of-requires-2-clause-stands : goal.of-requires-2-clause-stands
 of-requires-2-clause-stands g c =
     let all = c.in_ok-replayed.ensures.stands in
-    let counted = c.in_ok-replayed.ensures.counted all.0 all.1 in (
-      all.0,
-      stands_replayed _ all.0 c.args.heads.now c.in_ok-replayed.replayed.directory.changes (state_of c.in_ok-replayed.replayed.index) c.in_ok-replayed.replayed.plans.items c.args.journal.end
-          (record { end_is = refl; length_is = refl; changes_are = refl; index_is = refl; plans_are = c.in_ok-shelf.ensures.plans; pages_are = c.in_ok-shelf.ensures.taken }) counted.0 counted.1 all.1 all.2,
-    )
-
-made : (g : Over) (c : goal.After-of-2 g)
-    → IsMadeOf c.of-2.result c.args.journal.end c.args.heads.now c.in_ok-replayed.replayed.directory.changes (state_of c.in_ok-replayed.replayed.index) c.in_ok-replayed.replayed.plans.items
-made g c = record {
-  end_is = c.of-2.ensures.end;
-  length_is = c.of-2.ensures.length;
-  changes_are = c.of-2.ensures.changes;
-  index_is = c.of-2.ensures.index;
-  plans_are = ap (λ s. s.plans) c.of-2.ensures.shelf ∙ c.in_ok-shelf.ensures.plans;
-  pages_are = (let T : ShelfState → Type 0 = λ s. HasTaken s.pages (extents_all c.in_ok-replayed.replayed.plans.items) in subst T (sym c.of-2.ensures.shelf) c.in_ok-shelf.ensures.taken);
-}
+    let counted = c.in_ok-replayed.ensures.counted all.0 all.1 in
+    (all.0, stands_replayed all.0 _ c.args.heads.now _ _ c.in_ok-replayed.replayed.plans.items c.in_ok-shelf.shelf c.args.journal.end counted.0 counted.1 all.1 all.2 c.in_ok-shelf.ensures.plans c.in_ok-shelf.ensures.taken)
 
 -- it stands for each history of these entries
 stands : (g : Over) (c : goal.After-of-2 g) (h : History) → IsReplayed h c.args.heads.now c.in_ok-replayed.replayed.directory.changes c.in_ok-replayed.replayed.plans.items
     → Indexes (state_of c.in_ok-replayed.replayed.index) (histories.changes h) → StandsFor c.of-2.result h
 stands g c h replayed indexed =
     let counted = c.in_ok-replayed.ensures.counted h replayed in
-    stands_replayed c.of-2.result h c.args.heads.now c.in_ok-replayed.replayed.directory.changes (state_of c.in_ok-replayed.replayed.index) c.in_ok-replayed.replayed.plans.items c.args.journal.end
-    (made g c) counted.0 counted.1 replayed indexed
+    rw c.of-2.ensures (stands_replayed h _ c.args.heads.now _ _ c.in_ok-replayed.replayed.plans.items c.in_ok-shelf.shelf c.args.journal.end counted.0 counted.1 replayed indexed c.in_ok-shelf.ensures.plans c.in_ok-shelf.ensures.taken)
 
 pub returns-clause-stands : goal.returns-clause-stands
 returns-clause-stands g c =
@@ -79,5 +66,5 @@ pub returns-clause-exact : goal.returns-clause-exact
 returns-clause-exact g c = λ tells bodies laid_out spelled image spells long at refused.
     let all = c.in_ok-replayed.ensures.found tells bodies laid_out spelled in
     loaded_is_archive image all.0 at (subst (Spells image.journal) (sym all.3) spells) all.1.loadable
-    (all_live all.0 c.in_ok-replayed.replayed.plans.items c.in_ok-reach.reach image.pages all.1.plans_are
+    (subst₂ (λ (l : List StoredPlan) (n : ℕ). AreLive (extents_all l) n) all.1.plans_are
     (pages_long image (g.D.Disk.disk c.args.disk.now) (g.D.Disk.disk c.replay.new.disk) c.in_ok-reach.reach c.in_ok-reach.ensures.length c.replay.ensures.same long) c.in_ok-shelf.ensures.live) refused

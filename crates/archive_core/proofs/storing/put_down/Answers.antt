@@ -3,7 +3,7 @@ use Rattle.page_cache.specs.Caches.{StandsFor as IsCacheOf}
 use Rattle.page_store.specs.Wrote.{ranges_of}
 use Rattle.sublist_store.specs.Preparing.{pieces}
 use Rattle.archive_state.specs.Stands.{bodies_of}
-use Rattle.archive_core.proofs.StandLemmas.{step_stays, written_leads, stored_leads, stored_in_step}
+use Rattle.archive_core.proofs.StoreLemmas.{step_stays, written_leads, stored_leads, stored_in_step}
 use Rattle.archive_core.proofs.storing.put_down.Goals as goal
 
 pub returns-in_err-write-clause-crash : goal.returns-in_err-write-clause-crash
@@ -30,5 +30,4 @@ returns-in-Err-Failed-clause-crash g c = λ tells h plan step held legal ready.
 
 pub returns-in-Ok-clause-cached : goal.returns-in-Ok-clause-cached
 returns-in-Ok-clause-cached g c = λ tells cached.
-    let P : List ℕ → Type 0 = λ ps. IsCacheOf c.args.sublists.now.cache ps in
-    subst P (sym (c.in-Ok.ensures.pages_hold tells)) (c.in_ok-write.ensures.stays tells cached)
+    subst (λ (ps : List ℕ). IsCacheOf c.args.sublists.now.cache ps) (sym (c.in-Ok.ensures.pages_hold tells)) (c.in_ok-write.ensures.stays tells cached)

@@ -2,26 +2,23 @@ use Rattle.std.proofs.Common.{Result, inl, subst}
 use Rattle.archive_replay.specs.Entries.{IsPrepared}
 use Rattle.archive_replay.specs.declared.preparing.Prepared.{Prepared}
 use Rattle.archive_replay.specs.declared.error.Declined.{Declined}
-use Rattle.archive_core.proofs.AddLemmas.{adds_entry, leads_entry, adds_none, gives_no_ok, leads_nowhere, pages_nowhere}
+use Rattle.archive_core.proofs.AddLemmas.{adds_entry, leads_entry, adds_none, leads_nowhere, pages_nowhere}
 use Rattle.archive_core.proofs.archive.Archive.add.Goals as goal
 
 pub commit-requires-clause-next : goal.commit-requires-clause-next
 commit-requires-clause-next g c = λ h stands.
     let any = c.requires.next h stands in
-    let P : Result Prepared Declined → Type 0 = λ p. IsPrepared h c.args.self.now.index any.0 any.1 p in
-    let is = subst P c.in-Ok.is any.2 in
+    let is = subst (λ (p : Result Prepared Declined). IsPrepared h c.args.self.now.index any.0 any.1 p) c.in-Ok.is any.2 in
     (any.0, is.0, is.1)
 
 pub returns-in-Ok-clause-adds : goal.returns-in-Ok-clause-adds
 returns-in-Ok-clause-adds g c = λ h entry refusal stands prepared.
-    let P : Result Prepared Declined → Type 0 = λ p. IsPrepared h c.args.self.now.index entry refusal p in
-    let is = subst P c.in-Ok.is prepared in
+    let is = subst (λ (p : Result Prepared Declined). IsPrepared h c.args.self.now.index entry refusal p) c.in-Ok.is prepared in
     adds_entry c.commit.result c.args.self.now c.commit.new.self h entry refusal c.in-Ok.prepared.change c.in-Ok.prepared.body.items c.in-Ok.prepared.words stands is.0 is.1 is.2 c.commit.ensures.refused c.commit.ensures.allowed c.commit.ensures.more
 
 pub returns-in-Ok-clause-leads : goal.returns-in-Ok-clause-leads
 returns-in-Ok-clause-leads g c = λ tells h entry refusal in_step prepared.
-    let P : Result Prepared Declined → Type 0 = λ p. IsPrepared h c.args.self.now.index entry refusal p in
-    let is = subst P c.in-Ok.is prepared in
+    let is = subst (λ (p : Result Prepared Declined). IsPrepared h c.args.self.now.index entry refusal p) c.in-Ok.is prepared in
     leads_entry c.commit.result c.args.self.now c.commit.new.self _ _ h entry c.in-Ok.prepared.change c.in-Ok.prepared.body.items c.in-Ok.prepared.words in_step is.0 is.1 c.commit.ensures.more (c.commit.ensures.crash tells _ in_step.journal) (c.commit.ensures.pages tells) (c.commit.ensures.in_step tells _ in_step.journal)
     (λ ok. c.commit.ensures.cached tells in_step.cached (inl ok))
 
@@ -31,8 +28,7 @@ returns-in-Err-clause-adds g c = λ h entry refusal stands prepared.
     adds_none c.in-Err.why c.give_up.result c.args.self.now c.give_up.new.self h entry refusal (subst P c.in-Err.is prepared) c.give_up.ensures
 
 pub returns-in-Err-clause-leads : goal.returns-in-Err-clause-leads
-returns-in-Err-clause-leads g c = λ tells h entry refusal in_step prepared.
-    (leads_nowhere _ c.args.self.now h _ in_step, gives_no_ok _ c.in-Err.why c.give_up.result c.args.self.now c.give_up.new.self c.give_up.ensures)
+returns-in-Err-clause-leads g c = λ tells h entry refusal in_step prepared. (leads_nowhere _ c.args.self.now h _ in_step, tt)
 
 pub returns-in-Err-clause-pages : goal.returns-in-Err-clause-pages
 returns-in-Err-clause-pages g c = λ tells. pages_nowhere _

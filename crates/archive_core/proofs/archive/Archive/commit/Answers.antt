@@ -1,16 +1,24 @@
-use Rattle.std.proofs.Common.{◌≡◌, ◌+◌, ℕ, List, All, Err, true, false, refl, ap, sym, subst, ◌∙◌, arith, rules}
+use Rattle.std.proofs.Common.{◌≡◌, ◌+◌, ◌++◌, ◌∷◌, [], ℕ, List, All, length, Err, true, false, refl, ap, ap₂, sym, subst, ◌∙◌, arith, rules}
 use Rattle.machine_model.specs.declared.area.Area.TheVariants.{Journal, Pages}
 use Rattle.page_store.specs.Live.{IsInside}
+use Rattle.time_base.specs.declared.ids.DocId.{DocId}
+use Rattle.time_base.specs.declared.text_place.TextPlace.{TextPlace}
+use Rattle.time_base.specs.declared.time.Time.{Time}
+use Rattle.version_store.specs.declared.change.Change.{Change}
 use Rattle.gate_journal.specs.Crash.{Appends}
 use Rattle.gate_journal.specs.State.{JournalState}
 use Rattle.gate_journal.specs.declared.error.AppendError.{AppendError}
 use Rattle.gate_journal.specs.declared.error.AppendError.TheVariants as appends
 use Rattle.version_index.specs.Indexes.{state_of}
-use Rattle.archive_state.specs.Histories.{History}
+use Rattle.version_index.specs.Indexing.{IndexValue, AreIndexed}
+use Rattle.version_index.specs.Measuring.{IsMeasured}
+use Rattle.archive_replay.specs.Entries.{IsHeld}
+use Rattle.archive_core.specs.Adding.{IsMore}
 use Rattle.archive_core.specs.States.{ArchiveState, StandsFor}
 use Rattle.plan_shelf.specs.Shelves.{extents_all}
 use Rattle.archive_core.proofs.CacheLemmas.{cached_on}
-use Rattle.archive_core.proofs.AddLemmas.{appends_nowhere, pages_nowhere, step_at, is_more, stands_on, inside_on}
+use Rattle.archive_core.proofs.AddLemmas.{appends_nowhere, inside_on, pages_nowhere, stands_more, step_at}
+use Rattle.archive_core.proofs.archive.Archive.commit.Given.{Over}
 use Rattle.archive_core.proofs.archive.Archive.commit.Goals as goal
 
 pub returns-then-limit-end-clause-crash : goal.returns-then-limit-end-clause-crash
@@ -47,24 +55,36 @@ returns-clause-crash g c = λ tells bodies step.
     let B : List ℕ → Type 0 = λ b. Appends bodies b (g.D.Disk.disk c.args.disk.now) (g.D.Disk.disk c.append.new.disk) in
     subst B (c.in_ok-frame.ensures.body ∙ c.deref.ensures.value) (c.in-Err.ensures.crash tells bodies (step_at _ (sym (ap (λ s. s.end) c.self.view_is)) step))
 
+-- an archive with the entry
+more : (g : Over) (c : goal.After-drop-body-in-Ok g)
+    → IsMore c.args.self.now (record { end = c.append.new.self.end; live = true; length = c.self.inside.entries + 1; changes = c.note.new.directory.changes; index = state_of c.commit.new.self; shelf = c.self.inside.shelf })
+    c.args.prepared.change c.args.prepared.body.items c.args.prepared.words
+more g c =
+    rw (← c.self.view_is) (record {
+      end_is = omega (arith, c.in-Ok.ensures.end, ap length (c.in_ok-frame.ensures.body ∙ c.deref.ensures.value));
+      length_is = refl;
+      held = c.placed.result.held;
+      held_is = subst (λ (n : ℕ). IsHeld n c.args.prepared.change.held c.placed.result.held) (omega (arith, c.in-Ok.ensures.place)) c.placed.ensures.held;
+      changes_are = c.note.ensures ∙ ap (λ (l : List (Change TextPlace)). l ++ c.placed.result ∷ []) c.reserve.ensures.same
+          ∙ ap₂ (λ (d : DocId) (t : Time). c.self.inside.directory.changes ++ record { doc = d; at = t; held = c.placed.result.held } ∷ []) c.placed.ensures.doc c.placed.ensures.at;
+      shelf_is = refl;
+      indexed = λ texts doc text stands prepared later. c.commit.ensures (λ word. 0) (λ word. omega arith) texts doc text
+          (subst (λ (v : IndexValue). AreIndexed (λ word. 0) v texts) (sym c.make_room.ensures.same) stands)
+          (record { doc_is = prepared.doc_is; measured = subst (λ (v : IndexValue). IsMeasured v.words text c.args.prepared.words.fresh.items c.args.prepared.words.weights) (sym c.make_room.ensures.same) prepared.measured }) later;
+    })
+
 pub invariant_of-self-in-Ok : goal.invariant_of-self-in-Ok
 invariant_of-self-in-Ok g c =
-    let S : ArchiveState → Type 0 = λ a. (h : History) × StandsFor a h in
-    let now : ArchiveState = record { end = c.append.new.self.end; live = true; length = c.self.inside.entries + 1; changes = c.note.new.directory.changes; index = state_of c.commit.new.self; shelf = c.self.inside.shelf } in
-    let more = is_more _ c.args.self.now now (state_of c.make_room.new.self) c.args.prepared.change c.placed.result c.args.prepared.body.items c.in_ok-frame.frame c.args.prepared.words c.reserve.new.self.changes c.in-Ok.place c.self.view_is
-    (c.in_ok-frame.ensures.body ∙ c.deref.ensures.value) c.in-Ok.ensures.end refl c.in-Ok.ensures.place c.placed.ensures.held c.placed.ensures.doc c.placed.ensures.at c.reserve.ensures.same c.note.ensures refl c.make_room.ensures.same (c.commit.ensures (λ word. 0) (λ word. omega arith)) in (
+    let (h, stands) = c.self.invariant.2 in
+    let now = subst (λ (a : ArchiveState). StandsFor a h) c.self.view_is stands in
+    let (e, next, prepared) = c.requires.next h now in (
       λ live. search rules,
       omega (arith, c.self.invariant.1, c.in-Ok.ensures.end),
-      stands_on c.args.self.now now c.args.prepared.change c.args.prepared.body.items c.args.prepared.words c.requires.next (subst S c.self.view_is c.self.invariant.2) more,
+      (h ++ e ∷ [], stands_more c.args.self.now _ h e c.args.prepared.change c.args.prepared.body.items c.args.prepared.words now next prepared (more g c)),
     )
 
 pub returns-in-Ok-clause-more : goal.returns-in-Ok-clause-more
-returns-in-Ok-clause-more g c =
-    let now : ArchiveState = record { end = c.append.new.self.end; live = true; length = c.self.inside.entries + 1; changes = c.note.new.directory.changes; index = state_of c.commit.new.self; shelf = c.self.inside.shelf } in (
-      is_more _ c.args.self.now now (state_of c.make_room.new.self) c.args.prepared.change c.placed.result c.args.prepared.body.items c.in_ok-frame.frame c.args.prepared.words c.reserve.new.self.changes c.in-Ok.place c.self.view_is
-          (c.in_ok-frame.ensures.body ∙ c.deref.ensures.value) c.in-Ok.ensures.end refl c.in-Ok.ensures.place c.placed.ensures.held c.placed.ensures.doc c.placed.ensures.at c.reserve.ensures.same c.note.ensures refl c.make_room.ensures.same (c.commit.ensures (λ word. 0) (λ word. omega arith)),
-      refl,
-    )
+returns-in-Ok-clause-more g c = (more g c, refl)
 
 pub returns-then-limit-end-clause-cached : goal.returns-then-limit-end-clause-cached
 returns-then-limit-end-clause-cached g c = λ tells cached is. cached

@@ -1,55 +1,34 @@
-use Rattle.std.proofs.Common.{◌≡◌, ap, sym, subst, ◌∙◌}
+use Rattle.std.proofs.Common.{◌∷◌, [], ap}
+use Rattle.std.proofs.lemmas.Result.{IfOk-weaker}
 use Rattle.commands.specs.declared.command.Command.TheVariants as commands
 use Rattle.commands.specs.declared.command.Item.TheVariants as items
 use Rattle.record_codec.specs.declared.entry.Entry.TheVariants as entries
-use Rattle.version_index.specs.Indexes.{IndexState, Indexes, state_of}
-use Rattle.archive_state.specs.Histories.{changes}
 use Rattle.archive_state.specs.Steps.{deletion_refusal}
-use Rattle.archive_core.specs.After.{AfterChange}
-use Rattle.archive_core.specs.States.{ArchiveState, StandsFor, AreInStep}
-use Rattle.archive_replay.specs.Entries.{IsPrepared}
-use Rattle.archive_core.proofs.TakeLemmas.{adds_follow, takes_entry}
+use Rattle.archive_core.proofs.TakeLemmas.{follows_on, takes_entry}
 use Rattle.archive_core.proofs.archive.Archive.delete.Goals as goal
 
 pub add-requires-clause-next : goal.add-requires-clause-next
 add-requires-clause-next g c = λ h stands.
-    let same = c.prepare_deletion-prepared.ensures.same in
-    let I : IndexState → Type 0 = λ i. Indexes i (changes h) in
-    let P : IndexState → Type 0 = λ i. IsPrepared h i (entries.Delete c.args.doc c.args.at) (deletion_refusal h c.args.doc c.args.at) c.prepare_deletion-prepared.result in
-    ((entries.Delete c.args.doc c.args.at), (deletion_refusal h c.args.doc c.args.at), subst P (sym same) (c.prepare_deletion-prepared.ensures.prepared h stands.changes_are (subst I same stands.index_is)))
+    let same = c.deletion-prepared.ensures.same in
+    (entries.Delete c.args.doc c.args.at, deletion_refusal h c.args.doc c.args.at, rw same (c.deletion-prepared.ensures.prepared h (rw same at stands)))
 
 pub returns-clause-after : goal.returns-clause-after
-returns-clause-after g c =
-    let A : IndexState → ArchiveState = λ i. record { end = c.self.inside.journal.end; live = c.self.inside.live; length = c.self.inside.entries; changes = c.self.inside.directory.changes; index = i; shelf = c.self.inside.shelf } in
-    let still = c.add.new.disk ≡ c.args.disk.now in
-    let P : ArchiveState → Type 0 = λ a. AfterChange g.D.Disk.disk_tells ((c.add.new.self ≡ a) × still) still c.add.result (g.D.Disk.disk c.args.disk.now) (g.D.Disk.disk c.add.new.disk) a c.add.new.self in
-    subst P (ap A c.prepare_deletion-prepared.ensures.same ∙ c.self.view_is) c.add.ensures.after
+returns-clause-after g c = rw c.deletion-prepared.ensures.same at c.add.ensures.after
 
 pub returns-clause-adds : goal.returns-clause-adds
 returns-clause-adds g c = λ h stands.
-    let A : IndexState → ArchiveState = λ i. record { end = c.self.inside.journal.end; live = c.self.inside.live; length = c.self.inside.entries; changes = c.self.inside.directory.changes; index = i; shelf = c.self.inside.shelf } in
-    let same = c.prepare_deletion-prepared.ensures.same in
-    let S : ArchiveState → Type 0 = λ a. StandsFor a h in
-    let I : IndexState → Type 0 = λ i. Indexes i (changes h) in
-    let P : IndexState → Type 0 = λ i. IsPrepared h i (entries.Delete c.args.doc c.args.at) (deletion_refusal h c.args.doc c.args.at) c.prepare_deletion-prepared.result in
-    let before = subst S (sym (ap A same ∙ c.self.view_is)) stands in
-    c.add.ensures.adds h (entries.Delete c.args.doc c.args.at) (deletion_refusal h c.args.doc c.args.at) before (subst P (sym same) (c.prepare_deletion-prepared.ensures.prepared h before.changes_are (subst I same before.index_is)))
-
-pub returns-clause-takes : goal.returns-clause-takes
-returns-clause-takes g c = λ tells h in_step.
-    let A : IndexState → ArchiveState = λ i. record { end = c.self.inside.journal.end; live = c.self.inside.live; length = c.self.inside.entries; changes = c.self.inside.directory.changes; index = i; shelf = c.self.inside.shelf } in
-    let same = c.prepare_deletion-prepared.ensures.same in
-    let here : A (state_of c.prepare_deletion-prepared.new.index) ≡ c.args.self.now = ap A same ∙ c.self.view_is in
-    let K : ArchiveState → Type 0 = λ a. AreInStep (g.D.Disk.disk c.args.disk.now) a h in
-    let I : IndexState → Type 0 = λ i. Indexes i (changes h) in
-    let P : IndexState → Type 0 = λ i. IsPrepared h i (entries.Delete c.args.doc c.args.at) (deletion_refusal h c.args.doc c.args.at) c.prepare_deletion-prepared.result in
-    let before = subst K (sym here) in_step in
-    let prepared = subst P (sym same) (c.prepare_deletion-prepared.ensures.prepared h before.stands.changes_are (subst I same before.stands.index_is)) in
-    takes_entry h (items.Command (commands.Delete c.args.doc c.args.at)) (entries.Delete c.args.doc c.args.at) (deletion_refusal h c.args.doc c.args.at) c.add.result _ _ c.args.self.now c.add.new.self
-    (λ reply next adds. adds) in_step (c.add.ensures.adds h (entries.Delete c.args.doc c.args.at) (deletion_refusal h c.args.doc c.args.at) before.stands prepared)
-    (λ why is. (let still = c.add.ensures.after.same why is in (still.0 ∙ here, ap g.D.Disk.disk still.1))) (λ is. ap g.D.Disk.disk (c.add.ensures.after.memory is))
-    (c.add.ensures.leads tells h (entries.Delete c.args.doc c.args.at) (deletion_refusal h c.args.doc c.args.at) before prepared)
+    let same = c.deletion-prepared.ensures.same in
+    c.add.ensures.adds h _ _ (rw same stands) (rw same (c.deletion-prepared.ensures.prepared h stands))
 
 pub returns-clause-follows : goal.returns-clause-follows
 returns-clause-follows g c = λ h stands.
-    adds_follow h (entries.Delete c.args.doc c.args.at) (deletion_refusal h c.args.doc c.args.at) c.add.result c.args.self.now c.add.new.self _ stands (returns-clause-adds g c h stands) (returns-clause-after g c).same
+    follows_on h c.add.result c.add.new.self (IfOk-weaker c.add.result _ _ (λ n is. (entries.Delete c.args.doc c.args.at ∷ [], is.0)) (returns-clause-adds g c h stands).stands)
+    (λ why is. let still = ((returns-clause-after g c).same why is).0 in rw still stands)
+
+pub returns-clause-takes : goal.returns-clause-takes
+returns-clause-takes g c = λ tells h in_step.
+    let same = c.deletion-prepared.ensures.same in
+    let after = returns-clause-after g c in
+    takes_entry h (items.Command (commands.Delete c.args.doc c.args.at)) (entries.Delete c.args.doc c.args.at) (deletion_refusal h c.args.doc c.args.at) c.add.result _ _ c.args.self.now c.add.new.self
+    (λ reply next adds. adds) in_step (returns-clause-adds g c h in_step.stands) (λ why is. ((after.same why is).0, ap g.D.Disk.disk (after.same why is).1)) (λ is. ap g.D.Disk.disk (after.memory is))
+    (c.add.ensures.leads tells h (entries.Delete c.args.doc c.args.at) (deletion_refusal h c.args.doc c.args.at) (rw same in_step) (rw same (c.deletion-prepared.ensures.prepared h in_step.stands)))

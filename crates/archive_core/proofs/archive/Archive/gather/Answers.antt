@@ -28,5 +28,4 @@ invariant_of-self g c =
 pub returns-clause-but_cache : goal.returns-clause-but_cache
 returns-clause-but_cache g c =
     let a : ArchiveState = record { end = c.self.inside.journal.end; live = c.self.inside.live; length = c.self.inside.entries; changes = c.self.inside.directory.changes; index = state_of c.self.inside.index; shelf = c.self.inside.shelf } in
-    let S : ArchiveState → Type 0 = λ x. IsSameButCache x (record a { shelf = c.gather.new.self }) in
-    subst S c.self.view_is (but_cache a c.gather.new.self c.gather.ensures.kept)
+    subst (λ (x : ArchiveState). IsSameButCache x (record a { shelf = c.gather.new.self })) c.self.view_is (but_cache a c.gather.new.self c.gather.ensures.kept)

@@ -1,12 +1,11 @@
 use Rattle.std.proofs.Common.{◌≡◌, ℕ, ◌∙◌, List, [], length, inl, ap, refl, sym, subst}
 use Rattle.std.proofs.lemmas.Result.{IfOk-weaker, err_from_is_err_and}
-use Rattle.machine_model.specs.States.{DiskState}
 use Rattle.machine_model.specs.declared.area.Area.TheVariants.{Pages}
 use Rattle.gate_journal.specs.Spelled.{Spells}
 use Rattle.gate_journal.proofs.LoadLemmas.{sync_reads}
 use Rattle.archive_state.specs.Stands.{bodies_of}
 use Rattle.archive_state.proofs.StandsLemmas.{stands_is_archive}
-use Rattle.archive_core.proofs.LoadLemmas.{history_loaded, pages_reads, in_step_loaded, journal_exit, IfOk-both}
+use Rattle.archive_core.proofs.AddLemmas.{history_loaded, pages_reads, in_step_loaded, journal_exit, IfOk-both}
 use Rattle.archive_core.proofs.archive.Archive.load.Given.{Over}
 use Rattle.archive_core.proofs.archive.Archive.load.Goals as goal
 
@@ -46,7 +45,7 @@ returns-clause-in_step g c = λ tells h stood.
     let found = c.in_ok-journal.ensures.found tells in
     let step = c.in_ok-journal.ensures.in_step tells found.bodies found.spelled in
     IfOk-both c.archive_of.result _ _ _ (λ a (end, empty) all. in_step_loaded a (g.D.Disk.disk c.load.new.disk) (g.D.Disk.disk c.archive_of.new.disk) (g.D.Disk.disk c.args.disk.now).holds c.in_ok-journal.journal.end found.bodies all.0 h
-    all.1.0 empty end all.1.1 found.spelled step.1 (ap (λ (d : DiskState). d.now) c.archive_of.ensures.same)
+    all.1.0 empty end all.1.1 found.spelled step.1 c.archive_of.ensures.same
     (c.in_ok-journal.ensures.one tells) (c.in_ok-journal.ensures.pages_hold tells) stood)
     (IfOk-both c.archive_of.result _ _ (λ a. (a.end ≡ c.in_ok-journal.journal.end) × (a.shelf.cache ≡ [])) (λ a end empty. (end, empty)) c.archive_of.ensures.end c.archive_of.ensures.empty) (c.archive_of.ensures.found tells found.bodies (c.deref.ensures.value ∙ found.laid_out.heads_are) step.2)
 

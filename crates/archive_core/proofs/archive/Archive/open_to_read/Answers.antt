@@ -1,4 +1,4 @@
-use Rattle.std.proofs.Common.{◌≡◌, ◌≤◌, ◌∙◌, [], length, ap, sym, subst}
+use Rattle.std.proofs.Common.{◌≤◌, ◌∙◌, [], length, ap, sym, subst}
 use Rattle.std.proofs.lemmas.Option.{MatchOption-at_some, MatchOption-at_none}
 use Rattle.std.proofs.lemmas.Result.{err_from_is_err_and}
 use Rattle.machine_model.specs.States.{DiskState}
@@ -7,37 +7,29 @@ use Rattle.gate_journal.specs.Found.{IsFound}
 use Rattle.gate_journal.specs.Spelled.{Spells}
 use Rattle.gate_journal.proofs.LoadLemmas.{exit_is}
 use Rattle.archive_state.proofs.StandsLemmas.{stands_is_archive}
-use Rattle.archive_core.proofs.LoadLemmas.{new_stands}
+use Rattle.archive_core.proofs.AddLemmas.{new_stands}
 use Rattle.archive_core.proofs.archive.Archive.open_to_read.Goals as goal
 
 pub returns-in_err-archive-in-Some-clause-not_archive : goal.returns-in_err-archive-in-Some-clause-not_archive
 returns-in_err-archive-in-Some-clause-not_archive g c = λ tells at is.
     let a = g.D.Disk.disk c.args.disk.now in
-    let b = g.D.Disk.disk c.open_to_read.new.disk in
     let found : IsFound a.holds.journal c.in-Some.journal.end c.in-Some.heads.items = MatchOption-at_some _ _ _ c.in-Some.is (c.in_ok-journal.ensures.found tells) in
-    let there : Spells b.holds.journal found.bodies = subst (λ (d : DiskState). Spells d.holds.journal found.bodies) (sym c.open_to_read.ensures.same) found.spelled in
-    let long : length a.holds.pages ≡ b.reach.pages = g.met.D.Disk.reach_holds c.args.disk.now Pages tells ∙ sym (ap (λ (d : DiskState). d.reach.pages) c.open_to_read.ensures.same) in
     let p = err_from_is_err_and c.from_residual-in_err-archive-in-Some.result c.from_residual-in_err-archive-in-Some.ensures.1 in
-    c.archive_of.ensures.not_archive tells found.bodies (c.deref.ensures.value ∙ found.laid_out.heads_are) there a.holds found.spelled long at
+    c.archive_of.ensures.not_archive tells found.bodies (c.deref.ensures.value ∙ found.laid_out.heads_are) (rw c.open_to_read.ensures.same found.spelled) a.holds found.spelled (g.met.D.Disk.reach_holds c.args.disk.now Pages tells ∙ sym (ap (λ (d : DiskState). d.reach.pages) c.open_to_read.ensures.same)) at
     (exit_is c.archive_of.result c.from_residual-in_err-archive-in-Some.result c.in_err-archive-in-Some.field-0.0 p.0 _ c.in_err-archive-in-Some.was p.1 p.2 is)
 
 pub returns-in_ok-archive-in-Some-clause-found : goal.returns-in_ok-archive-in-Some-clause-found
 returns-in_ok-archive-in-Some-clause-found g c = λ tells.
     let a = g.D.Disk.disk c.args.disk.now in
-    let b = g.D.Disk.disk c.open_to_read.new.disk in
     let found : IsFound a.holds.journal c.in-Some.journal.end c.in-Some.heads.items = MatchOption-at_some _ _ _ c.in-Some.is (c.in_ok-journal.ensures.found tells) in
-    let there : Spells b.holds.journal found.bodies = subst (λ (d : DiskState). Spells d.holds.journal found.bodies) (sym c.open_to_read.ensures.same) found.spelled in
-    let all = c.in_ok-archive-in-Some.ensures.found tells found.bodies (c.deref.ensures.value ∙ found.laid_out.heads_are) there in
+    let all = c.in_ok-archive-in-Some.ensures.found tells found.bodies (c.deref.ensures.value ∙ found.laid_out.heads_are) (rw c.open_to_read.ensures.same found.spelled) in
     (all.0, (all.1.0, subst (Spells a.holds.journal) (sym all.1.1) found.spelled))
 
 pub returns-in_ok-archive-in-Some-clause-exact : goal.returns-in_ok-archive-in-Some-clause-exact
 returns-in_ok-archive-in-Some-clause-exact g c = λ tells.
     let a = g.D.Disk.disk c.args.disk.now in
-    let b = g.D.Disk.disk c.open_to_read.new.disk in
     let found : IsFound a.holds.journal c.in-Some.journal.end c.in-Some.heads.items = MatchOption-at_some _ _ _ c.in-Some.is (c.in_ok-journal.ensures.found tells) in
-    let there : Spells b.holds.journal found.bodies = subst (λ (d : DiskState). Spells d.holds.journal found.bodies) (sym c.open_to_read.ensures.same) found.spelled in
-    let long : length a.holds.pages ≡ b.reach.pages = g.met.D.Disk.reach_holds c.args.disk.now Pages tells ∙ sym (ap (λ (d : DiskState). d.reach.pages) c.open_to_read.ensures.same) in
-    c.in_ok-archive-in-Some.ensures.exact tells found.bodies (c.deref.ensures.value ∙ found.laid_out.heads_are) there a.holds found.spelled long
+    c.in_ok-archive-in-Some.ensures.exact tells found.bodies (c.deref.ensures.value ∙ found.laid_out.heads_are) (rw c.open_to_read.ensures.same found.spelled) a.holds found.spelled (g.met.D.Disk.reach_holds c.args.disk.now Pages tells ∙ sym (ap (λ (d : DiskState). d.reach.pages) c.open_to_read.ensures.same))
 
 pub returns-in-None-clause-exact : goal.returns-in-None-clause-exact
 returns-in-None-clause-exact g c = λ tells at refused.

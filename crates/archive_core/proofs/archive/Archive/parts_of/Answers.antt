@@ -15,7 +15,6 @@ returns-in_err-part-clause-damaged g c = λ tells h stands cached d is.
     let was = c.loop-word.invariant in
     let first = g.D.Disk.disk c.args.disk.now in
     let pages : (g.D.Disk.disk c.loop-word.disk).holds.pages ≡ first.holds.pages = ap (λ (x : DiskState). x.holds.pages) was.same in
-    let P : List ℕ → Type 0 = λ ps. IsDamagedFor h ps c.word-item.result c.args.span.from c.args.span.to d in
     let here = c.in_err-part.ensures.damaged tells h (stands_but_cache c.args.self.now c.loop-word.self h was.but_cache stands) (was.cached tells cached) d
     (ap (λ (e : FetchError). Err e) (handed c.from_residual.result c.in_err-part.field-0.0 d c.from_residual.ensures.1 is)) in
     let index = c.loop-word.word-index in
@@ -28,7 +27,7 @@ returns-in_err-part-clause-damaged g c = λ tells h stands cached d is.
       words_are = sym (take-append-drop (index + 1) words) ∙ ap (λ (l : List (List ℕ)). l ++ drop (index + 1) words) next ∙ append_assoc (take index words) (c.word-item.result ∷ []) (drop (index + 1) words);
       parts = c.loop-word.parts.items;
       are_chosen = was.chosen tells h stands cached;
-      damaged = subst P pages here;
+      damaged = subst (λ (ps : List ℕ). IsDamagedFor h ps c.word-item.result c.args.span.from c.args.span.to d) pages here;
     }
 
 pub returns-in_err-part-clause-after : goal.returns-in_err-part-clause-after
@@ -73,9 +72,8 @@ loop-word-preserved g c =
           let K : List ℕ → Type 0 = λ ps. IsChosenOf h ps word (plan_of h word) a b part.list.items part.read in
           let here = subst K pages (done.chosen tells h (stands_but_cache c.args.self.now c.loop-word.self h was.but_cache stands) (was.cached tells cached)) in
           let more = chosen_more a b h first.holds.pages words c.loop-word.parts.items word part (was.chosen tells h stands cached) here in
-          let P : List Part → Type 0 = λ l. AreChosen h first.holds.pages a b (take (c.loop-word.word-index + 1) c.args.words.now) l in
           let W : List (List ℕ) → Type 0 = λ l. AreChosen h first.holds.pages a b l (c.loop-word.parts.items ++ part ∷ []) in
-          subst P (sym put) (subst W (sym next) more);
+          subst (λ (l : List Part). AreChosen h first.holds.pages a b (take (c.loop-word.word-index + 1) c.args.words.now) l) (sym put) (subst W (sym next) more);
       asked = λ tells h stands cached.
           let K : List ℕ → Type 0 = λ ps. HasAsked (pieces_chosen ps (plan_of h word) a b) c.loop-word.self.shelf.cache c.part_of.new.self.shelf.cache before after in
           let here = subst K pages (done.asked tells h (stands_but_cache c.args.self.now c.loop-word.self h was.but_cache stands) (was.cached tells cached)) in

@@ -1,101 +1,91 @@
-use Rattle.std.proofs.Common.{ℕ, ◌+◌, List, ◌∷◌, [], ◌++◌, inl, refl, ap, sym, subst, ◌∙◌, arith, rules}
+use Rattle.std.proofs.Common.{ℕ, ◌+◌, List, ◌∷◌, [], ◌++◌, true, inl, refl, ap, sym, subst, ◌∙◌, arith, rules}
 use Rattle.machine_model.specs.declared.area.Area.TheVariants.{Journal, Pages}
 use Rattle.record_codec.specs.declared.entry.Entry.TheVariants as entries
 use Rattle.version_index.specs.Indexes.{seen, state_of}
 use Rattle.page_cache.specs.Caches.{Kept, StandsFor as IsCacheOf}
 use Rattle.page_store.specs.Taken.{HasTaken}
 use Rattle.archive_state.specs.declared.stored.StoredPlan.{StoredPlan}
+use Rattle.archive_state.specs.Histories.{History}
 use Rattle.archive_state.specs.Plans.{with_plan, live_extents}
 use Rattle.archive_state.proofs.HistoryLemmas.{legal-push}
 use Rattle.archive_core.specs.Adding.{HasSameShelf}
-use Rattle.archive_core.specs.States.{ArchiveState, StandsFor, AreInStep, Reaches}
+use Rattle.archive_core.specs.States.{ArchiveState, StandsFor, AreInStep}
 use Rattle.plan_shelf.specs.Shelves.{extents_all}
-use Rattle.plan_shelf.specs.Readying.{IsFull, tells_of}
-use Rattle.plan_shelf.specs.Readying.{summary_of}
-use Rattle.archive_core.proofs.AddLemmas.{reaches_on}
+use Rattle.plan_shelf.specs.Readying.{IsFull, summary_of, tells_of}
+use Rattle.archive_core.proofs.AddLemmas.{given_up_cached, given_up_refused, inside_on}
 use Rattle.archive_core.proofs.CacheLemmas.{cached_on}
-use Rattle.archive_core.proofs.StoreLemmas.{given_up_cached, ready_storable, ready_stored, stands_planned, reaches_planned, same_shelf, stands_still, full_refused}
+use Rattle.archive_core.proofs.StoreLemmas.{ready_storable, ready_stored, stands_planned, placed_inside, same_shelf, stands_still}
+use Rattle.archive_core.proofs.archive.Archive.store.Given.{Over}
 use Rattle.archive_core.proofs.archive.Archive.store.Goals as goal
 
 pub returns-in-Err-clause-refused : goal.returns-in-Err-clause-refused
 returns-in-Err-clause-refused g c = λ h stands why is.
-    let a : ArchiveState = record { end = c.self.inside.journal.end; live = c.self.inside.live; length = c.self.inside.entries; changes = c.self.inside.directory.changes; index = state_of c.self.inside.index; shelf = c.self.inside.shelf } in
     let before = subst (λ (s : ArchiveState). StandsFor s h) (sym c.self.view_is) stands in
-    let still = stands_still a h c.make_ready.new.shelf before c.in-Err.ensures.plans (c.in-Err.ensures.none _ before.pages_are) in
-    full_refused c.in-Err.why c.give_up.result _ c.give_up.new.self h c.args.draft c.args.self.now.end why c.give_up.ensures
-    (λ because e. subst (λ (n : ℕ). IsFull c.args.draft (live_extents h) n because) (c.end.ensures.end ∙ ap (λ (s : ArchiveState). s.end) c.self.view_is) (c.in-Err.ensures.full _ before.pages_are because e)) still is
+    let still = stands_still _ h c.make_ready.new.shelf before c.in-Err.ensures.plans (c.in-Err.ensures.none _ before.pages_are) in
+    given_up_refused (λ w s. IsFull c.args.draft (live_extents h) c.args.self.now.end w × StandsFor s h) c.in-Err.why c.give_up.result _ c.give_up.new.self why c.give_up.ensures
+    (λ because e. (subst (λ (n : ℕ). IsFull c.args.draft (live_extents h) n because) (c.end.ensures.end ∙ ap (λ (s : ArchiveState). s.end) c.self.view_is) (c.in-Err.ensures.full _ before.pages_are because e), still)) is
 
 pub returns-in-Err-clause-cached : goal.returns-in-Err-clause-cached
 returns-in-Err-clause-cached g c = λ tells cached is.
-    let a : ArchiveState = record { end = c.self.inside.journal.end; live = c.self.inside.live; length = c.self.inside.entries; changes = c.self.inside.directory.changes; index = state_of c.self.inside.index; shelf = c.self.inside.shelf } in
     let disk = g.D.Disk.disk c.args.disk.now in
-    given_up_cached c.in-Err.why c.give_up.result (record a { shelf = c.make_ready.new.shelf }) c.give_up.new.self disk c.give_up.ensures
+    given_up_cached c.in-Err.why c.give_up.result _ c.give_up.new.self disk c.give_up.ensures
     (cached_on c.args.self.now.shelf.cache c.make_ready.new.shelf.cache disk disk (c.in-Err.ensures.cache ∙ ap (λ (s : ArchiveState). s.shelf.cache) c.self.view_is) refl cached)
+
+-- the archive with the plan stands for a history more
+planned : (g : Over) (c : goal.After-self-in-Ok-write_ready-2-1 g) (h : History) → StandsFor c.args.self.now h
+    → StandsFor (record { end = c.write_ready.new.journal.end; live = true; length = c.self.inside.entries + 1; changes = c.self.inside.directory.changes; index = state_of c.self.inside.index; shelf = c.write_ready.new.shelf })
+    (h ++ entries.Planned c.in-Ok.ready.stored.plan ∷ [])
+planned g c h now =
+    stands_planned _ h c.args.draft c.end.result c.self.inside.entries c.write_ready.new.journal.end c.in-Ok.ready c.write_ready.new.shelf (subst (λ (s : ArchiveState). StandsFor s h) (sym c.self.view_is) now) (c.requires.drafted h now)
+    c.end.ensures.end c.in-Ok.ensures.ready c.in-Ok-write_ready.ensures.end (c.in-Ok-write_ready.ensures.plans ∙ ap (λ (l : List StoredPlan). with_plan l c.in-Ok.ready.stored) c.in-Ok.ensures.plans) c.in-Ok-write_ready.ensures.pages
 
 pub invariant_of-self-in-Ok-write_ready : goal.invariant_of-self-in-Ok-write_ready
 invariant_of-self-in-Ok-write_ready g c =
-    let a : ArchiveState = record { end = c.self.inside.journal.end; live = c.self.inside.live; length = c.self.inside.entries; changes = c.self.inside.directory.changes; index = state_of c.self.inside.index; shelf = c.self.inside.shelf } in
-    let (h, stands) = c.self.invariant.2 in
-    let r = c.in-Ok.ready in
-    let draft = c.requires.drafted h (subst (λ (s : ArchiveState). StandsFor s h) c.self.view_is stands) in (
+    let (h, stands) = c.self.invariant.2 in (
       λ live. search rules,
       omega (arith, c.self.invariant.1, c.in-Ok-write_ready.ensures.end),
-      (
-        h ++ entries.Planned r.stored.plan ∷ [],
-        stands_planned a h c.args.draft c.end.result c.self.inside.entries c.write_ready.new.journal.end r c.write_ready.new.shelf stands draft c.end.ensures.end c.in-Ok.ensures.ready c.in-Ok-write_ready.ensures.end
-            (c.in-Ok-write_ready.ensures.plans ∙ ap (λ (l : List StoredPlan). with_plan l r.stored) c.in-Ok.ensures.plans) c.in-Ok-write_ready.ensures.pages,
-      ),
+      (h ++ entries.Planned c.in-Ok.ready.stored.plan ∷ [], planned g c h (subst (λ (s : ArchiveState). StandsFor s h) c.self.view_is stands)),
     )
 
 pub returns-in-Ok-write_ready-clause-within : goal.returns-in-Ok-write_ready-clause-within
 returns-in-Ok-write_ready-clause-within g c =
-    let a : ArchiveState = record { end = c.self.inside.journal.end; live = c.self.inside.live; length = c.self.inside.entries; changes = c.self.inside.directory.changes; index = state_of c.self.inside.index; shelf = c.self.inside.shelf } in
     let r = c.in-Ok.ready in
-    reaches_planned a c.write_ready.new.journal.end c.write_ready.new.shelf r.stored r.prepared.places (g.D.Disk.disk c.args.disk.now).reach (g.D.Disk.disk c.write_ready.new.disk).reach
-    (subst (λ (s : ArchiveState). Reaches (g.D.Disk.disk c.args.disk.now).reach s) (sym c.self.view_is) c.requires.within)
-    (g.met.D.Disk.only_reach c.args.disk.now c.write_ready.new.disk Pages c.write_ready.ensures.only) c.in-Ok-write_ready.ensures.reached
-    (c.in-Ok-write_ready.ensures.plans ∙ ap (λ (l : List StoredPlan). with_plan l r.stored) c.in-Ok.ensures.plans) (ap (λ p. p.places) c.in-Ok.ensures.ready.plan_is) c.in-Ok-write_ready.ensures.inside
+    let plans = c.in-Ok-write_ready.ensures.plans ∙ ap (λ (l : List StoredPlan). with_plan l r.stored) (c.in-Ok.ensures.plans ∙ ap (λ (s : ArchiveState). s.shelf.plans) c.self.view_is) in
+    let longer = g.met.D.Disk.only_reach c.args.disk.now c.write_ready.new.disk Pages c.write_ready.ensures.only in
+    (c.in-Ok-write_ready.ensures.reached, placed_inside (g.D.Disk.disk c.args.disk.now).reach.pages (g.D.Disk.disk c.write_ready.new.disk).reach.pages c.args.self.now.shelf.plans c.write_ready.new.shelf.plans r.stored r.prepared.places longer c.requires.within.1 plans (ap (λ p. p.places) c.in-Ok.ensures.ready.plan_is) c.in-Ok-write_ready.ensures.inside)
 
 pub returns-in-Ok-write_ready-clause-stores : goal.returns-in-Ok-write_ready-clause-stores
 returns-in-Ok-write_ready-clause-stores g c = λ h now.
-    let a : ArchiveState = record { end = c.self.inside.journal.end; live = c.self.inside.live; length = c.self.inside.entries; changes = c.self.inside.directory.changes; index = state_of c.self.inside.index; shelf = c.self.inside.shelf } in
     let stands = subst (λ (s : ArchiveState). StandsFor s h) (sym c.self.view_is) now in
-    let r = c.in-Ok.ready in
-    let ready = c.in-Ok.ensures.ready in (
+    let r = c.in-Ok.ready in (
       r.stored.plan,
       (
-        ready_stored h c.args.draft c.end.result c.self.inside.entries r (c.end.ensures.end ∙ stands.end_is) ready (c.in-Ok.ensures.placed _ stands.pages_are),
-        ap summary_of c.in-Ok-write_ready.ensures.report ∙ ready.told ∙ ap (λ (n : ℕ). tells_of c.args.draft (n + 1)) stands.length_is,
-        stands_planned a h c.args.draft c.end.result c.self.inside.entries c.write_ready.new.journal.end r c.write_ready.new.shelf stands (c.requires.drafted h now) c.end.ensures.end ready c.in-Ok-write_ready.ensures.end
-            (c.in-Ok-write_ready.ensures.plans ∙ ap (λ (l : List StoredPlan). with_plan l r.stored) c.in-Ok.ensures.plans) c.in-Ok-write_ready.ensures.pages,
+        ready_stored h c.args.draft c.end.result c.self.inside.entries r (c.end.ensures.end ∙ stands.end_is) c.in-Ok.ensures.ready (c.in-Ok.ensures.placed _ stands.pages_are),
+        ap summary_of c.in-Ok-write_ready.ensures.report ∙ c.in-Ok.ensures.ready.told ∙ ap (λ (n : ℕ). tells_of c.args.draft (n + 1)) stands.length_is,
+        planned g c h now,
       ),
     )
 
 pub returns-in-Ok-write_ready-clause-cached : goal.returns-in-Ok-write_ready-clause-cached
 returns-in-Ok-write_ready-clause-cached g c = λ tells cached is.
-    let disk = g.D.Disk.disk c.args.disk.now in
-    let C : List Kept → Type 0 = λ ks. IsCacheOf ks disk.holds.pages in
-    c.in-Ok-write_ready.ensures.cached tells (subst C (sym (c.in-Ok.ensures.cache ∙ ap (λ (s : ArchiveState). s.shelf.cache) c.self.view_is)) cached)
+    let kept = c.in-Ok.ensures.cache ∙ ap (λ (s : ArchiveState). s.shelf.cache) c.self.view_is in
+    c.in-Ok-write_ready.ensures.cached tells (subst (λ (ks : List Kept). IsCacheOf ks (g.D.Disk.disk c.args.disk.now).holds.pages) (sym kept) cached)
 
 pub returns-in-Ok-write_ready-clause-leads : goal.returns-in-Ok-write_ready-clause-leads
 returns-in-Ok-write_ready-clause-leads g c = λ tells h now is.
-    let a : ArchiveState = record { end = c.self.inside.journal.end; live = c.self.inside.live; length = c.self.inside.entries; changes = c.self.inside.directory.changes; index = state_of c.self.inside.index; shelf = c.self.inside.shelf } in
     let in_step = subst (λ (s : ArchiveState). AreInStep (g.D.Disk.disk c.args.disk.now) s h) (sym c.self.view_is) now in
-    let stands = in_step.stands in
     let r = c.in-Ok.ready in
     let ready = c.in-Ok.ensures.ready in
-    let draft = c.requires.drafted h now.stands in
-    let storable = ready_storable h c.args.draft c.end.result c.self.inside.entries r c.make_ready.new.shelf.pages draft ready (c.in-Ok.ensures.taken _ stands.pages_are) in
+    let storable = ready_storable h c.args.draft c.end.result c.self.inside.entries r c.make_ready.new.shelf.pages (c.requires.drafted h now.stands) ready (c.in-Ok.ensures.taken _ in_step.stands.pages_are) in
     let then = c.in-Ok-write_ready.ensures.in_step tells h in_step.journal in_step.held in_step.legal storable in (
       r.stored.plan,
       (
-        ready_stored h c.args.draft c.end.result c.self.inside.entries r (c.end.ensures.end ∙ stands.end_is) ready (c.in-Ok.ensures.placed _ stands.pages_are),
+        ready_stored h c.args.draft c.end.result c.self.inside.entries r (c.end.ensures.end ∙ in_step.stands.end_is) ready (c.in-Ok.ensures.placed _ in_step.stands.pages_are),
         c.in-Ok-write_ready.ensures.crash tells h in_step.journal in_step.held in_step.legal storable,
         (
-          ap summary_of c.in-Ok-write_ready.ensures.report ∙ ready.told ∙ ap (λ (n : ℕ). tells_of c.args.draft (n + 1)) stands.length_is,
+          ap summary_of c.in-Ok-write_ready.ensures.report ∙ ready.told ∙ ap (λ (n : ℕ). tells_of c.args.draft (n + 1)) in_step.stands.length_is,
           record {
-            stands = stands_planned a h c.args.draft c.end.result c.self.inside.entries c.write_ready.new.journal.end r c.write_ready.new.shelf stands draft c.end.ensures.end ready c.in-Ok-write_ready.ensures.end
-                (c.in-Ok-write_ready.ensures.plans ∙ ap (λ (l : List StoredPlan). with_plan l r.stored) c.in-Ok.ensures.plans) c.in-Ok-write_ready.ensures.pages;
+            stands = planned g c h now.stands;
             journal = then.0;
             legal = legal-push h (entries.Planned r.stored.plan) in_step.legal storable.entry;
             held = then.1;
@@ -107,12 +97,11 @@ returns-in-Ok-write_ready-clause-leads g c = λ tells h now is.
 
 pub returns-in-Err-write_ready-clause-within : goal.returns-in-Err-write_ready-clause-within
 returns-in-Err-write_ready-clause-within g c =
-    let a : ArchiveState = record { end = c.self.inside.journal.end; live = c.self.inside.live; length = c.self.inside.entries; changes = c.self.inside.directory.changes; index = state_of c.self.inside.index; shelf = c.self.inside.shelf } in
-    let reaches = subst (λ (s : ArchiveState). Reaches (g.D.Disk.disk c.args.disk.now).reach s) (sym c.self.view_is) c.requires.within in
     let spent = c.in-Err-write_ready.ensures.spent in
-    reaches_on a (record a { end = c.write_ready.new.journal.end; shelf = c.write_ready.new.shelf }) (g.D.Disk.disk c.args.disk.now).reach (g.D.Disk.disk c.write_ready.new.disk).reach reaches (spent.1 ∙ c.in-Ok.ensures.plans)
-    (g.met.D.Disk.only_reach c.args.disk.now c.write_ready.new.disk Pages c.write_ready.ensures.only)
-    (omega (arith, spent.0, reaches.0, g.met.D.Disk.only_reach c.args.disk.now c.write_ready.new.disk Journal c.write_ready.ensures.only))
+    let only = g.met.D.Disk.only_reach c.args.disk.now c.write_ready.new.disk in (
+      omega (arith, spent.0, c.requires.within.0, ap (λ (s : ArchiveState). s.end) c.self.view_is, only Journal c.write_ready.ensures.only),
+      rw (spent.1 ∙ c.in-Ok.ensures.plans ∙ ap (λ (s : ArchiveState). s.shelf.plans) c.self.view_is) (inside_on _ _ _ (only Pages c.write_ready.ensures.only) c.requires.within.1),
+    )
 
 pub returns-in-Err-write_ready-clause-spent : goal.returns-in-Err-write_ready-clause-spent
 returns-in-Err-write_ready-clause-spent g c = λ is.
