@@ -1,91 +1,150 @@
 -- How a query ends: at a text that is none, at sublists that were not had, or with an answer; and errors that are handed on.
-use Rattle.std.proofs.Common.{◌≡◌, ℕ, List, Result, Ok, Err, IfOk, IsErrAnd, refl, ap, subst, sym, ◌∙◌}
+use Rattle.std.proofs.Common.{◌≡◌, ℕ, ◌+◌, List, Result, Ok, Err, IfOk, IsErrAnd, refl, ap, subst, sym, ◌∙◌}
+use Rattle.machine_model.specs.Images.{MayLeave}
 use Rattle.machine_model.specs.States.{DiskState}
+use Rattle.time_base.specs.declared.time.Time.{Time}
+use Rattle.time_base.specs.declared.time.Span.{Span}
+use Rattle.commands.specs.declared.command.Command.TheVariants as commands
+use Rattle.commands.specs.declared.command.Item.{Item}
+use Rattle.commands.specs.declared.command.Item.TheVariants as items
 use Rattle.query_lang.specs.declared.error.QueryError.{QueryError}
 use Rattle.query_lang.specs.declared.error.QueryError.TheVariants as queries
 use Rattle.query_lang.specs.Grammar.{Query, IsRead}
+use Rattle.query_lang.specs.Meaning.{words_of}
 use Rattle.query_lang.specs.Tokens.{key_of}
+use Rattle.query_eval.specs.declared.answer.Answer.{Answer}
+use Rattle.query_eval.specs.declared.spans.SpanAnswer.{SpanAnswer}
 use Rattle.sublist_store.specs.declared.why.Damage.{Damage}
 use Rattle.sublist_store.specs.declared.why.FetchError.{FetchError}
 use Rattle.sublist_store.specs.declared.why.FetchError.TheVariants as fetches
+use Rattle.archive_state.specs.Chosen.{IsFirstDamage, IsMadeAt, IsMadeOver}
 use Rattle.archive_state.specs.declared.refusal.Refusal.{Refusal}
 use Rattle.archive_state.specs.declared.refusal.Refusal.TheVariants as refusals
+use Rattle.archive_state.specs.Histories.{History}
+use Rattle.archive_state.specs.Holding.{HoldsPlans}
+use Rattle.archive_state.specs.Steps.{Reply, Refused, Found, Spanned, Step, IsReplied, FindsBy, SpansBy}
+use Rattle.archive_state.specs.Worlds.{world_of}
+use Rattle.archive_state.proofs.ChosenLemmas.{held_undamaged, made_at, made_over}
+use Rattle.archive_state.proofs.OutcomeLemmas.{each_finds, each_spans}
 use Rattle.archive_replay.specs.declared.error.Declined.{Declined}
 use Rattle.archive_replay.specs.declared.error.Declined.TheVariants as declines
 use Rattle.archive_core.specs.After.{AfterFetching, AfterQuestion}
-use Rattle.archive_core.specs.Answering.{IsQuery}
-use Rattle.archive_core.specs.Causes.{ask_error_of_fetch, ask_error_of_query, asked_of}
-use Rattle.archive_core.specs.States.{ArchiveState}
+use Rattle.archive_core.specs.Answering.{HasReadFor, IsAnswerTo, IsNoQuery}
+use Rattle.archive_core.specs.Causes.{ask_error_of_query, asked_of}
+use Rattle.archive_core.specs.States.{ArchiveState, AreInStep, CacheStands, StandsFor}
+use Rattle.archive_core.specs.Takes.{Takes, answered, found, spanned}
 use Rattle.archive_core.specs.declared.error.AskError.{AskError}
 use Rattle.archive_core.specs.declared.error.AskError.TheVariants as asks
+use Rattle.archive_core.proofs.CacheLemmas.{takes_but_cache}
+use Rattle.archive_core.proofs.TakeLemmas.{IsAnswered, takes_question}
 
--- a text that was read is the query of its phrase
-pub query_of : (text phrase : List ℕ) (query : Query) → text ≡ phrase → IsRead key_of text (Ok query) → IsRead key_of phrase (Ok query)
-query_of text phrase query same read = subst (λ (t : List ℕ). IsRead key_of t (Ok query)) same read
+-- where there is no answer, and nothing was asked for
+unanswered_after : {T : Type 0} (tells : Type 0) (phrase : List ℕ) (from to : ℕ) (IsMade : History → Query → T → Type 0) (error : AskError) (d : DiskState) (a : ArchiveState) → (error ≡ asks.Failed → ⊥)
+    → ((why : Refusal) → error ≡ asks.Refused why → IsNoQuery phrase why) → ((damage : Damage) → error ≡ asks.Damaged damage → ⊥) → AfterQuestion {T = T} tells phrase from to IsMade (Err error) d d a a
+unanswered_after tells phrase from to IsMade error d a unfailed none undamaged = record {
+  same = refl;
+  but_cache = refl;
+  cached = λ told cached. cached;
+  failed = λ failed. absurd (unfailed cc);
+  refused = λ why refused. none why cc;
+  unasked = λ why refused. (refl, refl);
+  asked = λ ok. absurd cc;
+  made = λ told h stands cached. tt;
+  damaged = λ told h stands cached damage damaged. absurd (undamaged damage cc);
+}
 
 -- after a text that is none
-pub after_no_query : {T : Type 0} (tells : Type 0) (text phrase : List ℕ) (error : AskError) (why : QueryError) (d : DiskState) (a : ArchiveState) → text ≡ phrase → error ≡ ask_error_of_query why
-    → ((place : ℕ) → ◌≡◌ {A = Result Query QueryError} (Err why) (Err (queries.BadQuery place)) → IsRead key_of text (Err place)) → AfterQuestion {T = T} tells phrase (Err error) d d a a
-after_no_query tells text phrase error (queries.BadQuery place) d a same is bad = record {
-  same = refl;
-  but_cache = refl;
-  cached = λ told cached. cached;
-  failed = λ failed. absurd cc;
-  refused = λ why refused. (let at : why ≡ refusals.BadQuery place = cc in (place, subst (λ (t : List ℕ). IsRead key_of t (Err place)) same (bad place refl), at));
-  unasked = λ why refused. (refl, refl);
-  asked = λ ok. absurd cc;
-}
-after_no_query tells text phrase error queries.Memory d a same is bad = record {
-  same = refl;
-  but_cache = refl;
-  cached = λ told cached. cached;
-  failed = λ failed. absurd cc;
-  refused = λ why refused. absurd cc;
-  unasked = λ why refused. (refl, refl);
-  asked = λ ok. absurd cc;
-}
-
--- which is not damaged
-pub no_query_undamaged : {T : Type 0} (error : AskError) (why : QueryError) (damage : Damage) → error ≡ ask_error_of_query why → ◌≡◌ {A = Result T AskError} (Err error) (Err (asks.Damaged damage)) → ⊥
-no_query_undamaged error (queries.BadQuery place) damage is damaged = absurd cc
-no_query_undamaged error queries.Memory damage is damaged = absurd cc
+pub after_no_query : {T : Type 0} (tells : Type 0) (text phrase : List ℕ) (from to : ℕ) (IsMade : History → Query → T → Type 0) (error : AskError) (why : QueryError) (d : DiskState) (a : ArchiveState) → text ≡ phrase
+    → error ≡ ask_error_of_query why → ((place : ℕ) → ◌≡◌ {A = Result Query QueryError} (Err why) (Err (queries.BadQuery place)) → IsRead key_of text (Err place)) → AfterQuestion {T = T} tells phrase from to IsMade (Err error) d d a a
+after_no_query tells text phrase from to IsMade error (queries.BadQuery place) d a same is bad =
+    let read = subst (λ (t : List ℕ). IsRead key_of t (Err place)) same (bad place refl) in
+    unanswered_after tells phrase from to IsMade error d a (λ failed. absurd cc) (λ why refused. (let at : why ≡ refusals.BadQuery place = cc in (place, read, at))) (λ damage damaged. absurd cc)
+after_no_query tells text phrase from to IsMade error queries.Memory d a same is bad =
+    unanswered_after tells phrase from to IsMade error d a (λ failed. absurd cc) (λ why refused. absurd cc) (λ damage damaged. absurd cc)
 
 -- after sublists were fetched for a query
-pub after_fetching : {T : Type 0} (tells : Type 0) (phrase : List ℕ) (r : Result T AskError) (fetched : Result T FetchError) (d e : DiskState) (a b : ArchiveState) → r ≡ asked_of fetched
-    → IsQuery phrase → AfterFetching tells fetched d e a b → AfterQuestion tells phrase r d e a b
-after_fetching {T} tells phrase r fetched d e a b is query after = record {
-  same = after.same;
-  but_cache = after.but_cache;
-  cached = after.cached;
-  failed = λ failed. after.failed (fails fetched (sym is ∙ failed));
-  refused = λ why refused. absurd (allowed fetched why (sym is ∙ refused));
-  unasked = λ why refused. absurd (allowed fetched why (sym is ∙ refused));
-  asked = λ ok. query;
-}
+pub after_fetching : {T : Type 0} (tells : Type 0) (text phrase : List ℕ) (from to : ℕ) (IsMade : History → Query → T → Type 0) (query : Query) (r : Result T AskError) (fetched : Result T FetchError) (d e : DiskState) (x y : ArchiveState)
+    → text ≡ phrase → IsRead key_of text (Ok query) → r ≡ asked_of fetched → AfterFetching tells fetched d e x y
+    → (tells → (h : History) → StandsFor x h → CacheStands d x → IfOk fetched (λ answer. IsMade h query answer × HasReadFor h from to query x.shelf.cache y.shelf.cache d e))
+    → (tells → (h : History) → StandsFor x h → CacheStands d x → (damage : Damage) → fetched ≡ Err (fetches.Damaged damage) → IsFirstDamage h d.holds.pages from to (words_of query) damage)
+    → AfterQuestion tells phrase from to IsMade r d e x y
+after_fetching {T} tells text phrase from to IsMade query r fetched d e x y same read is after made damaged =
+    let is_read : IsRead key_of phrase (Ok query) = subst (λ (t : List ℕ). IsRead key_of t (Ok query)) same read in
+    record {
+      same = after.same;
+      but_cache = after.but_cache;
+      cached = after.cached;
+      failed = λ failed. after.failed (fails fetched (sym is ∙ failed));
+      refused = λ why refused. absurd (allowed fetched why (sym is ∙ refused));
+      unasked = λ why refused. absurd (allowed fetched why (sym is ∙ refused));
+      asked = λ ok. (query, is_read);
+      made = λ told h stands cached. (
+          let R : Result T AskError → Type 0 = λ s. IfOk s (λ answer. IsAnswerTo h from to phrase (λ q. IsMade h q answer) x.shelf.cache y.shelf.cache d e) in
+          subst R (sym is) (told_so fetched (λ answer has. (query, is_read, has.0, has.1)) (made told h stands cached))
+          );
+      damaged = λ told h stands cached damage spoiled. record { query = query; is_read = is_read; first = damaged told h stands cached damage (spoils fetched damage (sym is ∙ spoiled)) };
+    }
   where
-    fails : (x : Result T FetchError) → asked_of x ≡ Err asks.Failed → x ≡ Err fetches.Failed
-    fails (Ok y) failed = absurd cc
+    fails : (s : Result T FetchError) → asked_of s ≡ Err asks.Failed → s ≡ Err fetches.Failed
+    fails (Ok answer) failed = absurd cc
     fails (Err fetches.Failed) failed = refl
     fails (Err (fetches.Damaged damage)) failed = absurd cc
     fails (Err fetches.Memory) failed = absurd cc
 
-    allowed : (x : Result T FetchError) (why : Refusal) → asked_of x ≡ Err (asks.Refused why) → ⊥
-    allowed (Ok y) why refused = absurd cc
+    allowed : (s : Result T FetchError) (why : Refusal) → asked_of s ≡ Err (asks.Refused why) → ⊥
+    allowed (Ok answer) why refused = absurd cc
     allowed (Err fetches.Failed) why refused = absurd cc
     allowed (Err (fetches.Damaged damage)) why refused = absurd cc
     allowed (Err fetches.Memory) why refused = absurd cc
 
--- what is damaged is told as it was found
-pub damage_told : {T : Type 0} (r : Result T AskError) (fetched : Result T FetchError) (damage : Damage) → r ≡ asked_of fetched → r ≡ Err (asks.Damaged damage) → fetched ≡ Err (fetches.Damaged damage)
-damage_told r (Ok x) damage is told = absurd cc
-damage_told r (Err fetches.Failed) damage is told = absurd cc
-damage_told r (Err (fetches.Damaged other)) damage is told = let same : other ≡ damage = cc in ap (λ (y : Damage). Err (fetches.Damaged y)) same
-damage_told r (Err fetches.Memory) damage is told = absurd cc
+    spoils : (s : Result T FetchError) (damage : Damage) → asked_of s ≡ Err (asks.Damaged damage) → s ≡ Err (fetches.Damaged damage)
+    spoils (Ok answer) damage spoiled = absurd cc
+    spoils (Err fetches.Failed) damage spoiled = absurd cc
+    spoils (Err (fetches.Damaged other)) damage spoiled = let same : other ≡ damage = cc in ap (λ (x : Damage). Err (fetches.Damaged x)) same
+    spoils (Err fetches.Memory) damage spoiled = absurd cc
 
--- and so is what was made
-pub made_told : {T : Type 0} (P Q : T → Type 0) (r : Result T AskError) (fetched : Result T FetchError) → r ≡ asked_of fetched → ((x : T) → P x → Q x) → IfOk fetched P → IfOk r Q
-made_told {T} P Q r (Ok x) is then made = let R : Result T AskError → Type 0 = λ y. IfOk y Q in subst R (sym is) (then x made)
-made_told {T} P Q r (Err error) is then made = let R : Result T AskError → Type 0 = λ y. IfOk y Q in subst R (sym is) tt
+    told_so : {P Q : T → Type 0} (s : Result T FetchError) → ((answer : T) → P answer → Q answer) → IfOk s P → IfOk (asked_of s) Q
+    told_so (Ok answer) then made = then answer made
+    told_so (Err error) then made = tt
+
+-- ---- a query is a step of the abstract machine, with the cache that it leaves
+
+-- its reply is made of its text, and pages that hold the live plans spoil none
+takes_query : {T tells : Type 0} (By : Query → Reply → Type 0) (h : History) (item : Item) (phrase : List ℕ) (from to : ℕ) (IsMade : History → Query → T → Type 0) (reply : T → Reply) (r : Result T AskError) (d e : DiskState) (x y : ArchiveState)
+    → tells → ((one : Reply) → IsReplied By phrase one → Step (world_of h) item one (world_of h)) → (one : Reply) × IsReplied By phrase one → ((query : Query) (answer : T) → IsMade h query answer → By query (reply answer))
+    → HoldsPlans h d.holds.pages → AreInStep d x h → AfterQuestion tells phrase from to IsMade r d e x y → Takes h item (answered reply r) d e y
+takes_query {T} {tells} By h item phrase from to IsMade reply r d e x y told step any made held in_step after =
+    takes_but_cache h item (answered reply r) d e x y after.but_cache (after.cached told in_step.cached)
+    (takes_question (IsReplied By phrase) h item (answered reply r) d e x step any after.same in_step (go r after))
+  where
+    go : (s : Result T AskError) → AfterQuestion tells phrase from to IsMade s d e x y → IsAnswered (IsReplied By phrase) (answered reply s)
+    go (Ok answer) after = let (query, read, is, has) = after.made told h in_step.stands in_step.cached in (Ok query, read, made query answer is)
+    go (Err (asks.Refused why)) after = let (place, read, is) = after.refused why refl in (Err place, read, ap Refused is)
+    go (Err (asks.Damaged damage)) after =
+        let first = (after.damaged told h in_step.stands in_step.cached damage refl).first in
+        held_undamaged h d.holds.pages first.word from to damage in_step.stands.loadable held first.damaged
+    go (Err asks.Failed) after = tt
+    go (Err asks.Memory) after = tt
+
+pub takes_find : {tells : Type 0} (h : History) (at : Time) (phrase : List ℕ) (r : Result Answer AskError) (d e : DiskState) (x y : ArchiveState) → tells → MayLeave d.now d.holds → AreInStep d x h
+    → AfterQuestion tells phrase at.seconds (at.seconds + 1) (λ h query answer. IsMadeAt h d.holds.pages at.seconds query answer.rows.items answer.read) r d e x y
+    → Takes h (items.Command (commands.Find at phrase)) (found r) d e y
+takes_find h at phrase r d e x y told allowed in_step after =
+    let held = in_step.held d.holds allowed in
+    takes_query (FindsBy h at) h (items.Command (commands.Find at phrase)) phrase at.seconds (at.seconds + 1) (λ h query answer. IsMadeAt h d.holds.pages at.seconds query answer.rows.items answer.read)
+    (λ (answer : Answer). Found answer.rows.items answer.read) r d e x y told (λ one is. (refl, is)) (each_finds h at phrase in_step.legal)
+    (λ query answer made. (let stands = made_at h d.holds.pages at.seconds query answer.rows.items answer.read in_step.stands.loadable held at.before_now made in (answer.rows.items, answer.read, stands.0, stands.1, refl)))
+    held in_step after
+
+pub takes_between : {tells : Type 0} (h : History) (span : Span) (phrase : List ℕ) (r : Result SpanAnswer AskError) (d e : DiskState) (x y : ArchiveState) → tells → MayLeave d.now d.holds → AreInStep d x h
+    → AfterQuestion tells phrase span.from span.to (λ h query answer. IsMadeOver h d.holds.pages span.from span.to query answer.rows.items answer.read) r d e x y
+    → Takes h (items.Command (commands.Between span phrase)) (spanned r) d e y
+takes_between h span phrase r d e x y told allowed in_step after =
+    let held = in_step.held d.holds allowed in
+    takes_query (SpansBy h span) h (items.Command (commands.Between span phrase)) phrase span.from span.to (λ h query answer. IsMadeOver h d.holds.pages span.from span.to query answer.rows.items answer.read)
+    (λ (answer : SpanAnswer). Spanned answer.rows.items answer.read) r d e x y told (λ one is. (refl, is)) (each_spans h span phrase in_step.legal)
+    (λ query answer made. (let stands = made_over h d.holds.pages span.from span.to query answer.rows.items answer.read in_step.stands.loadable held span.in_time made in (answer.rows.items, answer.read, stands.0, stands.1, refl)))
+    held in_step after
 
 -- ---- errors that are handed on
 

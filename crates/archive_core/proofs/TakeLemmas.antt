@@ -12,43 +12,32 @@ use Rattle.commands.specs.declared.command.Command.TheVariants as commands
 use Rattle.commands.specs.declared.command.Item.{Item}
 use Rattle.commands.specs.declared.command.Item.TheVariants as items
 use Rattle.record_codec.specs.declared.entry.Entry.{Entry}
-use Rattle.query_lang.specs.Grammar.{Query}
-use Rattle.archive_state.specs.Chosen.{SpoilsAnswer}
-use Rattle.archive_state.specs.Legal.{IsLoadable}
-use Rattle.archive_state.proofs.ChosenLemmas.{held_undamaged, made_at, made_over}
-use Rattle.query_eval.specs.declared.answer.Answer.{Answer}
-use Rattle.query_eval.specs.declared.spans.SpanAnswer.{SpanAnswer}
 use Rattle.proposals.specs.declared.proposal.Proposal.{Proposal}
-use Rattle.sublist_store.specs.declared.why.Damage.{Damage}
-use Rattle.time_base.specs.declared.time.Span.{Span}
 use Rattle.archive_state.specs.declared.refusal.Refusal.{Refusal}
 use Rattle.archive_state.specs.Histories.{History, text_at}
 use Rattle.archive_state.specs.Steps as machine
-use Rattle.archive_state.specs.Steps.{Reply, Accepted, Refused, Proposed, Version, IsReplied, Finds, FindsBy, Spans, SpansBy, Step, Verified, sound_of}
+use Rattle.archive_state.specs.Steps.{Reply, Accepted, Refused, Proposed, Version, Step, Verified, sound_of}
 use Rattle.archive_state.specs.Stands.{bodies_of}
 use Rattle.archive_state.specs.Worlds.{world_of}
-use Rattle.archive_state.proofs.OutcomeLemmas.{adds_outcome, each_finds, each_spans}
+use Rattle.archive_state.proofs.OutcomeLemmas.{adds_outcome}
 use Rattle.archive_state.specs.declared.verdict.Verdict.{Verdict}
 use Rattle.archive_check.specs.Checked.{IsChecked}
 use Rattle.archive_check.proofs.SoundLemmas.{stands_sound}
 use Rattle.archive_check.specs.declared.error.VerifyError.{VerifyError}
 use Rattle.archive_check.specs.declared.error.VerifyError.TheVariants as checks
-use Rattle.archive_core.specs.After.{AfterQuestion, IsDone}
-use Rattle.archive_core.specs.Answering.{AnswersAt, AnswersOver, IsNoQuery}
+use Rattle.archive_core.specs.After.{IsDone}
 use Rattle.archive_core.specs.States.{ArchiveState, StandsFor, AreInStep}
 use Rattle.archive_core.specs.Adding.{Adds}
 use Rattle.archive_core.specs.Changing.{LeadsTo}
-use Rattle.archive_core.specs.Takes.{Ending, Replied, Starved, Faulted, Spoiled, Takes, changed, found, proposed, spanned, unanswered, unchanged, version_shown, verified}
+use Rattle.archive_core.specs.Takes.{Ending, Replied, Starved, Faulted, Spoiled, Takes, changed, proposed, unchanged, version_shown, verified}
 use Rattle.archive_core.specs.declared.error.ChangeError.{ChangeError}
 use Rattle.archive_core.specs.declared.error.ChangeError.TheVariants as changes
 use Rattle.archive_replay.specs.declared.error.ReadError.{ReadError}
 use Rattle.archive_replay.specs.declared.error.ReadError.TheVariants as reads
 use Rattle.archive_replay.specs.declared.error.Declined.{Declined}
 use Rattle.archive_replay.specs.declared.error.Declined.TheVariants as declines
-use Rattle.archive_core.specs.declared.error.AskError.{AskError}
-use Rattle.archive_core.specs.declared.error.AskError.TheVariants as asks
 use Rattle.archive_core.proofs.AddLemmas.{in_step_stands, leads_nowhere, step_reads}
-use Rattle.archive_core.proofs.CacheLemmas.{cache_reads, takes_but_cache}
+use Rattle.archive_core.proofs.CacheLemmas.{cache_reads}
 
 -- a change that was not made: it is refused, or it failed and each image stands for the history before an outcome or after it, or there was no memory
 pub takes_unmade : (h : History) (item : Item) (error : ChangeError) (old new : DiskState) (a b : ArchiveState) → AreInStep old a h
@@ -158,45 +147,6 @@ takes_verify h r old new a allowed checked same in_step =
     go (Ok verdict) checked = ap Verified (stands_sound h old.holds verdict (in_step_stands old a h in_step old.holds allowed) checked)
     go (Err checks.Failed) checked = tt
     go (Err checks.Memory) checked = tt
-
--- a query that has no answer: pages that hold the live plans spoil none
-unanswered_by : (By : Query → Reply → Type 0) (h : History) (pages : List ℕ) (a b : ℕ) (text : List ℕ) (error : AskError) → IsLoadable h → HoldsPlans h pages
-    → ((why : Refusal) → error ≡ asks.Refused why → IsNoQuery text why) → ((d : Damage) → error ≡ asks.Damaged d → SpoilsAnswer h pages a b text d) → IsAnswered (IsReplied By text) (unanswered error)
-unanswered_by By h pages a b text (asks.Refused why) loads held refused damaged = let (place, read, is) = refused why refl in (Err place, read, ap Refused is)
-unanswered_by By h pages a b text (asks.Damaged d) loads held refused damaged = let spoils = damaged d refl in held_undamaged h pages spoils.first.word a b d loads held spoils.first.damaged
-unanswered_by By h pages a b text asks.Failed loads held refused damaged = tt
-unanswered_by By h pages a b text asks.Memory loads held refused damaged = tt
-
--- a query, with the cache that it leaves
-takes_query : {T tells : Type 0} (Q : Reply → Type 0) (h : History) (item : Item) (ending : Ending) (text : List ℕ) (r : Result T AskError) (old new : DiskState) (a b : ArchiveState)
-    → ((reply : Reply) → Q reply → Step (world_of h) item reply (world_of h)) → (reply : Reply) × Q reply → tells → AfterQuestion tells text r old new a b → AreInStep old a h → IsAnswered Q ending
-    → Takes h item ending old new b
-takes_query Q h item ending text r old new a b step any told after in_step answered =
-    takes_but_cache h item ending old new a b after.but_cache (after.cached told in_step.cached) (takes_question Q h item ending old new a step any after.same in_step answered)
-
--- at a time: its answer was made from the lists chosen
-pub find_takes : {tells : Type 0} (h : History) (at : Time) (text : List ℕ) (r : Result Answer AskError) (old new : DiskState) (a b : ArchiveState) → tells → MayLeave old.now old.holds → AfterQuestion tells text r old new a b
-    → IfOk r (λ answer. AnswersAt h at.seconds text a.shelf.cache b.shelf.cache old new answer.rows.items answer.read)
-    → ((d : Damage) → r ≡ Err (asks.Damaged d) → SpoilsAnswer h old.holds.pages at.seconds (at.seconds + 1) text d) → AreInStep old a h → Takes h (items.Command (commands.Find at text)) (found r) old new b
-find_takes h at text (Ok answer) old new a b told allowed after (query, read, made, rest) damaged in_step =
-    let stands = made_at h old.holds.pages at.seconds query answer.rows.items answer.read in_step.stands.loadable (in_step.held old.holds allowed) at.before_now made in
-    takes_query (Finds h at text) h (items.Command (commands.Find at text)) (found (Ok answer)) text (Ok answer) old new a b (λ reply is. (refl, is)) (each_finds h at text in_step.legal) told after in_step
-    (Ok query, read, (answer.rows.items, answer.read, stands.0, stands.1, refl))
-find_takes h at text (Err error) old new a b told allowed after made damaged in_step =
-    takes_query (Finds h at text) h (items.Command (commands.Find at text)) (unanswered error) text (Err error) old new a b (λ reply is. (refl, is)) (each_finds h at text in_step.legal) told after in_step
-    (unanswered_by (FindsBy h at) h old.holds.pages _ _ text error in_step.stands.loadable (in_step.held old.holds allowed) (λ why is. after.refused why (ap Err is)) (λ d is. damaged d (ap Err is)))
-
--- and over a window
-pub between_takes : {tells : Type 0} (h : History) (span : Span) (text : List ℕ) (r : Result SpanAnswer AskError) (old new : DiskState) (a b : ArchiveState) → tells → MayLeave old.now old.holds → AfterQuestion tells text r old new a b
-    → IfOk r (λ answer. AnswersOver h span.from span.to text a.shelf.cache b.shelf.cache old new answer.rows.items answer.read)
-    → ((d : Damage) → r ≡ Err (asks.Damaged d) → SpoilsAnswer h old.holds.pages span.from span.to text d) → AreInStep old a h → Takes h (items.Command (commands.Between span text)) (spanned r) old new b
-between_takes h span text (Ok answer) old new a b told allowed after (query, read, made, rest) damaged in_step =
-    let stands = made_over h old.holds.pages span.from span.to query answer.rows.items answer.read in_step.stands.loadable (in_step.held old.holds allowed) span.in_time made in
-    takes_query (Spans h span text) h (items.Command (commands.Between span text)) (spanned (Ok answer)) text (Ok answer) old new a b (λ reply is. (refl, is)) (each_spans h span text in_step.legal) told after in_step
-    (Ok query, read, (answer.rows.items, answer.read, stands.0, stands.1, refl))
-between_takes h span text (Err error) old new a b told allowed after made damaged in_step =
-    takes_query (Spans h span text) h (items.Command (commands.Between span text)) (unanswered error) text (Err error) old new a b (λ reply is. (refl, is)) (each_spans h span text in_step.legal) told after in_step
-    (unanswered_by (SpansBy h span) h old.holds.pages _ _ text error in_step.stands.loadable (in_step.held old.holds allowed) (λ why is. after.refused why (ap Err is)) (λ d is. damaged d (ap Err is)))
 
 -- ---- what an archive stands for begins with what it stood for
 

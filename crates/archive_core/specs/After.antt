@@ -1,14 +1,18 @@
 -- What holds after each call that changes an archive in hand, after each query, and after sublists were fetched for one, whatever it is for.
-use Rattle.std.specs.Prelude.{◌≡◌, ◌⊎◌, ◌↔◌, List, ℕ, Result, Err, IsOk, IsTrue}
+use Rattle.std.specs.Prelude.{◌≡◌, ◌⊎◌, ◌↔◌, List, ℕ, Result, Err, IfOk, IsOk, IsTrue}
 use Rattle.machine_model.specs.Calls.{OnlyReads}
 use Rattle.machine_model.specs.Causes.{Rose}
 use Rattle.machine_model.specs.States.{DiskState}
+use Rattle.query_lang.specs.Grammar.{Query}
+use Rattle.sublist_store.specs.declared.why.Damage.{Damage}
 use Rattle.sublist_store.specs.declared.why.FetchError.{FetchError}
 use Rattle.sublist_store.specs.declared.why.FetchError.TheVariants as fetches
 use Rattle.archive_state.specs.declared.refusal.Refusal.{Refusal}
+use Rattle.archive_state.specs.Chosen.{SpoilsAnswer}
+use Rattle.archive_state.specs.Histories.{History}
 use Rattle.archive_core.specs.Adding.{IsSpent}
-use Rattle.archive_core.specs.Answering.{IsNoQuery, IsQuery}
-use Rattle.archive_core.specs.States.{ArchiveState, CacheStands, IsSameButCache, Reaches}
+use Rattle.archive_core.specs.Answering.{IsAnswerTo, IsNoQuery, IsQuery}
+use Rattle.archive_core.specs.States.{ArchiveState, CacheStands, IsSameButCache, Reaches, StandsFor}
 use Rattle.archive_core.specs.declared.error.AskError.{AskError}
 use Rattle.archive_core.specs.declared.error.AskError.TheVariants as asks
 use Rattle.archive_core.specs.declared.error.ChangeError.{ChangeError}
@@ -47,8 +51,8 @@ pub record AfterFetching {T : Type 0} (tells : Type 0) (result : Result T FetchE
   -- it failed only where a call of the disk failed
   pub failed : result ≡ Err fetches.Failed → Rose d.faults e.faults
 
--- After a query by this phrase, on any disk: `tells` says that the disk tells.
-pub record AfterQuestion {T : Type 0} (tells : Type 0) (phrase : List ℕ) (result : Result T AskError) (d e : DiskState) (old new : ArchiveState) : Type 0 where
+-- After a query by this phrase over [a, b), on any disk: `tells` says that the disk tells, and `IsMade` what an answer to a query is made from.
+pub record AfterQuestion {T : Type 0} (tells : Type 0) (phrase : List ℕ) (a b : ℕ) (IsMade : History → Query → T → Type 0) (result : Result T AskError) (d e : DiskState) (old new : ArchiveState) : Type 0 where
   -- no image changes, no byte and no length
   pub same : OnlyReads d e
   -- nor does the archive, but for which pages it keeps
@@ -63,3 +67,9 @@ pub record AfterQuestion {T : Type 0} (tells : Type 0) (phrase : List ℕ) (resu
   pub unasked : (why : Refusal) → result ≡ Err (asks.Refused why) → (e ≡ d) × (new ≡ old)
   -- and an answer comes of a query
   pub asked : IsOk result → IsQuery phrase
+  -- whatever the disk holds, if it tells, and the pages kept are what reads give: an answer is made so, and exactly the pages were asked for of the
+  -- places that are chosen
+  pub made : tells → (h : History) → StandsFor old h → CacheStands d old
+      → IfOk result (λ answer. IsAnswerTo h a b phrase (λ query. IsMade h query answer) old.shelf.cache new.shelf.cache d e)
+  -- and what is damaged is the first of what is read for the query's words, as what reads give shows
+  pub damaged : tells → (h : History) → StandsFor old h → CacheStands d old → (damage : Damage) → result ≡ Err (asks.Damaged damage) → SpoilsAnswer h d.holds.pages a b phrase damage

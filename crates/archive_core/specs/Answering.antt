@@ -7,12 +7,10 @@ use Rattle.page_cache.specs.Caches.{Kept, after_asking_all, missed_by_all}
 use Rattle.query_lang.specs.Grammar.{Query, IsRead}
 use Rattle.query_lang.specs.Meaning.{words_of}
 use Rattle.query_lang.specs.Tokens.{key_of}
-use Rattle.query_eval.specs.declared.answer.Row.{Row}
-use Rattle.query_eval.specs.declared.spans.SpanRow.{SpanRow}
 use Rattle.archive_state.specs.declared.refusal.Refusal.{Refusal}
 use Rattle.archive_state.specs.declared.refusal.Refusal.TheVariants as refusals
 use Rattle.archive_state.specs.Histories.{History}
-use Rattle.archive_state.specs.Chosen.{IsMadeAt, IsMadeOver, pieces_for}
+use Rattle.archive_state.specs.Chosen.{pieces_for}
 
 -- the phrase is a query
 abbrev pub IsQuery : List ℕ → Type 0
@@ -32,13 +30,8 @@ pub record HasAsked (pieces was now : List Kept) (old new : DiskState) : Type 0 
 abbrev pub HasReadFor : History → ℕ → ℕ → Query → List Kept → List Kept → DiskState → DiskState → Type 0
 HasReadFor history a b query was now old new = HasAsked (pieces_for history old.holds.pages a b (words_of query)) was now old new
 
--- The answer to a phrase at a time is made from the lists that are chosen, by what reads of Pages gave before, and the pages of these were
--- asked for, with the caches before and after.
-abbrev pub AnswersAt : History → ℕ → List ℕ → List Kept → List Kept → DiskState → DiskState → List Row → ℕ → Type 0
-AnswersAt history t phrase was now old new rows read =
-    (query : Query) × IsRead key_of phrase (Ok query) × IsMadeAt history old.holds.pages t query rows read × HasReadFor history t (t + 1) query was now old new
-
--- the same over [a, b)
-abbrev pub AnswersOver : History → ℕ → ℕ → List ℕ → List Kept → List Kept → DiskState → DiskState → List SpanRow → ℕ → Type 0
-AnswersOver history a b phrase was now old new rows read =
-    (query : Query) × IsRead key_of phrase (Ok query) × IsMadeOver history old.holds.pages a b query rows read × HasReadFor history a b query was now old new
+-- The answer to a phrase over [a, b) is made from its query, and the pages were asked for of the places that are chosen, with the caches before
+-- and after.
+abbrev pub IsAnswerTo : History → ℕ → ℕ → List ℕ → (Query → Type 0) → List Kept → List Kept → DiskState → DiskState → Type 0
+IsAnswerTo history a b phrase IsMade was now old new =
+    (query : Query) × IsRead key_of phrase (Ok query) × IsMade query × HasReadFor history a b query was now old new

@@ -56,13 +56,15 @@ unanswered asks.Failed = Faulted
 unanswered asks.Memory = Starved
 unanswered (asks.Damaged damage) = Spoiled damage
 
+abbrev pub answered : {T : Type 0} → (T → Reply) → Result T AskError → Ending
+answered reply (Ok answer) = Replied (reply answer)
+answered reply (Err error) = unanswered error
+
 abbrev pub found : Result Answer AskError → Ending
-found (Ok answer) = Replied (Found answer.rows.items answer.read)
-found (Err error) = unanswered error
+found = answered (λ answer. Found answer.rows.items answer.read)
 
 abbrev pub spanned : Result SpanAnswer AskError → Ending
-spanned (Ok answer) = Replied (Spanned answer.rows.items answer.read)
-spanned (Err error) = unanswered error
+spanned = answered (λ answer. Spanned answer.rows.items answer.read)
 
 -- how the other questions do: what needs no disk, a text that is read, and a check
 abbrev pub proposed : Result Proposal Declined → Ending

@@ -5,9 +5,9 @@ ghost use Rattle.query_eval.specs.Asked.{read_of};
 ghost use Rattle.query_eval.specs.Found.{told};
 ghost use Rattle.query_eval.specs.Spans.{IsSpanAnswer};
 ghost use Rattle.archive_state.specs.Histories.{History, text_at};
-ghost use Rattle.archive_state.specs.Chosen.{IsFirstDamage, IsMadeOver, SpoilsAnswer};
+ghost use Rattle.archive_state.specs.Chosen.{IsFirstDamage, IsMadeOver};
 ghost use Rattle.archive_core.specs.After.{AfterFetching, AfterQuestion};
-ghost use Rattle.archive_core.specs.Answering.{AnswersOver, HasReadFor};
+ghost use Rattle.archive_core.specs.Answering.{HasReadFor};
 ghost use Rattle.archive_core.specs.States.{StandsFor, CacheStands, AreInStep, Reaches};
 ghost use Rattle.archive_core.specs.Takes.{Takes, spanned};
 ghost use Rattle.commands.specs.declared.command.Command.TheVariants as commands;
@@ -44,14 +44,8 @@ impl Archive {
     ) -> Result<SpanAnswer, AskError>
         requires within { Reaches (D.disk disk.old).reach self.old }
         ensures only { D.Disk.only disk.old disk.new }
-        ensures after { AfterQuestion D.disk_tells expr.now result (D.disk disk.old) (D.disk disk.new) self.old self.new }
-        // Whatever the disk holds, if it tells, and the pages kept are what reads give: the answer is made from the lists that are chosen, by what
-        // reads of Pages give. Exactly those pages of the places chosen are read that are missed. What is damaged is the first of what is read for
-        // the query's words, as what reads give shows.
-        ensures made { D.disk_tells → (h : History) → StandsFor self.old h → CacheStands (D.disk disk.old) self.old →
-            IfOk result (λ answer. AnswersOver h span.from span.to expr.now self.old.shelf.cache self.new.shelf.cache (D.disk disk.old) (D.disk disk.new) answer.rows.items answer.read) }
-        ensures damaged { D.disk_tells → (h : History) → StandsFor self.old h → CacheStands (D.disk disk.old) self.old → (d : Damage) → IsErrOf result (AskError.Damaged d) →
-            SpoilsAnswer h (D.disk disk.old).holds.pages span.from span.to expr.now d }
+        ensures after { AfterQuestion D.disk_tells expr.now span.from span.to (λ h query answer. IsMadeOver h (D.disk disk.old).holds.pages span.from span.to query answer.rows.items answer.read)
+            result (D.disk disk.old) (D.disk disk.new) self.old self.new }
         // In step, it is a step of the abstract machine.
         ensures takes { D.disk_tells → (h : History) → AreInStep (D.disk disk.old) self.old h →
             Takes h (items.Command (commands.Between span expr.now)) (spanned result) (D.disk disk.old) (D.disk disk.new) self.new }

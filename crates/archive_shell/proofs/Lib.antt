@@ -1,12 +1,5 @@
-mod QuestionLemmas
-mod FetchLemmas
-mod StartLemmas
-mod DamageLemmas
-mod CauseLemmas
-mod EndLemmas
-mod PullLemmas
-mod ServeLemmas
-mod ShowLemmas
-mod StepLemmas
 mod OutcomeLemmas
+mod PullLemmas
+mod QuestionLemmas
 mod SampleLemmas
+mod ServeLemmas

@@ -1,38 +1,27 @@
--- One item answered: what a call of the archive did, and what is written of it.
-use Rattle.std.proofs.Common.{◌≡◌, ℕ, List, Result, Ok, Err, OnOk, refl, inl, inr, ap, subst, sym, ◌∙◌}
+-- An item answered and its reply shown: what a call of the archive did, what is written of it, and what is shown of that.
+use Rattle.std.proofs.Common.{◌≡◌, ℕ, ◌+◌, ◌<◌, ◌≤◌, List, [], ◌++◌, length, None, Result, Ok, Err, refl, inl, inr, ap, subst, sym, ◌∙◌, arith, append_assoc}
+use Rattle.std.proofs.lemmas.List.{append-nil, append_cancel_left, length-append}
+use Rattle.machine_model.specs.Areas.{Bytes}
+use Rattle.machine_model.specs.Images.{MayLeave}
+use Rattle.machine_model.specs.Pushes.{IsPrefix, IsSameBeside, OnlyShows}
 use Rattle.machine_model.specs.States.{DiskState}
 use Rattle.commands.specs.declared.command.Item.{Item}
 use Rattle.archive_state.specs.declared.refusal.Refusal.{Refusal}
 use Rattle.archive_state.specs.Histories.{History}
-use Rattle.archive_state.specs.Steps.{Refused, Step}
 use Rattle.archive_state.specs.Replies.{reply_text}
+use Rattle.archive_state.specs.Stands.{StandsIn}
+use Rattle.archive_state.specs.Steps.{Reply, Accepted, Refused, Step, Version}
 use Rattle.archive_state.specs.Worlds.{world_of}
-use Rattle.archive_core.specs.States.{ArchiveState, AreInStep}
-use Rattle.archive_core.specs.Takes.{Ending, EndsBy, Replied, Starved, Faulted, Spoiled, Takes, found}
-use Rattle.archive_core.specs.declared.error.AskError.{AskError}
-use Rattle.archive_core.specs.declared.error.AskError.TheVariants as asks
+use Rattle.archive_state.proofs.RunLemmas.{one_outcome}
+use Rattle.archive_core.specs.States.{ArchiveState, AreInStep, CacheStands}
+use Rattle.archive_core.specs.Takes.{Ending, EndsBy, Replied, Starved, Faulted, Spoiled, Takes}
 use Rattle.archive_core.proofs.AddLemmas.{in_step_stands, leads_nowhere}
-use Rattle.archive_shell.specs.Outcomes.{AnsweredBy, Answers, Writes}
+use Rattle.archive_shell.specs.Outcomes.{AnsweredBy, Answers, CarriesOut, EndsAt, StopsAt, Writes}
+use Rattle.archive_shell.specs.Statuses.{stop_of_halt}
 use Rattle.archive_shell.specs.declared.stop.Halt.{Halt}
 use Rattle.archive_shell.specs.declared.stop.Halt.TheVariants as halts
-
--- a run that is halted goes on nowhere
-pub halted : (P : Type 0) (result : Result (Unit {0}) Halt) (halt : Halt) → result ≡ Err halt → OnOk result P
-halted P (Ok done) halt is = absurd cc
-halted P (Err other) halt is = tt
-
--- what holds anyway holds where it goes on
-pub anyway : (P : Type 0) (result : Result (Unit {0}) Halt) → P → OnOk result P
-anyway P (Ok done) p = p
-anyway P (Err halt) p = tt
-
--- where a question has no answer, what holds of its refusal holds where it goes on
-pub unreplied : (P : Type 0) (error : AskError) (result : Result (Unit {0}) Halt) (page : List ℕ) → ((why : Refusal) → error ≡ asks.Refused why → Writes (Replied (Refused why)) result page → OnOk result P)
-    → Writes (found (Err error)) result page → OnOk result P
-unreplied P (asks.Refused why) result page refused writes = refused why refl writes
-unreplied P asks.Failed result page refused writes = halted P result halts.Disk writes
-unreplied P (asks.Damaged damage) result page refused writes = halted P result (halts.Damaged damage) writes
-unreplied P asks.Memory result page refused writes = halted P result halts.Memory writes
+use Rattle.archive_shell.specs.declared.stop.Stop.{Stop}
+use Rattle.archive_shell.specs.declared.stop.Stop.TheVariants as stops
 
 -- an item that a call took is answered by what is written of the call's end
 pub answers_by : (h : History) (item : Item) (ending : Ending) (result : Result (Unit {0}) Halt) (old new : DiskState) (archive : ArchiveState) (page : List ℕ)
@@ -40,15 +29,103 @@ pub answers_by : (h : History) (item : Item) (ending : Ending) (result : Result 
 answers_by h item ending result old new archive page takes writes = record { outcome = takes.outcome; step = takes.step; leads = takes.leads; ends = ends ending takes.ends writes }
   where
     ends : (e : Ending) → EndsBy h takes.outcome new archive e → Writes e result page → AnsweredBy h takes.outcome new archive page result
-    ends (Replied reply) (same, in_step) (inl is) = subst (λ r. AnsweredBy h takes.outcome new archive page r) (sym is.0) (in_step, is.1 ∙ sym (ap reply_text same))
-    ends (Replied reply) (same, in_step) (inr none) = subst (λ r. AnsweredBy h takes.outcome new archive page r) (sym none) (inr (in_step_stands new archive takes.outcome.next.history in_step))
-    ends Starved each is = subst (λ r. AnsweredBy h takes.outcome new archive page r) (sym is) (inl each)
-    ends Faulted none is = subst (λ r. AnsweredBy h takes.outcome new archive page r) (sym is) tt
+    ends (Replied reply) (same, in_step) (inl is) = rw is.0 (in_step, is.1 ∙ sym (ap reply_text same))
+    ends (Replied reply) (same, in_step) (inr none) = rw none (inr (in_step_stands new archive takes.outcome.next.history in_step))
+    ends Starved each is = rw is (inl each)
+    ends Faulted none is = rw is tt
     ends (Spoiled damage) never is = absurd never
 
 -- an item that is refused without a call
 pub refused_by : (h : History) (item : Item) (why : Refusal) (result : Result (Unit {0}) Halt) (d : DiskState) (archive : ArchiveState) (page : List ℕ)
     → Step (world_of h) item (Refused why) (world_of h) → AreInStep d archive h → result ≡ Ok tt → page ≡ reply_text (Refused why) → Answers h item result d d archive page
 refused_by h item why result d archive page step in_step goes_on written =
-    let A : Result (Unit {0}) Halt → Type 0 = λ r. AnsweredBy h (record { reply = Refused why; next = world_of h }) d archive page r in
-    record { outcome = record { reply = Refused why; next = world_of h }; step = step; leads = leads_nowhere d archive h h in_step; ends = subst A (sym goes_on) (in_step, written) }
+    record { outcome = record { reply = Refused why; next = world_of h }; step = step; leads = leads_nowhere d archive h h in_step; ends = rw goes_on (in_step, written) }
+
+-- no reply is empty
+pub some_bytes : (r : Reply) → 1 ≤ length (reply_text r)
+some_bytes (Accepted n) = omega arith
+some_bytes (Version None) = omega arith
+some_bytes r = omega (arith, length-append {A = ℕ})
+
+-- ---- pushes
+
+-- they change no image
+pub same_images : (old new : DiskState) → IsSameBeside old new → (image : Bytes) → MayLeave new.now image → MayLeave old.now image
+same_images old new same image allowed = λ area. rw (same.stable, same.pending) at (allowed area)
+
+-- so an archive stays in step over them
+in_step_beside : (old new : DiskState) (archive : ArchiveState) (history : History) → IsSameBeside old new → AreInStep old archive history → AreInStep new archive history
+in_step_beside old new archive history same in_step = record {
+  stands = in_step.stands;
+  journal = record {
+    gate = in_step.journal.gate;
+    shut = in_step.journal.shut;
+    fit = in_step.journal.fit;
+    end_is = in_step.journal.end_is;
+    images = λ image allowed. in_step.journal.images image (same_images old new same image allowed);
+  };
+  legal = in_step.legal;
+  held = λ image allowed. in_step.held image (same_images old new same image allowed);
+  cached = subst (λ (d : DiskState). CacheStands d archive) (sym same.same) in_step.cached;
+}
+
+-- ---- a reply shown
+
+-- the run was stopped before the reply
+pub cut_short : (history : History) (item : Item) (halt : Halt) (stop : Stop) (before : List ℕ) (old new : DiskState) (archive_now : ArchiveState) (page : List ℕ)
+    → Answers history item (Err halt) old new archive_now page → stop ≡ stop_of_halt halt → old.now.beside ≡ before → CarriesOut history item (Err stop) before before old new archive_now
+cut_short history item halt stop before old new archive_now page answered is beside =
+    let outcome = answered.outcome in
+    record {
+      outcome = outcome;
+      step = answered.step;
+      carried = record {
+        goes_on = answered.leads.goes_on;
+        images = λ image other left. let was = answered.leads.images image other left in
+            ([], was.1 ∙ beside ∙ sym (append-nil before), elim was.0 [ inl still ↦ inl (still, refl) | inr next ↦ inr (inl (next, (reply_text outcome.reply, refl))) ]);
+      };
+      shown = [];
+      shown_is = sym (append-nil before);
+      front = (reply_text outcome.reply, refl);
+      ends = (omega (arith, some_bytes outcome.reply), rw is (stops_at halt answered.ends));
+    }
+  where
+    stops_at : (h : Halt) → AnsweredBy history answered.outcome new archive_now page (Err h) → StopsAt history answered.outcome new (stop_of_halt h)
+    stops_at halts.Disk ends = ends
+    stops_at halt ends = ends
+
+-- what is known of the end of a show: all of the page was shown, or a part
+abbrev pub ShownTo : List ℕ → List ℕ → List ℕ → Result (Unit {0}) Stop → Type 0
+ShownTo before after page (Ok done) = after ≡ before ++ page
+ShownTo before after page (Err stops.Sink) = length after < length before + length page
+ShownTo before after page (Err stop) = ⊥
+
+-- the reply was shown, or a front of it
+pub carried_out : (history : History) (item : Item) (result : Result (Unit {0}) Stop) (before after : List ℕ) (old mid new : DiskState) (archive_now : ArchiveState) (page : List ℕ)
+    → Answers history item (Ok tt) old mid archive_now page → old.now.beside ≡ before → OnlyShows mid new before after → IsSameBeside mid new
+    → IsPrefix after (before ++ page) → ShownTo before after page result → CarriesOut history item result before after old new archive_now
+carried_out history item result before after old mid new archive_now page answered beside shows same front to =
+    let outcome = answered.outcome in
+    let in_step = answered.ends.0 in
+    let reply : IsPrefix after (before ++ reply_text outcome.reply) = rw answered.ends.1 at front in
+    record {
+      outcome = outcome;
+      step = answered.step;
+      carried = one_outcome reply_text StandsIn (world_of history) outcome before after old mid new answered.leads.goes_on
+          (λ image other left. let was = answered.leads.images image other left in (was.0, was.1 ∙ beside)) shows (in_step_stands mid archive_now outcome.next.history in_step) reply;
+      shown = shows.grows.0;
+      shown_is = shows.grows.1;
+      front = (reply.0, append_cancel_left before (reply_text outcome.reply) (shows.grows.0 ++ reply.0) (reply.1 ∙ ap (λ (l : List ℕ). l ++ reply.0) shows.grows.1 ∙ append_assoc before shows.grows.0 reply.0));
+      ends = ends result to;
+    }
+  where
+    still : AreInStep new archive_now answered.outcome.next.history
+    still = in_step_beside mid new archive_now answered.outcome.next.history same answered.ends.0
+
+    ends : (r : Result (Unit {0}) Stop) → ShownTo before after page r → EndsAt history answered.outcome new archive_now shows.grows.0 r
+    ends (Ok done) all = (append_cancel_left before shows.grows.0 (reply_text answered.outcome.reply) (sym shows.grows.1 ∙ all ∙ ap (λ (t : List ℕ). before ++ t) answered.ends.1), still)
+    ends (Err stops.Sink) short = (
+      omega (arith, short, ap length answered.ends.1, ap length shows.grows.1, length-append before shows.grows.0),
+      in_step_stands new archive_now answered.outcome.next.history still,
+    )
+    ends (Err stop) never = absurd never

@@ -1,33 +1,42 @@
--- What a run pulls, call by call of the reader, and where the input was at its end.
-use Rattle.std.proofs.Common.{◌≡◌, ◌⊎◌, ℕ, ◌<◌, ◌^◌, Bool, true, false, List, [], ◌∷◌, ◌++◌, length, Option, Some, None, Result, Ok, Err, IfErr, refl, inl, inr, ap, subst, sym, ◌∙◌, arith, append_assoc}
+-- What a run pulls, call by call of the reader, where the input was at its end, and with which statuses it may come there.
+use Rattle.std.proofs.Common.{◌≡◌, ◌⊎◌, ℕ, ◌<◌, ◌≤◌, ◌^◌, Bool, true, false, List, [], ◌∷◌, ◌++◌, length, Option, Some, None, Result, Ok, Err, IfErr, refl, inl, inr, ap, subst, sym, ◌∙◌, arith, append_assoc}
 use Rattle.std.proofs.lemmas.List.{append-nil, length-append}
-use Rattle.machine_model.specs.States.{SourceState}
+use Rattle.machine_model.specs.Pushes.{IsSameBeside}
+use Rattle.machine_model.specs.States.{SourceState, SinkState, DiskState, MachineState}
 use Rattle.commands.specs.declared.command.Item.{Item}
-use Rattle.script_read.specs.Items.{first, Items, Splits, IsBrokenAt, IsScript}
+use Rattle.script_read.specs.Items.{first, IsBrokenAt, IsNoPiece, IsScript, Splits}
 use Rattle.script_read.specs.Reading.{ReaderState, Finds, Reads, fresh, given}
 use Rattle.script_read.specs.declared.first.First.TheVariants.{More}
 use Rattle.script_read.specs.declared.error.ScriptError.{ScriptError}
 use Rattle.script_read.specs.declared.error.ScriptError.TheVariants as errors
-use Rattle.script_read.proofs.Splitting.{broken_once, more-open, not_broken, script_unbroken, script_whole}
-use Rattle.script_read.proofs.RunLemmas.{reads_start, reads_on, reads_end}
+use Rattle.script_read.proofs.Joins.{items-join}
+use Rattle.script_read.proofs.RunLemmas.{read_so_far, reads_start, reads_on, reads_end}
+use Rattle.script_read.proofs.Splitting.{broken_once, each_splits, end-is, more-open, not_broken, script_unbroken, script_whole}
 use Rattle.sublist_store.specs.declared.why.Damage.{Damage}
+use Rattle.archive_core.specs.States.{ArchiveState}
+use Rattle.archive_shell.specs.Causes.{IsLater, IsLeft, MayEnd}
+use Rattle.archive_shell.specs.Damages.{IsPulled}
 use Rattle.archive_shell.specs.Headline.{CarriesOutAll, EndsEarly, InputAt}
 use Rattle.archive_shell.specs.Serving.{Ends, Gives, Pulling, next_by}
-use Rattle.archive_shell.specs.Statuses.{status_of_stop}
+use Rattle.archive_shell.specs.Statuses.{status_of_stop, stop_of_halt}
+use Rattle.archive_shell.specs.declared.stop.Halt.{Halt}
+use Rattle.archive_shell.specs.declared.stop.Halt.TheVariants as halts
 use Rattle.archive_shell.specs.declared.stop.Stop.{Stop}
 use Rattle.archive_shell.specs.declared.stop.Stop.TheVariants as stops
 use Rattle.archive_shell.specs.declared.status.Status.{Status}
 use Rattle.archive_shell.specs.declared.status.Status.TheVariants.{Done, Usage, NotArchive, Disk, Sink, Source, Budget, Script, Damaged, NotEmpty, Memory}
 
+-- ---- calls of the reader
+
 -- nothing was pulled by a reader that has taken nothing
 pub first_reads : fresh.ended ≡ true → ⊥
 first_reads is = cc
 
-abbrev pub pulling_first : (source : SourceState) → Pulling source source fresh
-pulling_first source = record { pulled = []; pulled_are = refl; told = λ is. absurd (first_reads is); items = []; since = []; reads = reads_start }
+abbrev pub pulling_first : (began now : SourceState) → now ≡ began → Pulling began now fresh
+pulling_first began now same = record { pulled = []; pulled_are = ap (λ (s : SourceState). s.left) (sym same); told = λ is. absurd (first_reads is); items = []; since = []; reads = reads_start }
 
-pub pulling_start : (source : SourceState) (held : ReaderState) → held ≡ fresh → Pulling source source held
-pulling_start source held is = let P : ReaderState → Type 0 = λ h. Pulling source source h in subst P (sym is) (pulling_first source)
+pub pulling_start : (began now : SourceState) (held : ReaderState) → now ≡ began → held ≡ fresh → Pulling began now held
+pulling_start began now held same is = rw is (pulling_first began now same)
 
 -- the item that comes next, as a list
 abbrev pub given_by : Result Item Status → List Item
@@ -61,10 +70,7 @@ pulling_next old now source held held_now item pulling gives = pulling_on old no
 abbrev pub pulling_still : (old now source : SourceState) (held held_now : ReaderState) (status : Status) (pulling : Pulling old now held) → Gives held held_now pulling.since (Err status) now source → Pulling old source held_now
 pulling_still old now source held held_now status pulling gives = pulling_on old now source held held_now (Err status) pulling.items pulling (append-nil pulling.items) gives
 
--- a run ends where its input stands so
-abbrev pub ends_at : (status : Status) (old new : SourceState) (held : ReaderState) (pulling : Pulling old new held) → InputAt status held.ended pulling.pulled pulling.since → Ends status old new
-ends_at status old new held pulling input_at =
-    record { pulled = pulling.pulled; pulled_are = pulling.pulled_are; ended = held.ended; ended_is = pulling.told; rest = pulling.since; input_at = input_at }
+-- ---- where the input was
 
 -- statuses that end a run early aren't those before which all items are carried out
 pub not_early : (status : Status) → EndsEarly status → CarriesOutAll status → ⊥
@@ -73,19 +79,6 @@ not_early status (inr (inl is)) all = subst CarriesOutAll is all
 not_early status (inr (inr (inl is))) all = subst CarriesOutAll is all
 not_early status (inr (inr (inr (damage, is)))) all = subst CarriesOutAll is all
 
--- where the input was needn't be known at a status that ends a run early
-pub input_early : (status : Status) (ended : Bool) (pulled rest : List ℕ) → EndsEarly status → InputAt status ended pulled rest
-input_early status ended pulled rest early = record {
-  done = λ is. absurd (not_early status early (subst CarriesOutAll (sym is) tt));
-  source = λ is. absurd (not_early status early (subst CarriesOutAll (sym is) tt));
-  budget = λ is. absurd (not_early status early (subst CarriesOutAll (sym is) tt));
-  script = λ at is. absurd (not_early status early (subst CarriesOutAll (sym is) tt));
-  broken = λ at broken. inr early;
-}
-
-pub ends_early : (status : Status) (old new : SourceState) (held : ReaderState) → EndsEarly status → Pulling old new held → Ends status old new
-ends_early status old new held early pulling = ends_at status old new held pulling (input_early status held.ended pulling.pulled pulling.since early)
-
 -- a run that is stopped ends early
 pub stops_early : (status : Status) (stop : Stop) → status ≡ status_of_stop stop → EndsEarly status
 stops_early status stops.Disk is = inl is
@@ -93,106 +86,169 @@ stops_early status stops.Sink is = inr (inl is)
 stops_early status stops.Memory is = inr (inr (inl is))
 stops_early status (stops.Damaged damage) is = inr (inr (inr (damage, is)))
 
--- where the input was, for each status at which all items are carried out
-input_done : (bytes : List ℕ) (items : List Item) → Items true bytes items [] → InputAt Done true bytes []
-input_done bytes items read = record {
-  done = λ is. (refl, refl);
-  source = λ is. cc;
-  budget = λ is. cc;
-  script = λ at is. cc;
-  broken = λ at broken. absurd (script_unbroken bytes at (items, read) broken);
-}
+-- what a status says of the input
+abbrev Tells : Status → Bool → List ℕ → List ℕ → Type 0
+Tells Done ended pulled rest = (ended ≡ true) × (rest ≡ [])
+Tells Source ended pulled rest = (first ended rest ≡ More) × (ended ≡ false) × (length pulled < 2 ^ 40)
+Tells Budget ended pulled rest = (first ended rest ≡ More) × (ended ≡ false) × (length pulled ≡ 2 ^ 40)
+Tells (Script at) ended pulled rest = IsBrokenAt ended pulled at
+Tells status ended pulled rest = Unit {0}
 
-input_script : (ended : Bool) (bytes rest : List ℕ) (at : ℕ) → IsBrokenAt ended bytes at → InputAt (Script at) ended bytes rest
-input_script ended bytes rest at broken = record {
-  done = λ is. cc;
-  source = λ is. cc;
-  budget = λ is. cc;
-  script = λ place is. (let same : at ≡ place = cc in subst (λ p. IsBrokenAt ended bytes p) same broken);
-  broken = λ place other. inl (ap Script (broken_once ended bytes at place broken other));
-}
+input_by : (status : Status) (ended : Bool) (pulled rest : List ℕ) → Tells status ended pulled rest → ((at : ℕ) → IsBrokenAt ended pulled at → (status ≡ Script at) ⊎ EndsEarly status) → InputAt status ended pulled rest
+input_by status ended pulled rest tells broken =
+    let T : Status → Type 0 = λ s. Tells s ended pulled rest in
+    record { done = λ is. subst T is tells; source = λ is. subst T is tells; budget = λ is. subst T is tells; script = λ at is. subst T is tells; broken = broken }
 
-input_source : (ended : Bool) (bytes : List ℕ) (items : List Item) (rest : List ℕ) → Splits ended bytes items rest → first ended rest ≡ More → length bytes < 2 ^ 40 → InputAt Source ended bytes rest
-input_source ended bytes items rest split more few = record {
-  done = λ is. cc;
-  source = λ is. (more, more-open ended rest more, few);
-  budget = λ is. cc;
-  script = λ at is. cc;
-  broken = λ at broken. absurd (not_broken ended bytes items rest split more at broken);
-}
+early_tells : (status : Status) (ended : Bool) (pulled rest : List ℕ) → EndsEarly status → Tells status ended pulled rest
+early_tells status ended pulled rest (inl is) = rw is tt
+early_tells status ended pulled rest (inr (inl is)) = rw is tt
+early_tells status ended pulled rest (inr (inr (inl is))) = rw is tt
+early_tells status ended pulled rest (inr (inr (inr (damage, is)))) = rw is tt
 
-input_budget : (ended : Bool) (bytes : List ℕ) (items : List Item) (rest : List ℕ) → Splits ended bytes items rest → first ended rest ≡ More → length bytes ≡ 2 ^ 40 → InputAt Budget ended bytes rest
-input_budget ended bytes items rest split more all = record {
-  done = λ is. cc;
-  source = λ is. cc;
-  budget = λ is. (more, more-open ended rest more, all);
-  script = λ at is. cc;
-  broken = λ at broken. absurd (not_broken ended bytes items rest split more at broken);
-}
+-- where the input was needn't be known at a status that ends a run early
+pub input_early : (status : Status) (ended : Bool) (pulled rest : List ℕ) → EndsEarly status → InputAt status ended pulled rest
+input_early status ended pulled rest early = input_by status ended pulled rest (early_tells status ended pulled rest early) (λ at broken. inr early)
 
--- a run ends in which these items are all that is whole in the bytes pulled
-pub record EndsWhole (status : Status) (old new : SourceState) (items : List Item) : Type 0 where
-  pub carried : CarriesOutAll status
+-- ---- the end of a run
+
+-- a run ended by which so many items were given out: there are none behind them where all are carried out
+pub record EndsBehind (status : Status) (old new : SourceState) (items : List Item) : Type 0 where
   pub ends : Ends status old new
-  pub split : Splits ends.ended ends.pulled items ends.rest
+  pub behind : List Item
+  pub split : Splits ends.ended ends.pulled (items ++ behind) ends.rest
+  pub none : CarriesOutAll status → behind ≡ []
 
--- where an answer is no item the run so ends, or there was no memory
-whole_at : (old source : SourceState) (held : ReaderState) (still : Pulling old source held) (answer : Result (Option Item) ScriptError) → Finds answer held.passed (length still.since) (first held.ended still.since)
-    → IfErr (next_by answer) (λ status. EndsWhole status old source still.items ⊎ (status ≡ Memory))
-whole_at old source held still (Ok (Some item)) finds = tt
-whole_at old source held still (Ok None) finds =
-    let ends = reads_end still.pulled still.items still.since held (Ok None) still.reads finds in
-    inl (record {
-      carried = tt;
-      ends = record { pulled = still.pulled; pulled_are = still.pulled_are; ended = true; ended_is = λ is. still.told ends.0; rest = []; input_at = input_done still.pulled still.items ends.1 };
-      split = (ends.1, tt);
-    })
-whole_at old source held still (Err (errors.Broken at)) finds =
-    let ends = reads_end still.pulled still.items still.since held (Err (errors.Broken at)) still.reads finds in
-    inl (record { carried = tt; ends = ends_at (Script at) old source held still (input_script held.ended still.pulled still.since at ends.1); split = ends.0 })
-whole_at old source held still (Err errors.Budget) finds =
-    let ends = reads_end still.pulled still.items still.since held (Err errors.Budget) still.reads finds in
-    inl (record { carried = tt; ends = ends_at Budget old source held still (input_budget held.ended still.pulled still.items still.since ends.0 ends.1 ends.2); split = ends.0 })
-whole_at old source held still (Err errors.Failed) finds =
-    let ends = reads_end still.pulled still.items still.since held (Err errors.Failed) still.reads finds in
-    let few : length still.pulled < 2 ^ 40 = omega (arith, still.reads.before, finds.1) in
-    inl (record { carried = tt; ends = ends_at Source old source held still (input_source held.ended still.pulled still.items still.since ends.0 ends.1 few); split = ends.0 })
-whole_at old source held still (Err errors.Memory) finds = inr refl
+pub early_behind : (status : Status) (old new : SourceState) (held : ReaderState) → EndsEarly status → (p : Pulling old new held) → EndsBehind status old new p.items
+early_behind status old new held early p =
+    let behind = each_splits held.ended p.since in
+    record {
+      ends = record { pulled = p.pulled; pulled_are = p.pulled_are; ended = held.ended; ended_is = p.told; rest = behind.1; input_at = input_early status held.ended p.pulled behind.1 early };
+      behind = behind.0;
+      split = (items-join held.ended p.pulled p.since behind.1 p.items behind.0 (read_so_far p.reads) behind.2.0, behind.2.1);
+      none = λ all. absurd (not_early status early all);
+    }
 
-pub whole_or_none : (old now source : SourceState) (held held_now : ReaderState) (status : Status) (pulling : Pulling old now held) → Gives held held_now pulling.since (Err status) now source
-    → EndsWhole status old source pulling.items ⊎ (status ≡ Memory)
-whole_or_none old now source held held_now status pulling gives =
-    let I : Result Item Status → Type 0 = λ next. IfErr next (λ s. EndsWhole s old source pulling.items ⊎ (s ≡ Memory)) in
-    subst I (sym gives.next_is) (whole_at old source held_now (pulling_still old now source held held_now status pulling gives) gives.answer gives.says.finds)
+whole_behind : (status : Status) (old new : SourceState) (held : ReaderState) (p : Pulling old new held) → Splits held.ended p.pulled p.items p.since → InputAt status held.ended p.pulled p.since → EndsBehind status old new p.items
+whole_behind status old new held p split input_at = record {
+  ends = record { pulled = p.pulled; pulled_are = p.pulled_are; ended = held.ended; ended_is = p.told; rest = p.since; input_at = input_at };
+  behind = [];
+  split = rw append-nil split;
+  none = λ all. refl;
+}
 
--- so a run ends where there is no next item
-pub ends_by : (old now source : SourceState) (held held_now : ReaderState) (status : Status) (pulling : Pulling old now held) → Gives held held_now pulling.since (Err status) now source → Ends status old source
-ends_by old now source held held_now status pulling gives = elim (whole_or_none old now source held held_now status pulling gives) as (λ _. Ends status old source) [
-  | inl whole ↦ whole.ends
-  | inr none ↦ ends_early status old source held_now (inr (inr (inl none))) (pulling_still old now source held held_now status pulling gives)
-]
+-- where an answer is no item a run so ends, or there was no memory
+abbrev pub EndsHere : Status → SourceState → SourceState → List Item → Type 0
+EndsHere status old new items = (CarriesOutAll status ⊎ (status ≡ Memory)) × EndsBehind status old new items
+
+ends_here : (old source : SourceState) (held : ReaderState) (p : Pulling old source held) (answer : Result (Option Item) ScriptError) → Finds answer held.passed (length p.since) (first held.ended p.since)
+    → IfErr (next_by answer) (λ status. EndsHere status old source p.items)
+ends_here old source held p (Ok (Some item)) finds = tt
+ends_here old source held p (Ok None) finds =
+    let none = end-is held.ended p.since finds in
+    let script = reads_end p.pulled p.items p.since held (Ok None) p.reads finds in
+    (inl tt, whole_behind Done old source held p (read_so_far p.reads, subst IsNoPiece (sym finds) tt) (input_by Done held.ended p.pulled p.since none (λ at broken. absurd (script_unbroken p.pulled at (p.items, script.1) (rw none.0 at broken)))))
+ends_here old source held p (Err (errors.Broken at)) finds =
+    let ends = reads_end p.pulled p.items p.since held (Err (errors.Broken at)) p.reads finds in
+    (inl tt, whole_behind (Script at) old source held p ends.0 (input_by (Script at) held.ended p.pulled p.since ends.1 (λ place other. inl (ap Script (broken_once held.ended p.pulled at place ends.1 other)))))
+ends_here old source held p (Err errors.Budget) finds =
+    let ends = reads_end p.pulled p.items p.since held (Err errors.Budget) p.reads finds in
+    (inl tt, whole_behind Budget old source held p ends.0 (input_by Budget held.ended p.pulled p.since (ends.1, more-open held.ended p.since ends.1, ends.2) (λ at broken. absurd (not_broken held.ended p.pulled p.items p.since ends.0 ends.1 at broken))))
+ends_here old source held p (Err errors.Failed) finds =
+    let ends = reads_end p.pulled p.items p.since held (Err errors.Failed) p.reads finds in
+    let few : length p.pulled < 2 ^ 40 = omega (arith, p.reads.before, finds.1) in
+    (inl tt, whole_behind Source old source held p ends.0 (input_by Source held.ended p.pulled p.since (ends.1, more-open held.ended p.since ends.1, few) (λ at broken. absurd (not_broken held.ended p.pulled p.items p.since ends.0 ends.1 at broken))))
+ends_here old source held p (Err errors.Memory) finds = (inr refl, early_behind Memory old source held (inr (inr (inl refl))) p)
+
+pub ends_by : (old now source : SourceState) (held held_now : ReaderState) (status : Status) (pulling : Pulling old now held) → Gives held held_now pulling.since (Err status) now source → EndsHere status old source pulling.items
+ends_by old now source held held_now status pulling gives =
+    let I : Result Item Status → Type 0 = λ next. IfErr next (λ s. EndsHere s old source pulling.items) in
+    subst I (sym gives.next_is) (ends_here old source held_now (pulling_still old now source held held_now status pulling gives) gives.answer gives.says.finds)
+
+-- so no other status ends it
+pub ends_else : (status other : Status) → CarriesOutAll status ⊎ (status ≡ Memory) → (CarriesOutAll other → ⊥) → (Memory ≡ other → ⊥) → status ≡ other → ⊥
+ends_else status other (inl all) early late is = early (subst CarriesOutAll is all)
+ends_else status other (inr memory) early late is = late (sym memory ∙ is)
+
+-- the last item that the reader gave is one of the bytes pulled
+pub last_pulled : (old new : SourceState) (held : ReaderState) (item : Item) (before : List Item) (damage : Damage) (pulling : Pulling old new held) → pulling.items ≡ before ++ item ∷ [] → IsPulled old new item
+last_pulled old new held item before damage pulling are =
+    let e = early_behind (Damaged damage) old new held (inr (inr (inr (damage, refl)))) pulling in
+    let I : List Item → Type 0 = λ items. Splits e.ends.ended e.ends.pulled items e.ends.rest in
+    record {
+      pulled = e.ends.pulled;
+      pulled_are = e.ends.pulled_are;
+      ended = e.ends.ended;
+      ended_is = e.ends.ended_is;
+      before = before;
+      behind = e.behind;
+      rest = e.ends.rest;
+      split = subst I (ap (λ (l : List Item). l ++ e.behind) are ∙ append_assoc before (item ∷ []) e.behind) e.split;
+    }
 
 -- why a run whose machine didn't fail came to its end, or found no memory or a sublist damaged
-pub completes : (status : Status) (old new : SourceState) → Ends status old new → IsScript old.left → length old.left < 2 ^ 40
-    → (status ≡ Usage → ⊥) → ((at : ℕ) → status ≡ NotArchive at → ⊥) → ((n : ℕ) → status ≡ NotEmpty n → ⊥) → (status ≡ Disk → ⊥) → (status ≡ Source → ⊥) → (status ≡ Sink → ⊥)
-    → (status ≡ Done) ⊎ ((status ≡ Memory) ⊎ ((damage : Damage) × (status ≡ Damaged damage)))
-completes Done old new ends script few usage load full disk source sink = inl refl
-completes Memory old new ends script few usage load full disk source sink = inr (inl refl)
-completes (Damaged damage) old new ends script few usage load full disk source sink = inr (inr (damage, refl))
-completes Usage old new ends script few usage load full disk source sink = absurd (usage refl)
-completes (NotArchive at) old new ends script few usage load full disk source sink = absurd (load at refl)
-completes (NotEmpty n) old new ends script few usage load full disk source sink = absurd (full n refl)
-completes Disk old new ends script few usage load full disk source sink = absurd (disk refl)
-completes Source old new ends script few usage load full disk source sink = absurd (source refl)
-completes Sink old new ends script few usage load full disk source sink = absurd (sink refl)
-completes (Script at) old new ends script few usage load full disk source sink = absurd (go ends.ended ends.ended_is (ends.input_at.script at refl))
+pub completes : (status : Status) (old new : MachineState) → Ends status old.source new.source → MayEnd status old new → IsScript old.source.left → length old.source.left < 2 ^ 40
+    → (status ≡ Disk → ⊥) → (status ≡ Source → ⊥) → (status ≡ Sink → ⊥) → (status ≡ Done) ⊎ ((status ≡ Memory) ⊎ ((damage : Damage) × (status ≡ Damaged damage)))
+completes Done old new ends may script few disk source sink = inl refl
+completes Memory old new ends may script few disk source sink = inr (inl refl)
+completes (Damaged damage) old new ends may script few disk source sink = inr (inr (damage, refl))
+completes (Script at) old new ends may script few disk source sink = absurd (go ends.ended ends.ended_is (ends.input_at.script at refl))
   where
-    whole : IsScript (ends.pulled ++ new.left)
+    whole : IsScript (ends.pulled ++ new.source.left)
     whole = subst IsScript ends.pulled_are script
 
-    go : (ended : Bool) → (ended ≡ true → new.left ≡ []) → IsBrokenAt ended ends.pulled at → ⊥
-    go false is broken = script_whole ends.pulled new.left at whole broken
+    go : (ended : Bool) → (ended ≡ true → new.source.left ≡ []) → IsBrokenAt ended ends.pulled at → ⊥
+    go false is broken = script_whole ends.pulled new.source.left at whole broken
     go true is broken =
-        let none : ends.pulled ++ new.left ≡ ends.pulled = ap (λ (l : List ℕ). ends.pulled ++ l) (is refl) ∙ append-nil ends.pulled in
+        let none : ends.pulled ++ new.source.left ≡ ends.pulled = ap (λ (l : List ℕ). ends.pulled ++ l) (is refl) ∙ append-nil ends.pulled in
         script_unbroken ends.pulled at (subst IsScript none whole) broken
-completes Budget old new ends script few usage load full disk source sink = absurd (omega (arith, (ends.input_at.budget refl).2, few, length-append ends.pulled new.left, ap length ends.pulled_are))
+completes Budget old new ends may script few disk source sink = absurd (omega (arith, (ends.input_at.budget refl).2, few, length-append ends.pulled new.source.left, ap length ends.pulled_are))
+completes Usage old new ends may script few disk source sink = absurd (may.no_usage refl)
+completes (NotArchive at) old new ends may script few disk source sink = absurd (may.no_load at refl)
+completes (NotEmpty n) old new ends may script few disk source sink = absurd (may.not_full n refl)
+completes Disk old new ends may script few disk source sink = absurd (disk refl)
+completes Source old new ends may script few disk source sink = absurd (source refl)
+completes Sink old new ends may script few disk source sink = absurd (sink refl)
+
+-- ---- what is left over calls in a row, and what may have been the cause of the end
+
+pub later_joins : (old mid new : MachineState) → IsLater old mid → IsLater mid new → IsLater old new
+later_joins old mid new one other = record { source = omega (arith, one.source, other.source); sink = omega (arith, one.sink, other.sink); disk = omega (arith, one.disk, other.disk) }
+
+-- a call of the disk is no fault of another part
+pub later_alone : (old new : MachineState) → new.source ≡ old.source → new.sink ≡ old.sink → old.disk.faults ≤ new.disk.faults → IsLater old new
+later_alone old new source sink disk = record { source = omega (arith, ap (λ (s : SourceState). s.faults) source); sink = omega (arith, ap (λ (s : SinkState). s.faults) sink); disk = disk }
+
+-- what ended so since a moment ended so since any earlier one
+pub ends_later : (status : Status) (old mid new : MachineState) → IsLater old mid → MayEnd status mid new → MayEnd status old new
+ends_later status old mid new later ends = record {
+  source = λ is. omega (arith, later.source, ends.source is);
+  sink = λ is. omega (arith, later.sink, ends.sink is);
+  disk = λ is. omega (arith, later.disk, ends.disk is);
+  no_usage = ends.no_usage;
+  no_load = ends.no_load;
+  not_full = ends.not_full;
+}
+
+pub left_joins : (tells : Type 0) (old mid new : DiskState) (first then now : ArchiveState) → IsLeft tells old mid first then → IsLeft tells mid new then now → IsLeft tells old new first now
+left_joins tells old mid new first then now one other = record {
+  ready = other.ready;
+  follows = λ h stands. (let before = one.follows h stands in let further = other.follows (h ++ before.0) before.1 in (before.0 ++ further.0, rw append_assoc at further.1));
+  cached = λ told stands. other.cached told (one.cached told stands);
+}
+
+-- and over pushes
+pub left_beside : (tells : Type 0) (old mid new : DiskState) (archive archive_now : ArchiveState) → IsSameBeside mid new → IsLeft tells old mid archive archive_now → IsLeft tells old new archive archive_now
+left_beside tells old mid new archive archive_now same left =
+    let L : DiskState → Type 0 = λ d. IsLeft tells old d archive archive_now in
+    let is = subst L (sym same.same) left in
+    record { ready = is.ready; follows = is.follows; cached = is.cached }
+
+-- a run that is stopped at a damage was halted there
+pub halted_at : (halt : Halt) (damage : Damage) → stop_of_halt halt ≡ stops.Damaged damage → halt ≡ halts.Damaged damage
+halted_at (halts.Damaged other) damage is = cc
+halted_at halt damage is = cc
+
+-- a run that ends at a damage was stopped there
+pub stopped_at : (stop : Stop) (damage : Damage) → status_of_stop stop ≡ Damaged damage → stop ≡ stops.Damaged damage
+stopped_at (stops.Damaged other) damage is = cc
+stopped_at stop damage is = cc

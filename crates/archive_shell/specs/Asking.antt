@@ -1,9 +1,8 @@
 -- A run of questions alone while it goes on, whatever the disk holds.
-use Rattle.std.specs.Prelude.{◌≡◌, ℕ, ◌+◌, true, List, [], ◌∷◌, ◌++◌, Result, Err, OnOk, All}
+use Rattle.std.specs.Prelude.{◌≡◌, ℕ, ◌+◌, List, [], ◌++◌, Result, Err, OnOk, All}
 use Rattle.machine_model.specs.Areas.{Bytes}
 use Rattle.machine_model.specs.States.{DiskState, MachineState}
 use Rattle.commands.specs.declared.command.Item.{Item}
-use Rattle.script_read.specs.Items.{Items, Splits}
 use Rattle.script_read.specs.Reading.{ReaderState}
 use Rattle.page_cache.specs.Caches.{Kept, after_asking_all, missed_by_all}
 use Rattle.archive_state.specs.Histories.{History}
@@ -13,7 +12,7 @@ use Rattle.archive_core.specs.States.{ArchiveState, CacheStands, IsSameButCache,
 use Rattle.sublist_store.specs.declared.why.Damage.{Damage}
 use Rattle.archive_shell.specs.Damages.{Spoils}
 use Rattle.archive_shell.specs.Fetching.{AllAskFor, AsksFor, IsAsking, ReadsMissed}
-use Rattle.archive_shell.specs.Questions.{AreMade, IsMadeReply, IsQuestion}
+use Rattle.archive_shell.specs.Questions.{AreMade, AreMadeUpTo, IsMadeReply, IsQuestion}
 use Rattle.archive_shell.specs.Serving.{Pulling}
 use Rattle.archive_shell.specs.declared.status.Status.{Status}
 use Rattle.archive_shell.specs.declared.stop.Halt.{Halt}
@@ -49,11 +48,13 @@ pub record IsByReads (history : History) (item : Item) (result : Result (Unit {0
   -- where it asks what is found, just the pages are asked for of what is chosen
   pub fetched : IsAsking item → OnOk result (Fetches history item archive.shelf.cache archive_now.shelf.cache old new)
 
--- a question was carried out and its reply shown: the archive but for its cache is as it was, and so are the bytes
+-- a question was carried out and its reply shown, which was made by the bytes: the archive but for its cache is as it was, and so are these
 pub record IsAsked (history : History) (item : Item) (before after : List ℕ) (old new : DiskState) (archive archive_now : ArchiveState) : Type 0 where
   pub but_cache : IsSameButCache archive archive_now
   pub holds : new.holds ≡ old.holds
-  pub asked : AreMade history old.holds (item ∷ []) before after
+  pub reply : Reply
+  pub made : IsMadeReply history old.holds item reply
+  pub shown : after ≡ before ++ reply_text reply
   pub fetched : IsAsking item → Fetches history item archive.shelf.cache archive_now.shelf.cache old new
 
 -- what is known where all items so far were questions
@@ -69,25 +70,10 @@ pub record Asking (history : History) (image : Bytes) (old now : MachineState) (
   pub all_asked : All IsQuestion pulling.items → AllAsked history image pulling.items old now archive
   pub all_fetched : All IsAsking pulling.items → HasFetched history image.pages pulling.items archive.shelf.cache old.disk now.disk
 
--- a run that came to its end: the items are those of all the input, and where all are questions, each reply was made so, and where all
--- ask what is found, the pieces that were missed were read
-pub record HasAsked (history : History) (image : Bytes) (old new : MachineState) : Type 0 where
-  pub items : List Item
-  pub split : Splits true old.source.left items []
-  pub made : All IsQuestion items → AreMade history image items old.sink.shown new.sink.shown
-  pub reads : All IsAsking items → ReadsMissed history image.pages items old.disk.bytes_read.pages new.disk.bytes_read.pages
-
--- a run that was stopped by a damage: the items up to the one at which it was, and where all in front of it are questions, each of their replies
--- was made so, and the damage is the first of what is read for it
-pub record HasStopped (history : History) (image : Bytes) (old new : MachineState) (damage : Damage) : Type 0 where
-  pub answered : List Item
-  pub item : Item
-  pub rest : List ℕ
-  pub read : Items true old.source.left (answered ++ item ∷ []) rest
-  pub made : All IsQuestion answered → AreMade history image answered old.sink.shown new.sink.shown
-  pub spoiled : All IsQuestion answered → Spoils history image.pages item damage
-
--- a run that ended, at the end of its input or at a damage
-pub record HasEnded (history : History) (image : Bytes) (status : Status) (old new : MachineState) : Type 0 where
-  pub done : status ≡ Done → HasAsked history image old new
-  pub damaged : (damage : Damage) → status ≡ Damaged damage → HasStopped history image old new damage
+-- A run that ended, over an input that is these items. At the end of the input, each reply was made so where all are questions, and the pieces that
+-- were missed were read where all ask what is found. At a damage, where all are questions, the replies to those in front of one were made so, and the
+-- damage is the first of what is read for that one.
+pub record HasEnded (history : History) (image : Bytes) (status : Status) (old new : MachineState) (asked : List Item) : Type 0 where
+  pub made : status ≡ Done → All IsQuestion asked → AreMade history image asked old.sink.shown new.sink.shown
+  pub reads : status ≡ Done → All IsAsking asked → ReadsMissed history image.pages asked old.disk.bytes_read.pages new.disk.bytes_read.pages
+  pub stopped : (damage : Damage) → status ≡ Damaged damage → All IsQuestion asked → AreMadeUpTo history image asked damage old.sink.shown new.sink.shown

@@ -1,8 +1,11 @@
--- What is left of a machine and its archive while items are gone over, and with which statuses that may end.
-use Rattle.std.specs.Prelude.{◌≡◌, ℕ, ◌≤◌}
+-- What is left of a machine and its archive over a load and while items are gone over, and with which statuses that may end.
+use Rattle.std.specs.Prelude.{◌≡◌, ℕ, ◌≤◌, List, []}
 use Rattle.machine_model.specs.Causes.{Rose}
+use Rattle.machine_model.specs.Moments.{GoesOn}
 use Rattle.machine_model.specs.States.{DiskState, MachineState}
 use Rattle.archive_state.specs.Histories.{History}
+use Rattle.archive_state.specs.Stands.{EachStands}
+use Rattle.archive_core.specs.Changing.{KeepsHistory}
 use Rattle.archive_core.specs.States.{ArchiveState, CacheStands, StandsFor}
 use Rattle.archive_shell.specs.Outcomes.{CanGoOn, GoesOnFrom}
 use Rattle.archive_shell.specs.declared.status.Status.{Status}
@@ -41,3 +44,7 @@ pub record IsLeft (tells : Type 0) (old new : DiskState) (archive archive_now : 
   pub follows : (history : History) → StandsFor archive history → GoesOnFrom history archive_now
   -- the pages that it keeps go on being what reads give
   pub cached : tells → CacheStands old archive → CacheStands new archive_now
+
+-- A load led from that disk to this one, with these bytes shown: nothing was shown, and where each image stood for no entry, each left since does.
+abbrev pub IsLoaded : List ℕ → DiskState → DiskState → Type 0
+IsLoaded shown began loaded = (began.now.beside ≡ shown) × (loaded.now.beside ≡ shown) × GoesOn began loaded × (EachStands began [] → KeepsHistory [] began loaded)

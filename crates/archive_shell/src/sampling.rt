@@ -2,12 +2,14 @@
 ghost use Rattle.std.specs.Prelude.{◌≡◌, ◌⊎◌, ◌<◌, ◌≤◌, ℕ, [], length, IsTrue};
 ghost use Rattle.machine_model.specs.Calls.{Syncs};
 ghost use Rattle.machine_model.specs.Causes.{Rose};
+ghost use Rattle.machine_model.specs.States.{DiskState};
 ghost use Rattle.gate_journal.specs.Spelled.{Spells};
 ghost use Rattle.archive_state.specs.Histories.{History};
 ghost use Rattle.archive_state.specs.Legal.{IsLoadable};
 ghost use Rattle.archive_state.specs.Stands.{Stands, EachStands, IsNotArchive, bodies_of};
 ghost use Rattle.archive_core.specs.States.{AreInStep, Reaches};
 ghost use Rattle.archive_core.specs.Changing.{KeepsHistory};
+ghost use Rattle.archive_shell.specs.Causes.{IsLoaded};
 ghost use Rattle.archive_shell.specs.Sampling.{EndsSample, Sampled};
 
 use crate::status::Status;
@@ -81,7 +83,8 @@ fn fill_and_show<M: Machine>(
     ensures sink_fault { result ≡ Status.Sink → Rose (M.sink machine.old).faults (M.sink machine.new).faults }
     ensures undamaged { M.disk_tells → AreInStep (M.disk machine.old) archive.old [] → (d : Damage) → result ≡ Status.Damaged d → ⊥ }
     ensures sampled { M.sink_tells → M.disk_tells → AreInStep (M.disk machine.old) archive.old [] →
-        Sampled numbers.seed numbers.count result (M.sink machine.old) (M.sink machine.new) (M.disk machine.old) (M.disk machine.new) }
+        (began : DiskState) → IsLoaded (M.sink machine.old).shown began (M.disk machine.old) →
+        Sampled numbers.seed numbers.count result (M.sink machine.old) (M.sink machine.new) began (M.disk machine.new) }
 {
     let sample = Sample::new(numbers.seed, numbers.count);
     let report = match fill(alloc, machine, archive, sample) {

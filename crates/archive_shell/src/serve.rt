@@ -1,10 +1,11 @@
 //! Going over the items of the input.
-ghost use Rattle.std.specs.Prelude.{◌≡◌, ◌<◌, ◌≤◌, ◌^◌, ◌++◌, [], List, OnOk, IfErr, IsErrOf, MatchResult, ℕ};
+ghost use Rattle.std.specs.Prelude.{◌≡◌, ◌<◌, ◌≤◌, ◌^◌, ◌++◌, [], List, true, OnOk, IfErr, IsErrOf, MatchResult, ℕ};
 ghost use Rattle.machine_model.specs.Areas.{Bytes};
 ghost use Rattle.machine_model.specs.Pulls.{Pull};
 ghost use Rattle.machine_model.specs.States.{SourceState, MachineState, state_by};
 ghost use Rattle.commands.specs.declared.command.Item.{Item as PlainItem};
 ghost use Rattle.record_codec.specs.declared.entry.Entry.{Entry};
+ghost use Rattle.script_read.specs.Items.{Splits};
 ghost use Rattle.archive_state.specs.Histories.{History};
 ghost use Rattle.archive_state.specs.Worlds.{World};
 ghost use Rattle.archive_core.specs.States.{CacheStands, StandsFor};
@@ -82,7 +83,7 @@ pub(crate) fn step<M: Machine>(
     ensures asks { M.source_tells → M.sink_tells → M.disk_tells → (h : History) (image : Bytes) (began : MachineState) →
         Asking h image began (state_by M.source M.sink M.disk machine.old) archive.old reader.old → MatchResult result
         (λ _. Asking h image began (state_by M.source M.sink M.disk machine.new) archive.new reader.new)
-        (λ status. HasEnded h image status began (state_by M.source M.sink M.disk machine.new)) }
+        (λ status. (asked : List PlainItem) → Splits true began.source.left asked [] → HasEnded h image status began (state_by M.source M.sink M.disk machine.new) asked) }
 {
     let item = match next_item(alloc, machine, reader) {
         Ok(item) => item,
@@ -109,19 +110,17 @@ pub(crate) fn serve<M: Machine>(
         (state_by M.source M.sink M.disk machine.new) }
     ensures damaged { M.disk_tells → (h : History) → StandsFor archive.old h → CacheStands (M.disk machine.old) archive.old → (d : Damage) → result ≡ Status.Damaged d →
         (item : PlainItem) × ((more : List Entry) × Spoils (h ++ more) (M.disk machine.new).holds.pages item d)
-        × (M.source_tells → Pulling (M.source machine.old) (M.source machine.old) reader.old → IsPulled (M.source machine.old) (M.source machine.new) item) }
-    ensures ends { M.source_tells → Pulling (M.source machine.old) (M.source machine.old) reader.old → Ends result (M.source machine.old) (M.source machine.new) }
+        × (M.source_tells → (began : SourceState) → Pulling began (M.source machine.old) reader.old → IsPulled began (M.source machine.new) item) }
+    ensures ends { M.source_tells → (began : SourceState) → Pulling began (M.source machine.old) reader.old → Ends result began (M.source machine.new) }
     ensures served { M.source_tells → M.sink_tells → M.disk_tells → (w : World) →
         Serving w (state_by M.source M.sink M.disk machine.old)
         (state_by M.source M.sink M.disk machine.old) archive.old reader.old [] →
         (pulls : List Pull) × M.asked machine.old pulls machine.new
         × Serves w result (state_by M.source M.sink M.disk machine.old)
         (state_by M.source M.sink M.disk machine.new) pulls }
-    ensures asks { M.source_tells → M.sink_tells → M.disk_tells → (h : History) (image : Bytes) →
-        Asking h image (state_by M.source M.sink M.disk machine.old)
-        (state_by M.source M.sink M.disk machine.old) archive.old reader.old →
-        HasEnded h image result (state_by M.source M.sink M.disk machine.old)
-        (state_by M.source M.sink M.disk machine.new) }
+    ensures asks { M.source_tells → M.sink_tells → M.disk_tells → (h : History) (image : Bytes) (began : MachineState) →
+        Asking h image began (state_by M.source M.sink M.disk machine.old) archive.old reader.old →
+        (asked : List PlainItem) → Splits true began.source.left asked [] → HasEnded h image result began (state_by M.source M.sink M.disk machine.new) asked }
 {
     'items: loop {
         match step(alloc, machine, reader, archive, page) {

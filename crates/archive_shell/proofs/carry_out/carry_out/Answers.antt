@@ -1,14 +1,13 @@
-use Rattle.std.proofs.Common.{◌≡◌, List, ℕ, [], Result, Ok, Err, ap, sym, subst, ◌∙◌}
+use Rattle.std.proofs.Common.{◌≡◌, [], Result, Ok, Err, ap, sym, ◌∙◌}
 use Rattle.machine_model.specs.States.{DiskState, SinkState}
 use Rattle.archive_state.specs.Histories.{History}
 use Rattle.archive_core.specs.States.{AreInStep}
-use Rattle.archive_shell.specs.Outcomes.{Answers, CarriesOut}
+use Rattle.archive_shell.specs.Outcomes.{CarriesOut}
 use Rattle.archive_shell.specs.declared.stop.Stop.{Stop}
 use Rattle.archive_shell.specs.declared.stop.Stop.TheVariants.{Damaged, Sink}
-use Rattle.archive_shell.proofs.CauseLemmas.{left_beside}
-use Rattle.archive_shell.proofs.DamageLemmas.{halted_at, is_question}
-use Rattle.archive_shell.proofs.QuestionLemmas.{shown_so}
-use Rattle.archive_shell.proofs.ShowLemmas.{ShownTo, cut_short, carried_out}
+use Rattle.archive_shell.proofs.OutcomeLemmas.{ShownTo, cut_short, carried_out}
+use Rattle.archive_shell.proofs.PullLemmas.{halted_at, left_beside}
+use Rattle.archive_shell.proofs.QuestionLemmas.{is_question, shown_so}
 use Rattle.archive_shell.proofs.carry_out.carry_out.Given.{Over}
 use Rattle.archive_shell.proofs.carry_out.carry_out.Goals.{After-show}
 use Rattle.archive_shell.proofs.carry_out.carry_out.Goals as goal
@@ -19,11 +18,8 @@ returns-in-Err-clause-asked g c = g.met.M.Machine.disk_asks_nothing c.args.machi
 pub returns-in-Err-clause-outcome : goal.returns-in-Err-clause-outcome
 returns-in-Err-clause-outcome g c = λ disk_tells sink_tells h in_step.
     let m = g.met.M.Machine in
-    let alone = m.disk_alone c.args.machine.now c.answer.new.disk c.answer.ensures.only in
-    let shown : (g.M.Sink.sink c.answer.new.disk).shown ≡ (g.M.Sink.sink c.args.machine.now).shown = ap (λ (s : SinkState). s.shown) alone.1 in
-    let cut = cut_short h c.args.item c.in-Err.halt c.from.result (g.M.Sink.sink c.args.machine.now).shown _ _ _ _ (c.in-Err.ensures.outcome disk_tells h in_step) c.from.ensures (m.beside_shown c.args.machine.now sink_tells disk_tells) in
-    let P : List ℕ → Type 0 = λ after. CarriesOut h c.args.item (Err c.from.result) (g.M.Sink.sink c.args.machine.now).shown after (g.M.Disk.disk c.args.machine.now) (g.M.Disk.disk c.answer.new.disk) c.answer.new.archive in
-    subst P (sym shown) cut
+    rw (ap (λ (s : SinkState). s.shown) (m.disk_alone c.args.machine.now c.answer.new.disk c.answer.ensures.only).1)
+    (cut_short h c.args.item c.in-Err.halt c.from.result _ _ _ _ _ (c.in-Err.ensures.outcome disk_tells h in_step) c.from.ensures (m.beside_shown c.args.machine.now sink_tells disk_tells))
 
 -- no pull was made
 asked : (g : Over) (c : After-show g) → g.M.Machine.asked c.args.machine.now [] c.show.new.sink
@@ -40,10 +36,8 @@ outcome g c result disk_tells sink_tells h in_step to =
     let mid = c.answer.new.disk in
     let last = c.show.new.sink in
     let shown = ap (λ (s : SinkState). s.shown) (m.disk_alone c.args.machine.now mid c.answer.ensures.only).1 in
-    let A : List ℕ → Type 0 = λ page. Answers h c.args.item (Ok tt) (g.M.Disk.disk c.args.machine.now) (g.M.Disk.disk mid) c.answer.new.archive page in
-    let P : List ℕ → Type 0 = λ before. CarriesOut h c.args.item result before (g.M.Sink.sink last).shown (g.M.Disk.disk c.args.machine.now) (g.M.Disk.disk last) c.answer.new.archive in
-    subst P shown (carried_out h c.args.item result (g.M.Sink.sink mid).shown (g.M.Sink.sink last).shown (g.M.Disk.disk c.args.machine.now) (g.M.Disk.disk mid) (g.M.Disk.disk last) c.answer.new.archive c.as_bytes.result.now
-    (subst A (sym c.as_bytes.ensures) (c.in-Ok.ensures.outcome disk_tells h in_step)) (m.beside_shown c.args.machine.now sink_tells disk_tells ∙ sym shown)
+    rw shown at (carried_out h c.args.item result (g.M.Sink.sink mid).shown (g.M.Sink.sink last).shown (g.M.Disk.disk c.args.machine.now) (g.M.Disk.disk mid) (g.M.Disk.disk last) c.answer.new.archive c.as_bytes.result.now
+    (rw (← c.as_bytes.ensures) at (c.in-Ok.ensures.outcome disk_tells h in_step)) (m.beside_shown c.args.machine.now sink_tells disk_tells ∙ sym shown)
     (m.shows mid last sink_tells disk_tells c.show.ensures.only) (m.sink_alone mid last c.show.ensures.only).1 (c.show.ensures.front sink_tells) to)
 
 pub returns-in-Ok-show-clause-asked : goal.returns-in-Ok-show-clause-asked
@@ -62,20 +56,17 @@ pub returns-in-Ok-show-clause-question : goal.returns-in-Ok-show-clause-question
 returns-in-Ok-show-clause-question g c = λ disk_tells sink_tells h stands cached question.
     let m = g.met.M.Machine in
     let mid = c.answer.new.disk in
-    let alone = m.disk_alone c.args.machine.now mid c.answer.ensures.only in
     let still = c.in-Ok.ensures.still question in
     let told = c.in-Ok.ensures.by_reads disk_tells h stands cached in
-    shown_so h c.args.item c.answer.new.page.bytes c.as_bytes.result.now (g.M.Sink.sink c.args.machine.now).shown (g.M.Sink.sink mid).shown (g.M.Sink.sink c.show.new.sink).shown
-    (g.M.Disk.disk c.args.machine.now) (g.M.Disk.disk mid) (g.M.Disk.disk c.show.new.sink) c.args.archive.now c.answer.new.archive still.0 still.1 (told.made question) told.fetched
-    (m.sink_alone mid c.show.new.sink c.show.ensures.only).1 (ap (λ (s : SinkState). s.shown) alone.1) c.as_bytes.ensures (c.in-Ok-show.ensures.whole sink_tells)
+    shown_so h c.args.item c.answer.new.page.bytes c.as_bytes.result.now _ (g.M.Sink.sink mid).shown _ _ (g.M.Disk.disk mid) _ _ _ still.0 still.1 (told.made question) told.fetched (m.sink_alone mid c.show.new.sink c.show.ensures.only).1
+    (ap (λ (s : SinkState). s.shown) (m.disk_alone c.args.machine.now mid c.answer.ensures.only).1) c.as_bytes.ensures (c.in-Ok-show.ensures.whole sink_tells)
 
 pub returns-in-Err-clause-damaged : goal.returns-in-Err-clause-damaged
 returns-in-Err-clause-damaged g c = λ tells h stands cached d is.
     let m = c.args.machine.now in
     let mid = c.answer.new.disk in
     let same : c.from.result ≡ Damaged d = cc in
-    let halt = halted_at c.in-Err.halt d (sym c.from.ensures ∙ same) in
-    let spoiled = (c.in-Err.ensures.by_reads tells h stands cached).damaged d (ap Err halt) in
+    let spoiled = (c.in-Err.ensures.by_reads tells h stands cached).damaged d (ap Err (halted_at c.in-Err.halt d (sym c.from.ensures ∙ same))) in
     let still = c.in-Err.ensures.still (is_question h (g.M.Disk.disk m).holds.pages c.args.item d spoiled) in
     (spoiled, ap (λ (d : DiskState). d.holds.pages) still.0, (g.met.M.Machine.disk_alone m mid c.answer.ensures.only).1)
 

@@ -1,21 +1,18 @@
-use Rattle.std.proofs.Common.{◌≡◌, [], refl, inl, inr, sym, subst}
+use Rattle.std.proofs.Common.{◌≡◌, [], refl, inl, inr}
 use Rattle.machine_model.proofs.MomentLemmas.{goes_on_same}
-use Rattle.machine_model.specs.States.{state_by}
 use Rattle.program_words.specs.Words.{AreWords, texts}
 use Rattle.program_words.specs.declared.task.Task.{Task}
 use Rattle.program_words.specs.declared.task.Task.TheVariants as tasks
-use Rattle.sample_commands.proofs.LawLemmas.{documents}
-use Rattle.archive_shell.specs.Sampling.{EndsSample}
 use Rattle.archive_shell.specs.declared.status.Status.TheVariants.{Memory}
-use Rattle.archive_shell.proofs.EndLemmas.{keeps_still, not_begun}
-use Rattle.archive_shell.proofs.SampleLemmas.{not_loaded, words_memory}
+use Rattle.archive_shell.proofs.SampleLemmas.{not_loaded}
+use Rattle.archive_shell.proofs.ServeLemmas.{keeps_still, not_begun}
 use Rattle.archive_shell.proofs.program.run.Given.{Over}
 use Rattle.archive_shell.proofs.program.run.Goals.{In-Err}
 use Rattle.archive_shell.proofs.program.run.Goals as goal
 
 -- there was no memory for words that ask for something
 memory : (g : Over) (c : In-Err g) (task : Task) → AreWords (texts c.args.words.now) task → c.in-Err.status ≡ Memory
-memory g c task are = words_memory c.in-Err.status (texts c.args.words.now) task c.in-Err.ensures.refused are
+memory g c task are = elim c.in-Err.ensures.refused as (λ _. c.in-Err.status ≡ Memory) [ inl none ↦ none | inr refused ↦ absurd (refused.1 task are) ]
 
 pub returns-in-Err-clause-headline : goal.returns-in-Err-clause-headline
 returns-in-Err-clause-headline g c = λ source_tells sink_tells disk_tells are h stands.
@@ -23,15 +20,14 @@ returns-in-Err-clause-headline g c = λ source_tells sink_tells disk_tells are h
     let none = memory g (goal.at.returns-in-Err-clause-headline g c).In-Err tasks.Script are in (
       [],
       g.met.M.Machine.disk_asks_nothing m m (g.met.M.Disk.only_same m),
-      not_begun h c.in-Err.status (state_by g.M.Source.source g.M.Sink.sink g.M.Disk.disk m) (g.M.Sink.sink m) (g.M.Disk.disk m) (inr (inr (inl none))) (λ damage is. cc) refl
-          (g.met.M.Machine.beside_shown m sink_tells disk_tells) (λ each. keeps_still h (g.M.Disk.disk m) each),
+      not_begun h c.in-Err.status _ _ (inr (inr (inl none))) (rw none tt) (refl, refl) (g.met.M.Machine.beside_shown m sink_tells disk_tells) (keeps_still h (g.M.Disk.disk m)),
     )
 
 pub returns-in-Err-clause-complete : goal.returns-in-Err-clause-complete
 returns-in-Err-clause-complete g c = λ source_tells sink_tells disk_tells are archive script few disk source sink. inr (inl (memory g (goal.at.returns-in-Err-clause-complete g c).In-Err tasks.Script are))
 
 pub returns-in-Err-clause-sample_ends : goal.returns-in-Err-clause-sample_ends
-returns-in-Err-clause-sample_ends g c = λ numbers are. inl (subst EndsSample (sym (memory g (goal.at.returns-in-Err-clause-sample_ends g c).In-Err (tasks.Generate numbers) are)) tt)
+returns-in-Err-clause-sample_ends g c = λ numbers are. inl (rw (memory g (goal.at.returns-in-Err-clause-sample_ends g c).In-Err (tasks.Generate numbers) are) tt)
 
 pub returns-in-Err-clause-occupied : goal.returns-in-Err-clause-occupied
 returns-in-Err-clause-occupied g c = λ disk_tells numbers are h spelled loads some. inr (inr (inl (memory g (goal.at.returns-in-Err-clause-occupied g c).In-Err (tasks.Generate numbers) are)))
@@ -42,10 +38,8 @@ returns-in-Err-clause-spared g c = λ disk_tells numbers are h each some. (refl,
 pub returns-in-Err-clause-sampled : goal.returns-in-Err-clause-sampled
 returns-in-Err-clause-sampled g c = λ sink_tells disk_tells numbers are stands.
     let m = c.args.machine.now in
-    let d = g.M.Disk.disk m in
-    let none = memory g (goal.at.returns-in-Err-clause-sampled g c).In-Err (tasks.Generate numbers) are in
-    not_loaded numbers.seed numbers.count c.in-Err.status (g.M.Sink.sink m) (g.M.Sink.sink m) d d (documents numbers.seed numbers.count) (g.met.M.Machine.beside_shown m sink_tells disk_tells) refl
-    (λ is. cc) (λ damage is. cc) (goes_on_same d) (λ each. keeps_still [] d each)
+    not_loaded numbers.seed numbers.count c.in-Err.status _ _ _ _ (rw (memory g (goal.at.returns-in-Err-clause-sampled g c).In-Err (tasks.Generate numbers) are) tt) (g.met.M.Machine.beside_shown m sink_tells disk_tells) refl
+    (goes_on_same (g.M.Disk.disk m)) (keeps_still [] (g.M.Disk.disk m))
 
 pub returns-in-Err-clause-filled : goal.returns-in-Err-clause-filled
 returns-in-Err-clause-filled g c = λ disk_tells numbers are stands disk sink. inr (memory g (goal.at.returns-in-Err-clause-filled g c).In-Err (tasks.Generate numbers) are)
@@ -57,13 +51,9 @@ pub returns-in-Generate-clause-refused : goal.returns-in-Generate-clause-refused
 returns-in-Generate-clause-refused g c = λ disk_tells task are at refused. c.run_sample.ensures.refused disk_tells at refused
 
 pub returns-in-Generate-clause-left_alone : goal.returns-in-Generate-clause-left_alone
-returns-in-Generate-clause-left_alone g c = λ disk_tells at refused.
-    let alone = c.run_sample.ensures.left_alone disk_tells at refused in
-    (c.run_sample.ensures.source, alone.0, alone.1)
+returns-in-Generate-clause-left_alone g c = λ disk_tells at refused. let alone = c.run_sample.ensures.left_alone disk_tells at refused in (c.run_sample.ensures.source, alone.0, alone.1)
 
 pub returns-in-Generate-clause-not_empty : goal.returns-in-Generate-clause-not_empty
 returns-in-Generate-clause-not_empty g c = λ n is.
     let full = c.run_sample.ensures.not_empty n is in
-    let A : Task → Type 0 = λ t. AreWords (texts c.args.words.now) t in
-    let are : A (tasks.Generate c.in-Generate.numbers) = subst A c.in-Generate.is c.in-Ok.ensures.read in
-    (full.0, (c.in-Generate.numbers, are), full.1)
+    (full.0, (c.in-Generate.numbers, rw c.in-Generate.is at c.in-Ok.ensures.read), full.1)

@@ -1,19 +1,16 @@
-use Rattle.std.proofs.Common.{◌≡◌, [], length, Err, refl, inl, inr, ap, subst, ◌∙◌, arith}
+use Rattle.std.proofs.Common.{◌≡◌, [], length, Err, refl, inl, inr, ap, sym, ◌∙◌, arith}
 use Rattle.machine_model.specs.Causes.{Rose}
 use Rattle.machine_model.specs.States.{SinkState}
-use Rattle.sample_commands.proofs.LawLemmas.{documents}
+use Rattle.machine_model.proofs.MomentLemmas.{goes_on_same}
 use Rattle.gate_journal.specs.Spelled.{Spells}
 use Rattle.archive_state.specs.Histories.{History}
 use Rattle.archive_state.specs.Legal.{IsLoadable}
 use Rattle.archive_state.specs.Stands.{bodies_of}
 use Rattle.archive_state.proofs.HistoryLemmas.{legal_loads}
 use Rattle.archive_state.proofs.StandsLemmas.{spells_one_history, stands_is_archive, not_archive_once}
-use Rattle.archive_core.proofs.AddLemmas.{in_step_stands}
-use Rattle.archive_shell.specs.Sampling.{Sampled}
 use Rattle.archive_shell.specs.declared.status.Status.TheVariants.{Disk, Sink, Memory, NotEmpty}
-use Rattle.archive_shell.proofs.EndLemmas.{keeps_still, synced_if_refused, load_completes, load_refused, load_undamaged, rose_earlier}
-use Rattle.machine_model.proofs.MomentLemmas.{goes_on_same}
-use Rattle.archive_shell.proofs.SampleLemmas.{not_loaded, loaded_then, load_not_done, empty_stands, sample_completes}
+use Rattle.archive_shell.proofs.SampleLemmas.{empty_stands, not_loaded, sample_completes}
+use Rattle.archive_shell.proofs.ServeLemmas.{keeps_still, load_completes, load_refused, load_undone, synced_if_refused}
 use Rattle.archive_shell.proofs.sampling.run_sample.Given.{Over}
 use Rattle.archive_shell.proofs.sampling.run_sample.Goals.{After-fill_and_show, After-length-length}
 use Rattle.archive_shell.proofs.sampling.run_sample.Goals as goal
@@ -24,9 +21,7 @@ returns-in-Err-clause-spared g c = λ disk_tells h each some. (refl, keeps_still
 pub returns-in-Err-clause-sampled : goal.returns-in-Err-clause-sampled
 returns-in-Err-clause-sampled g c = λ sink_tells disk_tells stands.
     let m = c.args.machine.now in
-    let d = g.M.Disk.disk m in
-    not_loaded c.args.numbers.seed c.args.numbers.count Memory (g.M.Sink.sink m) (g.M.Sink.sink m) d d (documents c.args.numbers.seed c.args.numbers.count) (g.met.M.Machine.beside_shown m sink_tells disk_tells) refl
-    (λ is. cc) (λ damage is. cc) (goes_on_same d) (λ each. keeps_still [] d each)
+    not_loaded c.args.numbers.seed c.args.numbers.count Memory _ _ _ _ tt (g.met.M.Machine.beside_shown m sink_tells disk_tells) refl (goes_on_same (g.M.Disk.disk m)) (keeps_still [] (g.M.Disk.disk m))
 
 pub returns-in-Err-load-clause-refused : goal.returns-in-Err-load-clause-refused
 returns-in-Err-load-clause-refused g c = λ disk_tells at refused.
@@ -34,20 +29,16 @@ returns-in-Err-load-clause-refused g c = λ disk_tells at refused.
 
 pub returns-in-Err-load-clause-left_alone : goal.returns-in-Err-load-clause-left_alone
 returns-in-Err-load-clause-left_alone g c = λ disk_tells at refused.
-    let m = c.args.machine.now in
-    ((g.met.M.Machine.disk_alone m c.load.new.disk c.load.ensures.only).1, synced_if_refused (g.M.Disk.disk m) (g.M.Disk.disk c.load.new.disk) at refused (c.in-Err-load.ensures.longer disk_tells))
+    ((g.met.M.Machine.disk_alone _ _ c.load.ensures.only).1, synced_if_refused (g.M.Disk.disk c.args.machine.now) (g.M.Disk.disk c.load.new.disk) at refused (c.in-Err-load.ensures.longer disk_tells))
 
 pub returns-in-Err-load-clause-spared : goal.returns-in-Err-load-clause-spared
-returns-in-Err-load-clause-spared g c = λ disk_tells h each some.
-    ((g.met.M.Machine.disk_alone c.args.machine.now c.load.new.disk c.load.ensures.only).1, c.in-Err-load.ensures.crash disk_tells h each)
+returns-in-Err-load-clause-spared g c = λ disk_tells h each some. ((g.met.M.Machine.disk_alone _ _ c.load.ensures.only).1, c.in-Err-load.ensures.crash disk_tells h each)
 
 pub returns-in-Err-load-clause-sampled : goal.returns-in-Err-load-clause-sampled
 returns-in-Err-load-clause-sampled g c = λ sink_tells disk_tells stands.
     let m = c.args.machine.now in
-    let n = c.load.new.disk in
-    not_loaded c.args.numbers.seed c.args.numbers.count c.from.result (g.M.Sink.sink m) (g.M.Sink.sink n) (g.M.Disk.disk m) (g.M.Disk.disk n) (documents c.args.numbers.seed c.args.numbers.count) (g.met.M.Machine.beside_shown m sink_tells disk_tells)
-    (g.met.M.Machine.disk_alone m n c.load.ensures.only).1 (load_not_done c.from.result c.in-Err-load.error c.from.ensures) (load_undamaged c.from.result c.in-Err-load.error c.from.ensures) (g.met.M.Disk.only_goes_on m n disk_tells c.load.ensures.only)
-    (λ each. c.in-Err-load.ensures.crash disk_tells [] each)
+    not_loaded c.args.numbers.seed c.args.numbers.count c.from.result _ _ _ _ (load_undone c.from.result c.in-Err-load.error c.from.ensures) (g.met.M.Machine.beside_shown m sink_tells disk_tells)
+    (g.met.M.Machine.disk_alone m c.load.new.disk c.load.ensures.only).1 (g.met.M.Disk.only_goes_on m c.load.new.disk disk_tells c.load.ensures.only) (c.in-Err-load.ensures.crash disk_tells [])
 
 pub returns-in-Err-load-clause-complete : goal.returns-in-Err-load-clause-complete
 returns-in-Err-load-clause-complete g c = λ disk_tells stands disk sink.
@@ -70,8 +61,7 @@ pub returns-then-length-gt0-clause-occupied : goal.returns-then-length-gt0-claus
 returns-then-length-gt0-clause-occupied g c = λ disk_tells h spelled loads some. inl (ap NotEmpty (entries g (goal.at.returns-then-length-gt0-clause-occupied g c).After-length-length disk_tells h spelled loads))
 
 pub returns-then-length-gt0-clause-spared : goal.returns-then-length-gt0-clause-spared
-returns-then-length-gt0-clause-spared g c = λ disk_tells h each some.
-    ((g.met.M.Machine.disk_alone c.args.machine.now c.load.new.disk c.load.ensures.only).1, c.in-Ok-load.ensures.crash disk_tells h each)
+returns-then-length-gt0-clause-spared g c = λ disk_tells h each some. ((g.met.M.Machine.disk_alone _ _ c.load.ensures.only).1, c.in-Ok-load.ensures.crash disk_tells h each)
 
 pub returns-then-length-gt0-clause-sampled : goal.returns-then-length-gt0-clause-sampled
 returns-then-length-gt0-clause-sampled g c = λ sink_tells disk_tells stands.
@@ -82,16 +72,14 @@ returns-then-length-gt0-clause-complete g c = λ disk_tells stands disk sink.
     absurd (omega (arith, c.if-length-gt0.true, entries g (goal.at.returns-then-length-gt0-clause-complete g c).After-length-length disk_tells [] stands.spelled (legal_loads [] stands.legal)))
 
 pub returns-clause-source : goal.returns-clause-source
-returns-clause-source g c = c.fill_and_show.ensures.source ∙ (g.met.M.Machine.disk_alone c.args.machine.now c.load.new.disk c.load.ensures.only).0
+returns-clause-source g c = c.fill_and_show.ensures.source ∙ (g.met.M.Machine.disk_alone _ _ c.load.ensures.only).0
 
 -- faults behind the load are faults of the run
 disk_rose : (g : Over) (c : After-fill_and_show g) → c.fill_and_show.result ≡ Disk → Rose (g.M.Disk.disk c.args.machine.now).faults (g.M.Disk.disk c.fill_and_show.new.machine).faults
-disk_rose g c is = rose_earlier _ _ _ (g.met.M.Disk.only_faults c.args.machine.now c.load.new.disk c.load.ensures.only) (c.fill_and_show.ensures.disk_fault is)
+disk_rose g c is = omega (arith, g.met.M.Disk.only_faults c.args.machine.now c.load.new.disk c.load.ensures.only, c.fill_and_show.ensures.disk_fault is)
 
 sink_rose : (g : Over) (c : After-fill_and_show g) → c.fill_and_show.result ≡ Sink → Rose (g.M.Sink.sink c.args.machine.now).faults (g.M.Sink.sink c.fill_and_show.new.machine).faults
-sink_rose g c is =
-    let S : SinkState → Type 0 = λ s. Rose s.faults (g.M.Sink.sink c.fill_and_show.new.machine).faults in
-    subst S (g.met.M.Machine.disk_alone c.args.machine.now c.load.new.disk c.load.ensures.only).1 (c.fill_and_show.ensures.sink_fault is)
+sink_rose g c is = rw (g.met.M.Machine.disk_alone c.args.machine.now c.load.new.disk c.load.ensures.only).1 at (c.fill_and_show.ensures.sink_fault is)
 
 pub returns-clause-disk_fault : goal.returns-clause-disk_fault
 returns-clause-disk_fault g c = disk_rose g (goal.at.returns-clause-disk_fault g c).After-fill_and_show
@@ -125,13 +113,10 @@ pub returns-clause-sampled : goal.returns-clause-sampled
 returns-clause-sampled g c = λ sink_tells disk_tells stands.
     let m = c.args.machine.now in
     let n = c.load.new.disk in
-    let last = c.fill_and_show.new.machine in
     let alone = g.met.M.Machine.disk_alone m n c.load.ensures.only in
-    let in_step = c.in-Ok-load.ensures.in_step disk_tells [] stands in
-    let S : SinkState → Type 0 = λ s. Sampled c.args.numbers.seed c.args.numbers.count c.fill_and_show.result s (g.M.Sink.sink last) (g.M.Disk.disk n) (g.M.Disk.disk last) in
-    loaded_then c.args.numbers.seed c.args.numbers.count c.fill_and_show.result (g.M.Sink.sink m) (g.M.Sink.sink last) (g.M.Disk.disk m) (g.M.Disk.disk n) (g.M.Disk.disk last) (g.met.M.Machine.beside_shown m sink_tells disk_tells)
-    (g.met.M.Disk.only_goes_on m n disk_tells c.load.ensures.only) (λ each. c.in-Ok-load.ensures.crash disk_tells [] each) (in_step_stands (g.M.Disk.disk n) c.in-Ok-load.archive [] in_step)
-    (subst S alone.1 (c.fill_and_show.ensures.sampled sink_tells disk_tells in_step))
+    let shown = ap (λ (s : SinkState). s.shown) (sym alone.1) in
+    rw alone.1 at (c.fill_and_show.ensures.sampled sink_tells disk_tells (c.in-Ok-load.ensures.in_step disk_tells [] stands) (g.M.Disk.disk m)
+    (g.met.M.Machine.beside_shown m sink_tells disk_tells ∙ shown, g.met.M.Machine.beside_shown n sink_tells disk_tells, g.met.M.Disk.only_goes_on m n disk_tells c.load.ensures.only, c.in-Ok-load.ensures.crash disk_tells []))
 
 pub returns-clause-complete : goal.returns-clause-complete
 returns-clause-complete g c = λ disk_tells stands disk sink.

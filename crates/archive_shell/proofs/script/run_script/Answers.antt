@@ -1,25 +1,23 @@
-use Rattle.std.proofs.Common.{ℕ, [], Err, refl, inl, inr, ap, sym, subst}
-use Rattle.machine_model.specs.States.{SourceState, state_by}
-use Rattle.archive_state.proofs.StandsLemmas.{stands_is_archive, not_archive_once}
-use Rattle.archive_state.specs.Worlds.{world_of}
-use Rattle.archive_shell.specs.Headline.{Headline}
-use Rattle.archive_shell.specs.Serving.{Ends, Serves}
-use Rattle.archive_shell.specs.declared.status.Status.TheVariants.{Memory}
-use Rattle.archive_shell.proofs.EndLemmas.{keeps_still, syncs_still, synced_if_refused, not_begun, serving_start, whole_run, load_early, load_refused, load_undamaged, load_completes}
-use Rattle.archive_shell.proofs.CauseLemmas.{ends_later, later_alone}
-use Rattle.archive_shell.proofs.PullLemmas.{completes, pulling_start}
+use Rattle.std.proofs.Common.{true, List, [], Err, refl, inl, inr, ap, subst}
 use Rattle.machine_model.specs.Areas.{Bytes}
+use Rattle.machine_model.specs.States.{SourceState, SinkState, state_by}
+use Rattle.commands.specs.declared.command.Item.{Item}
 use Rattle.gate_journal.specs.Spelled.{Spells}
+use Rattle.script_read.specs.Items.{Splits}
 use Rattle.archive_state.specs.Histories.{History}
 use Rattle.archive_state.specs.Stands.{bodies_of}
+use Rattle.archive_state.specs.Worlds.{world_of}
+use Rattle.archive_state.proofs.StandsLemmas.{stands_is_archive, not_archive_once}
+use Rattle.archive_core.proofs.CacheLemmas.{none_cached}
 use Rattle.archive_shell.specs.Asking.{HasEnded}
+use Rattle.archive_shell.specs.Causes.{MayEnd}
 use Rattle.archive_shell.specs.Fetching.{ReadsMissed}
 use Rattle.archive_shell.specs.Questions.{AreMade, AreMadeUpTo}
-use Rattle.archive_shell.specs.Causes.{MayEnd}
-use Rattle.archive_shell.specs.Damages.{IsPulled}
-use Rattle.archive_shell.proofs.QuestionLemmas.{asked_among, asking_start, cached_first, stopped_among}
-use Rattle.archive_shell.proofs.StartLemmas.{at_start, made_anywhere, reads_anywhere, stopped_anywhere}
-use Rattle.archive_shell.proofs.StepLemmas.{along}
+use Rattle.archive_shell.specs.Serving.{Serves}
+use Rattle.archive_shell.specs.declared.status.Status.TheVariants.{Memory}
+use Rattle.archive_shell.proofs.PullLemmas.{completes, ends_later, later_alone, pulling_start}
+use Rattle.archive_shell.proofs.QuestionLemmas.{asking_start, at_start, made_anywhere, reads_anywhere, stopped_anywhere}
+use Rattle.archive_shell.proofs.ServeLemmas.{keeps_still, load_completes, load_early, load_refused, load_undone, not_begun, serving_start, synced_if_refused, syncs_still, whole_run}
 use Rattle.archive_shell.proofs.script.run_script.Given.{Over}
 use Rattle.archive_shell.proofs.script.run_script.Goals.{After-serve}
 use Rattle.archive_shell.proofs.script.run_script.Goals as goal
@@ -32,8 +30,7 @@ returns-in-Err-clause-headline g c = λ source_tells sink_tells disk_tells h sta
     let m = c.args.machine.now in (
       [],
       g.met.M.Machine.disk_asks_nothing m m (g.met.M.Disk.only_same m),
-      not_begun h Memory (state_by g.M.Source.source g.M.Sink.sink g.M.Disk.disk m) (g.M.Sink.sink m) (g.M.Disk.disk m) (inr (inr (inl refl))) (λ damage is. cc) refl
-          (g.met.M.Machine.beside_shown m sink_tells disk_tells) (λ each. keeps_still h (g.M.Disk.disk m) each),
+      not_begun h Memory _ _ (inr (inr (inl refl))) tt (refl, refl) (g.met.M.Machine.beside_shown m sink_tells disk_tells) (keeps_still h (g.M.Disk.disk m)),
     )
 
 pub returns-in-Err-load-clause-refused : goal.returns-in-Err-load-clause-refused
@@ -42,24 +39,18 @@ returns-in-Err-load-clause-refused g c = λ disk_tells at refused.
 
 pub returns-in-Err-load-clause-left_alone : goal.returns-in-Err-load-clause-left_alone
 returns-in-Err-load-clause-left_alone g c = λ disk_tells at refused.
-    let m = c.args.machine.now in
-    let alone = g.met.M.Machine.disk_alone m c.load.new.disk c.load.ensures.only in (
-      alone.0,
-      alone.1,
-      synced_if_refused (g.M.Disk.disk m) (g.M.Disk.disk c.load.new.disk) at refused (c.in-Err-load.ensures.longer disk_tells),
-    )
+    let alone = g.met.M.Machine.disk_alone _ _ c.load.ensures.only in
+    (alone.0, alone.1, synced_if_refused (g.M.Disk.disk c.args.machine.now) (g.M.Disk.disk c.load.new.disk) at refused (c.in-Err-load.ensures.longer disk_tells))
 
 pub returns-in-Err-load-clause-headline : goal.returns-in-Err-load-clause-headline
 returns-in-Err-load-clause-headline g c = λ source_tells sink_tells disk_tells h stands.
     let m = c.args.machine.now in
     let n = c.load.new.disk in
-    let alone = g.met.M.Machine.disk_alone m n c.load.ensures.only in
-    let early = load_early c.from.result c.in-Err-load.error c.from.ensures (λ at is. stands_is_archive h (g.M.Disk.disk m).holds at stands (c.in-Err-load.ensures.not_archive disk_tells at (ap Err is))) in
-    let S : SourceState → Type 0 = λ s. Headline h c.from.result (state_by g.M.Source.source g.M.Sink.sink g.M.Disk.disk m) (record { source = s; sink = g.M.Sink.sink n; disk = g.M.Disk.disk n }) [] in (
+    let early = load_early c.from.result c.in-Err-load.error c.from.ensures (λ at is. stands_is_archive h (g.M.Disk.disk m).holds at stands (c.in-Err-load.ensures.not_archive disk_tells at (ap Err is))) in (
       [],
       g.met.M.Machine.disk_asks_nothing m n c.load.ensures.only,
-      subst S (sym alone.0) (not_begun h c.from.result (state_by g.M.Source.source g.M.Sink.sink g.M.Disk.disk m) (g.M.Sink.sink n) (g.M.Disk.disk n) early (load_undamaged c.from.result c.in-Err-load.error c.from.ensures) alone.1
-          (g.met.M.Machine.beside_shown m sink_tells disk_tells) (λ each. c.in-Err-load.ensures.crash disk_tells h each)),
+      not_begun h c.from.result _ _ early (load_undone c.from.result c.in-Err-load.error c.from.ensures) (g.met.M.Machine.disk_alone m n c.load.ensures.only)
+          (g.met.M.Machine.beside_shown m sink_tells disk_tells) (c.in-Err-load.ensures.crash disk_tells h),
     )
 
 pub returns-in-Err-load-clause-complete : goal.returns-in-Err-load-clause-complete
@@ -86,14 +77,12 @@ returns-clause-not_archive g c = λ disk_tells at is. absurd (c.serve.ensures.ca
 
 pub returns-clause-damaged : goal.returns-clause-damaged
 returns-clause-damaged g c = λ disk_tells d is.
+    let alone = g.met.M.Machine.disk_alone c.args.machine.now c.load.new.disk c.load.ensures.only in
     let found = c.in-Ok-load.ensures.found disk_tells in
-    let (item, spoiled, pulled) = c.serve.ensures.damaged disk_tells found.0 found.1.0 (cached_first (g.M.Disk.disk c.load.new.disk) c.in-Ok-load.archive c.in-Ok-load.ensures.empty) d is in
-    let m = c.args.machine.now in
-    let n = c.load.new.disk in
-    let S : SourceState → Type 0 = λ s. IsPulled s (g.M.Source.source c.serve.new.machine) item in (
+    let (item, spoiled, pulled) = c.serve.ensures.damaged disk_tells found.0 found.1.0 (none_cached (g.M.Disk.disk c.load.new.disk) c.in-Ok-load.archive c.in-Ok-load.ensures.empty) d is in (
       item,
       record { loaded = found.0; spelled = found.1.1; added = spoiled.0; spoiled = spoiled.1 },
-      λ source_tells. subst S (g.met.M.Machine.disk_alone m n c.load.ensures.only).0 (pulled source_tells (pulling_start (g.M.Source.source n) c.in-Ok.desk.reader c.in-Ok.ensures)),
+      λ source_tells. pulled source_tells _ (pulling_start _ _ c.in-Ok.desk.reader alone.0 c.in-Ok.ensures),
     )
 
 pub returns-clause-refused : goal.returns-clause-refused
@@ -111,38 +100,30 @@ returns-clause-headline g c = λ source_tells sink_tells disk_tells h stands.
     let served = c.serve.ensures.served source_tells sink_tells disk_tells (world_of h)
     (serving_start h (state_by g.M.Source.source g.M.Sink.sink g.M.Disk.disk n) c.in-Ok-load.archive c.in-Ok.desk.reader c.in-Ok.ensures (g.met.M.Machine.beside_shown n sink_tells disk_tells)
     (c.in-Ok-load.ensures.in_step disk_tells h stands)) in
-    let here = along (λ s t. Serves (world_of h) c.serve.result (record { source = s; sink = t; disk = g.M.Disk.disk n }) (state_by g.M.Source.source g.M.Sink.sink g.M.Disk.disk last) served.0) _ _ _ _ (sym alone.0) (sym alone.1) served.2 in (
+    let S : SourceState → SinkState → Type 0 = λ s t. Serves (world_of h) c.serve.result (record { source = s; sink = t; disk = g.M.Disk.disk n }) (state_by g.M.Source.source g.M.Sink.sink g.M.Disk.disk last) served.0 in (
       served.0,
       g.M.Machine.asked_joins m n last [] served.0 (g.met.M.Machine.disk_asks_nothing m n c.load.ensures.only) served.1,
-      whole_run h c.serve.result (state_by g.M.Source.source g.M.Sink.sink g.M.Disk.disk m) (g.M.Disk.disk n)
-          (state_by g.M.Source.source g.M.Sink.sink g.M.Disk.disk last) served.0
-          (g.met.M.Machine.beside_shown m sink_tells disk_tells) (λ each. c.in-Ok-load.ensures.crash disk_tells h each) here,
+      whole_run h c.serve.result (state_by g.M.Source.source g.M.Sink.sink g.M.Disk.disk m) (g.M.Disk.disk n) (state_by g.M.Source.source g.M.Sink.sink g.M.Disk.disk last) served.0
+          (g.met.M.Machine.beside_shown m sink_tells disk_tells) (c.in-Ok-load.ensures.crash disk_tells h)
+          (subst (λ (s : SourceState). S s (g.M.Sink.sink m)) alone.0 (subst (λ (t : SinkState). S (g.M.Source.source n) t) alone.1 served.2)),
     )
 
 pub returns-clause-complete : goal.returns-clause-complete
 returns-clause-complete g c = λ source_tells sink_tells disk_tells archive script few disk source sink.
-    let m = c.args.machine.now in
-    let n = c.load.new.disk in
-    let last = c.serve.new.machine in
-    let alone = g.met.M.Machine.disk_alone m n c.load.ensures.only in
-    let E : SourceState → Type 0 = λ s. Ends c.serve.result s (g.M.Source.source last) in
-    let ends = subst E alone.0 (c.serve.ensures.ends source_tells (pulling_start (g.M.Source.source n) c.in-Ok.desk.reader c.in-Ok.ensures)) in
+    let alone = g.met.M.Machine.disk_alone c.args.machine.now c.load.new.disk c.load.ensures.only in
     let may = cause g (goal.at.returns-clause-complete g c).After-serve in
-    completes c.serve.result (g.M.Source.source m) (g.M.Source.source last) ends script few may.no_usage may.no_load may.not_full (λ is. disk (may.disk is)) (λ is. source (may.source is)) (λ is. sink (may.sink is))
+    completes c.serve.result _ _ (c.serve.ensures.ends source_tells _ (pulling_start _ _ c.in-Ok.desk.reader alone.0 c.in-Ok.ensures)) may script few (λ is. disk (may.disk is)) (λ is. source (may.source is)) (λ is. sink (may.sink is))
 
 -- how the run of questions ended, by the bytes behind the load
-ended : (g : Over) (c : After-serve g) → g.M.Source.source_tells → g.M.Sink.sink_tells → (tells : g.M.Disk.disk_tells)
+ended : (g : Over) (c : After-serve g) → g.M.Source.source_tells → g.M.Sink.sink_tells → (tells : g.M.Disk.disk_tells) (asked : List Item) → Splits true (g.M.Source.source c.args.machine.now).left asked []
     → HasEnded (c.in-Ok-load.ensures.found tells).0 (g.M.Disk.disk c.load.new.disk).holds c.serve.result
-    (record { source = g.M.Source.source c.args.machine.now; sink = g.M.Sink.sink c.args.machine.now; disk = g.M.Disk.disk c.load.new.disk }) (state_by g.M.Source.source g.M.Sink.sink g.M.Disk.disk c.serve.new.machine)
+    (state_by g.M.Source.source g.M.Sink.sink g.M.Disk.disk c.args.machine.now) (state_by g.M.Source.source g.M.Sink.sink g.M.Disk.disk c.serve.new.machine) asked
 ended g c source_tells sink_tells tells =
-    let n = c.load.new.disk in
-    let last = state_by g.M.Source.source g.M.Sink.sink g.M.Disk.disk c.serve.new.machine in
-    let alone = g.met.M.Machine.disk_alone c.args.machine.now n c.load.ensures.only in
+    let m = state_by g.M.Source.source g.M.Sink.sink g.M.Disk.disk c.args.machine.now in
+    let n = state_by g.M.Source.source g.M.Sink.sink g.M.Disk.disk c.load.new.disk in
     let found = c.in-Ok-load.ensures.found tells in
-    let image = (g.M.Disk.disk n).holds in
-    along (λ s t. HasEnded found.0 image c.serve.result (record { source = s; sink = t; disk = g.M.Disk.disk n }) last) _ _ _ _ (sym alone.0) (sym alone.1)
-    (c.serve.ensures.asks source_tells sink_tells tells found.0 image
-    (asking_start found.0 (state_by g.M.Source.source g.M.Sink.sink g.M.Disk.disk n) c.in-Ok-load.archive c.in-Ok.desk.reader c.in-Ok.ensures found.1.0 c.in-Ok-load.ensures.empty))
+    c.serve.ensures.asks source_tells sink_tells tells found.0 n.disk.holds m (asking_start found.0 m n c.in-Ok-load.archive c.in-Ok.desk.reader
+    (g.met.M.Machine.disk_alone c.args.machine.now c.load.new.disk c.load.ensures.only) (c.load.ensures.unread tells) c.in-Ok.ensures found.1.0 c.in-Ok-load.ensures.empty)
 
 -- what is told by these bytes, for the history that was found, is told by those at entry
 loaded : (g : Over) (c : After-serve g) (tells : g.M.Disk.disk_tells) (P : History → Bytes → Type 0) → ((p q : Bytes) → P [] p → P [] q) → P (c.in-Ok-load.ensures.found tells).0 (g.M.Disk.disk c.load.new.disk).holds
@@ -155,18 +136,16 @@ pub returns-clause-questions : goal.returns-clause-questions
 returns-clause-questions g c = λ source_tells sink_tells disk_tells asked split all is.
     let at = goal.at.returns-clause-questions g c in
     loaded g at.After-serve disk_tells (λ h b. AreMade h b asked (g.M.Sink.sink c.args.machine.now).shown (g.M.Sink.sink c.serve.new.machine).shown) (λ p q. made_anywhere p q asked _ _)
-    ((asked_among _ _ _ _ asked ((ended g at.After-serve source_tells sink_tells disk_tells).done is) split).0 all)
+    ((ended g at.After-serve source_tells sink_tells disk_tells asked split).made is all)
 
 pub returns-clause-stopped : goal.returns-clause-stopped
 returns-clause-stopped g c = λ source_tells sink_tells disk_tells asked split all d is.
     let at = goal.at.returns-clause-stopped g c in
     loaded g at.After-serve disk_tells (λ h b. AreMadeUpTo h b asked d (g.M.Sink.sink c.args.machine.now).shown (g.M.Sink.sink c.serve.new.machine).shown) (λ p q. stopped_anywhere p q asked d _ _)
-    (stopped_among _ _ _ _ d asked ((ended g at.After-serve source_tells sink_tells disk_tells).damaged d is) split all)
+    ((ended g at.After-serve source_tells sink_tells disk_tells asked split).stopped d is all)
 
 pub returns-clause-reads : goal.returns-clause-reads
 returns-clause-reads g c = λ source_tells sink_tells disk_tells asked split all is.
     let at = goal.at.returns-clause-reads g c in
-    let after = (g.M.Disk.disk c.serve.new.machine).bytes_read.pages in
-    let B : ℕ → Type 0 = λ before. ReadsMissed (c.in-Ok-load.ensures.found disk_tells).0 (g.M.Disk.disk c.load.new.disk).holds.pages asked before after in
-    loaded g at.After-serve disk_tells (λ h b. ReadsMissed h b.pages asked (g.M.Disk.disk c.args.machine.now).bytes_read.pages after) (λ p q. reads_anywhere p q asked _ _)
-    (subst B (c.load.ensures.unread disk_tells) ((asked_among _ _ _ _ asked ((ended g at.After-serve source_tells sink_tells disk_tells).done is) split).1 all))
+    loaded g at.After-serve disk_tells (λ h b. ReadsMissed h b.pages asked (g.M.Disk.disk c.args.machine.now).bytes_read.pages (g.M.Disk.disk c.serve.new.machine).bytes_read.pages) (λ p q. reads_anywhere p q asked _ _)
+    ((ended g at.After-serve source_tells sink_tells disk_tells asked split).reads is all)

@@ -1,9 +1,9 @@
-use Rattle.std.proofs.Common.{◌≡◌, ℕ, List, [], Result, Ok, Err, sym, ap, subst, ◌∙◌}
+use Rattle.std.proofs.Common.{◌≡◌, ℕ, List, Result, Ok, Err, sym, ap, ◌∙◌}
 use Rattle.machine_model.specs.States.{SourceState}
 use Rattle.commands.specs.declared.command.Item.{Item}
 use Rattle.archive_shell.specs.Serving.{AreAwaited, Gives, Pulling, next_by, pulls_beside}
 use Rattle.archive_shell.specs.declared.status.Status.{Status}
-use Rattle.archive_shell.proofs.StepLemmas.{pulls_in}
+use Rattle.archive_shell.proofs.ServeLemmas.{pulls_in}
 use Rattle.archive_shell.proofs.serve.next_item.Given.{Over}
 use Rattle.archive_shell.proofs.serve.next_item.Goals.{After-next_item}
 use Rattle.archive_shell.proofs.serve.next_item.Goals as goal
@@ -21,12 +21,10 @@ asked : (g : Over) (c : After-next_item g) → g.M.Source.source_tells → (bega
 asked g c tells began p =
     let m = c.args.machine.now in
     let mid = c.next_item.new.source in
-    let P : List (List ℕ) → Type 0 = λ lefts. g.M.Source.pulled m lefts mid in
     let made = c.next_item.ensures.awaited p.since p.reads.stands in
-    let pulls = pulls_in c.args.reader.now p.since (g.M.Source.source m).left P
-    (λ none. subst (λ x. g.M.Source.pulled m [] x) (sym (c.next_item.ensures.calm p.since p.reads.stands none)) (g.met.M.Source.pulled_none m)) (made.0, made.1, made.2 tells) in
-    let A : List ℕ → Type 0 = λ shown. g.M.Machine.asked m (pulls_beside shown pulls.0) mid in
-    (pulls.0, subst A (sym (ap (λ s. s.shown) (g.met.M.Machine.source_alone m mid c.next_item.ensures.only).0)) (g.met.M.Machine.asked_by m mid pulls.0 pulls.1), pulls.2)
+    let pulls = pulls_in c.args.reader.now p.since (g.M.Source.source m).left (λ lefts. g.M.Source.pulled m lefts mid)
+    (λ none. rw (c.next_item.ensures.calm p.since p.reads.stands none) (g.met.M.Source.pulled_none m)) (made.0, made.1, made.2 tells) in
+    (pulls.0, rw (g.met.M.Machine.source_alone m mid c.next_item.ensures.only).0 (g.met.M.Machine.asked_by m mid pulls.0 pulls.1), pulls.2)
 
 pub returns-in-Err-clause-gives : goal.returns-in-Err-clause-gives
 returns-in-Err-clause-gives g c = given g (goal.at.returns-in-Err-clause-gives g c).After-next_item _ (ap Err c.from.ensures ∙ ap next_by (sym c.in-Err.is))

@@ -1,5 +1,5 @@
 use Rattle.std.proofs.Common.{◌++◌, Err, ap}
-use Rattle.archive_shell.proofs.CauseLemmas.{ends_later, later_joins, left_joins}
+use Rattle.archive_shell.proofs.PullLemmas.{ends_later, later_joins, left_joins}
 use Rattle.archive_shell.proofs.serve.serve.Goals as goal
 
 pub items-preserved : goal.items-preserved
@@ -9,8 +9,8 @@ items-preserved g c =
     record {
       later = later_joins _ _ _ was.later now.later;
       left = left_joins _ _ _ _ _ _ _ was.left now.left;
-      asking = λ source_tells sink_tells disk_tells h image start. now.asks source_tells sink_tells disk_tells h image _ (was.asking source_tells sink_tells disk_tells h image start);
-      pulling = λ source_tells start. now.pulls source_tells _ (was.pulling source_tells start);
+      asking = λ source_tells sink_tells disk_tells h image began start. now.asks source_tells sink_tells disk_tells h image _ (was.asking source_tells sink_tells disk_tells h image began start);
+      pulling = λ source_tells began start. now.pulls source_tells _ (was.pulling source_tells began start);
       serving = λ source_tells sink_tells disk_tells w start.
           let so_far = was.serving source_tells sink_tells disk_tells w start in
           let next = now.goes_on source_tells sink_tells disk_tells w _ so_far.0 so_far.2 in
@@ -21,10 +21,10 @@ pub returns-in-Err-clause-damaged : goal.returns-in-Err-clause-damaged
 returns-in-Err-clause-damaged g c = λ tells h stands cached d is.
     let before = c.items.invariant.left.follows h stands in
     let (item, spoils, pulled) = c.in-Err.ensures.damaged tells (h ++ before.0) before.1 (c.items.invariant.left.cached tells cached) d (ap Err is) in
-    (item, (before.0, spoils), λ source_tells start. pulled source_tells _ (c.items.invariant.pulling source_tells start))
+    (item, (before.0, spoils), λ source_tells began start. pulled source_tells _ (c.items.invariant.pulling source_tells began start))
 
 pub returns-in-Err-clause-ends : goal.returns-in-Err-clause-ends
-returns-in-Err-clause-ends g c = λ source_tells start. c.in-Err.ensures.pulls source_tells _ (c.items.invariant.pulling source_tells start)
+returns-in-Err-clause-ends g c = λ source_tells began start. c.in-Err.ensures.pulls source_tells _ (c.items.invariant.pulling source_tells began start)
 
 pub returns-in-Err-clause-served : goal.returns-in-Err-clause-served
 returns-in-Err-clause-served g c = λ source_tells sink_tells disk_tells w start.
@@ -33,8 +33,8 @@ returns-in-Err-clause-served g c = λ source_tells sink_tells disk_tells w start
     (so_far.0 ++ next.0, g.M.Machine.asked_joins _ _ _ so_far.0 next.0 so_far.1 next.1, next.2)
 
 pub returns-in-Err-clause-asks : goal.returns-in-Err-clause-asks
-returns-in-Err-clause-asks g c = λ source_tells sink_tells disk_tells h image start.
-    c.in-Err.ensures.asks source_tells sink_tells disk_tells h image _ (c.items.invariant.asking source_tells sink_tells disk_tells h image start)
+returns-in-Err-clause-asks g c = λ source_tells sink_tells disk_tells h image began start.
+    c.in-Err.ensures.asks source_tells sink_tells disk_tells h image _ (c.items.invariant.asking source_tells sink_tells disk_tells h image began start)
 
 pub returns-in-Err-clause-later : goal.returns-in-Err-clause-later
 returns-in-Err-clause-later g c = later_joins _ _ _ c.items.invariant.later c.in-Err.ensures.later

@@ -1,7 +1,7 @@
 use Rattle.std.proofs.Common.{◌-◌, ◌^◌, List, []}
 use Rattle.machine_model.specs.Areas.{Bytes}
 use Rattle.machine_model.specs.Pulls.{Pull}
-use Rattle.machine_model.specs.States.{state_by}
+use Rattle.machine_model.specs.States.{MachineState, SourceState, state_by}
 use Rattle.archive_state.specs.Histories.{History}
 use Rattle.archive_state.specs.Worlds.{World}
 use Rattle.archive_shell.specs.Asking.{Asking}
@@ -13,10 +13,10 @@ abbrev pub invariant-items : goal.invariant-items
 invariant-items g l = record {
   later : IsLater (state_by g.M.Source.source g.M.Sink.sink g.M.Disk.disk l.fn.machine) (state_by g.M.Source.source g.M.Sink.sink g.M.Disk.disk l.machine);
   left : IsLeft g.M.Disk.disk_tells (g.M.Disk.disk l.fn.machine) (g.M.Disk.disk l.machine) l.fn.archive l.archive;
-  asking : g.M.Source.source_tells → g.M.Sink.sink_tells → g.M.Disk.disk_tells → (h : History) (image : Bytes)
-      → Asking h image (state_by g.M.Source.source g.M.Sink.sink g.M.Disk.disk l.fn.machine) (state_by g.M.Source.source g.M.Sink.sink g.M.Disk.disk l.fn.machine) l.fn.archive l.fn.reader
-      → Asking h image (state_by g.M.Source.source g.M.Sink.sink g.M.Disk.disk l.fn.machine) (state_by g.M.Source.source g.M.Sink.sink g.M.Disk.disk l.machine) l.archive l.reader;
-  pulling : g.M.Source.source_tells → Pulling (g.M.Source.source l.fn.machine) (g.M.Source.source l.fn.machine) l.fn.reader → Pulling (g.M.Source.source l.fn.machine) (g.M.Source.source l.machine) l.reader;
+  asking : g.M.Source.source_tells → g.M.Sink.sink_tells → g.M.Disk.disk_tells → (h : History) (image : Bytes) (began : MachineState)
+      → Asking h image began (state_by g.M.Source.source g.M.Sink.sink g.M.Disk.disk l.fn.machine) l.fn.archive l.fn.reader
+      → Asking h image began (state_by g.M.Source.source g.M.Sink.sink g.M.Disk.disk l.machine) l.archive l.reader;
+  pulling : g.M.Source.source_tells → (began : SourceState) → Pulling began (g.M.Source.source l.fn.machine) l.fn.reader → Pulling began (g.M.Source.source l.machine) l.reader;
   serving : g.M.Source.source_tells → g.M.Sink.sink_tells → g.M.Disk.disk_tells → (w : World)
       → Serving w (state_by g.M.Source.source g.M.Sink.sink g.M.Disk.disk l.fn.machine)
       (state_by g.M.Source.source g.M.Sink.sink g.M.Disk.disk l.fn.machine) l.fn.archive l.fn.reader []

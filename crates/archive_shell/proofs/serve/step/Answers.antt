@@ -1,67 +1,46 @@
-use Rattle.std.proofs.Common.{◌≡◌, ℕ, List, [], Ok, Err, refl, sym, ap, subst, ◌∙◌}
+use Rattle.std.proofs.Common.{◌≡◌, List, [], Ok, Err, refl, sym, ap, ◌∙◌}
 use Rattle.std.proofs.lemmas.List.{append-nil}
-use Rattle.machine_model.specs.Areas.{Bytes}
 use Rattle.machine_model.specs.Pulls.{Pull}
-use Rattle.machine_model.specs.States.{DiskState, MachineState, SourceState, state_by}
-use Rattle.archive_state.specs.Histories.{History}
+use Rattle.machine_model.specs.States.{MachineState, SourceState, state_by}
 use Rattle.archive_state.specs.Standing.{last_state}
-use Rattle.archive_state.specs.Worlds.{World}
-use Rattle.archive_core.specs.States.{CacheStands}
 use Rattle.archive_shell.specs.Asking.{Asking}
-use Rattle.archive_shell.specs.Causes.{IsLeft}
-use Rattle.archive_shell.specs.Damages.{Spoils}
-use Rattle.archive_shell.specs.Headline.{CarriesOutAll}
 use Rattle.archive_shell.specs.Serving.{Gives, Pulling, Serving, pulls_beside}
 use Rattle.archive_shell.specs.declared.status.Status.TheVariants.{Damaged}
-use Rattle.archive_shell.proofs.DamageLemmas.{last_pulled, stopped_at}
-use Rattle.archive_shell.proofs.PullLemmas.{ends_by, ends_early, not_early, pulling_next, stops_early}
+use Rattle.archive_shell.proofs.PullLemmas.{early_behind, ends_by, last_pulled, pulling_next, stopped_at, stops_early}
 use Rattle.archive_shell.proofs.QuestionLemmas.{asked_to_end, asking_next, asking_stops}
-use Rattle.archive_shell.proofs.StepLemmas.{along, ended_by, serving_next, stopped}
+use Rattle.archive_shell.proofs.ServeLemmas.{ended_by, serving_next, stopped}
 use Rattle.archive_shell.proofs.serve.step.Given.{Over}
 use Rattle.archive_shell.proofs.serve.step.Goals.{After-carry_out, After-next_item}
 use Rattle.archive_shell.proofs.serve.step.Goals as goal
 
--- where the next item was taken, a run serves what it served
-served : (g : Over) (c : After-next_item g) (w : World) (began : MachineState) (before : List Pull)
-    → Serving w began (state_by g.M.Source.source g.M.Sink.sink g.M.Disk.disk c.args.machine.now) c.args.archive.now c.args.reader.now before
-    → Serving w began (record { source = g.M.Source.source c.args.machine.now; sink = g.M.Sink.sink c.next_item.new.machine; disk = g.M.Disk.disk c.next_item.new.machine }) c.args.archive.now c.args.reader.now before
-served g c w began before serving =
-    along (λ s d. Serving w began (record { source = g.M.Source.source c.args.machine.now; sink = s; disk = d }) c.args.archive.now c.args.reader.now before) _ _ _ _ c.next_item.ensures.sink c.next_item.ensures.disk serving
-
--- and it asks what it asked
-asked : (g : Over) (c : After-next_item g) (h : History) (image : Bytes) (began : MachineState)
-    → Asking h image began (state_by g.M.Source.source g.M.Sink.sink g.M.Disk.disk c.args.machine.now) c.args.archive.now c.args.reader.now
-    → Asking h image began (record { source = g.M.Source.source c.args.machine.now; sink = g.M.Sink.sink c.next_item.new.machine; disk = g.M.Disk.disk c.next_item.new.machine }) c.args.archive.now c.args.reader.now
-asked g c h image began asking =
-    along (λ s d. Asking h image began (record { source = g.M.Source.source c.args.machine.now; sink = s; disk = d }) c.args.archive.now c.args.reader.now) _ _ _ _ c.next_item.ensures.sink c.next_item.ensures.disk asking
+-- what is so of the machine is so where the next item was taken, but for its source
+still : (g : Over) (c : After-next_item g) (P : MachineState → Type 0) → P (state_by g.M.Source.source g.M.Sink.sink g.M.Disk.disk c.args.machine.now)
+    → P (record { source = g.M.Source.source c.args.machine.now; sink = g.M.Sink.sink c.next_item.new.machine; disk = g.M.Disk.disk c.next_item.new.machine })
+still g c P so = rw (c.next_item.ensures.sink, c.next_item.ensures.disk) so
 
 -- behind the item the source is as it was where the item was taken
 given : (g : Over) (c : After-carry_out g) (tells : g.M.Source.source_tells) (began : SourceState) (p : Pulling began (g.M.Source.source c.args.machine.now) c.args.reader.now)
     → Gives c.args.reader.now c.next_item.new.reader p.since (Ok c.in-Ok.item) (g.M.Source.source c.args.machine.now) (g.M.Source.source c.carry_out.new.machine)
-given g c tells began p =
-    let G : SourceState → Type 0 = λ s. Gives c.args.reader.now c.next_item.new.reader p.since (Ok c.in-Ok.item) (g.M.Source.source c.args.machine.now) s in
-    subst G (sym c.carry_out.ensures.source) (c.in-Ok.ensures.gives tells began p)
+given g c tells began p = rw c.carry_out.ensures.source (c.in-Ok.ensures.gives tells began p)
 
 -- and no pull was made since
 pulled : (g : Over) (c : After-carry_out g) (pulls : List Pull) → g.M.Machine.asked c.args.machine.now pulls c.next_item.new.machine → g.M.Machine.asked c.args.machine.now pulls c.carry_out.new.machine
-pulled g c pulls made =
-    let A : List Pull → Type 0 = λ l. g.M.Machine.asked c.args.machine.now l c.carry_out.new.machine in
-    subst A (append-nil pulls) (g.M.Machine.asked_joins _ _ _ pulls [] made c.carry_out.ensures.asked)
+pulled g c pulls made = rw append-nil at (g.M.Machine.asked_joins _ _ _ pulls [] made c.carry_out.ensures.asked)
 
 pub returns-in-Err-clause-pulls : goal.returns-in-Err-clause-pulls
-returns-in-Err-clause-pulls g c = λ tells began p. ends_by began _ _ _ c.next_item.new.reader c.in-Err.status p (c.in-Err.ensures.gives tells began p)
+returns-in-Err-clause-pulls g c = λ tells began p. (ends_by began _ _ _ c.next_item.new.reader c.in-Err.status p (c.in-Err.ensures.gives tells began p)).1.ends
 
 pub returns-in-Ok-carry_out-clause-pulls : goal.returns-in-Ok-carry_out-clause-pulls
 returns-in-Ok-carry_out-clause-pulls g c = λ tells began p. pulling_next began _ _ _ c.next_item.new.reader c.in-Ok.item p (given g (goal.at.returns-in-Ok-carry_out-clause-pulls g c).After-carry_out tells began p)
 
 pub returns-in-Err-carry_out-clause-pulls : goal.returns-in-Err-carry_out-clause-pulls
 returns-in-Err-carry_out-clause-pulls g c = λ tells began p.
-    ends_early c.from.result began _ c.next_item.new.reader (stops_early c.from.result c.in-Err-carry_out.stop c.from.ensures)
-    (pulling_next began _ _ _ c.next_item.new.reader c.in-Ok.item p (given g (goal.at.returns-in-Err-carry_out-clause-pulls g c).After-carry_out tells began p))
+    (early_behind c.from.result began _ c.next_item.new.reader (stops_early c.from.result c.in-Err-carry_out.stop c.from.ensures)
+    (pulling_next began _ _ _ c.next_item.new.reader c.in-Ok.item p (given g (goal.at.returns-in-Err-carry_out-clause-pulls g c).After-carry_out tells began p))).ends
 
 pub returns-in-Err-clause-goes_on : goal.returns-in-Err-clause-goes_on
 returns-in-Err-clause-goes_on g c = λ source_tells sink_tells disk_tells w began before serving.
-    let here = served g (goal.at.returns-in-Err-clause-goes_on g c).After-next_item w began before serving in
+    let here = still g (goal.at.returns-in-Err-clause-goes_on g c).After-next_item (λ m. Serving w began m c.args.archive.now c.args.reader.now before) serving in
     let made = c.next_item.ensures.asked source_tells began.source here.pulling in (
       pulls_beside (g.M.Sink.sink c.next_item.new.machine).shown made.0,
       made.1,
@@ -72,11 +51,10 @@ pub returns-in-Ok-carry_out-clause-goes_on : goal.returns-in-Ok-carry_out-clause
 returns-in-Ok-carry_out-clause-goes_on g c = λ source_tells sink_tells disk_tells w began before serving.
     let at = goal.at.returns-in-Ok-carry_out-clause-goes_on g c in
     let last = c.carry_out.new.machine in
-    let here = served g at.After-next_item w began before serving in
-    let made = c.next_item.ensures.asked source_tells began.source here.pulling in
-    let pulls = pulls_beside (g.M.Sink.sink c.next_item.new.machine).shown made.0 in (
-      pulls,
-      pulled g at.After-carry_out pulls made.1,
+    let here = still g at.After-next_item (λ m. Serving w began m c.args.archive.now c.args.reader.now before) serving in
+    let made = c.next_item.ensures.asked source_tells began.source here.pulling in (
+      pulls_beside (g.M.Sink.sink c.next_item.new.machine).shown made.0,
+      pulled g at.After-carry_out _ made.1,
       serving_next w began _ (g.M.Sink.sink last) (g.M.Disk.disk last) c.args.archive.now c.carry_out.new.archive _ c.next_item.new.reader before c.in-Ok.item (g.M.Source.source last) made.0 here made.2
           (given g at.After-carry_out source_tells began.source here.pulling) (c.in-Ok-carry_out.ensures.outcome disk_tells sink_tells (last_state w here.outcomes).history here.in_step),
     )
@@ -85,25 +63,24 @@ pub returns-in-Err-carry_out-clause-goes_on : goal.returns-in-Err-carry_out-clau
 returns-in-Err-carry_out-clause-goes_on g c = λ source_tells sink_tells disk_tells w began before serving.
     let at = goal.at.returns-in-Err-carry_out-clause-goes_on g c in
     let last = c.carry_out.new.machine in
-    let here = served g at.After-next_item w began before serving in
-    let made = c.next_item.ensures.asked source_tells began.source here.pulling in
-    let pulls = pulls_beside (g.M.Sink.sink c.next_item.new.machine).shown made.0 in (
-      pulls,
-      pulled g at.After-carry_out pulls made.1,
+    let here = still g at.After-next_item (λ m. Serving w began m c.args.archive.now c.args.reader.now before) serving in
+    let made = c.next_item.ensures.asked source_tells began.source here.pulling in (
+      pulls_beside (g.M.Sink.sink c.next_item.new.machine).shown made.0,
+      pulled g at.After-carry_out _ made.1,
       stopped w began _ (g.M.Sink.sink last) (g.M.Disk.disk last) c.args.archive.now c.carry_out.new.archive _ c.next_item.new.reader before c.in-Ok.item c.from.result c.in-Err-carry_out.stop (g.M.Source.source last) made.0 here made.2
           (given g at.After-carry_out source_tells began.source here.pulling) c.from.ensures (c.in-Err-carry_out.ensures.outcome disk_tells sink_tells (last_state w here.outcomes).history here.in_step),
     )
 
 pub returns-in-Err-clause-asks : goal.returns-in-Err-clause-asks
 returns-in-Err-clause-asks g c = λ source_tells sink_tells disk_tells h image began asking.
-    let here = asked g (goal.at.returns-in-Err-clause-asks g c).After-next_item h image began asking in
+    let here = still g (goal.at.returns-in-Err-clause-asks g c).After-next_item (λ m. Asking h image began m c.args.archive.now c.args.reader.now) asking in
     asked_to_end h image began _ (g.M.Source.source c.next_item.new.machine) c.args.archive.now _ c.next_item.new.reader c.in-Err.status here (c.in-Err.ensures.gives source_tells began.source here.pulling)
 
 pub returns-in-Ok-carry_out-clause-asks : goal.returns-in-Ok-carry_out-clause-asks
 returns-in-Ok-carry_out-clause-asks g c = λ source_tells sink_tells disk_tells h image began asking.
     let at = goal.at.returns-in-Ok-carry_out-clause-asks g c in
     let last = c.carry_out.new.machine in
-    let here = asked g at.After-next_item h image began asking in
+    let here = still g at.After-next_item (λ m. Asking h image began m c.args.archive.now c.args.reader.now) asking in
     asking_next h image began _ (g.M.Source.source last) (g.M.Sink.sink last) (g.M.Disk.disk last) c.args.archive.now c.carry_out.new.archive _ c.next_item.new.reader c.in-Ok.item here (given g at.After-carry_out source_tells began.source here.pulling)
     (c.in-Ok-carry_out.ensures.question disk_tells sink_tells h) (c.in-Ok-carry_out.ensures.left.cached disk_tells)
 
@@ -111,27 +88,19 @@ pub returns-in-Err-carry_out-clause-asks : goal.returns-in-Err-carry_out-clause-
 returns-in-Err-carry_out-clause-asks g c = λ source_tells sink_tells disk_tells h image began asking.
     let at = goal.at.returns-in-Err-carry_out-clause-asks g c in
     let last = c.carry_out.new.machine in
-    let here = asked g at.After-next_item h image began asking in
     let stop = c.in-Err-carry_out.stop in
-    record {
-      done = λ is. absurd (not_early c.from.result (stops_early c.from.result stop c.from.ensures) (subst CarriesOutAll (sym is) tt));
-      damaged = λ d is.
-          asking_stops h image began _ (g.M.Source.source last) (g.M.Sink.sink last) (g.M.Disk.disk last) c.args.archive.now _ c.next_item.new.reader c.in-Ok.item d here (given g at.After-carry_out source_tells began.source here.pulling)
-          (λ stands cached. let found = c.in-Err-carry_out.ensures.damaged disk_tells h stands cached d (ap Err (stopped_at stop d (sym c.from.ensures ∙ is))) in (found.0, ap (λ s. s.shown) found.2));
-    }
+    let here = still g at.After-next_item (λ m. Asking h image began m c.args.archive.now c.args.reader.now) asking in
+    asking_stops h image began _ (g.M.Source.source last) (g.M.Sink.sink last) (g.M.Disk.disk last) c.args.archive.now _ c.next_item.new.reader c.in-Ok.item c.from.result (stops_early c.from.result stop c.from.ensures) here (given g at.After-carry_out source_tells began.source here.pulling)
+    (λ d is stands cached. let found = c.in-Err-carry_out.ensures.damaged disk_tells h stands cached d (ap Err (stopped_at stop d (sym c.from.ensures ∙ is))) in (found.0, ap (λ s. s.shown) found.2))
 
 pub returns-in-Err-carry_out-clause-damaged : goal.returns-in-Err-carry_out-clause-damaged
 returns-in-Err-carry_out-clause-damaged g c = λ tells h stands cached d is.
     let same : c.from.result ≡ Damaged d = cc in
-    let C : DiskState → Type 0 = λ x. CacheStands x c.args.archive.now in
-    let found = c.in-Err-carry_out.ensures.damaged tells h stands (subst C (sym c.next_item.ensures.disk) cached) d (ap Err (stopped_at c.in-Err-carry_out.stop d (sym c.from.ensures ∙ same))) in
-    let P : List ℕ → Type 0 = λ pages. Spoils h pages c.in-Ok.item d in (
+    let found = c.in-Err-carry_out.ensures.damaged tells h stands (rw c.next_item.ensures.disk cached) d (ap Err (stopped_at c.in-Err-carry_out.stop d (sym c.from.ensures ∙ same))) in (
       c.in-Ok.item,
-      subst P (sym found.1) found.0,
-      λ source_tells began p. last_pulled began _ c.next_item.new.reader c.in-Ok.item p.items (pulling_next began _ _ _ c.next_item.new.reader c.in-Ok.item p (given g (goal.at.returns-in-Err-carry_out-clause-damaged g c).After-carry_out source_tells began p)) refl,
+      rw found.1 found.0,
+      λ source_tells began p. last_pulled began _ c.next_item.new.reader c.in-Ok.item p.items d (pulling_next began _ _ _ c.next_item.new.reader c.in-Ok.item p (given g (goal.at.returns-in-Err-carry_out-clause-damaged g c).After-carry_out source_tells began p)) refl,
     )
 
 pub returns-in-Ok-carry_out-clause-left : goal.returns-in-Ok-carry_out-clause-left
-returns-in-Ok-carry_out-clause-left g c =
-    let L : DiskState → Type 0 = λ d. IsLeft g.M.Disk.disk_tells d (g.M.Disk.disk c.carry_out.new.machine) c.args.archive.now c.carry_out.new.archive in
-    subst L c.next_item.ensures.disk c.in-Ok-carry_out.ensures.left
+returns-in-Ok-carry_out-clause-left g c = rw c.next_item.ensures.disk at c.in-Ok-carry_out.ensures.left
