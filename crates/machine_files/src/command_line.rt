@@ -1,6 +1,11 @@
-//! The words of the command line.
+//! What a program takes from the command line, and how it ends.
+ghost use Rattle.std.specs.Prelude.{◌≡◌};
+ghost use Rattle.std.specs.Process.{exit_status};
+
 use std::env::Env;
+use std::fmt::Display;
 use std::io;
+use std::process::ExitCode;
 
 /// Why the words of the command line were not read.
 #[derive(Clone, Copy, Debug, PartialEq, Eq)]
@@ -30,4 +35,15 @@ fn collected<R: Env + AllocGlobal>(rt: &R) -> io::Result<Vec<String>> {
     let _ = all.next();
     let words = all.collect(rt.alloc())?;
     Ok(words)
+}
+
+/// Ends a program by its exit status. Where that isn't 0, a line on standard error tells why; where
+/// standard error fails too, the exit status still tells.
+pub fn finish<R: Eprint, L: Display + Drop>(rt: &R, code: u8, line: L) -> ExitCode
+    ensures { exit_status result ≡ code }
+{
+    if code != 0 {
+        let _ = rt.eprintln(line);
+    }
+    ExitCode::from(code)
 }

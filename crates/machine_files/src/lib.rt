@@ -6,7 +6,7 @@
 //! its calls failed, and no content: what a file holds no clause can say. `open_to_read` opens them to
 //! be read alone, and makes none: the calls of its machine that write or sync fail. A machine that is
 //! `watched` tells on standard error how far long work is (`Progress`). `arguments` gives the words of
-//! the command line.
+//! the command line, and `finish` ends a program by its exit status.
 //!
 //! To the layer above it promises the traits of `machine_model` with all their laws, and that a
 //! sync is good only where both files and their folder are noted as synced. It knows nothing of what
@@ -26,7 +26,7 @@ mod source;
 mod store;
 mod watched;
 
-pub use command_line::{ArgumentsError, arguments};
+pub use command_line::{ArgumentsError, arguments, finish};
 pub use machine::{FileMachine, WatchedMachine, open_machine, open_to_read};
 pub use progress::Progress;
 pub use read_file::ReadFile;

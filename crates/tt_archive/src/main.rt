@@ -11,39 +11,23 @@ ghost use Rattle.std.specs.Process.{exit_status};
 ghost use Rattle.archive_shell.specs.Statuses.{code_of};
 
 use archive_shell::{Status, refusal_of, run};
-use machine_files::{ArgumentsError, Progress, arguments, open_machine};
-use std::env::Env;
-use std::fs::Files;
-use std::io::IsTerminal;
-use std::os::unix::fs::FileExt;
+use machine_files::{ArgumentsError, Progress, arguments, finish, open_machine};
 use std::process::ExitCode;
-use std::time::Clock;
 
 fn main(rt: HostRuntime) -> ExitCode {
-    let status = run_here(&rt, rt.stderr());
-    finish(&rt, status)
+    ended(&rt, run_here(&rt))
 }
 
-/// Prints the line of a status other than `Done`, and gives the exit status. Where standard error
-/// fails too, the exit status still tells.
-fn finish<R: Eprint>(rt: &R, status: Status) -> ExitCode
+/// The exit status of a status, whose line is printed unless it is `Done`.
+fn ended<R: Eprint>(rt: &R, status: Status) -> ExitCode
     ensures { exit_status result ≡ code_of status }
 {
-    let code = status.code();
-    if code != 0 {
-        let _ = rt.eprintln(status);
-    }
-    ExitCode::from(code)
+    finish(rt, status.code(), status)
 }
 
 /// Reads the words of the command line, and then opens the files of the working folder and runs
-/// the words on them. Words that are refused touch no file. Long work is told of on `errors`.
-fn run_here<R, E>(rt: &R, errors: E) -> Status
-where
-    R: Files + Input + Print + Env + Clock + AllocGlobal,
-    R::File: FileExt,
-    E: Eprint + IsTerminal + Drop,
-{
+/// the words on them. Words that are refused touch no file. Long work is told of on standard error.
+fn run_here(rt: &HostRuntime) -> Status {
     let words = match arguments(rt) {
         Ok(words) => words,
         Err(ArgumentsError::NotText) => return Status::Usage,
@@ -55,7 +39,7 @@ where
     let Ok(machine) = open_machine(rt) else {
         return Status::Disk;
     };
-    let progress = Progress::new("tt_archive", rt, errors);
+    let progress = Progress::new("tt_archive", rt, rt.stderr());
     let mut machine = machine.watched(&progress);
     run(rt.alloc(), &words, &mut machine)
 }

@@ -10,39 +10,23 @@ ghost use Rattle.std.specs.Process.{exit_status};
 ghost use Rattle.archive_audit.specs.Statuses.{code_of};
 
 use archive_audit::{AuditStatus, are_refused, audit};
-use machine_files::{ArgumentsError, Progress, arguments, open_to_read};
-use std::env::Env;
-use std::fs::Files;
-use std::io::IsTerminal;
-use std::os::unix::fs::FileExt;
+use machine_files::{ArgumentsError, Progress, arguments, finish, open_to_read};
 use std::process::ExitCode;
-use std::time::Clock;
 
 fn main(rt: HostRuntime) -> ExitCode {
-    let status = audit_here(&rt, rt.stderr());
-    finish(&rt, status)
+    ended(&rt, audit_here(&rt))
 }
 
-/// Prints the line of a status other than `Sound`, and gives the exit status. Where standard error
-/// fails too, the exit status still tells.
-fn finish<R: Eprint>(rt: &R, status: AuditStatus) -> ExitCode
+/// The exit status of a status, whose line is printed unless it is `Sound`.
+fn ended<R: Eprint>(rt: &R, status: AuditStatus) -> ExitCode
     ensures { exit_status result ≡ code_of status }
 {
-    let code = status.code();
-    if code != 0 {
-        let _ = rt.eprintln(status);
-    }
-    ExitCode::from(code)
+    finish(rt, status.code(), status)
 }
 
 /// Reads the words of the command line, and then opens the files of the working folder and audits
-/// them. Words that are refused touch no file, and no file is made. Long work is told of on `errors`.
-fn audit_here<R, E>(rt: &R, errors: E) -> AuditStatus
-where
-    R: Files + Input + Print + Env + Clock + AllocGlobal,
-    R::File: FileExt,
-    E: Eprint + IsTerminal + Drop,
-{
+/// them. Words that are refused touch no file, and no file is made. Long work is told of on standard error.
+fn audit_here(rt: &HostRuntime) -> AuditStatus {
     let words = match arguments(rt) {
         Ok(words) => words,
         Err(ArgumentsError::NotText) => return AuditStatus::Usage,
@@ -54,7 +38,7 @@ where
     let Ok(machine) = open_to_read(rt) else {
         return AuditStatus::Disk;
     };
-    let progress = Progress::new("tt_verify", rt, errors);
+    let progress = Progress::new("tt_verify", rt, rt.stderr());
     let mut machine = machine.watched(&progress);
     audit(rt.alloc(), &words, &mut machine)
 }
