@@ -3,17 +3,24 @@ use archive_rig::{
     FIRST_CERTIFICATE, FIRST_PLAN, FOUR_CHANGES, Row, disk_after_all, expect_on, first_disk,
     new_disk,
 };
+use std::alloc::Global;
 use std::test::Fail;
+
+/// A script has its replies on a new archive.
+fn expect_on_new(alloc: Global, row: Row<'_>) -> Result<(), Fail> {
+    expect_on(alloc, &new_disk(alloc), &[row])?;
+    Ok(())
+}
 
 #[test]
 fn a_planned_word_is_found_and_its_plan_is_certified(rt: HostRuntime) -> Result<(), Fail> {
-    let rows = [Row {
-        script: b"arrive 1 10 1\nv\narrive 2 20 1\nv\ndelete 2 30\ndelete 1 40\nplan v guarantee 1/1\nfind 15 v\nfind 25 v\nfind 40 v\nfind 5 v\ncertificate v\n",
-        replies: b"ok 1\nok 2\nok 3\nok 4\nplan 5 segments 3 space 4 full 2 horizon 40\nhit 1 1\nend 1 read 1\nhit 1 1\nhit 2 1\nend 2 read 2\nend 0 read 0\nend 0 read 0\nsegment 10 20 1\nsegment 20 30 2\nsegment 30 40 1\nnode 10 0\nnode 20 1\nnode 30 3\nnode 40 4\nend 3 space 4\n",
-    }];
-    let alloc = rt.alloc();
-    expect_on(alloc, &new_disk(alloc), &rows)?;
-    Ok(())
+    expect_on_new(
+        rt.alloc(),
+        Row {
+            script: b"arrive 1 10 1\nv\narrive 2 20 1\nv\ndelete 2 30\ndelete 1 40\nplan v guarantee 1/1\nfind 15 v\nfind 25 v\nfind 40 v\nfind 5 v\ncertificate v\n",
+            replies: b"ok 1\nok 2\nok 3\nok 4\nplan 5 segments 3 space 4 full 2 horizon 40\nhit 1 1\nend 1 read 1\nhit 1 1\nhit 2 1\nend 2 read 2\nend 0 read 0\nend 0 read 0\nsegment 10 20 1\nsegment 20 30 2\nsegment 30 40 1\nnode 10 0\nnode 20 1\nnode 30 3\nnode 40 4\nend 3 space 4\n",
+        },
+    )
 }
 
 #[test]
@@ -83,13 +90,13 @@ fn the_factor_decides_what_is_least(rt: HostRuntime) -> Result<(), Fail> {
 
 #[test]
 fn a_gap_is_a_segment_without_postings(rt: HostRuntime) -> Result<(), Fail> {
-    let alloc = rt.alloc();
-    let rows = [Row {
-        script: b"arrive 1 10 1\nv\ndelete 1 20\narrive 1 30 1\nv\ndelete 1 40\nplan v guarantee 100/1\nfind 25 v\nfind 30 v\ncertificate v\n",
-        replies: b"ok 1\nok 2\nok 3\nok 4\nplan 5 segments 3 space 2 full 2 horizon 40\nend 0 read 0\nhit 1 1\nend 1 read 1\nsegment 10 20 1\nsegment 20 30 0\nsegment 30 40 1\nnode 10 0\nnode 20 1\nnode 30 1\nnode 40 2\nend 3 space 2\n",
-    }];
-    expect_on(alloc, &new_disk(alloc), &rows)?;
-    Ok(())
+    expect_on_new(
+        rt.alloc(),
+        Row {
+            script: b"arrive 1 10 1\nv\ndelete 1 20\narrive 1 30 1\nv\ndelete 1 40\nplan v guarantee 100/1\nfind 25 v\nfind 30 v\ncertificate v\n",
+            replies: b"ok 1\nok 2\nok 3\nok 4\nplan 5 segments 3 space 2 full 2 horizon 40\nend 0 read 0\nhit 1 1\nend 1 read 1\nsegment 10 20 1\nsegment 20 30 0\nsegment 30 40 1\nnode 10 0\nnode 20 1\nnode 30 1\nnode 40 2\nend 3 space 2\n",
+        },
+    )
 }
 
 #[test]

@@ -9,13 +9,37 @@ use std::alloc::Global;
 use std::process::Abort;
 use std::test::Fail;
 
+/// The machine of a new archive on which a script ran to its end.
+fn ran(rt: &impl Abort, alloc: Global, script: &[u8]) -> Result<MemMachine, Fail> {
+    let mut machine = make_machine(alloc, script, b"", &[])?;
+    assert_eq!(rt; run_on(alloc, &mut machine)?, Status::Done);
+    Ok(machine)
+}
+
+/// A stop at this moment that leaves all the bytes that are open, filled like this, leaves so many entries.
+fn expect_filled(
+    rt: &impl Abort,
+    alloc: Global,
+    machine: &MemMachine,
+    moment: usize,
+    fill: Fill,
+    want: u64,
+) -> Result<(), Fail> {
+    let tail = Tail {
+        extra: u64::MAX,
+        fill,
+    };
+    let entries = pick_entries(alloc, machine, moment, tail)?;
+    assert_eq!(rt; entries, want, "{fill:?} at {moment}");
+    Ok(())
+}
+
 // The run syncs the disk, writes a new journal and syncs it, and then appends the record: it writes
 // the record behind the closed gate, syncs, opens the gate and syncs. At last it shows the reply.
 #[test]
 fn a_stop_in_the_first_script_leaves_none_or_its_one_entry(rt: HostRuntime) -> Result<(), Fail> {
     let alloc = rt.alloc();
-    let mut machine = make_machine(alloc, FIRST_SCRIPT, b"", &[])?;
-    assert_eq!(rt; run_on(alloc, &mut machine)?, Status::Done);
+    let machine = ran(&rt, alloc, FIRST_SCRIPT)?;
     assert_eq!(rt; machine.moments(), 9);
     for (moments, least, most) in [
         (0..6, 0, 0),
@@ -35,8 +59,7 @@ fn a_stop_among_arrivals_and_deletions_leaves_what_was_acknowledged_or_one_more(
     rt: HostRuntime,
 ) -> Result<(), Fail> {
     let alloc = rt.alloc();
-    let mut machine = make_machine(alloc, MIXED_SCRIPT, b"", &[])?;
-    assert_eq!(rt; run_on(alloc, &mut machine)?, Status::Done);
+    let machine = ran(&rt, alloc, MIXED_SCRIPT)?;
     assert_eq!(rt; machine.shown(), MIXED_REPLIES);
     // three calls at the load, and four and a push for each command
     assert_eq!(rt; machine.moments(), 29);
@@ -62,8 +85,7 @@ fn a_stop_among_4096_arrivals_leaves_what_was_acknowledged_or_one_more(
 ) -> Result<(), Fail> {
     let alloc = rt.alloc();
     let script = many_arrivals(alloc, 4096)?;
-    let mut machine = make_machine(alloc, &script, b"", &[])?;
-    assert_eq!(rt; run_on(alloc, &mut machine)?, Status::Done);
+    let machine = ran(&rt, alloc, &script)?;
     assert_eq!(rt; machine.moments(), 20_484);
     for (moment, fill, want) in [
         (3, Fill::Written, 0),
@@ -72,12 +94,7 @@ fn a_stop_among_4096_arrivals_leaves_what_was_acknowledged_or_one_more(
         (10_246, Fill::Byte(0), 2048),
         (20_483, Fill::Byte(0), 4096),
     ] {
-        let tail = Tail {
-            extra: u64::MAX,
-            fill,
-        };
-        let entries = pick_entries(alloc, &machine, moment, tail)?;
-        assert_eq!(rt; entries, want, "{fill:?} at {moment}");
+        expect_filled(&rt, alloc, &machine, moment, fill, want)?;
     }
     Ok(())
 }
@@ -102,8 +119,7 @@ fn a_stop_inside_the_load_that_follows_leaves_the_same_history(
     rt: HostRuntime,
 ) -> Result<(), Fail> {
     let alloc = rt.alloc();
-    let mut machine = make_machine(alloc, MIXED_SCRIPT, b"", &[])?;
-    assert_eq!(rt; run_on(alloc, &mut machine)?, Status::Done);
+    let machine = ran(&rt, alloc, MIXED_SCRIPT)?;
     for moment in 0..machine.moments() {
         for fill in FILLS {
             for extra in EXTRAS {
@@ -150,12 +166,7 @@ fn where_the_gate_is_not_synced_its_byte_decides(rt: HostRuntime) -> Result<(), 
             (Fill::Byte(0), 0),
             (Fill::Byte(b'x'), 0),
         ] {
-            let tail = Tail {
-                extra: u64::MAX,
-                fill,
-            };
-            let entries = pick_entries(alloc, &machine, moment, tail)?;
-            assert_eq!(rt; entries, want, "{fill:?} at {moment}");
+            expect_filled(&rt, alloc, &machine, moment, fill, want)?;
         }
     }
     Ok(())

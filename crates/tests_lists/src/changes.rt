@@ -1,9 +1,10 @@
 //! The list of a word, from the changes of documents.
-ghost use Rattle.std.specs.Prelude.{◌≡◌, ◌<◌, ◌≤◌, ◌^◌};
+ghost use Rattle.std.specs.Prelude.{◌≡◌, ◌<◌, ◌^◌};
 ghost use Rattle.postings.specs.Lists.{EachNext};
 
+use crate::given::posting;
 use std::alloc::{AllocError, Global};
-use time_base::{DocId, NOW, Posting, Span, Time};
+use time_base::{DocId, NOW, Posting, Time};
 use version_store::Change;
 use word_lists::list_of;
 
@@ -16,18 +17,6 @@ fn change(doc: u32, seconds: u64, held: Option<u32>) -> Change<u32>
         doc: DocId(doc),
         at: Time { seconds },
         held,
-    }
-}
-
-fn posting(doc: u32, from: u64, to: u64, tf: u32) -> Posting
-    requires ordered { from < to }
-    requires in_time { to ≤ 2 ^ 40 }
-    requires some { 1 ≤ tf }
-{
-    Posting {
-        doc: DocId(doc),
-        span: Span { from, to },
-        tf,
     }
 }
 

@@ -6,6 +6,7 @@ ghost use Rattle.version_index.specs.Loads.{Loads};
 
 mod trims;
 
+use crate::given::posting;
 use fold_tokens::NumberError;
 use std::alloc::{AllocError, Global};
 use std::process::Abort;
@@ -91,18 +92,6 @@ fn loaded(rt: &impl Abort, alloc: Global, rows: &[(u32, Option<&str>)]) -> Resul
         add(rt, alloc, &mut loader, DocId(doc), time_at(i), text);
     }
     loader.finish(alloc)
-}
-
-fn posting(doc: u32, from: u64, to: u64, tf: u32) -> Posting
-    requires ordered { from < to }
-    requires in_time { to ≤ 2 ^ 40 }
-    requires some { 1 ≤ tf }
-{
-    Posting {
-        doc: DocId(doc),
-        span: Span { from, to },
-        tf,
-    }
 }
 
 fn key(rt: &impl Abort, alloc: Global, word: &str) -> Key {

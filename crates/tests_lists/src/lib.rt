@@ -7,6 +7,8 @@
 #[cfg(test)]
 mod changes;
 #[cfg(test)]
+mod given;
+#[cfg(test)]
 mod index;
 #[cfg(test)]
 mod joins;

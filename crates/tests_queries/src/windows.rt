@@ -67,6 +67,16 @@ fn rows_of(rt: &impl Abort, alloc: Global, wanted: &[(u32, u64, u64, u64)]) -> V
     rows
 }
 
+/// The rows of both words, the last of which ends at this time.
+fn either_until(end: u64) -> [(u32, u64, u64, u64); 4] {
+    [
+        (1, 10, 30, 2),
+        (1, 30, 40, 3),
+        (2, 10, 20, 1),
+        (2, 30, end, 1),
+    ]
+}
+
 #[test]
 fn rows_are_the_longest_spans_of_one_score(rt: HostRuntime) {
     let alloc = rt.alloc();
@@ -76,43 +86,17 @@ fn rows_are_the_longest_spans_of_one_score(rt: HostRuntime) {
         life(&rt, 1, 10, 40),
         life(&rt, 2, 10, 20),
     ];
+    let red = [
+        (1, 10, 20, 2),
+        (1, 20, 30, 1),
+        (2, 10, 20, 1),
+        (2, 30, NOW, 1),
+    ];
+    let (either, either_in_part) = (either_until(NOW), either_until(40));
     for (text, from, to, wanted) in [
-        (
-            "red",
-            0,
-            NOW,
-            [
-                (1, 10, 20, 2),
-                (1, 20, 30, 1),
-                (2, 10, 20, 1),
-                (2, 30, NOW, 1),
-            ]
-            .as_slice(),
-        ),
-        (
-            "red or blue",
-            0,
-            NOW,
-            [
-                (1, 10, 30, 2),
-                (1, 30, 40, 3),
-                (2, 10, 20, 1),
-                (2, 30, NOW, 1),
-            ]
-            .as_slice(),
-        ),
-        (
-            "red or blue",
-            10,
-            40,
-            [
-                (1, 10, 30, 2),
-                (1, 30, 40, 3),
-                (2, 10, 20, 1),
-                (2, 30, 40, 1),
-            ]
-            .as_slice(),
-        ),
+        ("red", 0, NOW, red.as_slice()),
+        ("red or blue", 0, NOW, either.as_slice()),
+        ("red or blue", 10, 40, either_in_part.as_slice()),
         ("red blue", 0, NOW, [(1, 20, 30, 2)].as_slice()),
         (
             "red not blue",

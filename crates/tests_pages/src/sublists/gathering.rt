@@ -1,7 +1,7 @@
 //! Sublists that are gathered, or refused.
 use super::given::{
     BOTH, FIRST, cuts, docs_of, gather_between, gather_blocks, machine_with, no_sublists, pages_of,
-    places_of, posting, store_all, store_between, time,
+    places_of, posting, store_between, time,
 };
 use machine_mem::MemMachine;
 use machine_model::Area;
@@ -23,49 +23,61 @@ const WINDOWS: [((u64, u64), &[u32], u64, u64, u64); 7] = [
     ((40, 50), &[], 0, 0, 0),
 ];
 
-/// What is gathered from places for a window between cuts and 40 has these documents, and so many postings are
-/// read.
+/// The sublists of the two documents in places between cuts and 40.
+#[derive(Drop)]
+struct Stored<'c> {
+    machine: MemMachine,
+    layout: Layout,
+    cuts: &'c [Time],
+    places: Vec<Place>,
+}
+
+/// Stores them on a new machine.
+fn make_stored<'c>(rt: &impl Abort, alloc: Global, layout: Layout, cuts: &'c [Time]) -> Stored<'c> {
+    let mut machine = machine_with(rt, alloc, &[], &[]);
+    let places = store_between(rt, alloc, &mut machine, layout, cuts).expect(rt, "written");
+    Stored {
+        machine,
+        layout,
+        cuts,
+        places,
+    }
+}
+
+/// What is gathered of them for a window has these documents, and so many postings are read.
 fn expect_found(
     rt: &impl Abort,
     alloc: Global,
     sublists: &mut Sublists,
-    machine: &mut MemMachine,
-    layout: Layout,
-    cuts: &[Time],
-    places: &[Place],
+    stored: &mut Stored,
     (window, docs, read): ((u64, u64), &[u32], u64),
 ) {
+    let Stored {
+        machine,
+        layout,
+        cuts,
+        places,
+    } = stored;
     let gathered = gather_between(
-        rt, alloc, sublists, machine, layout, cuts, places, window,
+        rt, alloc, sublists, machine, *layout, cuts, places, window,
     ).expect(rt, "they are read");
     assert_eq!(rt; docs_of(rt, alloc, &gathered).as_slice(), docs);
     assert_eq!(rt; gathered.read, read);
 }
 
-/// Stores the sublists of the two documents in a layout, and asks for each window, with none of the pages kept.
+/// Stores the sublists in a layout, and asks for each window, with none of the pages kept.
 fn expect_windows(rt: &impl Abort, alloc: Global, layout: Layout) {
-    let mut machine = machine_with(rt, alloc, &[], &[]);
-    let places = store_all(rt, alloc, &mut machine, layout).expect(rt, "they are written");
     let cuts = cuts(rt);
+    let mut stored = make_stored(rt, alloc, layout, &cuts);
     let mut before = 0;
     for (window, docs, read, in_blocks, flat) in WINDOWS {
         let mut sublists = no_sublists(rt, alloc);
-        let row = (window, docs, read);
-        expect_found(
-            rt,
-            alloc,
-            &mut sublists,
-            &mut machine,
-            layout,
-            &cuts,
-            &places,
-            row,
-        );
+        expect_found(rt, alloc, &mut sublists, &mut stored, (window, docs, read));
         let bytes = match layout {
             Layout::Blocks => in_blocks,
             Layout::Flat => flat,
         };
-        let after = machine.read_of(Area::Pages);
+        let after = stored.machine.read_of(Area::Pages);
         assert_eq!(rt; after.saturating_sub(before), bytes);
         before = after;
     }
@@ -90,21 +102,10 @@ const JOINED: [((u64, u64), &[u32], u64); 4] = [
 fn the_lists_of_any_number_of_segments_are_joined(rt: HostRuntime) {
     let alloc = rt.alloc();
     let cuts = [10, 15, 20, 25, 30, 35, 38].map(|seconds| time(&rt, seconds));
-    let layout = Layout::Flat;
-    let mut machine = machine_with(&rt, alloc, &[], &[]);
-    let places = store_between(&rt, alloc, &mut machine, layout, &cuts).expect(&rt, "written");
+    let mut stored = make_stored(&rt, alloc, Layout::Flat, &cuts);
     let mut sublists = no_sublists(&rt, alloc);
     for row in JOINED {
-        expect_found(
-            &rt,
-            alloc,
-            &mut sublists,
-            &mut machine,
-            layout,
-            &cuts,
-            &places,
-            row,
-        );
+        expect_found(&rt, alloc, &mut sublists, &mut stored, row);
     }
 }
 
@@ -121,6 +122,19 @@ fn refused(
     gather_blocks(rt, alloc, &mut sublists, &mut machine, &places, window).err()
 }
 
+/// A posting of a document that doesn't belong to its segment.
+fn astray(rt: &impl Abort, doc: u32, from: u64, to: u64) -> Why {
+    let posting = posting(rt, doc, from, to);
+    Why::Astray { posting }
+}
+
+/// A clash of the first document from 10 to 40 with another posting of it.
+fn clash(rt: &impl Abort, from: u64, to: u64) -> Why {
+    let one = posting(rt, 1, 10, 40);
+    let other = posting(rt, 1, from, to);
+    Why::Clash { one, other }
+}
+
 #[test]
 fn each_refusal_of_a_segment_names_its_place(rt: HostRuntime) {
     let alloc = rt.alloc();
@@ -129,78 +143,25 @@ fn each_refusal_of_a_segment_names_its_place(rt: HostRuntime) {
     let shorter = "010003000000010000000100000001010a14";
     let no_frequency = "010003000000010000000100000001000a1e";
     let later = "010003000000010000000100000001010b1d";
+    let form = Why::Form { at: 15 };
+    let with_shorter = clash(&rt, 10, 30);
+    let with_later = clash(&rt, 11, 40);
     for (pieces, window, page, why) in [
         // A frequency of 0 in the second segment.
-        (
-            [FIRST, no_frequency, FIRST],
-            (20, 21),
-            1,
-            Why::Form { at: 15 },
-        ),
+        ([FIRST, no_frequency, FIRST], (20, 21), 1, form),
         // A posting that begins behind its segment, and one that ends behind the horizon.
-        (
-            [second, BOTH, FIRST],
-            (10, 11),
-            0,
-            Why::Astray {
-                posting: posting(&rt, 2, 20, 30),
-            },
-        ),
-        (
-            [FIRST, BOTH, longer],
-            (35, 36),
-            2,
-            Why::Astray {
-                posting: posting(&rt, 1, 10, 50),
-            },
-        ),
+        ([second, BOTH, FIRST], (10, 11), 0, astray(&rt, 2, 20, 30)),
+        ([FIRST, BOTH, longer], (35, 36), 2, astray(&rt, 1, 10, 50)),
         // Two postings of a document from 10 on, in two segments.
-        (
-            [FIRST, shorter, FIRST],
-            (15, 25),
-            1,
-            Why::Clash {
-                one: posting(&rt, 1, 10, 40),
-                other: posting(&rt, 1, 10, 30),
-            },
-        ),
+        ([FIRST, shorter, FIRST], (15, 25), 1, with_shorter),
         // No posting in the first segment.
         (["", BOTH, FIRST], (10, 11), 0, Why::Bare),
         // Two clashes: the earlier one is told, although the other one is between the later two.
-        (
-            [FIRST, shorter, later],
-            (15, 35),
-            1,
-            Why::Clash {
-                one: posting(&rt, 1, 10, 40),
-                other: posting(&rt, 1, 10, 30),
-            },
-        ),
-        (
-            [FIRST, FIRST, later],
-            (15, 35),
-            2,
-            Why::Clash {
-                one: posting(&rt, 1, 10, 40),
-                other: posting(&rt, 1, 11, 40),
-            },
-        ),
+        ([FIRST, shorter, later], (15, 35), 1, with_shorter),
+        ([FIRST, FIRST, later], (15, 35), 2, with_later),
         // A clash in front of bytes that spell no list, and one behind such.
-        (
-            [FIRST, shorter, no_frequency],
-            (15, 35),
-            1,
-            Why::Clash {
-                one: posting(&rt, 1, 10, 40),
-                other: posting(&rt, 1, 10, 30),
-            },
-        ),
-        (
-            [no_frequency, shorter, later],
-            (15, 35),
-            0,
-            Why::Form { at: 15 },
-        ),
+        ([FIRST, shorter, no_frequency], (15, 35), 1, with_shorter),
+        ([no_frequency, shorter, later], (15, 35), 0, form),
     ] {
         assert_eq!(rt;
             refused(&rt, alloc, &pieces, window),
