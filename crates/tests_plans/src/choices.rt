@@ -2,47 +2,47 @@
 use commands::Kind;
 use plan_choice::{Choice, ChoiceError, choose};
 use std::alloc::Global;
-use std::test::Fail;
+use std::process::Abort;
 use time_base::{DocId, Fraction, Posting, Span, Time};
 
 /// A document's posting in `[from, to)`.
-fn posting(doc: u32, from: u64, to: u64) -> Result<Posting, Fail> {
-    let span = Span::new(from, to).ok_or("a span")?;
-    Ok(Posting {
+fn posting(rt: &impl Abort, doc: u32, from: u64, to: u64) -> Posting {
+    let span = Span::new(from, to).expect(rt, "a span");
+    Posting {
         doc: DocId(doc),
         span,
         tf: 1,
-    })
+    }
 }
 
 /// The kind that asks for each second from this one on.
-fn since(at: u64) -> Result<Kind, Fail> {
-    let at = Time::new(at).ok_or("a time")?;
-    Ok(Kind::Since { at })
+fn since(rt: &impl Abort, at: u64) -> Kind {
+    let at = Time::new(at).expect(rt, "a time");
+    Kind::Since { at }
 }
 
 /// What is chosen for a list up to the horizon with the factor `over / under`, or why nothing is.
 fn chosen(
+    rt: &impl Abort,
     alloc: Global,
     list: &[Posting],
     kind: Kind,
     (over, under): (u32, u32),
     horizon: u64,
-) -> Result<Result<Choice, ChoiceError>, Fail> {
-    let factor = Fraction::new(over, under).ok_or("a factor")?;
-    let horizon = Time::new(horizon).ok_or("a horizon")?;
+) -> Result<Choice, ChoiceError> {
+    let factor = Fraction::new(over, under).expect(rt, "a factor");
+    let horizon = Time::new(horizon).expect(rt, "a horizon");
     let end = horizon.seconds();
-    if list.is_empty() || list.len() >= 1 << 38 || !list.iter().all(|p| p.span.to <= end) {
-        return Err(Fail::new("a list that ends by the horizon"));
-    }
-    Ok(choose(alloc, list, kind, factor, horizon))
+    assert!(rt; !list.is_empty() && list.len() < 1 << 38);
+    assert!(rt; list.iter().all(|p| p.span.to <= end));
+    choose(alloc, list, kind, factor, horizon)
 }
 
 /// Document 1 in `[10, 40)`, and document 2 in `[20, 30)`.
 #[test]
-fn plans_of_two_documents(rt: HostRuntime) -> Result<(), Fail> {
+fn plans_of_two_documents(rt: HostRuntime) {
     let alloc = rt.alloc();
-    let list = [posting(1, 10, 40)?, posting(2, 20, 30)?];
+    let list = [posting(&rt, 1, 10, 40), posting(&rt, 2, 20, 30)];
     for (kind, factor, segments, space, cost) in [
         (Kind::Guarantee, (1, 1), 3usize, 4u64, None),
         // 2 in each of 30 seconds
@@ -52,37 +52,43 @@ fn plans_of_two_documents(rt: HostRuntime) -> Result<(), Fail> {
         // 1 in 20 seconds, and 2 in 10
         (Kind::Uniform, (2, 1), 3, 4, Some(40)),
         // 2 in each of the last 10 seconds
-        (since(30)?, (1, 1), 1, 2, Some(20)),
+        (since(&rt, 30), (1, 1), 1, 2, Some(20)),
     ] {
-        let choice = chosen(alloc, &list, kind, factor, 40)??;
+        let choice = chosen(&rt, alloc, &list, kind, factor, 40).expect(&rt, "a choice");
         assert_eq!(rt; choice.cuts.len(), segments, "{kind:?} with {factor:?}");
         assert_eq!(rt; choice.space, space, "{kind:?} with {factor:?}");
         assert_eq!(rt; choice.cost, cost, "{kind:?} with {factor:?}");
     }
     for (kind, factor) in [(Kind::Guarantee, (1, 1)), (Kind::Uniform, (2, 1))] {
-        let choice = chosen(alloc, &list, kind, factor, 40)??;
-        let cuts: Vec<u64> = choice.cuts.iter().map(|t| t.seconds).collect(alloc)?;
+        let choice = chosen(&rt, alloc, &list, kind, factor, 40).expect(&rt, "a choice");
+        let cuts: Vec<u64> = choice
+            .cuts
+            .iter()
+            .map(|t| t.seconds)
+            .collect(alloc)
+            .expect(&rt, "memory");
         assert_eq!(rt; cuts.as_slice(), [10, 20, 30].as_slice(), "{kind:?}");
     }
-    Ok(())
 }
 
 /// One document with a posting in each second, and so one boundary too many for a guarantee.
 #[test]
-fn a_list_that_is_too_wide(rt: HostRuntime) -> Result<(), Fail> {
+fn a_list_that_is_too_wide(rt: HostRuntime) {
     let alloc = rt.alloc();
     let mut list = Vec::new(alloc);
     for seconds in [1_048_576u64] {
         for at in 0..seconds {
-            list.push(posting(1, at, at.saturating_add(1))?)?;
+            list.push(posting(&rt, 1, at, at.saturating_add(1)))
+                .expect(&rt, "memory");
         }
-        let refused = chosen(alloc, &list, Kind::Guarantee, (2, 1), seconds)?;
+        let refused = chosen(&rt, alloc, &list, Kind::Guarantee, (2, 1), seconds);
         let wide = ChoiceError::TooWide {
             boundaries: seconds.saturating_add(1),
         };
         assert_eq!(rt; refused.err(), Some(wide));
-        let choice = chosen(alloc, &list, Kind::Uniform, (2, 1), seconds)??;
+        let choice = chosen(&rt, alloc, &list, Kind::Uniform, (2, 1), seconds).expect(
+            &rt, "a choice",
+        );
         assert_eq!(rt; choice.space, seconds);
     }
-    Ok(())
 }

@@ -1,54 +1,56 @@
 //! Plans that are fit and plans that aren't, worked out by hand.
 use commands::Kind;
 use std::alloc::Global;
-use std::test::Fail;
+use std::process::Abort;
 use stored_plans::{is_fit, partition_of};
 use time_base::{DocId, Fraction, Posting, Span, Time};
 
 /// A document's posting in `[from, to)`.
-fn posting(doc: u32, from: u64, to: u64) -> Result<Posting, Fail> {
-    let span = Span::new(from, to).ok_or("a span")?;
-    Ok(Posting {
+fn posting(rt: &impl Abort, doc: u32, from: u64, to: u64) -> Posting {
+    let span = Span::new(from, to).expect(rt, "a span");
+    Posting {
         doc: DocId(doc),
         span,
         tf: 1,
-    })
+    }
 }
 
 /// The times of so many seconds.
-fn times(alloc: Global, seconds: &[u64]) -> Result<Vec<Time>, Fail> {
+fn times(rt: &impl Abort, alloc: Global, seconds: &[u64]) -> Vec<Time> {
     let mut times = Vec::new(alloc);
     for second in seconds {
-        times.push(Time::new(*second).ok_or("a time")?)?;
+        times
+            .push(Time::new(*second).expect(rt, "a time"))
+            .expect(rt, "memory");
     }
-    Ok(times)
+    times
 }
 
 /// Whether the cuts are a fit plan of the list of this kind with the factor `over / under` and the
 /// horizon.
 fn fit(
+    rt: &impl Abort,
     alloc: Global,
     list: &[Posting],
     kind: Kind,
     (over, under): (u32, u32),
     cuts: &[u64],
     horizon: u64,
-) -> Result<bool, Fail> {
-    let factor = Fraction::new(over, under).ok_or("a factor")?;
-    let horizon = Time::new(horizon).ok_or("a horizon")?;
+) -> bool {
+    let factor = Fraction::new(over, under).expect(rt, "a factor");
+    let horizon = Time::new(horizon).expect(rt, "a horizon");
     let end = horizon.seconds();
-    if list.is_empty() || list.len() >= 1 << 38 || !list.iter().all(|p| p.span.to <= end) {
-        return Err(Fail::new("a list that ends by the horizon"));
-    }
-    let cuts = times(alloc, cuts)?;
-    Ok(is_fit(alloc, list, kind, factor, &cuts, horizon)?)
+    assert!(rt; !list.is_empty() && list.len() < 1 << 38);
+    assert!(rt; list.iter().all(|p| p.span.to <= end));
+    let cuts = times(rt, alloc, cuts);
+    is_fit(alloc, list, kind, factor, &cuts, horizon).expect(rt, "memory")
 }
 
 /// Document 1 in `[10, 40)`, and document 2 in `[20, 30)`.
 #[test]
-fn guarantees_of_two_documents(rt: HostRuntime) -> Result<(), Fail> {
+fn guarantees_of_two_documents(rt: HostRuntime) {
     let alloc = rt.alloc();
-    let list = [posting(1, 10, 40)?, posting(2, 20, 30)?];
+    let list = [posting(&rt, 1, 10, 40), posting(&rt, 2, 20, 30)];
     for (over, cuts, horizon, want) in [
         (1, &[10, 20, 30][..], 40, true),
         // one of the two postings is alive from 30 on
@@ -75,20 +77,19 @@ fn guarantees_of_two_documents(rt: HostRuntime) -> Result<(), Fail> {
         (2, &[10, 40], 50, true),
     ] {
         assert_eq!(rt;
-            fit(alloc, &list, Kind::Guarantee, (over, 1), cuts, horizon)?,
+            fit(&rt, alloc, &list, Kind::Guarantee, (over, 1), cuts, horizon),
             want,
             "{cuts:?} up to {horizon} with {over}/1"
         );
     }
-    Ok(())
 }
 
 /// The same two documents: whatever is asked for, the sizes are added up.
 #[test]
-fn bounds_on_the_space_of_two_documents(rt: HostRuntime) -> Result<(), Fail> {
+fn bounds_on_the_space_of_two_documents(rt: HostRuntime) {
     let alloc = rt.alloc();
-    let list = [posting(1, 10, 40)?, posting(2, 20, 30)?];
-    let at = Time::new(30).ok_or("a time")?;
+    let list = [posting(&rt, 1, 10, 40), posting(&rt, 2, 20, 30)];
+    let at = Time::new(30).expect(&rt, "a time");
     for (factor, cuts, horizon, want) in [
         // 2, and then 1 + 2
         ((1, 1), &[10][..], 40, true),
@@ -126,47 +127,57 @@ fn bounds_on_the_space_of_two_documents(rt: HostRuntime) -> Result<(), Fail> {
     ] {
         for kind in [Kind::Uniform, Kind::Since { at }] {
             assert_eq!(rt;
-                fit(alloc, &list, kind, factor, cuts, horizon)?,
+                fit(&rt, alloc, &list, kind, factor, cuts, horizon),
                 want,
                 "{cuts:?} up to {horizon} with {factor:?}"
             );
         }
     }
-    Ok(())
 }
 
 /// One document with a posting in each second: as many boundaries as a plan that keeps to a guarantee may
 /// have, and one more, which one under a space bound may have too.
 #[test]
-fn a_list_that_is_too_wide(rt: HostRuntime) -> Result<(), Fail> {
+fn a_list_that_is_too_wide(rt: HostRuntime) {
     let alloc = rt.alloc();
     let mut list = Vec::new(alloc);
     for (seconds, want) in [(1_048_575u64, true), (1_048_576, false)] {
         for at in list.len() as u64..seconds {
-            list.push(posting(1, at, at.saturating_add(1))?)?;
+            list.push(posting(&rt, 1, at, at.saturating_add(1)))
+                .expect(&rt, "memory");
         }
         assert_eq!(rt;
-            fit(alloc, &list, Kind::Guarantee, (u32::MAX, 1), &[0], seconds)?,
+            fit(
+                &rt,
+                alloc,
+                &list,
+                Kind::Guarantee,
+                (u32::MAX, 1),
+                &[0],
+                seconds
+            ),
             want,
             "{seconds} seconds"
         );
         assert!(rt;
-            fit(alloc, &list, Kind::Uniform, (1, 1), &[0], seconds)?,
+            fit(&rt, alloc, &list, Kind::Uniform, (1, 1), &[0], seconds),
             "{seconds} seconds"
         );
     }
-    Ok(())
 }
 
 #[test]
-fn the_partition_of_cuts(rt: HostRuntime) -> Result<(), Fail> {
+fn the_partition_of_cuts(rt: HostRuntime) {
     let alloc = rt.alloc();
-    let horizon = Time::new(40).ok_or("a horizon")?;
+    let horizon = Time::new(40).expect(&rt, "a horizon");
     for (cuts, valid) in [(&[10, 20][..], true), (&[], false), (&[40], false)] {
-        let partition = partition_of(alloc, &times(alloc, cuts)?, horizon)?;
+        let partition = partition_of(alloc, &times(&rt, alloc, cuts), horizon).expect(
+            &rt, "memory",
+        );
         assert_eq!(rt; partition.is_some(), valid, "{cuts:?}");
     }
-    let partition = partition_of(alloc, &times(alloc, &[10, 20])?, horizon)?.ok_or("a partition")?;
+    let partition = partition_of(alloc, &times(&rt, alloc, &[10, 20]), horizon)
+        .expect(&rt, "memory")
+        .expect(&rt, "a partition");
     assert_eq!(rt; partition.cuts(), [10, 20, 40].as_slice());
-    Ok(())
 }

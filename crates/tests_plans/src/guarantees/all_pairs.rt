@@ -6,8 +6,8 @@ use crate::given::{factor, listed, table_of};
 use elementary::Table;
 use guarantee_planner::plan;
 use plan_certificate::check;
-use std::alloc::{AllocError, Global};
-use std::test::Fail;
+use std::alloc::Global;
+use std::process::Abort;
 use time_base::Fraction;
 
 /// The least space up to boundary `k`, and where the last segment of a partition that takes it begins,
@@ -32,34 +32,35 @@ fn best_left(table: &Table, factor: Fraction, pi: &[u64], k: usize) -> (u64, usi
 /// The cuts of the partition that comparing all pairs finds, the last one first, and the least space up
 /// to each boundary.
 fn planned_by_pairs(
+    rt: &impl Abort,
     alloc: Global,
     table: &Table,
     factor: Fraction,
-) -> Result<(Vec<u64>, Vec<u64>), AllocError> {
+) -> (Vec<u64>, Vec<u64>) {
     let times = table.boundaries();
     let mut pi = Vec::new(alloc);
     let mut lefts = Vec::new(alloc);
-    pi.push(0u64)?;
-    lefts.push(0usize)?;
+    pi.push(0u64).expect(rt, "memory");
+    lefts.push(0usize).expect(rt, "memory");
     for k in 1..times.len() {
         let (number, left) = best_left(table, factor, &pi, k);
-        pi.push(number)?;
-        lefts.push(left)?;
+        pi.push(number).expect(rt, "memory");
+        lefts.push(left).expect(rt, "memory");
     }
     let mut cuts = Vec::new(alloc);
     let mut next = times.len() - 1;
     for k in (0..times.len()).rev() {
         if k == next {
-            cuts.push(times[k])?;
+            cuts.push(times[k]).expect(rt, "memory");
             next = lefts.get(k).copied().unwrap_or(0);
         }
     }
-    Ok((cuts, pi))
+    (cuts, pi)
 }
 
 /// Both take the last of the left ends that are equally good, so they find the same cuts.
 #[test]
-fn one_pass_plans_what_all_pairs_plan(rt: HostRuntime) -> Result<(), Fail> {
+fn one_pass_plans_what_all_pairs_plan(rt: HostRuntime) {
     let alloc = rt.alloc();
     let mut numbers = Numbers(14);
     for round in 0..300 {
@@ -69,22 +70,21 @@ fn one_pass_plans_what_all_pairs_plan(rt: HostRuntime) -> Result<(), Fail> {
         for _ in 0..1 + numbers.below(60) {
             let from = numbers.below(last);
             let to = from + 1 + numbers.below(longest);
-            spans.push((1, from, to))?;
+            spans.push((1, from, to)).expect(&rt, "memory");
         }
-        let list = listed(alloc, &spans)?;
-        let table = table_of(alloc, &list, last + longest + numbers.below(2))?;
+        let list = listed(&rt, alloc, &spans);
+        let table = table_of(&rt, alloc, &list, last + longest + numbers.below(2));
         let under = 1 + numbers.below(5) as u32;
-        let factor = factor(under + numbers.below(20) as u32, under)?;
+        let factor = factor(&rt, under + numbers.below(20) as u32, under);
 
-        let (partition, certificate) = plan(alloc, &table, factor)?;
-        let (mut cuts, pi) = planned_by_pairs(alloc, &table, factor)?;
+        let (partition, certificate) = plan(alloc, &table, factor).expect(&rt, "a plan");
+        let (mut cuts, pi) = planned_by_pairs(&rt, alloc, &table, factor);
         cuts.reverse();
         assert_eq!(rt; partition.cuts(), cuts.as_slice(), "round {round}");
         assert_eq!(rt; certificate.pi(), pi.as_slice(), "round {round}");
         assert!(rt;
-            check(alloc, &table, factor, &partition, &certificate)?,
+            check(alloc, &table, factor, &partition, &certificate).expect(&rt, "memory"),
             "round {round}"
         );
     }
-    Ok(())
 }

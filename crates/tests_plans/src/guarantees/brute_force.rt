@@ -3,7 +3,6 @@ use super::given::Numbers;
 use crate::given::{factor, listed, table_of};
 use guarantee_planner::plan;
 use plan_certificate::check;
-use std::test::Fail;
 use time_base::{Fraction, Posting};
 
 /// How many postings have a time in `[from, to)`.
@@ -50,22 +49,24 @@ fn least_space(list: &[Posting], factor: Fraction, times: &[u64]) -> Option<u64>
 }
 
 #[test]
-fn plans_of_random_lists_take_the_least_space(rt: HostRuntime) -> Result<(), Fail> {
+fn plans_of_random_lists_take_the_least_space(rt: HostRuntime) {
     let alloc = rt.alloc();
     let mut numbers = Numbers(7);
     for round in 0..200 {
         let mut spans = Vec::new(alloc);
         for _ in 0..1 + numbers.below(5) {
             let from = numbers.below(9);
-            spans.push((1, from, from + 1 + numbers.below(9 - from)))?;
+            spans
+                .push((1, from, from + 1 + numbers.below(9 - from)))
+                .expect(&rt, "memory");
         }
-        let list = listed(alloc, &spans)?;
-        let table = table_of(alloc, &list, 9 + numbers.below(2))?;
+        let list = listed(&rt, alloc, &spans);
+        let table = table_of(&rt, alloc, &list, 9 + numbers.below(2));
         let under = 1 + numbers.below(3) as u32;
-        let factor = factor(under + numbers.below(4) as u32, under)?;
-        let (partition, certificate) = plan(alloc, &table, factor)?;
+        let factor = factor(&rt, under + numbers.below(4) as u32, under);
+        let (partition, certificate) = plan(alloc, &table, factor).expect(&rt, "a plan");
         assert!(rt;
-            check(alloc, &table, factor, &partition, &certificate)?,
+            check(alloc, &table, factor, &partition, &certificate).expect(&rt, "memory"),
             "round {round}"
         );
 
@@ -83,7 +84,7 @@ fn plans_of_random_lists_take_the_least_space(rt: HostRuntime) -> Result<(), Fai
         // cuts at other times take no less
         let mut seconds = Vec::new(alloc);
         for t in times[0]..times[times.len() - 1] + 1 {
-            seconds.push(t)?;
+            seconds.push(t).expect(&rt, "memory");
         }
         assert_eq!(rt;
             least_space(&list, factor, &seconds),
@@ -100,5 +101,4 @@ fn plans_of_random_lists_take_the_least_space(rt: HostRuntime) -> Result<(), Fai
             );
         }
     }
-    Ok(())
 }

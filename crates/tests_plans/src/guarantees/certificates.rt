@@ -2,13 +2,12 @@
 use super::given::{FIVE, cut_at};
 use crate::given::{factor, listed, table_of};
 use plan_certificate::{Certificate, check};
-use std::test::Fail;
 
 #[test]
-fn certificates_pass_exactly_where_they_certify(rt: HostRuntime) -> Result<(), Fail> {
+fn certificates_pass_exactly_where_they_certify(rt: HostRuntime) {
     let alloc = rt.alloc();
-    let table = table_of(alloc, &listed(alloc, FIVE)?, 50)?;
-    let factor = factor(2, 1)?;
+    let table = table_of(&rt, alloc, &listed(&rt, alloc, FIVE), 50);
+    let factor = factor(&rt, 2, 1);
     for (cuts, pi, passes, why) in [
         (&[10, 20, 50][..], &[0, 2, 4, 5][..], true, "the plan's"),
         (
@@ -45,12 +44,18 @@ fn certificates_pass_exactly_where_they_certify(rt: HostRuntime) -> Result<(), F
         (&[10, 20, 50], &[0, 3, 4, 5], false, "up to 20 it takes 2"),
         (&[10, 20, 50], &[], false, "no number"),
     ] {
-        let certificate = Certificate::new(pi.to_vec(alloc)?);
+        let certificate = Certificate::new(pi.to_vec(alloc).expect(&rt, "memory"));
         assert_eq!(rt;
-            check(alloc, &table, factor, &cut_at(alloc, cuts)?, &certificate)?,
+            check(
+                alloc,
+                &table,
+                factor,
+                &cut_at(&rt, alloc, cuts),
+                &certificate
+            )
+            .expect(&rt, "memory"),
             passes,
             "{why}"
         );
     }
-    Ok(())
 }

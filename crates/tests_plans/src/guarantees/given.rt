@@ -4,14 +4,14 @@ ghost use Rattle.std.specs.Prelude.{◌<◌};
 use crate::given::Alike;
 use elementary::Partition;
 use std::alloc::Global;
-use std::test::Fail;
+use std::process::Abort;
 
 /// Five documents of which the longest segment first takes 7 postings at 2/1, where 5 do.
 pub(crate) const FIVE: &[Alike] = &[(2, 10, 20), (2, 20, 50), (1, 30, 50)];
 
 /// The partition with these cuts.
-pub(crate) fn cut_at(alloc: Global, cuts: &[u64]) -> Result<Partition, Fail> {
-    Ok(Partition::new(cuts.to_vec(alloc)?).ok_or("a partition")?)
+pub(crate) fn cut_at(rt: &impl Abort, alloc: Global, cuts: &[u64]) -> Partition {
+    Partition::new(cuts.to_vec(alloc).expect(rt, "memory")).expect(rt, "a partition")
 }
 
 /// Numbers that look random: a linear congruential generator, with Knuth's multiplier for 64 bits.

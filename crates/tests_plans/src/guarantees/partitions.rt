@@ -2,14 +2,13 @@
 use super::given::cut_at;
 use crate::given::{OVERLAP, factor, listed, table_of};
 use elementary::Partition;
-use std::test::Fail;
 use time_base::Time;
 
 #[test]
-fn a_table_counts_its_list(rt: HostRuntime) -> Result<(), Fail> {
+fn a_table_counts_its_list(rt: HostRuntime) {
     let alloc = rt.alloc();
-    let list = listed(alloc, OVERLAP)?;
-    let table = table_of(alloc, &list, 50)?;
+    let list = listed(&rt, alloc, OVERLAP);
+    let table = table_of(&rt, alloc, &list, 50);
     assert_eq!(rt; table.boundaries(), [10, 20, 30, 40, 50].as_slice());
     assert_eq!(rt; table.postings(), 2);
     for (k, alive) in [1, 2, 1, 0].iter().enumerate() {
@@ -27,12 +26,11 @@ fn a_table_counts_its_list(rt: HostRuntime) -> Result<(), Fail> {
         assert_eq!(rt; table.size(j, k), size, "from {j} to {k}");
     }
     // the horizon is no new boundary where a span ends at it
-    assert_eq!(rt; table_of(alloc, &list, 40)?.boundaries().len(), 4);
-    Ok(())
+    assert_eq!(rt; table_of(&rt, alloc, &list, 40).boundaries().len(), 4);
 }
 
 #[test]
-fn a_partition_ascends(rt: HostRuntime) -> Result<(), Fail> {
+fn a_partition_ascends(rt: HostRuntime) {
     let alloc = rt.alloc();
     for (cuts, valid) in [
         (&[][..], false),
@@ -43,17 +41,16 @@ fn a_partition_ascends(rt: HostRuntime) -> Result<(), Fail> {
         (&[10, 20], true),
     ] {
         assert_eq!(rt;
-            Partition::new(cuts.to_vec(alloc)?).is_some(),
+            Partition::new(cuts.to_vec(alloc).expect(&rt, "memory")).is_some(),
             valid,
             "{cuts:?}"
         );
     }
-    Ok(())
 }
 
 #[test]
-fn a_time_is_in_one_segment(rt: HostRuntime) -> Result<(), Fail> {
-    let partition = cut_at(rt.alloc(), &[10, 20, 40])?;
+fn a_time_is_in_one_segment(rt: HostRuntime) {
+    let partition = cut_at(&rt, rt.alloc(), &[10, 20, 40]);
     assert_eq!(rt; partition.segments(), 2);
     for (t, segment) in [
         (0, None),
@@ -65,17 +62,16 @@ fn a_time_is_in_one_segment(rt: HostRuntime) -> Result<(), Fail> {
         (40, None),
         (50, None),
     ] {
-        let t = Time::new(t).ok_or("a time")?;
+        let t = Time::new(t).expect(&rt, "a time");
         assert_eq!(rt; partition.segment_of(t), segment, "at {}", t.seconds());
     }
-    Ok(())
 }
 
 #[test]
-fn a_partition_that_fits_has_a_space(rt: HostRuntime) -> Result<(), Fail> {
+fn a_partition_that_fits_has_a_space(rt: HostRuntime) {
     let alloc = rt.alloc();
-    let table = table_of(alloc, &listed(alloc, OVERLAP)?, 40)?;
-    let (three_halves, two) = (factor(3, 2)?, factor(2, 1)?);
+    let table = table_of(&rt, alloc, &listed(&rt, alloc, OVERLAP), 40);
+    let (three_halves, two) = (factor(&rt, 3, 2), factor(&rt, 2, 1));
     // the space where it fits, and whether it keeps 3/2 and 2/1
     for (cuts, fitting) in [
         (&[10, 40][..], Some((2, false, true))),
@@ -86,7 +82,7 @@ fn a_partition_that_fits_has_a_space(rt: HostRuntime) -> Result<(), Fail> {
         (&[10, 30], None),
         (&[10, 50], None),
     ] {
-        let partition = cut_at(alloc, cuts)?;
+        let partition = cut_at(&rt, alloc, cuts);
         let mut found = None;
         if partition.fits(&table) && partition.cuts().len() < 10 {
             found = Some((
@@ -97,5 +93,4 @@ fn a_partition_that_fits_has_a_space(rt: HostRuntime) -> Result<(), Fail> {
         }
         assert_eq!(rt; found, fitting, "{cuts:?}");
     }
-    Ok(())
 }

@@ -6,7 +6,6 @@ use elementary::Table;
 use space_planner::{Load, front, plan};
 use std::alloc::Global;
 use std::process::Abort;
-use std::test::Fail;
 use time_base::Span;
 
 /// Moves a seed on, by Marsaglia's shifts for 64 bits, and answers a number below `end`.
@@ -61,16 +60,16 @@ fn least_cost(alike: &[Alike], since: u64, unit: u64, charge: u64, times: &[u64]
 }
 
 /// The times at which a plan may cut: each of these up to 128, and above that some strides apart.
-fn candidates(alloc: Global, times: &[u64]) -> Result<Vec<u64>, Fail> {
+fn candidates(rt: &impl Abort, alloc: Global, times: &[u64]) -> Vec<u64> {
     let gaps = times.len().saturating_sub(1);
     let stride = gaps.div_ceil(127).max(1);
     let mut candidates = Vec::new(alloc);
     for (k, t) in times.iter().enumerate() {
         if k % stride == 0 || k == gaps {
-            candidates.push(*t)?;
+            candidates.push(*t).expect(rt, "memory");
         }
     }
-    Ok(candidates)
+    candidates
 }
 
 /// Holds a plan and a front of the documents to what trying every set of cuts finds.
@@ -81,16 +80,16 @@ fn compare(
     horizon: u64,
     since: u64,
     (over, under): (u32, u32),
-) -> Result<(), Fail> {
-    let table = table_of(alloc, &listed(alloc, alike)?, horizon)?;
-    let factor = factor(over, under)?;
+) {
+    let table = table_of(rt, alloc, &listed(rt, alloc, alike), horizon);
+    let factor = factor(rt, over, under);
     let cap = table.postings().saturating_mul(u64::from(factor.over())) / u64::from(factor.under());
     let unit = cap.div_ceil(4096).max(1);
     let budget = cap / unit;
-    let times = candidates(alloc, table.boundaries())?;
+    let times = candidates(rt, alloc, table.boundaries());
     let load = Load::new(|span: Span| span.to.saturating_sub(span.from.max(since)));
 
-    let (partition, cheapest) = plan(alloc, &table, factor, &load)?;
+    let (partition, cheapest) = plan(alloc, &table, factor, &load).expect(rt, "a plan");
     let first = times.first().copied().unwrap_or(0);
     let whole = cost(alike, since, first, horizon);
     let found = least_cost(alike, since, unit, budget, &times);
@@ -105,7 +104,7 @@ fn compare(
 
     // the least cost falls at each point, and stays the same from one to the next
     let mut before = None;
-    for point in &front(alloc, &table, factor, &load)? {
+    for point in &front(alloc, &table, factor, &load).expect(rt, "a front") {
         if let Some(less) = point.charge.checked_sub(1) {
             assert_eq!(rt; least_cost(alike, since, unit, less, &times), before);
         }
@@ -117,11 +116,10 @@ fn compare(
         );
     }
     assert_eq!(rt; least_cost(alike, since, unit, budget, &times), before);
-    Ok(())
 }
 
 #[test]
-fn plans_and_fronts_are_those_of_every_set_of_cuts(rt: HostRuntime) -> Result<(), Fail> {
+fn plans_and_fronts_are_those_of_every_set_of_cuts(rt: HostRuntime) {
     let alloc = rt.alloc();
     let mut seed = 20;
     for round in 0..120u32 {
@@ -131,26 +129,26 @@ fn plans_and_fronts_are_those_of_every_set_of_cuts(rt: HostRuntime) -> Result<()
         for _ in 0..1 + below(&mut seed, 4) {
             let from = below(&mut seed, 9);
             let to = from + 1 + below(&mut seed, 9 - from);
-            alike.push((1 + below(&mut seed, most) as u32, from, to))?;
+            alike
+                .push((1 + below(&mut seed, most) as u32, from, to))
+                .expect(&rt, "memory");
         }
         let horizon = 9 + below(&mut seed, 2);
         let since = below(&mut seed, 8);
         let under = 1 + below(&mut seed, 3) as u32;
         let over = under + below(&mut seed, 5) as u32;
-        compare(&rt, alloc, &alike, horizon, since, (over, under))?;
+        compare(&rt, alloc, &alike, horizon, since, (over, under));
     }
-    Ok(())
 }
 
 /// 140 boundaries, of which every other one may be a cut; half of the documents are alive in the middle.
 #[test]
-fn wide_plans_are_those_of_every_set_of_candidates(rt: HostRuntime) -> Result<(), Fail> {
+fn wide_plans_are_those_of_every_set_of_candidates(rt: HostRuntime) {
     let alloc = rt.alloc();
     let mut alike: Vec<Alike> = Vec::new(alloc);
     for at in 0..70u64 {
-        alike.push((1, at, at + 70))?;
+        alike.push((1, at, at + 70)).expect(&rt, "memory");
     }
-    compare(&rt, alloc, &alike, 139, 0, (5, 4))?;
-    compare(&rt, alloc, &alike, 139, 100, (3, 2))?;
-    Ok(())
+    compare(&rt, alloc, &alike, 139, 0, (5, 4));
+    compare(&rt, alloc, &alike, 139, 100, (3, 2));
 }

@@ -4,7 +4,6 @@ ghost use Rattle.std.specs.Prelude.{◌≤◌, ◌^◌};
 use crate::given::{OVERLAP, factor, listed, table_of};
 use space_planner::{Load, front, plan};
 use std::cell::RefCell;
-use std::test::Fail;
 use time_base::Span;
 
 /// The span's seconds; notes the call, if there is memory.
@@ -19,15 +18,15 @@ fn noted(calls: &RefCell<Vec<Span>>, span: Span) -> u64
 
 /// Each call asks once for each elementary interval.
 #[test]
-fn a_load_is_asked_once_for_each_elementary_interval(rt: HostRuntime) -> Result<(), Fail> {
+fn a_load_is_asked_once_for_each_elementary_interval(rt: HostRuntime) {
     let alloc = rt.alloc();
-    let table = table_of(alloc, &listed(alloc, OVERLAP)?, 50)?;
+    let table = table_of(&rt, alloc, &listed(&rt, alloc, OVERLAP), 50);
     let calls = RefCell::new(Vec::new(alloc));
     let load = Load::new(|span: Span| noted(&calls, span));
-    let _ = front(alloc, &table, factor(2, 1)?, &load)?;
-    let _ = plan(alloc, &table, factor(2, 1)?, &load)?;
+    let _ = front(alloc, &table, factor(&rt, 2, 1), &load).expect(&rt, "a front");
+    let _ = plan(alloc, &table, factor(&rt, 2, 1), &load).expect(&rt, "a plan");
     let Ok(calls) = calls.try_borrow() else {
-        return Err(Fail::new("the calls"));
+        panic!(rt; "the calls");
     };
     let asked = [
         (10u64, 20u64),
@@ -44,5 +43,4 @@ fn a_load_is_asked_once_for_each_elementary_interval(rt: HostRuntime) -> Result<
         assert_eq!(rt; span.from, *from);
         assert_eq!(rt; span.to, *to);
     }
-    Ok(())
 }
