@@ -5,53 +5,49 @@ use crate::steps::{
     BOTH, ONE, Step, expect_same, expect_steps, find_15, find_25, find_35, over, step_of,
 };
 use archive_rig::{FIRST_CERTIFICATE, first_disk, flat_disk};
-use std::test::Fail;
 
 #[test]
-fn a_sublist_is_read_once(rt: HostRuntime) -> Result<(), Fail> {
+fn a_sublist_is_read_once(rt: HostRuntime) {
     let alloc = rt.alloc();
-    let disk = first_disk(alloc)?;
+    let disk = first_disk(alloc).expect(&rt, "a disk");
     for steps in [
         [find_15(18), find_15(0), find_25(22)].as_slice(),
         [find_15(18), over(40), find_35(0)].as_slice(),
         [over(58), over(0), find_35(0), find_25(0), find_15(0)].as_slice(),
         [find_25(22), over(36), find_35(0), over(0)].as_slice(),
     ] {
-        let left = expect_steps(&rt, alloc, &disk, steps)?;
+        let left = expect_steps(&rt, alloc, &disk, steps);
         expect_same(&rt, &left, &disk);
     }
-    Ok(())
 }
 
 // A posting has 24 bytes.
 #[test]
-fn a_flat_sublist_is_read_once(rt: HostRuntime) -> Result<(), Fail> {
+fn a_flat_sublist_is_read_once(rt: HostRuntime) {
     let alloc = rt.alloc();
-    let disk = flat_disk(alloc)?;
+    let disk = flat_disk(alloc).expect(&rt, "a disk");
     for steps in [
         [find_15(24), find_15(0), find_25(48)].as_slice(),
         [find_15(24), over(72), find_35(0)].as_slice(),
         [over(96), over(0), find_25(0)].as_slice(),
     ] {
-        let left = expect_steps(&rt, alloc, &disk, steps)?;
+        let left = expect_steps(&rt, alloc, &disk, steps);
         expect_same(&rt, &left, &disk);
     }
-    Ok(())
 }
 
 // A word that stands twice in a query is read once, and a word without a plan not from Pages.
 #[test]
-fn a_query_asks_for_the_pages_of_each_planned_word(rt: HostRuntime) -> Result<(), Fail> {
+fn a_query_asks_for_the_pages_of_each_planned_word(rt: HostRuntime) {
     let alloc = rt.alloc();
-    let disk = first_disk(alloc)?;
+    let disk = first_disk(alloc).expect(&rt, "a disk");
     let steps = [
         step_of(b"find 15 v v\n", ONE, 18),
         step_of(b"find 25 w or v\n", BOTH, 22),
         step_of(b"find 25 not v\n", b"end 0 read 2\n", 0),
     ];
-    let left = expect_steps(&rt, alloc, &disk, &steps)?;
+    let left = expect_steps(&rt, alloc, &disk, &steps);
     expect_same(&rt, &left, &disk);
-    Ok(())
 }
 
 /// Before the first cut and from the horizon on, and of another word.
@@ -82,9 +78,9 @@ const REFUSED: Step<'static> = Step {
 };
 
 #[test]
-fn what_asks_for_no_page_lets_none_go(rt: HostRuntime) -> Result<(), Fail> {
+fn what_asks_for_no_page_lets_none_go(rt: HostRuntime) {
     let alloc = rt.alloc();
-    let disk = first_disk(alloc)?;
+    let disk = first_disk(alloc).expect(&rt, "a disk");
     let steps = [
         OUTSIDE,
         TEXTS,
@@ -97,16 +93,15 @@ fn what_asks_for_no_page_lets_none_go(rt: HostRuntime) -> Result<(), Fail> {
         REFUSED,
         over(0),
     ];
-    let left = expect_steps(&rt, alloc, &disk, &steps)?;
+    let left = expect_steps(&rt, alloc, &disk, &steps);
     expect_same(&rt, &left, &disk);
-    Ok(())
 }
 
 // So do changes of documents, and a plan of another word, which lies in page 3.
 #[test]
-fn changes_leave_the_pages_of_live_plans(rt: HostRuntime) -> Result<(), Fail> {
+fn changes_leave_the_pages_of_live_plans(rt: HostRuntime) {
     let alloc = rt.alloc();
-    let disk = first_disk(alloc)?;
+    let disk = first_disk(alloc).expect(&rt, "a disk");
     let steps = [
         find_15(18),
         step_of(b"arrive 4 70 1\nw\n", b"ok 6\n", 0),
@@ -122,8 +117,7 @@ fn changes_leave_the_pages_of_live_plans(rt: HostRuntime) -> Result<(), Fail> {
         step_of(b"find 75 w\n", b"hit 4 1\nend 1 read 1\n", 18),
         over(0),
     ];
-    expect_steps(&rt, alloc, &disk, &steps)?;
-    Ok(())
+    expect_steps(&rt, alloc, &disk, &steps);
 }
 
 /// The check of the first plan.
@@ -133,15 +127,14 @@ fn verify() -> Step<'static> {
 
 // It reads each byte, whatever is kept, and keeps none.
 #[test]
-fn a_check_reads_past_the_cache(rt: HostRuntime) -> Result<(), Fail> {
+fn a_check_reads_past_the_cache(rt: HostRuntime) {
     let alloc = rt.alloc();
-    let disk = first_disk(alloc)?;
+    let disk = first_disk(alloc).expect(&rt, "a disk");
     for steps in [
         [find_15(18), verify(), find_15(0), find_25(22), verify()].as_slice(),
         [verify(), verify(), find_15(18), over(40), verify(), over(0)].as_slice(),
     ] {
-        let left = expect_steps(&rt, alloc, &disk, steps)?;
+        let left = expect_steps(&rt, alloc, &disk, steps);
         expect_same(&rt, &left, &disk);
     }
-    Ok(())
 }

@@ -1,7 +1,6 @@
 //! Pages that are freed while they are kept, and written anew.
 use crate::steps::{Step, expect_same, expect_steps, find_15, find_25, find_35, step_of};
 use archive_rig::{Row, disk_after, first_disk, flat_disk, new_disk};
-use std::test::Fail;
 
 /// A step of a script that reads nothing of Pages.
 fn change<'a>(script: &'a [u8], replies: &'a [u8]) -> Step<'a> {
@@ -16,9 +15,9 @@ fn find_45(read: u64) -> Step<'static> {
 // The second plan lies in the pages 3 to 6, and frees 0 to 2. The third lies in 0 to 2 and 7, and frees 3 to 6.
 // Document 3's sublist has 18 bytes, and no document has the word in the last segment.
 #[test]
-fn each_segment_is_asked_for_between_plans(rt: HostRuntime) -> Result<(), Fail> {
+fn each_segment_is_asked_for_between_plans(rt: HostRuntime) {
     let alloc = rt.alloc();
-    let disk = first_disk(alloc)?;
+    let disk = first_disk(alloc).expect(&rt, "a disk");
     let goes_on = change(b"arrive 3 40 1\nv\ndelete 3 60\n", b"ok 6\nok 7\n");
     let second = change(
         b"plan v guarantee 1/1\n",
@@ -58,12 +57,11 @@ fn each_segment_is_asked_for_between_plans(rt: HostRuntime) -> Result<(), Fail> 
         find_45(18),
         all,
     ];
-    let left = expect_steps(&rt, alloc, &disk, &steps)?;
+    let left = expect_steps(&rt, alloc, &disk, &steps);
     // and without the questions the same is left
     let changes = [goes_on, second, arrival, third];
-    let bare = expect_steps(&rt, alloc, &disk, &changes)?;
+    let bare = expect_steps(&rt, alloc, &disk, &changes);
     expect_same(&rt, &left, &bare);
-    Ok(())
 }
 
 /// Document 2 has the word `w` once in [10, 20), as 18 bytes.
@@ -84,13 +82,13 @@ fn find_both(read: u64) -> Step<'static> {
 // The first plan of `v` lies in page 0 and is kept, its second in page 1. So that of `w` is written to page 0, with
 // as many bytes. Then `w` moves to page 2, and `v` back to page 0.
 #[test]
-fn a_page_with_other_bytes_is_read_anew(rt: HostRuntime) -> Result<(), Fail> {
+fn a_page_with_other_bytes_is_read_anew(rt: HostRuntime) {
     let alloc = rt.alloc();
     let row = Row {
         script: b"arrive 1 10 1\nv\narrive 2 10 1\nw\ndelete 1 20\ndelete 2 20\n",
         replies: b"ok 1\nok 2\nok 3\nok 4\n",
     };
-    let disk = disk_after(alloc, &new_disk(alloc), &row)?;
+    let disk = disk_after(alloc, &new_disk(alloc), &row).expect(&rt, "the replies");
     let steps = [
         change(
             b"plan v guarantee 1/1\n",
@@ -109,7 +107,7 @@ fn a_page_with_other_bytes_is_read_anew(rt: HostRuntime) -> Result<(), Fail> {
         find_15(18),
         find_both(0),
     ];
-    let left = expect_steps(&rt, alloc, &disk, &steps)?;
+    let left = expect_steps(&rt, alloc, &disk, &steps);
     assert!(rt; left.pages.starts_with(LIFE_OF_2));
     let again = [
         find_both(36),
@@ -125,9 +123,8 @@ fn a_page_with_other_bytes_is_read_anew(rt: HostRuntime) -> Result<(), Fail> {
         find_w(18),
         find_both(0),
     ];
-    let last = expect_steps(&rt, alloc, &left, &again)?;
+    let last = expect_steps(&rt, alloc, &left, &again);
     assert!(rt; !last.pages.starts_with(LIFE_OF_2));
-    Ok(())
 }
 
 /// A plan of one segment, with the list's 22 bytes.
@@ -137,7 +134,7 @@ fn find_15_of_whole(read: u64) -> Step<'static> {
 
 // The one segment lies in page 3 first, and then in page 0.
 #[test]
-fn a_page_with_more_bytes_is_read_anew(rt: HostRuntime) -> Result<(), Fail> {
+fn a_page_with_more_bytes_is_read_anew(rt: HostRuntime) {
     let alloc = rt.alloc();
     let steps = [
         find_15(18),
@@ -154,13 +151,12 @@ fn a_page_with_more_bytes_is_read_anew(rt: HostRuntime) -> Result<(), Fail> {
         find_15_of_whole(22),
         find_25(0),
     ];
-    expect_steps(&rt, alloc, &first_disk(alloc)?, &steps)?;
-    Ok(())
+    expect_steps(&rt, alloc, &first_disk(alloc).expect(&rt, "a disk"), &steps);
 }
 
 // A plan in blocks lies behind the flat one in the pages 3 to 5, and the next one in page 0.
 #[test]
-fn the_pages_of_a_flat_plan_are_read_anew(rt: HostRuntime) -> Result<(), Fail> {
+fn the_pages_of_a_flat_plan_are_read_anew(rt: HostRuntime) {
     let alloc = rt.alloc();
     let steps = [
         find_15(24),
@@ -178,6 +174,5 @@ fn the_pages_of_a_flat_plan_are_read_anew(rt: HostRuntime) -> Result<(), Fail> {
         find_25(22),
         find_15_of_whole(0),
     ];
-    expect_steps(&rt, alloc, &flat_disk(alloc)?, &steps)?;
-    Ok(())
+    expect_steps(&rt, alloc, &flat_disk(alloc).expect(&rt, "a disk"), &steps);
 }

@@ -5,7 +5,6 @@ use machine_mem::MemMachine;
 use machine_model::{Area, Image};
 use std::alloc::Global;
 use std::process::Abort;
-use std::test::Fail;
 
 /// A part of a script.
 #[derive(Clone, Copy, Debug)]
@@ -61,17 +60,18 @@ pub(crate) fn run_steps(
     alloc: Global,
     disk: &Image,
     steps: &[Step<'_>],
-) -> Result<(Status, MemMachine), Fail> {
+) -> (Status, MemMachine) {
     let mut script = Vec::new(alloc);
     let mut replies = Vec::new(alloc);
     let mut read = 0u64;
     for step in steps {
-        script.extend_from_slice(step.script)?;
-        replies.extend_from_slice(step.replies)?;
+        script.extend_from_slice(step.script).expect(rt, "memory");
+        replies.extend_from_slice(step.replies).expect(rt, "memory");
         read = read.saturating_add(step.read);
     }
-    let mut machine = machine_on(alloc, &script, copy_image(alloc, disk)?, &[])?;
-    let status = run_on(alloc, &mut machine)?;
+    let copy = copy_image(alloc, disk).expect(rt, "memory");
+    let mut machine = machine_on(alloc, &script, copy, &[]).expect(rt, "a machine");
+    let status = run_on(alloc, &mut machine).expect(rt, "a run");
     assert_eq!(rt; machine.shown(), replies.as_slice());
     assert_eq!(rt;
         machine.read_of(Area::Pages),
@@ -79,7 +79,7 @@ pub(crate) fn run_steps(
         "after {} steps",
         steps.len()
     );
-    Ok((status, machine))
+    (status, machine)
 }
 
 /// These steps in one run, which comes to its end. Answers the disk that it leaves.
@@ -88,10 +88,10 @@ pub(crate) fn expect_run(
     alloc: Global,
     disk: &Image,
     steps: &[Step<'_>],
-) -> Result<Image, Fail> {
-    let (status, mut machine) = run_steps(rt, alloc, disk, steps)?;
+) -> Image {
+    let (status, mut machine) = run_steps(rt, alloc, disk, steps);
     assert_eq!(rt; status, Status::Done);
-    Ok(read_image(alloc, &mut machine)?)
+    read_image(alloc, &mut machine).expect(rt, "a disk")
 }
 
 /// A run of the first step, one of the first two, and so on to all of them. Answers the disk that the last
@@ -101,9 +101,9 @@ pub(crate) fn expect_steps(
     alloc: Global,
     disk: &Image,
     steps: &[Step<'_>],
-) -> Result<Image, Fail> {
+) -> Image {
     for count in 1..steps.len() {
-        expect_run(rt, alloc, disk, &steps[..count])?;
+        expect_run(rt, alloc, disk, &steps[..count]);
     }
     expect_run(rt, alloc, disk, steps)
 }

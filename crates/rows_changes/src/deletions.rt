@@ -1,27 +1,25 @@
 //! Deletions, by the calls of an archive in hand.
 use archive_rig::{expect_changes, made, read_journal, refused, three_changes};
 use archive_state::Refusal;
-use std::test::Fail;
 use time_base::Time;
 
 #[test]
-fn a_deleted_document_may_come_again(rt: HostRuntime) -> Result<(), Fail> {
+fn a_deleted_document_may_come_again(rt: HostRuntime) {
     let alloc = rt.alloc();
-    let mut machine = expect_changes(alloc, &three_changes())?;
-    let journal = read_journal(alloc, &mut machine)?;
+    let mut machine = expect_changes(alloc, &three_changes()).expect(&rt, "the changes");
+    let journal = read_journal(alloc, &mut machine).expect(&rt, "a journal");
     let want = b"TIMETRAVELTEXT\x00\x01\
         \xa5\x00\x00\x00\x10\x01\x00\x00\x00\x07\x00\x00\x00\x00\x00\x00\x00\x0ared\
         \xa5\x00\x00\x00\x0d\x02\x00\x00\x00\x07\x00\x00\x00\x00\x00\x00\x00\x14\
         \xa5\x00\x00\x00\x11\x01\x00\x00\x00\x07\x00\x00\x00\x00\x00\x00\x00\x1eblue\
         \x00";
     assert_eq!(rt; journal.as_slice(), want.as_slice());
-    Ok(())
 }
 
 #[test]
-fn deletions_are_refused_by_the_first_cause(rt: HostRuntime) -> Result<(), Fail> {
-    let ten = Time::new(10).ok_or("no time")?;
-    let twenty = Time::new(20).ok_or("no time")?;
+fn deletions_are_refused_by_the_first_cause(rt: HostRuntime) {
+    let ten = Time::new(10).expect(&rt, "a time");
+    let twenty = Time::new(20).expect(&rt, "a time");
     let changes = [
         refused(7, 10, None, Refusal::NoDocument),
         made(7, 10, Some(b"red"), 1),
@@ -36,6 +34,5 @@ fn deletions_are_refused_by_the_first_cause(rt: HostRuntime) -> Result<(), Fail>
         refused(7, 19, Some(b"red"), Refusal::TimeBack { last: twenty }),
         made(8, 20, Some(b"red"), 3),
     ];
-    expect_changes(rt.alloc(), &changes)?;
-    Ok(())
+    expect_changes(rt.alloc(), &changes).expect(&rt, "the changes");
 }

@@ -7,7 +7,6 @@ use archive_shell::Status;
 use machine_mem::{CallKind, Fault};
 use std::alloc::Global;
 use std::process::Abort;
-use std::test::Fail;
 
 /// The most bytes of one pull.
 const PIECES: [usize; 6] = [1, 2, 3, 7, 4096, usize::MAX];
@@ -21,35 +20,35 @@ struct Wanted<'a> {
 }
 
 /// In pieces of each size a script does this.
-fn expect_alike(
-    rt: &impl Abort,
-    alloc: Global,
-    script: &[u8],
-    want: &Wanted<'_>,
-) -> Result<(), Fail> {
+fn expect_alike(rt: &impl Abort, alloc: Global, script: &[u8], want: &Wanted<'_>) {
     for piece in PIECES {
         assert!(rt; piece >= 1);
-        let mut machine = make_machine(alloc, script, b"", &[])?.with_pulls_of(piece);
-        assert_eq!(rt; run_on(alloc, &mut machine)?, want.status, "{piece}");
+        let mut machine = make_machine(alloc, script, b"", &[])
+            .expect(rt, "a machine")
+            .with_pulls_of(piece);
+        assert_eq!(rt;
+            run_on(alloc, &mut machine).expect(rt, "a run"),
+            want.status,
+            "{piece}"
+        );
         assert_eq!(rt; machine.shown(), want.replies, "{piece}");
-        let journal = read_journal(alloc, &mut machine)?;
+        let journal = read_journal(alloc, &mut machine).expect(rt, "a journal");
         assert_eq!(rt; journal.as_slice(), want.journal, "{piece}");
     }
-    Ok(())
 }
 
 #[test]
-fn arrivals_and_deletions_in_any_pieces(rt: HostRuntime) -> Result<(), Fail> {
+fn arrivals_and_deletions_in_any_pieces(rt: HostRuntime) {
     let want = Wanted {
         status: Status::Done,
         replies: MIXED_REPLIES,
         journal: MIXED_JOURNAL,
     };
-    expect_alike(&rt, rt.alloc(), MIXED_SCRIPT, &want)
+    expect_alike(&rt, rt.alloc(), MIXED_SCRIPT, &want);
 }
 
 #[test]
-fn a_broken_script_in_any_pieces(rt: HostRuntime) -> Result<(), Fail> {
+fn a_broken_script_in_any_pieces(rt: HostRuntime) {
     let alloc = rt.alloc();
     let script = join(
         alloc,
@@ -58,7 +57,8 @@ fn a_broken_script_in_any_pieces(rt: HostRuntime) -> Result<(), Fail> {
             b"delete 8 10\ndelete 7 20\n",
             b"arrive 7 30 4\nblue?\narrive 7 40 4\nblue\n",
         ],
-    )?;
+    )
+    .expect(&rt, "memory");
     let want = Wanted {
         status: Status::Script { at: 62 },
         replies: b"ok 1\nno 4 NoDocument\nok 2\n",
@@ -67,26 +67,26 @@ fn a_broken_script_in_any_pieces(rt: HostRuntime) -> Result<(), Fail> {
             \xa5\x00\x00\x00\x0d\x02\x00\x00\x00\x07\x00\x00\x00\x00\x00\x00\x00\x14\
             \x00",
     };
-    expect_alike(&rt, alloc, &script, &want)
+    expect_alike(&rt, alloc, &script, &want);
 }
 
 /// A text of so many bytes that is nowhere like its neighbourhood, with ends of lines in it.
-fn long_text(alloc: Global, bytes: usize) -> Result<Vec<u8>, Fail> {
+fn long_text(rt: &impl Abort, alloc: Global, bytes: usize) -> Vec<u8> {
     let mut text = Vec::new(alloc);
     for line in 0..bytes {
-        let line = format!(in alloc; "{line}\n")?;
-        text.extend_from_slice(line.as_bytes())?;
+        let line = format!(in alloc; "{line}\n").expect(rt, "memory");
+        text.extend_from_slice(line.as_bytes()).expect(rt, "memory");
     }
     text.truncate(bytes);
-    Ok(text)
+    text
 }
 
 // the first text ends behind the first piece of 4,096 bytes, and the second behind the reader's block of 65,536
 #[test]
-fn texts_that_cross_blocks_in_any_pieces(rt: HostRuntime) -> Result<(), Fail> {
+fn texts_that_cross_blocks_in_any_pieces(rt: HostRuntime) {
     let alloc = rt.alloc();
-    let short = long_text(alloc, 5000)?;
-    let long = long_text(alloc, 70_000)?;
+    let short = long_text(&rt, alloc, 5000);
+    let long = long_text(&rt, alloc, 70_000);
     let script = join(
         alloc,
         &[
@@ -96,7 +96,8 @@ fn texts_that_cross_blocks_in_any_pieces(rt: HostRuntime) -> Result<(), Fail> {
             &long,
             b"\narrive 8 30 0\n\n",
         ],
-    )?;
+    )
+    .expect(&rt, "memory");
     let journal = join(
         alloc,
         &[
@@ -109,19 +110,18 @@ fn texts_that_cross_blocks_in_any_pieces(rt: HostRuntime) -> Result<(), Fail> {
             b"\xa5\x00\x00\x00\x0d\x01\x00\x00\x00\x08\x00\x00\x00\x00\x00\x00\x00\x1e",
             b"\x00",
         ],
-    )?;
+    )
+    .expect(&rt, "memory");
     let want = Wanted {
         status: Status::Done,
         replies: b"ok 1\nok 2\nok 3\nok 4\n",
         journal: &journal,
     };
-    expect_alike(&rt, alloc, &script, &want)
+    expect_alike(&rt, alloc, &script, &want);
 }
 
 #[test]
-fn a_pull_that_fails_ends_the_run_behind_the_items_that_are_whole(
-    rt: HostRuntime,
-) -> Result<(), Fail> {
+fn a_pull_that_fails_ends_the_run_behind_the_items_that_are_whole(rt: HostRuntime) {
     let alloc = rt.alloc();
     for nth in 1..=12 {
         let fault = Fault {
@@ -129,8 +129,14 @@ fn a_pull_that_fails_ends_the_run_behind_the_items_that_are_whole(
             nth,
             landed: 0,
         };
-        let mut machine = make_machine(alloc, MIXED_SCRIPT, b"", &[fault])?.with_pulls_of(7);
-        assert_eq!(rt; run_on(alloc, &mut machine)?, Status::Source, "{nth}");
+        let mut machine = make_machine(alloc, MIXED_SCRIPT, b"", &[fault])
+            .expect(&rt, "a machine")
+            .with_pulls_of(7);
+        assert_eq!(rt;
+            run_on(alloc, &mut machine).expect(&rt, "a run"),
+            Status::Source,
+            "{nth}"
+        );
         let mut shown = 0;
         // where each item ends, and its reply
         for (item, reply) in [(18, 5), (30, 10), (45, 15), (63, 20), (75, 25)] {
@@ -141,11 +147,10 @@ fn a_pull_that_fails_ends_the_run_behind_the_items_that_are_whole(
         assert!(rt; shown <= MIXED_REPLIES.len());
         assert_eq!(rt; machine.shown(), &MIXED_REPLIES[..shown], "{nth}");
     }
-    Ok(())
 }
 
 #[test]
-fn skipped_lines_refused_lines_and_line_ends_in_any_pieces(rt: HostRuntime) -> Result<(), Fail> {
+fn skipped_lines_refused_lines_and_line_ends_in_any_pieces(rt: HostRuntime) {
     let alloc = rt.alloc();
     let script = join(
         alloc,
@@ -155,7 +160,8 @@ fn skipped_lines_refused_lines_and_line_ends_in_any_pieces(rt: HostRuntime) -> R
             "\r\nhello\r\narrive 8 20 8\r\nStraße\r\r\n".as_bytes(),
             b"#\narrive 9 20 2\n\xc3\x28\nverify",
         ],
-    )?;
+    )
+    .expect(&rt, "memory");
     let want = Wanted {
         status: Status::Done,
         replies: b"ok 1\nno 1 Line\nok 2\nno 6 BadText 0\nsound 0 0\n",
@@ -164,5 +170,5 @@ fn skipped_lines_refused_lines_and_line_ends_in_any_pieces(rt: HostRuntime) -> R
             \xa5\x00\x00\x00\x15\x01\x00\x00\x00\x08\x00\x00\x00\x00\x00\x00\x00\x14Stra\xc3\x9fe\r\
             \x00",
     };
-    expect_alike(&rt, alloc, &script, &want)
+    expect_alike(&rt, alloc, &script, &want);
 }

@@ -6,7 +6,6 @@ use archive_shell::{Status, run};
 use machine_model::Area;
 use std::alloc::Global;
 use std::process::Abort;
-use std::test::Fail;
 
 /// A script that comes to its end.
 #[derive(Clone, Copy, Debug)]
@@ -22,26 +21,30 @@ struct Run<'a> {
 }
 
 /// Each of these runs is as it says.
-fn expect_runs(rt: &impl Abort, alloc: Global, runs: &[Run<'_>]) -> Result<(), Fail> {
+fn expect_runs(rt: &impl Abort, alloc: Global, runs: &[Run<'_>]) {
     for run in runs {
-        let mut machine = make_machine(alloc, run.script, run.before, &[])?;
+        let mut machine = make_machine(alloc, run.script, run.before, &[]).expect(rt, "a machine");
         assert_eq!(rt;
-            run_on(alloc, &mut machine)?,
+            run_on(alloc, &mut machine).expect(rt, "a run"),
             Status::Done,
             "{:?}",
             run.script
         );
         assert_eq!(rt; machine.shown(), run.replies, "{:?}", run.script);
-        let journal = read_journal(alloc, &mut machine)?;
+        let journal = read_journal(alloc, &mut machine).expect(rt, "a journal");
         assert_eq!(rt; journal.as_slice(), run.after, "{:?}", run.script);
-        assert_eq!(rt; count_on(alloc, &journal)?, run.entries, "{:?}", run.script);
+        assert_eq!(rt;
+            count_on(alloc, &journal).expect(rt, "an archive"),
+            run.entries,
+            "{:?}",
+            run.script
+        );
     }
-    Ok(())
 }
 
 // A run that always ended for want of memory, which its contract allows, fails here and in the next test.
 #[test]
-fn an_empty_input_makes_a_new_journal(rt: HostRuntime) -> Result<(), Fail> {
+fn an_empty_input_makes_a_new_journal(rt: HostRuntime) {
     let runs = [Run {
         before: b"",
         script: b"",
@@ -49,13 +52,11 @@ fn an_empty_input_makes_a_new_journal(rt: HostRuntime) -> Result<(), Fail> {
         after: NEW_JOURNAL,
         entries: 0,
     }];
-    expect_runs(&rt, rt.alloc(), &runs)
+    expect_runs(&rt, rt.alloc(), &runs);
 }
 
 #[test]
-fn an_arrival_is_in_the_journal_and_a_second_of_its_time_is_refused(
-    rt: HostRuntime,
-) -> Result<(), Fail> {
+fn an_arrival_is_in_the_journal_and_a_second_of_its_time_is_refused(rt: HostRuntime) {
     let runs = [
         Run {
             before: b"",
@@ -72,7 +73,7 @@ fn an_arrival_is_in_the_journal_and_a_second_of_its_time_is_refused(
             entries: 1,
         },
     ];
-    expect_runs(&rt, rt.alloc(), &runs)
+    expect_runs(&rt, rt.alloc(), &runs);
 }
 
 /// Three arrivals.
@@ -92,7 +93,7 @@ const FIVE_ARRIVALS: &[u8] = b"TIMETRAVELTEXT\x00\x01\
     \x00";
 
 #[test]
-fn a_refused_arrival_changes_nothing_and_a_later_run_goes_on(rt: HostRuntime) -> Result<(), Fail> {
+fn a_refused_arrival_changes_nothing_and_a_later_run_goes_on(rt: HostRuntime) {
     let runs = [
         Run {
             before: b"",
@@ -109,7 +110,7 @@ fn a_refused_arrival_changes_nothing_and_a_later_run_goes_on(rt: HostRuntime) ->
             entries: 5,
         },
     ];
-    expect_runs(&rt, rt.alloc(), &runs)
+    expect_runs(&rt, rt.alloc(), &runs);
 }
 
 /// A document arrived and was deleted.
@@ -126,7 +127,7 @@ const RETURNED: &[u8] = b"TIMETRAVELTEXT\x00\x01\
     \x00";
 
 #[test]
-fn a_deleted_document_may_come_again_in_a_later_run(rt: HostRuntime) -> Result<(), Fail> {
+fn a_deleted_document_may_come_again_in_a_later_run(rt: HostRuntime) {
     let runs = [
         Run {
             before: b"",
@@ -150,7 +151,7 @@ fn a_deleted_document_may_come_again_in_a_later_run(rt: HostRuntime) -> Result<(
             entries: 3,
         },
     ];
-    expect_runs(&rt, rt.alloc(), &runs)
+    expect_runs(&rt, rt.alloc(), &runs);
 }
 
 /// The one arrival, its deletion, and another version.
@@ -161,7 +162,7 @@ const REPLACED: &[u8] = b"TIMETRAVELTEXT\x00\x01\
     \x00";
 
 #[test]
-fn a_refused_deletion_changes_nothing(rt: HostRuntime) -> Result<(), Fail> {
+fn a_refused_deletion_changes_nothing(rt: HostRuntime) {
     let runs = [
         Run {
             before: b"",
@@ -178,54 +179,63 @@ fn a_refused_deletion_changes_nothing(rt: HostRuntime) -> Result<(), Fail> {
             entries: 3,
         },
     ];
-    expect_runs(&rt, rt.alloc(), &runs)
+    expect_runs(&rt, rt.alloc(), &runs);
 }
 
 /// A script of arrivals of one document with texts of so many bytes.
-fn many_arrivals(alloc: Global, count: u64, bytes: usize) -> Result<Vec<u8>, Fail> {
-    let text = vec![in alloc; b'x'; bytes]?;
+fn many_arrivals(rt: &impl Abort, alloc: Global, count: u64, bytes: usize) -> Vec<u8> {
+    let text = vec![in alloc; b'x'; bytes].expect(rt, "memory");
     let mut script = Vec::new(alloc);
     for at in 0..count {
-        let line = format!(in alloc; "arrive 7 {at} {bytes}\n")?;
-        script.extend_from_slice(line.as_bytes())?;
-        script.extend_from_slice(&text)?;
-        script.push(b'\n')?;
+        let line = format!(in alloc; "arrive 7 {at} {bytes}\n").expect(rt, "memory");
+        script
+            .extend_from_slice(line.as_bytes())
+            .expect(rt, "memory");
+        script.extend_from_slice(&text).expect(rt, "memory");
+        script.push(b'\n').expect(rt, "memory");
     }
-    Ok(script)
+    script
 }
 
 /// The replies to so many arrivals of a new archive.
-fn many_replies(alloc: Global, count: u64) -> Result<Vec<u8>, Fail> {
+fn many_replies(rt: &impl Abort, alloc: Global, count: u64) -> Vec<u8> {
     let mut replies = Vec::new(alloc);
     for length in 1..=count {
-        let line = format!(in alloc; "ok {length}\n")?;
-        replies.extend_from_slice(line.as_bytes())?;
+        let line = format!(in alloc; "ok {length}\n").expect(rt, "memory");
+        replies
+            .extend_from_slice(line.as_bytes())
+            .expect(rt, "memory");
     }
-    Ok(replies)
+    replies
 }
 
 #[test]
-fn an_input_longer_than_a_block_is_read_whole(rt: HostRuntime) -> Result<(), Fail> {
+fn an_input_longer_than_a_block_is_read_whole(rt: HostRuntime) {
     let alloc = rt.alloc();
-    let script = many_arrivals(alloc, 100, 3000)?;
-    let replies = many_replies(alloc, 100)?;
-    let mut machine = make_machine(alloc, &script, b"", &[])?;
-    assert_eq!(rt; run_on(alloc, &mut machine)?, Status::Done);
+    let script = many_arrivals(&rt, alloc, 100, 3000);
+    let replies = many_replies(&rt, alloc, 100);
+    let mut machine = make_machine(alloc, &script, b"", &[]).expect(&rt, "a machine");
+    assert_eq!(rt;
+        run_on(alloc, &mut machine).expect(&rt, "a run"),
+        Status::Done
+    );
     assert_eq!(rt; machine.shown(), replies.as_slice());
-    let journal = read_journal(alloc, &mut machine)?;
+    let journal = read_journal(alloc, &mut machine).expect(&rt, "a journal");
     assert_eq!(rt; journal.len(), 301_817);
-    assert_eq!(rt; count_on(alloc, &journal)?, 100);
-    Ok(())
+    assert_eq!(rt; count_on(alloc, &journal).expect(&rt, "an archive"), 100);
 }
 
 #[test]
-fn a_word_that_asks_for_nothing_is_a_usage_fault_and_nothing_is_touched(
-    rt: HostRuntime,
-) -> Result<(), Fail> {
+fn a_word_that_asks_for_nothing_is_a_usage_fault_and_nothing_is_touched(rt: HostRuntime) {
     let alloc = rt.alloc();
     for word in ["", "x", "--help", "--generate"] {
-        let mut machine = make_machine(alloc, FIRST_SCRIPT, b"journal", &[])?;
-        let words = vec![in alloc; String::from_str(alloc, word)?]?;
+        let mut machine = make_machine(alloc, FIRST_SCRIPT, b"journal", &[]).expect(
+            &rt,
+            "a machine",
+        );
+        let words = vec![in alloc; String::from_str(alloc, word).expect(&rt, "memory")].expect(
+            &rt, "memory",
+        );
         let status = run(alloc, &words, &mut machine);
         assert_eq!(rt; status, Status::Usage, "{word}");
         assert_eq!(rt; status.code(), 2);
@@ -233,8 +243,7 @@ fn a_word_that_asks_for_nothing_is_a_usage_fault_and_nothing_is_touched(
         assert_eq!(rt; machine.moments(), 1);
         assert_eq!(rt; machine.read_of(Area::Journal), 0);
         assert_eq!(rt; machine.starved(), 0);
-        let journal = read_journal(alloc, &mut machine)?;
+        let journal = read_journal(alloc, &mut machine).expect(&rt, "a journal");
         assert_eq!(rt; journal.as_slice(), b"journal".as_slice());
     }
-    Ok(())
 }

@@ -1,10 +1,9 @@
 //! The program's exit statuses and the lines that it prints of them.
 use archive_shell::Status;
-use std::test::Fail;
 use sublist_store::{Damage, Why};
 
 #[test]
-fn each_status_has_its_code_and_its_line(rt: HostRuntime) -> Result<(), Fail> {
+fn each_status_has_its_code_and_its_line(rt: HostRuntime) {
     let alloc = rt.alloc();
     for (status, code, line) in [
         (Status::Done, 0, "tt_archive: done"),
@@ -46,9 +45,8 @@ fn each_status_has_its_code_and_its_line(rt: HostRuntime) -> Result<(), Fail> {
         ),
         (Status::Memory, 12, "tt_archive: no memory"),
     ] {
-        let text = format!(in alloc; "{status}")?;
+        let text = format!(in alloc; "{status}").expect(&rt, "memory");
         assert_eq!(rt; text.as_str(), line);
         assert_eq!(rt; status.code(), code, "{line}");
     }
-    Ok(())
 }

@@ -2,25 +2,21 @@
 use archive_rig::{Row, expect_on};
 use machine_model::Image;
 use std::alloc::Global;
-use std::test::Fail;
+use std::process::Abort;
 
 /// A check of the disk tells this.
-pub(crate) fn expect_told(alloc: Global, disk: &Image, told: &[u8]) -> Result<(), Fail> {
+pub(crate) fn expect_told(rt: &impl Abort, alloc: Global, disk: &Image, told: &[u8]) {
     let row = Row {
         script: b"verify\n",
         replies: told,
     };
-    expect_on(alloc, disk, &[row])?;
-    Ok(())
+    expect_on(alloc, disk, &[row]).expect(rt, "the replies");
 }
 
 /// Puts a byte in Pages, which have to reach there.
-pub(crate) fn put_byte(disk: &mut Image, at: usize, byte: u8) -> Result<(), Fail> {
+pub(crate) fn put_byte(rt: &impl Abort, disk: &mut Image, at: usize, byte: u8) {
     match disk.pages.get_mut(at) {
-        Some(there) => {
-            *there = byte;
-            Ok(())
-        }
-        None => Err(Fail::from("Pages are shorter")),
+        Some(there) => *there = byte,
+        None => panic!(rt; "Pages are shorter"),
     }
 }

@@ -8,7 +8,6 @@ use archive_shell::Status;
 use machine_model::Image;
 use std::alloc::Global;
 use std::process::Abort;
-use std::test::Fail;
 use sublist_store::{Damage, Why};
 
 /// What the first sublist has when its byte 3 is 01.
@@ -31,41 +30,35 @@ const LIFE_OF_9: Sublist<'static> = Sublist {
 
 /// The run of a script has shown this when it ends at a damaged sublist with this line and status 8, and the
 /// disk is as it was.
-fn expect_damaged(
-    rt: &impl Abort,
-    alloc: Global,
-    disk: &Image,
-    row: &Row<'_>,
-    line: &str,
-) -> Result<(), Fail> {
-    let mut machine = machine_on(alloc, row.script, copy_image(alloc, disk)?, &[])?;
-    let status = run_on(alloc, &mut machine)?;
-    let told = format!(in alloc; "{status}")?;
+fn expect_damaged(rt: &impl Abort, alloc: Global, disk: &Image, row: &Row<'_>, line: &str) {
+    let copy = copy_image(alloc, disk).expect(rt, "memory");
+    let mut machine = machine_on(alloc, row.script, copy, &[]).expect(rt, "a machine");
+    let status = run_on(alloc, &mut machine).expect(rt, "a run");
+    let told = format!(in alloc; "{status}").expect(rt, "memory");
     assert_eq!(rt; told.as_str(), line, "{:?}", row.script);
     assert_eq!(rt; status.code(), 8);
     assert_eq!(rt; machine.shown(), row.replies, "{:?}", row.script);
-    let left = read_image(alloc, &mut machine)?;
+    let left = read_image(alloc, &mut machine).expect(rt, "a disk");
     assert_eq!(rt; left.journal.as_slice(), disk.journal.as_slice());
     assert_eq!(rt; left.pages.as_slice(), disk.pages.as_slice());
-    Ok(())
 }
 
 /// The disk of the first plan, with another byte 3 of Pages.
-fn changed_disk(alloc: Global) -> Result<Image, Fail> {
-    let mut disk = first_disk(alloc)?;
+fn changed_disk(rt: &impl Abort, alloc: Global) -> Image {
+    let mut disk = first_disk(alloc).expect(rt, "a disk");
     match disk.pages.get_mut(3) {
         Some(byte) => *byte = 1,
-        None => return Err(Fail::from("Pages have no byte 3")),
+        None => panic!(rt; "Pages have no byte 3"),
     }
-    Ok(disk)
+    disk
 }
 
 #[test]
-fn a_byte_that_changed_is_told_by_both_digests(rt: HostRuntime) -> Result<(), Fail> {
+fn a_byte_that_changed_is_told_by_both_digests(rt: HostRuntime) {
     let alloc = rt.alloc();
-    let disk = changed_disk(alloc)?;
-    let mut machine = machine_on(alloc, b"find 15 v\n", disk, &[])?;
-    let status = run_on(alloc, &mut machine)?;
+    let disk = changed_disk(&rt, alloc);
+    let mut machine = machine_on(alloc, b"find 15 v\n", disk, &[]).expect(&rt, "a machine");
+    let status = run_on(alloc, &mut machine).expect(&rt, "a run");
     assert_eq!(rt; machine.shown(), b"".as_slice());
     let Status::Damaged(
         Damage {
@@ -74,19 +67,18 @@ fn a_byte_that_changed_is_told_by_both_digests(rt: HostRuntime) -> Result<(), Fa
         },
     ) = status
     else {
-        return Err(Fail::from("no digest is told"));
+        panic!(rt; "no digest is told");
     };
     assert_eq!(rt; page, 0);
     assert_eq!(rt; stored.as_slice(), LIFE_OF_1.digest);
     assert_eq!(rt; got.as_slice(), DIGEST_OF_CHANGED);
-    Ok(())
 }
 
 // The line names the page. What comes behind the question isn't carried out.
 #[test]
-fn the_run_ends_where_the_changed_sublist_is_read(rt: HostRuntime) -> Result<(), Fail> {
+fn the_run_ends_where_the_changed_sublist_is_read(rt: HostRuntime) {
     let alloc = rt.alloc();
-    let disk = changed_disk(alloc)?;
+    let disk = changed_disk(&rt, alloc);
     let line = "tt_archive: damaged sublist at page 0: digest";
     for row in [
         Row {
@@ -110,26 +102,26 @@ fn the_run_ends_where_the_changed_sublist_is_read(rt: HostRuntime) -> Result<(),
             replies: b"",
         },
     ] {
-        expect_damaged(&rt, alloc, &disk, &row, line)?;
+        expect_damaged(&rt, alloc, &disk, &row, line);
     }
-    let mut last = first_disk(alloc)?;
+    let mut last = first_disk(alloc).expect(&rt, "a disk");
     match last.pages.get_mut(8209) {
         Some(byte) => *byte = 0,
-        None => return Err(Fail::from("Pages have no byte 8209")),
+        None => panic!(rt; "Pages have no byte 8209"),
     }
     let row = Row {
         script: b"find 15 v\nfind 35 v\n",
         replies: b"hit 1 1\nend 1 read 1\n",
     };
     let line = "tt_archive: damaged sublist at page 2: digest";
-    expect_damaged(&rt, alloc, &last, &row, line)
+    expect_damaged(&rt, alloc, &last, &row, line);
 }
 
 // A new plan is made of the list in memory, and takes other pages.
 #[test]
-fn what_reads_other_sublists_or_none_is_answered(rt: HostRuntime) -> Result<(), Fail> {
+fn what_reads_other_sublists_or_none_is_answered(rt: HostRuntime) {
     let alloc = rt.alloc();
-    let disk = changed_disk(alloc)?;
+    let disk = changed_disk(&rt, alloc);
     let rows = [
         Row {
             script: b"find 9 v\nfind 20 v\nfind 39 v\nfind 40 v\nfind 15 w\nbetween 20 35 v\n",
@@ -144,18 +136,17 @@ fn what_reads_other_sublists_or_none_is_answered(rt: HostRuntime) -> Result<(), 
             replies: b"segment 10 40 2\nnode 10 0\nnode 20 1\nnode 30 2\nnode 40 2\nend 1 space 2\ntext 1\nv\n",
         },
     ];
-    expect_on(alloc, &disk, &rows)?;
+    expect_on(alloc, &disk, &rows).expect(&rt, "the replies");
     let row = Row {
         script: b"plan v guarantee 1/1\nfind 15 v\n",
         replies: b"plan 6 segments 3 space 4 full 2 horizon 40\nhit 1 1\nend 1 read 1\n",
     };
-    disk_after(alloc, &disk, &row)?;
-    Ok(())
+    disk_after(alloc, &disk, &row).expect(&rt, "the replies");
 }
 
 // The digests are right: no archive wrote these.
 #[test]
-fn bytes_that_are_no_sublist_of_the_segment_are_told_why(rt: HostRuntime) -> Result<(), Fail> {
+fn bytes_that_are_no_sublist_of_the_segment_are_told_why(rt: HostRuntime) {
     let alloc = rt.alloc();
     let [one, two, three] = first_segments();
     let formless = [one, segment_at(20, 1, FORMLESS), three];
@@ -209,28 +200,26 @@ fn bytes_that_are_no_sublist_of_the_segment_are_told_why(rt: HostRuntime) -> Res
             "tt_archive: damaged sublist at page 0: bare",
         ),
     ] {
-        let disk = disk_with(alloc, &plan_of_v(40, segments))?;
-        let script = [before, last].concat(alloc)?;
+        let disk = disk_with(alloc, &plan_of_v(40, segments)).expect(&rt, "a disk");
+        let script = [before, last].concat(alloc).expect(&rt, "memory");
         let row = Row {
             script: &script,
             replies,
         };
-        expect_damaged(&rt, alloc, &disk, &row, line)?;
+        expect_damaged(&rt, alloc, &disk, &row, line);
     }
-    Ok(())
 }
 
 // What has the right digest is read, whatever wrote it. A document that isn't alive is no hit.
 #[test]
-fn a_document_that_is_not_alive_is_no_hit(rt: HostRuntime) -> Result<(), Fail> {
+fn a_document_that_is_not_alive_is_no_hit(rt: HostRuntime) {
     let alloc = rt.alloc();
     let [_, two, three] = first_segments();
     let segments = [segment_at(10, 0, LIFE_OF_9), two, three];
-    let disk = disk_with(alloc, &plan_of_v(40, &segments))?;
+    let disk = disk_with(alloc, &plan_of_v(40, &segments)).expect(&rt, "a disk");
     let rows = [Row {
         script: b"find 15 v\nbetween 10 20 v\nfind 25 v\n",
         replies: b"end 0 read 1\nend 0 read 1\nhit 1 1\nhit 2 1\nend 2 read 2\n",
     }];
-    expect_on(alloc, &disk, &rows)?;
-    Ok(())
+    expect_on(alloc, &disk, &rows).expect(&rt, "the replies");
 }

@@ -6,7 +6,6 @@ use archive_rig::{
     segment_at,
 };
 use std::alloc::{AllocError, Global};
-use std::test::Fail;
 
 /// The record of the archive's plan.
 fn flat_record(alloc: Global) -> Result<Vec<u8>, AllocError> {
@@ -20,9 +19,9 @@ fn flat_record(alloc: Global) -> Result<Vec<u8>, AllocError> {
 
 // The archive's files have 277 and 8,216 bytes.
 #[test]
-fn a_flat_plan_is_read_and_certified(rt: HostRuntime) -> Result<(), Fail> {
+fn a_flat_plan_is_read_and_certified(rt: HostRuntime) {
     let alloc = rt.alloc();
-    let disk = flat_disk(alloc)?;
+    let disk = flat_disk(alloc).expect(&rt, "a disk");
     assert_eq!(rt; (disk.journal.len(), disk.pages.len()), (277, 8216));
     let rows = [
         Row {
@@ -38,38 +37,35 @@ fn a_flat_plan_is_read_and_certified(rt: HostRuntime) -> Result<(), Fail> {
             replies: b"segment 10 40 2\nnode 10 0\nnode 20 1\nnode 30 2\nnode 40 2\nend 1 space 2\nok 6\nspan 1 35 40 1\nspan 3 40 45 1\nend 2 read 2\n",
         },
     ];
-    expect_on(alloc, &disk, &rows)?;
-    Ok(())
+    expect_on(alloc, &disk, &rows).expect(&rt, "the replies");
 }
 
 #[test]
-fn a_new_plan_is_in_blocks_and_then_the_flat_ones_pages_are_free(
-    rt: HostRuntime,
-) -> Result<(), Fail> {
+fn a_new_plan_is_in_blocks_and_then_the_flat_ones_pages_are_free(rt: HostRuntime) {
     let alloc = rt.alloc();
     let row = Row {
         script: b"plan v guarantee 1/1\nplan v guarantee 2/1\ncertificate v\nfind 25 v\n",
         replies: b"plan 6 segments 3 space 4 full 2 horizon 40\nplan 7 segments 1 space 2 full 2 horizon 40\nsegment 10 40 2\nnode 10 0\nnode 20 1\nnode 30 2\nnode 40 2\nend 1 space 2\nhit 1 1\nhit 2 1\nend 2 read 2\n",
     };
-    let disk = disk_after(alloc, &flat_disk(alloc)?, &row)?;
+    let disk = flat_disk(alloc).expect(&rt, "a disk");
+    let disk = disk_after(alloc, &disk, &row).expect(&rt, "the replies");
     let sixth = [
         segment_at(10, 3, LIFE_OF_1),
         segment_at(20, 4, LIVES_OF_1_AND_2),
         segment_at(30, 5, LIFE_OF_1),
     ];
     let seventh = [segment_at(10, 0, LIVES_OF_1_AND_2)];
-    let flat = flat_record(alloc)?;
-    let blocks = plan_record(alloc, &plan_of_v(40, &sixth))?;
+    let flat = flat_record(alloc).expect(&rt, "memory");
+    let blocks = plan_record(alloc, &plan_of_v(40, &sixth)).expect(&rt, "memory");
     let whole = Plan {
         over: 2,
         ..plan_of_v(40, &seventh)
     };
-    let last = plan_record(alloc, &whole)?;
-    let journal = journal_of(alloc, &[FOUR_RECORDS, &flat, &blocks, &last])?;
+    let last = plan_record(alloc, &whole).expect(&rt, "memory");
+    let journal = journal_of(alloc, &[FOUR_RECORDS, &flat, &blocks, &last]).expect(&rt, "memory");
     assert_eq!(rt; disk.journal.as_slice(), journal.as_slice());
     for held in sixth {
-        expect_held(&disk.pages, &held)?;
+        expect_held(&disk.pages, &held).expect(&rt, "the sublist");
     }
-    expect_held(&disk.pages, &seventh[0])?;
-    Ok(())
+    expect_held(&disk.pages, &seventh[0]).expect(&rt, "the sublist");
 }

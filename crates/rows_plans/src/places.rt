@@ -6,7 +6,6 @@ use archive_rig::{
     expect_held, expect_left, first_disk, first_segments, gap_segments, new_disk, plan_of_v,
     plan_record, segment_at,
 };
-use std::test::Fail;
 
 /// A second plan behind the life of document 3. The first one lives while it is written.
 fn second_segments() -> [Segment<'static>; 4] {
@@ -42,59 +41,60 @@ const GOES_FURTHER: Row<'static> = Row {
 };
 
 #[test]
-fn a_plan_lies_in_the_lowest_pages_and_its_entry_is_the_journals_last(
-    rt: HostRuntime,
-) -> Result<(), Fail> {
+fn a_plan_lies_in_the_lowest_pages_and_its_entry_is_the_journals_last(rt: HostRuntime) {
     let alloc = rt.alloc();
-    let disk = first_disk(alloc)?;
+    let disk = first_disk(alloc).expect(&rt, "a disk");
     assert_eq!(rt; disk.journal.len(), 277);
-    let plan = plan_record(alloc, &plan_of_v(40, &first_segments()))?;
-    expect_left(alloc, &disk, &[FOUR_RECORDS, &plan], &first_segments())?;
-    Ok(())
+    let plan = plan_record(alloc, &plan_of_v(40, &first_segments())).expect(&rt, "memory");
+    expect_left(alloc, &disk, &[FOUR_RECORDS, &plan], &first_segments()).expect(&rt, "the disk");
 }
 
 #[test]
-fn a_plan_of_one_segment_holds_the_whole_list(rt: HostRuntime) -> Result<(), Fail> {
+fn a_plan_of_one_segment_holds_the_whole_list(rt: HostRuntime) {
     let alloc = rt.alloc();
     let row = Row {
         script: b"plan v guarantee 2/1\n",
         replies: b"plan 5 segments 1 space 2 full 2 horizon 40\n",
     };
-    let disk = disk_after_all(alloc, new_disk(alloc), &[FOUR_CHANGES, row])?;
+    let disk = disk_after_all(alloc, new_disk(alloc), &[FOUR_CHANGES, row]).expect(
+        &rt,
+        "the replies",
+    );
     let segments = [segment_at(10, 0, LIVES_OF_1_AND_2)];
     let plan = Plan {
         over: 2,
         ..plan_of_v(40, &segments)
     };
-    let record = plan_record(alloc, &plan)?;
-    expect_left(alloc, &disk, &[FOUR_RECORDS, &record], &segments)?;
-    Ok(())
+    let record = plan_record(alloc, &plan).expect(&rt, "memory");
+    expect_left(alloc, &disk, &[FOUR_RECORDS, &record], &segments).expect(&rt, "the disk");
 }
 
 #[test]
-fn an_empty_sublist_has_no_bytes_and_the_digest_of_nothing(rt: HostRuntime) -> Result<(), Fail> {
+fn an_empty_sublist_has_no_bytes_and_the_digest_of_nothing(rt: HostRuntime) {
     let alloc = rt.alloc();
     let row = Row {
         script: b"plan v guarantee 100/1\n",
         replies: b"plan 5 segments 3 space 2 full 2 horizon 40\n",
     };
-    let disk = disk_after_all(alloc, new_disk(alloc), &[GAP_CHANGES, row])?;
+    let disk = disk_after_all(alloc, new_disk(alloc), &[GAP_CHANGES, row]).expect(
+        &rt,
+        "the replies",
+    );
     let segments = gap_segments();
     let plan = Plan {
         over: 100,
         ..plan_of_v(40, &segments)
     };
-    let record = plan_record(alloc, &plan)?;
-    expect_left(alloc, &disk, &[GAP_RECORDS, &record], &segments)?;
-    Ok(())
+    let record = plan_record(alloc, &plan).expect(&rt, "memory");
+    expect_left(alloc, &disk, &[GAP_RECORDS, &record], &segments).expect(&rt, "the disk");
 }
 
 #[test]
-fn a_later_plan_takes_the_lowest_pages_that_are_free(rt: HostRuntime) -> Result<(), Fail> {
+fn a_later_plan_takes_the_lowest_pages_that_are_free(rt: HostRuntime) {
     let alloc = rt.alloc();
-    let first = plan_record(alloc, &plan_of_v(40, &first_segments()))?;
-    let second = plan_record(alloc, &plan_of_v(60, &second_segments()))?;
-    let third = plan_record(alloc, &plan_of_v(70, &third_segments()))?;
+    let first = plan_record(alloc, &plan_of_v(40, &first_segments())).expect(&rt, "memory");
+    let second = plan_record(alloc, &plan_of_v(60, &second_segments())).expect(&rt, "memory");
+    let third = plan_record(alloc, &plan_of_v(70, &third_segments())).expect(&rt, "memory");
     let eight: [&[u8]; 5] = [FOUR_RECORDS, &first, THIRD_ARRIVES, THIRD_ENDS, &second];
     let ten: [&[u8]; 7] = [
         FOUR_RECORDS,
@@ -105,47 +105,46 @@ fn a_later_plan_takes_the_lowest_pages_that_are_free(rt: HostRuntime) -> Result<
         FOURTH_ARRIVES,
         &third,
     ];
-    let disk = disk_after(alloc, &first_disk(alloc)?, &GOES_ON)?;
-    expect_left(alloc, &disk, &eight, &second_segments())?;
+    let disk = first_disk(alloc).expect(&rt, "a disk");
+    let disk = disk_after(alloc, &disk, &GOES_ON).expect(&rt, "the replies");
+    expect_left(alloc, &disk, &eight, &second_segments()).expect(&rt, "the disk");
     // the first plan's pages are free, and nothing is written there
     for held in first_segments() {
-        expect_held(&disk.pages, &held)?;
+        expect_held(&disk.pages, &held).expect(&rt, "the sublist");
     }
-    let disk = disk_after(alloc, &disk, &GOES_FURTHER)?;
-    expect_left(alloc, &disk, &ten, &third_segments())?;
+    let disk = disk_after(alloc, &disk, &GOES_FURTHER).expect(&rt, "the replies");
+    expect_left(alloc, &disk, &ten, &third_segments()).expect(&rt, "the disk");
     // and in one run
     let mut script = Vec::new(alloc);
     let mut replies = Vec::new(alloc);
     for row in [FOUR_CHANGES, FIRST_PLAN, GOES_ON, GOES_FURTHER] {
-        script.extend_from_slice(row.script)?;
-        replies.extend_from_slice(row.replies)?;
+        script.extend_from_slice(row.script).expect(&rt, "memory");
+        replies.extend_from_slice(row.replies).expect(&rt, "memory");
     }
     let row = Row {
         script: &script,
         replies: &replies,
     };
-    let disk = disk_after(alloc, &new_disk(alloc), &row)?;
-    expect_left(alloc, &disk, &ten, &third_segments())?;
-    Ok(())
+    let disk = disk_after(alloc, &new_disk(alloc), &row).expect(&rt, "the replies");
+    expect_left(alloc, &disk, &ten, &third_segments()).expect(&rt, "the disk");
 }
 
 #[test]
-fn plans_of_two_words_share_no_page(rt: HostRuntime) -> Result<(), Fail> {
+fn plans_of_two_words_share_no_page(rt: HostRuntime) {
     let alloc = rt.alloc();
     let row = Row {
         script: b"arrive 1 10 3\nv w\ndelete 1 20\nplan v guarantee 1/1\nplan w guarantee 1/1\nplan v guarantee 1/1\nplan w guarantee 1/1\n",
         replies: b"ok 1\nok 2\nplan 3 segments 1 space 1 full 1 horizon 20\nplan 4 segments 1 space 1 full 1 horizon 20\nplan 5 segments 1 space 1 full 1 horizon 20\nplan 6 segments 1 space 1 full 1 horizon 20\n",
     };
-    let disk = disk_after(alloc, &new_disk(alloc), &row)?;
+    let disk = disk_after(alloc, &new_disk(alloc), &row).expect(&rt, "the replies");
     let plans = [
         (b"v".as_slice(), 0),
         (b"w".as_slice(), 1),
         (b"v".as_slice(), 2),
         (b"w".as_slice(), 0),
     ];
-    let journal = two_words_journal(alloc, &plans)?;
+    let journal = two_words_journal(alloc, &plans).expect(&rt, "memory");
     assert_eq!(rt; disk.journal.as_slice(), journal.as_slice());
-    expect_held(&disk.pages, &segment_at(10, 2, FIRST_LIFE))?;
-    expect_held(&disk.pages, &segment_at(10, 0, FIRST_LIFE))?;
-    Ok(())
+    expect_held(&disk.pages, &segment_at(10, 2, FIRST_LIFE)).expect(&rt, "the sublist");
+    expect_held(&disk.pages, &segment_at(10, 0, FIRST_LIFE)).expect(&rt, "the sublist");
 }

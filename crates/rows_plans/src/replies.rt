@@ -3,30 +3,21 @@ use archive_rig::{
     FIRST_CERTIFICATE, FIRST_PLAN, FOUR_CHANGES, Row, disk_after_all, expect_on, first_disk,
     new_disk,
 };
-use std::alloc::Global;
-use std::test::Fail;
-
-/// A script has its replies on a new archive.
-fn expect_on_new(alloc: Global, row: Row<'_>) -> Result<(), Fail> {
-    expect_on(alloc, &new_disk(alloc), &[row])?;
-    Ok(())
-}
 
 #[test]
-fn a_planned_word_is_found_and_its_plan_is_certified(rt: HostRuntime) -> Result<(), Fail> {
-    expect_on_new(
-        rt.alloc(),
-        Row {
-            script: b"arrive 1 10 1\nv\narrive 2 20 1\nv\ndelete 2 30\ndelete 1 40\nplan v guarantee 1/1\nfind 15 v\nfind 25 v\nfind 40 v\nfind 5 v\ncertificate v\n",
-            replies: b"ok 1\nok 2\nok 3\nok 4\nplan 5 segments 3 space 4 full 2 horizon 40\nhit 1 1\nend 1 read 1\nhit 1 1\nhit 2 1\nend 2 read 2\nend 0 read 0\nend 0 read 0\nsegment 10 20 1\nsegment 20 30 2\nsegment 30 40 1\nnode 10 0\nnode 20 1\nnode 30 3\nnode 40 4\nend 3 space 4\n",
-        },
-    )
-}
-
-#[test]
-fn the_same_is_answered_when_it_is_loaded(rt: HostRuntime) -> Result<(), Fail> {
+fn a_planned_word_is_found_and_its_plan_is_certified(rt: HostRuntime) {
+    let rows = [Row {
+        script: b"arrive 1 10 1\nv\narrive 2 20 1\nv\ndelete 2 30\ndelete 1 40\nplan v guarantee 1/1\nfind 15 v\nfind 25 v\nfind 40 v\nfind 5 v\ncertificate v\n",
+        replies: b"ok 1\nok 2\nok 3\nok 4\nplan 5 segments 3 space 4 full 2 horizon 40\nhit 1 1\nend 1 read 1\nhit 1 1\nhit 2 1\nend 2 read 2\nend 0 read 0\nend 0 read 0\nsegment 10 20 1\nsegment 20 30 2\nsegment 30 40 1\nnode 10 0\nnode 20 1\nnode 30 3\nnode 40 4\nend 3 space 4\n",
+    }];
     let alloc = rt.alloc();
-    let disk = first_disk(alloc)?;
+    expect_on(alloc, &new_disk(alloc), &rows).expect(&rt, "the replies");
+}
+
+#[test]
+fn the_same_is_answered_when_it_is_loaded(rt: HostRuntime) {
+    let alloc = rt.alloc();
+    let disk = first_disk(alloc).expect(&rt, "a disk");
     let rows = [
         Row {
             script: b"find 15 v\nfind 25 v\nfind 40 v\nfind 5 v\nfind 39 v\n",
@@ -60,14 +51,13 @@ fn the_same_is_answered_when_it_is_loaded(rt: HostRuntime) -> Result<(), Fail> {
             replies: b"ok 6\nspan 1 35 40 1\nspan 3 40 45 1\nend 2 read 2\n",
         },
     ];
-    expect_on(alloc, &disk, &rows)?;
-    Ok(())
+    expect_on(alloc, &disk, &rows).expect(&rt, "the replies");
 }
 
 #[test]
-fn the_factor_decides_what_is_least(rt: HostRuntime) -> Result<(), Fail> {
+fn the_factor_decides_what_is_least(rt: HostRuntime) {
     let alloc = rt.alloc();
-    let disk = disk_after_all(alloc, new_disk(alloc), &[FOUR_CHANGES])?;
+    let disk = disk_after_all(alloc, new_disk(alloc), &[FOUR_CHANGES]).expect(&rt, "the replies");
     let rows = [
         // the boundaries shown are those of the list
         Row {
@@ -84,25 +74,23 @@ fn the_factor_decides_what_is_least(rt: HostRuntime) -> Result<(), Fail> {
             replies: b"segment 10 40 2\nnode 10 0\nnode 20 1\nnode 30 2\nnode 40 2\nend 1 space 2\nno 14 NoPlan\nplan 5 segments 1 space 2 full 2 horizon 40\nsegment 10 20 1\nsegment 20 30 2\nsegment 30 40 1\nnode 10 0\nnode 20 1\nnode 30 3\nnode 40 4\nend 3 space 4\nsegment 10 40 2\nnode 10 0\nnode 20 1\nnode 30 2\nnode 40 2\nend 1 space 2\n",
         },
     ];
-    expect_on(alloc, &disk, &rows)?;
-    Ok(())
+    expect_on(alloc, &disk, &rows).expect(&rt, "the replies");
 }
 
 #[test]
-fn a_gap_is_a_segment_without_postings(rt: HostRuntime) -> Result<(), Fail> {
-    expect_on_new(
-        rt.alloc(),
-        Row {
-            script: b"arrive 1 10 1\nv\ndelete 1 20\narrive 1 30 1\nv\ndelete 1 40\nplan v guarantee 100/1\nfind 25 v\nfind 30 v\ncertificate v\n",
-            replies: b"ok 1\nok 2\nok 3\nok 4\nplan 5 segments 3 space 2 full 2 horizon 40\nend 0 read 0\nhit 1 1\nend 1 read 1\nsegment 10 20 1\nsegment 20 30 0\nsegment 30 40 1\nnode 10 0\nnode 20 1\nnode 30 1\nnode 40 2\nend 3 space 2\n",
-        },
-    )
-}
-
-#[test]
-fn a_plan_is_replaced_by_later_ones(rt: HostRuntime) -> Result<(), Fail> {
+fn a_gap_is_a_segment_without_postings(rt: HostRuntime) {
     let alloc = rt.alloc();
-    let disk = first_disk(alloc)?;
+    let rows = [Row {
+        script: b"arrive 1 10 1\nv\ndelete 1 20\narrive 1 30 1\nv\ndelete 1 40\nplan v guarantee 100/1\nfind 25 v\nfind 30 v\ncertificate v\n",
+        replies: b"ok 1\nok 2\nok 3\nok 4\nplan 5 segments 3 space 2 full 2 horizon 40\nend 0 read 0\nhit 1 1\nend 1 read 1\nsegment 10 20 1\nsegment 20 30 0\nsegment 30 40 1\nnode 10 0\nnode 20 1\nnode 30 1\nnode 40 2\nend 3 space 2\n",
+    }];
+    expect_on(alloc, &new_disk(alloc), &rows).expect(&rt, "the replies");
+}
+
+#[test]
+fn a_plan_is_replaced_by_later_ones(rt: HostRuntime) {
+    let alloc = rt.alloc();
+    let disk = first_disk(alloc).expect(&rt, "a disk");
     let rows = [
         Row {
             script: b"arrive 3 40 1\nv\nfind 39 v\nfind 40 v\ndelete 3 60\nplan v guarantee 1/1\nfind 45 v\n",
@@ -117,14 +105,13 @@ fn a_plan_is_replaced_by_later_ones(rt: HostRuntime) -> Result<(), Fail> {
             replies: b"segment 10 20 1\nsegment 20 30 2\nsegment 30 40 1\nsegment 40 60 1\nsegment 60 70 0\nnode 10 0\nnode 20 1\nnode 30 3\nnode 40 4\nnode 60 5\nnode 70 5\nend 5 space 5\nhit 1 1\nend 1 read 1\nhit 3 1\nend 1 read 1\nend 0 read 0\nhit 4 1\nend 1 read 1\nspan 1 25 40 1\nspan 2 25 30 1\nspan 3 40 60 1\nspan 4 70 71 1\nend 4 read 5\n",
         },
     ];
-    disk_after_all(alloc, disk, &rows)?;
-    Ok(())
+    disk_after_all(alloc, disk, &rows).expect(&rt, "the replies");
 }
 
 #[test]
-fn a_certificate_stays_as_it_was_while_documents_change(rt: HostRuntime) -> Result<(), Fail> {
+fn a_certificate_stays_as_it_was_while_documents_change(rt: HostRuntime) {
     let alloc = rt.alloc();
-    let disk = first_disk(alloc)?;
+    let disk = first_disk(alloc).expect(&rt, "a disk");
     let rows = [
         Row {
             script: b"arrive 3 40 1\nv\narrive 1 50 1\nv\ndelete 3 60\n",
@@ -135,13 +122,12 @@ fn a_certificate_stays_as_it_was_while_documents_change(rt: HostRuntime) -> Resu
             replies: FIRST_CERTIFICATE,
         },
     ];
-    disk_after_all(alloc, disk, &rows)?;
-    Ok(())
+    disk_after_all(alloc, disk, &rows).expect(&rt, "the replies");
 }
 
 // Document 1 has the word in [10, ..), and the plan's list is clipped at its horizon.
 #[test]
-fn what_is_open_at_the_horizon_goes_on(rt: HostRuntime) -> Result<(), Fail> {
+fn what_is_open_at_the_horizon_goes_on(rt: HostRuntime) {
     let alloc = rt.alloc();
     let rows = [
         Row {
@@ -158,12 +144,11 @@ fn what_is_open_at_the_horizon_goes_on(rt: HostRuntime) -> Result<(), Fail> {
             replies: b"segment 10 20 1\nnode 10 0\nnode 20 1\nend 1 space 1\nok 4\nplan 5 segments 1 space 1 full 1 horizon 30\nsegment 10 30 1\nnode 10 0\nnode 30 1\nend 1 space 1\n",
         },
     ];
-    disk_after_all(alloc, new_disk(alloc), &rows)?;
-    Ok(())
+    disk_after_all(alloc, new_disk(alloc), &rows).expect(&rt, "the replies");
 }
 
 #[test]
-fn each_word_has_a_plan_of_its_own(rt: HostRuntime) -> Result<(), Fail> {
+fn each_word_has_a_plan_of_its_own(rt: HostRuntime) {
     let alloc = rt.alloc();
     let rows = [
         Row {
@@ -175,13 +160,12 @@ fn each_word_has_a_plan_of_its_own(rt: HostRuntime) -> Result<(), Fail> {
             replies: b"segment 10 30 1\nnode 10 0\nnode 30 1\nend 1 space 1\nsegment 10 30 2\nnode 10 0\nnode 20 1\nnode 30 2\nend 1 space 2\nhit 1 1\nend 1 read 1\nhit 1 1\nhit 2 1\nend 2 read 2\nhit 1 2\nend 1 read 3\n",
         },
     ];
-    disk_after_all(alloc, new_disk(alloc), &rows)?;
-    Ok(())
+    disk_after_all(alloc, new_disk(alloc), &rows).expect(&rt, "the replies");
 }
 
 // The same in one run, and each change in a run of its own.
 #[test]
-fn runs_may_end_between_any_two_commands(rt: HostRuntime) -> Result<(), Fail> {
+fn runs_may_end_between_any_two_commands(rt: HostRuntime) {
     let alloc = rt.alloc();
     let rows = [
         FOUR_CHANGES,
@@ -211,6 +195,5 @@ fn runs_may_end_between_any_two_commands(rt: HostRuntime) -> Result<(), Fail> {
             replies: b"plan 11 segments 5 space 5 full 3 horizon 70\nhit 1 1\nend 1 read 1\n",
         },
     ];
-    disk_after_all(alloc, new_disk(alloc), &rows)?;
-    Ok(())
+    disk_after_all(alloc, new_disk(alloc), &rows).expect(&rt, "the replies");
 }

@@ -9,7 +9,6 @@ use machine_mem::{MemMachine, Tail};
 use machine_model::Image;
 use std::alloc::Global;
 use std::process::Abort;
-use std::test::Fail;
 
 /// Ten changes, three of them plans, and questions among them.
 const MIXED: Row<'static> = Row {
@@ -44,17 +43,20 @@ const ANSWERS: [&[u8]; 11] = [
 ];
 
 /// How many of the changes a disk has: its run answers as the history of so many.
-fn changes_on(rt: &impl Abort, alloc: Global, disk: Image) -> Result<u64, Fail> {
-    let mut machine = machine_on(alloc, QUESTIONS, disk, &[])?;
-    assert_eq!(rt; run_on(alloc, &mut machine)?, Status::Done);
+fn changes_on(rt: &impl Abort, alloc: Global, disk: Image) -> u64 {
+    let mut machine = machine_on(alloc, QUESTIONS, disk, &[]).expect(rt, "a machine");
+    assert_eq!(rt;
+        run_on(alloc, &mut machine).expect(rt, "a run"),
+        Status::Done
+    );
     let mut changes = 0u64;
     for answers in ANSWERS {
         if machine.shown() == answers {
-            return Ok(changes);
+            return changes;
         }
         changes = changes.saturating_add(1);
     }
-    Err(Fail::from("no history of the script answers so"))
+    panic!(rt; "no history of the script answers so")
 }
 
 /// How many changes are acknowledged by what is shown: each by a whole line that tells the number of entries.
@@ -81,33 +83,30 @@ fn images_at(
     alloc: Global,
     machine: &MemMachine,
     moment: usize,
-) -> Result<(Vec<Image>, u64), Fail> {
+) -> (Vec<Image>, u64) {
     let mut images = Vec::new(alloc);
     let mut least = 0;
     for fill in FILLS {
         for extra in EXTRAS {
-            let picked = pick_image(alloc, machine, moment, Tail { extra, fill })?;
+            let picked = pick_image(alloc, machine, moment, Tail { extra, fill }).expect(
+                rt, "an image",
+            );
             assert!(rt; picked.shown <= machine.shown().len());
             least = acknowledged(&machine.shown()[..picked.shown]);
-            images.push(picked.image)?;
+            images.push(picked.image).expect(rt, "memory");
         }
     }
-    Ok((images, least))
+    (images, least)
 }
 
 /// Each image that a stop may leave of a script's run has the changes that were acknowledged, or one more. The
 /// run has so many moments.
-fn expect_acknowledged(
-    rt: &impl Abort,
-    alloc: Global,
-    row: &Row<'_>,
-    moments: usize,
-) -> Result<(), Fail> {
-    let machine = machine_after(alloc, new_disk(alloc), row)?;
+fn expect_acknowledged(rt: &impl Abort, alloc: Global, row: &Row<'_>, moments: usize) {
+    let machine = machine_after(alloc, new_disk(alloc), row).expect(rt, "the replies");
     assert_eq!(rt; machine.moments(), moments);
     let mut least = 0;
     for moment in 0..moments {
-        let (images, shown) = images_at(rt, alloc, &machine, moment)?;
+        let (images, shown) = images_at(rt, alloc, &machine, moment);
         least = shown;
         let most = if least < 10 {
             least.saturating_add(1)
@@ -115,7 +114,7 @@ fn expect_acknowledged(
             10
         };
         for image in images {
-            let changes = changes_on(rt, alloc, image)?;
+            let changes = changes_on(rt, alloc, image);
             assert!(rt;
                 least <= changes && changes <= most,
                 "{changes} after {least} at {moment}"
@@ -123,63 +122,56 @@ fn expect_acknowledged(
         }
     }
     assert_eq!(rt; least, 10);
-    Ok(())
 }
 
 // The load makes three calls, and each command shows its reply. A change of a document makes four calls more; a
 // plan one for each sublist that has bytes, a sync, and the same four.
 #[test]
-fn a_stop_leaves_what_was_acknowledged_or_one_change_more(rt: HostRuntime) -> Result<(), Fail> {
-    expect_acknowledged(&rt, rt.alloc(), &MIXED, 76)
+fn a_stop_leaves_what_was_acknowledged_or_one_change_more(rt: HostRuntime) {
+    expect_acknowledged(&rt, rt.alloc(), &MIXED, 76);
 }
 
 // There are five questions more.
 #[test]
-fn a_stop_leaves_no_less_where_pages_are_kept(rt: HostRuntime) -> Result<(), Fail> {
-    expect_acknowledged(&rt, rt.alloc(), &WARMED, 81)
+fn a_stop_leaves_no_less_where_pages_are_kept(rt: HostRuntime) {
+    expect_acknowledged(&rt, rt.alloc(), &WARMED, 81);
 }
 
 #[test]
-fn a_stop_inside_the_load_that_follows_leaves_the_same_changes(
-    rt: HostRuntime,
-) -> Result<(), Fail> {
+fn a_stop_inside_the_load_that_follows_leaves_the_same_changes(rt: HostRuntime) {
     let alloc = rt.alloc();
-    let machine = machine_after(alloc, new_disk(alloc), &MIXED)?;
-    for image in whole_images(alloc, &machine)? {
-        let (archive, second) = load_image(alloc, image)?;
-        expect_same(&rt, alloc, &second, archive.length())?;
+    let machine = machine_after(alloc, new_disk(alloc), &MIXED).expect(&rt, "the replies");
+    for image in whole_images(alloc, &machine).expect(&rt, "the images") {
+        let (archive, second) = load_image(alloc, image).expect(&rt, "an archive");
+        expect_same(&rt, alloc, &second, archive.length());
     }
-    Ok(())
 }
 
 /// Each image that a stop may leave of this load has so many changes, and answers as they do.
-fn expect_same(
-    rt: &impl Abort,
-    alloc: Global,
-    machine: &MemMachine,
-    changes: u64,
-) -> Result<(), Fail> {
-    for image in whole_images(alloc, machine)? {
-        assert_eq!(rt; changes_on(rt, alloc, image)?, changes);
+fn expect_same(rt: &impl Abort, alloc: Global, machine: &MemMachine, changes: u64) {
+    for image in whole_images(alloc, machine).expect(rt, "the images") {
+        assert_eq!(rt; changes_on(rt, alloc, image), changes);
     }
-    Ok(())
 }
 
 // The load syncs. The three sublists are written and synced, and then the entry is appended: it is
 // written behind the closed gate and synced, and the gate is opened and synced. At last the reply is shown.
 #[test]
-fn an_entry_is_there_when_its_gate_is_open_and_its_sublists_stay(
-    rt: HostRuntime,
-) -> Result<(), Fail> {
+fn an_entry_is_there_when_its_gate_is_open_and_its_sublists_stay(rt: HostRuntime) {
     let alloc = rt.alloc();
-    let disk = disk_after(alloc, &new_disk(alloc), &FOUR_CHANGES)?;
-    let mut machine = machine_on(alloc, b"plan v guarantee 1/1\n", disk, &[])?;
-    assert_eq!(rt; run_on(alloc, &mut machine)?, Status::Done);
+    let disk = disk_after(alloc, &new_disk(alloc), &FOUR_CHANGES).expect(&rt, "the replies");
+    let mut machine = machine_on(alloc, b"plan v guarantee 1/1\n", disk, &[]).expect(
+        &rt,
+        "a machine",
+    );
+    assert_eq!(rt;
+        run_on(alloc, &mut machine).expect(&rt, "a run"),
+        Status::Done
+    );
     assert_eq!(rt; machine.moments(), 11);
     for (moments, least, most) in [(0..8, 4, 4), (8..9, 4, 5), (9..11, 5, 5)] {
         for moment in moments {
-            expect_entries(alloc, &machine, moment, least, most)?;
+            expect_entries(alloc, &machine, moment, least, most).expect(&rt, "the entries");
         }
     }
-    Ok(())
 }

@@ -1,9 +1,8 @@
 //! What is found over a window of time.
 use archive_rig::{Row, expect_rows};
-use std::test::Fail;
 
 #[test]
-fn what_is_found_over_a_window_is_its_longest_spans_there(rt: HostRuntime) -> Result<(), Fail> {
+fn what_is_found_over_a_window_is_its_longest_spans_there(rt: HostRuntime) {
     let rows = [
         Row {
             script: b"arrive 1 10 1\nv\narrive 2 20 1\nv\ndelete 2 30\ndelete 1 40\nbetween 15 35 v\nbetween 30 41 v\nbetween 41 30 v\nbetween 30 30 v\nbetween 10 20 red or\n",
@@ -30,12 +29,11 @@ fn what_is_found_over_a_window_is_its_longest_spans_there(rt: HostRuntime) -> Re
             replies: b"ok 1\nspan 7 10 1099511627775 1\nend 1 read 1\nspan 7 1099511627774 1099511627775 1\nend 1 read 1\nno 1 Line\nspan 7 10 86400 1\nend 1 read 1\n",
         },
     ];
-    expect_rows(rt.alloc(), b"", &rows)?;
-    Ok(())
+    expect_rows(rt.alloc(), b"", &rows).expect(&rt, "the replies");
 }
 
 #[test]
-fn a_whole_query_may_be_asked_over_a_window(rt: HostRuntime) -> Result<(), Fail> {
+fn a_whole_query_may_be_asked_over_a_window(rt: HostRuntime) {
     let rows = [
         // by document, and then by start
         Row {
@@ -48,6 +46,5 @@ fn a_whole_query_may_be_asked_over_a_window(rt: HostRuntime) -> Result<(), Fail>
             replies: b"ok 1\nok 2\nok 3\nok 4\nspan 1 10 30 0\nspan 2 40 50 0\nend 2 read 1\nspan 1 10 30 1\nend 1 read 2\nspan 1 10 30 1\nspan 2 20 40 1\nend 2 read 2\nspan 2 20 40 0\nend 1 read 1\n",
         },
     ];
-    expect_rows(rt.alloc(), b"", &rows)?;
-    Ok(())
+    expect_rows(rt.alloc(), b"", &rows).expect(&rt, "the replies");
 }

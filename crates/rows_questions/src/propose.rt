@@ -3,11 +3,11 @@ ghost use Rattle.std.specs.Prelude.{◌≤◌, ◌^◌};
 
 use archive_rig::{Row, expect_rows};
 use itoa::Buffer;
-use std::alloc::{AllocError, Global};
-use std::test::Fail;
+use std::alloc::Global;
+use std::process::Abort;
 
 #[test]
-fn a_least_plan_is_shown_and_nothing_is_stored(rt: HostRuntime) -> Result<(), Fail> {
+fn a_least_plan_is_shown_and_nothing_is_stored(rt: HostRuntime) {
     let rows = [
         // documents 1 and 2 have the word in [10, 20), 3 and 4 in [20, 50), and 5 in [30, 50)
         Row {
@@ -29,12 +29,11 @@ fn a_least_plan_is_shown_and_nothing_is_stored(rt: HostRuntime) -> Result<(), Fa
             replies: b"ok 1\nok 2\nsegment 10 20 1\nnode 10 0\nnode 20 1\nend 1 space 1\n",
         },
     ];
-    expect_rows(rt.alloc(), b"", &rows)?;
-    Ok(())
+    expect_rows(rt.alloc(), b"", &rows).expect(&rt, "the replies");
 }
 
 #[test]
-fn what_can_not_be_planned_is_refused_in_order(rt: HostRuntime) -> Result<(), Fail> {
+fn what_can_not_be_planned_is_refused_in_order(rt: HostRuntime) {
     let rows = [
         Row {
             script: b"propose v guarantee 1/1\npropose e-mail guarantee 1/1\npropose v guarantee 1/2\n",
@@ -55,59 +54,60 @@ fn what_can_not_be_planned_is_refused_in_order(rt: HostRuntime) -> Result<(), Fa
             replies: b"ok 1\nno 3 SameTime\nok 2\nok 3\nok 4\nsegment 10 30 1\nsegment 30 40 0\nnode 10 0\nnode 30 1\nnode 40 1\nend 2 space 1\nno 8 NothingSealed\n",
         },
     ];
-    expect_rows(rt.alloc(), b"", &rows)?;
-    Ok(())
+    expect_rows(rt.alloc(), b"", &rows).expect(&rt, "the replies");
 }
 
 /// Puts a number behind a text.
-fn put(text: &mut Vec<u8>, name: &str, number: u64) -> Result<(), AllocError> {
-    text.extend_from_slice(name.as_bytes())?;
+fn put(rt: &impl Abort, text: &mut Vec<u8>, name: &str, number: u64) {
+    text.extend_from_slice(name.as_bytes()).expect(rt, "memory");
     let mut buffer = Buffer::new();
     text.extend_from_slice(buffer.format(number).as_bytes())
+        .expect(rt, "memory");
 }
 
 /// One document that has the word in [2i, 2i + 1) so many times, and what is proposed for it with the
 /// factor 1: each elementary interval, and up to each boundary as many postings as began before it.
-fn lives(alloc: Global, times: u64) -> Result<(Vec<u8>, Vec<u8>), AllocError>
+fn lives(rt: &impl Abort, alloc: Global, times: u64) -> (Vec<u8>, Vec<u8>)
     requires some { 1 ≤ times }
     requires few { times ≤ 2 ^ 20 }
 {
     let mut script = Vec::new(alloc);
     let mut replies = Vec::new(alloc);
     for i in 0..times {
-        put(&mut script, "arrive 1 ", 2 * i)?;
-        put(&mut script, " 1\nv\ndelete 1 ", 2 * i + 1)?;
-        script.push(b'\n')?;
-        put(&mut replies, "ok ", 2 * i + 1)?;
-        put(&mut replies, "\nok ", 2 * i + 2)?;
-        replies.push(b'\n')?;
+        put(rt, &mut script, "arrive 1 ", 2 * i);
+        put(rt, &mut script, " 1\nv\ndelete 1 ", 2 * i + 1);
+        script.push(b'\n').expect(rt, "memory");
+        put(rt, &mut replies, "ok ", 2 * i + 1);
+        put(rt, &mut replies, "\nok ", 2 * i + 2);
+        replies.push(b'\n').expect(rt, "memory");
     }
-    script.extend_from_slice(b"propose v guarantee 1/1\n")?;
+    script
+        .extend_from_slice(b"propose v guarantee 1/1\n")
+        .expect(rt, "memory");
     for t in 1..2 * times {
-        put(&mut replies, "segment ", t - 1)?;
-        put(&mut replies, " ", t)?;
-        put(&mut replies, " ", t % 2)?;
-        replies.push(b'\n')?;
+        put(rt, &mut replies, "segment ", t - 1);
+        put(rt, &mut replies, " ", t);
+        put(rt, &mut replies, " ", t % 2);
+        replies.push(b'\n').expect(rt, "memory");
     }
     for t in 0..2 * times {
-        put(&mut replies, "node ", t)?;
-        put(&mut replies, " ", t.div_ceil(2))?;
-        replies.push(b'\n')?;
+        put(rt, &mut replies, "node ", t);
+        put(rt, &mut replies, " ", t.div_ceil(2));
+        replies.push(b'\n').expect(rt, "memory");
     }
-    put(&mut replies, "end ", 2 * times - 1)?;
-    put(&mut replies, " space ", times)?;
-    replies.push(b'\n')?;
-    Ok((script, replies))
+    put(rt, &mut replies, "end ", 2 * times - 1);
+    put(rt, &mut replies, " space ", times);
+    replies.push(b'\n').expect(rt, "memory");
+    (script, replies)
 }
 
 #[test]
-fn a_plan_may_have_thousands_of_segments(rt: HostRuntime) -> Result<(), Fail> {
+fn a_plan_may_have_thousands_of_segments(rt: HostRuntime) {
     let alloc = rt.alloc();
-    let (script, replies) = lives(alloc, 2049)?;
+    let (script, replies) = lives(&rt, alloc, 2049);
     let rows = [Row {
         script: &script,
         replies: &replies,
     }];
-    expect_rows(alloc, b"", &rows)?;
-    Ok(())
+    expect_rows(alloc, b"", &rows).expect(&rt, "the replies");
 }

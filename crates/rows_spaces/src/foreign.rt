@@ -7,19 +7,18 @@ use archive_rig::{
 };
 use archive_shell::Status;
 use std::alloc::Global;
-use std::test::Fail;
+use std::process::Abort;
 
 /// A disk with the four changes and this plan is no archive's, which shows at the plan's gate.
-fn expect_refused(alloc: Global, plan: &Plan<'_>) -> Result<(), Fail> {
-    let disk = disk_with(alloc, plan)?;
-    expect_status(alloc, disk, Status::NotArchive { at: FOUR_END })?;
-    Ok(())
+fn expect_refused(rt: &impl Abort, alloc: Global, plan: &Plan<'_>) {
+    let disk = disk_with(alloc, plan).expect(rt, "a disk");
+    expect_status(alloc, disk, Status::NotArchive { at: FOUR_END }).expect(rt, "the status");
 }
 
 /// A disk with the four changes and this plan is an archive's, which answers the questions so, and has no
 /// certificate.
-fn expect_taken(alloc: Global, plan: &Plan<'_>, answers: &[u8]) -> Result<(), Fail> {
-    let disk = disk_with(alloc, plan)?;
+fn expect_taken(rt: &impl Abort, alloc: Global, plan: &Plan<'_>, answers: &[u8]) {
+    let disk = disk_with(alloc, plan).expect(rt, "a disk");
     let rows = [
         Row {
             script: QUESTIONS,
@@ -30,15 +29,12 @@ fn expect_taken(alloc: Global, plan: &Plan<'_>, answers: &[u8]) -> Result<(), Fa
             replies: b"no 14 NoPlan\n",
         },
     ];
-    expect_on(alloc, &disk, &rows)?;
-    Ok(())
+    expect_on(alloc, &disk, &rows).expect(rt, "the replies");
 }
 
 // Three segments take 4 postings, two take 3, and one takes 2. The bound is the factor times 2, rounded down.
 #[test]
-fn a_plan_above_its_bound_is_refused_and_at_its_bound_it_is_taken(
-    rt: HostRuntime,
-) -> Result<(), Fail> {
+fn a_plan_above_its_bound_is_refused_and_at_its_bound_it_is_taken(rt: HostRuntime) {
     let alloc = rt.alloc();
     let three = first_segments();
     let two = [
@@ -48,29 +44,28 @@ fn a_plan_above_its_bound_is_refused_and_at_its_bound_it_is_taken(
     let one = [segment_at(10, 0, LIVES_OF_1_AND_2)];
     for kind in [UNIFORM, SINCE_30] {
         for (over, under) in [(1, 1), (3, 2), (7, 4), (999_999, 500_000)] {
-            expect_refused(alloc, &plan_of(kind, over, under, &three))?;
+            expect_refused(&rt, alloc, &plan_of(kind, over, under, &three));
         }
         for (over, under) in [(2, 1), (9, 4), (4_294_967_295, 1)] {
-            expect_taken(alloc, &plan_of(kind, over, under, &three), BY_THREE)?;
+            expect_taken(&rt, alloc, &plan_of(kind, over, under, &three), BY_THREE);
         }
         for (over, under) in [(1, 1), (4, 3), (4_294_967_295, 4_294_967_295)] {
-            expect_refused(alloc, &plan_of(kind, over, under, &two))?;
+            expect_refused(&rt, alloc, &plan_of(kind, over, under, &two));
         }
         for (over, under) in [(3, 2), (5, 3)] {
-            expect_taken(alloc, &plan_of(kind, over, under, &two), BY_TWO)?;
+            expect_taken(&rt, alloc, &plan_of(kind, over, under, &two), BY_TWO);
         }
-        expect_taken(alloc, &plan_of(kind, 1, 1, &one), BY_ONE)?;
+        expect_taken(&rt, alloc, &plan_of(kind, 1, 1, &one), BY_ONE);
     }
-    Ok(())
 }
 
 // It need not be best, nor cut at boundaries. Of the first, [10, 15) has 1 posting and [15, 40) has 2; of the second,
 // [10, 25) and [25, 40) have 2 each.
 #[test]
-fn a_plan_that_keeps_its_bound_may_cut_anywhere(rt: HostRuntime) -> Result<(), Fail> {
+fn a_plan_that_keeps_its_bound_may_cut_anywhere(rt: HostRuntime) {
     let alloc = rt.alloc();
     let one = [segment_at(10, 0, LIVES_OF_1_AND_2)];
-    expect_taken(alloc, &plan_of(UNIFORM, 4, 1, &one), BY_ONE)?;
+    expect_taken(&rt, alloc, &plan_of(UNIFORM, 4, 1, &one), BY_ONE);
     let early = [
         segment_at(10, 0, LIFE_OF_1),
         segment_at(15, 1, LIVES_OF_1_AND_2),
@@ -90,21 +85,19 @@ fn a_plan_that_keeps_its_bound_may_cut_anywhere(rt: HostRuntime) -> Result<(), F
             b"hit 1 1\nend 1 read 2\nhit 1 1\nend 1 read 2\nhit 1 1\nhit 2 1\nend 2 read 2\nhit 1 1\nend 1 read 2\nspan 1 14 16 1\nend 1 read 2\n".as_slice(),
         ),
     ] {
-        let disk = disk_with(alloc, &plan)?;
+        let disk = disk_with(alloc, &plan).expect(&rt, "a disk");
         let rows = [Row {
             script: questions,
             replies: answers,
         }];
-        expect_on(alloc, &disk, &rows)?;
+        expect_on(alloc, &disk, &rows).expect(&rt, "the replies");
     }
-    expect_refused(alloc, &plan_of(SINCE_30, 1, 1, &early))?;
-    expect_refused(alloc, &plan_of(UNIFORM, 3, 2, &middle))
+    expect_refused(&rt, alloc, &plan_of(SINCE_30, 1, 1, &early));
+    expect_refused(&rt, alloc, &plan_of(UNIFORM, 3, 2, &middle));
 }
 
 #[test]
-fn a_plan_that_is_not_of_its_words_list_is_refused_at_its_gate(
-    rt: HostRuntime,
-) -> Result<(), Fail> {
+fn a_plan_that_is_not_of_its_words_list_is_refused_at_its_gate(rt: HostRuntime) {
     let alloc = rt.alloc();
     let whole = [segment_at(10, 0, LIVES_OF_1_AND_2)];
     // below the first boundary, above it, and at the second one
@@ -132,39 +125,39 @@ fn a_plan_that_is_not_of_its_words_list_is_refused_at_its_gate(
             Plan { word: b"w", ..plan },
             Plan { word: b"V", ..plan },
         ] {
-            expect_refused(alloc, &refused)?;
+            expect_refused(&rt, alloc, &refused);
         }
-        expect_taken(alloc, &plan, BY_ONE)?;
+        expect_taken(&rt, alloc, &plan, BY_ONE);
     }
-    Ok(())
 }
 
 #[test]
-fn a_plan_of_a_kind_that_none_has_is_refused_at_that_field(rt: HostRuntime) -> Result<(), Fail> {
+fn a_plan_of_a_kind_that_none_has_is_refused_at_that_field(rt: HostRuntime) {
     let alloc = rt.alloc();
     let whole = [segment_at(10, 0, LIVES_OF_1_AND_2)];
     for kind in [b"\x00", b"\x04", b"\xff"] {
-        let disk = disk_with(alloc, &plan_of(kind, 4, 1, &whole))?;
-        expect_status(alloc, disk, Status::NotArchive { at: FOUR_END + 7 })?;
+        let disk = disk_with(alloc, &plan_of(kind, 4, 1, &whole)).expect(&rt, "a disk");
+        expect_status(alloc, disk, Status::NotArchive { at: FOUR_END + 7 }).expect(
+            &rt,
+            "the status",
+        );
     }
-    Ok(())
 }
 
 // The one place needs 22 bytes.
 #[test]
-fn pages_that_are_cut_are_refused_at_the_gate_of_the_plan(rt: HostRuntime) -> Result<(), Fail> {
+fn pages_that_are_cut_are_refused_at_the_gate_of_the_plan(rt: HostRuntime) {
     let alloc = rt.alloc();
     let whole = [segment_at(10, 0, LIVES_OF_1_AND_2)];
-    let mut disk = disk_with(alloc, &plan_of(UNIFORM, 1, 1, &whole))?;
+    let mut disk = disk_with(alloc, &plan_of(UNIFORM, 1, 1, &whole)).expect(&rt, "a disk");
     assert_eq!(rt; disk.pages.len(), 22);
     disk.pages.truncate(21);
-    expect_status(alloc, disk, Status::NotArchive { at: FOUR_END })?;
-    Ok(())
+    expect_status(alloc, disk, Status::NotArchive { at: FOUR_END }).expect(&rt, "the status");
 }
 
 // The list is clipped at the plan's horizon, and what is behind it is read as it is without a plan.
 #[test]
-fn a_horizon_may_lie_before_the_last_time(rt: HostRuntime) -> Result<(), Fail> {
+fn a_horizon_may_lie_before_the_last_time(rt: HostRuntime) {
     let alloc = rt.alloc();
     let clipped = [segment_at(10, 0, CLIPPED_LIVES)];
     let plan = Plan {
@@ -175,6 +168,8 @@ fn a_horizon_may_lie_before_the_last_time(rt: HostRuntime) -> Result<(), Fail> {
         script: b"find 15 v\nfind 25 v\nfind 35 v\nbetween 15 41 v\nplan v space 1/1 uniform\n",
         replies: b"hit 1 1\nend 1 read 2\nhit 1 1\nhit 2 1\nend 2 read 2\nhit 1 1\nend 1 read 1\nspan 1 15 40 1\nspan 2 20 30 1\nend 2 read 3\nplan 6 segments 1 space 2 full 2 horizon 40 cost 60\n",
     }];
-    expect_on(alloc, &disk_with(alloc, &plan)?, &rows)?;
-    Ok(())
+    expect_on(alloc, &disk_with(alloc, &plan).expect(&rt, "a disk"), &rows).expect(
+        &rt,
+        "the replies",
+    );
 }

@@ -2,22 +2,21 @@
 use crate::plans::{four_disk, plan_of};
 use archive_rig::{
     FOUR_RECORDS, GAP_CHANGES, GAP_RECORDS, GUARANTEE, LIFE_OF_1, LIVES_OF_1_AND_2, Plan, Row,
-    SINCE_30, UNIFORM, disk_after, disk_after_all, expect_left, first_segments, gap_segments, join,
+    SINCE_30, UNIFORM, disk_after, disk_after_all, expect_left, first_segments, gap_segments,
     new_disk, plan_record, segment_at,
 };
 use std::alloc::Global;
-use std::test::Fail;
+use std::process::Abort;
 
 /// A plan behind the four changes has its reply, and leaves this entry and its sublists.
-fn expect_entry(alloc: Global, row: &Row<'_>, plan: &Plan<'_>) -> Result<(), Fail> {
-    let disk = disk_after(alloc, &four_disk(alloc)?, row)?;
-    let record = plan_record(alloc, plan)?;
-    expect_left(alloc, &disk, &[FOUR_RECORDS, &record], plan.segments)?;
-    Ok(())
+fn expect_entry(rt: &impl Abort, alloc: Global, row: &Row<'_>, plan: &Plan<'_>) {
+    let disk = disk_after(alloc, &four_disk(rt, alloc), row).expect(rt, "the replies");
+    let record = plan_record(alloc, plan).expect(rt, "memory");
+    expect_left(alloc, &disk, &[FOUR_RECORDS, &record], plan.segments).expect(rt, "the disk");
 }
 
 #[test]
-fn a_plan_is_an_entry_with_its_kind_and_factor(rt: HostRuntime) -> Result<(), Fail> {
+fn a_plan_is_an_entry_with_its_kind_and_factor(rt: HostRuntime) {
     let alloc = rt.alloc();
     let one = [segment_at(10, 0, LIVES_OF_1_AND_2)];
     let two = [
@@ -56,23 +55,24 @@ fn a_plan_is_an_entry_with_its_kind_and_factor(rt: HostRuntime) -> Result<(), Fa
             plan_of(UNIFORM, 4, 2, &three),
         ),
     ] {
-        expect_entry(alloc, &row, &plan)?;
+        expect_entry(&rt, alloc, &row, &plan);
     }
-    Ok(())
 }
 
 #[test]
-fn a_gap_has_no_bytes_and_the_digest_of_nothing(rt: HostRuntime) -> Result<(), Fail> {
+fn a_gap_has_no_bytes_and_the_digest_of_nothing(rt: HostRuntime) {
     let alloc = rt.alloc();
     let row = Row {
         script: b"plan v space 1/1 uniform\n",
         replies: b"plan 5 segments 3 space 2 full 2 horizon 40 cost 20\n",
     };
-    let disk = disk_after_all(alloc, new_disk(alloc), &[GAP_CHANGES, row])?;
+    let disk = disk_after_all(alloc, new_disk(alloc), &[GAP_CHANGES, row]).expect(
+        &rt,
+        "the replies",
+    );
     let segments = gap_segments();
-    let record = plan_record(alloc, &plan_of(UNIFORM, 1, 1, &segments))?;
-    expect_left(alloc, &disk, &[GAP_RECORDS, &record], &segments)?;
-    Ok(())
+    let record = plan_record(alloc, &plan_of(UNIFORM, 1, 1, &segments)).expect(&rt, "memory");
+    expect_left(alloc, &disk, &[GAP_RECORDS, &record], &segments).expect(&rt, "the disk");
 }
 
 /// Plans behind the four changes, each in the place of the one before it.
@@ -101,7 +101,7 @@ const FIVE_PLANS: [Row<'static>; 5] = [
 
 // A plan lives while the next one is written, and its pages are free behind that one.
 #[test]
-fn the_pages_of_a_plan_of_another_kind_are_free_again(rt: HostRuntime) -> Result<(), Fail> {
+fn the_pages_of_a_plan_of_another_kind_are_free_again(rt: HostRuntime) {
     let alloc = rt.alloc();
     let fifth = first_segments();
     let sixth = [segment_at(10, 3, LIVES_OF_1_AND_2)];
@@ -116,8 +116,8 @@ fn the_pages_of_a_plan_of_another_kind_are_free_again(rt: HostRuntime) -> Result
         segment_at(20, 4, LIVES_OF_1_AND_2),
         segment_at(30, 5, LIFE_OF_1),
     ];
-    let mut disk = four_disk(alloc)?;
-    let mut records = Vec::from_slice(alloc, FOUR_RECORDS)?;
+    let mut disk = four_disk(&rt, alloc);
+    let mut records = Vec::from_slice(alloc, FOUR_RECORDS).expect(&rt, "memory");
     for (row, plan) in FIVE_PLANS.into_iter().zip([
         plan_of(GUARANTEE, 1, 1, &fifth),
         plan_of(UNIFORM, 1, 1, &sixth),
@@ -125,30 +125,29 @@ fn the_pages_of_a_plan_of_another_kind_are_free_again(rt: HostRuntime) -> Result
         plan_of(UNIFORM, 2, 1, &eighth),
         plan_of(GUARANTEE, 1, 1, &ninth),
     ]) {
-        disk = disk_after(alloc, &disk, &row)?;
-        let record = plan_record(alloc, &plan)?;
-        records.extend_from_slice(&record)?;
-        expect_left(alloc, &disk, &[&records], plan.segments)?;
+        disk = disk_after(alloc, &disk, &row).expect(&rt, "the replies");
+        let record = plan_record(alloc, &plan).expect(&rt, "memory");
+        records.extend_from_slice(&record).expect(&rt, "memory");
+        expect_left(alloc, &disk, &[&records], plan.segments).expect(&rt, "the disk");
     }
     // and in one run
     let mut script = Vec::new(alloc);
     let mut replies = Vec::new(alloc);
     for row in FIVE_PLANS {
-        script.extend_from_slice(row.script)?;
-        replies.extend_from_slice(row.replies)?;
+        script.extend_from_slice(row.script).expect(&rt, "memory");
+        replies.extend_from_slice(row.replies).expect(&rt, "memory");
     }
     let row = Row {
         script: &script,
         replies: &replies,
     };
-    let left = disk_after(alloc, &four_disk(alloc)?, &row)?;
-    expect_left(alloc, &left, &[&records], &ninth)?;
-    Ok(())
+    let left = disk_after(alloc, &four_disk(&rt, alloc), &row).expect(&rt, "the replies");
+    expect_left(alloc, &left, &[&records], &ninth).expect(&rt, "the disk");
 }
 
 // What is left can be planned further.
 #[test]
-fn a_plan_in_the_place_of_its_like_takes_turns_with_it(rt: HostRuntime) -> Result<(), Fail> {
+fn a_plan_in_the_place_of_its_like_takes_turns_with_it(rt: HostRuntime) {
     let alloc = rt.alloc();
     let rows = [
         Row {
@@ -160,12 +159,17 @@ fn a_plan_in_the_place_of_its_like_takes_turns_with_it(rt: HostRuntime) -> Resul
             replies: b"plan 6 segments 1 space 2 full 2 horizon 40 cost 20\nplan 7 segments 1 space 2 full 2 horizon 40 cost 60\n",
         },
     ];
-    let disk = disk_after_all(alloc, four_disk(alloc)?, &rows)?;
+    let disk = disk_after_all(alloc, four_disk(&rt, alloc), &rows).expect(&rt, "the replies");
     let even = [segment_at(10, 0, LIVES_OF_1_AND_2)];
     let odd = [segment_at(10, 1, LIVES_OF_1_AND_2)];
-    let fifth = plan_record(alloc, &plan_of(UNIFORM, 1, 1, &even))?;
-    let sixth = plan_record(alloc, &plan_of(SINCE_30, 1, 1, &odd))?;
-    let records = join(alloc, &[FOUR_RECORDS, &fifth, &sixth, &fifth])?;
-    expect_left(alloc, &disk, &[&records], &even)?;
-    Ok(())
+    let mut records = Vec::from_slice(alloc, FOUR_RECORDS).expect(&rt, "memory");
+    for plan in [
+        plan_of(UNIFORM, 1, 1, &even),
+        plan_of(SINCE_30, 1, 1, &odd),
+        plan_of(UNIFORM, 1, 1, &even),
+    ] {
+        let record = plan_record(alloc, &plan).expect(&rt, "memory");
+        records.extend_from_slice(&record).expect(&rt, "memory");
+    }
+    expect_left(alloc, &disk, &[&records], &even).expect(&rt, "the disk");
 }

@@ -6,7 +6,7 @@
 use archive_rig::{BLOCKS, FOUR_CHANGES, Plan, Row, Segment, disk_after_all, new_disk};
 use machine_model::Image;
 use std::alloc::Global;
-use std::test::Fail;
+use std::process::Abort;
 
 /// What is asked of the word's list, before it, in it and behind it, at times and over windows.
 pub(crate) const QUESTIONS: &[u8] =
@@ -29,15 +29,13 @@ pub(crate) const BY_THREE: &[u8] =
     b"end 0 read 0\nhit 1 1\nend 1 read 1\nhit 1 1\nend 1 read 1\nhit 1 1\nhit 2 1\nend 2 read 2\nhit 1 1\nend 1 read 1\nend 0 read 0\nend 0 read 0\nspan 1 15 35 1\nspan 2 20 30 1\nend 2 read 4\nspan 1 30 40 1\nend 1 read 1\n";
 
 /// The disk after the four changes.
-pub(crate) fn four_disk(alloc: Global) -> Result<Image, Fail> {
-    let disk = disk_after_all(alloc, new_disk(alloc), &[FOUR_CHANGES])?;
-    Ok(disk)
+pub(crate) fn four_disk(rt: &impl Abort, alloc: Global) -> Image {
+    disk_after_all(alloc, new_disk(alloc), &[FOUR_CHANGES]).expect(rt, "the replies")
 }
 
 /// The disk after the four changes and a plan.
-pub(crate) fn planned_disk(alloc: Global, plan: Row<'_>) -> Result<Image, Fail> {
-    let disk = disk_after_all(alloc, new_disk(alloc), &[FOUR_CHANGES, plan])?;
-    Ok(disk)
+pub(crate) fn planned_disk(rt: &impl Abort, alloc: Global, plan: Row<'_>) -> Image {
+    disk_after_all(alloc, new_disk(alloc), &[FOUR_CHANGES, plan]).expect(rt, "the replies")
 }
 
 /// A plan up to the last time as an entry, in blocks.

@@ -4,7 +4,6 @@ use archive_shell::Status;
 use machine_mem::{CallKind, Fault};
 use std::alloc::Global;
 use std::process::Abort;
-use std::test::Fail;
 
 /// Three arrivals.
 const SCRIPT: &[u8] = b"arrive 7 20 4\nblue\narrive 8 20 0\n\narrive 7 30 9\nred green\n";
@@ -28,22 +27,17 @@ fn status_of(call: CallKind) -> Status {
 
 /// Runs the script with a fault, and answers whether it came to its end. It shows a front of the
 /// replies, and each image at each moment has the entries of the replies shown then, or one more.
-fn ends_despite(
-    rt: &impl Abort,
-    alloc: Global,
-    start: &Start<'_>,
-    fault: Fault,
-) -> Result<bool, Fail> {
-    let mut machine = make_machine(alloc, SCRIPT, start.journal, &[fault])?;
-    let status = run_on(alloc, &mut machine)?;
+fn ends_despite(rt: &impl Abort, alloc: Global, start: &Start<'_>, fault: Fault) -> bool {
+    let mut machine = make_machine(alloc, SCRIPT, start.journal, &[fault]).expect(rt, "a machine");
+    let status = run_on(alloc, &mut machine).expect(rt, "a run");
     assert!(rt; start.replies.starts_with(machine.shown()), "{fault:?}");
-    expect_shown(alloc, &machine, start.entries)?;
+    expect_shown(alloc, &machine, start.entries).expect(rt, "the entries");
     if status == Status::Done {
         assert_eq!(rt; machine.shown(), start.replies, "{fault:?}");
-        return Ok(true);
+        return true;
     }
     assert_eq!(rt; status, status_of(fault.call), "{fault:?}");
-    Ok(false)
+    false
 }
 
 /// Lets each call of a kind fail in turn, and answers how many there are in the whole run.
@@ -53,13 +47,13 @@ fn fail_each(
     start: &Start<'_>,
     call: CallKind,
     landed: u64,
-) -> Result<u64, Fail> {
+) -> u64 {
     for nth in 1..100 {
-        if ends_despite(rt, alloc, start, Fault { call, nth, landed })? {
-            return Ok(nth - 1);
+        if ends_despite(rt, alloc, start, Fault { call, nth, landed }) {
+            return nth - 1;
         }
     }
-    Ok(100)
+    100
 }
 
 /// Lets each call of each kind fail in turn. In the whole run there are at least so
@@ -71,14 +65,14 @@ fn fail_all(
     reads: u64,
     writes: u64,
     syncs: u64,
-) -> Result<(), Fail> {
+) {
     // one pull gives the script, and one more its end
     for (call, least) in [
         (CallKind::Length, 1),
         (CallKind::Read, reads),
         (CallKind::Pull, 2),
     ] {
-        let calls = fail_each(rt, alloc, start, call, 0)?;
+        let calls = fail_each(rt, alloc, start, call, 0);
         assert!(rt; least <= calls && calls < 100, "{calls} of {call:?}");
     }
     for (call, landed, want) in [
@@ -88,30 +82,29 @@ fn fail_all(
         (CallKind::Sync, 0, syncs),
         (CallKind::Push, 0, 3),
     ] {
-        let calls = fail_each(rt, alloc, start, call, landed)?;
+        let calls = fail_each(rt, alloc, start, call, landed);
         assert_eq!(rt; calls, want, "{call:?}");
     }
-    Ok(())
 }
 
 // A new journal takes a write and two syncs, and each arrival two of each.
 #[test]
-fn each_call_fails_once_on_a_new_disk(rt: HostRuntime) -> Result<(), Fail> {
+fn each_call_fails_once_on_a_new_disk(rt: HostRuntime) {
     let start = Start {
         journal: b"",
         entries: 0,
         replies: b"ok 1\nok 2\nok 3\n",
     };
-    fail_all(&rt, rt.alloc(), &start, 0, 7, 8)
+    fail_all(&rt, rt.alloc(), &start, 0, 7, 8);
 }
 
 // An older journal is synced and read.
 #[test]
-fn each_call_fails_once_on_a_disk_with_an_entry(rt: HostRuntime) -> Result<(), Fail> {
+fn each_call_fails_once_on_a_disk_with_an_entry(rt: HostRuntime) {
     let start = Start {
         journal: FIRST_JOURNAL,
         entries: 1,
         replies: b"ok 2\nok 3\nok 4\n",
     };
-    fail_all(&rt, rt.alloc(), &start, 1, 6, 7)
+    fail_all(&rt, rt.alloc(), &start, 1, 6, 7);
 }

@@ -3,48 +3,43 @@ use archive_rig::{FIRST_JOURNAL, NEW_JOURNAL, count_on, join, make_machine, read
 use archive_shell::Status;
 use std::alloc::Global;
 use std::process::Abort;
-use std::test::Fail;
 
 /// Without a command the run has this status on this journal, shows nothing, and leaves this one.
-fn expect_run(
-    rt: &impl Abort,
-    alloc: Global,
-    journal: &[u8],
-    status: Status,
-    left: &[u8],
-) -> Result<(), Fail> {
-    let mut machine = make_machine(alloc, b"", journal, &[])?;
-    assert_eq!(rt; run_on(alloc, &mut machine)?, status, "{journal:?}");
+fn expect_run(rt: &impl Abort, alloc: Global, journal: &[u8], status: Status, left: &[u8]) {
+    let mut machine = make_machine(alloc, b"", journal, &[]).expect(rt, "a machine");
+    assert_eq!(rt;
+        run_on(alloc, &mut machine).expect(rt, "a run"),
+        status,
+        "{journal:?}"
+    );
     assert_eq!(rt; machine.shown(), b"".as_slice());
-    let bytes = read_journal(alloc, &mut machine)?;
+    let bytes = read_journal(alloc, &mut machine).expect(rt, "a journal");
     assert_eq!(rt; bytes.as_slice(), left, "{journal:?}");
-    Ok(())
 }
 
 /// The journal of the one arrival with another byte at a place.
-fn altered(alloc: Global, place: usize, byte: u8) -> Result<Vec<u8>, Fail> {
-    let mut journal = Vec::from_slice(alloc, FIRST_JOURNAL)?;
+fn altered(rt: &impl Abort, alloc: Global, place: usize, byte: u8) -> Vec<u8> {
+    let mut journal = Vec::from_slice(alloc, FIRST_JOURNAL).expect(rt, "memory");
     if place < journal.len() {
         journal[place] = byte;
     }
-    Ok(journal)
+    journal
 }
 
 #[test]
-fn another_header_is_refused_at_its_first_byte(rt: HostRuntime) -> Result<(), Fail> {
+fn another_header_is_refused_at_its_first_byte(rt: HostRuntime) {
     let alloc = rt.alloc();
     let stranger = b"xxxxxxxxxxxxxxxxxx";
-    expect_run(&rt, alloc, stranger, Status::NotArchive { at: 0 }, stranger)?;
+    expect_run(&rt, alloc, stranger, Status::NotArchive { at: 0 }, stranger);
     for place in 0..16 {
-        let journal = altered(alloc, place, b'?')?;
+        let journal = altered(&rt, alloc, place, b'?');
         let status = Status::NotArchive { at: place as u64 };
-        expect_run(&rt, alloc, &journal, status, &journal)?;
+        expect_run(&rt, alloc, &journal, status, &journal);
     }
-    Ok(())
 }
 
 #[test]
-fn an_altered_record_is_refused_at_its_place(rt: HostRuntime) -> Result<(), Fail> {
+fn an_altered_record_is_refused_at_its_place(rt: HostRuntime) {
     let alloc = rt.alloc();
     for (place, byte, at) in [
         (5, b'X', 5),
@@ -59,47 +54,45 @@ fn an_altered_record_is_refused_at_its_place(rt: HostRuntime) -> Result<(), Fail
         // no UTF-8
         (34, 0xff, 34),
     ] {
-        let journal = altered(alloc, place, byte)?;
-        expect_run(&rt, alloc, &journal, Status::NotArchive { at }, &journal)?;
+        let journal = altered(&rt, alloc, place, byte);
+        expect_run(&rt, alloc, &journal, Status::NotArchive { at }, &journal);
     }
-    Ok(())
 }
 
 #[test]
-fn a_closed_gate_ends_the_journal(rt: HostRuntime) -> Result<(), Fail> {
+fn a_closed_gate_ends_the_journal(rt: HostRuntime) {
     let alloc = rt.alloc();
     for byte in [0x00, 0xa4, 0xff] {
-        let journal = altered(alloc, 16, byte)?;
-        expect_run(&rt, alloc, &journal, Status::Done, &journal)?;
-        assert_eq!(rt; count_on(alloc, &journal)?, 0);
+        let journal = altered(&rt, alloc, 16, byte);
+        expect_run(&rt, alloc, &journal, Status::Done, &journal);
+        assert_eq!(rt; count_on(alloc, &journal).expect(&rt, "an archive"), 0);
     }
-    Ok(())
 }
 
 #[test]
-fn an_entry_that_may_not_come_is_refused_at_its_gate(rt: HostRuntime) -> Result<(), Fail> {
+fn an_entry_that_may_not_come_is_refused_at_its_gate(rt: HostRuntime) {
     let alloc = rt.alloc();
     let record = &FIRST_JOURNAL[16..39];
-    let journal = join(alloc, &[&FIRST_JOURNAL[..39], record, b"\x00"])?;
+    let journal = join(alloc, &[&FIRST_JOURNAL[..39], record, b"\x00"]).expect(&rt, "memory");
     expect_run(
         &rt,
         alloc,
         &journal,
         Status::NotArchive { at: 39 },
         &journal,
-    )
+    );
 }
 
 #[test]
-fn a_journal_cut_short_is_new_or_refused_at_its_gate(rt: HostRuntime) -> Result<(), Fail> {
+fn a_journal_cut_short_is_new_or_refused_at_its_gate(rt: HostRuntime) {
     let alloc = rt.alloc();
     for len in 0..FIRST_JOURNAL.len() {
         let journal = &FIRST_JOURNAL[..len];
         if len <= 17 {
-            expect_run(&rt, alloc, journal, Status::Done, NEW_JOURNAL)?;
+            expect_run(&rt, alloc, journal, Status::Done, NEW_JOURNAL);
         } else {
-            expect_run(&rt, alloc, journal, Status::NotArchive { at: 16 }, journal)?;
+            expect_run(&rt, alloc, journal, Status::NotArchive { at: 16 }, journal);
         }
     }
-    expect_run(&rt, alloc, b"xxxxxxxxxxxxxxxxx", Status::Done, NEW_JOURNAL)
+    expect_run(&rt, alloc, b"xxxxxxxxxxxxxxxxx", Status::Done, NEW_JOURNAL);
 }
