@@ -37,8 +37,8 @@ fn collected<R: Env + AllocGlobal>(rt: &R) -> io::Result<Vec<String>> {
     Ok(words)
 }
 
-/// Ends a program by its exit status. Where that isn't 0, a line on standard error tells why; where
-/// standard error fails too, the exit status still tells.
+/// Ends a program by its exit status. Where that isn't 0, a line on standard error tells why (tested);
+/// where standard error fails too, the exit status still tells.
 pub fn finish<R: Eprint, L: Display + Drop>(rt: &R, code: u8, line: L) -> ExitCode
     ensures { exit_status result ≡ code }
 {

@@ -18,7 +18,7 @@ fn main(rt: HostRuntime) -> ExitCode {
     ended(&rt, run_here(&rt))
 }
 
-/// The exit status of a status, whose line is printed unless it is `Done`.
+/// The exit status of a status, whose line is printed unless it is `Done` (tested).
 fn ended<R: Eprint>(rt: &R, status: Status) -> ExitCode
     ensures { exit_status result ≡ code_of status }
 {

@@ -17,7 +17,7 @@ fn main(rt: HostRuntime) -> ExitCode {
     ended(&rt, audit_here(&rt))
 }
 
-/// The exit status of a status, whose line is printed unless it is `Sound`.
+/// The exit status of a status, whose line is printed unless it is `Sound` (tested).
 fn ended<R: Eprint>(rt: &R, status: AuditStatus) -> ExitCode
     ensures { exit_status result ≡ code_of status }
 {
