@@ -1,5 +1,5 @@
 //! The bytes of a plan's segments, and those that should stand there.
-ghost use Rattle.std.specs.Prelude.{◌≡◌, ◌+◌, ◌<◌, ◌≤◌, ◌^◌, Some, None, length, map, All, IfOk, IfSome, IsErrOf, MatchOption};
+ghost use Rattle.std.specs.Prelude.{◌≡◌, ◌+◌, ◌<◌, ◌^◌, Some, None, length, map, All, IfOk, IfSome, IsErrOf, MatchOption};
 ghost use Rattle.machine_model.specs.Causes.{Rose};
 ghost use Rattle.machine_model.specs.Calls.{OnlyReads};
 ghost use Rattle.postings.specs.Lists.{IsList, sublist};
@@ -16,7 +16,7 @@ use crate::error::VerifyError;
 use machine_model::Disk;
 use record_codec::{Layout, Place};
 use std::alloc::Global;
-use sublist_store::{narrowed, part_or, sublist_bytes};
+use sublist_store::{narrowed, sublist_bytes};
 use time_base::{Posting, Time};
 
 /// A segment whose bytes differ, and where.
@@ -61,7 +61,7 @@ pub(crate) fn first_wrong<D: Disk>(
         };
     }
     let part = narrowed(alloc, list, cuts, end)?;
-    let list = part_or(&part, list);
+    let list = part.as_deref().unwrap_or(list);
     let (left, right) = cuts.split_at(half);
     let (one, other) = places.split_at(half);
     match first_wrong(alloc, disk, layout, list, left, one, cuts[half])? {

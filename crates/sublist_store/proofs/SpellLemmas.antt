@@ -1,9 +1,12 @@
 -- Spelling segments from the postings that overlap them all, and half by half.
-use Rattle.std.proofs.Common.{◌≡◌, ◌≤◌, ◌<◌, ℕ, ◌+◌, Bool, true, false, cond, List, [], ◌∷◌, ◌++◌, length, filter, take, drop, get_or, min, max, suc, add-one, All, refl, ap, sym, ◌∙◌, arith}
+use Rattle.std.proofs.Common.{◌≡◌, ◌≤◌, ◌<◌, ℕ, ◌+◌, Bool, true, false, cond, List, [], ◌∷◌, ◌++◌, length, filter, take, drop, get_or, min, max, All, Option, Some, None, IfSome, inl, inr, refl, ap, sym, subst, ◌∙◌, arith}
+use Rattle.std.specs.Prelude.{Contains}
+use Rattle.std.specs.Option.{option_map, unwrap_or}
 use Rattle.std.proofs.Math.Seq.{drop-cons}
+use Rattle.std.proofs.lemmas.Bool.{cases_lt}
 use Rattle.std.proofs.lemmas.Bool.Decides.{nat_tests}
-use Rattle.std.proofs.lemmas.List.{map-append, take-append-drop}
-use Rattle.std.proofs.lemmas.List.Elements.{All-nil, All-cons, All-head, All-tail}
+use Rattle.std.proofs.lemmas.List.{map-append, take-append-drop, take_more}
+use Rattle.std.proofs.lemmas.List.Elements.{All-head, All-push, All-tail, All-weaker, Contains-append_left, Contains-push}
 use Rattle.time_base.specs.declared.posting.Posting.{Posting}
 use Rattle.time_base.specs.declared.time.Time.{Time}
 use Rattle.record_codec.specs.declared.place.Layout.{Layout}
@@ -11,7 +14,7 @@ use Rattle.postings.specs.Lists.{IsList, meets, sublist}
 use Rattle.postings.proofs.Clipping.{sublist_list}
 use Rattle.sublist_store.specs.Layouts.{spelling_in}
 use Rattle.sublist_store.specs.Segments.{seconds, next_cut}
-use Rattle.sublist_store.specs.Preparing.{spellings, Serves, earliest, latest}
+use Rattle.sublist_store.specs.Preparing.{spellings, Serves, IsEarliest, IsLatest}
 
 -- ---- from a part of the list
 
@@ -28,47 +31,58 @@ filter_within P Q wider (p ∷ list) = go (Q p) refl (P p) refl (filter_within P
 meets_within : (f g a b : ℕ) (p : Posting) → f ≤ a → b ≤ g → meets a b p ≡ true → meets f g p ≡ true
 meets_within f g a b p x y m = grind (arith, nat_tests)
 
-abbrev pub AreWithin : ℕ → ℕ → List Time → Type 0
-AreWithin f g cuts = All (λ (c : Time). (f ≤ c.seconds) × (c.seconds ≤ g)) cuts
+-- ---- the earliest and the latest of some times, as one more comes
 
-earliest_first : (t : ℕ) (cuts : List ℕ) → earliest t cuts ≤ t
-earliest_first t [] = omega arith
-earliest_first t (f ∷ cuts) = omega (arith, earliest_first (min t f) cuts)
+pub earliest_push : (times : List ℕ) (f t : ℕ) → IsEarliest times f → IsEarliest (times ++ t ∷ []) (min f t)
+earliest_push times f t is = record {
+  one = elim (cases_lt f t) [
+    | inl lt ↦ subst (Contains (times ++ t ∷ [])) (omega (arith, lt)) (Contains-append_left times (t ∷ []) f is.one)
+    | inr ge ↦ subst (Contains (times ++ t ∷ [])) (omega (arith, ge)) (Contains-push times t)
+  ];
+  least = All-push (λ s. min f t ≤ s) times t (All-weaker (λ s. f ≤ s) (λ s. min f t ≤ s) (λ s le. omega (arith, le)) times is.least) (omega arith);
+}
 
-pub latest_last : (t : ℕ) (cuts : List ℕ) → t ≤ latest t cuts
-latest_last t [] = omega arith
-latest_last t (f ∷ cuts) = omega (arith, latest_last (max t f) cuts)
+pub latest_push : (times : List ℕ) (f t : ℕ) → IsLatest times f → IsLatest (times ++ t ∷ []) (max f t)
+latest_push times f t is = record {
+  one = elim (cases_lt f t) [
+    | inl lt ↦ subst (Contains (times ++ t ∷ [])) (omega (arith, lt)) (Contains-push times t)
+    | inr ge ↦ subst (Contains (times ++ t ∷ [])) (omega (arith, ge)) (Contains-append_left times (t ∷ []) f is.one)
+  ];
+  greatest = All-push (λ s. s ≤ max f t) times t (All-weaker (λ s. s ≤ f) (λ s. s ≤ max f t) (λ s le. omega (arith, le)) times is.greatest) (omega arith);
+}
 
-pub within_reach : (f g : ℕ) (cuts : List Time) → AreWithin (earliest f (seconds cuts)) (latest g (seconds cuts)) cuts
-within_reach f g [] = All-nil (λ (t : Time). (f ≤ t.seconds) × (t.seconds ≤ g))
-within_reach f g (c ∷ cuts) =
-    let a : ℕ = min f c.seconds in
-    let b : ℕ = max g c.seconds in
-    All-cons (λ (t : Time). (earliest a (seconds cuts) ≤ t.seconds) × (t.seconds ≤ latest b (seconds cuts))) c cuts
-    (omega (arith, earliest_first a (seconds cuts)), omega (arith, latest_last b (seconds cuts))) (within_reach a b cuts)
+-- the cuts up to one and with it
+pub cuts_to : (cuts : List Time) (i : ℕ) (c : Time) → i < length cuts → c ≡ get_or cuts i c → seconds (take (i + 1) cuts) ≡ seconds (take i cuts) ++ c.seconds ∷ []
+cuts_to cuts i c inside is = ap seconds (take_more cuts i c inside ∙ ap (λ (x : Time). take i cuts ++ x ∷ []) (sym is)) ∙ map-append (λ (x : Time). x.seconds) (take i cuts) (c ∷ [])
 
--- the cuts from one on
-pub cuts_from : (cuts : List Time) (i : ℕ) (c : Time) → i < length cuts → c ≡ get_or cuts i c → seconds (drop i cuts) ≡ c.seconds ∷ seconds (drop (i + 1) cuts)
-cuts_from cuts i c inside is = ap seconds (drop-cons cuts i c (omega (arith, inside)) ∙ ap (λ (x : Time). x ∷ drop (suc i) cuts) (sym is) ∙ ap (λ (n : ℕ). c ∷ drop n cuts) (sym (add-one i)))
+next_before : (g h : ℕ) (cuts : List ℕ) → All (λ s. s ≤ g) cuts → h ≤ g → next_cut cuts h ≤ g
+next_before g h [] before ends = ends
+next_before g h (c ∷ cuts) before ends = All-head (λ s. s ≤ g) c cuts before
 
-next_within : (f g h : ℕ) (cuts : List Time) → AreWithin f g cuts → h ≤ g → next_cut (seconds cuts) h ≤ g
-next_within f g h [] within ends = ends
-next_within f g h (c ∷ cuts) within ends = (All-head (λ (x : Time). (f ≤ x.seconds) × (x.seconds ≤ g)) c cuts within).1
+spellings_within : (layout : Layout) (f g : ℕ) (list : List Posting) (cuts : List ℕ) (h : ℕ) → All (λ s. f ≤ s) cuts → All (λ s. s ≤ g) cuts → h ≤ g → spellings layout (sublist f g list) cuts h ≡ spellings layout list cuts h
+spellings_within layout f g list [] h after before ends = refl
+spellings_within layout f g list (c ∷ cuts) h after before ends =
+    let behind = All-tail (λ s. s ≤ g) c cuts before in
+    let b : ℕ = next_cut cuts h in
+    let here : sublist c b (sublist f g list) ≡ sublist c b list = filter_within (meets c b) (meets f g)
+    (λ p m. meets_within f g c b p (All-head (λ s. f ≤ s) c cuts after) (next_before g h cuts behind ends) m) list in
+    ap (λ (l : List Posting). spelling_in layout l ∷ spellings layout (sublist f g list) cuts h) here
+    ∙ ap (λ (rest : List (List ℕ)). spelling_in layout (sublist c b list) ∷ rest) (spellings_within layout f g list cuts h (All-tail (λ s. f ≤ s) c cuts after) behind ends)
 
-spellings_within : (layout : Layout) (f g : ℕ) (list : List Posting) (cuts : List Time) (h : ℕ) → AreWithin f g cuts → h ≤ g → spellings layout (sublist f g list) (seconds cuts) h ≡ spellings layout list (seconds cuts) h
-spellings_within layout f g list [] h within ends = refl
-spellings_within layout f g list (c ∷ cuts) h within ends =
-    let W : Time → Type 0 = λ x. (f ≤ x.seconds) × (x.seconds ≤ g) in
-    let behind = All-tail W c cuts within in
-    let b : ℕ = next_cut (seconds cuts) h in
-    let here : sublist c.seconds b (sublist f g list) ≡ sublist c.seconds b list = filter_within (meets c.seconds b) (meets f g)
-    (λ p m. meets_within f g c.seconds b p (All-head W c cuts within).0 (next_within f g h cuts behind ends) m) list in
-    ap (λ (l : List Posting). spelling_in layout l ∷ spellings layout (sublist f g list) (seconds cuts) h) here
-    ∙ ap (λ (rest : List (List ℕ)). spelling_in layout (sublist c.seconds b list) ∷ rest) (spellings_within layout f g list cuts h behind ends)
+-- so the part of a list that overlaps the time from the earliest to the latest serves as the list does
+pub serves_within : (f g : ℕ) (list : List Posting) (cuts : List ℕ) (h : ℕ) → IsEarliest (h ∷ cuts) f → IsLatest (h ∷ cuts) g → IsList list → Serves cuts h list (sublist f g list)
+serves_within f g list cuts h from to l = record {
+  ordered = sublist_list f g list l;
+  same = λ layout. spellings_within layout f g list cuts h (All-tail (λ s. f ≤ s) h cuts from.least) (All-tail (λ s. s ≤ g) h cuts to.greatest) (All-head (λ s. s ≤ g) h cuts to.greatest);
+}
 
--- so the part of a list that overlaps them all serves as the list does
-pub serves_within : (f g : ℕ) (list : List Posting) (cuts : List Time) (h : ℕ) → AreWithin f g cuts → h ≤ g → IsList list → Serves (seconds cuts) h list (sublist f g list)
-serves_within f g list cuts h within ends l = record { ordered = sublist_list f g list l; same = λ layout. spellings_within layout f g list cuts h within ends }
+-- what is given, the part where there is one and else the list, serves as well
+pub serves_or : {A B : Type 0} {cuts : List ℕ} {h : ℕ} {list given : B} (items : A → List Posting) (now : B → List Posting) (part : Option A) (shown : Option B)
+    → given ≡ unwrap_or shown list → option_map now shown ≡ option_map items part → IsList (now list) → IfSome part (λ v. Serves cuts h (now list) (items v)) → Serves cuts h (now list) (now given)
+serves_or items now (Some v) (Some s) is same l serves = let shows : now s ≡ items v = cc in rw (is, shows) serves
+serves_or items now None None is same l serves = rw is (record { ordered = l; same = λ layout. refl })
+serves_or items now (Some v) None is same l serves = absurd cc
+serves_or items now None (Some s) is same l serves = absurd cc
 
 -- ---- half by half
 

@@ -1,5 +1,5 @@
 -- Sublists that are to be written: their bytes and their places.
-use Rattle.std.specs.Prelude.{◌≡◌, ◌*◌, ◌<◌, ℕ, List, [], ◌∷◌, ◌++◌, length, map, min, max, All}
+use Rattle.std.specs.Prelude.{◌≡◌, ◌*◌, ◌<◌, ◌≤◌, ℕ, List, [], ◌∷◌, ◌++◌, length, map, All, Contains}
 use Rattle.std.specs.List.{AllZip}
 use Rattle.sha2.specs.Sha256.{sha256}
 use Rattle.time_base.specs.declared.extent.Extent.{Extent}
@@ -24,19 +24,23 @@ pub record Serves (cuts : List ℕ) (h : ℕ) (list given : List Posting) : Type
   pub ordered : IsList given
   pub same : (layout : Layout) → spellings layout given cuts h ≡ spellings layout list cuts h
 
--- the earliest of a time and some others
-abbrev pub earliest : ℕ → List ℕ → ℕ
-earliest t [] = t
-earliest t (f ∷ cuts) = earliest (min t f) cuts
+-- it is one of the times, and none of them is earlier
+pub record IsEarliest (times : List ℕ) (t : ℕ) : Type 0 where
+  pub one : Contains times t
+  pub least : All (λ s. t ≤ s) times
 
--- the latest of them
-abbrev pub latest : ℕ → List ℕ → ℕ
-latest t [] = t
-latest t (f ∷ cuts) = latest (max t f) cuts
+-- it is one of them, and none of them is later
+pub record IsLatest (times : List ℕ) (t : ℕ) : Type 0 where
+  pub one : Contains times t
+  pub greatest : All (λ s. s ≤ t) times
 
 -- more than half of the list overlaps the time from the earliest of the cuts and the end to the latest
-abbrev pub IsMostlyMet : List ℕ → ℕ → List Posting → Type 0
-IsMostlyMet cuts h list = length list < 2 * size (earliest h cuts) (latest h cuts) list
+pub record IsMostlyMet (cuts : List ℕ) (h : ℕ) (list : List Posting) : Type 0 where
+  pub from : ℕ
+  pub to : ℕ
+  pub earliest : IsEarliest (h ∷ cuts) from
+  pub latest : IsLatest (h ∷ cuts) to
+  pub most : length list < 2 * size from to list
 
 -- how many bytes each of them has
 abbrev pub sizes : List (List ℕ) → List ℕ

@@ -27,7 +27,7 @@ pub use laws::{
     held_sublists_are_gathered, one_answer_of_bytes, one_gathering, pieces_hold_sublists,
     places_are_for_sublists,
 };
-pub use parts::{narrowed, part_or, sublist_bytes};
+pub use parts::{narrowed, sublist_bytes};
 pub use prepared::Prepared;
 pub use store::Sublists;
 pub use why::{Damage, FetchError, Why};

@@ -1,10 +1,10 @@
 //! Parts of a list from which segments are spelled, and the bytes of one segment's sublist.
-ghost use Rattle.std.specs.Prelude.{◌≡◌, ◌*◌, ◌≤◌, ℕ, List, length, min, max, None, IfOk, IfSome};
+ghost use Rattle.std.specs.Prelude.{◌≡◌, ◌*◌, ◌≤◌, ◌∷◌, length, min, max, None, IfOk, IfSome};
 ghost use Rattle.postings.specs.Lists.{IsList, sublist};
 ghost use Rattle.postings.specs.Sizes.{size};
 ghost use Rattle.sublist_store.specs.Layouts.{spelling_in};
 ghost use Rattle.sublist_store.specs.Segments.{seconds};
-ghost use Rattle.sublist_store.specs.Preparing.{Serves, earliest, latest, IsMostlyMet};
+ghost use Rattle.sublist_store.specs.Preparing.{Serves, IsEarliest, IsLatest, IsMostlyMet};
 
 use crate::spelling::encoded;
 use record_codec::Layout;
@@ -33,8 +33,8 @@ impl Reach {
 
 /// The reach of both ends of all segments that begin at the cuts, in whatever order these are.
 fn reach_of(cuts: &[Time], end: Time) -> Reach
-    ensures from { result.from ≡ earliest end.seconds (seconds cuts.now) }
-    ensures to { result.to ≡ latest end.seconds (seconds cuts.now) }
+    ensures from { IsEarliest (end.seconds ∷ seconds cuts.now) result.from }
+    ensures to { IsLatest (end.seconds ∷ seconds cuts.now) result.to }
 {
     let mut reach = Reach {
         from: end.seconds,
@@ -74,16 +74,6 @@ pub fn narrowed(
         return Ok(None);
     }
     Ok(Some(sublist(alloc, list, reach.from, reach.to)?))
-}
-
-/// The part, or else the whole list. Constant cost.
-pub fn part_or<'l>(part: &'l Option<Vec<Posting>>, list: &'l [Posting]) -> &'l [Posting]
-    ensures { (cuts : List ℕ) (h : ℕ) → IsList list.now → IfSome part.now (λ v. Serves cuts h list.now v.items) → Serves cuts h list.now result.now }
-{
-    match part {
-        Some(part) => part,
-        None => list,
-    }
 }
 
 /// The bytes of the sublist of the segment from `from` to `to`, in seconds. One pass over the list.

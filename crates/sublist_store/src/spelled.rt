@@ -4,7 +4,7 @@ ghost use Rattle.postings.specs.Lists.{IsList};
 ghost use Rattle.sublist_store.specs.Segments.{seconds};
 ghost use Rattle.sublist_store.specs.Preparing.{spellings};
 
-use crate::parts::{narrowed, part_or, sublist_bytes};
+use crate::parts::{narrowed, sublist_bytes};
 use record_codec::Layout;
 use std::alloc::{AllocError, Global};
 use std::marker::Model;
@@ -72,7 +72,7 @@ fn spell_halves(
         };
     }
     let part = narrowed(alloc, list, cuts, end)?;
-    let list = part_or(&part, list);
+    let list = part.as_deref().unwrap_or(list);
     let (left, right) = cuts.split_at(half);
     spell_halves(alloc, layout, list, left, cuts[half], spelled)?;
     spell_halves(alloc, layout, list, right, end, spelled)

@@ -1,20 +1,17 @@
-use Rattle.std.proofs.Common.{ℕ, List, length, sym, subst, ap, ◌∙◌, arith}
+use Rattle.std.proofs.Common.{List, length, sym, subst, ap, arith}
 use Rattle.std.proofs.lemmas.List.Sums.{length-filter}
 use Rattle.time_base.specs.declared.posting.Posting.{Posting}
-use Rattle.postings.specs.Lists.{meets, sublist}
+use Rattle.postings.specs.Lists.{meets}
 use Rattle.sublist_store.specs.Segments.{seconds}
-use Rattle.sublist_store.specs.Preparing.{Serves, earliest}
-use Rattle.sublist_store.proofs.SpellLemmas.{serves_within, within_reach, latest_last}
+use Rattle.sublist_store.specs.Preparing.{Serves}
+use Rattle.sublist_store.proofs.SpellLemmas.{serves_within}
 use Rattle.sublist_store.proofs.parts.narrowed.Goals as goal
 
 pub returns-clause-serves : goal.returns-clause-serves
 returns-clause-serves c =
-    let cuts = c.args.cuts.now in
-    let end = c.args.end.seconds in
-    let reach = c.reach_of-reach.ensures in
-    let S : List Posting → Type 0 = λ l. Serves (seconds cuts) end c.args.list.now l in
-    subst S (sym (c.in_ok-sublist.ensures.sublist ∙ ap (λ (f : ℕ). sublist f c.reach_of-reach.result.to c.args.list.now) reach.from ∙ ap (λ (g : ℕ). sublist (earliest end (seconds cuts)) g c.args.list.now) reach.to))
-    (serves_within _ _ c.args.list.now cuts end (within_reach end end cuts) (latest_last end (seconds cuts)) c.requires)
+    let reach = c.reach_of-reach in
+    subst (λ (l : List Posting). Serves (seconds c.args.cuts.now) c.args.end.seconds c.args.list.now l) (sym c.in_ok-sublist.ensures.sublist)
+    (serves_within reach.result.from reach.result.to c.args.list.now (seconds c.args.cuts.now) c.args.end.seconds reach.ensures.from reach.ensures.to c.requires)
 
 pub returns-clause-half : goal.returns-clause-half
 returns-clause-half c =

@@ -1,10 +1,10 @@
-use Rattle.std.specs.Prelude.{◌≡◌, drop}
+use Rattle.std.specs.Prelude.{◌∷◌, take}
 use Rattle.sublist_store.specs.Segments.{seconds}
-use Rattle.sublist_store.specs.Preparing.{earliest, latest}
+use Rattle.sublist_store.specs.Preparing.{IsEarliest, IsLatest}
 use Rattle.sublist_store.proofs.parts.reach_of.Given as goal
 
 abbrev pub invariant-loop-cut : goal.invariant-loop-cut
 invariant-loop-cut l = record {
-  from : earliest l.reach.from (seconds (drop l.cut-index l.cuts)) ≡ earliest l.fn.end.seconds (seconds l.cuts);
-  to : latest l.reach.to (seconds (drop l.cut-index l.cuts)) ≡ latest l.fn.end.seconds (seconds l.cuts);
+  from : IsEarliest (l.fn.end.seconds ∷ seconds (take l.cut-index l.cuts)) l.reach.from;
+  to : IsLatest (l.fn.end.seconds ∷ seconds (take l.cut-index l.cuts)) l.reach.to;
 }
