@@ -15,6 +15,7 @@ use Rattle.version_store.specs.declared.change.Change.{Change}
 use Rattle.gate_journal.specs.Spelled.{Spells, EachSpells}
 use Rattle.gate_journal.specs.InStep.{IsInStep}
 use Rattle.gate_journal.specs.Crash.{Appends, KeepsPages, KeepsBodies}
+use Rattle.gate_journal.proofs.InStepLemmas.{step_spells}
 use Rattle.record_codec.specs.Spelling.{spelling}
 use Rattle.record_codec.specs.declared.entry.Entry.{Entry}
 use Rattle.record_codec.specs.declared.entry.Entry.TheVariants.{Arrive, Delete, Planned}
@@ -96,12 +97,6 @@ pub still_holds : (h : History) (old new : DiskState) → EachHolds old h → Ke
 still_holds h old new held pages = λ image allowed.
     let was = pages.images image new.now.beside (allowed_left new (moment old) image allowed) in
     rw was.2 (held was.0 was.1)
-
--- where each image has one journal, that spells the bodies
-pub step_spells : (d : DiskState) (end : ℕ) (bodies : List (List ℕ)) → IsInStep d end bodies → EachSpells d bodies
-step_spells d end bodies step = λ image allowed.
-    let is = step.images image allowed in
-    inr (record { gate = step.gate; rest = is.0; shut = step.shut; fit = step.fit; whole = is.1 })
 
 -- the bodies of a history with an entry more
 pub bodies_more : (h : History) (e : Entry) (body : List ℕ) → body ≡ spelling e → bodies_of h ++ body ∷ [] ≡ bodies_of (h ++ e ∷ [])
@@ -218,9 +213,6 @@ adds_none why error a b h e refusal prepared gives = record {
   allowed = λ is. given_up_never (refusal ≡ None) why error a b gives is;
   stands = tt;
 }
-
-pub step_at : {d : DiskState} {end : ℕ} {bodies : List (List ℕ)} (other : ℕ) → end ≡ other → IsInStep d end bodies → IsInStep d other bodies
-step_at {d} {end} {bodies} other same step = rw (← same) step
 
 -- a disk that reached as far as an archive reaches on as far, where it reaches further and the archive has the same plans
 pub inside_on : (n m : ℕ) (es : List Extent) → n ≤ m → All (IsInside n) es → All (IsInside m) es

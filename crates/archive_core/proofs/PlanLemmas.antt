@@ -122,14 +122,13 @@ map_phrase kind h (Some word) One Other A B refused goes (inl unknown) = inl (un
 map_phrase kind h (Some word) One Other A B refused goes (inr (known, (list, is, of))) =
     inr (known, (list, is, map_list (last_second h) One Other refused kind list (A word list) (B word list) (goes word list) of))
 
-pub least_proposed : (h : History) (phrase word : List ℕ) (factor : Fraction) (list : List Posting) (horizon : ℕ) (p : Proposal) → IsSealed h phrase word list horizon → 0 < length list
-    → OfBoundaries horizon list (λ because. ⊥) (IsProposal list factor horizon p.segments.items p.nodes.items p.space) → Proposes h phrase factor (Proposed p.segments.items p.nodes.items p.space)
-least_proposed h phrase word factor list horizon p sealed some of =
-    let reply = Proposed p.segments.items p.nodes.items p.space in
-    let here = subst (λ (n : ℕ). OfBoundaries n list (λ because. ⊥) (IsProposal list factor n p.segments.items p.nodes.items p.space)) sealed.horizon_is of in
-    goes_on Guarantee h (one_term phrase) word list (λ because. reply ≡ Refused because) (λ word list. ProposesPlan factor (last_second h) list reply) sealed.word_is sealed.known sealed.list_is some
-    (map_bounded (last_second h) (λ because. ⊥) (λ because. reply ≡ Refused because) (λ because none. absurd none) list (IsProposal list factor (last_second h) p.segments.items p.nodes.items p.space)
-    (ProposesPlan factor (last_second h) list reply) (λ proposal. (p.segments.items, p.nodes.items, p.space, proposal, refl)) here)
+-- what is told of a word's list by its boundaries is told of its phrase
+pub told_of_boundaries : (h : History) (phrase word : List ℕ) (factor : Fraction) (list : List Posting) (horizon : ℕ) (reply : Reply) (One : Refusal → Type 0) (Plan : Type 0) → IsSealed h phrase word list horizon → 0 < length list
+    → ((why : Refusal) → One why → reply ≡ Refused why) → (Plan → ProposesPlan factor horizon list reply) → OfBoundaries horizon list One Plan → Proposes h phrase factor reply
+told_of_boundaries h phrase word factor list horizon reply One Plan sealed some refused plan of =
+    let B : ℕ → Type 0 = λ n. OfBoundaries n list (λ why. reply ≡ Refused why) (ProposesPlan factor n list reply) in
+    goes_on Guarantee h (one_term phrase) word list (λ why. reply ≡ Refused why) (λ word list. ProposesPlan factor (last_second h) list reply) sealed.word_is sealed.known sealed.list_is some
+    (subst B sealed.horizon_is (map_bounded horizon One (λ why. reply ≡ Refused why) refused list Plan (ProposesPlan factor horizon list reply) plan of))
 
 -- a phrase that is refused before its list is planned
 pub phrase_refused : (h : History) (phrase : List ℕ) (factor : Fraction) (why : Refusal) → OfPhrase Guarantee h (one_term phrase) (λ because. why ≡ because) (λ word list. ⊥) → Proposes h phrase factor (Refused why)

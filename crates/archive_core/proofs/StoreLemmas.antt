@@ -68,7 +68,8 @@ use Rattle.page_store.specs.Crash.{ChangesOnly}
 use Rattle.archive_state.specs.Holding.{HoldsPlans}
 use Rattle.archive_state.specs.Stands.{bodies_of, Stands, EachStands}
 use Rattle.archive_state.proofs.HoldLemmas.{held_stays, held_more, piece_extents}
-use Rattle.archive_core.proofs.AddLemmas.{inside_on, step_at, EachHolds, bodies_more, still_holds, step_stands, leads_more}
+use Rattle.gate_journal.proofs.InStepLemmas.{step_at}
+use Rattle.archive_core.proofs.AddLemmas.{inside_on, EachHolds, bodies_more, still_holds, step_stands, leads_more}
 use Rattle.archive_core.proofs.TakeLemmas.{takes_unmade}
 use Rattle.archive_core.proofs.PlanLemmas.{goes_on, map_phrase}
 use Rattle.archive_core.proofs.LiveLemmas.{all_inside_with}
@@ -236,7 +237,7 @@ takes_plan h phrase kind factor (Err error) old new a b in_step refused same mem
     let (declines, stands) = refused why (ap Err is) in
     let still = same why (ap Err is) in
     let kept : CacheStands new b = cached (inr (why, ap Err is)) in
-    (still, declines, record { stands = stands; journal = step_at b.end (in_step.stands.end_is ∙ sym stands.end_is) in_step.journal; legal = in_step.legal; held = in_step.held; cached = rw still at kept }))
+    (still, declines, record { stands = stands; journal = step_at (stands.end_is ∙ sym in_step.stands.end_is) in_step.journal; legal = in_step.legal; held = in_step.held; cached = rw still at kept }))
     (λ is. let w = written (inr (ap Err is)) in (steps.Planned w.told, (w.next, (w.plans, w.leads)))) (λ is. memory (ap Err is)) (any.reply, (any.next, plans))
 
 -- ---- what each image left stands for

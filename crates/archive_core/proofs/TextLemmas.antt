@@ -20,7 +20,7 @@ use Rattle.archive_core.specs.States.{ArchiveState, StandsFor, AreInStep}
 use Rattle.archive_replay.specs.Places.{pair_of, placed_by, places}
 use Rattle.archive_replay.specs.Texts.{text_in, LiesIn}
 use Rattle.archive_replay.proofs.PlaceLemmas.{texts_are}
-use Rattle.archive_core.proofs.AddLemmas.{step_spells}
+use Rattle.gate_journal.proofs.InStepLemmas.{step_spells}
 
 -- the text of a document that is alive at a time, by its place
 pub text_is : (d : DiskState) (a : ArchiveState) (h : History) (doc : DocId) (t : ℕ) → MayLeave d.now d.holds → AreInStep d a h

@@ -1,12 +1,11 @@
 //! What an archive is asked: the text of a document at a time, and what a query finds.
-ghost use Rattle.std.specs.Prelude.{◌≡◌, ◌+◌, ℕ, List, All, length, false, true, is_some, IsSome, IfOk, IsErrOf};
+ghost use Rattle.std.specs.Prelude.{◌≡◌, ◌+◌, ℕ, List, All, length, false, true, IsSome, IfOk, IsErrOf};
 ghost use Rattle.machine_model.specs.Causes.{Rose};
 ghost use Rattle.machine_model.specs.Calls.{OnlyReads};
 ghost use Rattle.query_lang.specs.Meaning.{words_of};
 ghost use Rattle.query_eval.specs.Answers.{IsAnswer};
 ghost use Rattle.query_eval.specs.Asked.{read_of};
-ghost use Rattle.query_eval.specs.Found.{told, HasHit};
-ghost use Rattle.version_store.specs.Changes.{held_at};
+ghost use Rattle.query_eval.specs.Found.{told};
 ghost use Rattle.archive_state.specs.Histories.{History, text_at};
 ghost use Rattle.archive_state.specs.Plans.{is_another};
 ghost use Rattle.archive_state.specs.Chosen.{AreChosen, IsFirstDamage, IsMadeAt};
@@ -102,30 +101,14 @@ impl Archive {
             return Ok(answer);
         }
         if self.is_any_planned(query.words()) {
-            let answer = self.answer_by_living(alloc, query, at, parts)?;
+            // All documents with a hit are alive, but for bytes of Pages that no archive wrote.
+            let directory = self.directory();
+            let is_alive = |doc| directory.alive_at(doc, at);
+            let answer = answer_by_living_hits(alloc, query, at, parts, is_alive)?;
             return Ok(answer);
         }
         let answer = answer_by_hits(alloc, query, at, parts)?;
         Ok(answer)
-    }
-
-    /// The answer over those documents with one of the query's words that are alive. (All are, but for
-    /// bytes of Pages that no archive wrote.)
-    fn answer_by_living(
-        &self,
-        alloc: Global,
-        query: &Query,
-        at: Time,
-        parts: &[Part],
-    ) -> Result<Answer, AllocError>
-        requires { length parts.now ≡ length (words_of query.now) }
-        ensures read { IfOk result (λ answer. answer.read ≡ read_of parts.now) }
-        ensures rows { IfOk result (λ answer. IsAnswer (λ doc. HasHit (words_of query.now) parts.now at.seconds doc
-            × (is_some (held_at doc at.seconds self.now.changes) ≡ true))
-            (λ doc. told (words_of query.now) parts.now at.seconds doc.0) query.now answer.rows.items) }
-    {
-        let directory = self.directory();
-        answer_by_living_hits(alloc, query, at, parts, |doc| directory.alive_at(doc, at))
     }
 
     /// Whether one of some words has a plan. Costs a search among the plans for each word.

@@ -5,7 +5,6 @@ ghost use Rattle.archive_state.specs.Answers.{IsWordList};
 ghost use Rattle.archive_state.specs.Plans.{plan_of};
 ghost use Rattle.time_base.specs.declared.posting.Posting.{Posting as PlainPosting};
 ghost use Rattle.archive_state.specs.Chosen.{AreChosen, IsChosenOf, IsDamagedFor, IsFirstDamage, pieces_chosen, pieces_for, tail_for};
-ghost use Rattle.archive_replay.specs.Live.{IsPlanAt};
 ghost use Rattle.archive_core.specs.After.{AfterFetching};
 ghost use Rattle.archive_core.specs.Answering.{HasAsked};
 ghost use Rattle.archive_core.specs.States.{StandsFor, CacheStands, Reaches};
@@ -71,34 +70,10 @@ impl Archive {
             OnOk result (HasAsked (pieces_chosen (D.disk disk.old).holds.pages (plan_of h word.now) span.from span.to) self.old.shelf.cache self.new.shelf.cache (D.disk disk.old) (D.disk disk.new)) }
         ensures damaged { D.disk_tells → (h : History) → StandsFor self.old h → CacheStands (D.disk disk.old) self.old → (d : Damage) → IsErrOf result (FetchError.Damaged d) → IsDamagedFor h (D.disk disk.old).holds.pages word.now span.from span.to d }
     {
-        match self.shelf().position(word) {
-            Some(at) => self.planned_part(alloc, disk, at, word, span),
-            None => {
-                let part = self.index().part_in(alloc, word, span)?;
-                Ok(whole_part(part))
-            }
-        }
-    }
-
-    /// What is chosen of the list of a word whose plan stands there.
-    fn planned_part<D: Disk>(
-        &mut self,
-        alloc: Global,
-        disk: &mut D,
-        at: usize,
-        word: &Key,
-        span: Span,
-    ) -> Result<Part, FetchError>
-        requires within { Reaches (D.disk disk.old).reach self.old }
-        requires there { IsPlanAt self.old.shelf.plans word.now at }
-        ensures only { D.Disk.only disk.old disk.new }
-        ensures after { AfterFetching D.disk_tells result (D.disk disk.old) (D.disk disk.new) self.old self.new }
-        ensures chosen { D.disk_tells → (h : History) → StandsFor self.old h → CacheStands (D.disk disk.old) self.old →
-            IfOk result (λ part. IsChosenOf h (D.disk disk.old).holds.pages word.now (plan_of h word.now) span.from span.to part.list.items part.read) }
-        ensures asked { D.disk_tells → (h : History) → StandsFor self.old h → CacheStands (D.disk disk.old) self.old →
-            OnOk result (HasAsked (pieces_chosen (D.disk disk.old).holds.pages (plan_of h word.now) span.from span.to) self.old.shelf.cache self.new.shelf.cache (D.disk disk.old) (D.disk disk.new)) }
-        ensures damaged { D.disk_tells → (h : History) → StandsFor self.old h → CacheStands (D.disk disk.old) self.old → (d : Damage) → IsErrOf result (FetchError.Damaged d) → IsDamagedFor h (D.disk disk.old).holds.pages word.now span.from span.to d }
-    {
+        let Some(at) = self.shelf().position(word) else {
+            let part = self.index().part_in(alloc, word, span)?;
+            return Ok(whole_part(part));
+        };
         let horizon = self.shelf().plans()[at].plan.horizon;
         let stored = self.gather(alloc, disk, at, span)?;
         let tail = self.tail_of(alloc, word, horizon, span)?;

@@ -58,19 +58,6 @@ impl Archive {
         // In step with a disk, it is a step of the abstract machine.
         ensures takes { (d : DiskState) (h : History) → AreInStep d self.now h → Takes h (items.Command (commands.Propose word.now factor)) (proposed result) d d self.now }
     {
-        self.proposal_of(alloc, word, factor)
-    }
-
-    /// A least plan of the list of a phrase's word, or why it can't be planned.
-    fn proposal_of(
-        &self,
-        alloc: Global,
-        word: &Phrase,
-        factor: Fraction,
-    ) -> Result<Proposal, Declined>
-        ensures refused { (h : History) → StandsFor self.now h → (why : Refusal) → IsErrOf result (Declined.Refused why) → Proposes h word.now factor (Refused why) }
-        ensures proposes { (h : History) → StandsFor self.now h → IfOk result (λ p. Proposes h word.now factor (Proposed p.segments.items p.nodes.items p.space)) }
-    {
         let sealed = self.sealed(alloc, word)?;
         least_plan(alloc, &sealed.list, sealed.horizon, factor)
     }

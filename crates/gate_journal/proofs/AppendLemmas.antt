@@ -13,7 +13,7 @@ use Rattle.machine_model.specs.declared.area.Area.TheVariants.{Journal}
 use Rattle.machine_model.proofs.MomentLemmas.{joined, goes_on_joins}
 use Rattle.gate_journal.specs.Header.{header}
 use Rattle.gate_journal.specs.Records.{open_gate, framed, behind_gate, record_bytes, records, front, Fit}
-use Rattle.gate_journal.specs.Spelled.{SpellsLong, Spells, EachSpells}
+use Rattle.gate_journal.specs.Spelled.{SpellsLong, Spells}
 use Rattle.gate_journal.specs.InStep.{IsInStep}
 use Rattle.gate_journal.specs.Crash.{Appends}
 use Rattle.gate_journal.proofs.TornLemmas.{torn_behind, torn_byte, written_behind}
@@ -28,14 +28,6 @@ front_more bodies body = ap (λ (l : List ℕ). header ++ l) (flat_map-append re
 
 pub fit_more : (bodies : List (List ℕ)) (body : List ℕ) → Fit bodies → length body < 2 ^ 32 → Fit (bodies ++ body ∷ [])
 fit_more bodies body fit fits = All-append (λ b. length b < 2 ^ 32) bodies (body ∷ []) fit (All-cons (λ b. length b < 2 ^ 32) body [] fits (λ k d inside. absurd (omega (arith, inside))))
-
-pub step_at : {at end : ℕ} {d : DiskState} {bodies : List (List ℕ)} → at ≡ end → IsInStep d end bodies → IsInStep d at bodies
-step_at {at} {end} {d} {bodies} same step = record { gate = step.gate; shut = step.shut; fit = step.fit; end_is = same ∙ step.end_is; images = step.images }
-
--- where each image has one journal in front, it spells its bodies
-pub step_spells : (d : DiskState) (end : ℕ) (bodies : List (List ℕ)) → IsInStep d end bodies → EachSpells d bodies
-step_spells d end bodies step image allowed = let is = step.images image allowed in
-    inr (record { gate = step.gate; rest = is.0; shut = step.shut; fit = step.fit; whole = is.1 })
 
 pub appends_join : {bodies : List (List ℕ)} {body : List ℕ} {a b c : DiskState} → Appends bodies body a b → b.now.beside ≡ a.now.beside → Appends bodies body b c → Appends bodies body a c
 unfolding Either

@@ -1,6 +1,7 @@
 pub mod SpellingLemmas
 mod WriteLemmas
 mod TornLemmas
+pub mod InStepLemmas
 mod AppendLemmas
 mod PagesLemmas
 pub mod HeadLemmas

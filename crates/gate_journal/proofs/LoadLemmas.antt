@@ -19,7 +19,7 @@ use Rattle.gate_journal.specs.InStep.{IsInStep}
 use Rattle.gate_journal.specs.Crash.{KeepsBodies, KeepsPages}
 use Rattle.gate_journal.proofs.SpellingLemmas.{length-header, spells_once}
 use Rattle.gate_journal.proofs.TornLemmas.{written_behind}
-use Rattle.gate_journal.proofs.AppendLemmas.{step_spells}
+use Rattle.gate_journal.proofs.InStepLemmas.{step_spells}
 
 -- reads leave the images that are allowed
 reads_leave : (a b : DiskState) → OnlyReads a b → LeavesOnly a b (λ image beside. Leaves a.now image beside)

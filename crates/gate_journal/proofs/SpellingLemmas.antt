@@ -14,9 +14,6 @@ pub length-header : length header ≡ 16
 unfolding header
 length-header = refl
 
-pub length-length : (n : ℕ) → length (to_be_bytes w32 n) ≡ 4
-length-length n = refl
-
 -- two lists of one length in front are the same if the whole is
 same_front : (a b s t : List ℕ) → length a ≡ length b → a ++ s ≡ b ++ t → (a ≡ b) × (s ≡ t)
 same_front a b s t long same = (

@@ -1,7 +1,7 @@
-use Rattle.std.proofs.Common.{◌≡◌, List, ℕ, All, true, sym, ap, subst, ◌∙◌}
+use Rattle.std.proofs.Common.{◌≡◌, List, ℕ, All, true, is_some, sym, ap, subst, ◌∙◌, rules}
 use Rattle.archive_state.specs.Plans.{is_another}
 use Rattle.archive_core.proofs.AnswerLemmas.{by_alive, by_hits, by_unplanned}
-use Rattle.version_store.specs.Changes.{alive}
+use Rattle.version_store.specs.Changes.{alive, held_at}
 use Rattle.archive_core.proofs.archive.Archive.answer_by.Goals as goal
 
 pub returns-then-matches_without_words-clause-rows : goal.returns-then-matches_without_words-clause-rows
@@ -11,7 +11,11 @@ returns-then-matches_without_words-clause-rows c = λ h pages stands chosen.
 
 pub returns-then-is_any_planned-clause-rows : goal.returns-then-is_any_planned-clause-rows
 returns-then-is_any_planned-clause-rows c = λ h pages stands chosen.
-    by_hits c.args.self.now h c.args.at.seconds c.args.query.now c.args.parts.now _ stands (sym c.matches_without_words.ensures ∙ c.if-matches_without_words.false) c.in_ok-answer-2.ensures.rows
+    let t = c.args.at.seconds in
+    by_hits c.args.self.now h t c.args.query.now c.args.parts.now _ stands (sym c.matches_without_words.ensures ∙ c.if-matches_without_words.false)
+    (c.in_ok-answer-2.ensures.rows (λ doc. is_some (held_at doc t c.args.self.now.changes)) (λ doc b says.
+    let told : b ≡ is_some (held_at doc t c.directory-directory.result.now.changes) = search rules in
+    told ∙ ap (λ changes. is_some (held_at doc t changes)) c.directory-directory.ensures.changes))
 
 pub returns-clause-rows : goal.returns-clause-rows
 returns-clause-rows c = λ h pages stands chosen.

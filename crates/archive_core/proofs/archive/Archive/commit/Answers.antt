@@ -17,7 +17,8 @@ use Rattle.archive_core.specs.Adding.{IsMore}
 use Rattle.archive_core.specs.States.{ArchiveState, StandsFor}
 use Rattle.plan_shelf.specs.Shelves.{extents_all}
 use Rattle.archive_core.proofs.CacheLemmas.{cached_on}
-use Rattle.archive_core.proofs.AddLemmas.{appends_nowhere, inside_on, pages_nowhere, stands_more, step_at}
+use Rattle.gate_journal.proofs.InStepLemmas.{step_at}
+use Rattle.archive_core.proofs.AddLemmas.{appends_nowhere, inside_on, pages_nowhere, stands_more}
 use Rattle.archive_core.proofs.archive.Archive.commit.Given.{Over}
 use Rattle.archive_core.proofs.archive.Archive.commit.Goals as goal
 
@@ -48,12 +49,12 @@ returns-then-is_err-clause-pages g c = λ tells. pages_nowhere _
 pub returns-in-Ok-clause-crash : goal.returns-in-Ok-clause-crash
 returns-in-Ok-clause-crash g c = λ tells bodies step.
     let B : List ℕ → Type 0 = λ b. Appends bodies b (g.D.Disk.disk c.args.disk.now) (g.D.Disk.disk c.append.new.disk) in
-    subst B (c.in_ok-frame.ensures.body ∙ c.deref.ensures.value) (c.in-Ok.ensures.crash tells bodies (step_at _ (sym (ap (λ s. s.end) c.self.view_is)) step))
+    subst B (c.in_ok-frame.ensures.body ∙ c.deref.ensures.value) (c.in-Ok.ensures.crash tells bodies (step_at (ap (λ s. s.end) c.self.view_is) step))
 
 pub returns-clause-crash : goal.returns-clause-crash
 returns-clause-crash g c = λ tells bodies step.
     let B : List ℕ → Type 0 = λ b. Appends bodies b (g.D.Disk.disk c.args.disk.now) (g.D.Disk.disk c.append.new.disk) in
-    subst B (c.in_ok-frame.ensures.body ∙ c.deref.ensures.value) (c.in-Err.ensures.crash tells bodies (step_at _ (sym (ap (λ s. s.end) c.self.view_is)) step))
+    subst B (c.in_ok-frame.ensures.body ∙ c.deref.ensures.value) (c.in-Err.ensures.crash tells bodies (step_at (ap (λ s. s.end) c.self.view_is) step))
 
 -- an archive with the entry
 more : (g : Over) (c : goal.After-drop-body-in-Ok g)

@@ -24,9 +24,6 @@ returns-then-is_empty-clause-refused c = λ kind h stands why e.
     nothing_sealed kind h c.args.key c.in_ok-list.list.items why ((c.knows.ensures h stands).0 c.if-not-knows.false) listed
     (omega (arith, none_left (vec_len c.in_ok-list.list) (sym c.is_empty.ensures ∙ c.if-is_empty.true))) (one_why refusals.NothingSealed why e)
 
-pub returns-clause-known : goal.returns-clause-known
-returns-clause-known c = λ h stands. (c.knows.ensures h stands).0 c.if-not-knows.false
-
 pub returns-clause-list : goal.returns-clause-list
 returns-clause-list c = λ h stands.
     let last = last_second_is c.args.self.now h c.in-Some.horizon stands (ap last_time (sym c.directory.ensures.changes) ∙ sym c.last.ensures ∙ c.in-Some.is) in

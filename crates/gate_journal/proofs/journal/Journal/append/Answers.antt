@@ -1,5 +1,6 @@
 use Rattle.std.proofs.Common.{ap, length, arith}
-use Rattle.gate_journal.proofs.AppendLemmas.{step_at, step_spells, record_written, staged, both_written, length-behind_gate, appended}
+use Rattle.gate_journal.proofs.InStepLemmas.{step_at, step_spells}
+use Rattle.gate_journal.proofs.AppendLemmas.{record_written, staged, both_written, length-behind_gate, appended}
 use Rattle.gate_journal.proofs.PagesLemmas.{pages_same, pages_written, pages_join}
 use Rattle.gate_journal.proofs.journal.Journal.append.Goals as goal
 
