@@ -1,15 +1,14 @@
 -- Plans that take more than they have to, and those that don't.
-use Rattle.std.proofs.Common.{◌≡◌, ℕ, zero, suc, ◌+◌, ◌<◌, ◌≤◌, List, [], ◌∷◌, ◌++◌, length, map, drop, ap, sym, subst, ◌∙◌, arith}
+use Rattle.std.proofs.Common.{◌≡◌, ℕ, ◌+◌, ◌≤◌, List, [], ◌∷◌, ◌++◌, length, map, drop, ap, sym, subst, ◌∙◌, arith}
 use Rattle.std.specs.Prelude.{slice_index}
-use Rattle.std.proofs.lemmas.List.{length-map, length-append}
 use Rattle.time_base.specs.declared.time.Time.{Time}
 use Rattle.time_base.specs.declared.posting.Posting.{Posting}
 use Rattle.time_base.specs.declared.fraction.Fraction.{Fraction}
-use Rattle.elementary.specs.Boundaries.{IsBoundary, IsFirst}
+use Rattle.elementary.specs.Boundaries.{IsFirst}
 use Rattle.elementary.specs.Counts.{Counts, Tabulates}
 use Rattle.elementary.specs.Partitions.{Covers, IsLeast, space}
 use Rattle.elementary.proofs.Narrow.{narrow}
-use Rattle.stored_plans.specs.Plans.{later, IsFitPlan, IsLeastPlan, plan_space}
+use Rattle.stored_plans.specs.Plans.{IsFitPlan, plan_space}
 use Rattle.stored_plans.proofs.PlanLemmas.{seconds_are}
 use Rattle.archive_check.specs.Verdicts.{IsLeastSpace}
 

@@ -1,4 +1,3 @@
-mod ByteLemmas
 mod TextLemmas
 mod SegmentLemmas
 mod LeastLemmas

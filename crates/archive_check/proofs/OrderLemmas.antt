@@ -1,5 +1,5 @@
 -- Plans in the order of the numbers of their words.
-use Rattle.std.proofs.Common.{◌≡◌, ◌==◌, ℕ, ◌<◌, Bool, true, false, cond, nat_lt, bytes_eq, List, [], ◌∷◌, length, map, get_or, filter, All, Some, None, ap, sym, subst, ◌∙◌, arith}
+use Rattle.std.proofs.Common.{◌≡◌, ◌==◌, ℕ, ◌<◌, bytes_eq, List, [], ◌∷◌, length, map, get_or, filter, All, None, ap, sym, subst, ◌∙◌, arith}
 use Rattle.std.specs.List.{position_or_len}
 use Rattle.std.specs.List.Sorted.{IsNonDecreasingBy, IsPermutation}
 use Rattle.std.proofs.lemmas.List.{get_or-map, length-map}
@@ -32,17 +32,6 @@ are_moved words plans ordered by_number =
     subst (IsPermutation plans) (one_way words plans (in_order (place_of words) plans) ordered (are_put words plans) by_number) (in_order-swaps (place_of words) plans)
 
 -- ---- a place by a number
-
--- the number of a word is its place
-pub place_is : (word : List ℕ) (words : List (List ℕ)) (n : ℕ) → Some n ≡ number_of word words → n ≡ position_or_len (bytes_eq word) words
-place_is word words n is = go (position_or_len (bytes_eq word) words) (length words) is
-  where
-    go : (p l : ℕ) → Some n ≡ cond (nat_lt p l) (Some p) None → n ≡ p
-    go p l e = by (nat_lt p l) e
-      where
-        by : (b : Bool) → Some n ≡ cond b (Some p) None → n ≡ p
-        by true e = cc
-        by false e = absurd cc
 
 pub no_place : (word : List ℕ) (words : List (List ℕ)) → None ≡ number_of word words → length words ≡ position_or_len (bytes_eq word) words
 no_place word words is = sym (new_place word words (absent-none word words (sym is)))

@@ -2,7 +2,7 @@
 use Rattle.std.proofs.Common.{◌≡◌, ◌⊎◌, inl, inr, ℕ, suc, ◌+◌, ◌<◌, ◌≤◌, ◌==◌, Bool, false, cond, IsTrue, ◌↔◌, List, [], ◌∷◌, ◌++◌, length, take, drop, map, get_or, All, Option, refl, ap, sym, subst, ◌∙◌, arith}
 use Rattle.std.proofs.Math.Seq.{drop-cons}
 use Rattle.std.proofs.lemmas.Bool.{eq-eqb, cases_lt}
-use Rattle.std.proofs.lemmas.List.{map-append, take-append-drop, take_more, get_or_default}
+use Rattle.std.proofs.lemmas.List.{map-append, take-append-drop, take_more}
 use Rattle.std.proofs.lemmas.List.Elements.{All-nil, All-cons, All-head, All-tail, All-append, All-push, All-weaker, All-map, filter-append, Contains-append_left, Contains-append_right, Contains-push}
 use Rattle.time_base.specs.declared.ids.DocId.{DocId}
 use Rattle.time_base.specs.declared.time.Time.{Time}
@@ -11,7 +11,7 @@ use Rattle.postings.specs.Lists.{EachNext}
 use Rattle.version_store.specs.declared.change.Change.{Change}
 use Rattle.version_store.specs.Changes.{changes_of, mapped}
 use Rattle.version_store.proofs.Mapped.{changes_of-mapped}
-use Rattle.version_index.specs.Loads.{Loaded, AreLoaded}
+use Rattle.version_index.specs.Loads.{Loaded}
 use Rattle.archive_replay.specs.Texts.{text_in, bare, nothing}
 use Rattle.archive_check.specs.Verdicts.{with_texts, IsText, IsUpTo, IsFirstBad, AreInOrder}
 use Rattle.archive_check.specs.Checking.{IsLoadedBehind, AreAllLoaded, IsStopped}
@@ -148,17 +148,6 @@ loaded_more tells journal changes i c loader after within is r l =
       are = λ told. ap (λ (x : List (Change (List ℕ))). x ++ new ∷ []) (r.are told) ∙ ap (λ (h : Option (List ℕ)). with_texts journal (take i changes) ++ record { doc = c.doc; at = c.at; held = h } ∷ []) (l.is told)
           ∙ sym (map-append (mapped (text_in journal)) (take i changes) (c ∷ [])) ∙ ap (with_texts journal) (sym more);
     }
-
-pub stopped : (tells : Type 0) (journal : List ℕ) (changes : List (Change TextPlace)) (i : ℕ) (c : Change TextPlace) (loader : Loaded) → i < length changes → c ≡ get_or changes i c
-    → AreAllLoaded tells journal (take i changes) loader → (tells → ¬ (IsText (mapped (text_in journal) c))) → IsStopped tells journal changes i
-stopped tells journal changes i c loader within is r bad = record {
-  within = within;
-  utf8 = λ told. (let T : List (Change (List ℕ)) → Type 0 = λ l. All IsText l in subst T (r.are told) r.utf8);
-  bad = λ told d here. (let N : Change TextPlace → Type 0 = λ x. ¬ (IsText (mapped (text_in journal) x)) in subst N (same d here) (bad told));
-}
-  where
-    same : (d : Change TextPlace) → d ≡ get_or changes i d → c ≡ d
-    same d here = is ∙ get_or_default changes i c d within ∙ sym here
 
 -- ---- one change more, where the first that isn't UTF-8 is known
 

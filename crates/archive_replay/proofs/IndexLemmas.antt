@@ -12,9 +12,8 @@ use Rattle.version_store.specs.declared.refusal.VersionRefusal.TheVariants.{Time
 use Rattle.version_store.specs.Changes.{changes_of, last_of, latest}
 use Rattle.version_store.specs.Refusals.{time_back, same_time, no_document, full_documents, full_versions}
 use Rattle.version_store.specs.Tests.{first_of, when}
-use Rattle.version_store.proofs.Latest.{changes_of-same, changes_of-other, last_time-push}
+use Rattle.version_store.proofs.Latest.{changes_of-same, changes_of-other, last_of-cons, last_time-push}
 use Rattle.version_store.proofs.Indexed.{same-is}
-use Rattle.version_store.proofs.Law.{last_of-cons}
 use Rattle.record_codec.specs.declared.entry.Entry.{Entry}
 use Rattle.record_codec.specs.declared.entry.Entry.TheVariants.{Arrive, Delete, Planned}
 use Rattle.stored_plans.specs.Plans.{IsFitFor}

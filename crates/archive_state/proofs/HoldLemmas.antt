@@ -12,7 +12,7 @@ use Rattle.time_base.specs.declared.posting.Posting.{Posting}
 use Rattle.page_store.specs.Runs.{IsTaken}
 use Rattle.page_store.specs.Taken.{IsApartFrom, AreApart}
 use Rattle.page_store.specs.Ranges.{SameOutside, range_of}
-use Rattle.page_store.specs.Wrote.{Piece, HoldsPiece, Wrote, ranges_of}
+use Rattle.page_store.specs.Wrote.{Wrote}
 use Rattle.page_store.specs.Wrote as wrote
 use Rattle.page_store.proofs.StayLemmas.{AreApartFrom, bytes_stay, taken_right, apart_parts, apart_left}
 use Rattle.record_codec.specs.declared.place.Layout.{Layout}

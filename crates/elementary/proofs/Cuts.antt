@@ -55,9 +55,5 @@ pub space_step : (list : List Posting) (cuts : List ℕ) (k f total s whole : �
     → total + s + space list (slice_index cuts k) (drop (k + 1) cuts) ≡ whole
 space_step list cuts k f total s whole l e h = omega (arith, at_drop_more (λ cs. space list f cs) cuts k 0 l)
 
-pub space_more : (list : List Posting) (cuts : List ℕ) (k m total s whole : ℕ) → k ≡ m → k < length cuts → s ≡ size (slice_index cuts (k - 1)) (slice_index cuts k) list
-    → total + space list (slice_index cuts (k - 1)) (drop k cuts) ≡ whole → total + s + space list (slice_index cuts m) (drop (k + 1) cuts) ≡ whole
-space_more list cuts k m total s whole f l e h = subst (λ n. total + s + space list (slice_index cuts n) (drop (k + 1) cuts) ≡ whole) f (space_step list cuts k _ total s whole l e h)
-
 pub space_end : (list : List Posting) (cuts : List ℕ) (k total f whole : ℕ) → length cuts ≤ k → total + space list f (drop k cuts) ≡ whole → total ≡ whole
 space_end list cuts k total f whole l h = omega (arith, at_drop_all (λ cs. space list f cs) cuts k l)

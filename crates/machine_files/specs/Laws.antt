@@ -1,5 +1,5 @@
 -- The laws of the calls of one trait, and what the calls of one leave of the others.
-use Rattle.std.proofs.Common.{◌≡◌, ◌≤◌, ◌∙◌, refl, sym, ap, subst, arith}
+use Rattle.std.proofs.Common.{◌≡◌, ◌≤◌, ◌∙◌, refl, sym, subst, arith}
 use Rattle.machine_model.specs.Areas.{part}
 use Rattle.machine_model.specs.States.{DiskState, MachineState}
 use Rattle.machine_model.specs.Pushes.{IsSameBeside}

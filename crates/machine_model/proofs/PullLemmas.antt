@@ -1,5 +1,5 @@
 -- Pulls in a row are joined, and a source's pulls are those of its machine.
-use Rattle.std.proofs.Common.{◌≡◌, List, [], ◌∷◌, ◌++◌, ℕ, map, refl, sym, ap, subst, ◌∙◌}
+use Rattle.std.proofs.Common.{◌≡◌, List, [], ◌∷◌, ◌++◌, ℕ, map, refl, ap, subst, ◌∙◌}
 use Rattle.machine_model.specs.Pulls.{Pull, ArePulls, AreAsked}
 
 pub pulls_join : {S : Type 0} (left : S → List ℕ) (only : S → S → Type 0) (x y z : S) (a b : List (List ℕ)) →

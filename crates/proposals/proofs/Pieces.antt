@@ -1,9 +1,7 @@
 -- The segments of a partition, by its cuts and their sizes.
-use Rattle.std.proofs.Common.{◌≡◌, ℕ, suc, ◌+◌, ◌<◌, ◌≤◌, ◌^◌, List, [], ◌∷◌, ◌++◌, drop, length, map, get_or, All, Contains, refl, ap, sym, subst, ◌∙◌, arith}
-use Rattle.std.specs.Prelude.{slice_index}
+use Rattle.std.proofs.Common.{◌≡◌, ℕ, ◌<◌, ◌≤◌, ◌^◌, List, [], ◌∷◌, drop, length, map, get_or, All, Contains, refl, ap, sym, subst, ◌∙◌, arith}
 use Rattle.std.specs.List.{zip}
 use Rattle.std.proofs.lemmas.List.Elements.{All-contains, All-weaker}
-use Rattle.std.proofs.lemmas.List.{append_assoc, append-nil, map-append, drop_more, drop_all}
 use Rattle.time_base.specs.declared.posting.Posting.{Posting}
 use Rattle.time_base.specs.declared.fraction.Fraction.{Fraction}
 use Rattle.postings.specs.Sizes.{size}
@@ -12,7 +10,7 @@ use Rattle.elementary.proofs.Ordering.{each_has_boundaries, one_list_of_boundari
 use Rattle.elementary.proofs.Bests.{each_has_best, one_list_of_best, each_has_a_least, covers_to}
 use Rattle.proposals.specs.declared.proposal.Segment.{Segment}
 use Rattle.proposals.specs.declared.proposal.Node.{Node}
-use Rattle.proposals.specs.Proposals.{pieces, paired, bare_segment, bare_node, AreSegments, AreNodes, IsProposal}
+use Rattle.proposals.specs.Proposals.{pieces, paired, bare_node, AreSegments, AreNodes, IsProposal}
 use Rattle.proposals.specs.Laws.{EachListHasAProposal, ProposalsDifferInSegments}
 
 pub paired_pieces : (list : List Posting) (f : ℕ) (cuts : List ℕ) → paired f cuts (sizes list f cuts) ≡ pieces list f cuts
@@ -90,24 +88,6 @@ differ_in_segments list factor horizon segments others nodes those total sum p q
       maps_same bare_node same_node nodes those (p.nodes_are ∙ ap (λ (ts : List ℕ). zip ts p.numbers) times ∙ ap (λ (ns : List ℕ). zip q.times ns) numbers ∙ sym q.nodes_are),
       omega (arith, over, under, p.total_is, q.total_is, ap (λ f. space list f p.cuts) first, ap (λ f. space list f q.cuts) first),
     )
-
--- one segment more
-pub paired_more : (cuts sizes : List ℕ) (k : ℕ) → k + 1 < length cuts → k < length sizes
-    → paired (slice_index cuts k) (drop (k + 1) cuts) (drop k sizes) ≡ (slice_index cuts k, slice_index cuts (k + 1), slice_index sizes k) ∷ paired (slice_index cuts (k + 1)) (drop (k + 2) cuts) (drop (k + 1) sizes)
-paired_more cuts sizes k c s =
-    ap (λ (cs : List ℕ). paired (slice_index cuts k) cs (drop k sizes)) (drop_more cuts (k + 1) 0 c ∙ ap (λ (n : ℕ). slice_index cuts (k + 1) ∷ drop n cuts) (let e : k + 1 + 1 ≡ k + 2 = omega arith in e))
-    ∙ ap (λ (ss : List ℕ). paired (slice_index cuts k) (slice_index cuts (k + 1) ∷ drop (k + 2) cuts) ss) (drop_more sizes k 0 s)
-
-pub segments_more : (cuts sizes : List ℕ) (k : ℕ) (front : List Segment) (s : Segment) (whole : List (ℕ × ℕ × ℕ)) → k + 1 < length cuts → k < length sizes
-    → bare_segment s ≡ (slice_index cuts k, slice_index cuts (k + 1), slice_index sizes k)
-    → map bare_segment front ++ paired (slice_index cuts k) (drop (k + 1) cuts) (drop k sizes) ≡ whole
-    → map bare_segment (front ++ s ∷ []) ++ paired (slice_index cuts (k + 1)) (drop (k + 2) cuts) (drop (k + 1) sizes) ≡ whole
-segments_more cuts sizes k front s whole c l is e =
-    let rest = paired (slice_index cuts (k + 1)) (drop (k + 2) cuts) (drop (k + 1) sizes) in
-    ap (λ (x : List (ℕ × ℕ × ℕ)). x ++ rest) (map-append bare_segment front (s ∷ []))
-    ∙ append_assoc (map bare_segment front) (bare_segment s ∷ []) rest
-    ∙ ap (λ (x : ℕ × ℕ × ℕ). map bare_segment front ++ x ∷ rest) is
-    ∙ sym (ap (λ (x : List (ℕ × ℕ × ℕ)). map bare_segment front ++ x) (paired_more cuts sizes k c l)) ∙ e
 
 -- cuts that fit boundaries are times
 pub fitting_times : (times cuts : List ℕ) → IsFitting times cuts → All (λ x. x < 2 ^ 40) times → All (λ x. x < 2 ^ 40) cuts

@@ -1,6 +1,6 @@
 -- Elements that stand by a number, and those of one number among them.
 use Rattle.std.proofs.Common.{◌≡◌, ◌≢◌, ℕ, ◌+◌, ◌<◌, ◌≤◌, ◌==◌, ◌&&◌, nat_le, nat_lt, true, false, not, cond, List, [], ◌∷◌, ◌++◌, append-nil, append_assoc, length, get_or, take, drop, filter, All, refl, ap, sym, ◌∙◌, subst, arith}
-use Rattle.std.specs.List.Sorted.{IsPartitionPoint, IsNonDecreasingBy, ties}
+use Rattle.std.specs.List.Sorted.{IsPartitionPoint, ties}
 use Rattle.std.specs.Ordering.{nat_cmp, is_lt}
 use Rattle.std.proofs.lemmas.Bool.{eq-eqb}
 use Rattle.std.proofs.lemmas.Bool.Decides.{nat_tests}
@@ -58,9 +58,6 @@ module _ {X : Type 0} (key : X → ℕ) where
 
       late : All (λ x. key x ≢ d) (drop k (drop s xs))
       late i x m = rw (get_or-drop k (drop s xs) i x) (gt (key (get_or (drop s xs) (k + i) x)) (q.1 (k + i) x (omega arith) (omega (arith, m, length-drop k (drop s xs)))))
-
-  pub drop_rises : (xs : List X) (s : ℕ) → IsNonDecreasingBy key xs → IsNonDecreasingBy key (drop s xs)
-  drop_rises xs s up i j d h m = rw (get_or-drop s xs i d, get_or-drop s xs j d) (up (s + i) (s + j) d (omega (arith, h)) (omega (arith, m, length-drop s xs)))
 
   -- a stable sort keeps the order of those of one number
   pub stable-of : (xs ys : List X) → ((x : X) → filter (ties (λ p q. is_lt (nat_cmp (key p) (key q))) x) ys ≡ filter (ties (λ p q. is_lt (nat_cmp (key p) (key q))) x) xs) → (d : ℕ) → filter (λ x. key x == d) ys ≡ filter (λ x. key x == d) xs

@@ -1,7 +1,5 @@
 -- Reading step by step: what a reading that did not fail did, and where one that failed stopped.
-use Rattle.std.specs.Prelude.{◌≡◌, ℕ, ◌≤◌, Bool, true, false, cond, Result, Ok, Err, refl}
-use Rattle.std.proofs.Common.{arith}
-use Rattle.time_base.specs.Reading.{◌>>=◌}
+use Rattle.std.specs.Prelude.{◌≡◌, ℕ, Bool, true, false, cond, Ok, Err, refl}
 
 -- a test that did not fail
 pub test_ok : {A : Type 0} (b : Bool) (x y : A) (left : ℕ) → cond b (Ok x) (Err left) ≡ Ok y → (b ≡ true) × (x ≡ y)

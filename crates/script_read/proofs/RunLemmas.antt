@@ -1,14 +1,14 @@
 -- What a run of calls of a reader gives.
-use Rattle.std.specs.Prelude.{◌≡◌, ℕ, ◌+◌, ◌<◌, ◌^◌, Bool, true, false, List, [], ◌∷◌, ◌++◌, length, All, Option, Some, None, Result, Ok, Err, refl}
+use Rattle.std.specs.Prelude.{◌≡◌, ℕ, ◌+◌, Bool, true, false, List, [], ◌++◌, length, Option, Some, None, Result, Ok, Err, refl}
 use Rattle.std.proofs.Common.{arith, ap, sym, ◌∙◌, subst, append_assoc, append-nil, length-append}
 use Rattle.commands.specs.declared.command.Item.{Item}
 use Rattle.script_read.specs.Items.{first, Items, IsNoPiece, Splits, Waits}
 use Rattle.script_read.specs.Reading.{ReaderState, fresh, given, Finds, Says, IsCalm, MayFollow, Reads, EndsWith, IsAwaited}
-use Rattle.script_read.specs.declared.first.First.TheVariants.{Whole, Broken, More, End}
+use Rattle.script_read.specs.declared.first.First.TheVariants.{Broken}
 use Rattle.script_read.specs.declared.error.ScriptError.{ScriptError}
 use Rattle.script_read.specs.declared.error.ScriptError.TheVariants as errors
 use Rattle.script_read.proofs.Joins.{items-join, items-append}
-use Rattle.script_read.proofs.Splitting.{end-is, never-more, more-open}
+use Rattle.script_read.proofs.Splitting.{end-is, never-more}
 
 -- at the start
 pub reads_start : Reads [] [] [] fresh

@@ -1,5 +1,5 @@
 -- Bytes split into items in one way, and a script is broken at one place at most.
-use Rattle.std.specs.Prelude.{◌≡◌, ◌≢◌, ℕ, zero, suc, ◌+◌, ◌<◌, ◌≤◌, Bool, true, false, nat_lt, if◌then◌else◌, ◌==◌, ◌&&◌, List, [], ◌∷◌, ◌++◌, length, drop, take, filter_map, Option, Some, None, refl}
+use Rattle.std.specs.Prelude.{◌≡◌, ◌≢◌, ℕ, zero, suc, ◌+◌, ◌<◌, ◌≤◌, Bool, true, false, nat_lt, if◌then◌else◌, ◌==◌, ◌&&◌, List, [], ◌∷◌, ◌++◌, length, drop, take, filter_map, Option, Some, refl}
 use Rattle.std.specs.List.{position_or_len}
 use Rattle.std.proofs.Common.{arith, ap, sym, ◌∙◌, subst, length-drop}
 use Rattle.commands.specs.declared.command.Command.TheVariants.{Arrive}
@@ -10,7 +10,7 @@ use Rattle.script_read.specs.declared.line.Meaning.TheVariants.{Skipped, Alone, 
 use Rattle.script_read.specs.declared.first.First.{First}
 use Rattle.script_read.specs.declared.first.First.TheVariants.{Whole, Broken, More, End}
 use Rattle.script_read.specs.Lines.{meaning}
-use Rattle.script_read.specs.Items.{without_cr, text_at, short, text_end, piece_of, last_piece, open_line, closed_line, first, Pieces, Items, IsNoPiece, Splits, IsBrokenAt, IsScript}
+use Rattle.script_read.specs.Items.{without_cr, text_at, short, text_end, piece_of, last_piece, open_line, closed_line, first, Pieces, IsNoPiece, Splits, IsBrokenAt, IsScript}
 use Rattle.script_read.specs.Reading.{IsWithin}
 use Rattle.script_read.proofs.Cuts.{first_by-append, first_by-within}
 use Rattle.script_read.proofs.Joins.{items-append}

@@ -1,7 +1,6 @@
 -- Reading front after front, as a loop does.
 use Rattle.std.specs.Prelude.{◌≡◌, ℕ, zero, suc, ◌+◌, ◌-◌, ◌<◌, ◌≤◌, List, [], ◌∷◌, ◌++◌, length, Option, Result, Ok, Err, refl}
 use Rattle.std.proofs.Common.{sym, ap, subst, ◌∙◌, append_assoc, arith}
-use Rattle.std.proofs.lemmas.List.{append-nil}
 use Rattle.time_base.specs.Reading.{◌>>=◌}
 use Rattle.sublist_codec.specs.Steps.{last_of, all_at}
 use Rattle.time_base.proofs.Bytes.{IsBytes}
@@ -51,14 +50,6 @@ goes_on front_at total front before rest xs behind r some e shorter =
 pub ends : {A : Type 0} (front_at : Option A → List ℕ → Result (List A × List ℕ) ℕ) (total : Result (List A) ℕ) (front : List A) (before : Option A) (rest : List ℕ) (left : ℕ)
     → IsRead front_at total front before rest → 0 < length rest → front_at before rest ≡ Err left → total ≡ Err left
 ends front_at total front before rest left r some e = sym (rw e at (ap (with_front front) (sym (all_more front_at r.readings before rest some r.enough)) ∙ r.same))
-
-pub is_done : {A : Type 0} (front_at : Option A → List ℕ → Result (List A × List ℕ) ℕ) (total : Result (List A) ℕ) (front : List A) (before : Option A) (rest : List ℕ)
-    → IsRead front_at total front before rest → length rest ≡ 0 → total ≡ Ok front
-is_done front_at total front before rest r none = go r.readings rest none r.same
-  where
-    go : (n : ℕ) (rest : List ℕ) → length rest ≡ 0 → with_front front (all_at front_at n before rest) ≡ total → total ≡ Ok front
-    go n [] none same = sym same ∙ ap (λ xs. Ok xs) (append-nil front)
-    go n (b ∷ bytes) none same = absurd (omega arith)
 
 -- one front, and then the others
 pub all_step : {A : Type 0} (front_at : Option A → List ℕ → Result (List A × List ℕ) ℕ) (n : ℕ) (before : Option A) (bytes : List ℕ) (xs : List A) (behind : List ℕ) → 0 < length bytes → front_at before bytes ≡ Ok (xs, behind)

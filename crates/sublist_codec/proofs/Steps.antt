@@ -1,5 +1,5 @@
 -- What the steps of a reading that didn't fail did.
-use Rattle.std.specs.Prelude.{◌≡◌, ℕ, Bool, true, false, cond, Option, Some, None, Result, Ok, Err, refl}
+use Rattle.std.specs.Prelude.{◌≡◌, ℕ, Bool, true, false, cond, Option, Some, None, Result, Err, refl}
 use Rattle.sublist_codec.specs.declared.error.ListError.{ListError}
 use Rattle.sublist_codec.specs.declared.error.ListError.TheVariants.{Form, Memory}
 use Rattle.sublist_codec.specs.Decoding.{OrMemory}

@@ -4,11 +4,9 @@ use Rattle.std.specs.Coded.{le_prop}
 use mathlib.Core.HLevel.{is_prop→PathP}
 use Rattle.time_base.specs.declared.time.Time.{Time}
 use Rattle.time_base.specs.declared.time.Span.{Span}
-use Rattle.time_base.specs.declared.ids.WordId.{WordId}
 use Rattle.time_base.specs.declared.fraction.Fraction.{Fraction}
 use Rattle.time_base.specs.declared.posting.Posting.{Posting}
 use Rattle.time_base.specs.declared.extent.Extent.{Extent}
-use Rattle.time_base.specs.declared.text_place.TextPlace.{TextPlace}
 
 -- times of as many seconds are one
 pub same_time : (s t : Time) → s.seconds ≡ t.seconds → s ≡ t

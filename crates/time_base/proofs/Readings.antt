@@ -1,6 +1,6 @@
 -- Reading step by step: what a reading that did not fail did, and where one that failed stopped.
 use Rattle.std.specs.Prelude.{◌≡◌, ℕ, ◌≤◌, Option, Some, None, Result, Ok, Err, refl}
-use Rattle.std.proofs.Common.{arith, subst}
+use Rattle.std.proofs.Common.{arith}
 use Rattle.time_base.specs.Reading.{◌>>=◌, value_or}
 
 abbrev done : {A : Type 0} → A → Result A ℕ
@@ -39,7 +39,3 @@ Within-next rest last len r f w next = Within-then rest last len r f w (λ x le.
 pub Within-err : {A : Type 0} (rest : A → ℕ) (len : ℕ) (r : Result A ℕ) (left : ℕ) → Within rest len r → r ≡ Err left → left ≤ len
 Within-err rest len (Ok x) left w e = absurd cc
 Within-err rest len (Err k) left w e = let same : k ≡ left = cc in omega arith
-
-pub Within-ok : {A : Type 0} (rest : A → ℕ) (len : ℕ) (r : Result A ℕ) (x : A) → Within rest len r → r ≡ Ok x → rest x ≤ len
-Within-ok rest len (Ok y) x w e = subst (λ z. rest z ≤ len) (ok_is y x e) w
-Within-ok rest len (Err k) x w e = absurd cc

@@ -18,7 +18,7 @@ use Rattle.version_store.specs.declared.last_life.LastLife.{LastLife}
 use Rattle.version_store.specs.declared.link.Link.{Link}
 use Rattle.time_base.specs.declared.time.Time.{Time}
 use Rattle.version_store.specs.declared.refusal.VersionRefusal.TheVariants.{TimeBack}
-use Rattle.version_store.specs.Changes.{put, documents, valid_at, held_at}
+use Rattle.version_store.specs.Changes.{put, documents}
 use Rattle.version_store.specs.Refusals.{time_back}
 use Rattle.version_store.specs.Index.{LastLives, IsLatest, IsLinked, AreLinked, IsIndexed}
 use Rattle.version_store.specs.LastLives.{IsLastLife}

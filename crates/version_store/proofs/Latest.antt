@@ -1,5 +1,5 @@
 -- Where a document's latest change lies, and how that goes on as changes come.
-use Rattle.std.specs.Prelude.{◌≡◌, ◌≢◌, ℕ, ◌≤◌, Bool, true, false, cond, ◌==◌, List, [], ◌∷◌, ◌++◌, length, take, slice_get, Option, Some, None, All, refl}
+use Rattle.std.specs.Prelude.{◌≡◌, ◌≢◌, ℕ, suc, ◌-◌, ◌≤◌, true, false, cond, ◌==◌, List, [], ◌∷◌, ◌++◌, length, take, slice_get, Option, Some, None, All, refl}
 use Rattle.std.proofs.Common.{arith, ap, sym, ◌∙◌}
 use Rattle.std.proofs.lemmas.Bool.{ne_eqb}
 use Rattle.std.proofs.lemmas.Option.{slice_get_within}
@@ -12,6 +12,13 @@ use Rattle.version_store.specs.Changes.{changes_of, latest, last_of, last_time}
 use Rattle.std.specs.Option.{option_map}
 use Rattle.version_store.specs.Index.{IsLatest}
 use Rattle.version_store.proofs.Listed.{some_of, slice_get-end, slice_get-grown, last_of-push}
+
+-- a longer list has the same last element
+pub last_of-cons : {A : Type 0} (x y : A) (ys : List A) → last_of (x ∷ y ∷ ys) ≡ last_of (y ∷ ys)
+last_of-cons x y ys =
+    let m : suc (suc (length ys)) - 1 ≡ suc (length ys) = omega arith in
+    let n : suc (length ys) - 1 ≡ length ys = omega arith in
+    rw (m, n) refl
 
 module _ {A : Type 0} where
   -- one more change of the document
@@ -29,10 +36,6 @@ module _ {A : Type 0} where
       let ne : c.doc.0 == doc.0 ≡ false = ne_eqb c.doc.0 doc.0 (All-head (λ (c : Change A). c.doc.0 ≢ doc.0) c changes a) in
       rw ne (changes_of-none doc changes (All-tail (λ c. c.doc.0 ≢ doc.0) c changes a))
 
-  -- where no change is known there is none
-  pub latest-none : (doc : DocId) (changes : List (Change A)) → IsLatest doc changes None → latest doc changes ≡ None
-  latest-none doc changes h = ap last_of h
-
   -- the change at the place is the latest
   pub latest-some : (doc : DocId) (changes : List (Change A)) (i : ℕ) → IsLatest doc changes (Some i) → latest doc changes ≡ slice_get changes i
   latest-some doc changes i h = let at = some_of (slice_get changes i) _ h in ap last_of at.2.1 ∙ last_of-push (changes_of doc (take i changes)) at.0 ∙ sym at.1
@@ -49,14 +52,6 @@ module _ {A : Type 0} where
   pub IsLatest-same : (doc : DocId) (changes : List (Change A)) (c : Change A) → c.doc ≡ doc → c.doc.0 == doc.0 ≡ true → IsLatest doc (changes ++ c ∷ []) (Some (length changes))
   IsLatest-same doc changes c is e =
       rw (slice_get-end changes c) (is, changes_of-same doc changes c e ∙ ap (λ xs. changes_of doc xs ++ c ∷ []) (sym (take-append_seam changes (c ∷ []))))
-
-  -- the latest change, as one more comes
-  pub latest-push : (doc : DocId) (changes : List (Change A)) (c : Change A) → latest doc (changes ++ c ∷ []) ≡ cond (c.doc.0 == doc.0) (Some c) (latest doc changes)
-  latest-push doc changes c = go (c.doc.0 == doc.0) refl
-    where
-      go : (b : Bool) → c.doc.0 == doc.0 ≡ b → latest doc (changes ++ c ∷ []) ≡ cond b (Some c) (latest doc changes)
-      go true e = ap last_of (changes_of-same doc changes c e) ∙ last_of-push (changes_of doc changes) c
-      go false e = ap last_of (changes_of-other doc changes c e)
 
   -- the time of the last change, as one more comes
   pub last_time-push : (changes : List (Change A)) (c : Change A) → last_time (changes ++ c ∷ []) ≡ Some c.at

@@ -4,7 +4,6 @@ mod Known
 pub mod Indexed
 pub mod Mapped
 pub mod Valid
-pub mod Law
 mod Lasting
 mod Steps
 mod Ascending
