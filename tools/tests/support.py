@@ -79,6 +79,24 @@ def sample(seed: int, documents: int, count: int) -> list[Version]:
     return versions
 
 
+def stand_in(refusal: str) -> str:
+    """A script in place of tt_archive: it counts the versions that arrive, but those for which `refusal`, an
+    expression over `doc`, tells why not."""
+    return f"""
+import sys
+count = 0
+for line in sys.stdin.buffer:
+    match line.split():
+        case [b"delete", _, _]:
+            print("no 4 NoDocument", flush=True)
+        case [b"arrive", doc, _, size]:
+            sys.stdin.buffer.read(int(size) + 1)
+            refusal = {refusal}
+            count += not refusal
+            print(f"no 99 {{refusal}}" if refusal else f"ok {{count}}", flush=True)
+"""
+
+
 @functools.cache
 def answers(what: str) -> bool:
     """Whether the program under test answers this."""

@@ -6,26 +6,14 @@ import os
 import subprocess
 import sys
 
-from support import TOOLS, ArchiveCase
+from support import TOOLS, ArchiveCase, stand_in
 
 DAY = 86_400
 #: 2007-07-23
 START = 13_717 * DAY
 
 #: In place of tt_archive: takes a version where its document's number is in the table of names.
-LOOKING = """
-import sys
-count = 0
-for line in sys.stdin.buffer:
-    match line.split():
-        case [b"delete", _, _]:
-            print("no 4 NoDocument", flush=True)
-        case [b"arrive", doc, _, size]:
-            sys.stdin.buffer.read(int(size) + 1)
-            count += 1
-            named = doc in (row.split()[0] for row in open("names.tsv", "rb"))
-            print(f"ok {count}" if named else "no 99 Unnamed", flush=True)
-"""
+LOOKING = stand_in("'' if any(doc == row.split()[0] for row in open('names.tsv', 'rb')) else 'Unnamed'")
 
 
 class FolderImport(ArchiveCase):

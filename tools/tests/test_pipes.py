@@ -12,7 +12,7 @@ import time
 import unittest
 from pathlib import Path
 
-from support import TOOLS, ArchiveCase, find_program
+from support import TOOLS, ArchiveCase, find_program, stand_in
 from test_git import DAY, START, Repository
 from tt_archive_tools.errors import ProgramFailed
 from tt_archive_tools.journal import summary
@@ -20,19 +20,7 @@ from tt_archive_tools.program import Program, Shard
 from tt_archive_tools.replies import ReplyReader
 
 #: In place of tt_archive: refuses every seventh document, at greater length than a pipe holds.
-REFUSING = """
-import sys
-count = 0
-for line in sys.stdin.buffer:
-    match line.split():
-        case [b"delete", _, _]:
-            print("no 4 NoDocument", flush=True)
-        case [b"arrive", doc, _, size]:
-            sys.stdin.buffer.read(int(size) + 1)
-            refused = int(doc) % 7 == 0
-            count += not refused
-            print(f"no 99 Seventh {int(doc)} {'x' * 70_000}" if refused else f"ok {count}", flush=True)
-"""
+REFUSING = stand_in("'' if int(doc) % 7 else 'Seventh ' + doc.decode() + ' ' + 'x' * 70_000")
 FILES, COMMITS = 400, 2
 REPLIES = b"""ok 12
 text 10
