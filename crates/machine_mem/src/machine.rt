@@ -244,22 +244,13 @@ impl MemMachine {
 
 impl Machine for MemMachine {
     ghost use Rattle.std.specs.Prelude.{refl};
-    ghost use Rattle.std.proofs.Common.{ap};
     ghost use Rattle.machine_model.specs.Pulls.{AreAsked};
-    ghost use Rattle.machine_model.proofs.PullLemmas.{asked_join, pulls_asked};
-    ghost use Rattle.machine_mem.specs.Machines.{OnlySource, IsBefore};
+    ghost use Rattle.machine_model.proofs.PullLemmas.{asked_laws};
+    ghost use Rattle.machine_mem.specs.Machines.{OnlySource, OnlySink, OnlyDisk, IsBefore};
 
     ghost asked = { λ x pulls y. AreAsked (λ m. m.source) IsBefore OnlySource (meaning x) pulls (meaning y) };
 
-    ghost asked_by = { λ x y lefts are. pulls_asked (λ m. m.source) (λ m. m.source.left) (λ m. m.sink.shown) OnlySource (λ a b one. ap (λ s. s.shown) one.sink) (meaning x) (meaning y) (meaning x).sink.shown refl lefts are };
-
-    ghost sink_asks_nothing = { λ x y one. one.source };
-
-    ghost disk_asks_nothing = { λ x y one. one.source };
-
-    ghost asked_joins = { λ x y z a b one two. asked_join (λ m. m.source) IsBefore OnlySource (meaning x) (meaning y) (meaning z) a b one two };
-
-    ghost asked_still = { λ x y still. still };
+    ghost asked_laws = { asked_laws meaning (λ m. m.source) (λ m. m.sink) OnlySource (λ a b one. one.sink) OnlySink (λ a b one. one.source) OnlyDisk (λ a b one. one.source) };
 
     ghost source_alone = { λ x y one. (one.sink, one.disk) };
 

@@ -1,7 +1,7 @@
 //! A source over bytes that lie in memory.
-ghost use Rattle.std.specs.Prelude.{◌≡◌, refl};
+ghost use Rattle.std.specs.Prelude.{◌≡◌};
 ghost use Rattle.machine_model.specs.Pulls.{ArePulls};
-ghost use Rattle.machine_model.proofs.PullLemmas.{pulls_join};
+ghost use Rattle.machine_model.proofs.PullLemmas.{source_laws};
 ghost use Rattle.std.proofs.Common.{lit≤};
 ghost use Rattle.machine_mem.specs.Slices.{slice_state};
 
@@ -30,21 +30,9 @@ impl<'a> Source for SliceSource<'a> {
 
     ghost only = { λ x y. Unit {0} };
 
-    ghost pulled = { λ x lefts y. ArePulls (λ s. s.left) (λ s t. Unit {0}) (slice_state x) lefts (slice_state y) };
+    ghost pulled = { λ x lefts y. ArePulls (λ left. left) (λ s t. Unit {0}) (slice_state x).left lefts (slice_state y).left };
 
-    ghost pulled_none = { λ x. refl };
-
-    ghost pulled_joins = { λ x y z a b one two. pulls_join (λ s. s.left) (λ s t. Unit {0}) (slice_state x) (slice_state y) (slice_state z) a b one two };
-
-    ghost pulled_still = { λ x y still. still };
-
-    ghost only_same = { λ x. tt };
-
-    ghost only_joins = { λ x y z one two. tt };
-
-    ghost only_faults = { λ x y one. lit≤ tt };
-
-    ghost faults_limit = { λ x. lit≤ tt };
+    ghost laws = { source_laws (λ x. (slice_state x).left) (λ left. record { left = left; faults = 0 }) (λ s t. Unit {0}) (λ s. tt) (λ s t u one two. tt) (λ s t one. lit≤ tt) (λ x. lit≤ tt) };
 
     fn pull(&mut self, buf: &mut [u8]) -> Result<usize, Failed> {
         let count = fill(buf, self.left);

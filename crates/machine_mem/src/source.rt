@@ -4,12 +4,11 @@ use crate::faults::CallKind;
 use machine_model::{Failed, Source};
 
 impl Source for MemMachine {
-    ghost use Rattle.std.specs.Prelude.{◌≡◌, ℕ, ◌≤◌, ◌++◌, [], ◌∷◌, min, length, take, IfOk, OnErr, IsErr, refl};
-    ghost use Rattle.std.proofs.Common.{ap};
+    ghost use Rattle.std.specs.Prelude.{◌≡◌, ℕ, ◌≤◌, ◌++◌, [], ◌∷◌, min, length, take, IfOk, OnErr, IsErr};
     ghost use Rattle.machine_model.specs.Causes.{HasCause};
     ghost use Rattle.machine_mem.specs.Machines.{OnlySource, pulled, failed_source};
     ghost use Rattle.machine_model.specs.Pulls.{ArePulls};
-    ghost use Rattle.machine_model.proofs.PullLemmas.{pulls_join};
+    ghost use Rattle.machine_model.proofs.PullLemmas.{source_laws};
     ghost use Rattle.machine_mem.specs.MachineLaws.{OnlySource-same, OnlySource-joins};
     ghost use Rattle.machine_mem.specs.Calls.{IsDue, called, script_of, Serves, Stays};
     ghost use Rattle.machine_mem.specs.Meaning.{meaning, source_state};
@@ -22,19 +21,7 @@ impl Source for MemMachine {
 
     ghost pulled = { λ x lefts y. ArePulls (λ m. m.source.left) OnlySource (meaning x) lefts (meaning y) };
 
-    ghost pulled_none = { λ x. refl };
-
-    ghost pulled_joins = { λ x y z a b one two. pulls_join (λ m. m.source.left) OnlySource (meaning x) (meaning y) (meaning z) a b one two };
-
-    ghost pulled_still = { λ x y still. ap (λ m. m.source) still };
-
-    ghost only_same = { λ x. OnlySource-same (meaning x) };
-
-    ghost only_joins = { λ x y z one two. OnlySource-joins (meaning x) (meaning y) (meaning z) one two };
-
-    ghost only_faults = { λ x y one. one.faults };
-
-    ghost faults_limit = { λ x. x.source_faults.small };
+    ghost laws = { source_laws meaning (λ m. m.source) OnlySource OnlySource-same OnlySource-joins (λ x y one. one.faults) (λ x. x.source_faults.small) };
 
     fn pull(&mut self, buf: &mut [u8]) -> Result<usize, Failed>
         ensures only { OnlySource (meaning self.old) (meaning self.new) }

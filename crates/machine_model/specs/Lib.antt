@@ -6,3 +6,4 @@ pub mod Moments
 pub mod Calls
 pub mod Pulls
 pub mod Pushes
+pub mod Laws

@@ -1,5 +1,6 @@
 //! A source, a sink and a disk in one.
-ghost use Rattle.std.specs.Prelude.{◌≡◌, ℕ, List, [], ◌++◌, map, Result};
+ghost use Rattle.std.specs.Prelude.{◌≡◌, ℕ, List, Result};
+ghost use Rattle.machine_model.specs.Laws.{AskedLaws};
 ghost use Rattle.machine_model.specs.Pulls.{Pull};
 ghost use Rattle.machine_model.specs.Pushes.{IsSameBeside, OnlyShows, IsShownByPiece, taken};
 
@@ -25,14 +26,6 @@ pub trait Machine: Source + Sink + Disk {
     ghost shows: { (x y : Self) → Self.sink_tells → Self.disk_tells → Self.Sink.only x y → OnlyShows (Self.disk x) (Self.disk y) (Self.sink x).shown (Self.sink y).shown };
     // one push, exactly
     ghost shows_piece: { (x y : Self) (piece : List ℕ) (answer : Result ℕ Failed) → Self.sink_tells → Self.disk_tells → Self.pushed x piece answer y → IsShownByPiece (Self.sink x).shown piece (taken answer) (Self.disk x) (Self.disk y) };
-    // the pulls of the source, beside what is shown
-    ghost asked_by: { (x y : Self) (lefts : List (List ℕ)) → Self.pulled x lefts y → asked x (map (λ before. record { left = before; shown = (Self.sink x).shown }) lefts) y };
-    // the other traits pull nothing
-    ghost sink_asks_nothing: { (x y : Self) → Self.Sink.only x y → asked x [] y };
-
-    ghost disk_asks_nothing: { (x y : Self) → Self.Disk.only x y → asked x [] y };
-
-    ghost asked_joins: { (x y z : Self) (a b : List Pull) → asked x a y → asked y b z → asked x (a ++ b) z };
-    // without a pull the source is as it was
-    ghost asked_still: { (x y : Self) → asked x [] y → Self.source y ≡ Self.source x };
+    /// The laws of these pulls.
+    ghost asked_laws: { AskedLaws Self.source Self.sink Self.pulled Self.Sink.only Self.Disk.only asked };
 }

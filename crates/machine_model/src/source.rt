@@ -1,7 +1,8 @@
 //! Where bytes come from.
-ghost use Rattle.std.specs.Prelude.{◌≡◌, ◌≤◌, ◌^◌, ◌-◌, ◌++◌, [], ◌∷◌, ℕ, List, length, take, IfOk, OnErr};
+ghost use Rattle.std.specs.Prelude.{◌≡◌, ◌≤◌, ◌++◌, [], ◌∷◌, ℕ, List, length, take, IfOk, OnErr};
 ghost use Rattle.machine_model.specs.States.{SourceState};
 ghost use Rattle.machine_model.specs.Causes.{HasCause};
+ghost use Rattle.machine_model.specs.Laws.{SourceLaws};
 
 use crate::Failed;
 
@@ -32,17 +33,6 @@ pub trait Source {
         ensures end { source_tells → IfOk result (λ n. n ≡ 0 → 1 ≤ length buf.new → (source self.old).left ≡ []) }
         ensures failed { source_tells → OnErr result ((source self.new).left ≡ (source self.old).left) };
 
-    ghost only_same: { (x : Self) → only x x };
-
-    ghost only_joins: { (x y z : Self) → only x y → only y z → only x z };
-
-    ghost pulled_none: { (x : Self) → pulled x [] x };
-
-    ghost pulled_joins: { (x y z : Self) (a b : List (List ℕ)) → pulled x a y → pulled y b z → pulled x (a ++ b) z };
-    // without a pull the source is as it was
-    ghost pulled_still: { (x y : Self) → pulled x [] y → source y ≡ source x };
-
-    ghost only_faults: { (x y : Self) → only x y → (source x).faults ≤ (source y).faults };
-    // the count is that of a real machine's counter
-    ghost faults_limit: { (x : Self) → (source x).faults ≤ 2 ^ 64 - 1 };
+    /// The laws of these.
+    ghost laws: { SourceLaws source only pulled };
 }

@@ -18,11 +18,10 @@ struct Pieces<'a> {
 }
 
 impl Source for Pieces<'_> {
-    ghost use Rattle.std.specs.Prelude.{[], ◌≤◌, ℕ, refl};
-    ghost use Rattle.std.proofs.Common.{ap, arith};
-    ghost use Rattle.machine_model.specs.States.{SourceState};
+    ghost use Rattle.std.specs.Prelude.{[], ◌≤◌, ℕ};
+    ghost use Rattle.std.proofs.Common.{arith};
     ghost use Rattle.machine_model.specs.Pulls.{ArePulls};
-    ghost use Rattle.machine_model.proofs.PullLemmas.{pulls_join};
+    ghost use Rattle.machine_model.proofs.PullLemmas.{source_laws};
 
     ghost source_tells = { ⊥ };
 
@@ -30,21 +29,9 @@ impl Source for Pieces<'_> {
 
     ghost only = { λ x y. x.faults ≤ y.faults };
 
-    ghost pulled = { λ x lefts y. ArePulls (λ (faults : ℕ). []) (λ m n. Unit {0}) x.faults lefts y.faults };
+    ghost pulled = { λ x lefts y. ArePulls (λ (faults : ℕ). []) (λ m n. m ≤ n) x.faults lefts y.faults };
 
-    ghost only_same = { λ x. Prim.omega arith };
-
-    ghost only_joins = { λ x y z a b. Prim.omega arith };
-
-    ghost pulled_none = { λ x. refl };
-
-    ghost pulled_joins = { λ x y z a b one two. pulls_join (λ (faults : ℕ). []) (λ m n. Unit {0}) x.faults y.faults z.faults a b one two };
-
-    ghost pulled_still = { λ x y still. let state : ℕ → SourceState = λ n. record { left = []; faults = n } in ap state still };
-
-    ghost only_faults = { λ x y a. a };
-
-    ghost faults_limit = { λ x. Prim.omega (arith, x.counted) };
+    ghost laws = { source_laws (λ x. x.faults) (λ n. record { left = []; faults = n }) (λ m n. m ≤ n) (λ n. Prim.omega arith) (λ m n k one two. Prim.omega (arith, one, two)) (λ m n one. one) (λ x. Prim.omega (arith, x.counted)) };
 
     fn pull(&mut self, buf: &mut [u8]) -> Result<usize, Failed> {
         if self.fails > 0 {

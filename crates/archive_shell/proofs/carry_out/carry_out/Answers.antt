@@ -13,7 +13,7 @@ use Rattle.archive_shell.proofs.carry_out.carry_out.Goals.{After-show}
 use Rattle.archive_shell.proofs.carry_out.carry_out.Goals as goal
 
 pub returns-in-Err-clause-asked : goal.returns-in-Err-clause-asked
-returns-in-Err-clause-asked g c = g.met.M.Machine.disk_asks_nothing c.args.machine.now c.answer.new.disk c.answer.ensures.only
+returns-in-Err-clause-asked g c = g.met.M.Machine.asked_laws.of_disk c.args.machine.now c.answer.new.disk c.answer.ensures.only
 
 pub returns-in-Err-clause-outcome : goal.returns-in-Err-clause-outcome
 returns-in-Err-clause-outcome g c = λ disk_tells sink_tells h in_step.
@@ -24,8 +24,8 @@ returns-in-Err-clause-outcome g c = λ disk_tells sink_tells h in_step.
 -- no pull was made
 asked : (g : Over) (c : After-show g) → g.M.Machine.asked c.args.machine.now [] c.show.new.sink
 asked g c =
-    g.M.Machine.asked_joins c.args.machine.now c.answer.new.disk c.show.new.sink [] [] (g.met.M.Machine.disk_asks_nothing c.args.machine.now c.answer.new.disk c.answer.ensures.only)
-    (g.met.M.Machine.sink_asks_nothing c.answer.new.disk c.show.new.sink c.show.ensures.only)
+    g.M.Machine.asked_laws.join c.args.machine.now c.answer.new.disk c.show.new.sink [] [] (g.met.M.Machine.asked_laws.of_disk c.args.machine.now c.answer.new.disk c.answer.ensures.only)
+    (g.met.M.Machine.asked_laws.of_sink c.answer.new.disk c.show.new.sink c.show.ensures.only)
 
 -- the item has an outcome, and its reply was shown, or a front of it
 outcome : (g : Over) (c : After-show g) (result : Result (Unit {0}) Stop) → g.M.Disk.disk_tells → g.M.Sink.sink_tells → (h : History) → AreInStep (g.M.Disk.disk c.args.machine.now) c.args.archive.now h

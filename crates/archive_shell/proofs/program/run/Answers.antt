@@ -19,7 +19,7 @@ returns-in-Err-clause-headline g c = λ source_tells sink_tells disk_tells are h
     let m = c.args.machine.now in
     let none = memory g (goal.at.returns-in-Err-clause-headline g c).In-Err tasks.Script are in (
       [],
-      g.met.M.Machine.disk_asks_nothing m m (g.met.M.Disk.only_same m),
+      g.met.M.Machine.asked_laws.of_disk m m (g.met.M.Disk.only_same m),
       not_begun h c.in-Err.status _ _ (inr (inr (inl none))) (rw none tt) (refl, refl) (g.met.M.Machine.beside_shown m sink_tells disk_tells) (keeps_still h (g.M.Disk.disk m)),
     )
 

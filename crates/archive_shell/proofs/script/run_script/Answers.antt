@@ -29,7 +29,7 @@ pub returns-in-Err-clause-headline : goal.returns-in-Err-clause-headline
 returns-in-Err-clause-headline g c = λ source_tells sink_tells disk_tells h stands.
     let m = c.args.machine.now in (
       [],
-      g.met.M.Machine.disk_asks_nothing m m (g.met.M.Disk.only_same m),
+      g.met.M.Machine.asked_laws.of_disk m m (g.met.M.Disk.only_same m),
       not_begun h Memory _ _ (inr (inr (inl refl))) tt (refl, refl) (g.met.M.Machine.beside_shown m sink_tells disk_tells) (keeps_still h (g.M.Disk.disk m)),
     )
 
@@ -48,7 +48,7 @@ returns-in-Err-load-clause-headline g c = λ source_tells sink_tells disk_tells 
     let n = c.load.new.disk in
     let early = load_early c.from.result c.in-Err-load.error c.from.ensures (λ at is. stands_is_archive h (g.M.Disk.disk m).holds at stands (c.in-Err-load.ensures.not_archive disk_tells at (ap Err is))) in (
       [],
-      g.met.M.Machine.disk_asks_nothing m n c.load.ensures.only,
+      g.met.M.Machine.asked_laws.of_disk m n c.load.ensures.only,
       not_begun h c.from.result _ _ early (load_undone c.from.result c.in-Err-load.error c.from.ensures) (g.met.M.Machine.disk_alone m n c.load.ensures.only)
           (g.met.M.Machine.beside_shown m sink_tells disk_tells) (c.in-Err-load.ensures.crash disk_tells h),
     )
@@ -102,7 +102,7 @@ returns-clause-headline g c = λ source_tells sink_tells disk_tells h stands.
     (c.in-Ok-load.ensures.in_step disk_tells h stands)) in
     let S : SourceState → SinkState → Type 0 = λ s t. Serves (world_of h) c.serve.result (record { source = s; sink = t; disk = g.M.Disk.disk n }) (state_by g.M.Source.source g.M.Sink.sink g.M.Disk.disk last) served.0 in (
       served.0,
-      g.M.Machine.asked_joins m n last [] served.0 (g.met.M.Machine.disk_asks_nothing m n c.load.ensures.only) served.1,
+      g.M.Machine.asked_laws.join m n last [] served.0 (g.met.M.Machine.asked_laws.of_disk m n c.load.ensures.only) served.1,
       whole_run h c.serve.result (state_by g.M.Source.source g.M.Sink.sink g.M.Disk.disk m) (g.M.Disk.disk n) (state_by g.M.Source.source g.M.Sink.sink g.M.Disk.disk last) served.0
           (g.met.M.Machine.beside_shown m sink_tells disk_tells) (c.in-Ok-load.ensures.crash disk_tells h)
           (subst (λ (s : SourceState). S s (g.M.Sink.sink m)) alone.0 (subst (λ (t : SinkState). S (g.M.Source.source n) t) alone.1 served.2)),

@@ -23,8 +23,8 @@ asked g c tells began p =
     let mid = c.next_item.new.source in
     let made = c.next_item.ensures.awaited p.since p.reads.stands in
     let pulls = pulls_in c.args.reader.now p.since (g.M.Source.source m).left (λ lefts. g.M.Source.pulled m lefts mid)
-    (λ none. rw (c.next_item.ensures.calm p.since p.reads.stands none) (g.met.M.Source.pulled_none m)) (made.0, made.1, made.2 tells) in
-    (pulls.0, rw (g.met.M.Machine.source_alone m mid c.next_item.ensures.only).0 (g.met.M.Machine.asked_by m mid pulls.0 pulls.1), pulls.2)
+    (λ none. rw (c.next_item.ensures.calm p.since p.reads.stands none) (g.met.M.Source.laws.unpulled m)) (made.0, made.1, made.2 tells) in
+    (pulls.0, rw (g.met.M.Machine.source_alone m mid c.next_item.ensures.only).0 (g.met.M.Machine.asked_laws.by m mid pulls.0 pulls.1), pulls.2)
 
 pub returns-in-Err-clause-gives : goal.returns-in-Err-clause-gives
 returns-in-Err-clause-gives g c = given g (goal.at.returns-in-Err-clause-gives g c).After-next_item _ (ap Err c.from.ensures ∙ ap next_by (sym c.in-Err.is))

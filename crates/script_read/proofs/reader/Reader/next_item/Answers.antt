@@ -9,10 +9,10 @@ use Rattle.script_read.proofs.reader.Reader.next_item.Goals as goal
 
 pub rounds-init : goal.rounds-init
 rounds-init g c = record {
-  only = g.met.S.Source.only_same c.args.source.now;
+  only = g.met.S.Source.laws.same c.args.source.now;
   went = λ since stands. goes-start _ _ c.args.self.now since stands;
   still = λ since stands quiet. refl;
-  awaited = λ since stands. ([], g.met.S.Source.pulled_none c.args.source.now, λ tells. All-nil (IsAwaited since (g.S.Source.source c.args.source.now).left));
+  awaited = λ since stands. ([], g.met.S.Source.laws.unpulled c.args.source.now, λ tells. All-nil (IsAwaited since (g.S.Source.source c.args.source.now).left));
   further = omega arith;
   end = λ tells first told. first told;
 }
@@ -69,7 +69,7 @@ rounds-preserved g c =
     let pull = c.pull.ensures in
     let more : More ≡ found c.front.new.self = sym c.in-More.is ∙ front.value in
     record {
-      only = g.met.S.Source.only_joins _ _ _ run.only pull.only;
+      only = g.met.S.Source.laws.joins _ _ _ run.only pull.only;
       went = λ since stands.
           goes-pull _ _ _ _ c.args.self.now c.front.new.self c.pull.new.self since pull.bytes.0
           (goes-front _ _ _ c.args.self.now c.rounds.self c.front.new.self since [] (run.went since stands) front.stands front.passed front.ended)
@@ -80,7 +80,7 @@ rounds-preserved g c =
       awaited = λ since stands.
           let earlier = run.awaited since stands in (
             earlier.0 ++ pull.asked.0,
-            g.met.S.Source.pulled_joins _ _ _ _ _ earlier.1 pull.asked.1,
+            g.met.S.Source.laws.pulls_join _ _ _ _ _ earlier.1 pull.asked.1,
             awaited-more _ _ _ c.args.self.now c.front.new.self since
                 (goes-front _ _ _ c.args.self.now c.rounds.self c.front.new.self since [] (run.went since stands) front.stands front.passed front.ended)
                 more (still-open c.front.new.self more) earlier.0 pull.asked.0 earlier.2 pull.asked.2,
@@ -115,7 +115,7 @@ returns-in_err-pull-in-More-clause-awaited g c = λ since stands.
     let more : More ≡ found c.front.new.self = sym c.in-More.is ∙ front.value in
     let earlier = c.rounds.invariant.awaited since stands in (
       earlier.0 ++ pull.asked.0,
-      g.met.S.Source.pulled_joins _ _ _ _ _ earlier.1 pull.asked.1,
+      g.met.S.Source.laws.pulls_join _ _ _ _ _ earlier.1 pull.asked.1,
       awaited-more _ _ _ c.args.self.now c.front.new.self since
           (goes-front _ _ _ c.args.self.now c.rounds.self c.front.new.self since [] (c.rounds.invariant.went since stands) front.stands front.passed front.ended)
           more (still-open c.front.new.self more) earlier.0 pull.asked.0 earlier.2 pull.asked.2,
