@@ -45,7 +45,7 @@ source_laws meaning source only same joins faults limit = record {
 pub asked_laws : {X S : Type 0} (meaning : X → S) (source : S → SourceState) (sink : S → SinkState) (only : S → S → Type 0) → ((s t : S) → only s t → sink t ≡ sink s) →
     (sink_only : S → S → Type 0) → ((s t : S) → sink_only s t → source t ≡ source s) → (disk_only : S → S → Type 0) → ((s t : S) → disk_only s t → source t ≡ source s) →
     AskedLaws (λ x. source (meaning x)) (λ x. sink (meaning x)) (λ x lefts y. ArePulls (λ s. (source s).left) only (meaning x) lefts (meaning y)) (λ x y. sink_only (meaning x) (meaning y)) (λ x y. disk_only (meaning x) (meaning y))
-      (λ x pulls y. AreAsked source (λ s pull. ((source s).left ≡ pull.left) × ((sink s).shown ≡ pull.shown)) only (meaning x) pulls (meaning y))
+    (λ x pulls y. AreAsked source (λ s pull. ((source s).left ≡ pull.left) × ((sink s).shown ≡ pull.shown)) only (meaning x) pulls (meaning y))
 asked_laws meaning source sink only alone sink_only of_sink disk_only of_disk = record {
   by = λ x y lefts are. pulls_asked source (λ s. (source s).left) (λ s. (sink s).shown) only (λ s t one. ap (λ (k : SinkState). k.shown) (alone s t one)) (meaning x) (meaning y) (sink (meaning x)).shown refl lefts are;
   of_sink = λ x y one. of_sink (meaning x) (meaning y) one;

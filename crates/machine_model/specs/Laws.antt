@@ -2,6 +2,7 @@
 use Rattle.std.specs.Prelude.{◌≡◌, ◌≤◌, ◌^◌, ◌-◌, ◌++◌, [], ℕ, List, map}
 use Rattle.machine_model.specs.States.{SourceState, SinkState}
 use Rattle.machine_model.specs.Pulls.{Pull}
+
 -- Of a source in some state, of what calls of the source alone make of it, and of what pulls make of it.
 pub record SourceLaws {S : Type 0} (source : S → SourceState) (only : S → S → Type 0) (pulled : S → List (List ℕ) → S → Type 0) : Type 0 where
   pub same : (x : S) → only x x
@@ -13,6 +14,7 @@ pub record SourceLaws {S : Type 0} (source : S → SourceState) (only : S → S 
   pub faults : (x y : S) → only x y → (source x).faults ≤ (source y).faults
   -- the count is that of a real machine's counter
   pub limit : (x : S) → (source x).faults ≤ 2 ^ 64 - 1
+
 -- Of a machine, beside the laws of its source: of the calls of any trait that make of it what they do, these pulls among them.
 pub record AskedLaws {M : Type 0} (source : M → SourceState) (sink : M → SinkState) (pulled : M → List (List ℕ) → M → Type 0) (sink_only disk_only : M → M → Type 0) (asked : M → List Pull → M → Type 0) : Type 0 where
   -- the pulls of the source, beside what is shown

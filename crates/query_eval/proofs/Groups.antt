@@ -1,15 +1,10 @@
 -- Elements that stand by a number, and those of one number among them.
-use Rattle.std.proofs.Common.{◌≡◌, ◌≢◌, ℕ, ◌+◌, ◌<◌, ◌≤◌, ◌==◌, ◌&&◌, nat_le, nat_lt, true, false, not, cond, List, [], ◌∷◌, ◌++◌, append-nil, append_assoc, length, get_or, take, drop, filter, All, refl, ap, sym, ◌∙◌, subst, arith}
-use Rattle.std.specs.List.Sorted.{IsPartitionPoint, ties}
-use Rattle.std.specs.Ordering.{nat_cmp, is_lt}
+use Rattle.std.proofs.Common.{◌≡◌, ◌≢◌, ℕ, ◌+◌, ◌<◌, ◌≤◌, ◌==◌, nat_le, nat_lt, true, false, cond, List, [], ◌∷◌, ◌++◌, append-nil, append_assoc, length, get_or, take, drop, filter, All, refl, ap, sym, ◌∙◌, arith}
+use Rattle.std.specs.List.Sorted.{IsPartitionPoint}
 use Rattle.std.proofs.lemmas.Bool.{eq-eqb}
 use Rattle.std.proofs.lemmas.Bool.Decides.{nat_tests}
 use Rattle.std.proofs.lemmas.List.{take-append-drop, length-take-le, length-drop, get_or-take, get_or-drop}
-use Rattle.std.proofs.lemmas.List.Elements.{filter-append, All-head, All-tail, filter_agree, filter_passes}
-
--- numbers that a sort can't tell apart
-tied : (a b : ℕ) → not (is_lt (nat_cmp a b)) && not (is_lt (nat_cmp b a)) ≡ (b == a)
-tied a b = grind (arith, nat_tests)
+use Rattle.std.proofs.lemmas.List.Elements.{filter-append, All-head, All-tail}
 
 module _ {X : Type 0} (key : X → ℕ) where
   none : (d : ℕ) (xs : List X) → All (λ x. key x ≢ d) xs → filter (λ x. key x == d) xs ≡ []
@@ -58,21 +53,3 @@ module _ {X : Type 0} (key : X → ℕ) where
 
       late : All (λ x. key x ≢ d) (drop k (drop s xs))
       late i x m = rw (get_or-drop k (drop s xs) i x) (gt (key (get_or (drop s xs) (k + i) x)) (q.1 (k + i) x (omega arith) (omega (arith, m, length-drop k (drop s xs)))))
-
-  -- a stable sort keeps the order of those of one number
-  pub stable-of : (xs ys : List X) → ((x : X) → filter (ties (λ p q. is_lt (nat_cmp (key p) (key q))) x) ys ≡ filter (ties (λ p q. is_lt (nat_cmp (key p) (key q))) x) xs) → (d : ℕ) → filter (λ x. key x == d) ys ≡ filter (λ x. key x == d) xs
-  stable-of xs ys s d = go (filter (λ x. key x == d) xs) (filter (λ x. key x == d) ys) refl refl
-    where
-      at : (x : X) → filter (λ y. key y == key x) ys ≡ filter (λ y. key y == key x) xs
-      at x = sym (filter_agree (ties (λ p q. is_lt (nat_cmp (key p) (key q))) x) (λ y. key y == key x) (λ y. tied (key x) (key y)) ys) ∙ s x ∙ filter_agree (ties (λ p q. is_lt (nat_cmp (key p) (key q))) x) (λ y. key y == key x) (λ y. tied (key x) (key y)) xs
-
-      same : (n : ℕ) → n == d ≡ true → n ≡ d
-      same n h = grind (arith, nat_tests)
-
-      of : (x : X) (zs kept : List X) → filter (λ x. key x == d) zs ≡ x ∷ kept → key x ≡ d
-      of x zs kept e = same (key x) (All-head (λ z. key z == d ≡ true) x kept (subst (All (λ z. key z == d ≡ true)) e (filter_passes (λ x. key x == d) zs)))
-
-      go : (fx fy : List X) → filter (λ x. key x == d) xs ≡ fx → filter (λ x. key x == d) ys ≡ fy → filter (λ x. key x == d) ys ≡ filter (λ x. key x == d) xs
-      go [] [] e f = f ∙ sym e
-      go (x ∷ fx) fy e f = subst (λ n. filter (λ x. key x == n) ys ≡ filter (λ x. key x == n) xs) (of x xs fx e) (at x)
-      go [] (y ∷ fy) e f = subst (λ n. filter (λ x. key x == n) ys ≡ filter (λ x. key x == n) xs) (of y ys fy f) (at y)

@@ -4,7 +4,6 @@ pub mod GivenLemmas
 mod HitLemmas
 mod HitPlaces
 pub mod Ranks
-mod Sorting
 mod HasHitLemmas
 mod MadeLemmas
 mod Groups

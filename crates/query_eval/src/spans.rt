@@ -3,7 +3,6 @@ ghost use Rattle.std.specs.Prelude.{◌≡◌, ◌⊎◌, ◌↔◌, ◌+◌, �
 ghost use Rattle.std.specs.List.Sorted.{IsNonDecreasingBy};
 ghost use Rattle.stretches.specs.Events.{AreInOrder, end_of};
 ghost use Rattle.stretches.specs.Kinds.{is_alive};
-ghost use Rattle.stretches.specs.Laid.{AreLaid, with_row, IsBehind, Continues, IsJoined};
 ghost use Rattle.stretches.specs.Stretches.{AreStretches};
 ghost use Rattle.stretches.specs.declared.event.Event.{Event as EventValue};
 ghost use Rattle.query_lang.specs.Meaning.{words_of};
@@ -20,7 +19,7 @@ use crate::hit::Hit;
 use crate::part::{EvalError, Lists, Part};
 use query_lang::{Pile, Query};
 use std::alloc::{AllocError, Global};
-use stretches::{Event, Life, end_of};
+use stretches::{Event, Life, Stretch, end_of, note};
 use time_base::{DocId, Span, Time};
 
 /// A document that matches a query with one score for some time.
@@ -32,6 +31,27 @@ pub struct SpanRow {
     pub span: Span,
     /// How often the query's words occur in its text, all in all; 0 where it matches without them.
     pub score: u64,
+}
+
+impl Stretch for SpanRow {
+    ghost value = { ℕ };
+
+    ghost kind = { row_kind };
+
+    fn goes_on(&self, next: &SpanRow) -> bool {
+        self.doc == next.doc && self.span.to == next.span.from && self.score == next.score
+    }
+
+    fn joined(&self, next: &SpanRow) -> SpanRow {
+        SpanRow {
+            doc: self.doc,
+            span: Span {
+                from: self.span.from,
+                to: next.span.to,
+            },
+            score: self.score,
+        }
+    }
 }
 
 /// What a query finds in a window of time.
@@ -138,46 +158,6 @@ fn row_from(
         })),
         None => Ok(None),
     }
-}
-
-/// Whether a row goes on where the last one ends.
-fn goes_on(last: &SpanRow, row: &SpanRow) -> bool
-    ensures { IsTrue result ↔ Continues row_kind last.now row.now }
-{
-    last.doc == row.doc && last.span.to == row.span.from && last.score == row.score
-}
-
-/// The last row and the one that goes on where it ends, in one.
-fn joined(last: &SpanRow, row: &SpanRow) -> SpanRow
-    requires { Continues row_kind last.now row.now }
-    ensures { IsJoined row_kind last.now row.now result }
-{
-    SpanRow {
-        doc: last.doc,
-        span: Span {
-            from: last.span.from,
-            to: row.span.to,
-        },
-        score: last.score,
-    }
-}
-
-/// Puts a row behind others, or joins it to the last one where it goes on there.
-fn note(rows: &mut Vec<SpanRow>, row: SpanRow) -> Result<(), AllocError>
-    ensures { OnOk result ((f : ℕ → ℕ → Option ℕ) → AreLaid row_kind f rows.old.items
-        → IsBehind row_kind f row → AreLaid row_kind (with_row row_kind f row) rows.new.items) }
-{
-    let Some(last) = rows.pop() else {
-        rows.push(row)?;
-        return Ok(());
-    };
-    if goes_on(&last, &row) {
-        rows.push(joined(&last, &row))?;
-        return Ok(());
-    }
-    rows.push(last)?;
-    rows.push(row)?;
-    Ok(())
 }
 
 /// The rows by facts that stand by document.

@@ -1,7 +1,8 @@
 pub mod Elements
 pub mod Existence
-pub mod Joining
+mod Joining
 pub mod Laid
 pub mod Longest
 pub mod Pieces
 mod Sorted
+pub mod Stable

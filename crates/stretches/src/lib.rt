@@ -9,7 +9,9 @@
 mod event;
 mod laws;
 mod life;
+mod stretch;
 
 pub use event::{Event, end_of, sort_events};
 pub use laws::{each_has_stretches, exactly_the_longest, stretches_are_one};
 pub use life::Life;
+pub use stretch::{Stretch, note};

@@ -1,4 +1,5 @@
 //! When a document is there.
+use crate::Stretch;
 use time_base::{DocId, Span};
 
 /// When a document is there.
@@ -8,4 +9,26 @@ pub struct Life {
     pub doc: DocId,
     /// The times.
     pub span: Span,
+}
+
+impl Stretch for Life {
+    ghost use Rattle.stretches.specs.Kinds.{life_kind};
+
+    ghost value = { Unit {0} };
+
+    ghost kind = { life_kind };
+
+    fn goes_on(&self, next: &Life) -> bool {
+        self.doc == next.doc && self.span.to == next.span.from
+    }
+
+    fn joined(&self, next: &Life) -> Life {
+        Life {
+            doc: self.doc,
+            span: Span {
+                from: self.span.from,
+                to: next.span.to,
+            },
+        }
+    }
 }

@@ -1,12 +1,17 @@
 -- What holds of a layout in which spellings are read again, and what is read is spelled.
-use Rattle.std.specs.Prelude.{◌≡◌, ◌≢◌, ℕ, ◌-◌, ◌≤◌, List, length, map, Result, Ok, Err, refl}
+use Rattle.std.specs.Prelude.{◌≡◌, ◌≢◌, ℕ, ◌-◌, ◌≤◌, List, length, map, Result, Ok, Err, IfOk, IfErr, refl}
 use Rattle.std.proofs.Common.{sym, ap, subst, ◌∙◌, arith}
+use Rattle.std.proofs.lemmas.Result.{IfOk-weaker, IfErr-weaker}
+use Rattle.std.specs.declared.alloc.Global.{Global}
+use Rattle.std.specs.declared.vec.Vec.{Vec}
 use Rattle.time_base.specs.declared.posting.Posting.{Posting}
 use Rattle.postings.specs.Lists.{IsList}
 use Rattle.sublist_codec.specs.Fields.{Fields, fields}
 use Rattle.sublist_codec.specs.Layouts.{IsFaultOf, IsLayout}
+use Rattle.sublist_codec.specs.Decoding.{OrMemory, Decodes}
+use Rattle.sublist_codec.specs.declared.error.ListError.{ListError}
 use Rattle.time_base.proofs.Readings.{ok_is}
-use Rattle.sublist_codec.proofs.Steps.{failed}
+use Rattle.sublist_codec.proofs.Steps.{OrMemory-weaker, failed}
 use Rattle.time_base.proofs.Bytes.{IsBytes, IsBytes-from_all}
 use Rattle.sublist_codec.proofs.FieldLemmas.{same_all}
 
@@ -16,20 +21,30 @@ pub record IsCodec (spelling : List Posting → List ℕ) (reading : List ℕ �
   pub left : (bytes : List ℕ) (left : ℕ) → IsBytes bytes → reading bytes ≡ Err left → left ≤ length bytes
 
 -- what is read as the numbers of postings is their list, and spelled so
-pub codec_found : (spelling : List Posting → List ℕ) (reading : List ℕ → Result (List Fields) ℕ) → IsCodec spelling reading
+codec_found : (spelling : List Posting → List ℕ) (reading : List ℕ → Result (List Fields) ℕ) → IsCodec spelling reading
     → (bytes : List ℕ) (ps : List Posting) → IsBytes bytes → reading bytes ≡ Ok (map fields ps) → IsList ps × (bytes ≡ spelling ps)
 codec_found spelling reading codec bytes ps fits e =
     let s = codec.back bytes (map fields ps) fits e in
     subst (λ (list : List Posting). IsList list × (bytes ≡ spelling list)) (same_all s.0 ps s.2) (s.1, s.3)
 
 -- two lists that are read from the same bytes are one
-pub codec_only : (spelling : List Posting → List ℕ) (reading : List ℕ → Result (List Fields) ℕ) → IsCodec spelling reading
+codec_only : (spelling : List Posting → List ℕ) (reading : List ℕ → Result (List Fields) ℕ) → IsCodec spelling reading
     → (bytes : List ℕ) (ps list : List Posting) → reading bytes ≡ Ok (map fields ps) → IsList list → bytes ≡ spelling list → ps ≡ list
 codec_only spelling reading codec bytes ps list e h same = same_all ps list (ok_is (map fields ps) (map fields list) (sym e ∙ ap reading same ∙ codec.again list h))
 
-pub codec_none : (spelling : List Posting → List ℕ) (reading : List ℕ → Result (List Fields) ℕ) → IsCodec spelling reading
+codec_none : (spelling : List Posting → List ℕ) (reading : List ℕ → Result (List Fields) ℕ) → IsCodec spelling reading
     → (bytes : List ℕ) (at : ℕ) (list : List Posting) → IsFaultOf reading bytes at → IsList list → bytes ≢ spelling list
 codec_none spelling reading codec bytes at list f h = λ same. (let read : reading bytes ≡ Ok (map fields list) = ap reading same ∙ codec.again list h in let fails = f.2 in cc)
+
+-- what is read as the numbers of postings, or fails, is decoded
+pub decodes : (spelling : List Posting → List ℕ) (reading : List ℕ → Result (List Fields) ℕ) → IsCodec spelling reading
+    → (bytes : List ℕ) (r : Result (Vec Posting Global) ListError) → IsBytes bytes → IfOk r (λ v. reading bytes ≡ Ok (map fields v.items)) → IfErr r (OrMemory (IsFaultOf reading bytes)) → Decodes spelling reading bytes r
+decodes spelling reading codec bytes r fits found fault = record {
+  found = IfOk-weaker r _ _ (λ v e. codec_found spelling reading codec bytes v.items fits e) found;
+  only = λ list h same. IfOk-weaker r _ _ (λ v e. codec_only spelling reading codec bytes v.items list e h same) found;
+  nothing = IfErr-weaker r _ _ (λ x e. OrMemory-weaker _ _ x (λ at f list h. codec_none spelling reading codec bytes at list f h) e) fault;
+  fault = fault;
+}
 
 a_fault : (spelling : List Posting → List ℕ) (reading : List ℕ → Result (List Fields) ℕ) → IsCodec spelling reading
     → (bytes : List ℕ) → IsBytes bytes → ((list : List Posting) → IsList list → bytes ≢ spelling list) → (at : ℕ) × IsFaultOf reading bytes at

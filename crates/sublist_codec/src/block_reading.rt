@@ -1,14 +1,12 @@
 //! Reading blocks.
-ghost use Rattle.std.specs.Prelude.{◌≡◌, ◌≢◌, ℕ, ◌<◌, ◌≤◌, ◌^◌, List, length, map, Ok, IfOk, IfErr};
-ghost use Rattle.time_base.specs.declared.posting.Posting.{Posting};
-ghost use Rattle.postings.specs.Lists.{IsList};
+ghost use Rattle.std.specs.Prelude.{◌≡◌, ℕ, ◌<◌, ◌≤◌, ◌^◌, length, map, Ok, IfOk, IfErr};
 ghost use Rattle.sublist_codec.specs.Fields.{fields, seen};
 ghost use Rattle.sublist_codec.specs.Steps.{last_of};
 ghost use Rattle.sublist_codec.specs.Blocks.{number_in, base_behind, least_start, span_at, next_at, others_at, postings_at, is_true, body_at, block_at, blocks_at, block_spelling, top_of, last_doc};
 ghost use Rattle.sublist_codec.specs.Layouts.{IsFaultOf};
 ghost use Rattle.sublist_codec.specs.Heads.{head_of};
 ghost use Rattle.sublist_codec.specs.Gives.{Gives, with_front};
-ghost use Rattle.sublist_codec.specs.Decoding.{OrMemory};
+ghost use Rattle.sublist_codec.specs.Decoding.{OrMemory, Decodes};
 
 use crate::error::{ListError, ReadError};
 use crate::head::{BlockHead, HEAD_BYTES, head_front, may_lead};
@@ -227,14 +225,7 @@ fn blocks_at(alloc: Global, bytes: &[u8]) -> Result<Vec<Posting>, ListError>
 
 /// The list that bytes spell in blocks. One pass over them.
 pub fn decode_blocks(alloc: Global, bytes: &[u8]) -> Result<Vec<Posting>, ListError>
-    // What is read is a list, and is spelled so.
-    ensures found { IfOk result (λ v. IsList v.items × (bytes.now ≡ block_spelling v.items)) }
-    // The list that is spelled so is what is read.
-    ensures only { (list : List Posting) → IsList list → bytes.now ≡ block_spelling list → IfOk result (λ v. v.items ≡ list) }
-    // Where a place is named, no list is spelled.
-    ensures nothing { IfErr result (OrMemory (λ _. (list : List Posting) → IsList list → bytes.now ≢ block_spelling list)) }
-    // Which place is named.
-    ensures fault { IfErr result (OrMemory (IsFaultOf blocks_at bytes.now)) }
+    ensures { Decodes block_spelling blocks_at bytes.now result }
 {
     blocks_at(alloc, bytes)
 }

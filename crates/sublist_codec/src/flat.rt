@@ -1,11 +1,9 @@
 //! The flat layout: 24 bytes a posting, one after another.
-ghost use Rattle.std.specs.Prelude.{◌≡◌, ◌≢◌, ◌++◌, ℕ, List, length, map, option_map, Ok, OnOk, IfOk, IfErr};
-ghost use Rattle.time_base.specs.declared.posting.Posting.{Posting};
-ghost use Rattle.postings.specs.Lists.{IsList};
+ghost use Rattle.std.specs.Prelude.{◌≡◌, ◌++◌, ℕ, length, map, option_map, Ok, OnOk, IfOk, IfErr};
 ghost use Rattle.sublist_codec.specs.Fields.{fields, seen, may_follow};
 ghost use Rattle.sublist_codec.specs.Layouts.{IsFaultOf};
 ghost use Rattle.sublist_codec.specs.Flat.{spelled, spelling, posting_at, list_at};
-ghost use Rattle.sublist_codec.specs.Decoding.{OrMemory};
+ghost use Rattle.sublist_codec.specs.Decoding.{OrMemory, Decodes};
 
 use crate::error::ListError;
 use crate::front::{u32_front, u64_front};
@@ -96,14 +94,7 @@ pub fn encode_list(alloc: Global, list: &[Posting]) -> Result<Vec<u8>, AllocErro
 
 /// The list that bytes spell. One pass over them.
 pub fn decode_list(alloc: Global, bytes: &[u8]) -> Result<Vec<Posting>, ListError>
-    // What is read is a list, and is spelled so.
-    ensures found { IfOk result (λ v. IsList v.items × (bytes.now ≡ spelling v.items)) }
-    // The list that is spelled so is what is read.
-    ensures only { (list : List Posting) → IsList list → bytes.now ≡ spelling list → IfOk result (λ v. v.items ≡ list) }
-    // Where a place is named, no list is spelled.
-    ensures nothing { IfErr result (OrMemory (λ _. (list : List Posting) → IsList list → bytes.now ≢ spelling list)) }
-    // Which place is named.
-    ensures fault { IfErr result (OrMemory (IsFaultOf list_at bytes.now)) }
+    ensures { Decodes spelling list_at bytes.now result }
 {
     list_at(alloc, bytes)
 }

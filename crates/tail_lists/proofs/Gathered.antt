@@ -1,12 +1,11 @@
 -- The turns of a history, sorted by document.
-use Rattle.std.specs.Prelude.{◌≡◌, ◌≢◌, ℕ, zero, suc, ◌+◌, ◌-◌, ◌^◌, ◌<◌, ◌≤◌, ◌==◌, Bool, true, false, not, nat_le, ◌&&◌, cond, List, [], ◌∷◌, ◌++◌, length, get_or, take, drop, map, reverse, filter, All, refl}
-use Rattle.std.specs.List.Sorted.{IsNonDecreasingBy, ties}
-use Rattle.std.specs.Ordering.{nat_cmp, is_lt}
+use Rattle.std.specs.Prelude.{◌≡◌, ◌≢◌, ℕ, zero, suc, ◌+◌, ◌-◌, ◌^◌, ◌<◌, ◌≤◌, ◌==◌, Bool, true, false, nat_le, ◌&&◌, cond, List, [], ◌∷◌, ◌++◌, length, get_or, take, drop, map, reverse, filter, All, refl}
+use Rattle.std.specs.List.Sorted.{IsNonDecreasingBy}
 use Rattle.std.proofs.Common.{arith, ap, sym, ◌∙◌, subst, inl, inr}
 use Rattle.std.proofs.lemmas.Bool.{cases_eq}
 use Rattle.std.proofs.lemmas.Bool.Decides.{nat_tests}
 use Rattle.std.proofs.lemmas.List.{map-append, reverse-append, take_more, take-append-drop, get_or_read}
-use Rattle.std.proofs.lemmas.List.Elements.{All-head, All-tail, All-cons, All-filter, filter-append, filter_agree, filter_passes}
+use Rattle.std.proofs.lemmas.List.Elements.{All-head, All-tail, All-cons, All-filter, filter-append}
 use Rattle.time_base.specs.declared.posting.Posting.{Posting}
 use Rattle.postings.specs.ListsOf.{IsListOf}
 use Rattle.tail_lists.specs.declared.document.Turn.{Turn}
@@ -149,24 +148,3 @@ gather-more turns i x w o was mid now l e order held m turned list =
     subst (λ z. IsListOf (frequency_after z w) 0 (2 ^ 40) now) (sym more)
     (list-same (turned_one (frequency_after earlier w) x.doc.0 x.at.seconds (weight_of w x.weights.items)) (frequency_after (act_of x ∷ earlier) w) 0 (2 ^ 40) now (λ d t. refl)
     (turned (frequency_after earlier w) 0 (omega arith) (λ t k. steady earlier w x.doc.0 x.at.seconds s.0 t k ∙ sym held) (subst (IsListOf (frequency_after earlier w) 0 (2 ^ 40)) (sym m) list)))
-
--- documents that a sort by number can't tell apart
-tied : (a b : ℕ) → not (is_lt (nat_cmp a b)) && not (is_lt (nat_cmp b a)) ≡ (b == a)
-tied a b = grind (arith, nat_tests)
-
-pub stable-of : (xs ys : List Turn) → ((x : Turn) → filter (ties (λ p q. is_lt (nat_cmp p.doc.0 q.doc.0)) x) ys ≡ filter (ties (λ p q. is_lt (nat_cmp p.doc.0 q.doc.0)) x) xs) → (d : ℕ) → filter (is_of d) ys ≡ filter (is_of d) xs
-stable-of xs ys s d = go (filter (is_of d) xs) (filter (is_of d) ys) refl refl
-  where
-    at : (x : Turn) → filter (is_of x.doc.0) ys ≡ filter (is_of x.doc.0) xs
-    at x = sym (filter_agree (ties (λ p q. is_lt (nat_cmp p.doc.0 q.doc.0)) x) (is_of x.doc.0) (λ y. tied x.doc.0 y.doc.0) ys) ∙ s x ∙ filter_agree (ties (λ p q. is_lt (nat_cmp p.doc.0 q.doc.0)) x) (is_of x.doc.0) (λ y. tied x.doc.0 y.doc.0) xs
-
-    of : (x : Turn) (zs kept : List Turn) → filter (is_of d) zs ≡ x ∷ kept → x.doc.0 ≡ d
-    of x zs kept e = same x (All-head (λ z. is_of d z ≡ true) x kept (subst (All (λ z. is_of d z ≡ true)) e (filter_passes (is_of d) zs)))
-      where
-        same : (x : Turn) → is_of d x ≡ true → x.doc.0 ≡ d
-        same x h = grind (arith, nat_tests)
-
-    go : (fx fy : List Turn) → filter (is_of d) xs ≡ fx → filter (is_of d) ys ≡ fy → filter (is_of d) ys ≡ filter (is_of d) xs
-    go [] [] e f = f ∙ sym e
-    go (x ∷ fx) fy e f = subst (λ z. filter (is_of z) ys ≡ filter (is_of z) xs) (of x xs fx e) (at x)
-    go [] (y ∷ fy) e f = subst (λ z. filter (is_of z) ys ≡ filter (is_of z) xs) (of y ys fy f) (at y)

@@ -3,8 +3,7 @@ ghost use Rattle.std.specs.Prelude.{◌≡◌, ◌⊎◌, ◌↔◌, ◌+◌, �
 ghost use Rattle.std.specs.List.Sorted.{IsNonDecreasingBy, IsPartitionPoint};
 ghost use Rattle.time_base.specs.declared.ids.DocId.{DocId as Document};
 ghost use Rattle.stretches.specs.Events.{AreInOrder, end_of};
-ghost use Rattle.stretches.specs.Kinds.{life_kind, is_alive};
-ghost use Rattle.stretches.specs.Laid.{AreLaid, with_row, IsBehind, Continues, IsJoined};
+ghost use Rattle.stretches.specs.Kinds.{is_alive};
 ghost use Rattle.stretches.specs.declared.event.Event.{Event as EventValue};
 ghost use Rattle.version_store.specs.Changes.{held_at};
 ghost use Rattle.version_store.specs.Lives.{AreLives, AreEvents, lived, start_of, event_of};
@@ -12,7 +11,7 @@ ghost use Rattle.version_store.specs.Lives.{AreLives, AreEvents, lived, start_of
 use crate::change::Change;
 use crate::directory::Directory;
 use std::alloc::{AllocError, Global};
-use stretches::{Event, Life, end_of, sort_events};
+use stretches::{Event, Life, end_of, note, sort_events};
 use time_base::{DocId, Span, TextPlace, Time};
 
 impl Directory {
@@ -128,43 +127,4 @@ fn moves(alloc: Global, changes: &[Change<TextPlace>]) -> Result<Vec<Event>, All
             at: c.at,
         })
         .collect(alloc)
-}
-
-/// Puts a life behind others, or joins it to the last one where it goes on there.
-fn note(lives: &mut Vec<Life>, life: Life) -> Result<(), AllocError>
-    ensures { OnOk result ((f : ℕ → ℕ → Option (Unit {0})) → AreLaid life_kind f lives.old.items
-        → IsBehind life_kind f life → AreLaid life_kind (with_row life_kind f life) lives.new.items) }
-{
-    let Some(last) = lives.pop() else {
-        lives.push(life)?;
-        return Ok(());
-    };
-    if goes_on(&last, &life) {
-        lives.push(joined(&last, &life))?;
-        return Ok(());
-    }
-    lives.push(last)?;
-    lives.push(life)?;
-    Ok(())
-}
-
-/// Whether a life goes on where the last one ends.
-fn goes_on(last: &Life, life: &Life) -> bool
-    ensures { IsTrue result ↔ Continues life_kind last.now life.now }
-{
-    last.doc == life.doc && last.span.to == life.span.from
-}
-
-/// The last life and the one that goes on where it ends, in one.
-fn joined(last: &Life, life: &Life) -> Life
-    requires { Continues life_kind last.now life.now }
-    ensures { IsJoined life_kind last.now life.now result }
-{
-    Life {
-        doc: last.doc,
-        span: Span {
-            from: last.span.from,
-            to: life.span.to,
-        },
-    }
 }

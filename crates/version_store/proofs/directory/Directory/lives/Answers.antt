@@ -20,7 +20,7 @@ loop-i-preserved c =
     let w = given-events c.args.self.now.changes c.changes.result.now c.deref.result.now c.args.span.from c.args.span.to events c.changes.ensures.all (c.deref.ensures.value ∙ c.in_ok-docs.ensures) c.in_ok-events.ensures.events in
     elim c.match-life_from.branch [
       | in-Some+in_ok-note p ↦ put life_kind f c.args.span.from c.args.span.to events c.deref-in-loop-i.result.now c.in_ok-events.ensures.sorted w c.loop-i.i (omega (arith, c.loop-i-test.true, c.len-i-end.ensures)) c.deref-in-loop-i.ensures.value
-          c.loop-i.lives.items c.match-life_from.lives.items p.note.new.lives.items p.in-Some.life (ap (λ v. v.items) p.lives-is) p.in-Some.ensures p.in_ok-note.ensures c.loop-i.invariant
+          c.loop-i.lives.items c.match-life_from.lives.items p.note.new.rows.items p.in-Some.life (ap (λ v. v.items) p.lives-is) p.in-Some.ensures p.in_ok-note.ensures c.loop-i.invariant
       | in_default p ↦ pass life_kind f c.args.span.from c.args.span.to events c.deref-in-loop-i.result.now c.in_ok-events.ensures.sorted w c.loop-i.i (omega (arith, c.loop-i-test.true, c.len-i-end.ensures)) c.deref-in-loop-i.ensures.value
           c.loop-i.lives.items c.match-life_from.lives.items (ap (λ v. v.items) p.lives-is) p.in_default.ensures c.loop-i.invariant
     ]
