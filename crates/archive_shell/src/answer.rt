@@ -214,10 +214,10 @@ fn write_found(page: &mut ReplyPage, answer: Result<Answer, AskError>) -> Result
     ensures damage { (d : Damage) → IsErrOf result (Halt.Damaged d) → IsErrOf answer (AskError.Damaged d) }
 {
     match answer {
-        Ok(answer) => match page.found(&answer.rows, answer.read) {
-            Ok(()) => Ok(()),
-            Err(_) => Err(Halt::Memory),
-        },
+        Ok(answer) => {
+            page.found(&answer.rows, answer.read)?;
+            Ok(())
+        }
         Err(error) => write_unanswered(page, error),
     }
 }
@@ -229,10 +229,10 @@ fn write_spanned(page: &mut ReplyPage, answer: Result<SpanAnswer, AskError>) -> 
     ensures damage { (d : Damage) → IsErrOf result (Halt.Damaged d) → IsErrOf answer (AskError.Damaged d) }
 {
     match answer {
-        Ok(answer) => match page.spanned(&answer.rows, answer.read) {
-            Ok(()) => Ok(()),
-            Err(_) => Err(Halt::Memory),
-        },
+        Ok(answer) => {
+            page.spanned(&answer.rows, answer.read)?;
+            Ok(())
+        }
         Err(error) => write_unanswered(page, error),
     }
 }
@@ -244,10 +244,10 @@ fn write_proposed(page: &mut ReplyPage, plan: Result<Proposal, Declined>) -> Res
     ensures undamaged { (d : Damage) → IsErrOf result (Halt.Damaged d) → ⊥ }
 {
     match plan {
-        Ok(plan) => match page.proposed(&plan.segments, &plan.nodes, plan.space) {
-            Ok(()) => Ok(()),
-            Err(_) => Err(Halt::Memory),
-        },
+        Ok(plan) => {
+            page.proposed(&plan.segments, &plan.nodes, plan.space)?;
+            Ok(())
+        }
         Err(Declined::Refused(why)) => refuse(page, why),
         Err(Declined::Memory) => Err(Halt::Memory),
     }
@@ -260,10 +260,10 @@ fn write_verified(page: &mut ReplyPage, verdict: Result<Verdict, VerifyError>) -
     ensures undamaged { (d : Damage) → IsErrOf result (Halt.Damaged d) → ⊥ }
 {
     match verdict {
-        Ok(verdict) => match page.verified(&verdict) {
-            Ok(()) => Ok(()),
-            Err(_) => Err(Halt::Memory),
-        },
+        Ok(verdict) => {
+            page.verified(&verdict)?;
+            Ok(())
+        }
         Err(VerifyError::Failed) => Err(Halt::Disk),
         Err(VerifyError::Memory) => Err(Halt::Memory),
     }
@@ -292,10 +292,8 @@ fn write_text(page: &mut ReplyPage, text: Option<Vec<u8>>) -> Result<(), Halt>
         page.none();
         return Ok(());
     };
-    match page.version(&text) {
-        Ok(()) => Ok(()),
-        Err(_) => Err(Halt::Memory),
-    }
+    page.version(&text)?;
+    Ok(())
 }
 
 /// Writes why a query was not answered on the page, or halts the run.

@@ -2,6 +2,7 @@
 ghost use Rattle.std.specs.Prelude.{◌≡◌};
 ghost use Rattle.archive_shell.specs.Statuses.{stop_of_halt};
 
+use std::alloc::AllocError;
 use sublist_store::Damage;
 
 /// An event that ends a run before the reply to an item is known.
@@ -13,6 +14,16 @@ pub(crate) enum Halt {
     Damaged(Damage),
     /// There was no memory.
     Memory,
+}
+
+impl From<AllocError> for Halt {
+    ghost use Rattle.archive_shell.specs.declared.stop.Halt.TheVariants.{Memory};
+
+    ghost from_gives = { λ _ halt. halt ≡ Memory };
+
+    fn from(_: AllocError) -> Halt {
+        Halt::Memory
+    }
 }
 
 /// An event that ends a run before the reply to an item is shown whole.

@@ -15,7 +15,7 @@ use archive_state::{Refusal, StoredPlan};
 use commands::Kind;
 use gate_journal::Frame;
 use page_store::TakeError;
-use record_codec::{Cuts, Layout, Place, Places, PlanEntry, encode_plan};
+use record_codec::{Layout, Listed, Place, PlanEntry, encode_plan};
 use std::alloc::Global;
 use sublist_store::Prepared;
 use time_base::{Fraction, Key, Posting, Time, Which};
@@ -174,8 +174,8 @@ fn spell_entry(alloc: Global, end: u64, draft: Draft, places: &[Place]) -> Resul
         kind: draft.kind,
         fraction: draft.factor,
         horizon: draft.horizon,
-        cuts: Cuts::new(draft.cuts),
-        places: Places::new(places),
+        cuts: Listed::new(draft.cuts),
+        places: Listed::new(places),
     };
     let body = encode_plan(alloc, &plan)?;
     if Which::Journal.limit() < end + 5 + body.len() as u64 {

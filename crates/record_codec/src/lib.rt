@@ -25,7 +25,7 @@ pub use entry::Entry;
 pub use error::CodecError;
 pub use laws::{plan_laws, spelling_laws};
 pub use place::{Layout, Place};
-pub use plan::{Cuts, Places, PlanEntry};
+pub use plan::{Listed, PlanEntry};
 pub use plan_writing::encode_plan;
 pub use reading::decode;
 pub use tags::MOST_SEGMENTS;

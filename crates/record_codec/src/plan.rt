@@ -6,79 +6,33 @@ use commands::Kind;
 use std::marker::Model;
 use time_base::{Fraction, Key, Time};
 
-/// The left cuts of segments, which contracts see as a list.
+/// A list of its own, which contracts see as the list.
 #[derive(Debug, Drop)]
-pub struct Cuts {
-    times: Vec<Time>,
+pub struct Listed<T> {
+    items: Vec<T>,
 }
 
-impl Model for Cuts {
+impl<T> Model for Listed<T> {
     ghost use Rattle.std.specs.Prelude.{List};
-    ghost use Rattle.time_base.specs.declared.time.Time.{Time};
 
-    ghost Value = { List Time };
+    ghost Value = { List T };
 
-    ghost view = { λ c. c.times.items };
+    ghost view = { λ l. l.items.items };
 }
 
-impl Cuts {
-    /// The cuts of a `Vec`. Constant cost.
-    pub fn new(times: Vec<Time>) -> Cuts
-        ensures { result ≡ times.items }
+impl<T> Listed<T> {
+    /// The elements of a `Vec`. Constant cost.
+    pub fn new(items: Vec<T>) -> Listed<T>
+        ensures { result ≡ items.items }
     {
-        Cuts { times }
+        Listed { items }
     }
 
-    /// The cuts. Constant cost.
-    pub fn as_slice(&self) -> &[Time]
+    /// The elements. Constant cost.
+    pub fn as_slice(&self) -> &[T]
         ensures { result.now ≡ self.now }
     {
-        self.times.as_slice()
-    }
-
-    /// The cuts as a `Vec`. Constant cost.
-    pub fn into_vec(self) -> Vec<Time>
-        ensures { result.items ≡ self }
-    {
-        self.times
-    }
-}
-
-/// The places of sublists, which contracts see as a list.
-#[derive(Debug, Drop)]
-pub struct Places {
-    list: Vec<Place>,
-}
-
-impl Model for Places {
-    ghost use Rattle.std.specs.Prelude.{List};
-    ghost use Rattle.record_codec.specs.declared.place.Place.{Place};
-
-    ghost Value = { List Place };
-
-    ghost view = { λ p. p.list.items };
-}
-
-impl Places {
-    /// The places of a `Vec`. Constant cost.
-    pub fn new(list: Vec<Place>) -> Places
-        ensures { result ≡ list.items }
-    {
-        Places { list }
-    }
-
-    /// The places. Constant cost.
-    pub fn as_slice(&self) -> &[Place]
-        ensures { result.now ≡ self.now }
-    {
-        self.list.as_slice()
-    }
-
-    /// The places as a `Vec`. Constant cost.
-    pub fn into_vec(self) -> Vec<Place>
-        ensures { result.items ≡ self }
-    {
-        self.list
+        self.items.as_slice()
     }
 }
 
@@ -97,7 +51,7 @@ pub struct PlanEntry {
     /// The end of the last segment.
     pub horizon: Time,
     /// Where the segments begin, from 1 to `MOST_SEGMENTS` of them.
-    pub cuts: Cuts,
+    pub cuts: Listed<Time>,
     /// Where their sublists lie, in the order of the cuts.
-    pub places: Places,
+    pub places: Listed<Place>,
 }

@@ -3,7 +3,8 @@ ghost use Rattle.record_codec.specs.PlanReading.{segments_at, plan_at};
 ghost use Rattle.record_codec.specs.Fields.{Gives};
 
 use crate::fields::{FieldError, end_at, time_at};
-use crate::plan::{Cuts, Places, PlanEntry};
+use crate::place::Place;
+use crate::plan::{Listed, PlanEntry};
 use crate::plan_fields::{fraction_at, key_at, kind_at, layout_at, number_in, segment_at};
 use crate::tags::{MOST_SEGMENTS, SEGMENT_BYTES};
 use std::alloc::Global;
@@ -15,7 +16,7 @@ fn segments_at(
     count: u32,
     horizon: Time,
     bytes: &[u8],
-) -> Result<(Cuts, Places, &[u8]), FieldError>
+) -> Result<(Listed<Time>, Listed<Place>, &[u8]), FieldError>
     ensures { Gives (λ x. ((x.0, x.1), x.2.now)) result (segments_at count 0 horizon bytes.now) }
 {
     let room = bytes.len() / SEGMENT_BYTES;
@@ -30,7 +31,7 @@ fn segments_at(
         least = cut.seconds() + 1;
         rest = behind;
     }
-    Ok((Cuts::new(cuts), Places::new(places), rest))
+    Ok((Listed::new(cuts), Listed::new(places), rest))
 }
 
 /// A plan, from behind its tag.

@@ -1,6 +1,6 @@
 //! Stored plans as bytes, and bytes that spell none.
 use commands::Kind;
-use record_codec::{CodecError, Entry, Layout, Places, decode, encode, encode_plan};
+use record_codec::{CodecError, Entry, Layout, decode, encode, encode_plan};
 use std::alloc::Global;
 use std::process::Abort;
 use std::test::Fail;
