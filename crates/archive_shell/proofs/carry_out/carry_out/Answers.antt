@@ -24,7 +24,7 @@ returns-in-Err-clause-outcome g c = λ disk_tells sink_tells h in_step.
 -- no pull was made
 asked : (g : Over) (c : After-show g) → g.M.Machine.asked c.args.machine.now [] c.show.new.sink
 asked g c =
-    g.M.Machine.asked_laws.join c.args.machine.now c.answer.new.disk c.show.new.sink [] [] (g.met.M.Machine.asked_laws.of_disk c.args.machine.now c.answer.new.disk c.answer.ensures.only)
+    g.met.M.Machine.asked_laws.join c.args.machine.now c.answer.new.disk c.show.new.sink [] [] (g.met.M.Machine.asked_laws.of_disk c.args.machine.now c.answer.new.disk c.answer.ensures.only)
     (g.met.M.Machine.asked_laws.of_sink c.answer.new.disk c.show.new.sink c.show.ensures.only)
 
 -- the item has an outcome, and its reply was shown, or a front of it

@@ -102,7 +102,7 @@ returns-clause-headline g c = λ source_tells sink_tells disk_tells h stands.
     (c.in-Ok-load.ensures.in_step disk_tells h stands)) in
     let S : SourceState → SinkState → Type 0 = λ s t. Serves (world_of h) c.serve.result (record { source = s; sink = t; disk = g.M.Disk.disk n }) (state_by g.M.Source.source g.M.Sink.sink g.M.Disk.disk last) served.0 in (
       served.0,
-      g.M.Machine.asked_laws.join m n last [] served.0 (g.met.M.Machine.asked_laws.of_disk m n c.load.ensures.only) served.1,
+      g.met.M.Machine.asked_laws.join m n last [] served.0 (g.met.M.Machine.asked_laws.of_disk m n c.load.ensures.only) served.1,
       whole_run h c.serve.result (state_by g.M.Source.source g.M.Sink.sink g.M.Disk.disk m) (g.M.Disk.disk n) (state_by g.M.Source.source g.M.Sink.sink g.M.Disk.disk last) served.0
           (g.met.M.Machine.beside_shown m sink_tells disk_tells) (c.in-Ok-load.ensures.crash disk_tells h)
           (subst (λ (s : SourceState). S s (g.M.Sink.sink m)) alone.0 (subst (λ (t : SinkState). S (g.M.Source.source n) t) alone.1 served.2)),

@@ -14,7 +14,7 @@ items-preserved g c =
       serving = λ source_tells sink_tells disk_tells w start.
           let so_far = was.serving source_tells sink_tells disk_tells w start in
           let next = now.goes_on source_tells sink_tells disk_tells w _ so_far.0 so_far.2 in
-          (so_far.0 ++ next.0, g.M.Machine.asked_laws.join _ _ _ so_far.0 next.0 so_far.1 next.1, next.2);
+          (so_far.0 ++ next.0, g.met.M.Machine.asked_laws.join _ _ _ so_far.0 next.0 so_far.1 next.1, next.2);
     }
 
 pub returns-in-Err-clause-damaged : goal.returns-in-Err-clause-damaged
@@ -30,7 +30,7 @@ pub returns-in-Err-clause-served : goal.returns-in-Err-clause-served
 returns-in-Err-clause-served g c = λ source_tells sink_tells disk_tells w start.
     let so_far = c.items.invariant.serving source_tells sink_tells disk_tells w start in
     let next = c.in-Err.ensures.goes_on source_tells sink_tells disk_tells w _ so_far.0 so_far.2 in
-    (so_far.0 ++ next.0, g.M.Machine.asked_laws.join _ _ _ so_far.0 next.0 so_far.1 next.1, next.2)
+    (so_far.0 ++ next.0, g.met.M.Machine.asked_laws.join _ _ _ so_far.0 next.0 so_far.1 next.1, next.2)
 
 pub returns-in-Err-clause-asks : goal.returns-in-Err-clause-asks
 returns-in-Err-clause-asks g c = λ source_tells sink_tells disk_tells h image began start.

@@ -25,7 +25,7 @@ given g c tells began p = rw c.carry_out.ensures.source (c.in-Ok.ensures.gives t
 
 -- and no pull was made since
 pulled : (g : Over) (c : After-carry_out g) (pulls : List Pull) → g.M.Machine.asked c.args.machine.now pulls c.next_item.new.machine → g.M.Machine.asked c.args.machine.now pulls c.carry_out.new.machine
-pulled g c pulls made = rw append-nil at (g.M.Machine.asked_laws.join _ _ _ pulls [] made c.carry_out.ensures.asked)
+pulled g c pulls made = rw append-nil at (g.met.M.Machine.asked_laws.join _ _ _ pulls [] made c.carry_out.ensures.asked)
 
 pub returns-in-Err-clause-pulls : goal.returns-in-Err-clause-pulls
 returns-in-Err-clause-pulls g c = λ tells began p. (ends_by began _ _ _ c.next_item.new.reader c.in-Err.status p (c.in-Err.ensures.gives tells began p)).1.ends
