@@ -6,7 +6,7 @@ use commands::Kind;
 use std::marker::Model;
 use time_base::{Fraction, Key, Time};
 
-/// A list of its own, which contracts see as the list.
+/// The elements of a `Vec`, which contracts see as the list of them alone, whatever room the `Vec` has.
 #[derive(Debug, Drop)]
 pub struct Listed<T> {
     items: Vec<T>,

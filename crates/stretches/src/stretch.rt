@@ -23,8 +23,8 @@ pub trait Stretch: Sized + Drop {
         ensures { IsJoined kind self.now next.now result };
 }
 
-/// Puts a stretch behind others, or joins it to the last one where it goes on there. Constant cost
-/// on average.
+/// Puts a stretch behind others, or joins it to the last one where it goes on there. Where there is
+/// no memory the list is to be dropped: it may lack its last one. Constant cost on average.
 pub fn note<R: Stretch>(rows: &mut Vec<R>, row: R) -> Result<(), AllocError>
     ensures { OnOk result ((f : ℕ → ℕ → Option R.Stretch.value) → AreLaid R.Stretch.kind f rows.old.items
         → IsBehind R.Stretch.kind f row → AreLaid R.Stretch.kind (with_row R.Stretch.kind f row) rows.new.items) }
