@@ -1,5 +1,6 @@
 //! Why there is no verdict.
 ghost use Rattle.std.specs.Prelude.{◌≡◌};
+ghost use Rattle.archive_check.specs.declared.error.VerifyError.{VerifyError};
 
 use fold_tokens::NumberError;
 use guarantee_planner::PlanError;
@@ -15,10 +16,7 @@ pub enum VerifyError {
 }
 
 impl From<AllocError> for VerifyError {
-    ghost use Rattle.archive_check.specs.declared.error.VerifyError.TheVariants.{Memory};
-    ghost use Rattle.std.specs.Prelude.{◌≡◌};
-
-    ghost from_gives = { λ _ e. e ≡ Memory };
+    ghost from_gives = { λ _ e. e ≡ VerifyError.Memory };
 
     fn from(_: AllocError) -> Self {
         VerifyError::Memory
@@ -26,10 +24,7 @@ impl From<AllocError> for VerifyError {
 }
 
 impl<T: Drop> From<AllocFailed<T>> for VerifyError {
-    ghost use Rattle.archive_check.specs.declared.error.VerifyError.TheVariants.{Memory};
-    ghost use Rattle.std.specs.Prelude.{◌≡◌};
-
-    ghost from_gives = { λ _ e. e ≡ Memory };
+    ghost from_gives = { λ _ e. e ≡ VerifyError.Memory };
 
     fn from(_: AllocFailed<T>) -> Self {
         VerifyError::Memory
@@ -37,10 +32,7 @@ impl<T: Drop> From<AllocFailed<T>> for VerifyError {
 }
 
 impl From<NumberError> for VerifyError {
-    ghost use Rattle.archive_check.specs.declared.error.VerifyError.TheVariants.{Memory};
-    ghost use Rattle.std.specs.Prelude.{◌≡◌};
-
-    ghost from_gives = { λ _ e. e ≡ Memory };
+    ghost from_gives = { λ _ e. e ≡ VerifyError.Memory };
 
     fn from(_: NumberError) -> Self {
         VerifyError::Memory
@@ -48,10 +40,7 @@ impl From<NumberError> for VerifyError {
 }
 
 impl From<PlanError> for VerifyError {
-    ghost use Rattle.archive_check.specs.declared.error.VerifyError.TheVariants.{Memory};
-    ghost use Rattle.std.specs.Prelude.{◌≡◌};
-
-    ghost from_gives = { λ _ e. e ≡ Memory };
+    ghost from_gives = { λ _ e. e ≡ VerifyError.Memory };
 
     fn from(_: PlanError) -> Self {
         VerifyError::Memory
@@ -59,10 +48,7 @@ impl From<PlanError> for VerifyError {
 }
 
 impl From<machine_model::Failed> for VerifyError {
-    ghost use Rattle.archive_check.specs.declared.error.VerifyError.TheVariants.{Failed};
-    ghost use Rattle.std.specs.Prelude.{◌≡◌};
-
-    ghost from_gives = { λ _ e. e ≡ Failed };
+    ghost from_gives = { λ _ e. e ≡ VerifyError.Failed };
 
     fn from(_: machine_model::Failed) -> Self {
         VerifyError::Failed

@@ -1,5 +1,8 @@
 //! Why a journal was not gone over, or not read, and why what needs no disk was not done.
 ghost use Rattle.std.specs.Prelude.{◌≡◌};
+ghost use Rattle.archive_replay.specs.declared.error.Declined.{Declined};
+ghost use Rattle.archive_replay.specs.declared.error.LoadError.{LoadError};
+ghost use Rattle.archive_replay.specs.declared.error.ReadError.{ReadError};
 
 use archive_state::Refusal;
 use gate_journal::JournalError;
@@ -41,10 +44,7 @@ pub enum Declined {
 }
 
 impl From<AllocError> for Declined {
-    ghost use Rattle.archive_replay.specs.declared.error.Declined.TheVariants.{Memory};
-    ghost use Rattle.std.specs.Prelude.{◌≡◌};
-
-    ghost from_gives = { λ _ e. e ≡ Memory };
+    ghost from_gives = { λ _ e. e ≡ Declined.Memory };
 
     fn from(_: AllocError) -> Self {
         Declined::Memory
@@ -52,10 +52,7 @@ impl From<AllocError> for Declined {
 }
 
 impl From<AllocError> for LoadError {
-    ghost use Rattle.archive_replay.specs.declared.error.LoadError.TheVariants.{Memory};
-    ghost use Rattle.std.specs.Prelude.{◌≡◌};
-
-    ghost from_gives = { λ _ e. e ≡ Memory };
+    ghost from_gives = { λ _ e. e ≡ LoadError.Memory };
 
     fn from(_: AllocError) -> Self {
         LoadError::Memory
@@ -63,10 +60,7 @@ impl From<AllocError> for LoadError {
 }
 
 impl From<AllocError> for ReadError {
-    ghost use Rattle.archive_replay.specs.declared.error.ReadError.TheVariants.{Memory};
-    ghost use Rattle.std.specs.Prelude.{◌≡◌};
-
-    ghost from_gives = { λ _ e. e ≡ Memory };
+    ghost from_gives = { λ _ e. e ≡ ReadError.Memory };
 
     fn from(_: AllocError) -> Self {
         ReadError::Memory
@@ -74,10 +68,7 @@ impl From<AllocError> for ReadError {
 }
 
 impl From<Failed> for ReadError {
-    ghost use Rattle.archive_replay.specs.declared.error.ReadError.TheVariants.{Failed};
-    ghost use Rattle.std.specs.Prelude.{◌≡◌};
-
-    ghost from_gives = { λ _ e. e ≡ Failed };
+    ghost from_gives = { λ _ e. e ≡ ReadError.Failed };
 
     fn from(_: machine_model::Failed) -> Self {
         ReadError::Failed
@@ -86,7 +77,6 @@ impl From<Failed> for ReadError {
 
 impl From<JournalError> for LoadError {
     ghost use Rattle.archive_replay.specs.Causes.{load_error_of};
-    ghost use Rattle.std.specs.Prelude.{◌≡◌};
 
     ghost from_gives = { λ why e. e ≡ load_error_of why };
 
@@ -100,10 +90,7 @@ impl From<JournalError> for LoadError {
 }
 
 impl From<Failed> for LoadError {
-    ghost use Rattle.archive_replay.specs.declared.error.LoadError.TheVariants.{Failed};
-    ghost use Rattle.std.specs.Prelude.{◌≡◌};
-
-    ghost from_gives = { λ _ e. e ≡ Failed };
+    ghost from_gives = { λ _ e. e ≡ LoadError.Failed };
 
     fn from(_: machine_model::Failed) -> Self {
         LoadError::Failed

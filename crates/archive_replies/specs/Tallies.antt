@@ -1,61 +1,33 @@
 -- What is told of a sample that was carried out.
-use Rattle.std.specs.Prelude.{ℕ, Bool, true, false, List, [], ◌∷◌, ◌++◌, length, filter, sum_by, codes}
+use Rattle.std.specs.Prelude.{ℕ, List, [], ◌∷◌, ◌++◌, length, sum_by, codes}
 use Rattle.std.specs.Fmt.{decimal}
 use Rattle.archive_state.specs.declared.verdict.Verdict.{Verdict}
 use Rattle.archive_state.specs.Replies.{reply_text}
 use Rattle.archive_state.specs.Steps.{Reply, Accepted, Refused, Found, Spanned, Version, Proposed, Planned, Verified}
 use Rattle.archive_replies.specs.declared.tally.Tally.{Tally}
 
--- a change was accepted, or a plan stored
-abbrev pub is_accepted : Reply → Bool
-is_accepted (Accepted count) = true
-is_accepted (Planned summary) = true
-is_accepted (Refused why) = false
-is_accepted (Found rows read) = false
-is_accepted (Spanned rows read) = false
-is_accepted (Version text) = false
-is_accepted (Proposed segments nodes total) = false
-is_accepted (Verified verdict) = false
+-- what counts for none
+abbrev pub no_count : Tally
+no_count = record { accepted = 0; refused = 0; hits = 0; read = 0 }
 
--- the command was refused
-abbrev pub is_refused : Reply → Bool
-is_refused (Refused why) = true
-is_refused (Accepted count) = false
-is_refused (Planned summary) = false
-is_refused (Found rows read) = false
-is_refused (Spanned rows read) = false
-is_refused (Version text) = false
-is_refused (Proposed segments nodes total) = false
-is_refused (Verified verdict) = false
-
--- how many rows a question found, and how many postings were read for them
-abbrev pub hits_of : Reply → ℕ
-hits_of (Found rows read) = length rows
-hits_of (Accepted count) = 0
-hits_of (Planned summary) = 0
-hits_of (Refused why) = 0
-hits_of (Spanned rows read) = 0
-hits_of (Version text) = 0
-hits_of (Proposed segments nodes total) = 0
-hits_of (Verified verdict) = 0
-
-abbrev pub read_of : Reply → ℕ
-read_of (Found rows read) = read
-read_of (Accepted count) = 0
-read_of (Planned summary) = 0
-read_of (Refused why) = 0
-read_of (Spanned rows read) = 0
-read_of (Version text) = 0
-read_of (Proposed segments nodes total) = 0
-read_of (Verified verdict) = 0
+-- What a reply counts for: a change that was accepted or a plan that was stored, a refusal, or the rows of a question and the postings read for them.
+abbrev pub count_of : Reply → Tally
+count_of (Accepted count) = record no_count { accepted = 1 }
+count_of (Planned summary) = record no_count { accepted = 1 }
+count_of (Refused why) = record no_count { refused = 1 }
+count_of (Found rows read) = record no_count { hits = length rows; read = read }
+count_of (Spanned rows read) = no_count
+count_of (Version text) = no_count
+count_of (Proposed segments nodes total) = no_count
+count_of (Verified verdict) = no_count
 
 -- the counts over some replies
 abbrev pub tally_of : List Reply → Tally
 tally_of replies = record {
-  accepted = length (filter is_accepted replies);
-  refused = length (filter is_refused replies);
-  hits = sum_by hits_of replies;
-  read = sum_by read_of replies;
+  accepted = sum_by (λ reply. (count_of reply).accepted) replies;
+  refused = sum_by (λ reply. (count_of reply).refused) replies;
+  hits = sum_by (λ reply. (count_of reply).hits) replies;
+  read = sum_by (λ reply. (count_of reply).read) replies;
 }
 
 -- the line of the counts

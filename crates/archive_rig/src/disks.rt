@@ -131,6 +131,19 @@ pub fn expect_held(pages: &[u8], segment: &Segment<'_>) -> Result<(), RowError> 
     Ok(())
 }
 
+/// A plan has its reply behind these changes, whose records these are. Then the journal is the records and the
+/// plan's entry, and Pages hold its sublists.
+pub fn expect_entry(
+    alloc: Global,
+    (changes, records): (Row<'_>, &[u8]),
+    row: Row<'_>,
+    plan: &Plan<'_>,
+) -> Result<(), RowError> {
+    let disk = disk_after_all(alloc, new_disk(alloc), &[changes, row])?;
+    let entry = plan_record(alloc, plan)?;
+    expect_left(alloc, &disk, &[records, &entry], plan.segments)
+}
+
 /// The disk's journal is these records, and its Pages hold the sublists of these segments.
 pub fn expect_left(
     alloc: Global,

@@ -23,8 +23,8 @@ mod sublists;
 pub use changes::{Change, expect_change, expect_changes, made, refused, three_changes};
 pub use disks::{
     FIRST_CERTIFICATE, FIRST_PLAN, FOUR_CHANGES, GAP_CHANGES, disk_after, disk_after_all,
-    disk_with, expect_held, expect_left, expect_on, expect_status, first_disk, flat_disk,
-    machine_after, new_disk,
+    disk_with, expect_entry, expect_held, expect_left, expect_on, expect_status, first_disk,
+    flat_disk, machine_after, new_disk,
 };
 pub use error::RowError;
 pub use journals::{

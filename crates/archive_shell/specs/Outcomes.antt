@@ -15,6 +15,9 @@ use Rattle.archive_state.specs.Worlds.{World, world_of}
 use Rattle.archive_core.specs.States.{ArchiveState, AreInStep, Reaches, StandsFor}
 use Rattle.archive_core.specs.Changing.{LeadsTo}
 use Rattle.archive_core.specs.Takes.{Ending, Replied, Starved, Faulted, Spoiled}
+use Rattle.archive_core.specs.declared.error.AskError.{AskError}
+use Rattle.archive_core.specs.declared.error.AskError.TheVariants as asks
+use Rattle.sublist_store.specs.declared.why.Damage.{Damage}
 use Rattle.archive_shell.specs.declared.stop.Halt.{Halt}
 use Rattle.archive_shell.specs.declared.stop.Halt.TheVariants as halts
 use Rattle.archive_shell.specs.declared.stop.Stop.{Stop}
@@ -34,6 +37,12 @@ Writes (Replied reply) result page = ((result ≡ Ok tt) × (page ≡ reply_text
 Writes Starved result page = result ≡ Err halts.Memory
 Writes Faulted result page = result ≡ Err halts.Disk
 Writes (Spoiled damage) result page = result ≡ Err (halts.Damaged damage)
+
+-- What is written of a query's end, which this tells of its answer: the run is halted by a fault or a damage just where the query was.
+pub record WritesAnswer {T : Type 0} (end : Result T AskError → Ending) (answer : Result T AskError) (result : Result (Unit {0}) Halt) (page : List ℕ) : Type 0 where
+  pub writes : Writes (end answer) result page
+  pub fault : result ≡ Err halts.Disk → answer ≡ Err asks.Failed
+  pub damage : (d : Damage) → result ≡ Err (halts.Damaged d) → answer ≡ Err (asks.Damaged d)
 
 -- where an item was answered the archive stands for the history after the outcome, and the page has the reply; where memory ran out, each
 -- image stands for the history before the outcome, or each for the one after it; nothing was damaged

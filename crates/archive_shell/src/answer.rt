@@ -12,7 +12,7 @@ ghost use Rattle.machine_model.specs.Calls.{OnlyReads};
 ghost use Rattle.archive_shell.specs.Asking.{IsByReads};
 ghost use Rattle.archive_shell.specs.Causes.{IsLeft};
 ghost use Rattle.archive_shell.specs.Questions.{IsQuestion};
-ghost use Rattle.archive_shell.specs.Outcomes.{Answers, CanGoOn, Writes};
+ghost use Rattle.archive_shell.specs.Outcomes.{Answers, CanGoOn, Writes, WritesAnswer};
 
 use crate::stop::Halt;
 use archive_check::VerifyError;
@@ -209,9 +209,7 @@ fn write_unchanged(page: &mut ReplyPage, error: ChangeError) -> Result<(), Halt>
 
 /// Writes what a query found on the page, or halts the run.
 fn write_found(page: &mut ReplyPage, answer: Result<Answer, AskError>) -> Result<(), Halt>
-    ensures writes { Writes (found answer) result page.new.bytes }
-    ensures fault { IsErrOf result Halt.Disk → IsErrOf answer AskError.Failed }
-    ensures damage { (d : Damage) → IsErrOf result (Halt.Damaged d) → IsErrOf answer (AskError.Damaged d) }
+    ensures { WritesAnswer found answer result page.new.bytes }
 {
     match answer {
         Ok(answer) => {
@@ -224,9 +222,7 @@ fn write_found(page: &mut ReplyPage, answer: Result<Answer, AskError>) -> Result
 
 /// Writes what a query found over a window of time on the page, or halts the run.
 fn write_spanned(page: &mut ReplyPage, answer: Result<SpanAnswer, AskError>) -> Result<(), Halt>
-    ensures writes { Writes (spanned answer) result page.new.bytes }
-    ensures fault { IsErrOf result Halt.Disk → IsErrOf answer AskError.Failed }
-    ensures damage { (d : Damage) → IsErrOf result (Halt.Damaged d) → IsErrOf answer (AskError.Damaged d) }
+    ensures { WritesAnswer spanned answer result page.new.bytes }
 {
     match answer {
         Ok(answer) => {

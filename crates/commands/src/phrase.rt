@@ -1,5 +1,5 @@
 //! Words and questions as they are written.
-ghost use Rattle.std.specs.Prelude.{◌≡◌, ◌≤◌, length, IfOk};
+ghost use Rattle.std.specs.Prelude.{◌≡◌, ◌≤◌, ℕ, List, length, string_bytes, IfOk};
 ghost use Rattle.commands.specs.Phrases.{phrase_of};
 
 use std::alloc::{AllocError, Global};
@@ -16,8 +16,6 @@ pub struct Phrase {
 }
 
 impl Model for Phrase {
-    ghost use Rattle.std.specs.Prelude.{ℕ, List, ◌≤◌, length, string_bytes};
-
     ghost Value = { List ℕ };
 
     ghost view = { λ p. string_bytes p.text };

@@ -1,5 +1,7 @@
 //! Why a call of a journal ends without an answer.
 ghost use Rattle.std.specs.Prelude.{◌≡◌};
+ghost use Rattle.gate_journal.specs.declared.error.JournalError.{JournalError};
+ghost use Rattle.gate_journal.specs.declared.error.AppendError.{AppendError};
 
 use machine_model::Failed;
 use std::alloc::{AllocError, AllocFailed};
@@ -33,10 +35,7 @@ pub enum AppendError {
 }
 
 impl From<Failed> for JournalError {
-    ghost use Rattle.gate_journal.specs.declared.error.JournalError.TheVariants.{Failed};
-    ghost use Rattle.std.specs.Prelude.{◌≡◌};
-
-    ghost from_gives = { λ _ e. e ≡ Failed };
+    ghost from_gives = { λ _ e. e ≡ JournalError.Failed };
 
     fn from(_: Failed) -> Self {
         JournalError::Failed
@@ -44,10 +43,7 @@ impl From<Failed> for JournalError {
 }
 
 impl From<AllocError> for JournalError {
-    ghost use Rattle.gate_journal.specs.declared.error.JournalError.TheVariants.{Memory};
-    ghost use Rattle.std.specs.Prelude.{◌≡◌};
-
-    ghost from_gives = { λ _ e. e ≡ Memory };
+    ghost from_gives = { λ _ e. e ≡ JournalError.Memory };
 
     fn from(_: AllocError) -> Self {
         JournalError::Memory
@@ -55,10 +51,7 @@ impl From<AllocError> for JournalError {
 }
 
 impl<T: Drop> From<AllocFailed<T>> for JournalError {
-    ghost use Rattle.gate_journal.specs.declared.error.JournalError.TheVariants.{Memory};
-    ghost use Rattle.std.specs.Prelude.{◌≡◌};
-
-    ghost from_gives = { λ _ e. e ≡ Memory };
+    ghost from_gives = { λ _ e. e ≡ JournalError.Memory };
 
     fn from(_: AllocFailed<T>) -> Self {
         JournalError::Memory
@@ -66,10 +59,7 @@ impl<T: Drop> From<AllocFailed<T>> for JournalError {
 }
 
 impl From<Failed> for AppendError {
-    ghost use Rattle.gate_journal.specs.declared.error.AppendError.TheVariants.{Failed};
-    ghost use Rattle.std.specs.Prelude.{◌≡◌};
-
-    ghost from_gives = { λ _ e. e ≡ Failed };
+    ghost from_gives = { λ _ e. e ≡ AppendError.Failed };
 
     fn from(_: Failed) -> Self {
         AppendError::Failed

@@ -78,16 +78,11 @@ impl<F: FileExt + Seek + OpenFile> AreaFile<F> {
         ensures length { self.new.length ≡ self.old.length }
         ensures durable { OnOk result (self.new.is_synced ≡ true) }
     {
-        if self.is_synced {
-            return Ok(());
+        if !self.is_synced {
+            self.file.sync_data().map_err(|_| Failed)?;
+            self.is_synced = true;
         }
-        match self.file.sync_data() {
-            Ok(()) => {
-                self.is_synced = true;
-                Ok(())
-            }
-            Err(_) => Err(Failed),
-        }
+        Ok(())
     }
 }
 

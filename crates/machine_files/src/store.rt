@@ -191,16 +191,11 @@ impl<F: FileExt + Seek + OpenFile> Store<F> {
         ensures pages { self.new.pages ≡ self.old.pages }
         ensures folder { OnOk result (self.new.is_folder_synced ≡ true) }
     {
-        if self.is_folder_synced {
-            return Ok(());
+        if !self.is_folder_synced {
+            self.folder.sync_all().map_err(|_| Failed)?;
+            self.is_folder_synced = true;
         }
-        match self.folder.sync_all() {
-            Ok(()) => {
-                self.is_folder_synced = true;
-                Ok(())
-            }
-            Err(_) => Err(Failed),
-        }
+        Ok(())
     }
 }
 

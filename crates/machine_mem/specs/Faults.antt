@@ -14,9 +14,13 @@ count_of counts Sync = counts.syncs
 count_of counts Pull = counts.pulls
 count_of counts Push = counts.pushes
 
--- which of its kind the next call is; the count stays at its last value
+-- a count behind one call more; it stays at its last value
+abbrev pub next_count : ℕ → ℕ
+next_count n = min (n + 1) (2 ^ 64 - 1)
+
+-- which of its kind the next call is
 abbrev pub next_of : Counts → CallKind → ℕ
-next_of counts kind = min (count_of counts kind + 1) (2 ^ 64 - 1)
+next_of counts kind = next_count (count_of counts kind)
 
 -- the counts with that of one kind replaced
 abbrev pub counts_with : Counts → CallKind → ℕ → Counts

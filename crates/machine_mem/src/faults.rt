@@ -1,6 +1,6 @@
 //! Which calls of a machine in memory fail.
 ghost use Rattle.std.specs.Prelude.{◌≡◌, ◌↔◌, IsTrue, IfSome, IfNone};
-ghost use Rattle.machine_mem.specs.Faults.{count_of, next_of, counts_with, Names, IsNamed, IsSpared};
+ghost use Rattle.machine_mem.specs.Faults.{count_of, next_count, next_of, counts_with, Names, IsNamed, IsSpared};
 
 use std::alloc::Global;
 
@@ -75,32 +75,23 @@ impl Counts {
         ensures counts { self.new ≡ counts_with self.old kind (next_of self.old kind) }
     {
         match kind {
-            CallKind::Length => {
-                self.lengths = self.lengths.saturating_add(1);
-                self.lengths
-            }
-            CallKind::Read => {
-                self.reads = self.reads.saturating_add(1);
-                self.reads
-            }
-            CallKind::Write => {
-                self.writes = self.writes.saturating_add(1);
-                self.writes
-            }
-            CallKind::Sync => {
-                self.syncs = self.syncs.saturating_add(1);
-                self.syncs
-            }
-            CallKind::Pull => {
-                self.pulls = self.pulls.saturating_add(1);
-                self.pulls
-            }
-            CallKind::Push => {
-                self.pushes = self.pushes.saturating_add(1);
-                self.pushes
-            }
+            CallKind::Length => raised(&mut self.lengths),
+            CallKind::Read => raised(&mut self.reads),
+            CallKind::Write => raised(&mut self.writes),
+            CallKind::Sync => raised(&mut self.syncs),
+            CallKind::Pull => raised(&mut self.pulls),
+            CallKind::Push => raised(&mut self.pushes),
         }
     }
+}
+
+/// Counts one call more, up to 2^64 - 1, and answers which it is.
+fn raised(count: &mut u64) -> u64
+    ensures value { result ≡ next_count count.old }
+    ensures kept { count.new ≡ result }
+{
+    *count = count.saturating_add(1);
+    *count
 }
 
 /// The calls that are to fail, and the calls so far.

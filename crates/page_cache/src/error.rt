@@ -1,4 +1,7 @@
 //! Why a page isn't read.
+ghost use Rattle.std.specs.Prelude.{◌≡◌};
+ghost use Rattle.page_cache.specs.declared.error.PageError.{PageError};
+
 use machine_model::Failed;
 use std::alloc::{AllocError, AllocFailed};
 
@@ -12,10 +15,7 @@ pub enum PageError {
 }
 
 impl From<Failed> for PageError {
-    ghost use Rattle.std.specs.Prelude.{◌≡◌};
-    ghost use Rattle.page_cache.specs.declared.error.PageError.TheVariants.{Failed as NotRead};
-
-    ghost from_gives = { λ _ e. e ≡ NotRead };
+    ghost from_gives = { λ _ e. e ≡ PageError.Failed };
 
     fn from(_: Failed) -> PageError {
         PageError::Failed
@@ -23,10 +23,7 @@ impl From<Failed> for PageError {
 }
 
 impl From<AllocError> for PageError {
-    ghost use Rattle.std.specs.Prelude.{◌≡◌};
-    ghost use Rattle.page_cache.specs.declared.error.PageError.TheVariants.{Memory};
-
-    ghost from_gives = { λ _ e. e ≡ Memory };
+    ghost from_gives = { λ _ e. e ≡ PageError.Memory };
 
     fn from(_: AllocError) -> PageError {
         PageError::Memory

@@ -1,5 +1,6 @@
 //! The pages that extents leave free which are taken already.
 ghost use Rattle.std.specs.Prelude.{◌≡◌, ◌∷◌, [], ◌++◌, true, false, ℕ, List, IfOk, IfErr};
+ghost use Rattle.page_store.specs.declared.live.LiveError.{LiveError};
 ghost use Rattle.time_base.specs.declared.extent.Extent.{Extent as PlainExtent};
 ghost use Rattle.page_store.specs.Runs.{IsPageOf, IsTaken};
 ghost use Rattle.page_store.specs.Taken.{HasTaken};
@@ -29,10 +30,7 @@ pub enum LiveError {
 }
 
 impl From<AllocError> for LiveError {
-    ghost use Rattle.std.specs.Prelude.{◌≡◌};
-    ghost use Rattle.page_store.specs.declared.live.LiveError.TheVariants.{Memory};
-
-    ghost from_gives = { λ _ e. e ≡ Memory };
+    ghost from_gives = { λ _ e. e ≡ LiveError.Memory };
 
     fn from(_: AllocError) -> LiveError {
         LiveError::Memory

@@ -1,5 +1,6 @@
 //! Which pages are free.
 ghost use Rattle.std.specs.Prelude.{◌≡◌, ◌≤◌, [], ◌∷◌, ◌++◌, List, ℕ, IfOk, OnOk, OnErr, IsErrOf};
+ghost use Rattle.page_store.specs.declared.pages.TakeError.{TakeError};
 ghost use Rattle.time_base.specs.declared.extent.Extent.{Extent as PlainExtent};
 ghost use Rattle.page_store.specs.Runs.{IsFreeRun, IsLowestRun, pages_for};
 ghost use Rattle.page_store.specs.Edges.{AreFree};
@@ -20,10 +21,7 @@ pub enum TakeError {
 }
 
 impl From<AllocError> for TakeError {
-    ghost use Rattle.std.specs.Prelude.{◌≡◌};
-    ghost use Rattle.page_store.specs.declared.pages.TakeError.TheVariants.{Memory};
-
-    ghost from_gives = { λ _ e. e ≡ Memory };
+    ghost from_gives = { λ _ e. e ≡ TakeError.Memory };
 
     fn from(_: AllocError) -> TakeError {
         TakeError::Memory

@@ -1,6 +1,7 @@
 //! What is chosen, or why nothing is.
 ghost use Rattle.std.specs.Prelude.{◌≡◌};
 ghost use Rattle.plan_choice.specs.declared.choice.ChoiceError.{ChoiceError};
+ghost use Rattle.plan_choice.specs.declared.choice.ChoiceError.{ChoiceError};
 
 use std::alloc::{AllocError, AllocFailed};
 use time_base::Time;
@@ -30,8 +31,6 @@ pub enum ChoiceError {
 }
 
 impl From<AllocError> for ChoiceError {
-    ghost use Rattle.plan_choice.specs.declared.choice.ChoiceError.{ChoiceError};
-
     ghost from_gives = { λ _ e. e ≡ ChoiceError.Memory };
 
     fn from(_error: AllocError) -> ChoiceError {

@@ -1,4 +1,7 @@
 //! Why a text gives no query.
+ghost use Rattle.std.specs.Prelude.{◌≡◌};
+ghost use Rattle.query_lang.specs.declared.error.QueryError.{QueryError};
+
 use std::alloc::AllocError;
 
 /// Why a text gives no query.
@@ -15,10 +18,7 @@ pub enum QueryError {
 }
 
 impl From<AllocError> for QueryError {
-    ghost use Rattle.query_lang.specs.declared.error.QueryError.TheVariants.{Memory};
-    ghost use Rattle.std.specs.Prelude.{◌≡◌};
-
-    ghost from_gives = { λ _ e. e ≡ Memory };
+    ghost from_gives = { λ _ e. e ≡ QueryError.Memory };
 
     fn from(_: AllocError) -> QueryError {
         QueryError::Memory

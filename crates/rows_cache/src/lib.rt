@@ -6,14 +6,4 @@
 #![tactic(auto)]
 
 #[cfg(test)]
-mod counts;
-#[cfg(test)]
-mod damaged;
-#[cfg(test)]
-mod faults;
-#[cfg(test)]
-mod many;
-#[cfg(test)]
-mod renewed;
-#[cfg(test)]
-mod steps;
+mod rows;

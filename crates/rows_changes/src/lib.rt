@@ -6,14 +6,4 @@
 #![tactic(auto)]
 
 #[cfg(test)]
-mod broken;
-#[cfg(test)]
-mod deletions;
-#[cfg(test)]
-mod lines;
-#[cfg(test)]
-mod pieces;
-#[cfg(test)]
-mod replies;
-#[cfg(test)]
-mod statuses;
+mod rows;

@@ -5,22 +5,4 @@
 #![tactic(auto)]
 
 #[cfg(test)]
-mod audits;
-#[cfg(test)]
-mod changed;
-#[cfg(test)]
-mod disks;
-#[cfg(test)]
-mod faults;
-#[cfg(test)]
-mod flat;
-#[cfg(test)]
-mod least;
-#[cfg(test)]
-mod realistic;
-#[cfg(test)]
-mod samples;
-#[cfg(test)]
-mod sound;
-#[cfg(test)]
-mod words;
+mod rows;

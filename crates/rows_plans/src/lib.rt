@@ -5,20 +5,4 @@
 #![tactic(auto)]
 
 #[cfg(test)]
-mod damaged;
-#[cfg(test)]
-mod flat;
-#[cfg(test)]
-mod foreign;
-#[cfg(test)]
-mod journals;
-#[cfg(test)]
-mod many;
-#[cfg(test)]
-mod places;
-#[cfg(test)]
-mod refusals;
-#[cfg(test)]
-mod replies;
-#[cfg(test)]
-mod stops;
+mod rows;

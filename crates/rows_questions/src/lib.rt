@@ -5,10 +5,4 @@
 #![tactic(auto)]
 
 #[cfg(test)]
-mod between;
-#[cfg(test)]
-mod find;
-#[cfg(test)]
-mod propose;
-#[cfg(test)]
-mod show;
+mod rows;

@@ -6,18 +6,4 @@
 #![tactic(auto)]
 
 #[cfg(test)]
-mod foreign;
-#[cfg(test)]
-mod many;
-#[cfg(test)]
-mod places;
-#[cfg(test)]
-mod plans;
-#[cfg(test)]
-mod refusals;
-#[cfg(test)]
-mod replacements;
-#[cfg(test)]
-mod replies;
-#[cfg(test)]
-mod stops;
+mod rows;

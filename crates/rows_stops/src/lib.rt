@@ -6,10 +6,4 @@
 #![tactic(auto)]
 
 #[cfg(test)]
-mod faults;
-#[cfg(test)]
-mod foreign;
-#[cfg(test)]
-mod history;
-#[cfg(test)]
-mod stops;
+mod rows;

@@ -18,7 +18,7 @@ use Rattle.script_read.specs.Words.{word, after_word, is_blank, phrase}
 use Rattle.script_read.specs.Numbers.{value_of, are_digits, number}
 use Rattle.script_read.specs.Values.{document, time, text, fraction, or_else, both, all_three, only_if}
 use Rattle.script_read.specs.Items.{text_at, without_cr, short, text_end, piece_of, last_piece, open_line, closed_line, first, Pieces, Items}
-use Rattle.script_read.specs.Lines.{kind, window, version, deletion, showing, planning, proposing, finding, spanning, certifying, verifying, change, question, report, command, arrival_by, arrival, alone, is_skipped, meaning}
+use Rattle.script_read.specs.Lines.{kind, window, version, planning, proposing, finding, spanning, certifying, verifying, change, question, command, arrival_by, arrival, alone, is_skipped, meaning}
 
 number-below : (limit : ℕ) (word : List ℕ) → IfSome (number limit word) (λ n. n < limit)
 number-below limit word = go (are_digits word) (nat_lt (value_of word) limit) refl
@@ -91,14 +91,9 @@ three-fit : {A B C : Type 0} (f : A → B → C → Command) (a : Option A) (b :
 three-fit f (Some a) b c h = both-fit (f a) b c (h a)
 three-fit f None b c h = tt
 
-one-of-two : (p q : Bool) (a b : Option Command) → IfSome a Fits → IfSome b Fits → IfSome (if p then a else (if q then b else None)) Fits
-one-of-two true q a b h k = h
-one-of-two false true a b h k = k
-one-of-two false false a b h k = tt
-
-one-of-three : (p q r : Bool) (a b c : Option Command) → IfSome a Fits → IfSome b Fits → IfSome c Fits → IfSome (if p then a else (if q then b else (if r then c else None))) Fits
-one-of-three true q r a b c h k l = h
-one-of-three false q r a b c h k l = one-of-two q r b c k l
+by-name : (p : Bool) (a b : Option Command) → IfSome a Fits → IfSome b Fits → IfSome (if p then a else b) Fits
+by-name true a b h k = h
+by-name false a b h k = k
 
 -- the document of a line that has one and a time
 version-fits : (f : DocId → Time → Command) → ((doc : DocId) (at : Time) → IsInRange doc → Fits (f doc at)) → (words : List ℕ)
@@ -143,17 +138,17 @@ verifying-fits words = let fits : Fits Verify = tt in only-fits (is_blank words)
 
 change-fits : (name words : List ℕ) → IfSome (change name words) Fits
 change-fits name words =
-    one-of-two (bytes_eq name (codes "delete")) (bytes_eq name (codes "plan")) (deletion words) (planning words) (version-fits Delete (λ d t h. h) words) (planning-fits words)
+    by-name (bytes_eq name (codes "delete")) _ _ (version-fits Delete (λ d t h. h) words)
+    (by-name (bytes_eq name (codes "plan")) _ _ (planning-fits words) tt)
 
 question-fits : (name words : List ℕ) → IfSome (question name words) Fits
 question-fits name words =
-    one-of-three (bytes_eq name (codes "find")) (bytes_eq name (codes "between")) (bytes_eq name (codes "show")) (finding words) (spanning words) (showing words)
-    (finding-fits words) (spanning-fits words) (version-fits Show (λ d t h. h) words)
-
-report-fits : (name words : List ℕ) → IfSome (report name words) Fits
-report-fits name words =
-    one-of-three (bytes_eq name (codes "propose")) (bytes_eq name (codes "certificate")) (bytes_eq name (codes "verify")) (proposing words) (certifying words) (verifying words)
-    (proposing-fits words) (certifying-fits words) (verifying-fits words)
+    by-name (bytes_eq name (codes "find")) _ _ (finding-fits words)
+    (by-name (bytes_eq name (codes "between")) _ _ (spanning-fits words)
+    (by-name (bytes_eq name (codes "show")) _ _ (version-fits Show (λ d t h. h) words)
+    (by-name (bytes_eq name (codes "propose")) _ _ (proposing-fits words)
+    (by-name (bytes_eq name (codes "certificate")) _ _ (certifying-fits words)
+    (by-name (bytes_eq name (codes "verify")) _ _ (verifying-fits words) tt)))))
 
 pub meaning-fits : (line : List ℕ) → IsFit (meaning line)
 unfolding meaning
@@ -163,8 +158,7 @@ meaning-fits line = go (is_skipped line) (bytes_eq (word line) (codes "arrive"))
     behind = after_word line
 
     all : IfSome (command (word line) behind) Fits
-    all = or-fits (change (word line) behind) (or_else (question (word line) behind) (report (word line) behind)) (change-fits (word line) behind)
-        (or-fits (question (word line) behind) (report (word line) behind) (question-fits (word line) behind) (report-fits (word line) behind))
+    all = or-fits (change (word line) behind) (question (word line) behind) (change-fits (word line) behind) (question-fits (word line) behind)
 
     go : (s a : Bool) → IsFit (if s then Skipped else (if a then arrival behind else alone (command (word line) behind)))
     go true a = tt

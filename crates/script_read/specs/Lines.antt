@@ -96,17 +96,13 @@ question name words =
     if bytes_eq name (codes "find") then finding words
     else (if bytes_eq name (codes "between") then spanning words
     else (if bytes_eq name (codes "show") then showing words
-    else None))
-
-abbrev pub report : List ℕ → List ℕ → Option Command
-report name words =
-    if bytes_eq name (codes "propose") then proposing words
+    else (if bytes_eq name (codes "propose") then proposing words
     else (if bytes_eq name (codes "certificate") then certifying words
     else (if bytes_eq name (codes "verify") then verifying words
-    else None))
+    else None)))))
 
 abbrev pub command : List ℕ → List ℕ → Option Command
-command name words = or_else (change name words) (or_else (question name words) (report name words))
+command name words = or_else (change name words) (question name words)
 
 -- An arrival has a document, a time and a number of bytes below 2^40, and nothing else.
 abbrev pub arrival_by : Option DocId → Option Time → Option ℕ → Bool → Meaning

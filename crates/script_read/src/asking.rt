@@ -1,6 +1,6 @@
 //! The lines of commands that leave an archive as it is: what they say behind their names.
 ghost use Rattle.std.specs.Prelude.{◌≡◌, ◌≤◌, length, IfOk};
-ghost use Rattle.script_read.specs.Lines.{proposing, finding, spanning, showing, certifying, verifying, question, report};
+ghost use Rattle.script_read.specs.Lines.{proposing, finding, spanning, showing, certifying, verifying, question};
 
 use crate::changing::version;
 use crate::values::{fraction, text, time, window};
@@ -84,7 +84,7 @@ fn verifying(words: &[u8]) -> Option<Command>
     }
 }
 
-/// The command of this name that asks for rows or a text, with the words behind it. Costs their
+/// The command of this name that leaves an archive as it is, with the words behind it. Costs their
 /// length.
 pub(crate) fn question(
     alloc: Global,
@@ -103,19 +103,6 @@ pub(crate) fn question(
     if is_named(name, b"show") {
         return Ok(showing(words));
     }
-    Ok(None)
-}
-
-/// The command of this name that asks for plans or a check, with the words behind it. Costs their
-/// length.
-pub(crate) fn report(
-    alloc: Global,
-    name: &[u8],
-    words: &[u8],
-) -> Result<Option<Command>, AllocError>
-    requires { length words.now ≤ 4096 }
-    ensures { IfOk result (λ c. c ≡ report name.now words.now) }
-{
     if is_named(name, b"propose") {
         return proposing(alloc, words);
     }

@@ -1,9 +1,8 @@
 //! What a line says.
 ghost use Rattle.std.specs.Prelude.{◌≡◌, ◌≤◌, length, IfOk};
-ghost use Rattle.script_read.specs.Values.{or_else};
-ghost use Rattle.script_read.specs.Lines.{arrival, question, report, command, is_skipped, meaning};
+ghost use Rattle.script_read.specs.Lines.{arrival, command, is_skipped, meaning};
 
-use crate::asking::{question, report};
+use crate::asking::question;
 use crate::changing::change;
 use crate::values::{document, time};
 use crate::words::{is_blank, is_named, next_word, number_below};
@@ -54,20 +53,6 @@ fn arrival(words: &[u8]) -> Meaning
     }
 }
 
-fn question_or_report(
-    alloc: Global,
-    name: &[u8],
-    words: &[u8],
-) -> Result<Option<Command>, AllocError>
-    requires { length words.now ≤ 4096 }
-    ensures { IfOk result (λ c. c ≡ or_else (question name.now words.now) (report name.now words.now)) }
-{
-    match question(alloc, name, words)? {
-        Some(command) => Ok(Some(command)),
-        None => report(alloc, name, words),
-    }
-}
-
 /// The command of this name, but an arrival, with the words behind it. Costs their length.
 fn command(alloc: Global, name: &[u8], words: &[u8]) -> Result<Option<Command>, AllocError>
     requires { length words.now ≤ 4096 }
@@ -75,7 +60,7 @@ fn command(alloc: Global, name: &[u8], words: &[u8]) -> Result<Option<Command>, 
 {
     match change(alloc, name, words)? {
         Some(command) => Ok(Some(command)),
-        None => question_or_report(alloc, name, words),
+        None => question(alloc, name, words),
     }
 }
 

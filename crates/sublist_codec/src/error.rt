@@ -1,4 +1,8 @@
 //! Why bytes are no list.
+ghost use Rattle.std.specs.Prelude.{◌≡◌};
+ghost use Rattle.sublist_codec.specs.declared.error.ListError.{ListError};
+ghost use Rattle.sublist_codec.specs.declared.error.ReadError.{ReadError};
+
 use std::alloc::{AllocError, AllocFailed};
 use thiserror::Error;
 
@@ -17,10 +21,7 @@ pub enum ListError {
 }
 
 impl From<AllocError> for ListError {
-    ghost use Rattle.sublist_codec.specs.declared.error.ListError.TheVariants.{Memory};
-    ghost use Rattle.std.specs.Prelude.{◌≡◌};
-
-    ghost from_gives = { λ _ e. e ≡ Memory };
+    ghost from_gives = { λ _ e. e ≡ ListError.Memory };
 
     fn from(_e: AllocError) -> ListError {
         ListError::Memory
@@ -28,10 +29,7 @@ impl From<AllocError> for ListError {
 }
 
 impl<T: Drop> From<AllocFailed<T>> for ListError {
-    ghost use Rattle.sublist_codec.specs.declared.error.ListError.TheVariants.{Memory};
-    ghost use Rattle.std.specs.Prelude.{◌≡◌};
-
-    ghost from_gives = { λ _ e. e ≡ Memory };
+    ghost from_gives = { λ _ e. e ≡ ListError.Memory };
 
     fn from(_e: AllocFailed<T>) -> ListError {
         ListError::Memory
@@ -51,10 +49,7 @@ pub enum ReadError {
 }
 
 impl From<AllocError> for ReadError {
-    ghost use Rattle.sublist_codec.specs.declared.error.ReadError.TheVariants.{Memory};
-    ghost use Rattle.std.specs.Prelude.{◌≡◌};
-
-    ghost from_gives = { λ _ e. e ≡ Memory };
+    ghost from_gives = { λ _ e. e ≡ ReadError.Memory };
 
     fn from(_e: AllocError) -> ReadError {
         ReadError::Memory
@@ -62,10 +57,7 @@ impl From<AllocError> for ReadError {
 }
 
 impl<T: Drop> From<AllocFailed<T>> for ReadError {
-    ghost use Rattle.sublist_codec.specs.declared.error.ReadError.TheVariants.{Memory};
-    ghost use Rattle.std.specs.Prelude.{◌≡◌};
-
-    ghost from_gives = { λ _ e. e ≡ Memory };
+    ghost from_gives = { λ _ e. e ≡ ReadError.Memory };
 
     fn from(_e: AllocFailed<T>) -> ReadError {
         ReadError::Memory

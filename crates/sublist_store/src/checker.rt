@@ -1,5 +1,6 @@
 //! Bytes that are checked once.
 ghost use Rattle.std.specs.Prelude.{◌≡◌, nat_eq, IsTrue, IfOk, IfErr, IfSome};
+ghost use Rattle.sublist_store.specs.declared.checker.CheckError.{CheckError};
 ghost use Rattle.std.specs.Map.{lookup};
 ghost use Rattle.sublist_store.specs.Fetching.{IsChecked};
 ghost use Rattle.sublist_store.specs.Checking.{IsUnchecked};
@@ -41,10 +42,7 @@ pub(crate) enum CheckError {
 }
 
 impl From<AllocError> for CheckError {
-    ghost use Rattle.std.specs.Prelude.{◌≡◌};
-    ghost use Rattle.sublist_store.specs.declared.checker.CheckError.TheVariants.{Memory};
-
-    ghost from_gives = { λ _ e. e ≡ Memory };
+    ghost from_gives = { λ _ e. e ≡ CheckError.Memory };
 
     fn from(_: AllocError) -> CheckError {
         CheckError::Memory

@@ -1,4 +1,7 @@
 //! Why no list is given.
+ghost use Rattle.std.specs.Prelude.{◌≡◌};
+ghost use Rattle.sublist_store.specs.declared.why.FetchError.{FetchError};
+
 use machine_model::Failed;
 use std::alloc::AllocError;
 use time_base::Posting;
@@ -56,10 +59,7 @@ pub enum FetchError {
 }
 
 impl From<AllocError> for FetchError {
-    ghost use Rattle.std.specs.Prelude.{◌≡◌};
-    ghost use Rattle.sublist_store.specs.declared.why.FetchError.TheVariants.{Memory};
-
-    ghost from_gives = { λ _ e. e ≡ Memory };
+    ghost from_gives = { λ _ e. e ≡ FetchError.Memory };
 
     fn from(_: AllocError) -> FetchError {
         FetchError::Memory
@@ -67,10 +67,7 @@ impl From<AllocError> for FetchError {
 }
 
 impl From<Failed> for FetchError {
-    ghost use Rattle.std.specs.Prelude.{◌≡◌};
-    ghost use Rattle.sublist_store.specs.declared.why.FetchError.TheVariants.{Failed};
-
-    ghost from_gives = { λ _ e. e ≡ Failed };
+    ghost from_gives = { λ _ e. e ≡ FetchError.Failed };
 
     fn from(_: Failed) -> FetchError {
         FetchError::Failed

@@ -4,8 +4,4 @@
 #![tactic(auto)]
 
 #[cfg(test)]
-mod items;
-#[cfg(test)]
-mod machine;
-#[cfg(test)]
-mod times;
+mod tests;

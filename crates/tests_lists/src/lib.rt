@@ -5,16 +5,4 @@
 #![tactic(auto)]
 
 #[cfg(test)]
-mod changes;
-#[cfg(test)]
-mod given;
-#[cfg(test)]
-mod index;
-#[cfg(test)]
-mod joins;
-#[cfg(test)]
-mod parts;
-#[cfg(test)]
-mod tails;
-#[cfg(test)]
-mod versions;
+mod tests;

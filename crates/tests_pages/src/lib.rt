@@ -5,10 +5,4 @@
 #![tactic(auto)]
 
 #[cfg(test)]
-mod free_pages;
-#[cfg(test)]
-mod kept_pages;
-#[cfg(test)]
-mod lists_as_bytes;
-#[cfg(test)]
-mod sublists;
+mod tests;

@@ -6,12 +6,4 @@
 #![tactic(auto)]
 
 #[cfg(test)]
-mod choices;
-#[cfg(test)]
-mod fitting;
-#[cfg(test)]
-mod given;
-#[cfg(test)]
-mod guarantees;
-#[cfg(test)]
-mod spaces;
+mod tests;

@@ -4,12 +4,4 @@
 #![tactic(auto)]
 
 #[cfg(test)]
-mod answers;
-#[cfg(test)]
-mod given;
-#[cfg(test)]
-mod language;
-#[cfg(test)]
-mod trees;
-#[cfg(test)]
-mod windows;
+mod tests;

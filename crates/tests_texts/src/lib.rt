@@ -6,18 +6,4 @@
 #![tactic(auto)]
 
 #[cfg(test)]
-mod command_lines;
-#[cfg(test)]
-mod entries;
-#[cfg(test)]
-mod in_words;
-#[cfg(test)]
-mod plan_entries;
-#[cfg(test)]
-mod replies;
-#[cfg(test)]
-mod samples;
-#[cfg(test)]
-mod scripts;
-#[cfg(test)]
-mod words;
+mod tests;

@@ -1,0 +1,5 @@
+//! The rows, by what they ask of the program.
+mod faults;
+mod foreign;
+mod history;
+mod stops;

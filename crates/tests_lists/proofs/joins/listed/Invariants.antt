@@ -1,5 +1,0 @@
-use Rattle.postings.specs.Lists.{IsList}
-use Rattle.tests_lists.proofs.joins.listed.Given as goal
-
-abbrev pub invariant-loop-from : goal.invariant-loop-from
-invariant-loop-from l = IsList l.list.items

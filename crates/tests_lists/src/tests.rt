@@ -1,0 +1,8 @@
+//! The tests, by what they try.
+mod changes;
+mod given;
+mod index;
+mod joins;
+mod parts;
+mod tails;
+mod versions;

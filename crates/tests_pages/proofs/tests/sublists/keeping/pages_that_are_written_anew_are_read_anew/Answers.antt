@@ -1,0 +1,11 @@
+use Rattle.std.proofs.Common.{List, sym, subst, ◌∙◌}
+use Rattle.record_codec.specs.declared.place.Place.{Place}
+use Rattle.page_cache.specs.Laws.{LieIn}
+use Rattle.sublist_store.specs.Preparing.{extents}
+use Rattle.tests_pages.proofs.tests.sublists.keeping.pages_that_are_written_anew_are_read_anew.Goals as goal
+
+pub replaced-requires-2-clause-lie : goal.replaced-requires-2-clause-lie
+replaced-requires-2-clause-lie g c =
+    let B : List Place → Type 0 = λ ps. LieIn (extents ps) c.replaced.new.sublists.cache in
+    let A : List Place → Type 0 = λ ps. LieIn (extents ps) c.read_all.new.sublists.cache in
+    subst A (c.deref-2.ensures.value ∙ sym c.deref-4.ensures.value) (c.read_all.ensures.lie (subst B (sym c.deref-2.ensures.value) c.in_ok-early.ensures.lie))

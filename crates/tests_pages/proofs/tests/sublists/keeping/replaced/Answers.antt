@@ -1,0 +1,41 @@
+use Rattle.std.proofs.Common.{[], ◌++◌, List, ap, sym, subst, ◌∙◌}
+use Rattle.std.proofs.lemmas.List.{append-nil}
+use Rattle.time_base.specs.declared.extent.Extent.{Extent}
+use Rattle.record_codec.specs.declared.place.Place.{Place}
+use Rattle.page_store.specs.Taken.{HasTaken}
+use Rattle.page_cache.specs.Caches.{Kept}
+use Rattle.page_cache.specs.Laws.{LieIn}
+use Rattle.sublist_store.specs.Preparing.{extents}
+use Rattle.sublist_store.specs.Caching.{without_all}
+use Rattle.sublist_store.proofs.KeptLemmas.{kept_apart, lie_behind, lie_without}
+use Rattle.tests_pages.proofs.tests.sublists.keeping.replaced.Goals as goal
+
+pub write-requires-clause-unkept : goal.write-requires-clause-unkept
+write-requires-clause-unkept g c =
+    let mine = extents c.in-Ok.prepared.places in
+    let old = extents c.args.old.now in
+    let L : List Kept → Type 0 = λ cache. LieIn old cache in
+    kept_apart mine old c.prepare.new.self.cache (c.in-Ok.ensures.taken old c.requires.taken).apart (subst L (sym c.prepare.ensures.cache) c.requires.lie)
+
+pub returns-clause-taken : goal.returns-clause-taken
+returns-clause-taken g c =
+    let mine = extents c.in-Ok.prepared.places in
+    let old = extents c.args.old.now in
+    let same = c.in_ok-places.ensures.items ∙ c.places.ensures.value in
+    let O : List Extent → Type 0 = λ es. HasTaken c.prepare.new.self.pages (mine ++ es) in
+    let M : List Extent → Type 0 = λ es. HasTaken c.adopt.new.self.pages es in
+    let P : List Place → Type 0 = λ ps. HasTaken c.adopt.new.self.pages (extents ps) in
+    subst P (sym same) (subst M (append-nil mine) (c.adopt.ensures.freed [] (subst O (sym (append-nil old)) (c.in-Ok.ensures.taken old c.requires.taken))))
+
+pub returns-clause-lie : goal.returns-clause-lie
+returns-clause-lie g c =
+    let mine = extents c.in-Ok.prepared.places in
+    let old = extents c.args.old.now in
+    let same = c.in_ok-places.ensures.items ∙ c.places.ensures.value in
+    let cache = c.args.sublists.now.cache in
+    let left = c.adopt.ensures.cache ∙ ap (λ (kept : List Kept). without_all old kept) c.prepare.ensures.cache in
+    let O : List Extent → Type 0 = λ es. LieIn (mine ++ es) cache in
+    let M : List Extent → Type 0 = λ es. LieIn es (without_all old cache) in
+    let L : List Kept → Type 0 = λ kept. LieIn mine kept in
+    let P : List Place → Type 0 = λ ps. LieIn (extents ps) c.adopt.new.self.cache in
+    subst P (sym same) (subst L (sym left) (subst M (append-nil mine) (lie_without mine old [] cache (subst O (sym (append-nil old)) (lie_behind mine old cache c.requires.lie)))))

@@ -1,5 +1,0 @@
-use Rattle.std.proofs.Common.{length}
-use Rattle.tests_plans.proofs.guarantees.brute_force.+least_space.Given as goal
-
-abbrev pub decreases-least_space : goal.decreases-least_space
-decreases-least_space l = length l.times.now

@@ -1,0 +1,6 @@
+//! The tests, by what they try.
+mod choices;
+mod fitting;
+mod given;
+mod guarantees;
+mod spaces;

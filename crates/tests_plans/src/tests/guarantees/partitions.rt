@@ -1,0 +1,96 @@
+//! Tables and partitions of two documents that overlap.
+use super::given::cut_at;
+use crate::tests::given::{OVERLAP, factor, listed, table_of};
+use elementary::Partition;
+use time_base::Time;
+
+#[test]
+fn a_table_counts_its_list(rt: HostRuntime) {
+    let alloc = rt.alloc();
+    let list = listed(&rt, alloc, OVERLAP);
+    let table = table_of(&rt, alloc, &list, 50);
+    assert_eq!(rt; table.boundaries(), [10, 20, 30, 40, 50].as_slice());
+    assert_eq!(rt; table.postings(), 2);
+    for (k, alive) in [1, 2, 1, 0].iter().enumerate() {
+        assert_eq!(rt; table.alive(k), *alive, "in {k}");
+    }
+    for (j, k, size) in [
+        (0, 1, 1),
+        (0, 2, 2),
+        (0, 4, 2),
+        (1, 3, 2),
+        (2, 3, 1),
+        (2, 4, 1),
+        (3, 4, 0),
+    ] {
+        assert_eq!(rt; table.size(j, k), size, "from {j} to {k}");
+    }
+    // the horizon is no new boundary where a span ends at it
+    assert_eq!(rt; table_of(&rt, alloc, &list, 40).boundaries().len(), 4);
+}
+
+#[test]
+fn a_partition_ascends(rt: HostRuntime) {
+    let alloc = rt.alloc();
+    for (cuts, valid) in [
+        (&[][..], false),
+        (&[10], false),
+        (&[10, 10], false),
+        (&[20, 10], false),
+        (&[10, 30, 20], false),
+        (&[10, 20], true),
+    ] {
+        assert_eq!(rt;
+            Partition::new(cuts.to_vec(alloc).expect(&rt, "memory")).is_some(),
+            valid,
+            "{cuts:?}"
+        );
+    }
+}
+
+#[test]
+fn a_time_is_in_one_segment(rt: HostRuntime) {
+    let partition = cut_at(&rt, rt.alloc(), &[10, 20, 40]);
+    assert_eq!(rt; partition.segments(), 2);
+    for (t, segment) in [
+        (0, None),
+        (9, None),
+        (10, Some(0)),
+        (19, Some(0)),
+        (20, Some(1)),
+        (39, Some(1)),
+        (40, None),
+        (50, None),
+    ] {
+        let t = Time::new(t).expect(&rt, "a time");
+        assert_eq!(rt; partition.segment_of(t), segment, "at {}", t.seconds());
+    }
+}
+
+#[test]
+fn a_partition_that_fits_has_a_space(rt: HostRuntime) {
+    let alloc = rt.alloc();
+    let table = table_of(&rt, alloc, &listed(&rt, alloc, OVERLAP), 40);
+    let (three_halves, two) = (factor(&rt, 3, 2), factor(&rt, 2, 1));
+    // the space where it fits, and whether it keeps 3/2 and 2/1
+    for (cuts, fitting) in [
+        (&[10, 40][..], Some((2, false, true))),
+        (&[10, 30, 40], Some((3, false, true))),
+        (&[10, 20, 30, 40], Some((4, true, true))),
+        (&[10, 25, 40], None),
+        (&[20, 40], None),
+        (&[10, 30], None),
+        (&[10, 50], None),
+    ] {
+        let partition = cut_at(&rt, alloc, cuts);
+        let mut found = None;
+        if partition.fits(&table) && partition.cuts().len() < 10 {
+            found = Some((
+                partition.space(&table),
+                partition.admissible(&table, three_halves),
+                partition.admissible(&table, two),
+            ));
+        }
+        assert_eq!(rt; found, fitting, "{cuts:?}");
+    }
+}

@@ -1,0 +1,46 @@
+//! Which spans a load is asked for.
+ghost use Rattle.std.specs.Prelude.{◌≤◌, ◌^◌};
+
+use crate::tests::given::{OVERLAP, factor, listed, table_of};
+use space_planner::{Load, front, plan};
+use std::cell::RefCell;
+use time_base::Span;
+
+/// The span's seconds; notes the call, if there is memory.
+fn noted(calls: &RefCell<Vec<Span>>, span: Span) -> u64
+    ensures { result ≤ 2 ^ 40 }
+{
+    if let Ok(mut calls) = calls.try_borrow_mut() {
+        let _ = calls.push(span);
+    }
+    span.to - span.from
+}
+
+/// Each call asks once for each elementary interval.
+#[test]
+fn a_load_is_asked_once_for_each_elementary_interval(rt: HostRuntime) {
+    let alloc = rt.alloc();
+    let table = table_of(&rt, alloc, &listed(&rt, alloc, OVERLAP), 50);
+    let calls = RefCell::new(Vec::new(alloc));
+    let load = Load::new(|span: Span| noted(&calls, span));
+    let _ = front(alloc, &table, factor(&rt, 2, 1), &load).expect(&rt, "a front");
+    let _ = plan(alloc, &table, factor(&rt, 2, 1), &load).expect(&rt, "a plan");
+    let Ok(calls) = calls.try_borrow() else {
+        panic!(rt; "the calls");
+    };
+    let asked = [
+        (10u64, 20u64),
+        (20, 30),
+        (30, 40),
+        (40, 50),
+        (10, 20),
+        (20, 30),
+        (30, 40),
+        (40, 50),
+    ];
+    assert_eq!(rt; calls.len(), asked.len());
+    for (span, (from, to)) in calls.iter().zip(&asked) {
+        assert_eq!(rt; span.from, *from);
+        assert_eq!(rt; span.to, *to);
+    }
+}

@@ -1,0 +1,6 @@
+//! The tests, by what they try.
+mod answers;
+mod given;
+mod language;
+mod trees;
+mod windows;

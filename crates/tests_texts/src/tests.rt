@@ -1,0 +1,9 @@
+//! The tests, by what they try.
+mod command_lines;
+mod entries;
+mod in_words;
+mod plan_entries;
+mod replies;
+mod samples;
+mod scripts;
+mod words;
