@@ -398,19 +398,24 @@ fn answered_at(
     rows
 }
 
+/// At each second the answer is that of a look at each document.
+fn expect_at_seconds(rt: &impl Abort, alloc: Global, case: &Case) {
+    let Case { nodes, world, text } = case;
+    let query = read(rt, alloc, text.as_str());
+    let parts = world.parts(rt, alloc, &query);
+    for second in 0..END {
+        let rows = answered_at(rt, alloc, &query, &parts, world, second);
+        let wanted = world.looked_at(alloc, nodes, second).expect(rt, "memory");
+        assert_eq!(rt; rows.as_slice(), wanted.as_slice(), "{text} at {second}");
+    }
+}
+
 #[test]
 fn answers_are_those_of_a_look_at_each_document(rt: HostRuntime) {
     let alloc = rt.alloc();
     let mut numbers = Numbers { state: 2007 };
     for _ in 0..300 {
-        let Case { nodes, world, text } = Case::random(&rt, alloc, &mut numbers);
-        let query = read(&rt, alloc, text.as_str());
-        let parts = world.parts(&rt, alloc, &query);
-        for second in 0..END {
-            let rows = answered_at(&rt, alloc, &query, &parts, &world, second);
-            let wanted = world.looked_at(alloc, &nodes, second).expect(&rt, "memory");
-            assert_eq!(rt; rows.as_slice(), wanted.as_slice(), "{text} at {second}");
-        }
+        expect_at_seconds(&rt, alloc, &Case::random(&rt, alloc, &mut numbers));
     }
 }
 
@@ -434,25 +439,30 @@ fn answered_over(
     rows
 }
 
+/// In each window the answer is that of a look at each second.
+fn expect_in_windows(rt: &impl Abort, alloc: Global, case: &Case) {
+    let Case { nodes, world, text } = case;
+    let query = read(rt, alloc, text.as_str());
+    let parts = world.parts(rt, alloc, &query);
+    for from in 0..END {
+        for to in from.saturating_add(1)..END {
+            let span = Span::new(from, to).expect(rt, "a window");
+            let rows = answered_over(rt, alloc, &query, &parts, world, span);
+            let wanted = world.looked_over(alloc, nodes, span).expect(rt, "memory");
+            assert_eq!(rt;
+                rows.as_slice(),
+                wanted.as_slice(),
+                "{text} in [{from}, {to})"
+            );
+        }
+    }
+}
+
 #[test]
 fn windows_are_those_of_a_look_at_each_second(rt: HostRuntime) {
     let alloc = rt.alloc();
     let mut numbers = Numbers { state: 1997 };
     for _ in 0..300 {
-        let Case { nodes, world, text } = Case::random(&rt, alloc, &mut numbers);
-        let query = read(&rt, alloc, text.as_str());
-        let parts = world.parts(&rt, alloc, &query);
-        for from in 0..END {
-            for to in from.saturating_add(1)..END {
-                let span = Span::new(from, to).expect(&rt, "a window");
-                let rows = answered_over(&rt, alloc, &query, &parts, &world, span);
-                let wanted = world.looked_over(alloc, &nodes, span).expect(&rt, "memory");
-                assert_eq!(rt;
-                    rows.as_slice(),
-                    wanted.as_slice(),
-                    "{text} in [{from}, {to})"
-                );
-            }
-        }
+        expect_in_windows(&rt, alloc, &Case::random(&rt, alloc, &mut numbers));
     }
 }

@@ -59,34 +59,16 @@ fn cuts_of_many_boundaries_are_strides_apart(rt: HostRuntime) {
 fn charges_are_rounded_up(rt: HostRuntime) {
     let alloc = rt.alloc();
     let load = Load::new(|span: Span| span.to - span.from);
-    let even = table_of(
-        &rt,
-        alloc,
-        &listed(&rt, alloc, &[(3000, 0, 10), (3000, 10, 20)]),
-        20,
-    );
-    let (partition, least) = plan(alloc, &even, factor(&rt, 1, 1), &load).expect(&rt, "a plan");
-    assert_eq!(rt; partition.segments(), 2);
-    assert_eq!(rt; least, 60_000);
-    assert_eq!(rt;
-        front(alloc, &even, factor(&rt, 1, 1), &load)
-            .expect(&rt, "a front")
-            .len(),
-        1
-    );
-
-    let odd = table_of(
-        &rt,
-        alloc,
-        &listed(&rt, alloc, &[(3001, 0, 10), (3000, 10, 20)]),
-        20,
-    );
-    let (partition, least) = plan(alloc, &odd, factor(&rt, 1, 1), &load).expect(&rt, "a plan");
-    assert_eq!(rt; partition.segments(), 1);
-    assert_eq!(rt; least, 120_020);
-    assert!(rt;
-        front(alloc, &odd, factor(&rt, 1, 1), &load)
-            .expect(&rt, "a front")
-            .is_empty()
-    );
+    // the postings of the first second, the segments, the expected cost, and the points of the front
+    for (postings, segments, cost, points) in [(3000u32, 2, 60_000u128, 1), (3001, 1, 120_020, 0)] {
+        let alike = [(postings, 0, 10), (3000, 10, 20)];
+        let table = table_of(&rt, alloc, &listed(&rt, alloc, &alike), 20);
+        let (partition, least) = plan(alloc, &table, factor(&rt, 1, 1), &load).expect(
+            &rt, "a plan",
+        );
+        assert_eq!(rt; partition.segments(), segments, "{postings} postings");
+        assert_eq!(rt; least, cost, "{postings} postings");
+        let front = front(alloc, &table, factor(&rt, 1, 1), &load).expect(&rt, "a front");
+        assert_eq!(rt; front.len(), points, "{postings} postings");
+    }
 }
