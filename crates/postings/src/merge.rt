@@ -1,6 +1,5 @@
 //! The union of two lists.
 ghost use Rattle.std.specs.Prelude.{◌≡◌, IfOk, IfErr};
-ghost use Rattle.postings.specs.declared.merge.MergeError.{MergeError};
 ghost use Rattle.postings.specs.Lists.{IsList};
 ghost use Rattle.postings.specs.Unions.{IsUnion, Explains};
 ghost use Rattle.postings.specs.Placings.{IsPlacing};
@@ -23,7 +22,10 @@ pub enum MergeError {
 }
 
 impl From<AllocError> for MergeError {
-    ghost from_gives = { λ _ e. e ≡ MergeError.Memory };
+    ghost use Rattle.postings.specs.declared.merge.MergeError.TheVariants.{Memory};
+    ghost use Rattle.std.specs.Prelude.{◌≡◌};
+
+    ghost from_gives = { λ _ e. e ≡ Memory };
 
     fn from(_error: AllocError) -> MergeError {
         MergeError::Memory
@@ -31,7 +33,10 @@ impl From<AllocError> for MergeError {
 }
 
 impl<T: Drop> From<AllocFailed<T>> for MergeError {
-    ghost from_gives = { λ _ e. e ≡ MergeError.Memory };
+    ghost use Rattle.postings.specs.declared.merge.MergeError.TheVariants.{Memory};
+    ghost use Rattle.std.specs.Prelude.{◌≡◌};
+
+    ghost from_gives = { λ _ e. e ≡ Memory };
 
     fn from(_error: AllocFailed<T>) -> MergeError {
         MergeError::Memory
