@@ -1,5 +1,5 @@
 -- How a query ends: at a text that is none, at sublists that were not had, or with an answer; and errors that are handed on.
-use Rattle.std.proofs.Common.{◌≡◌, ℕ, ◌+◌, List, Result, Ok, Err, IfOk, IsErrAnd, refl, ap, subst, sym, ◌∙◌}
+use Rattle.std.proofs.Common.{◌≡◌, ℕ, ◌+◌, List, Result, Ok, Err, IfOk, OnOk, IsErrAnd, refl, ap, subst, sym, ◌∙◌}
 use Rattle.machine_model.specs.Images.{MayLeave}
 use Rattle.machine_model.specs.States.{DiskState}
 use Rattle.time_base.specs.declared.time.Time.{Time}
@@ -17,7 +17,7 @@ use Rattle.query_eval.specs.declared.spans.SpanAnswer.{SpanAnswer}
 use Rattle.sublist_store.specs.declared.why.Damage.{Damage}
 use Rattle.sublist_store.specs.declared.why.FetchError.{FetchError}
 use Rattle.sublist_store.specs.declared.why.FetchError.TheVariants as fetches
-use Rattle.archive_state.specs.Chosen.{IsFirstDamage, IsMadeAt, IsMadeOver}
+use Rattle.archive_state.specs.Chosen.{IsMadeAt, IsMadeOver}
 use Rattle.archive_state.specs.declared.refusal.Refusal.{Refusal}
 use Rattle.archive_state.specs.declared.refusal.Refusal.TheVariants as refusals
 use Rattle.archive_state.specs.Histories.{History}
@@ -28,10 +28,10 @@ use Rattle.archive_state.proofs.ChosenLemmas.{held_undamaged, made_at, made_over
 use Rattle.archive_state.proofs.OutcomeLemmas.{each_finds, each_spans}
 use Rattle.archive_replay.specs.declared.error.Declined.{Declined}
 use Rattle.archive_replay.specs.declared.error.Declined.TheVariants as declines
-use Rattle.archive_core.specs.After.{AfterFetching, AfterQuestion}
-use Rattle.archive_core.specs.Answering.{HasReadFor, IsAnswerTo, IsNoQuery}
+use Rattle.archive_core.specs.After.{AfterFetching, AfterQuestion, Fetches}
+use Rattle.archive_core.specs.Answering.{IsAnswerTo, IsNoQuery}
 use Rattle.archive_core.specs.Causes.{ask_error_of_query, asked_of}
-use Rattle.archive_core.specs.States.{ArchiveState, AreInStep, CacheStands, StandsFor}
+use Rattle.archive_core.specs.States.{ArchiveState, AreInStep}
 use Rattle.archive_core.specs.Takes.{Takes, answered, found, spanned}
 use Rattle.archive_core.specs.declared.error.AskError.{AskError}
 use Rattle.archive_core.specs.declared.error.AskError.TheVariants as asks
@@ -65,10 +65,8 @@ after_no_query tells text phrase from to IsMade error queries.Memory d a same is
 -- after sublists were fetched for a query
 pub after_fetching : {T : Type 0} (tells : Type 0) (text phrase : List ℕ) (from to : ℕ) (IsMade : History → Query → T → Type 0) (query : Query) (r : Result T AskError) (fetched : Result T FetchError) (d e : DiskState) (x y : ArchiveState)
     → text ≡ phrase → IsRead key_of text (Ok query) → r ≡ asked_of fetched → AfterFetching tells fetched d e x y
-    → (tells → (h : History) → StandsFor x h → CacheStands d x → IfOk fetched (λ answer. IsMade h query answer × HasReadFor h from to query x.shelf.cache y.shelf.cache d e))
-    → (tells → (h : History) → StandsFor x h → CacheStands d x → (damage : Damage) → fetched ≡ Err (fetches.Damaged damage) → IsFirstDamage h d.holds.pages from to (words_of query) damage)
-    → AfterQuestion tells phrase from to IsMade r d e x y
-after_fetching {T} tells text phrase from to IsMade query r fetched d e x y same read is after made damaged =
+    → Fetches tells from to (words_of query) (λ h answer. IsMade h query answer) fetched d e x y → AfterQuestion tells phrase from to IsMade r d e x y
+after_fetching {T} tells text phrase from to IsMade query r fetched d e x y same read is after fetch =
     let is_read : IsRead key_of phrase (Ok query) = subst (λ (t : List ℕ). IsRead key_of t (Ok query)) same read in
     record {
       same = after.same;
@@ -80,9 +78,9 @@ after_fetching {T} tells text phrase from to IsMade query r fetched d e x y same
       asked = λ ok. (query, is_read);
       made = λ told h stands cached. (
           let R : Result T AskError → Type 0 = λ s. IfOk s (λ answer. IsAnswerTo h from to phrase (λ q. IsMade h q answer) x.shelf.cache y.shelf.cache d e) in
-          subst R (sym is) (told_so fetched (λ answer has. (query, is_read, has.0, has.1)) (made told h stands cached))
+          subst R (sym is) (told_so fetched (λ answer made asked. (query, is_read, made, asked)) (fetch.made told h stands cached) (fetch.asked told h stands cached))
           );
-      damaged = λ told h stands cached damage spoiled. record { query = query; is_read = is_read; first = damaged told h stands cached damage (spoils fetched damage (sym is ∙ spoiled)) };
+      damaged = λ told h stands cached damage spoiled. record { query = query; is_read = is_read; first = fetch.damaged told h stands cached damage (spoils fetched damage (sym is ∙ spoiled)) };
     }
   where
     fails : (s : Result T FetchError) → asked_of s ≡ Err asks.Failed → s ≡ Err fetches.Failed
@@ -103,9 +101,9 @@ after_fetching {T} tells text phrase from to IsMade query r fetched d e x y same
     spoils (Err (fetches.Damaged other)) damage spoiled = let same : other ≡ damage = cc in ap (λ (x : Damage). Err (fetches.Damaged x)) same
     spoils (Err fetches.Memory) damage spoiled = absurd cc
 
-    told_so : {P Q : T → Type 0} (s : Result T FetchError) → ((answer : T) → P answer → Q answer) → IfOk s P → IfOk (asked_of s) Q
-    told_so (Ok answer) then made = then answer made
-    told_so (Err error) then made = tt
+    told_so : {P Q : T → Type 0} {A : Type 0} (s : Result T FetchError) → ((answer : T) → P answer → A → Q answer) → IfOk s P → OnOk s A → IfOk (asked_of s) Q
+    told_so (Ok answer) then made asked = then answer made asked
+    told_so (Err error) then made asked = tt
 
 -- ---- a query is a step of the abstract machine, with the cache that it leaves
 

@@ -8,10 +8,9 @@ ghost use Rattle.query_eval.specs.Asked.{read_of};
 ghost use Rattle.query_eval.specs.Found.{told};
 ghost use Rattle.archive_state.specs.Histories.{History, text_at};
 ghost use Rattle.archive_state.specs.Plans.{is_another};
-ghost use Rattle.archive_state.specs.Chosen.{AreChosen, IsFirstDamage, IsMadeAt};
-ghost use Rattle.archive_core.specs.After.{AfterFetching, AfterQuestion};
-ghost use Rattle.archive_core.specs.Answering.{HasReadFor};
-ghost use Rattle.archive_core.specs.States.{StandsFor, CacheStands, AreInStep, Reaches};
+ghost use Rattle.archive_state.specs.Chosen.{AreChosen, IsMadeAt};
+ghost use Rattle.archive_core.specs.After.{AfterFetching, AfterQuestion, Fetches};
+ghost use Rattle.archive_core.specs.States.{StandsFor, AreInStep, Reaches};
 ghost use Rattle.archive_core.specs.Takes.{Takes, found, version_shown};
 ghost use Rattle.commands.specs.declared.command.Command.TheVariants as commands;
 ghost use Rattle.commands.specs.declared.command.Item.TheVariants as items;
@@ -24,7 +23,7 @@ use machine_model::Disk;
 use query_eval::{Answer, Part, answer_by_hits, answer_by_living_hits, answer_from};
 use query_lang::Query;
 use std::alloc::{AllocError, Global};
-use sublist_store::{Damage, FetchError};
+use sublist_store::FetchError;
 use time_base::{DocId, Key, Span, Time};
 
 impl Archive {
@@ -71,11 +70,8 @@ impl Archive {
         requires within { Reaches (D.disk disk.old).reach self.old }
         ensures only { D.Disk.only disk.old disk.new }
         ensures after { AfterFetching D.disk_tells result (D.disk disk.old) (D.disk disk.new) self.old self.new }
-        ensures made { D.disk_tells → (h : History) → StandsFor self.old h → CacheStands (D.disk disk.old) self.old →
-            IfOk result (λ answer. IsMadeAt h (D.disk disk.old).holds.pages at.seconds query.now answer.rows.items answer.read
-            × HasReadFor h at.seconds (at.seconds + 1) query.now self.old.shelf.cache self.new.shelf.cache (D.disk disk.old) (D.disk disk.new)) }
-        ensures damaged { D.disk_tells → (h : History) → StandsFor self.old h → CacheStands (D.disk disk.old) self.old → (d : Damage) → IsErrOf result (FetchError.Damaged d) →
-            IsFirstDamage h (D.disk disk.old).holds.pages at.seconds (at.seconds + 1) (words_of query.now) d }
+        ensures fetched { Fetches D.disk_tells at.seconds (at.seconds + 1) (words_of query.now) (λ h answer. IsMadeAt h (D.disk disk.old).holds.pages at.seconds query.now answer.rows.items answer.read)
+            result (D.disk disk.old) (D.disk disk.new) self.old self.new }
     {
         let parts = self.parts_of(alloc, disk, query.words(), moment(at))?;
         let answer = self.answer_by(alloc, query, at, &parts)?;

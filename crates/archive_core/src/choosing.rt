@@ -1,11 +1,11 @@
 //! Which postings are read for a query.
-ghost use Rattle.std.specs.Prelude.{◌≡◌, ◌+◌, ◌^◌, ◌++◌, ◌<◌, ℕ, List, length, IfOk, OnOk, IsErrOf};
+ghost use Rattle.std.specs.Prelude.{◌≡◌, ◌+◌, ◌^◌, ◌++◌, ◌<◌, List, length, IfOk, OnOk, IsErrOf};
 ghost use Rattle.archive_state.specs.Histories.{History};
 ghost use Rattle.archive_state.specs.Answers.{IsWordList};
 ghost use Rattle.archive_state.specs.Plans.{plan_of};
 ghost use Rattle.time_base.specs.declared.posting.Posting.{Posting as PlainPosting};
-ghost use Rattle.archive_state.specs.Chosen.{AreChosen, IsChosenOf, IsDamagedFor, IsFirstDamage, pieces_chosen, pieces_for, tail_for};
-ghost use Rattle.archive_core.specs.After.{AfterFetching};
+ghost use Rattle.archive_state.specs.Chosen.{AreChosen, IsChosenOf, IsDamagedFor, pieces_chosen, tail_for};
+ghost use Rattle.archive_core.specs.After.{AfterFetching, Fetches};
 ghost use Rattle.archive_core.specs.Answering.{HasAsked};
 ghost use Rattle.archive_core.specs.States.{StandsFor, CacheStands, Reaches};
 
@@ -37,10 +37,8 @@ impl Archive {
         ensures only { D.Disk.only disk.old disk.new }
         ensures after { AfterFetching D.disk_tells result (D.disk disk.old) (D.disk disk.new) self.old self.new }
         ensures many { IfOk result (λ parts. length parts.items ≡ length words.now) }
-        ensures chosen { D.disk_tells → (h : History) → StandsFor self.old h → CacheStands (D.disk disk.old) self.old → IfOk result (λ parts. AreChosen h (D.disk disk.old).holds.pages span.from span.to words.now parts.items) }
-        ensures asked { D.disk_tells → (h : History) → StandsFor self.old h → CacheStands (D.disk disk.old) self.old →
-            OnOk result (HasAsked (pieces_for h (D.disk disk.old).holds.pages span.from span.to words.now) self.old.shelf.cache self.new.shelf.cache (D.disk disk.old) (D.disk disk.new)) }
-        ensures damaged { D.disk_tells → (h : History) → StandsFor self.old h → CacheStands (D.disk disk.old) self.old → (d : Damage) → IsErrOf result (FetchError.Damaged d) → IsFirstDamage h (D.disk disk.old).holds.pages span.from span.to words.now d }
+        ensures fetched { Fetches D.disk_tells span.from span.to words.now (λ h parts. AreChosen h (D.disk disk.old).holds.pages span.from span.to words.now parts.items)
+            result (D.disk disk.old) (D.disk disk.new) self.old self.new }
     {
         let mut parts = Vec::new(alloc);
         for word in words {

@@ -1,6 +1,8 @@
 //! Why a call of an archive didn't do its work.
 ghost use Rattle.std.specs.Prelude.{◌≡◌};
-ghost use Rattle.archive_core.specs.Causes.{asked_of};
+ghost use Rattle.archive_core.specs.declared.error.ChangeError.{ChangeError};
+ghost use Rattle.archive_core.specs.declared.error.AskError.{AskError};
+ghost use Rattle.archive_core.specs.Causes.{ask_error_of_fetch, ask_error_of_query, asked_of};
 
 use archive_state::Refusal;
 use query_lang::QueryError;
@@ -32,10 +34,7 @@ pub enum ChangeError {
 }
 
 impl From<AllocError> for ChangeError {
-    ghost use Rattle.archive_core.specs.declared.error.ChangeError.TheVariants.{Memory};
-    ghost use Rattle.std.specs.Prelude.{◌≡◌};
-
-    ghost from_gives = { λ _ e. e ≡ Memory };
+    ghost from_gives = { λ _ e. e ≡ ChangeError.Memory };
 
     fn from(_: AllocError) -> Self {
         ChangeError::Memory
@@ -43,9 +42,6 @@ impl From<AllocError> for ChangeError {
 }
 
 impl From<QueryError> for AskError {
-    ghost use Rattle.archive_core.specs.Causes.{ask_error_of_query};
-    ghost use Rattle.std.specs.Prelude.{◌≡◌};
-
     ghost from_gives = { λ why e. e ≡ ask_error_of_query why };
 
     fn from(why: QueryError) -> Self {
@@ -57,9 +53,6 @@ impl From<QueryError> for AskError {
 }
 
 impl From<FetchError> for AskError {
-    ghost use Rattle.archive_core.specs.Causes.{ask_error_of_fetch};
-    ghost use Rattle.std.specs.Prelude.{◌≡◌};
-
     ghost from_gives = { λ why e. e ≡ ask_error_of_fetch why };
 
     fn from(why: FetchError) -> Self {
@@ -72,10 +65,7 @@ impl From<FetchError> for AskError {
 }
 
 impl From<AllocError> for AskError {
-    ghost use Rattle.archive_core.specs.declared.error.AskError.TheVariants.{Memory};
-    ghost use Rattle.std.specs.Prelude.{◌≡◌};
-
-    ghost from_gives = { λ _ e. e ≡ Memory };
+    ghost from_gives = { λ _ e. e ≡ AskError.Memory };
 
     fn from(_: AllocError) -> Self {
         AskError::Memory

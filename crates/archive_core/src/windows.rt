@@ -1,14 +1,13 @@
 //! What an archive is asked over a window of time.
-ghost use Rattle.std.specs.Prelude.{◌≡◌, ◌+◌, length, is_some, IfOk, IsErrOf};
+ghost use Rattle.std.specs.Prelude.{◌≡◌, length, is_some, IfOk};
 ghost use Rattle.query_lang.specs.Meaning.{words_of};
 ghost use Rattle.query_eval.specs.Asked.{read_of};
 ghost use Rattle.query_eval.specs.Found.{told};
 ghost use Rattle.query_eval.specs.Spans.{IsSpanAnswer};
 ghost use Rattle.archive_state.specs.Histories.{History, text_at};
-ghost use Rattle.archive_state.specs.Chosen.{IsFirstDamage, IsMadeOver};
-ghost use Rattle.archive_core.specs.After.{AfterFetching, AfterQuestion};
-ghost use Rattle.archive_core.specs.Answering.{HasReadFor};
-ghost use Rattle.archive_core.specs.States.{StandsFor, CacheStands, AreInStep, Reaches};
+ghost use Rattle.archive_state.specs.Chosen.{IsMadeOver};
+ghost use Rattle.archive_core.specs.After.{AfterFetching, AfterQuestion, Fetches};
+ghost use Rattle.archive_core.specs.States.{StandsFor, AreInStep, Reaches};
 ghost use Rattle.archive_core.specs.Takes.{Takes, spanned};
 ghost use Rattle.commands.specs.declared.command.Command.TheVariants as commands;
 ghost use Rattle.commands.specs.declared.command.Item.TheVariants as items;
@@ -20,7 +19,7 @@ use machine_model::Disk;
 use query_eval::{Part, SpanAnswer, answer_over};
 use query_lang::Query;
 use std::alloc::{AllocError, Global};
-use sublist_store::{Damage, FetchError};
+use sublist_store::FetchError;
 use time_base::Span;
 
 impl Archive {
@@ -67,11 +66,8 @@ impl Archive {
         requires within { Reaches (D.disk disk.old).reach self.old }
         ensures only { D.Disk.only disk.old disk.new }
         ensures after { AfterFetching D.disk_tells result (D.disk disk.old) (D.disk disk.new) self.old self.new }
-        ensures made { D.disk_tells → (h : History) → StandsFor self.old h → CacheStands (D.disk disk.old) self.old →
-            IfOk result (λ answer. IsMadeOver h (D.disk disk.old).holds.pages span.from span.to query.now answer.rows.items answer.read
-            × HasReadFor h span.from span.to query.now self.old.shelf.cache self.new.shelf.cache (D.disk disk.old) (D.disk disk.new)) }
-        ensures damaged { D.disk_tells → (h : History) → StandsFor self.old h → CacheStands (D.disk disk.old) self.old → (d : Damage) → IsErrOf result (FetchError.Damaged d) →
-            IsFirstDamage h (D.disk disk.old).holds.pages span.from span.to (words_of query.now) d }
+        ensures fetched { Fetches D.disk_tells span.from span.to (words_of query.now) (λ h answer. IsMadeOver h (D.disk disk.old).holds.pages span.from span.to query.now answer.rows.items answer.read)
+            result (D.disk disk.old) (D.disk disk.new) self.old self.new }
     {
         let parts = self.parts_of(alloc, disk, query.words(), span)?;
         let answer = self.span_answer_by(alloc, query, span, &parts)?;

@@ -1,5 +1,6 @@
 //! Why a sample was not carried out to its end.
 ghost use Rattle.std.specs.Prelude.{◌≡◌};
+ghost use Rattle.archive_sample.specs.declared.error.FillError.{FillError};
 
 use std::alloc::AllocError;
 use sublist_store::Damage;
@@ -16,10 +17,7 @@ pub enum FillError {
 }
 
 impl From<AllocError> for FillError {
-    ghost use Rattle.archive_sample.specs.declared.error.FillError.TheVariants.{Memory};
-    ghost use Rattle.std.specs.Prelude.{◌≡◌};
-
-    ghost from_gives = { λ _ e. e ≡ Memory };
+    ghost from_gives = { λ _ e. e ≡ FillError.Memory };
 
     fn from(_: AllocError) -> Self {
         FillError::Memory

@@ -1,5 +1,6 @@
 //! What stops a run before its input is gone over.
 ghost use Rattle.std.specs.Prelude.{◌≡◌};
+ghost use Rattle.archive_shell.specs.declared.stop.Halt.{Halt};
 ghost use Rattle.archive_shell.specs.Statuses.{stop_of_halt};
 
 use std::alloc::AllocError;
@@ -17,9 +18,7 @@ pub(crate) enum Halt {
 }
 
 impl From<AllocError> for Halt {
-    ghost use Rattle.archive_shell.specs.declared.stop.Halt.TheVariants.{Memory};
-
-    ghost from_gives = { λ _ halt. halt ≡ Memory };
+    ghost from_gives = { λ _ halt. halt ≡ Halt.Memory };
 
     fn from(_: AllocError) -> Halt {
         Halt::Memory

@@ -12,7 +12,7 @@ returns-in-Err-clause-takes g c = λ tells h in_step.
 pub returns-in-Ok-clause-after : goal.returns-in-Ok-clause-after
 returns-in-Ok-clause-after g c =
     let made = c.span_answer_of.ensures in
-    after_fetching _ _ _ _ _ _ c.in-Ok.query c.asked.result c.span_answer_of.result _ _ _ _ c.as_str.ensures.value c.in-Ok.ensures.query c.asked.ensures made.after made.made made.damaged
+    after_fetching _ _ _ _ _ _ c.in-Ok.query c.asked.result c.span_answer_of.result _ _ _ _ c.as_str.ensures.value c.in-Ok.ensures.query c.asked.ensures made.after made.fetched
 
 pub returns-in-Ok-clause-takes : goal.returns-in-Ok-clause-takes
 returns-in-Ok-clause-takes g c = λ tells h in_step.

@@ -10,25 +10,29 @@ use Rattle.archive_core.proofs.CacheLemmas.{asked_joins, but_cache_joins, pieces
 use Rattle.archive_core.proofs.ChosenLemmas.{chosen_more, handed, reaches_on, reads_join}
 use Rattle.archive_core.proofs.archive.Archive.parts_of.Goals as goal
 
-pub returns-in_err-part-clause-damaged : goal.returns-in_err-part-clause-damaged
-returns-in_err-part-clause-damaged g c = λ tells h stands cached d is.
-    let was = c.loop-word.invariant in
-    let first = g.D.Disk.disk c.args.disk.now in
-    let pages : (g.D.Disk.disk c.loop-word.disk).holds.pages ≡ first.holds.pages = ap (λ (x : DiskState). x.holds.pages) was.same in
-    let here = c.in_err-part.ensures.damaged tells h (stands_but_cache c.args.self.now c.loop-word.self h was.but_cache stands) (was.cached tells cached) d
-    (ap (λ (e : FetchError). Err e) (handed c.from_residual.result c.in_err-part.field-0.0 d c.from_residual.ensures.1 is)) in
-    let index = c.loop-word.word-index in
-    let words = c.args.words.now in
-    let next = take_more words index c.word-item.result c.loop-word-test.true ∙ ap (λ (w : List ℕ). take index words ++ w ∷ []) (sym c.word-item.is) in
-    record {
-      front = take index words;
-      word = c.word-item.result;
-      back = drop (index + 1) words;
-      words_are = sym (take-append-drop (index + 1) words) ∙ ap (λ (l : List (List ℕ)). l ++ drop (index + 1) words) next ∙ append_assoc (take index words) (c.word-item.result ∷ []) (drop (index + 1) words);
-      parts = c.loop-word.parts.items;
-      are_chosen = was.chosen tells h stands cached;
-      damaged = subst (λ (ps : List ℕ). IsDamagedFor h ps c.word-item.result c.args.span.from c.args.span.to d) pages here;
-    }
+pub returns-in_err-part-clause-fetched : goal.returns-in_err-part-clause-fetched
+returns-in_err-part-clause-fetched g c = record {
+  made = search rules;
+  asked = search rules;
+  damaged = λ tells h stands cached d is.
+      let was = c.loop-word.invariant in
+      let first = g.D.Disk.disk c.args.disk.now in
+      let pages : (g.D.Disk.disk c.loop-word.disk).holds.pages ≡ first.holds.pages = ap (λ (x : DiskState). x.holds.pages) was.same in
+      let here = c.in_err-part.ensures.damaged tells h (stands_but_cache c.args.self.now c.loop-word.self h was.but_cache stands) (was.cached tells cached) d
+      (ap (λ (e : FetchError). Err e) (handed c.from_residual.result c.in_err-part.field-0.0 d c.from_residual.ensures.1 is)) in
+      let index = c.loop-word.word-index in
+      let words = c.args.words.now in
+      let next = take_more words index c.word-item.result c.loop-word-test.true ∙ ap (λ (w : List ℕ). take index words ++ w ∷ []) (sym c.word-item.is) in
+      record {
+        front = take index words;
+        word = c.word-item.result;
+        back = drop (index + 1) words;
+        words_are = sym (take-append-drop (index + 1) words) ∙ ap (λ (l : List (List ℕ)). l ++ drop (index + 1) words) next ∙ append_assoc (take index words) (c.word-item.result ∷ []) (drop (index + 1) words);
+        parts = c.loop-word.parts.items;
+        are_chosen = was.chosen tells h stands cached;
+        damaged = subst (λ (ps : List ℕ). IsDamagedFor h ps c.word-item.result c.args.span.from c.args.span.to d) pages here;
+      };
+}
 
 pub returns-in_err-part-clause-after : goal.returns-in_err-part-clause-after
 returns-in_err-part-clause-after g c = record {
