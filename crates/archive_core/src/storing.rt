@@ -1,12 +1,10 @@
 //! Plans that are stored.
-ghost use Rattle.std.specs.Prelude.{◌≡◌, ◌+◌, ◌-◌, ◌<◌, ◌≤◌, ◌^◌, ◌++◌, ◌∷◌, [], List, length, map, All, IsTrue, IfOk, OnOk, OnErr, IsErrOf};
+ghost use Rattle.std.specs.Prelude.{◌≡◌, ◌+◌, ◌-◌, ◌<◌, ◌≤◌, ◌^◌, ◌++◌, ◌∷◌, [], List, length, All, IsTrue, IfOk, OnOk, OnErr, IsErrOf};
 ghost use Rattle.machine_model.specs.Causes.{Rose};
 ghost use Rattle.machine_model.specs.Areas.{Bytes};
 ghost use Rattle.machine_model.specs.Images.{MayLeave};
-ghost use Rattle.std.specs.Prelude.{slice_index, Some};
-ghost use Rattle.std.specs.List.Sorted.{IsStrictlyIncreasing};
+ghost use Rattle.std.specs.Prelude.{Some};
 ghost use Rattle.time_base.specs.declared.extent.Extent.{Extent as PlainExtent};
-ghost use Rattle.time_base.specs.declared.time.Time.{Time as PlainTime};
 ghost use Rattle.record_codec.specs.declared.place.Place.{Place as PlainPlace};
 ghost use Rattle.record_codec.specs.declared.plan.PlanEntry.{PlanEntry as PlainPlan};
 ghost use Rattle.gate_journal.specs.InStep.{IsInStep};

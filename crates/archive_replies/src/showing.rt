@@ -1,5 +1,5 @@
 //! Showing bytes on a sink.
-ghost use Rattle.std.specs.Prelude.{◌≡◌, ◌+◌, ◌<◌, ◌≤◌, ◌++◌, List, ℕ, length, OnOk, OnErr, IsErrOf};
+ghost use Rattle.std.specs.Prelude.{◌≡◌, ◌+◌, ◌<◌, ◌++◌, length, OnOk, OnErr};
 ghost use Rattle.machine_model.specs.Causes.{HasCause};
 ghost use Rattle.machine_model.specs.Pushes.{IsPrefix};
 

@@ -1,8 +1,6 @@
 //! The lines of a sample that was carried out.
 ghost use Rattle.std.specs.Prelude.{◌≡◌, ◌+◌, ◌≤◌, ◌++◌, OnOk};
 ghost use Rattle.archive_replies.specs.Tallies.{sample_text, tally_text};
-ghost use Rattle.archive_state.specs.Steps.{Verified};
-ghost use Rattle.archive_state.specs.Replies.{verdict_text};
 
 use crate::page::ReplyPage;
 use archive_state::Verdict;

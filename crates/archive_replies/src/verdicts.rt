@@ -1,5 +1,5 @@
 //! The line of what a check tells.
-ghost use Rattle.std.specs.Prelude.{◌≡◌, ◌+◌, ◌<◌, ◌≤◌, ◌++◌, codes, length, OnOk};
+ghost use Rattle.std.specs.Prelude.{◌≡◌, ◌+◌, ◌<◌, ◌≤◌, ◌++◌, codes, OnOk};
 ghost use Rattle.archive_state.specs.Replies.{byte_text, digit_text, reply_text, verdict_text};
 ghost use Rattle.archive_state.specs.Steps.{Verified};
 

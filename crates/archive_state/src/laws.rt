@@ -1,5 +1,5 @@
 //! What holds of histories and of the bytes that stand for them, whatever is read or written.
-ghost use Rattle.std.specs.Prelude.{◌≡◌, ◌+◌, ◌++◌, [], ◌∷◌, ℕ, List, length};
+ghost use Rattle.std.specs.Prelude.{◌≡◌, ◌+◌, ◌++◌, [], ◌∷◌, ℕ, length};
 ghost use Rattle.machine_model.specs.Areas.{Bytes};
 ghost use Rattle.gate_journal.specs.Records.{front};
 ghost use Rattle.record_codec.specs.declared.entry.Entry.{Entry};

@@ -1,5 +1,5 @@
 //! Why a command is refused.
-ghost use Rattle.std.specs.Prelude.{◌≡◌, ◌<◌, ◌≤◌};
+ghost use Rattle.std.specs.Prelude.{◌≡◌, ◌<◌};
 ghost use Rattle.archive_state.specs.Refusals.{number_of, refusal_of};
 
 use time_base::{Time, Which};

@@ -5,7 +5,7 @@
 //! list says the same of each document at each time, and that no list which does so is shorter.
 #![tactic(auto)]
 
-ghost use Rattle.std.specs.Prelude.{◌≡◌, ◌≤◌, ◌↔◌, List, length, IsTrue, IfOk};
+ghost use Rattle.std.specs.Prelude.{◌≤◌, ◌↔◌, List, length, IsTrue, IfOk};
 ghost use Rattle.time_base.specs.declared.posting.Posting.{Posting};
 ghost use Rattle.postings.specs.Lists.{IsList, IsCoalesced, SameRows, Continues};
 ghost use Rattle.postings.specs.Joins.{IsJoined};

@@ -4,7 +4,7 @@ ghost use Rattle.std.specs.List.Sorted.{IsStrictlyIncreasing};
 ghost use Rattle.time_base.specs.declared.posting.Posting.{Posting};
 ghost use Rattle.elementary.specs.Counts.{Tabulates, AdmissibleBetween};
 ghost use Rattle.postings.specs.Sizes.{size};
-ghost use Rattle.elementary.specs.Partitions.{IsPartition, IsInSegment, IsFitting, IsAdmissible, Covers, space, sizes};
+ghost use Rattle.elementary.specs.Partitions.{IsPartition, IsInSegment, IsFitting, Covers, space, sizes};
 
 use crate::sorting::{first_after, first_from, is_at};
 use crate::table::Table;

@@ -1,5 +1,5 @@
 //! How far back admissible segments reach.
-ghost use Rattle.std.specs.Prelude.{◌≡◌, ◌↔◌, ℕ, ◌<◌, ◌≤◌, length, IfOk, IsTrue};
+ghost use Rattle.std.specs.Prelude.{◌≡◌, ◌↔◌, ◌<◌, ◌≤◌, length, IfOk, IsTrue};
 ghost use Rattle.window_min.specs.Windows.{IsOver};
 ghost use Rattle.elementary.specs.Counts.{AdmissibleBetween, AreOrdered, alive_in};
 ghost use Rattle.elementary.specs.Reaches.{IsReach, AreReaches, NoneBefore};

@@ -1,7 +1,7 @@
 //! The first run of a text, as a slice of it.
 ghost use Rattle.std.specs.Prelude.{◌≡◌, ◌+◌, ◌<◌, ◌≤◌, true, false, length, take, slice_index, chars, ◌++◌, [], ◌∷◌, IfSome, IfNone};
 ghost use Rattle.std.specs.List.{list_all};
-ghost use Rattle.fold_tokens.specs.Terms.{is_term, is_ascii_term, is_ascii_gap, closed, runs};
+ghost use Rattle.fold_tokens.specs.Terms.{is_ascii_term, is_ascii_gap, closed, runs};
 
 use crate::runs::is_term_char;
 

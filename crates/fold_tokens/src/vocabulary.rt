@@ -1,8 +1,9 @@
 //! The numbers of words.
-ghost use Rattle.std.specs.Prelude.{◌≡◌, ◌+◌, ◌-◌, ◌<◌, ◌≤◌, ◌^◌, ◌⊎◌, [], ◌∷◌, ◌++◌, true, false, ℕ, List, length, slice_get, Some, IsSome, is_some, Err, option_map, IfOk, IfErr, OnOk, if◌then◌else◌};
+ghost use Rattle.std.specs.Prelude.{◌≡◌, ◌+◌, ◌-◌, ◌<◌, ◌≤◌, ◌^◌, ◌⊎◌, [], ◌∷◌, ◌++◌, false, length, slice_get, Some, IsSome, is_some, Err, option_map, IfOk, OnOk, if◌then◌else◌};
 ghost use Rattle.std.specs.List.{list_any, IsDistinct};
 ghost use Rattle.std.specs.Str.{bytes_eq};
 ghost use Rattle.fold_tokens.specs.Words.{entered, with_all, number_of};
+ghost use Rattle.fold_tokens.specs.declared.vocabulary.NumberError.{NumberError};
 
 use indexmap::IndexSet;
 use std::alloc::{AllocError, Global};
@@ -19,10 +20,7 @@ pub enum NumberError {
 }
 
 impl From<AllocError> for NumberError {
-    ghost use Rattle.std.specs.Prelude.{◌≡◌};
-    ghost use Rattle.fold_tokens.specs.declared.vocabulary.NumberError.TheVariants.{Memory};
-
-    ghost from_gives = { λ _ e. e ≡ Memory };
+    ghost from_gives = { λ _ e. e ≡ NumberError.Memory };
 
     fn from(_: AllocError) -> Self {
         NumberError::Memory

@@ -1,8 +1,6 @@
 //! The words of a text by number, with their counts.
 ghost use Rattle.std.specs.Prelude.{◌≡◌, ◌+◌, ◌<◌, ◌≤◌, ◌^◌, [], ◌∷◌, ◌++◌, ℕ, List, length, chars, slice_index_or, nat_eq, Some, IfOk, OnOk};
-ghost use Rattle.std.specs.Str.{bytes_eq};
-ghost use Rattle.indexmap.specs.IndexMap.{get};
-ghost use Rattle.fold_tokens.specs.Terms.{keys, keys_of};
+ghost use Rattle.fold_tokens.specs.Terms.{keys};
 ghost use Rattle.fold_tokens.specs.Words.{bump, counted, known_of, fresh_of, ArePlaced};
 ghost use Rattle.fold_tokens.specs.Weighing.{IsWordOf, IsTallied};
 

@@ -1,6 +1,5 @@
 //! Writes to the journal that are synced at once.
 ghost use Rattle.std.specs.Prelude.{◌≡◌, ◌+◌, ◌≤◌, ◌^◌, ◌-◌, max, length, OnOk};
-ghost use Rattle.machine_model.specs.Areas.{part, replaced};
 ghost use Rattle.machine_model.specs.Causes.{HasCause};
 ghost use Rattle.machine_model.specs.Calls.{WritesThrough, Stays};
 

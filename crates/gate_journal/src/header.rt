@@ -1,5 +1,5 @@
 //! The header of a journal, and what a new journal is.
-ghost use Rattle.std.specs.Prelude.{◌≡◌, ◌≤◌, ℕ, List, length, take, IfSome, IfNone};
+ghost use Rattle.std.specs.Prelude.{◌≡◌, ◌≤◌, length, take, IfSome, IfNone};
 ghost use Rattle.gate_journal.specs.Header.{header};
 ghost use Rattle.gate_journal.specs.Records.{first_gate};
 ghost use Rattle.gate_journal.specs.Refused.{IsFirstWrong};

@@ -1,5 +1,5 @@
 //! How a journal is loaded, and opened to read alone.
-ghost use Rattle.std.specs.Prelude.{◌≡◌, ◌+◌, ◌<◌, ◌≤◌, ◌∷◌, [], List, ℕ, All, length, take, IsTrue, IfOk, IfSome, OnOk, IsErrOf, MatchOption};
+ghost use Rattle.std.specs.Prelude.{◌≡◌, ◌+◌, ◌<◌, ◌≤◌, [], List, ℕ, All, length, take, IsTrue, IfOk, IfSome, OnOk, IsErrOf, MatchOption};
 ghost use Rattle.machine_model.specs.Causes.{HasCause, Rose};
 ghost use Rattle.machine_model.specs.Calls.{OnlyReads, Syncs};
 ghost use Rattle.machine_model.specs.Images.{Only};

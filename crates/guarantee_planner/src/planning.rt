@@ -29,8 +29,6 @@ pub enum PlanError {
 }
 
 impl From<AllocError> for PlanError {
-    ghost use Rattle.guarantee_planner.specs.declared.planning.PlanError.{PlanError};
-
     ghost from_gives = { λ _ e. e ≡ PlanError.Memory };
 
     fn from(_error: AllocError) -> PlanError {

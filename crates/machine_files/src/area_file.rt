@@ -1,5 +1,5 @@
 //! One file of an archive.
-ghost use Rattle.std.specs.Prelude.{◌≡◌, ◌+◌, ◌^◌, ◌≤◌, max, length, true, false, IfOk, OnOk, OnErr};
+ghost use Rattle.std.specs.Prelude.{◌≡◌, ◌+◌, ◌^◌, ◌≤◌, max, length, true, false, IfOk, OnOk};
 
 use crate::calls::{read_front, whole, write_front};
 use crate::progress::Progress;

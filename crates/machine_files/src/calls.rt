@@ -1,7 +1,7 @@
 //! Calls of the system that a signal may interrupt, and calls that move only a part.
 //!
 //! An interrupted call has done nothing and is made again. Any other error is a failure.
-ghost use Rattle.std.specs.Prelude.{◌≡◌, ◌+◌, ◌^◌, ◌≤◌, length, Ok, IsOk, IsOkAnd, IfSome, IfOk, ◌↔◌};
+ghost use Rattle.std.specs.Prelude.{◌≡◌, ◌+◌, ◌^◌, ◌≤◌, length, Ok, IsOk, IfSome, IfOk, ◌↔◌};
 
 use machine_model::Failed;
 use std::io;

@@ -9,7 +9,7 @@ impl Disk for MemMachine {
     ghost use Rattle.machine_model.specs.Causes.{HasCause};
     ghost use Rattle.machine_model.specs.Calls.{Writes, Syncs, IsSynced, IsPartlyReached, written};
     ghost use Rattle.machine_model.specs.declared.area.Area.TheVariants.{Journal, Pages};
-    ghost use Rattle.machine_mem.specs.Machines.{MemoryState, OnlyDisk, did_read, wrote, synced, passed, failed_disk};
+    ghost use Rattle.machine_mem.specs.Machines.{OnlyDisk, did_read, wrote, synced, passed, failed_disk};
     ghost use Rattle.machine_mem.specs.MachineLaws.{OnlyDisk-same, OnlyDisk-joins};
     ghost use Rattle.machine_mem.specs.Calls.{IsDue, called, script_of, Serves, Starves, Remembers, Stays};
     ghost use Rattle.machine_mem.specs.Meaning.{meaning, disk_state};

@@ -1,5 +1,5 @@
 //! What a disk held at first, and what each call changed since.
-ghost use Rattle.std.specs.Prelude.{◌≡◌, ℕ, ◌+◌, ◌-◌, ◌^◌, ◌<◌, ◌≤◌, [], ◌∷◌, ◌++◌, min, length, All, IfOk, OnOk, OnErr};
+ghost use Rattle.std.specs.Prelude.{◌≡◌, ℕ, ◌+◌, ◌-◌, ◌^◌, ◌<◌, ◌≤◌, [], ◌++◌, min, length, All, IfOk, OnOk, OnErr};
 ghost use Rattle.machine_mem.specs.Moments.{along};
 ghost use Rattle.machine_mem.specs.Differences.{holding_of, first_of, played, played_all, snapshot_at, piece_of, moments_of};
 

@@ -1,7 +1,6 @@
 //! The machine in memory, what it holds, and the image that a stop leaves.
-ghost use Rattle.std.specs.Prelude.{◌≡◌, ◌+◌, ◌-◌, ◌^◌, ◌<◌, ◌≤◌, [], ◌++◌, min, length, take, IfOk, OnOk, OnErr};
+ghost use Rattle.std.specs.Prelude.{◌≡◌, ◌+◌, ◌-◌, ◌^◌, ◌<◌, ◌≤◌, [], min, length, IfOk, OnOk, OnErr};
 ghost use Rattle.machine_model.specs.Areas.{part};
-ghost use Rattle.machine_model.specs.States.{DiskState};
 ghost use Rattle.machine_model.specs.Causes.{Rose};
 ghost use Rattle.machine_mem.specs.Machines.{wrote, synced, passed, showed, did_read};
 ghost use Rattle.machine_model.specs.Moments.{LeftSince};

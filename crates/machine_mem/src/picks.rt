@@ -1,5 +1,5 @@
 //! What a stop leaves of the bytes and lengths that it leaves open.
-ghost use Rattle.std.specs.Prelude.{◌≡◌, ◌+◌, ◌^◌, ◌≤◌, min, length, IfOk};
+ghost use Rattle.std.specs.Prelude.{◌^◌, ◌≤◌, min, length, IfOk};
 ghost use Rattle.machine_model.specs.Images.{AreBytes};
 ghost use Rattle.machine_mem.specs.Stamps.{IsFilled, IsStamped, IsStampedOver};
 ghost use Rattle.machine_mem.specs.Tails.{IsTail};

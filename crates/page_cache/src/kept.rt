@@ -1,5 +1,5 @@
 //! The pages that a cache keeps.
-ghost use Rattle.std.specs.Prelude.{◌≡◌, ◌+◌, ◌*◌, ◌≤◌, ◌^◌, ◌∷◌, false, nat_eq, length, take, None, IsTrue, IsSome, OnOk, OnErr, IfErr, IfOk, Contains};
+ghost use Rattle.std.specs.Prelude.{◌≡◌, ◌+◌, ◌*◌, ◌≤◌, ◌^◌, ◌∷◌, false, nat_eq, length, take, None, IsTrue, IsSome, OnOk, OnErr, IfErr, Contains};
 ghost use Rattle.std.specs.Map.{lookup, remove_entry};
 ghost use Rattle.machine_model.specs.Areas.{replaced};
 ghost use Rattle.machine_model.specs.Calls.{OnlyReads};

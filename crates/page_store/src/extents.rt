@@ -3,7 +3,7 @@ ghost use Rattle.std.specs.Prelude.{◌≡◌, ◌∷◌, [], ◌+◌, ◌*◌, 
 ghost use Rattle.machine_model.specs.Areas.{replaced};
 ghost use Rattle.machine_model.specs.Causes.{HasCause};
 ghost use Rattle.page_store.specs.Ranges.{range_of, bytes_in};
-ghost use Rattle.page_store.specs.Wrote.{Piece, Wrote, reach_with};
+ghost use Rattle.page_store.specs.Wrote.{Wrote, reach_with};
 ghost use Rattle.page_store.specs.Crash.{ChangesOnly};
 
 use crate::pages::Pages;

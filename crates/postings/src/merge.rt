@@ -3,6 +3,7 @@ ghost use Rattle.std.specs.Prelude.{◌≡◌, IfOk, IfErr};
 ghost use Rattle.postings.specs.Lists.{IsList};
 ghost use Rattle.postings.specs.Unions.{IsUnion, Explains};
 ghost use Rattle.postings.specs.Placings.{IsPlacing};
+ghost use Rattle.postings.specs.declared.merge.MergeError.{MergeError};
 
 use std::alloc::{AllocError, AllocFailed, Global};
 use time_base::Posting;
@@ -22,10 +23,7 @@ pub enum MergeError {
 }
 
 impl From<AllocError> for MergeError {
-    ghost use Rattle.postings.specs.declared.merge.MergeError.TheVariants.{Memory};
-    ghost use Rattle.std.specs.Prelude.{◌≡◌};
-
-    ghost from_gives = { λ _ e. e ≡ Memory };
+    ghost from_gives = { λ _ e. e ≡ MergeError.Memory };
 
     fn from(_error: AllocError) -> MergeError {
         MergeError::Memory
@@ -33,10 +31,7 @@ impl From<AllocError> for MergeError {
 }
 
 impl<T: Drop> From<AllocFailed<T>> for MergeError {
-    ghost use Rattle.postings.specs.declared.merge.MergeError.TheVariants.{Memory};
-    ghost use Rattle.std.specs.Prelude.{◌≡◌};
-
-    ghost from_gives = { λ _ e. e ≡ Memory };
+    ghost from_gives = { λ _ e. e ≡ MergeError.Memory };
 
     fn from(_error: AllocFailed<T>) -> MergeError {
         MergeError::Memory

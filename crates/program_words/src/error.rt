@@ -2,6 +2,7 @@
 ghost use Rattle.std.specs.Prelude.{◌≡◌};
 ghost use Rattle.clap.specs.Words.{kind_of};
 ghost use Rattle.program_words.specs.Errors.{error_of_kind};
+ghost use Rattle.program_words.specs.declared.error.WordsError.{WordsError};
 
 use clap::error::ErrorKind;
 use std::alloc::AllocError;
@@ -27,9 +28,7 @@ impl From<clap::Error> for WordsError {
 }
 
 impl From<AllocError> for WordsError {
-    ghost use Rattle.program_words.specs.declared.error.WordsError.TheVariants.{Memory};
-
-    ghost from_gives = { λ _ e. e ≡ Memory };
+    ghost from_gives = { λ _ e. e ≡ WordsError.Memory };
 
     fn from(_error: AllocError) -> WordsError {
         WordsError::Memory

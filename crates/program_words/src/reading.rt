@@ -1,5 +1,5 @@
 //! Words that are read.
-ghost use Rattle.std.specs.Prelude.{◌≡◌, IfOk, IfSome, IfNone, IsErrOf, option_map};
+ghost use Rattle.std.specs.Prelude.{IfOk, IfSome, IfNone, IsErrOf, option_map};
 ghost use Rattle.program_words.specs.Numbers.{WritesNumber};
 ghost use Rattle.program_words.specs.Words.{AreNoWords, AreWords, AskFor, texts};
 

@@ -1,5 +1,5 @@
 //! Asking for the lists of a query's words.
-ghost use Rattle.std.specs.Prelude.{◌≡◌, ℕ, List, Ok, length, IfOk, IsErrOf};
+ghost use Rattle.std.specs.Prelude.{Ok, IfOk, IsErrOf};
 ghost use Rattle.query_eval.specs.Asked.{Asks, AsksFront, AsksToFault, asked_when};
 
 use crate::part::{EvalError, Lists, Part};

@@ -2,6 +2,7 @@
 ghost use Rattle.std.specs.Prelude.{◌≡◌, ◌≤◌, ◌^◌, ℕ, List, Result, true, All, IfOk};
 ghost use Rattle.postings.specs.Lists.{holds, rows_at};
 ghost use Rattle.query_eval.specs.Windows.{IsWindow};
+ghost use Rattle.query_eval.specs.declared.part.EvalError.{EvalError};
 
 use std::alloc::AllocError;
 use time_base::{Key, Posting, Span, Time};
@@ -64,10 +65,7 @@ pub enum EvalError<E> {
 }
 
 impl<E> From<AllocError> for EvalError<E> {
-    ghost use Rattle.query_eval.specs.declared.part.EvalError.TheVariants.{Memory};
-    ghost use Rattle.std.specs.Prelude.{◌≡◌};
-
-    ghost from_gives = { λ _ e. e ≡ Memory };
+    ghost from_gives = { λ _ e. e ≡ EvalError.Memory };
 
     fn from(_: AllocError) -> EvalError<E> {
         EvalError::Memory

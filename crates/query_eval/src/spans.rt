@@ -1,13 +1,13 @@
 //! Answers to queries over a window of time.
-ghost use Rattle.std.specs.Prelude.{◌≡◌, ◌⊎◌, ◌↔◌, ◌+◌, ◌++◌, ◌<◌, ◌≤◌, ℕ, List, [], Ok, Some, None, Option, length, drop, filter, slice_index_or, Contains, IfOk, OnOk, IsErrOf, IsTrue, MatchOption};
+ghost use Rattle.std.specs.Prelude.{◌≡◌, ◌⊎◌, ◌+◌, ◌<◌, ◌≤◌, ℕ, List, Ok, Some, None, Option, length, drop, slice_index_or, IfOk, OnOk, IsErrOf, MatchOption};
 ghost use Rattle.std.specs.List.Sorted.{IsNonDecreasingBy};
-ghost use Rattle.stretches.specs.Events.{AreInOrder, end_of};
+ghost use Rattle.stretches.specs.Events.{end_of};
 ghost use Rattle.stretches.specs.Kinds.{is_alive};
 ghost use Rattle.stretches.specs.Stretches.{AreStretches};
 ghost use Rattle.stretches.specs.declared.event.Event.{Event as EventValue};
 ghost use Rattle.query_lang.specs.Meaning.{words_of};
 ghost use Rattle.query_eval.specs.Asked.{Asks, AsksFront, AsksToFault, read_of};
-ghost use Rattle.query_eval.specs.Facts.{alive_now, hits_now, of_doc, score_if, IsScored, TellWords};
+ghost use Rattle.query_eval.specs.Facts.{alive_now, hits_now, score_if, IsScored, TellWords};
 ghost use Rattle.query_eval.specs.Found.{told};
 ghost use Rattle.query_eval.specs.Spans.{row_kind, IsSpanAnswer};
 ghost use Rattle.query_eval.specs.declared.part.Part.{Part as PartValue};

@@ -1,6 +1,6 @@
 //! Reading a query token by token.
 ghost use Rattle.std.specs.Prelude.{◌≡◌, [], ◌∷◌, ◌++◌, ℕ, None, Some, Ok, IfOk, OnOk, IfSome, IfNone, IsErrOf, Err, option_map, length, ◌<◌, true, false};
-ghost use Rattle.query_lang.specs.Stacks.{open_count, is_even, Stacks, taken, settled, begun, opening, or_comes, joined, ended, laid_from, wanting, holding, Moves};
+ghost use Rattle.query_lang.specs.Stacks.{open_count, is_even, Stacks, taken, settled, begun, opening, joined, ended, laid_from, wanting, holding, Moves};
 
 use crate::error::QueryError;
 use crate::kind::Kind;

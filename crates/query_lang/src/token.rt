@@ -1,5 +1,5 @@
 //! The tokens of a query's text.
-ghost use Rattle.std.specs.Prelude.{◌≡◌, ◌+◌, ◌-◌, ◌≤◌, ◌<◌, [], ◌∷◌, ◌++◌, ℕ, List, length, take, drop, slice_index, IfOk, OnOk};
+ghost use Rattle.std.specs.Prelude.{◌≡◌, ◌+◌, ◌-◌, ◌≤◌, ◌<◌, ◌∷◌, ◌++◌, ℕ, List, length, take, drop, slice_index, IfOk, OnOk};
 ghost use Rattle.query_lang.specs.Tokens.{role, token_of, closed, tokens_from, tokens, key_of};
 
 use fold_tokens::one_term;

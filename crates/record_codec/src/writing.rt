@@ -1,5 +1,5 @@
 //! Spelling an entry.
-ghost use Rattle.std.specs.Prelude.{◌≡◌, ◌<◌, ◌≤◌, ◌^◌, length, vec_len, IfOk};
+ghost use Rattle.std.specs.Prelude.{◌≡◌, ◌<◌, ◌≤◌, ◌^◌, length, IfOk};
 ghost use Rattle.record_codec.specs.declared.entry.Entry.TheVariants.{Arrive, Delete};
 ghost use Rattle.record_codec.specs.Spelling.{spelling, IsEntry, CanBeSpelled};
 

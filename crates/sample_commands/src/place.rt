@@ -1,5 +1,5 @@
 //! Where a sample stands.
-ghost use Rattle.std.specs.Prelude.{◌≡◌, ℕ, ◌≤◌, drop};
+ghost use Rattle.std.specs.Prelude.{◌≡◌, ℕ, drop};
 ghost use Rattle.sample_commands.specs.Places.{IsPlace, commands_from};
 
 /// How many plans a sample has.

@@ -1,5 +1,5 @@
 //! Dates of a script.
-ghost use Rattle.std.specs.Prelude.{◌≡◌, ◌<◌, ◌≤◌, length};
+ghost use Rattle.std.specs.Prelude.{◌≡◌, ◌<◌};
 ghost use Rattle.script_read.specs.Dates.{day_seconds, is_dated, date};
 
 use crate::words::number_below;

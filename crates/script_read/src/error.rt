@@ -1,4 +1,7 @@
 //! Why a reader has no next item.
+ghost use Rattle.std.specs.Prelude.{◌≡◌};
+ghost use Rattle.script_read.specs.declared.error.ScriptError.{ScriptError};
+
 use std::alloc::AllocError;
 
 /// Why there is no next item. Nothing is lost by it: the bytes taken stand for the same script.
@@ -18,10 +21,7 @@ pub enum ScriptError {
 }
 
 impl From<AllocError> for ScriptError {
-    ghost use Rattle.std.specs.Prelude.{◌≡◌};
-    ghost use Rattle.script_read.specs.declared.error.ScriptError.TheVariants.{Memory};
-
-    ghost from_gives = { λ _ e. e ≡ Memory };
+    ghost from_gives = { λ _ e. e ≡ ScriptError.Memory };
 
     fn from(_error: AllocError) -> ScriptError {
         ScriptError::Memory

@@ -1,5 +1,5 @@
 //! The words of a line, and the numbers that they spell.
-ghost use Rattle.std.specs.Prelude.{◌≡◌, ◌==◌, ◌≤◌, ◌^◌, length, position, Some, None, if◌then◌else◌, bytes_eq};
+ghost use Rattle.std.specs.Prelude.{◌≡◌, ◌==◌, ◌≤◌, ◌^◌, length, position, Some, None, bytes_eq};
 ghost use Rattle.std.specs.List.{position_or_len};
 ghost use Rattle.script_read.specs.Words.{is_space, after_spaces, word, after_word, is_blank, without_last_spaces, phrase};
 ghost use Rattle.script_read.specs.Numbers.{number};

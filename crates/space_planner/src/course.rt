@@ -1,5 +1,5 @@
 //! The way along the best legs.
-ghost use Rattle.std.specs.Prelude.{◌≡◌, ℕ, ◌+◌, ◌-◌, ◌*◌, ◌<◌, ◌≤◌, ◌^◌, Some, length, slice_index, All, IfOk};
+ghost use Rattle.std.specs.Prelude.{◌≡◌, ℕ, ◌+◌, ◌-◌, ◌<◌, ◌≤◌, ◌^◌, Some, length, slice_index, All, IfOk};
 ghost use Rattle.space_planner.specs.Steps.{AreStops, AreCells, leg_charge, leg_cost, cell, IsCourse};
 
 use crate::limits::Limits;

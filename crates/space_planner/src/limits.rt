@@ -1,5 +1,5 @@
 //! The numbers that a plan goes by.
-ghost use Rattle.std.specs.Prelude.{◌≡◌, ◌+◌, ◌-◌, ◌*◌, ◌/◌, ◌<◌, ◌≤◌, ◌^◌, max};
+ghost use Rattle.std.specs.Prelude.{◌≡◌, ◌-◌, ◌*◌, ◌/◌, ◌<◌, ◌≤◌, ◌^◌, max};
 ghost use Rattle.space_planner.specs.Caps.{cap, unit, budget, charge};
 
 use time_base::Fraction;

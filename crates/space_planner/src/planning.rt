@@ -1,5 +1,5 @@
 //! Best plans, and the front of their costs.
-ghost use Rattle.std.specs.Prelude.{◌≡◌, ℕ, ◌+◌, ◌-◌, ◌*◌, ◌<◌, ◌≤◌, ◌^◌, List, length, slice_index, drop, IfOk};
+ghost use Rattle.std.specs.Prelude.{◌≡◌, ℕ, ◌+◌, ◌-◌, ◌<◌, ◌≤◌, List, length, slice_index, drop, IfOk};
 ghost use Rattle.time_base.specs.declared.posting.Posting.{Posting};
 ghost use Rattle.time_base.specs.declared.fraction.Fraction.{Fraction};
 ghost use Rattle.elementary.specs.Counts.{Tabulates};

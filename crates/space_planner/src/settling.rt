@@ -1,5 +1,5 @@
 //! The dynamic program: the least cost from each stop for at most each charge.
-ghost use Rattle.std.specs.Prelude.{◌≡◌, ℕ, ◌+◌, ◌*◌, ◌<◌, ◌≤◌, ◌^◌, length, slice_index, All, IfOk};
+ghost use Rattle.std.specs.Prelude.{◌≡◌, ℕ, ◌+◌, ◌<◌, ◌≤◌, ◌^◌, length, slice_index, All, IfOk};
 ghost use Rattle.space_planner.specs.Steps.{AreStops, AreCells, leg_charge, leg_cost};
 
 use crate::limits::Limits;

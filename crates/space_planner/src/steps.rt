@@ -1,5 +1,5 @@
 //! One step of the dynamic program: the legs from a stop, and the best of them.
-ghost use Rattle.std.specs.Prelude.{◌≡◌, ℕ, ◌+◌, ◌-◌, ◌*◌, ◌<◌, ◌≤◌, ◌^◌, Option, List, length, slice_index, slice_index_or, All, IfOk, IfSome, None};
+ghost use Rattle.std.specs.Prelude.{◌≡◌, ℕ, ◌+◌, ◌-◌, ◌*◌, ◌<◌, ◌≤◌, ◌^◌, Option, length, slice_index, slice_index_or, All, IfOk, IfSome, None};
 ghost use Rattle.space_planner.specs.Steps.{AreStops, AreLegs, leg_charge, leg_cost, through, lesser, IsLeastWay, IsBestOf, IsRow};
 
 use crate::limits::{Limits, charge};

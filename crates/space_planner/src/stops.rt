@@ -1,5 +1,5 @@
 //! The boundaries at which a plan may cut.
-ghost use Rattle.std.specs.Prelude.{◌≡◌, ◌+◌, ◌<◌, ◌≤◌, ◌^◌, length, IfOk};
+ghost use Rattle.std.specs.Prelude.{◌+◌, ◌<◌, ◌≤◌, ◌^◌, IfOk};
 ghost use Rattle.space_planner.specs.Steps.{AreStops};
 
 use std::alloc::{AllocError, Global};

@@ -4,7 +4,7 @@ ghost use Rattle.time_base.specs.declared.time.Time.{Time};
 ghost use Rattle.time_base.specs.declared.posting.Posting.{Posting};
 ghost use Rattle.elementary.specs.Counts.{Tabulates};
 ghost use Rattle.elementary.specs.Partitions.{IsPartition, IsFitting, Covers};
-ghost use Rattle.stored_plans.specs.Plans.{IsNarrow, IsFitPlan, IsCappedPlan, IsFitFor};
+ghost use Rattle.stored_plans.specs.Plans.{IsFitFor};
 
 use crate::capping::keeps_cap;
 use commands::Kind;

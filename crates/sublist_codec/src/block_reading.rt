@@ -1,8 +1,8 @@
 //! Reading blocks.
-ghost use Rattle.std.specs.Prelude.{◌≡◌, ℕ, ◌<◌, ◌≤◌, ◌^◌, length, map, Ok, IfOk, IfErr};
+ghost use Rattle.std.specs.Prelude.{◌≡◌, ◌<◌, ◌≤◌, ◌^◌, length, map, Ok, IfOk, IfErr};
 ghost use Rattle.sublist_codec.specs.Fields.{fields, seen};
 ghost use Rattle.sublist_codec.specs.Steps.{last_of};
-ghost use Rattle.sublist_codec.specs.Blocks.{number_in, base_behind, least_start, span_at, next_at, others_at, postings_at, is_true, body_at, block_at, blocks_at, block_spelling, top_of, last_doc};
+ghost use Rattle.sublist_codec.specs.Blocks.{number_in, least_start, span_at, next_at, others_at, postings_at, body_at, block_at, blocks_at, block_spelling, top_of, last_doc};
 ghost use Rattle.sublist_codec.specs.Layouts.{IsFaultOf};
 ghost use Rattle.sublist_codec.specs.Heads.{head_of};
 ghost use Rattle.sublist_codec.specs.Gives.{Gives, with_front};

@@ -1,7 +1,7 @@
 //! Writing blocks.
 ghost use Rattle.std.specs.Prelude.{◌≡◌, ◌<◌, ◌≤◌, ◌++◌, ◌∷◌, length, map, take, drop, OnOk, IfOk};
 ghost use Rattle.std.specs.List.{flat_map};
-ghost use Rattle.postings.specs.Lists.{ComesBefore, IsList};
+ghost use Rattle.postings.specs.Lists.{IsList};
 ghost use Rattle.sublist_codec.specs.Fields.{fields};
 ghost use Rattle.sublist_codec.specs.Numbers.{number_bytes};
 ghost use Rattle.sublist_codec.specs.Blocks.{span_numbers, base_behind, other_numbers, inside, block, block_spelling};

@@ -1,5 +1,5 @@
 //! The flat layout: 24 bytes a posting, one after another.
-ghost use Rattle.std.specs.Prelude.{◌≡◌, ◌++◌, ℕ, length, map, option_map, Ok, OnOk, IfOk, IfErr};
+ghost use Rattle.std.specs.Prelude.{◌≡◌, ◌++◌, ℕ, map, option_map, Ok, OnOk, IfOk, IfErr};
 ghost use Rattle.sublist_codec.specs.Fields.{fields, seen, may_follow};
 ghost use Rattle.sublist_codec.specs.Layouts.{IsFaultOf};
 ghost use Rattle.sublist_codec.specs.Flat.{spelled, spelling, posting_at, list_at};

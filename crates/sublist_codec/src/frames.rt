@@ -5,7 +5,7 @@ ghost use Rattle.postings.specs.Lists.{IsList};
 ghost use Rattle.sublist_codec.specs.Layouts.{IsFaultOf};
 ghost use Rattle.sublist_codec.specs.Blocks.{block_spelling, blocks_at, head_front};
 ghost use Rattle.sublist_codec.specs.Heads.{head_of};
-ghost use Rattle.sublist_codec.specs.Frames.{may_frame, front_of, frames_at, FramesState, start_of, block_bytes, AreStarts};
+ghost use Rattle.sublist_codec.specs.Frames.{front_of, frames_at, FramesState, start_of, block_bytes, AreStarts};
 ghost use Rattle.sublist_codec.specs.Decoding.{OrMemory};
 
 use crate::block_reading::decode_blocks;

@@ -1,5 +1,5 @@
 //! Gathering the sublists of the segments that overlap a window.
-ghost use Rattle.std.specs.Prelude.{◌≡◌, [], ◌∷◌, ◌+◌, ◌^◌, ◌==◌, ◌<◌, ◌≤◌, ◌&&◌, nat_lt, true, false, ℕ, List, All, drop, length, sum_by, Ok, Err, IfOk, OnOk, IfErr};
+ghost use Rattle.std.specs.Prelude.{◌≡◌, [], ◌∷◌, ◌+◌, ◌^◌, ◌==◌, ◌<◌, ◌≤◌, ◌&&◌, nat_lt, true, ℕ, List, All, drop, length, sum_by, Ok, Err, IfOk, OnOk, IfErr};
 ghost use Rattle.time_base.specs.declared.extent.Extent.{Extent};
 ghost use Rattle.record_codec.specs.declared.place.Place.{Place as PlainPlace};
 ghost use Rattle.machine_model.specs.Areas.{replaced};

@@ -22,7 +22,6 @@ pub(crate) struct Sublist {
 
 impl Model for Sublist {
     ghost use Rattle.std.specs.Prelude.{ℕ, List};
-    ghost use Rattle.time_base.specs.declared.posting.Posting.{Posting as PlainPosting};
 
     ghost Value = { ℕ × List PlainPosting };
 

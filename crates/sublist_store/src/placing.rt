@@ -1,5 +1,5 @@
 //! Taking the pages of places, and giving them back.
-ghost use Rattle.std.specs.Prelude.{◌≡◌, [], ◌∷◌, ◌++◌, ℕ, List, length, map, IfOk, OnOk, OnErr, IsErrOf};
+ghost use Rattle.std.specs.Prelude.{◌≡◌, ◌++◌, ℕ, List, length, IfOk, OnOk, OnErr, IsErrOf};
 ghost use Rattle.std.specs.List.{AllZip};
 ghost use Rattle.time_base.specs.declared.extent.Extent.{Extent};
 ghost use Rattle.page_store.specs.Runs.{IsFreeRun, pages_for};

@@ -1,5 +1,5 @@
 //! Blocks of postings: the search for a document's block, and room in it.
-ghost use Rattle.std.specs.Prelude.{◌≡◌, ◌≢◌, ◌⊎◌, ℕ, [], IfOk, OnOk, OnErr, ◌+◌, ◌-◌, ◌<◌, ◌≤◌, ◌++◌, ◌∷◌, true, length, take, drop, get_or, vec_len, vec_capacity, Vec};
+ghost use Rattle.std.specs.Prelude.{◌≡◌, ◌≢◌, ◌⊎◌, ℕ, [], IfOk, OnOk, OnErr, ◌+◌, ◌-◌, ◌<◌, ◌≤◌, ◌++◌, true, length, take, drop, get_or, vec_len, vec_capacity, Vec};
 ghost use Rattle.std.specs.List.{insert};
 ghost use Rattle.std.specs.declared.alloc.Global.{Global as Heap};
 ghost use Rattle.postings.specs.Lists.{IsList};

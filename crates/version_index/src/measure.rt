@@ -1,7 +1,7 @@
 //! A text by the numbers of its words.
 ghost use Rattle.std.specs.Prelude.{◌≡◌, ℕ, ◌+◌, ◌<◌, ◌≤◌, ◌^◌, ◌++◌, List, Option, length, map, option_map, nat_eq, All, Err, IfOk, OnOk, IfSome, IsSome};
 ghost use Rattle.std.specs.List.{IsDistinct};
-ghost use Rattle.fold_tokens.specs.Words.{with_all, counted, known_of, fresh_of, weight_at};
+ghost use Rattle.fold_tokens.specs.Words.{counted, known_of, fresh_of, weight_at};
 ghost use Rattle.tail_lists.specs.Weights.{weight_of};
 ghost use Rattle.version_index.specs.Words.{keys_held};
 ghost use Rattle.version_index.specs.Measuring.{numbered, words_with, IsParted, IsMeasured};

@@ -1,5 +1,5 @@
 //! The weights of the documents' newest versions.
-ghost use Rattle.std.specs.Prelude.{◌≡◌, ◌+◌, ◌≤◌, ◌==◌, ℕ, [], if◌then◌else◌, OnOk};
+ghost use Rattle.std.specs.Prelude.{◌≡◌, ◌≤◌, ◌==◌, ℕ, [], if◌then◌else◌, OnOk};
 ghost use Rattle.tail_lists.specs.Weights.{AreWeights};
 ghost use Rattle.version_index.specs.Newest.{weights_of, room_of};
 

@@ -1,5 +1,5 @@
 //! When documents are alive.
-ghost use Rattle.std.specs.Prelude.{◌≡◌, ◌⊎◌, ◌↔◌, ◌+◌, ◌<◌, ◌≤◌, ℕ, true, false, None, Some, Option, length, drop, map, slice_index_or, nat_le, nat_lt, Contains, IfOk, OnOk, MatchOption, IsTrue, IsSome};
+ghost use Rattle.std.specs.Prelude.{◌≡◌, ◌⊎◌, ◌↔◌, ◌+◌, ◌<◌, ◌≤◌, ℕ, true, false, None, Some, Option, length, drop, map, slice_index_or, nat_le, nat_lt, Contains, IfOk, MatchOption, IsTrue, IsSome};
 ghost use Rattle.std.specs.List.Sorted.{IsNonDecreasingBy, IsPartitionPoint};
 ghost use Rattle.time_base.specs.declared.ids.DocId.{DocId as Document};
 ghost use Rattle.stretches.specs.Events.{AreInOrder, end_of};

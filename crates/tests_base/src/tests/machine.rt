@@ -1,5 +1,4 @@
 //! The machine in memory.
-ghost use Rattle.std.specs.Prelude.{◌≤◌};
 
 use machine_mem::{CallKind, Fault, Fill, MemMachine, Pick, SliceSource, Tail};
 use machine_model::{Area, Disk, Image, Sink, Source};

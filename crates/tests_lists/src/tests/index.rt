@@ -1,5 +1,5 @@
 //! The index of all versions, kept up by changes or made at once.
-ghost use Rattle.std.specs.Prelude.{◌≡◌, ◌+◌, ◌<◌, ◌≤◌, ◌^◌, ◌*◌, ◌↔◌, ℕ, List, [], ◌∷◌, ◌++◌, length, option_map, IfSome, IsTrue};
+ghost use Rattle.std.specs.Prelude.{◌≡◌, ◌+◌, ◌<◌, ◌^◌, ◌*◌, ◌↔◌, ℕ, List, [], ◌∷◌, ◌++◌, length, option_map, IfSome, IsTrue};
 ghost use Rattle.version_store.specs.declared.change.Change.{Change};
 ghost use Rattle.version_index.specs.Indexing.{ComesLater};
 ghost use Rattle.version_index.specs.Loads.{Loads};

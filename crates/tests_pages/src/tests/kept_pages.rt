@@ -1,5 +1,5 @@
 //! What is read through the cache, and which pages it keeps.
-ghost use Rattle.std.specs.Prelude.{◌≤◌, ◌^◌, length, IfOk};
+ghost use Rattle.std.specs.Prelude.{length};
 
 use machine_mem::{CallKind, Fault, MemMachine};
 use machine_model::{Area, Disk, Image};

@@ -1,5 +1,5 @@
 //! Lists, machines and stores for the tests.
-ghost use Rattle.std.specs.Prelude.{◌≡◌, [], ◌*◌, ◌+◌, ◌^◌, ◌≤◌, true, All, sum_by, IfOk, length};
+ghost use Rattle.std.specs.Prelude.{◌≡◌, [], ◌*◌, ◌+◌, ◌^◌, ◌≤◌, true, All, sum_by, length};
 ghost use Rattle.record_codec.specs.declared.place.Place.{Place as PlainPlace};
 ghost use Rattle.postings.specs.Lists.{IsList};
 ghost use Rattle.page_store.specs.Live.{IsInside};
