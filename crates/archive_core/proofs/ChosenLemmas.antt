@@ -21,7 +21,7 @@ use Rattle.archive_state.specs.declared.stored.StoredPlan.{StoredPlan}
 use Rattle.archive_state.specs.Histories.{History}
 use Rattle.archive_state.specs.Legal.{EachMayCome, IsLoadable}
 use Rattle.archive_state.specs.Plans.{is_another, live_after, live_plans, with_plan, plan_of}
-use Rattle.archive_state.specs.Chosen.{AreChosen, GathersOf, IsChosenOf, tail_for}
+use Rattle.archive_state.specs.Chosen.{AreChosen, GathersOf, IsChosenOf, IsFirstDamage, tail_for}
 use Rattle.archive_core.specs.States.{ArchiveState, StandsFor, IsSameButCache, Reaches}
 use Rattle.plan_shelf.specs.Shelves.{extents_all}
 use Rattle.plan_shelf.specs.Shelves.{IsReadable}
@@ -139,6 +139,15 @@ whole_chosen h pages word a b list whole read none is list_is read_is =
 -- a fetch's error that was handed on
 pub handed : {T : Type 0} (r : Result T FetchError) (e : FetchError) (d : Damage) → IsErrAnd r (λ x. x ≡ e) → r ≡ Err (fetches.Damaged d) → e ≡ fetches.Damaged d
 handed {T = T} r e d and is = sym (subst (λ (x : Result T FetchError). IsErrAnd x (λ y. y ≡ e)) is and)
+
+-- the first damage in a window is so by equal times and words
+pub first_damage : (h : History) (pages : List ℕ) (from a to b : ℕ) (ws words : List (List ℕ)) (d : Damage) → from ≡ a → to ≡ b → ws ≡ words
+    → IsFirstDamage h pages from to ws d → IsFirstDamage h pages a b words d
+first_damage h pages from a to b ws words d begins ends same first =
+    let F : ℕ → Type 0 = λ n. IsFirstDamage h pages n b words d in
+    let T : ℕ → Type 0 = λ n. IsFirstDamage h pages from n words d in
+    let W : List (List ℕ) → Type 0 = λ l. IsFirstDamage h pages from to l d in
+    subst F begins (subst T ends (subst W same first))
 
 -- ---- reads one behind another
 

@@ -142,27 +142,27 @@ impl Archive {
         &self.shelf
     }
 
-    // What Pages have in a window of the list of the plan that stands there.
+    // What Pages have in a window of the list of the plan that stands at this place.
     pub(crate) fn gather<D: Disk>(
         &mut self,
         alloc: Global,
         disk: &mut D,
-        at: usize,
+        place: usize,
         span: Span,
     ) -> Result<Gathered, FetchError>
         requires within { Reaches (D.disk disk.old).reach self.old }
-        requires there { at < length self.old.shelf.plans }
+        requires there { place < length self.old.shelf.plans }
         ensures only { D.Disk.only disk.old disk.new }
         ensures failed { IfErr result (IfFailed (Rose (D.disk disk.old).faults (D.disk disk.new).faults)) }
         ensures same { OnlyReads (D.disk disk.old) (D.disk disk.new) }
         ensures but_cache { IsSameButCache self.old self.new }
         ensures cached { D.disk_tells → CacheStands (D.disk disk.old) self.old → CacheStands (D.disk disk.new) self.new }
-        ensures asked { D.disk_tells → CacheStands (D.disk disk.old) self.old → (s : PlainStored) → s ≡ get_or self.old.shelf.plans at s →
+        ensures asked { D.disk_tells → CacheStands (D.disk disk.old) self.old → (s : PlainStored) → s ≡ get_or self.old.shelf.plans place s →
             OnOk result (HasAsked (pieces_chosen (D.disk disk.old).holds.pages (Some s.plan) span.from span.to) self.old.shelf.cache self.new.shelf.cache (D.disk disk.old) (D.disk disk.new)) }
-        ensures gathered { D.disk_tells → CacheStands (D.disk disk.old) self.old → (s : PlainStored) → s ≡ get_or self.old.shelf.plans at s → IfOk result (λ g. GathersOf (D.disk disk.old).holds.pages s.plan span.from span.to (Ok (g.list.items, g.read))) }
-        ensures damaged { D.disk_tells → CacheStands (D.disk disk.old) self.old → (s : PlainStored) → s ≡ get_or self.old.shelf.plans at s → IfErr result (IfDamaged (λ d. GathersOf (D.disk disk.old).holds.pages s.plan span.from span.to (Err d))) }
+        ensures gathered { D.disk_tells → CacheStands (D.disk disk.old) self.old → (s : PlainStored) → s ≡ get_or self.old.shelf.plans place s → IfOk result (λ g. GathersOf (D.disk disk.old).holds.pages s.plan span.from span.to (Ok (g.list.items, g.read))) }
+        ensures damaged { D.disk_tells → CacheStands (D.disk disk.old) self.old → (s : PlainStored) → s ≡ get_or self.old.shelf.plans place s → IfErr result (IfDamaged (λ d. GathersOf (D.disk disk.old).holds.pages s.plan span.from span.to (Err d))) }
     {
-        self.shelf.gather(alloc, disk, at, span)
+        self.shelf.gather(alloc, disk, place, span)
     }
 
     /// Adds a version of a document, and answers how many entries there are. At `Ok` the entry is

@@ -40,7 +40,7 @@ use Rattle.archive_state.specs.Stands.{bodies_of}
 use Rattle.archive_state.proofs.HistoryLemmas.{bodies_of-push, end_of-push, end_of_is}
 use Rattle.archive_replay.specs.Places.{ArePlaced}
 use Rattle.archive_state.proofs.RefusalLemmas.{arrival-refused, arrival-words}
-use Rattle.archive_replay.specs.Entries.{Makes, IsHeld, refusal_by, change_refusal, text_of}
+use Rattle.archive_replay.specs.Entries.{Makes, IsHeld, change_refusal, text_of}
 use Rattle.archive_replay.proofs.IndexLemmas.{change_of, changes_still, makes_change, makes_is_change, takes_change, words_full, words_within}
 use Rattle.archive_replay.specs.Replaying.{IsTimely, IfTimely, IsOpen, AreOpen, plans_in, plans_from, IsReached, IsGoneOver, IsFaulty, IsReplaying, IsNextBad}
 use Rattle.archive_replay.proofs.PlaceLemmas.{bare_changes, placed_more, placed_plan, placed_arrive_refusal, placed_delete_refusal}
@@ -58,11 +58,6 @@ pub open_allowed : (before h : History) → AreOpen before h → EachAllowed bef
 open_allowed before [] opens = tt
 open_allowed before (e ∷ h) opens = (opens.0.allowed, open_allowed (before ++ e ∷ []) h opens.1)
 
-timely_change : (h : History) (e : Entry) → IsChange e → IfTimely h e
-timely_change h (Arrive doc at text) change = tt
-timely_change h (Delete doc at) change = tt
-timely_change h (Planned plan) change = absurd change
-
 -- the plans of entries with one more
 plans_after : (gate last : ℕ) (h : History) (e : Entry) → last ≡ gate + sum_by (λ (x : Entry). length (spelling x) + 5) h → plans_from gate (h ++ e ∷ []) ≡ plans_from gate h ++ plans_in last e
 plans_after gate last [] e at = append-nil (plans_in gate e) ∙ ap (λ (n : ℕ). plans_in n e) (omega (arith, at))
@@ -73,10 +68,11 @@ plans_after gate last (x ∷ h) e at =
 plans_push : (h : History) (e : Entry) (gate : ℕ) → end_of h ≡ gate + 1 → plans_from 16 (h ++ e ∷ []) ≡ plans_from 16 h ++ plans_in gate e
 plans_push h e gate at = plans_after 16 gate h e (omega (arith, at))
 
-none_in : (gate : ℕ) (e : Entry) → IsChange e → plans_in gate e ≡ []
-none_in gate (Arrive doc at text) change = refl
-none_in gate (Delete doc at) change = refl
-none_in gate (Planned plan) change = absurd change
+-- a change is timely, and no plan
+timely_change : (h : History) (gate : ℕ) (e : Entry) → IsChange e → IfTimely h e × (plans_in gate e ≡ [])
+timely_change h gate (Arrive doc at text) change = (tt, refl)
+timely_change h gate (Delete doc at) change = (tt, refl)
+timely_change h gate (Planned plan) change = absurd change
 
 -- ---- a change of a document
 
@@ -88,16 +84,8 @@ directory_refusal h (Planned plan) = None
 
 -- is its cause against the change that the entry makes
 makes_refusal : (e : Entry) (x : Change ℕ) (h : History) (cs : List (Change TextPlace)) → Makes e x → ArePlaced 16 h cs → change_refusal x cs ≡ directory_refusal h e
-makes_refusal (Arrive doc at text) x h cs makes placed =
-    ap (λ (o : Option ℕ). refusal_by o x.doc x.at cs) makes.2
-    ∙ ap (λ (d : DocId). arrive_refusal d x.at cs) (sym makes.0)
-    ∙ ap (λ (t : Time). arrive_refusal doc t cs) (sym makes.1)
-    ∙ placed_arrive_refusal doc at 16 h cs placed
-makes_refusal (Delete doc at) x h cs makes placed =
-    ap (λ (o : Option ℕ). refusal_by o x.doc x.at cs) makes.2
-    ∙ ap (λ (d : DocId). delete_refusal d x.at cs) (sym makes.0)
-    ∙ ap (λ (t : Time). delete_refusal doc t cs) (sym makes.1)
-    ∙ placed_delete_refusal doc at 16 h cs placed
+makes_refusal (Arrive doc at text) x h cs makes placed = rw (makes.2, ← makes.0, ← makes.1) (placed_arrive_refusal doc at 16 h cs placed)
+makes_refusal (Delete doc at) x h cs makes placed = rw (makes.2, ← makes.0, ← makes.1) (placed_delete_refusal doc at 16 h cs placed)
 makes_refusal (Planned plan) x h cs makes placed = absurd makes
 
 entry_allowed : (h : History) (e : Entry) → directory_refusal h e ≡ None → length (words_in (changes h ++ change_of e ∷ [])) ≤ 2 ^ 20 → entry_refusal h e ≡ None
@@ -125,7 +113,6 @@ pub gone_over : (gate : ℕ) (h : History) (e : Entry) (x : Change ℕ) (held : 
     → (ComesLater (changes h) (record { doc = x.doc; at = x.at; held = text }) → AreLoaded loader (changes h ++ record { doc = x.doc; at = x.at; held = text } ∷ []))
     → IsGoneOver gate h (spelling e) more plans loader
 gone_over gate h e x held cs more plans loader text reached ranges makes allowed is pushed same within takes =
-    let P : List (Change TextPlace) → Type 0 = λ l. ArePlaced 16 (h ++ e ∷ []) l in
     let change = makes_change e x text makes same in
     let is_change = makes_is_change e x makes in
     let may : entry_refusal h e ≡ None = entry_allowed h e (sym (makes_refusal e x h cs makes reached.placed) ∙ allowed) (omega (arith, within, ap (λ (c : Change (List ℕ)). length (words_in (changes h ++ c ∷ []))) change)) in
@@ -133,10 +120,10 @@ gone_over gate h e x held cs more plans loader text reached ranges makes allowed
       entry = e;
       spelled = refl;
       reached = record {
-        opens = open_push [] h e reached.opens (record { ranges = ranges; allowed = may; timely = timely_change h e is_change });
+        opens = open_push [] h e reached.opens (record { ranges = ranges; allowed = may; timely = (timely_change h gate e is_change).0 });
         gate_is = omega (arith, reached.gate_is, end_of-push h e);
-        placed = subst P (sym pushed) (placed_more h cs e x held gate reached.placed reached.gate_is makes is);
-        plans_are = reached.plans_are ∙ sym (plans_push h e gate reached.gate_is ∙ ap (λ (l : List StoredPlan). plans_from 16 h ++ l) (none_in gate e is_change) ∙ append-nil (plans_from 16 h));
+        placed = subst (λ (l : List (Change TextPlace)). ArePlaced 16 (h ++ e ∷ []) l) (sym pushed) (placed_more h cs e x held gate reached.placed reached.gate_is makes is);
+        plans_are = reached.plans_are ∙ sym (plans_push h e gate reached.gate_is ∙ ap (λ (l : List StoredPlan). plans_from 16 h ++ l) (timely_change h gate e is_change).1 ∙ append-nil (plans_from 16 h));
       };
       loads = takes_change (AreLoaded loader) h e x text makes same (open_allowed [] h reached.opens) may takes;
     }
@@ -152,14 +139,13 @@ pub words_there : (gate : ℕ) (h : History) (e : Entry) (x : Change ℕ) (cs : 
     → IsReached gate h cs plans → IsEntry e → Makes e x → change_refusal x cs ≡ None → text ≡ text_of e → IsSome text
     → 2 ^ 20 < length (words_in (changes h ++ record { doc = x.doc; at = x.at; held = text } ∷ [])) → at ≡ gate → IsFaulty gate h (spelling e) at
 words_there gate h e x cs plans at text reached ranges makes allowed same some over here =
-    let S : Option (List ℕ) → Type 0 = λ o. IsSome o in
     let change = makes_change e x text makes same in
     inr (
       record {
         entry = e;
         ranges = ranges;
         spelled = refl;
-        refused = λ may. entry_words h e (sym (makes_refusal e x h cs makes reached.placed) ∙ allowed) (subst S same some) (omega (arith, over, ap (λ (c : Change (List ℕ)). length (words_in (changes h ++ c ∷ []))) change)) may.allowed;
+        refused = λ may. entry_words h e (sym (makes_refusal e x h cs makes reached.placed) ∙ allowed) (subst (λ (o : Option (List ℕ)). IsSome o) same some) (omega (arith, over, ap (λ (c : Change (List ℕ)). length (words_in (changes h ++ c ∷ []))) change)) may.allowed;
       },
       here,
     )
@@ -192,7 +178,6 @@ planned_timely h plan may = some_last (last_time (changes h)) plan.horizon.secon
 pub plan_over : (gate : ℕ) (h : History) (plan : PlanEntry) (cs : List (Change TextPlace)) (plans : List StoredPlan) (loader : Loaded)
     → IsReached gate h cs plans → IsEntry (Planned plan) → IsTimely cs plan → AreLoaded loader (changes h) → IsGoneOver gate h (spelling (Planned plan)) cs (plans ++ record { gate = gate; plan = plan } ∷ []) loader
 plan_over gate h plan cs plans loader reached ranges timely loads =
-    let L : List (Change (List ℕ)) → Type 0 = λ l. AreLoaded loader l in
     record {
       entry = Planned plan;
       spelled = refl;
@@ -202,7 +187,7 @@ plan_over gate h plan cs plans loader reached ranges timely loads =
         placed = placed_plan h cs plan reached.placed;
         plans_are = ap (λ (l : List StoredPlan). l ++ record { gate = gate; plan = plan } ∷ []) reached.plans_are ∙ sym (plans_push h (Planned plan) gate reached.gate_is);
       };
-      loads = subst L (sym (changes_still h plan)) loads;
+      loads = subst (λ (l : List (Change (List ℕ))). AreLoaded loader l) (sym (changes_still h plan)) loads;
     }
 
 pub plan_there : (gate : ℕ) (h : History) (plan : PlanEntry) (cs : List (Change TextPlace)) (plans : List StoredPlan) (at : ℕ)

@@ -10,7 +10,8 @@ use Rattle.archive_replies.specs.declared.tally.Tally.{Tally}
 abbrev pub no_count : Tally
 no_count = record { accepted = 0; refused = 0; hits = 0; read = 0 }
 
--- What a reply counts for: a change that was accepted or a plan that was stored, a refusal, or the rows of a question and the postings read for them.
+-- What a reply counts for: a change that was accepted or a plan that was stored, a refusal, or the rows that `find` found and the postings read for
+-- them. A sample asks nothing else.
 abbrev pub count_of : Reply → Tally
 count_of (Accepted count) = record no_count { accepted = 1 }
 count_of (Planned summary) = record no_count { accepted = 1 }

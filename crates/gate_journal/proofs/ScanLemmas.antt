@@ -4,8 +4,6 @@ use Rattle.std.specs.Int.{w32, to_be_bytes}
 use Rattle.std.proofs.lemmas.List.{append-nil, take-append-drop}
 use Rattle.std.proofs.lemmas.List.Elements.{All-cons}
 use Rattle.std.proofs.Math.Seq.{drop-append_seam}
-use Rattle.machine_model.specs.States.{DiskState}
-use Rattle.machine_model.specs.Calls.{OnlyReads}
 use Rattle.gate_journal.specs.declared.head.Head.{Head}
 use Rattle.gate_journal.specs.declared.gate.Gate.{Gate}
 use Rattle.gate_journal.specs.declared.gate.Gate.TheVariants.{Closed, Open, CutShort}
@@ -83,10 +81,8 @@ scanned_next {bytes} {gate} {count} {next} {heads} {more} fits s lies pushed her
     subst (λ (n : ℕ). IsScanned bytes n more) (sym here) (subst (λ (h : List Head). IsScanned bytes (gate + 5 + count) h) (sym pushed) (scanned_and bytes gate count heads fits s lies))
 
 -- reads leave what lies at a gate as it is
-pub lies_before : (a b : DiskState) (gate : ℕ) (found wanted : Gate) → OnlyReads a b → found ≡ wanted → LiesAt (drop gate b.holds.journal) found → LiesAt (drop gate a.holds.journal) wanted
-lies_before a b gate found wanted same is lies =
-    let V : DiskState → Type 0 = λ d. LiesAt (drop gate d.holds.journal) found in
-    subst (λ (x : Gate). LiesAt (drop gate a.holds.journal) x) is (subst V same lies)
+pub lies_as : (left : List ℕ) (found wanted : Gate) → found ≡ wanted → LiesAt left found → LiesAt left wanted
+lies_as left found wanted is lies = subst (λ (x : Gate). LiesAt left x) is lies
 
 -- at a closed gate the bodies are found
 pub scanned_closed : (bytes : List ℕ) (gate : ℕ) (heads : List Head) → IsScanned bytes gate heads → LiesAt (drop gate bytes) Closed → IsFound bytes (gate + 1) heads

@@ -181,7 +181,9 @@ fn scan<D: Disk>(
     let mut heads = Vec::new(alloc);
     let mut gate = FIRST_GATE;
     loop {
-        match window.gate_at(disk, gate)? {
+        let count = window.gate_len(gate);
+        window.cover(disk, gate, count)?;
+        match window.gate_at(gate, count) {
             Gate::Closed => return Ok((Journal::at(gate + 1), heads)),
             Gate::CutShort => return Err(JournalError::NotJournal { at: gate }),
             Gate::Open(bytes) => {

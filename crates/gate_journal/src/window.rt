@@ -1,5 +1,5 @@
 //! A window on a journal's bytes, so that records are read in pieces.
-ghost use Rattle.std.specs.Prelude.{◌≡◌, ◌+◌, ◌<◌, ◌≤◌, List, ℕ, length, take, drop, IfOk, OnOk, IsErrOf};
+ghost use Rattle.std.specs.Prelude.{◌≡◌, ◌+◌, ◌-◌, ◌<◌, ◌≤◌, List, ℕ, min, length, take, drop, OnOk, IsErrOf};
 ghost use Rattle.machine_model.specs.Causes.{Rose};
 ghost use Rattle.machine_model.specs.Calls.{OnlyReads};
 ghost use Rattle.gate_journal.specs.Records.{gate_bytes};
@@ -79,24 +79,22 @@ impl Window {
         &self.bytes[start..start + count as usize]
     }
 
-    // What lies at a gate.
-    pub(crate) fn gate_at<D: Disk>(&mut self, disk: &mut D, gate: u64) -> Result<Gate, JournalError>
-        requires inside { gate < self.old.end }
-        requires long { self.old.end ≡ (D.disk disk.old).reach.journal }
-        ensures only { D.Disk.only disk.old disk.new }
-        ensures same { OnlyReads (D.disk disk.old) (D.disk disk.new) }
-        ensures unread { D.disk_tells → (D.disk disk.new).bytes_read.pages ≡ (D.disk disk.old).bytes_read.pages }
-        ensures failed { IsErrOf result JournalError.Failed → Rose (D.disk disk.old).faults (D.disk disk.new).faults }
-        ensures fair { (at : ℕ) → IsErrOf result (JournalError.NotJournal at) → ⊥ }
-        ensures end { self.new.end ≡ self.old.end }
-        ensures fits { (count : ℕ) → result ≡ Ok (Gate.Open count) → gate + gate_bytes + count < self.old.end }
-        ensures view { D.disk_tells → IsView self.old (D.disk disk.old).holds.journal → OnOk result (IsView self.new (D.disk disk.old).holds.journal) }
-        ensures lies { D.disk_tells → IsView self.old (D.disk disk.old).holds.journal →
-            IfOk result (LiesAt (drop gate (D.disk disk.old).holds.journal)) }
+    // How many bytes there are of a gate and its length: five, or what is left up to the end.
+    pub(crate) fn gate_len(&self, gate: u64) -> u32
+        requires inside { gate < self.now.end }
+        ensures { result ≡ min (self.now.end - gate) gate_bytes }
     {
-        let left = self.end - gate;
-        let count = left.min(GATE_BYTES) as u32;
-        self.cover(disk, gate, count)?;
-        Ok(gate_in(self.piece(gate, count), left))
+        (self.end - gate).min(GATE_BYTES) as u32
+    }
+
+    // What lies at a gate that is in hand, with its length or up to the end.
+    pub(crate) fn gate_at(&self, gate: u64, count: u32) -> Gate
+        requires inside { gate < self.now.end }
+        requires count { count ≡ min (self.now.end - gate) gate_bytes }
+        requires covers { Covers self.now gate count }
+        ensures fits { (bytes : ℕ) → result ≡ Gate.Open bytes → gate + gate_bytes + bytes < self.now.end }
+        ensures lies { (journal : List ℕ) → length journal ≡ self.now.end → IsView self.now journal → LiesAt (drop gate journal) result }
+    {
+        gate_in(self.piece(gate, count), self.end - gate)
     }
 }

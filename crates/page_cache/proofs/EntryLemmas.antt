@@ -50,15 +50,15 @@ module _ {A : Type 0} where
   )
 
   -- asking for a page is a hit exactly where its piece has the length
-  pub hit-is : (page size : ℕ) (es : Entries A) → AreDistinct (kept_of es)
-      → is_hit page size (kept_of es) ≡ option_map_or (λ piece. nat_eq size (length piece.items)) (lookup (nat_eq page) es) false
-  hit-is page size [] distinct = refl
-  hit-is page size ((p, piece) ∷ es) distinct = elim (eqb_tells page p) [
+  pub hit-is : (page size : ℕ) (es : Entries A) (found : Option (Vec ℕ A)) → AreDistinct (kept_of es) → lookup (nat_eq page) es ≡ found
+      → is_hit page size (kept_of es) ≡ option_map_or (λ piece. nat_eq size (length piece.items)) found false
+  hit-is page size [] found distinct is = rw (← is) refl
+  hit-is page size ((p, piece) ∷ es) found distinct is = elim (eqb_tells page p) [
     | inl same ↦
         let rest : is_hit page size (kept_of es) ≡ false = list_any_none (λ k. nat_eq page k.page && nat_eq size (length k.bytes)) (kept_of es)
         (λ i d within. rw ((parts page p piece es distinct).0 same.1 i d within) refl) in
-        rw (same.0, rest) (or-false (nat_eq size (length piece.items)))
-    | inr other ↦ rw other.0 (hit-is page size es (parts page p piece es distinct).1)
+        rw (← is, same.0, rest) (or-false (nat_eq size (length piece.items)))
+    | inr other ↦ rw other.0 (hit-is page size es found (parts page p piece es distinct).1 (rw other.0 at is))
   ]
 
   -- what is found is kept

@@ -1,5 +1,5 @@
 -- Pages that are written, asked for and given back.
-use Rattle.std.proofs.Common.{◌≡◌, ℕ, ◌+◌, ◌*◌, ◌<◌, ◌≤◌, true, not, ◌&&◌, List, [], ◌∷◌, ◌++◌, length, drop, map, get_or, All, refl, sym, ap, subst, ◌∙◌, inl, inr, arith, nat_le, nat_lt, zero-add}
+use Rattle.std.proofs.Common.{◌≡◌, ℕ, ◌+◌, ◌*◌, ◌<◌, ◌≤◌, not, ◌&&◌, List, [], ◌∷◌, ◌++◌, length, drop, map, get_or, All, refl, sym, ap, subst, ◌∙◌, inl, inr, arith, nat_le, nat_lt, zero-add}
 use Rattle.std.specs.List.{range_with_len}
 use Rattle.std.proofs.lemmas.Bool.{le-leb, lt-ltb}
 use Rattle.std.proofs.lemmas.List.{length-take, length-drop}
@@ -39,15 +39,10 @@ pub writes-stand : (cache : List Kept) (extents : List Extent) (was pages : List
 writes-stand cache extents was pages apart same stands i d within = held-stays (get_or cache i d) extents was pages (apart i d within) same (stands i d within)
 
 -- pages that are given back are kept no longer
-left-apart : (e : Extent) (page : ℕ) → not (nat_le e.first page && nat_lt page (e.first + pages_for e.bytes)) ≡ true → IsPageOf e page → ⊥
-left-apart e page left is = let left' = rw (le-leb e.first page is.0, lt-ltb page (e.first + pages_for e.bytes) is.1) at left in cc
-
 pub left-are-apart : (e : Extent) (cache : List Kept) → All (λ k. IsPageOf e k.page → ⊥) (without_pages e cache)
-left-are-apart e cache i d within =
-    left-apart e (get_or (without_pages e cache) i d).page (filter_passes (λ k. not (nat_le e.first k.page && nat_lt k.page (e.first + pages_for e.bytes))) cache i d within)
-
-pub left-all : (P : Kept → Type 0) (e : Extent) (cache : List Kept) → All P cache → All P (without_pages e cache)
-left-all P e cache all = All-filter (λ k. not (nat_le e.first k.page && nat_lt k.page (e.first + pages_for e.bytes))) P cache all
+left-are-apart e cache i d within is =
+    let left = filter_passes (λ k. not (nat_le e.first k.page && nat_lt k.page (e.first + pages_for e.bytes))) cache i d within in
+    let left' = rw (le-leb e.first _ is.0, lt-ltb _ (e.first + pages_for e.bytes) is.1) at left in cc
 
 -- a page that isn't the extent's is one of the others'
 taken-rest : (before after : List Extent) (e : Extent) (p : ℕ) → (IsPageOf e p → ⊥) → IsTaken (before ++ e ∷ after) p → IsTaken (before ++ after) p
@@ -59,7 +54,7 @@ taken-rest (b ∷ before) after e p other (inr more) = inr (taken-rest before af
 pub left-in-rest : (before after : List Extent) (e : Extent) (cache : List Kept) → LieIn (before ++ e ∷ after) cache → LieIn (before ++ after) (without_pages e cache)
 left-in-rest before after e cache lie i d within =
     taken-rest before after e (get_or (without_pages e cache) i d).page (left-are-apart e cache i d within)
-    (left-all (λ k. IsTaken (before ++ e ∷ after) k.page) e cache lie i d within)
+    (All-filter _ (λ k. IsTaken (before ++ e ∷ after) k.page) cache lie i d within)
 
 -- what holds of each page that is asked for holds of each that is kept
 all-asked-all : (P : Kept → Type 0) (ks cache : List Kept) → All P ks → All P cache → All P (after_asking_all ks cache)

@@ -1,9 +1,14 @@
 -- Calls made one after another.
 use Rattle.std.proofs.Common.{arith, ◌≡◌, ◌<◌, ◌+◌, ◌∙◌, ℕ, suc, List, [], ◌∷◌, ◌++◌, Ok, Err, take, drop, length, get_or, refl, ap, subst, sym}
+use Rattle.std.specs.Result.{IsErrOf}
 use Rattle.std.proofs.lemmas.List.{take_more, take-append-drop}
 use Rattle.std.proofs.Math.Seq.{drop-cons}
 use Rattle.query_eval.specs.declared.part.Part.{Part}
 use Rattle.query_eval.specs.Asked.{Call, Asks, AsksFront, AsksToFault}
+
+-- an error is the same error where another value might have come
+pub retyped : {A B E : Type 0} (e x : E) → IsErrOf {T = A} (Err e) x → IsErrOf {T = B} (Err e) x
+retyped e x h = let same : e ≡ x = cc in ap (λ y. Err y) same
 
 -- one call more
 pub asks_more : {S E : Type 0} (call : Call S E) (x : S) (words : List (List ℕ)) (parts : List Part) (y z : S) (word : List ℕ) (part : Part)

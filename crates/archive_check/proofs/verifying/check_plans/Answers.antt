@@ -14,15 +14,13 @@ use Rattle.archive_check.proofs.verifying.check_plans.Goals as goal
 pub returns-in-Some-clause-verdict : goal.returns-in-Some-clause-verdict
 returns-in-Some-clause-verdict g c = λ told texts indexes utf8.
     let pages = (g.D.Disk.disk c.args.disk.now).holds.pages in
-    let ranked = c.args.ranked.now in
     let i = c.loop-one.one-index in
-    let one = c.one-item.result in
-    let stored = one.stored.now in
-    let plans = map (λ t. t.stored.now) ranked in
+    let stored = c.one-item.result.stored.now in
+    let plans = map (λ t. t.stored.now) c.args.ranked.now in
     let P : List ℕ → Type 0 = λ l. MatchOption c.in_ok-fault.field-0 (IsSound texts l stored.plan) (IsFaultOf texts l stored.plan) in
     let O : Option Verdict → Type 0 = λ o. MatchOption o (IsSound texts pages stored.plan) (IsFaultOf texts pages stored.plan) in
     let there = subst P (pages_on (g.D.Disk.disk c.args.disk.now) (g.D.Disk.disk c.loop-one.disk) c.loop-one.invariant.same) (c.in_ok-fault.ensures.fault told texts indexes) in
-    says_fault texts pages plans i stored c.in-Some.fault (plans_within ranked i c.loop-one-test.true) (plan_at ranked i one c.loop-one-test.true c.one-item.is) utf8 (c.loop-one.invariant.sound told texts indexes) (subst O c.in-Some.is there)
+    says_fault texts pages plans i stored c.in-Some.fault (plans_within _ i c.loop-one-test.true) (plan_at _ i _ c.loop-one-test.true c.one-item.is) utf8 (c.loop-one.invariant.sound told texts indexes) (subst O c.in-Some.is there)
 
 pub loop-one-preserved : goal.loop-one-preserved
 loop-one-preserved g c =

@@ -10,8 +10,8 @@ pub gather-requires-clause-readable : goal.gather-requires-clause-readable
 gather-requires-clause-readable g c = λ s same.
     let reach = (g.D.Disk.disk c.args.disk.now).reach in
     let R : ArchiveState → Type 0 = λ a. Reaches reach a in
-    let L : ArchiveState → Type 0 = λ a. c.args.at < length a.shelf.plans in
-    readable _ c.self.invariant.2.0 reach c.args.at s c.self.invariant.2.1 (subst R (sym c.self.view_is) c.requires.within) (subst L (sym c.self.view_is) c.requires.there) same
+    let L : ArchiveState → Type 0 = λ a. c.args.place < length a.shelf.plans in
+    readable _ c.self.invariant.2.0 reach c.args.place s c.self.invariant.2.1 (subst R (sym c.self.view_is) c.requires.within) (subst L (sym c.self.view_is) c.requires.there) same
 
 -- the shelf alone changes, and of it the cache
 but_cache : (a : ArchiveState) (shelf : ShelfState) → shelf ≡ record (a.shelf) { cache = shelf.cache } → IsSameButCache a (record a { shelf = shelf })
