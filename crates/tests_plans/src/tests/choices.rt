@@ -1,19 +1,10 @@
 //! Plans that were worked out by hand.
+use super::given::posting;
 use commands::Kind;
 use plan_choice::{Choice, ChoiceError, choose};
 use std::alloc::Global;
 use std::process::Abort;
-use time_base::{DocId, Fraction, Posting, Span, Time};
-
-/// A document's posting in `[from, to)`.
-fn posting(rt: &impl Abort, doc: u32, from: u64, to: u64) -> Posting {
-    let span = Span::new(from, to).expect(rt, "a span");
-    Posting {
-        doc: DocId(doc),
-        span,
-        tf: 1,
-    }
-}
+use time_base::{Fraction, Posting, Time};
 
 /// The kind that asks for each second from this one on.
 fn since(rt: &impl Abort, at: u64) -> Kind {

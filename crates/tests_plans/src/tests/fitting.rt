@@ -1,19 +1,10 @@
 //! Plans that are fit and plans that aren't, worked out by hand.
+use super::given::posting;
 use commands::Kind;
 use std::alloc::Global;
 use std::process::Abort;
 use stored_plans::{is_fit, partition_of};
-use time_base::{DocId, Fraction, Posting, Span, Time};
-
-/// A document's posting in `[from, to)`.
-fn posting(rt: &impl Abort, doc: u32, from: u64, to: u64) -> Posting {
-    let span = Span::new(from, to).expect(rt, "a span");
-    Posting {
-        doc: DocId(doc),
-        span,
-        tf: 1,
-    }
-}
+use time_base::{Fraction, Posting, Time};
 
 /// The times of so many seconds.
 fn times(rt: &impl Abort, alloc: Global, seconds: &[u64]) -> Vec<Time> {

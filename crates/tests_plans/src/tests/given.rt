@@ -15,15 +15,9 @@ pub(crate) fn listed(rt: &impl Abort, alloc: Global, spans: &[Alike]) -> Vec<Pos
     let mut list = Vec::new(alloc);
     let mut doc = 0u32;
     for (documents, from, to) in spans {
-        let span = Span::new(*from, *to).expect(rt, "a span");
         for _ in 0..*documents {
             doc = doc.wrapping_add(1);
-            list.push(Posting {
-                doc: DocId(doc),
-                span,
-                tf: 1,
-            })
-            .expect(rt, "memory");
+            list.push(posting(rt, doc, *from, *to)).expect(rt, "memory");
         }
     }
     list
@@ -41,4 +35,14 @@ pub(crate) fn table_of(rt: &impl Abort, alloc: Global, list: &[Posting], horizon
 /// The factor `over / under`.
 pub(crate) fn factor(rt: &impl Abort, over: u32, under: u32) -> Fraction {
     Fraction::new(over, under).expect(rt, "a factor")
+}
+
+/// A document's posting in `[from, to)`.
+pub(crate) fn posting(rt: &impl Abort, doc: u32, from: u64, to: u64) -> Posting {
+    let span = Span::new(from, to).expect(rt, "a span");
+    Posting {
+        doc: DocId(doc),
+        span,
+        tf: 1,
+    }
 }
