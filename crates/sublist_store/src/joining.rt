@@ -1,5 +1,5 @@
 //! Joining the lists that were fetched.
-ghost use Rattle.std.specs.Prelude.{◌≡◌, ◌≤◌, [], All, length, Ok, Err, IfOk, IfErr};
+ghost use Rattle.std.specs.Prelude.{◌≡◌, ◌≤◌, ℕ, List, [], All, length, Ok, Err, IfOk, IfErr};
 ghost use Rattle.postings.specs.Lists.{IsList};
 ghost use Rattle.postings.specs.Unions.{IsUnion, IsClash};
 ghost use Rattle.sublist_store.specs.Fetching.{IfDamaged, IfFailed};
@@ -21,8 +21,6 @@ pub(crate) struct Sublist {
 }
 
 impl Model for Sublist {
-    ghost use Rattle.std.specs.Prelude.{ℕ, List};
-
     ghost Value = { ℕ × List PlainPosting };
 
     ghost view = { λ s. (s.page, s.postings.items) };
