@@ -2,6 +2,7 @@
 use Rattle.std.proofs.Common.{◌≡◌, ℕ, zero, suc, ◌+◌, ◌<◌, List, [], ◌∷◌, ◌++◌, length, map, take, drop, get_or, true, refl, ap, subst, sym, ◌∙◌, arith, inl}
 use Rattle.std.proofs.lemmas.List.{append-nil, length-map, get_or_append_left, get_or_default, take_more, at_drop_more}
 use Rattle.std.proofs.lemmas.List.Concat.{flat_map-append}
+use Rattle.std.proofs.lemmas.List.Elements.{All-filter}
 use Rattle.time_base.specs.declared.extent.Extent.{Extent}
 use Rattle.time_base.specs.declared.time.Time.{Time}
 use Rattle.page_store.specs.Live.{AreLive, IsNext, IsRefused}
@@ -14,7 +15,7 @@ use Rattle.page_store.proofs.TakenLemmas.{next_extent}
 use Rattle.page_cache.specs.Caches.{Kept, IsHeld, StandsFor}
 use Rattle.page_cache.specs.Laws.{LieIn}
 use Rattle.page_cache.specs.Pieces.{without_pages}
-use Rattle.page_cache.proofs.LawLemmas.{left-all, left-in-rest}
+use Rattle.page_cache.proofs.LawLemmas.{left-in-rest}
 use Rattle.sublist_store.specs.Caching.{without_all}
 use Rattle.sublist_store.specs.Gathering.{chosen}
 use Rattle.sublist_store.specs.Preparing.{extents}
@@ -85,7 +86,7 @@ without_lie before (e ∷ es) after cache lie = without_lie before es after (wit
 -- and stands for Pages as before
 pub without_stands : (es : List Extent) (cache : List Kept) (pages : List ℕ) → StandsFor cache pages → StandsFor (without_all es cache) pages
 without_stands [] cache pages stands = stands
-without_stands (e ∷ es) cache pages stands = without_stands es (without_pages e cache) pages (left-all (IsHeld pages) e cache stands)
+without_stands (e ∷ es) cache pages stands = without_stands es (without_pages e cache) pages (All-filter _ (IsHeld pages) cache stands)
 
 -- what lies in the extents of plans lies in those of one plan more
 pub lie_behind : (plans : List StoredPlan) (stored : StoredPlan) (cache : List Kept) → LieIn (extents_all plans) cache → LieIn (extents_all (plans ++ stored ∷ [])) cache
