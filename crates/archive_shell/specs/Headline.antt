@@ -2,17 +2,18 @@
 -- when, what each image left at any moment stands for, and where the input was at the end.
 use Rattle.std.specs.Prelude.{◌≡◌, ◌⊎◌, ℕ, ◌^◌, ◌<◌, ◌≤◌, Bool, true, false, List, [], ◌++◌, length, All}
 use Rattle.machine_model.specs.States.{SourceState, SinkState, MachineState}
+use Rattle.machine_model.specs.Causes.{Rose}
 use Rattle.machine_model.specs.Moments.{LeavesOnly}
 use Rattle.machine_model.specs.Pulls.{Pull}
 use Rattle.machine_model.specs.Pushes.{IsPrefix}
 use Rattle.commands.specs.declared.command.Item.{Item}
-use Rattle.script_read.specs.Items.{first, Splits, IsBrokenAt}
+use Rattle.script_read.specs.Items.{first, IsScript, Splits, IsBrokenAt}
 use Rattle.script_read.specs.declared.first.First.TheVariants.{More}
 use Rattle.archive_state.specs.Histories.{History}
 use Rattle.archive_state.specs.Steps.{Reply, Step}
 use Rattle.archive_state.specs.Replies.{reply_text}
 use Rattle.archive_state.specs.Runs.{Outcome, IsRun, state_after, shown_by, Reopens}
-use Rattle.archive_state.specs.Stands.{EachStands, StandsIn}
+use Rattle.archive_state.specs.Stands.{EachStands, IsNotArchive, StandsIn}
 use Rattle.archive_state.specs.Worlds.{World, world_of}
 use Rattle.sublist_store.specs.declared.why.Damage.{Damage}
 use Rattle.archive_shell.specs.declared.status.Status.{Status}
@@ -99,3 +100,11 @@ pub record Headline (history : History) (status : Status) (old new : MachineStat
   pub steady : EachStands old.disk history → (status ≡ Disk → ⊥) → (j : ℕ) × (j ≤ length ran.outcomes) × EachStands new.disk (state_after (world_of history) ran.outcomes j).history
   -- nothing is damaged
   pub undamaged : (damage : Damage) → status ≡ Damaged damage → ⊥
+
+-- Where nothing is wrong, a run comes to the end of the input: the bytes are an archive's, the input is a script of less than 2^40 bytes, and no
+-- count of faults rose. Then it may only run out of memory, or come to a sublist that is damaged.
+abbrev pub IsComplete : Status → MachineState → MachineState → Type 0
+IsComplete status old new =
+    ((at : ℕ) → IsNotArchive old.disk.holds at → ⊥) → IsScript old.source.left → length old.source.left < 2 ^ 40
+    → (Rose old.disk.faults new.disk.faults → ⊥) → (Rose old.source.faults new.source.faults → ⊥) → (Rose old.sink.faults new.sink.faults → ⊥)
+    → (status ≡ Done) ⊎ ((status ≡ Memory) ⊎ ((damage : Damage) × (status ≡ Damaged damage)))

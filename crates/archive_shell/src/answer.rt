@@ -47,31 +47,9 @@ pub(crate) fn answer<D: Disk>(
     ensures outcome { D.disk_tells → (h : History) → AreInStep (D.disk disk.old) archive.old h →
         Answers h item result (D.disk disk.old) (D.disk disk.new) archive.new page.new.bytes }
 {
-    match item {
-        Item::Line => refuse(page, Refusal::Line),
-        Item::Command(command) => carry_out(alloc, disk, archive, page, command),
-    }
-}
-
-/// Carries out a command.
-fn carry_out<D: Disk>(
-    alloc: Global,
-    disk: &mut D,
-    archive: &mut Archive,
-    page: &mut ReplyPage,
-    command: Command,
-) -> Result<(), Halt>
-    requires ready { CanGoOn archive.old (D.disk disk.old).reach }
-    ensures only { D.Disk.only disk.old disk.new }
-    ensures disk_fault { IsErrOf result Halt.Disk → Rose (D.disk disk.old).faults (D.disk disk.new).faults }
-    ensures left { OnOk result (IsLeft D.disk_tells (D.disk disk.old) (D.disk disk.new) archive.old archive.new) }
-    // Whatever the disk holds, a question leaves it and the archive but for its cache as they are, and what is told is so by what reads give.
-    ensures still { IsQuestion (items.Command command) → OnlyReads (D.disk disk.old) (D.disk disk.new) × IsSameButCache archive.old archive.new }
-    ensures by_reads { D.disk_tells → (h : History) → StandsFor archive.old h → CacheStands (D.disk disk.old) archive.old →
-        IsByReads h (items.Command command) result (D.disk disk.old) (D.disk disk.new) archive.old archive.new page.new.bytes }
-    ensures outcome { D.disk_tells → (h : History) → AreInStep (D.disk disk.old) archive.old h →
-        Answers h (items.Command command) result (D.disk disk.old) (D.disk disk.new) archive.new page.new.bytes }
-{
+    let Item::Command(command) = item else {
+        return refuse(page, Refusal::Line);
+    };
     match command {
         Command::Arrive { doc, at, text } => arrive(alloc, disk, archive, page, doc, at, text),
         Command::Delete { doc, at } => {

@@ -1,10 +1,10 @@
 //! The program's run.
-ghost use Rattle.std.specs.Prelude.{◌≡◌, ◌⊎◌, ◌<◌, ◌≤◌, ◌^◌, ℕ, true, List, [], length, All, IfSome, IfNone, IfOk, IfErr};
+ghost use Rattle.std.specs.Prelude.{◌≡◌, ◌⊎◌, ◌<◌, ◌≤◌, ℕ, true, List, [], length, All, IfSome, IfNone, IfOk, IfErr};
 ghost use Rattle.machine_model.specs.Calls.{Syncs};
 ghost use Rattle.machine_model.specs.Causes.{Rose};
 ghost use Rattle.machine_model.specs.Pulls.{Pull};
 ghost use Rattle.machine_model.specs.States.{state_by};
-ghost use Rattle.script_read.specs.Items.{IsScript, Splits};
+ghost use Rattle.script_read.specs.Items.{Splits};
 ghost use Rattle.archive_state.specs.Histories.{History};
 ghost use Rattle.archive_state.specs.Legal.{IsLoadable};
 ghost use Rattle.archive_state.specs.Stands.{Stands, EachStands, IsNotArchive, bodies_of};
@@ -18,7 +18,7 @@ ghost use Rattle.program_words.specs.declared.task.SampleNumbers.{SampleNumbers 
 ghost use Rattle.archive_shell.specs.Damages.{IsPulled, TellsDamage};
 ghost use Rattle.archive_shell.specs.Fetching.{IsAsking, ReadsMissed};
 ghost use Rattle.archive_shell.specs.Questions.{AreMade, AreMadeUpTo, IsQuestion};
-ghost use Rattle.archive_shell.specs.Headline.{Headline};
+ghost use Rattle.archive_shell.specs.Headline.{Headline, IsComplete};
 ghost use Rattle.archive_shell.specs.Sampling.{EndsSample, Sampled};
 
 use crate::sampling::run_sample;
@@ -107,12 +107,7 @@ pub fn run<M: Machine>(alloc: Global, words: &[String], machine: &mut M) -> Stat
         (state_by M.source M.sink M.disk machine.new) pulls }
     // Where nothing is wrong, the run comes to the end of the input, unless memory runs out or a sublist is damaged.
     ensures complete { M.source_tells → M.sink_tells → M.disk_tells → AreWords (texts words.now) tasks.Script →
-        ((at : ℕ) → IsNotArchive (M.disk machine.old).holds at → ⊥) →
-        IsScript (M.source machine.old).left → length (M.source machine.old).left < 2 ^ 40 →
-        (Rose (M.disk machine.old).faults (M.disk machine.new).faults → ⊥) →
-        (Rose (M.source machine.old).faults (M.source machine.new).faults → ⊥) →
-        (Rose (M.sink machine.old).faults (M.sink machine.new).faults → ⊥) →
-        (result ≡ Status.Done) ⊎ ((result ≡ Status.Memory) ⊎ ((damage : Damage) × (result ≡ Status.Damaged damage))) }
+        IsComplete result (state_by M.source M.sink M.disk machine.old) (state_by M.source M.sink M.disk machine.new) }
     // With the words of a sample nothing is pulled, and no status speaks of the input.
     ensures sample_ends { (numbers : PlainNumbers) → AreWords (texts words.now) (tasks.Generate numbers) →
         EndsSample result ⊎ (((at : ℕ) × (result ≡ Status.NotArchive at)) ⊎ ((n : ℕ) × (result ≡ Status.NotEmpty n))) }

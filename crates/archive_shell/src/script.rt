@@ -1,5 +1,5 @@
 //! A run over the commands of the input.
-ghost use Rattle.std.specs.Prelude.{◌≡◌, ◌⊎◌, ◌<◌, ◌^◌, ℕ, true, List, [], length, All};
+ghost use Rattle.std.specs.Prelude.{◌≡◌, ◌⊎◌, ◌<◌, ℕ, true, List, [], length, All};
 ghost use Rattle.machine_model.specs.Calls.{Syncs};
 ghost use Rattle.machine_model.specs.Causes.{Rose};
 ghost use Rattle.machine_model.specs.Pulls.{Pull};
@@ -7,12 +7,12 @@ ghost use Rattle.machine_model.specs.States.{state_by};
 ghost use Rattle.archive_state.specs.Histories.{History};
 ghost use Rattle.archive_state.specs.Stands.{Stands, IsNotArchive, bodies_of};
 ghost use Rattle.gate_journal.specs.Spelled.{Spells};
-ghost use Rattle.script_read.specs.Items.{IsScript, Splits};
+ghost use Rattle.script_read.specs.Items.{Splits};
 ghost use Rattle.commands.specs.declared.command.Item.{Item};
 ghost use Rattle.archive_shell.specs.Damages.{IsPulled, TellsDamage};
 ghost use Rattle.archive_shell.specs.Fetching.{IsAsking, ReadsMissed};
 ghost use Rattle.archive_shell.specs.Questions.{AreMade, AreMadeUpTo, IsQuestion};
-ghost use Rattle.archive_shell.specs.Headline.{Headline};
+ghost use Rattle.archive_shell.specs.Headline.{Headline, IsComplete};
 
 use crate::desk::Desk;
 use crate::serve::serve;
@@ -51,12 +51,7 @@ pub(crate) fn run_script<M: Machine>(alloc: Global, machine: &mut M) -> Status
         × Headline h result (state_by M.source M.sink M.disk machine.old)
         (state_by M.source M.sink M.disk machine.new) pulls }
     ensures complete { M.source_tells → M.sink_tells → M.disk_tells →
-        ((at : ℕ) → IsNotArchive (M.disk machine.old).holds at → ⊥) →
-        IsScript (M.source machine.old).left → length (M.source machine.old).left < 2 ^ 40 →
-        (Rose (M.disk machine.old).faults (M.disk machine.new).faults → ⊥) →
-        (Rose (M.source machine.old).faults (M.source machine.new).faults → ⊥) →
-        (Rose (M.sink machine.old).faults (M.sink machine.new).faults → ⊥) →
-        (result ≡ Status.Done) ⊎ ((result ≡ Status.Memory) ⊎ ((damage : Damage) × (result ≡ Status.Damaged damage))) }
+        IsComplete result (state_by M.source M.sink M.disk machine.old) (state_by M.source M.sink M.disk machine.new) }
 {
     let mut desk = match Desk::new(alloc) {
         Ok(desk) => desk,
