@@ -14,7 +14,7 @@ use Rattle.archive_state.specs.Stands.{StandsIn, EachStands}
 use Rattle.archive_state.specs.Worlds.{World, world_of}
 use Rattle.archive_core.specs.States.{ArchiveState, AreInStep, Reaches, StandsFor}
 use Rattle.archive_core.specs.Changing.{LeadsTo}
-use Rattle.archive_core.specs.Takes.{Ending, Replied, Starved, Faulted, Spoiled}
+use Rattle.archive_core.specs.Takes.{Ending, Replied, Starved, Faulted, Spoiled, answered}
 use Rattle.archive_core.specs.declared.error.AskError.{AskError}
 use Rattle.archive_core.specs.declared.error.AskError.TheVariants as asks
 use Rattle.sublist_store.specs.declared.why.Damage.{Damage}
@@ -38,9 +38,9 @@ Writes Starved result page = result ≡ Err halts.Memory
 Writes Faulted result page = result ≡ Err halts.Disk
 Writes (Spoiled damage) result page = result ≡ Err (halts.Damaged damage)
 
--- What is written of a query's end, which this tells of its answer: the run is halted by a fault or a damage just where the query was.
-pub record WritesAnswer {T : Type 0} (end : Result T AskError → Ending) (answer : Result T AskError) (result : Result (Unit {0}) Halt) (page : List ℕ) : Type 0 where
-  pub writes : Writes (end answer) result page
+-- What is written of a query's end, whose reply this is of its answer: the run is halted by a fault or a damage just where the query was.
+pub record WritesAnswer {T : Type 0} (reply : T → Reply) (answer : Result T AskError) (result : Result (Unit {0}) Halt) (page : List ℕ) : Type 0 where
+  pub writes : Writes (answered reply answer) result page
   pub fault : result ≡ Err halts.Disk → answer ≡ Err asks.Failed
   pub damage : (d : Damage) → result ≡ Err (halts.Damaged d) → answer ≡ Err (asks.Damaged d)
 

@@ -3,9 +3,9 @@ ghost use Rattle.std.specs.Prelude.{◌≡◌, ◌⊎◌, Ok, OnOk, IsOk, IsErrO
 ghost use Rattle.machine_model.specs.Causes.{Rose};
 ghost use Rattle.archive_state.specs.Histories.{History};
 ghost use Rattle.archive_state.specs.Replies.{reply_text};
-ghost use Rattle.archive_state.specs.Steps.{Refused};
+ghost use Rattle.archive_state.specs.Steps.{Found, Refused, Reply, Spanned};
 ghost use Rattle.archive_core.specs.States.{CacheStands, AreInStep, IsSameButCache, StandsFor};
-ghost use Rattle.archive_core.specs.Takes.{changed, found, planned, proposed, version_shown, spanned, unanswered, unchanged, verified};
+ghost use Rattle.archive_core.specs.Takes.{changed, planned, proposed, version_shown, unanswered, unchanged, verified};
 ghost use Rattle.commands.specs.declared.command.Item.TheVariants as items;
 ghost use Rattle.commands.specs.declared.command.Command.TheVariants as plain;
 ghost use Rattle.machine_model.specs.Calls.{OnlyReads};
@@ -24,7 +24,7 @@ use commands::{Command, Item, MOST_TEXT_BYTES, Text};
 use machine_model::Disk;
 use proposals::Proposal;
 use query_eval::{Answer, SpanAnswer};
-use std::alloc::Global;
+use std::alloc::{AllocError, Global};
 use sublist_store::Damage;
 use time_base::{DocId, Time};
 
@@ -58,11 +58,11 @@ pub(crate) fn answer<D: Disk>(
         }
         Command::Find { at, expr } => {
             let result = archive.find(alloc, disk, at, &expr);
-            write_found(page, result)
+            write_answer(page, result)
         }
         Command::Between { span, expr } => {
             let result = archive.between(alloc, disk, span, &expr);
-            write_spanned(page, result)
+            write_answer(page, result)
         }
         Command::Show { doc, at } => {
             let result = archive.show(alloc, disk, doc, at);
@@ -185,26 +185,39 @@ fn write_unchanged(page: &mut ReplyPage, error: ChangeError) -> Result<(), Halt>
     }
 }
 
-/// Writes what a query found on the page, or halts the run.
-fn write_found(page: &mut ReplyPage, answer: Result<Answer, AskError>) -> Result<(), Halt>
-    ensures { WritesAnswer found answer result page.new.bytes }
-{
-    match answer {
-        Ok(answer) => {
-            page.found(&answer.rows, answer.read)?;
-            Ok(())
-        }
-        Err(error) => write_unanswered(page, error),
+/// What a query answers, which is written on a page.
+trait Written: Drop {
+    /// Its reply.
+    ghost reply: { Self → Reply };
+
+    /// Writes its reply on the page. An error means that there was no memory.
+    fn write(&self, page: &mut ReplyPage) -> Result<(), AllocError>
+        ensures { OnOk result (page.new.bytes ≡ reply_text (reply self.now)) };
+}
+
+impl Written for Answer {
+    ghost reply = { λ answer. Found answer.rows.items answer.read };
+
+    fn write(&self, page: &mut ReplyPage) -> Result<(), AllocError> {
+        page.found(&self.rows, self.read)
     }
 }
 
-/// Writes what a query found over a window of time on the page, or halts the run.
-fn write_spanned(page: &mut ReplyPage, answer: Result<SpanAnswer, AskError>) -> Result<(), Halt>
-    ensures { WritesAnswer spanned answer result page.new.bytes }
+impl Written for SpanAnswer {
+    ghost reply = { λ answer. Spanned answer.rows.items answer.read };
+
+    fn write(&self, page: &mut ReplyPage) -> Result<(), AllocError> {
+        page.spanned(&self.rows, self.read)
+    }
+}
+
+/// Writes what a query answers on the page, or halts the run.
+fn write_answer<T: Written>(page: &mut ReplyPage, answer: Result<T, AskError>) -> Result<(), Halt>
+    ensures { WritesAnswer T.reply answer result page.new.bytes }
 {
     match answer {
         Ok(answer) => {
-            page.spanned(&answer.rows, answer.read)?;
+            answer.write(page)?;
             Ok(())
         }
         Err(error) => write_unanswered(page, error),

@@ -80,7 +80,7 @@ pub scanned_next : {bytes : List ℕ} {gate count next : ℕ} {heads more : List
 scanned_next {bytes} {gate} {count} {next} {heads} {more} fits s lies pushed here =
     subst (λ (n : ℕ). IsScanned bytes n more) (sym here) (subst (λ (h : List Head). IsScanned bytes (gate + 5 + count) h) (sym pushed) (scanned_and bytes gate count heads fits s lies))
 
--- reads leave what lies at a gate as it is
+-- what lies at a gate, by what was found there
 pub lies_as : (left : List ℕ) (found wanted : Gate) → found ≡ wanted → LiesAt left found → LiesAt left wanted
 lies_as left found wanted is lies = subst (λ (x : Gate). LiesAt left x) is lies
 

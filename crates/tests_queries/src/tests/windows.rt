@@ -141,6 +141,15 @@ fn rows_are_the_longest_spans_of_one_score(rt: HostRuntime) {
     }
 }
 
+/// That document 1 has a word twice over these times.
+fn twice(span: Span) -> Posting {
+    Posting {
+        doc: DocId(1),
+        span,
+        tf: 2,
+    }
+}
+
 /// Lists in which document 1 has each word twice at each time that is asked for.
 #[derive(Drop)]
 struct Everywhere {
@@ -162,11 +171,7 @@ impl Lists for Everywhere {
         let mut list = Vec::new(self.alloc);
         if let Some(span) = Span::new(t.seconds, t.seconds.saturating_add(1)) {
             if span.holds(t) {
-                list.push(Posting {
-                    doc: DocId(1),
-                    span,
-                    tf: 2,
-                })?;
+                list.push(twice(span))?;
             }
         }
         Ok(Part { list, read: 1 })
@@ -174,11 +179,7 @@ impl Lists for Everywhere {
 
     fn between(&mut self, _word: &Key, span: Span) -> Result<Part, AllocError> {
         let mut list = Vec::new(self.alloc);
-        list.push(Posting {
-            doc: DocId(1),
-            span,
-            tf: 2,
-        })?;
+        list.push(twice(span))?;
         Ok(Part { list, read: 1 })
     }
 }

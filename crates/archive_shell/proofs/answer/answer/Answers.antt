@@ -18,10 +18,10 @@ pub returns-in-Delete-clause-outcome : goal.returns-in-Delete-clause-outcome
 returns-in-Delete-clause-outcome g c = λ tells h in_step. rw (c.in-Command.is, c.in-Delete.is) (answers_by h _ _ _ _ _ _ _ (c.delete-result.ensures.takes tells h in_step) c.write_change.ensures.writes)
 
 pub returns-in-Find-clause-outcome : goal.returns-in-Find-clause-outcome
-returns-in-Find-clause-outcome g c = λ tells h in_step. rw (c.in-Command.is, c.in-Find.is) (answers_by h _ _ _ _ _ _ _ (c.find-result.ensures.takes tells h in_step) c.write_found.ensures.writes)
+returns-in-Find-clause-outcome g c = λ tells h in_step. rw (c.in-Command.is, c.in-Find.is) (answers_by h _ _ _ _ _ _ _ (c.find-result.ensures.takes tells h in_step) c.write_answer.ensures.writes)
 
 pub returns-in-Between-clause-outcome : goal.returns-in-Between-clause-outcome
-returns-in-Between-clause-outcome g c = λ tells h in_step. rw (c.in-Command.is, c.in-Between.is) (answers_by h _ _ _ _ _ _ _ (c.between-result.ensures.takes tells h in_step) c.write_spanned.ensures.writes)
+returns-in-Between-clause-outcome g c = λ tells h in_step. rw (c.in-Command.is, c.in-Between.is) (answers_by h _ _ _ _ _ _ _ (c.between-result.ensures.takes tells h in_step) c.write_answer-in-Between.ensures.writes)
 
 pub returns-in-Show-clause-outcome : goal.returns-in-Show-clause-outcome
 returns-in-Show-clause-outcome g c = λ tells h in_step. rw (c.in-Command.is, c.in-Show.is) (answers_by h _ _ _ _ _ _ _ (c.show-result.ensures.takes tells h in_step) c.write_version.ensures.writes)
@@ -44,8 +44,8 @@ returns-in-Find-clause-by_reads g c = λ tells h stands cached.
     let at = c.in-Find.at in
     let pages = (g.D.Disk.disk c.args.disk.now).holds.pages in
     rw (c.in-Command.is, c.in-Find.is) (told_by_reads h (items.Command (plain.Find at c.in-Find.expr)) at.seconds (at.seconds + 1) c.in-Find.expr (λ (answer : Answer). Found answer.rows.items answer.read) (MakesAt h pages at)
-    (λ h query answer. IsMadeAt h pages at.seconds query answer.rows.items answer.read) _ _ _ _ c.find-result.result c.write_found.result _ (λ one is. is) (λ pieces are. are) (λ answer query made. (answer.rows.items, answer.read, made, refl))
-    (λ d is. asked.after.damaged tells h stands cached d (c.write_found.ensures.damage d is)) (asked.after.made tells h stands cached) asked.after c.write_found.ensures.writes)
+    (λ h query answer. IsMadeAt h pages at.seconds query answer.rows.items answer.read) _ _ _ _ c.find-result.result c.write_answer.result _ (λ one is. is) (λ pieces are. are) (λ answer query made. (answer.rows.items, answer.read, made, refl))
+    (λ d is. asked.after.damaged tells h stands cached d (c.write_answer.ensures.damage d is)) (asked.after.made tells h stands cached) asked.after c.write_answer.ensures.writes)
 
 pub returns-in-Between-clause-by_reads : goal.returns-in-Between-clause-by_reads
 returns-in-Between-clause-by_reads g c = λ tells h stands cached.
@@ -53,8 +53,8 @@ returns-in-Between-clause-by_reads g c = λ tells h stands cached.
     let span = c.in-Between.span in
     let pages = (g.D.Disk.disk c.args.disk.now).holds.pages in
     rw (c.in-Command.is, c.in-Between.is) (told_by_reads h (items.Command (plain.Between span c.in-Between.expr)) span.from span.to c.in-Between.expr (λ (answer : SpanAnswer). Spanned answer.rows.items answer.read) (MakesOver h pages span)
-    (λ h query answer. IsMadeOver h pages span.from span.to query answer.rows.items answer.read) _ _ _ _ c.between-result.result c.write_spanned.result _ (λ one is. is) (λ pieces are. are) (λ answer query made. (answer.rows.items, answer.read, made, refl))
-    (λ d is. asked.after.damaged tells h stands cached d (c.write_spanned.ensures.damage d is)) (asked.after.made tells h stands cached) asked.after c.write_spanned.ensures.writes)
+    (λ h query answer. IsMadeOver h pages span.from span.to query answer.rows.items answer.read) _ _ _ _ c.between-result.result c.write_answer-in-Between.result _ (λ one is. is) (λ pieces are. are) (λ answer query made. (answer.rows.items, answer.read, made, refl))
+    (λ d is. asked.after.damaged tells h stands cached d (c.write_answer-in-Between.ensures.damage d is)) (asked.after.made tells h stands cached) asked.after c.write_answer-in-Between.ensures.writes)
 
 pub returns-in-Verify-clause-by_reads : goal.returns-in-Verify-clause-by_reads
 returns-in-Verify-clause-by_reads g c = λ tells h stands cached. rw (c.in-Command.is, c.in-Verify.is) (record {
