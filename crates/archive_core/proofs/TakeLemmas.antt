@@ -1,5 +1,5 @@
 -- A call that carries out an item is a step of the abstract machine.
-use Rattle.std.proofs.Common.{◌≡◌, ℕ, ◌+◌, List, [], ◌∷◌, ◌++◌, length, Option, Result, Ok, Err, OnOk, IfOk, refl, inl, inr, ap, subst, sym, arith, length-append, append-nil}
+use Rattle.std.proofs.Common.{◌≡◌, ℕ, List, [], ◌∷◌, ◌++◌, length, Option, Result, Ok, Err, OnOk, IfOk, refl, inl, inr, ap, subst, sym, arith, length-append, append-nil}
 use Rattle.std.specs.Option.{option_map}
 use Rattle.machine_model.specs.Areas.{Bytes}
 use Rattle.machine_model.specs.Images.{MayLeave}

@@ -5,9 +5,9 @@ use Rattle.std.specs.List.Sorted.{IsStrictlyIncreasing}
 use Rattle.std.specs.Cmp.Lexicographic.{bytes_decides}
 use Rattle.std.proofs.lemmas.Bool.{cases_lt}
 use Rattle.std.proofs.lemmas.Bool.Decides.{nat_tests}
-use Rattle.std.proofs.lemmas.List.{map-append}
-use Rattle.std.proofs.lemmas.List.Elements.{All-head, All-contains, Contains-append_cases, Contains-append_left, filter_passes}
-use Rattle.std.proofs.lemmas.List.Sums.{sum_by-cons}
+use Rattle.std.proofs.lemmas.List.{length-map, map-append}
+use Rattle.std.proofs.lemmas.List.Elements.{All-head, All-tail, All-contains, Contains-append_cases, Contains-append_left, filter_passes}
+use Rattle.std.proofs.lemmas.List.Sums.{length-filter, sum_by-cons}
 use Rattle.time_base.specs.declared.fraction.Fraction.{Fraction}
 use Rattle.time_base.specs.declared.posting.Posting.{Posting}
 use Rattle.time_base.specs.declared.time.Time.{Time}
@@ -17,9 +17,11 @@ use Rattle.elementary.specs.Boundaries.{IsBoundary, IsFirst}
 use Rattle.elementary.specs.Partitions.{IsAdmissible, Covers}
 use Rattle.elementary.proofs.Places.{contains_map}
 use Rattle.postings.specs.Clips.{IsCut, IsClip}
-use Rattle.postings.specs.Lists.{IsList, holds, meets, sublist}
+use Rattle.postings.specs.Lists.{ComesBefore, IsList, frequency, holds, meets, rows_at, sublist}
 use Rattle.postings.specs.Sizes.{size, alive_count}
-use Rattle.postings.proofs.Clipping.{clip_of_list_of, one_list_of}
+use Rattle.postings.proofs.Clipping.{clip_of_list_of, one_list_of, rows_list}
+use Rattle.postings.proofs.Frequencies.{found, frequency-of}
+use Rattle.stretches.proofs.Elements.{filter-from, filter-in}
 use Rattle.record_codec.specs.declared.plan.PlanEntry.{PlanEntry}
 use Rattle.sublist_store.specs.Segments.{next_cut, seconds, AreCutsOf}
 use Rattle.sublist_store.specs.Gathering.{stored_size}
@@ -30,7 +32,7 @@ use Rattle.stored_plans.proofs.GoodLemmas.{fit_well_cut}
 use Rattle.archive_state.specs.declared.stored.StoredPlan.{StoredPlan}
 use Rattle.archive_state.specs.Histories.{History}
 use Rattle.archive_state.specs.Answers.{frequency_at, IsWordList}
-use Rattle.archive_state.specs.Bounds.{PlannedReadsAreBounded, PlannedSpaceIsCapped}
+use Rattle.archive_state.specs.Bounds.{HoldersAreDocuments, PlannedReadsAreBounded, PlannedSpaceIsCapped}
 use Rattle.archive_state.specs.Chosen.{tail_for}
 use Rattle.archive_state.specs.Legal.{MayBePlanned, IsLoadable}
 use Rattle.archive_state.specs.Planning.{IsListUpTo}
@@ -256,6 +258,57 @@ planned_bounded h word plan list t read loads live kind whole from to (sealed, t
     let B : ℕ → ℕ → Type 0 = λ n alive. n * plan.fraction.under ≤ plan.fraction.over * alive in
     subst (λ (alive : ℕ). B read alive) (same_alive h word horizon t sealed list (omega (arith, now)) to up_to whole)
     (subst (λ (n : ℕ). B n (alive_count t sealed)) (sym all) (one.admissible t one.begun one.over))
+
+-- ---- the documents that have a word at a time
+
+abbrev doc_of : Posting → ℕ
+doc_of p = p.doc.0
+
+-- postings that all hold a time are of one document each
+rising_docs : (t : ℕ) (rows : List Posting) → IsList rows → All (λ p. holds t p ≡ true) rows → IsStrictlyIncreasing (map doc_of rows)
+rising_docs t [] ordered hold = λ k within. absurd (omega (arith, within))
+rising_docs t (p ∷ []) ordered hold = λ k within. absurd (omega (arith, within))
+rising_docs t (p ∷ q ∷ rows) ordered hold = go (rising_docs t (q ∷ rows) ordered.1 (All-tail (λ r. holds t r ≡ true) p (q ∷ rows) hold))
+  where
+    next : p.doc.0 < q.doc.0
+    next =
+        let one : holds t p ≡ true = All-head (λ r. holds t r ≡ true) p (q ∷ rows) hold in
+        let other : holds t q ≡ true = All-head (λ r. holds t r ≡ true) q rows (All-tail (λ r. holds t r ≡ true) p (q ∷ rows) hold) in
+        let before : ComesBefore p q = ordered.0 in
+        grind (arith, nat_tests)
+
+    go : IsStrictlyIncreasing (map doc_of (q ∷ rows)) → IsStrictlyIncreasing (map doc_of (p ∷ q ∷ rows))
+    go rest zero within = next
+    go rest (suc k) within =
+        let e : suc k + 1 ≡ suc (k + 1) = omega arith in
+        subst (λ (n : ℕ). get_or (map doc_of (q ∷ rows)) k 0 < get_or (map doc_of (p ∷ q ∷ rows)) n 0) (sym e) (rest k (omega (arith, within)))
+
+pub holders_are_documents : HoldersAreDocuments
+holders_are_documents h word list t whole now =
+    let rows = rows_at t list in (
+      map doc_of rows,
+      record {
+        ascending = rising_docs t rows (rows_list t list whole.ordered) (filter_passes (holds t) list);
+        each = λ doc. (from doc, to doc);
+      },
+      length-map rows doc_of ∙ length-filter (holds t) list,
+    )
+  where
+    from : (doc : ℕ) → Contains (map doc_of (rows_at t list)) doc → 0 < frequency_at h word (record { 0 = doc }) t
+    from doc there =
+        let (p, among, is) = mapped doc_of (rows_at t list) doc there in
+        let (inside, held) = filter-from (holds t) p list among in
+        let some : 1 ≤ p.tf = p.counted in
+        let gives : frequency doc t list ≡ p.tf = frequency-of doc t p list whole.ordered inside is (grind (arith, nat_tests)) (grind (arith, nat_tests)) in
+        omega (arith, some, gives, whole.same doc t (omega arith) now)
+
+    to : (doc : ℕ) → 0 < frequency_at h word (record { 0 = doc }) t → Contains (map doc_of (rows_at t list)) doc
+    to doc some =
+        let (p, inside, is, begun, over, gives) = found doc t list (omega (arith, some, whole.same doc t (omega arith) now)) in
+        let held : holds t p ≡ true = grind (arith, nat_tests) in
+        let (k, within, at) = filter-in (holds t) p list inside held in
+        let there = subst (λ (q : Posting). Contains (map doc_of (rows_at t list)) (doc_of q)) at (contains_map doc_of (rows_at t list) k p within) in
+        subst (λ (x : ℕ). Contains (map doc_of (rows_at t list)) x) is there
 
 -- a plan of another kind keeps its bound on space
 within : (list : List Posting) (factor : Fraction) (cuts : List Time) (h : ℕ) → IsCappedPlan list factor cuts h → plan_space list cuts h ≤ cap factor (length list)

@@ -1,5 +1,6 @@
 -- What follows from the definitions: a planned question is bounded, and what is chosen from pages that hold the live plans is the history's.
-use Rattle.std.specs.Prelude.{◌≡◌, ℕ, ◌+◌, ◌*◌, ◌^◌, ◌<◌, ◌≤◌, List, length, Some, None, All, IsSome}
+use Rattle.std.specs.Prelude.{◌≡◌, ◌↔◌, ℕ, ◌+◌, ◌*◌, ◌^◌, ◌<◌, ◌≤◌, List, length, Some, None, All, Contains, IsSome}
+use Rattle.std.specs.List.Sorted.{IsStrictlyIncreasing}
 use Rattle.time_base.specs.declared.ids.DocId.{DocId}
 use Rattle.time_base.specs.declared.posting.Posting.{Posting}
 use Rattle.postings.specs.Sizes.{alive_count}
@@ -16,7 +17,7 @@ use Rattle.query_eval.specs.declared.answer.Row.{Row}
 use Rattle.query_eval.specs.declared.part.Part.{Part}
 use Rattle.query_eval.specs.declared.spans.SpanRow.{SpanRow}
 use Rattle.archive_state.specs.Histories.{History, text_at}
-use Rattle.archive_state.specs.Answers.{IsAnswerAt, IsSpanAnswerAt, IsWordList}
+use Rattle.archive_state.specs.Answers.{IsAnswerAt, IsSpanAnswerAt, IsWordList, frequency_at}
 use Rattle.archive_state.specs.Chosen.{AreChosen, IsReadOf, IsReadFor, IsMadeAt, IsMadeOver, IsDamagedFor}
 use Rattle.archive_state.specs.Holding.{HoldsPlans}
 use Rattle.archive_state.specs.Legal.{IsLoadable}
@@ -24,12 +25,22 @@ use Rattle.archive_state.specs.Planning.{IsListUpTo}
 use Rattle.archive_state.specs.Plans.{plan_of}
 
 -- From the first cut of a word's plan on that keeps to a guarantee, and before its horizon, a question for the word reads at most the plan's factor
--- times as many postings as hold the time: one for each document alive that has the word.
+-- times as many postings as hold the time.
 abbrev pub PlannedReadsAreBounded : Type 0
 PlannedReadsAreBounded =
     (h : History) (word : List ℕ) (plan : PlanEntry) (list : List Posting) (t read : ℕ) → IsLoadable h → plan_of h word ≡ Some plan → plan.kind ≡ Guarantee → IsWordList h word list
     → next_cut (seconds plan.cuts) plan.horizon.seconds ≤ t → t < plan.horizon.seconds → IsReadOf h word (Some plan) t (t + 1) read
     → read * plan.fraction.under ≤ plan.fraction.over * alive_count t list
+
+-- The documents in whose text alive at a time a word occurs, each once, in ascending order.
+pub record AreDocumentsWith (history : History) (word : List ℕ) (t : ℕ) (docs : List ℕ) : Type 0 where
+  pub ascending : IsStrictlyIncreasing docs
+  pub each : (doc : ℕ) → Contains docs doc ↔ (0 < frequency_at history word (record { 0 = doc }) t)
+
+-- As many postings of a word's list hold a time as there are documents in whose text alive then the word occurs.
+abbrev pub HoldersAreDocuments : Type 0
+HoldersAreDocuments =
+    (h : History) (word : List ℕ) (list : List Posting) (t : ℕ) → IsWordList h word list → t < 2 ^ 40 → (docs : List ℕ) × AreDocumentsWith h word t docs × (length docs ≡ alive_count t list)
 
 -- The sublists of a word's plan under a space bound have together at most the plan's factor times as many postings as the word's list up to the
 -- horizon, rounded down.

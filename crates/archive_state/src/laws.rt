@@ -12,7 +12,7 @@ ghost use Rattle.archive_state.specs.Steps.{Reply, Planned, Summary, Step};
 ghost use Rattle.archive_state.specs.Runs.{Outcome};
 ghost use Rattle.archive_state.specs.Stands.{Stands, IsNotArchive, bodies_of};
 ghost use Rattle.archive_state.specs.Worlds.{World};
-ghost use Rattle.archive_state.specs.Bounds.{PlannedReadsAreBounded, PlannedSpaceIsCapped, MadeAtStands, MadeOverStands, HeldIsUndamaged, UnplannedHitsAreAlive};
+ghost use Rattle.archive_state.specs.Bounds.{HoldersAreDocuments, PlannedReadsAreBounded, PlannedSpaceIsCapped, MadeAtStands, MadeOverStands, HeldIsUndamaged, UnplannedHitsAreAlive};
 
 /// A history is legal exactly where each of its entries is legal after those before it, and a load
 /// accepts each legal history. A history's journal ends with one byte behind its records, the closed
@@ -51,10 +51,11 @@ pub fn an_archive_is_refused_at_one_place()
 {}
 
 /// A question for a word whose plan keeps to a guarantee, for a time from the plan's first cut on and
-/// before its horizon, reads at most the plan's factor times as many postings as documents alive have
-/// the word. Does nothing.
+/// before its horizon, reads at most the plan's factor times as many postings as hold the time; and as
+/// many hold it as documents have the word in their text alive then. Does nothing.
 pub fn planned_reads_are_bounded()
-    ensures { PlannedReadsAreBounded }
+    ensures postings { PlannedReadsAreBounded }
+    ensures documents { HoldersAreDocuments }
 {}
 
 /// A plan under a space bound takes at most its factor times as many postings as the word's list up to
