@@ -1,5 +1,5 @@
 //! The answer to a query over a window.
-ghost use Rattle.std.specs.Prelude.{[]};
+ghost use Rattle.std.specs.Prelude.{◌≡◌, []};
 
 use super::given::{listed, read};
 use query_eval::{Lists, Part, SpanRow, answer_between, answer_over};
@@ -142,7 +142,9 @@ fn rows_are_the_longest_spans_of_one_score(rt: HostRuntime) {
 }
 
 /// That document 1 has a word twice over these times.
-fn twice(span: Span) -> Posting {
+fn twice(span: Span) -> Posting
+    ensures { result.span ≡ span }
+{
     Posting {
         doc: DocId(1),
         span,
