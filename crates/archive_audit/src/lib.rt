@@ -1,8 +1,8 @@
-//! The audit of an archive: its two files are read, what its check tells is shown, and nothing is written.
+//! The audit of an archive: it reads the two files, shows what a check finds, and writes nothing.
 //!
-//! `audit` opens the archive of a machine's disk to read it alone, has it checked by its texts, and shows
-//! the verdict's line on the sink. It makes no write and no sync, so no image that a stop may leave changes
-//! (`specs/Audits.antt`). Its status says how it ended, and each cause is in its contract.
+//! `audit` opens the archive on a machine's disk for reading only, checks it against its own texts, and
+//! shows the verdict's line on the sink. It makes no write and no sync, so the images that a crash may
+//! leave stay the same (`specs/Audits.antt`). Its status says how it ended; the contract has each cause.
 #![tactic(auto)]
 
 mod laws;

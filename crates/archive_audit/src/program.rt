@@ -16,21 +16,23 @@ use crate::verdict::verdict_of;
 use machine_model::Machine;
 use std::alloc::Global;
 
-/// Whether an audit refuses these words of the command line, without the program's name, before it
-/// touches anything: each word is one too many. Constant cost.
+/// Whether an audit refuses these words of the command line, given without the program's name. It takes
+/// no words, and refuses any before it touches anything. Constant cost.
 pub fn are_refused(words: &[String]) -> bool
     ensures { IsTrue result ↔ (1 ≤ length words.now) }
 {
     !words.is_empty()
 }
 
-/// Audits the archive of a machine: `words` are those of the command line without the program's name.
+/// Audits the archive of a machine. `words` are those of the command line, without the program's name;
+/// there may be none.
 ///
-/// There may be no word. Then the archive of the machine's disk is opened to read it alone, it is
-/// checked by its texts, and the verdict's line is shown. A journal of at most 17 bytes is that of an
-/// archive without entries, of which all is sound. The first event that ends the audit decides the status.
+/// `audit` opens the archive on the machine's disk for reading only, checks it against its own texts,
+/// and shows the verdict's line. A journal of at most 17 bytes is that of an archive without entries,
+/// which is sound. The first event that ends the audit decides the status. `docs/claims.md` says in
+/// words what each clause promises.
 ///
-/// Costs what `Archive::open_to_read` and `Archive::verify` do.
+/// Costs what `Archive::open_to_read` and `Archive::verify` cost.
 pub fn audit<M: Machine>(alloc: Global, words: &[String], machine: &mut M) -> AuditStatus
     // Any word is one too many, and then nothing is touched.
     ensures usage { (result ≡ AuditStatus.Usage) ↔ (1 ≤ length words.now) }

@@ -29,9 +29,9 @@ use program_words::{Task, WordsError, read_words};
 use std::alloc::Global;
 use sublist_store::Damage;
 
-/// How a run ends at once by these words of the command line, without the program's name: where they
-/// ask for nothing, or there is no memory to read them. None where a run goes on. So words are looked at
-/// before any file is opened. Costs the words' length.
+/// Says how a run ends at once because of these words of the command line, given without the program's
+/// name: they ask for nothing, or there is no memory to read them. `None` where the run goes on. A
+/// program calls this before it opens any file. Costs the length of the words.
 pub fn refusal_of(alloc: Global, words: &[String]) -> Option<Status>
     ensures refused { IfSome result (λ status. (status ≡ Status.Memory) ⊎ ((status ≡ Status.Usage) × AreNoWords (texts words.now))) }
     ensures taken { IfNone result ((task : PlainTask) × AreWords (texts words.now) task) }
@@ -42,7 +42,7 @@ pub fn refusal_of(alloc: Global, words: &[String]) -> Option<Status>
     }
 }
 
-/// What the words ask for, or how the run ends at once.
+/// Reads what the words ask for, or says how the run ends at once.
 fn task_of(alloc: Global, words: &[String]) -> Result<Task, Status>
     ensures read { IfOk result (AreWords (texts words.now)) }
     ensures refused { IfErr result (λ status. (status ≡ Status.Memory) ⊎ ((status ≡ Status.Usage) × AreNoWords (texts words.now))) }
@@ -54,13 +54,13 @@ fn task_of(alloc: Global, words: &[String]) -> Result<Task, Status>
     }
 }
 
-/// Runs the program on a machine: `words` are those of the command line without the program's name.
+/// Runs the program on a machine. `words` are those of the command line, without the program's name.
 ///
-/// Where they ask for the commands of the input, the archive of the machine's disk is loaded, the items
-/// of its source are carried out one after another, and each reply is shown whole before more of the
-/// input is pulled. Where they ask for a sample, its commands are carried out on an archive without
-/// entries, and two lines are shown of what came of them. The first event that ends the run decides the
-/// status.
+/// Where the words ask for the script, `run` loads the archive from the machine's disk and carries out
+/// the items of its source one after another. It shows each reply whole before it pulls more input.
+/// Where they ask for a sample, `run` carries out the sample's commands on an archive without entries,
+/// and shows two lines about them. The first event that ends the run decides the status.
+/// `docs/claims.md` says in words what each clause promises, and under which premises.
 ///
 /// Costs the length of the journal once, and for each command what its call of the archive costs.
 pub fn run<M: Machine>(alloc: Global, words: &[String], machine: &mut M) -> Status
