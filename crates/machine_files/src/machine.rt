@@ -5,11 +5,13 @@ ghost use Rattle.machine_files.specs.Stores.{IsNotedAlike};
 ghost use Rattle.machine_files.specs.Meaning.{source_state, sink_state, disk_state};
 
 use crate::fault_count::FaultCount;
+use crate::lock::LockFile;
+use crate::open_error::OpenError;
 use crate::progress::Progress;
 use crate::read_file::ReadFile;
 use crate::store::Store;
 use crate::watched::{WatchedFile, WatchedStream};
-use machine_model::{Failed, Machine};
+use machine_model::Machine;
 use std::fs::{Files, OpenFile};
 use std::io;
 use std::io::{Printer, Read, Seek, Write};
@@ -31,15 +33,19 @@ pub struct FileMachine<F, I, O> {
 
 /// Makes the machine of the working folder's files, `archive.journal` and `archive.pages`, and the
 /// standard streams. The files are made where they are missing. What they hold stays, and none of
-/// it is read.
+/// it is read. The machine has the exclusive lock of the journal until it is dropped. It takes the
+/// lock before it asks anything of the journal, and before it opens or makes `archive.pages`. What a
+/// lock keeps out no clause says: *tested* on the built programs.
 ///
-/// `Failed`: a file or the folder can't be opened, or a file is longer than 2^40 bytes; a file that
-/// was made by then stays, empty. Costs a few calls of the system, however long the files are.
+/// `Held`: somebody else has a lock of the journal, or the journal isn't the file at its path any
+/// more; `NoLock`: it can't be locked; `Failed`: a file or the folder can't be opened, or a file is
+/// longer than 2^40 bytes. A file that was made by then stays, empty. Costs a few calls of the
+/// system, however long the files are, and waits for nobody's lock.
 pub fn open_machine<R: Files + Input + Print>(
     rt: &R,
-) -> Result<FileMachine<R::File, R::Reader, Printer<'_, R>>, Failed>
+) -> Result<FileMachine<R::File, R::Reader, Printer<'_, R>>, OpenError>
 where
-    R::File: FileExt,
+    R::File: FileExt + LockFile,
     ensures source { IfOk result (λ x. source_state x ≡ source_from 0) }
     ensures sink { IfOk result (λ x. sink_state x ≡ sink_from 0) }
     ensures disk { IfOk result (λ x. (disk_state x).faults ≡ 0) }
@@ -50,15 +56,18 @@ where
 
 /// Makes a machine that reads the working folder's files, `archive.journal` and `archive.pages`, and
 /// the standard streams. Its calls that write or sync fail, and do nothing. No file is made, and none
-/// is read yet.
+/// is read yet. The machine has a shared lock of the journal until it is dropped: others that read
+/// may have one too, and nobody that writes.
 ///
-/// `Failed`: a file is missing, a file or the folder can't be opened, or a file is longer than 2^40
-/// bytes. Costs a few calls of the system, however long the files are.
+/// `Held`: somebody else has the exclusive lock of the journal, or the journal isn't the file at its
+/// path any more; `NoLock`: it can't be locked; `Failed`: a file is missing, a file or the folder
+/// can't be opened, or a file is longer than 2^40 bytes. Costs a few calls of the system, however
+/// long the files are, and waits for nobody's lock.
 pub fn open_to_read<R: Files + Input + Print>(
     rt: &R,
-) -> Result<FileMachine<ReadFile<R::File>, R::Reader, Printer<'_, R>>, Failed>
+) -> Result<FileMachine<ReadFile<R::File>, R::Reader, Printer<'_, R>>, OpenError>
 where
-    R::File: FileExt,
+    R::File: FileExt + LockFile,
     ensures source { IfOk result (λ x. source_state x ≡ source_from 0) }
     ensures sink { IfOk result (λ x. sink_state x ≡ sink_from 0) }
     ensures disk { IfOk result (λ x. (disk_state x).faults ≡ 0) }

@@ -5,6 +5,8 @@ ghost use Rattle.machine_model.specs.Calls.{IsPartlyReached};
 ghost use Rattle.machine_files.specs.Stores.{lengths, IsNotedAlike};
 
 use crate::area_file::AreaFile;
+use crate::lock::{Hold, LockFile, lock_at};
+use crate::open_error::OpenError;
 use crate::progress::Progress;
 use crate::read_file::ReadFile;
 use crate::watched::WatchedFile;
@@ -51,16 +53,30 @@ fn open_kept<R: Files>(rt: &R, how: &OpenOptions, name: &str) -> io::Result<R::F
     file.try_clone()
 }
 
-/// Opens the file of one area in the working folder.
-fn open_area<R: Files>(rt: &R, how: &OpenOptions, area: Area) -> Result<R::File, Failed> {
-    let name = match area {
+/// The name of an area's file in the working folder.
+fn name_of(area: Area) -> &'static str {
+    match area {
         Area::Journal => "archive.journal",
         Area::Pages => "archive.pages",
-    };
-    match open_kept(rt, how, name) {
+    }
+}
+
+/// Opens the file of one area in the working folder.
+fn open_area<R: Files>(rt: &R, how: &OpenOptions, area: Area) -> Result<R::File, Failed> {
+    match open_kept(rt, how, name_of(area)) {
         Ok(file) => Ok(file),
         Err(_) => Err(Failed),
     }
+}
+
+/// Opens the journal of the working folder, and takes its lock, which is kept as long as the handle.
+fn open_journal<R: Files>(rt: &R, how: &OpenOptions, lock: Hold) -> Result<R::File, OpenError>
+where
+    R::File: LockFile,
+{
+    let journal = open_area(rt, how, Area::Journal)?;
+    lock_at(rt, &journal, name_of(Area::Journal), lock)?;
+    Ok(journal)
 }
 
 /// Opens the working folder, so that the names in it can be made durable.
@@ -72,37 +88,43 @@ fn open_folder<R: Files>(rt: &R) -> Result<R::File, Failed> {
 }
 
 impl<F: FileExt + Seek + OpenFile> Store<F> {
-    /// Opens both files of the working folder. Where that fails, no call of an archive is made.
-    pub(crate) fn open<R: Files<File = F>>(rt: &R) -> Result<Store<F>, Failed>
+    /// Opens both files of the working folder, with the exclusive lock of the journal. Where that
+    /// fails, no call of an archive is made.
+    pub(crate) fn open<R: Files<File = F>>(rt: &R) -> Result<Store<F>, OpenError>
     where
-        F: Drop,
+        F: LockFile + Drop,
         ensures journal { IfOk result (λ s. s.journal.is_synced ≡ false) }
         ensures pages { IfOk result (λ s. s.pages.is_synced ≡ false) }
     {
-        Store::open_as(rt, &to_write(), |file| file)
+        Store::open_as(rt, &to_write(), Hold::Alone, |file| file)
     }
 
-    /// Opens both files of the working folder to read them alone. None is made.
-    pub(crate) fn open_to_read<R: Files<File = F>>(rt: &R) -> Result<Store<ReadFile<F>>, Failed>
+    /// Opens both files of the working folder to read them alone, with a shared lock of the journal.
+    /// None is made.
+    pub(crate) fn open_to_read<R: Files<File = F>>(rt: &R) -> Result<Store<ReadFile<F>>, OpenError>
     where
-        F: Drop,
+        F: LockFile + Drop,
     {
-        Store::open_as(rt, &to_read(), ReadFile::new)
+        Store::open_as(rt, &to_read(), Hold::Shared, ReadFile::new)
     }
 
-    /// Opens both files of the working folder in this way, and takes each as `taken` gives it.
+    /// Opens both files of the working folder in this way, and takes each as `taken` gives it. The
+    /// journal's lock comes first: before it nothing is asked of the journal, and nothing else is
+    /// opened or made.
     fn open_as<R: Files, T: Fn(R::File) -> F + Drop>(
         rt: &R,
         how: &OpenOptions,
+        lock: Hold,
         taken: T,
-    ) -> Result<Store<F>, Failed>
+    ) -> Result<Store<F>, OpenError>
     where
+        R::File: LockFile,
         F: Drop,
         requires { T.IsAlwaysCallable taken }
         ensures journal { IfOk result (λ s. s.journal.is_synced ≡ false) }
         ensures pages { IfOk result (λ s. s.pages.is_synced ≡ false) }
     {
-        let journal = AreaFile::new(taken(open_area(rt, how, Area::Journal)?))?;
+        let journal = AreaFile::new(taken(open_journal(rt, how, lock)?))?;
         let pages = AreaFile::new(taken(open_area(rt, how, Area::Pages)?))?;
         let folder = taken(open_folder(rt)?);
         Ok(Store {

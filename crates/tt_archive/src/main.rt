@@ -6,40 +6,50 @@
 //! the status line and the exit status.
 #![tactic(auto)]
 
-ghost use Rattle.std.specs.Prelude.{◌≡◌};
+ghost use Rattle.std.specs.Prelude.{◌≡◌, Err, IfOk, IfErr};
 ghost use Rattle.std.specs.Process.{exit_status};
 ghost use Rattle.archive_shell.specs.Statuses.{code_of};
+ghost use Rattle.machine_files.specs.Opening.{open_code};
 
 use archive_shell::{Status, refusal_of, run};
-use machine_files::{ArgumentsError, Progress, arguments, finish, open_machine};
+use machine_files::{
+    ArgumentsError, OpenError, OpenLine, Progress, arguments, finish, open_machine,
+};
 use std::process::ExitCode;
 
 fn main(rt: HostRuntime) -> ExitCode {
     ended(&rt, run_here(&rt))
 }
 
-/// The exit status of a status, whose line is printed unless it is `Done` (tested).
-fn ended<R: Eprint>(rt: &R, status: Status) -> ExitCode
-    ensures { exit_status result ≡ code_of status }
+/// The exit status of a run, or of files that were not opened, so that there was none. Its line is
+/// printed unless the status is `Done` (tested). It is 11 only where another program is at work.
+fn ended<R: Eprint>(rt: &R, end: Result<Status, OpenError>) -> ExitCode
+    ensures run { IfOk end (λ s. exit_status result ≡ code_of s) }
+    ensures unopened { IfErr end (λ e. exit_status result ≡ open_code e) }
+    ensures held { exit_status result ≡ 11 → end ≡ Err OpenError.Held }
 {
-    finish(rt, status.code(), status)
+    match end {
+        Ok(status) => finish(rt, status.code(), status),
+        Err(error) => {
+            let program = "tt_archive";
+            finish(rt, error.code(), OpenLine { program, error })
+        }
+    }
 }
 
 /// Reads the words of the command line, and then opens the files of the working folder and runs
 /// the words on them. Words that are refused touch no file. Long work is told of on standard error.
-fn run_here(rt: &HostRuntime) -> Status {
+fn run_here(rt: &HostRuntime) -> Result<Status, OpenError> {
     let words = match arguments(rt) {
         Ok(words) => words,
-        Err(ArgumentsError::NotText) => return Status::Usage,
-        Err(ArgumentsError::Memory) => return Status::Memory,
+        Err(ArgumentsError::NotText) => return Ok(Status::Usage),
+        Err(ArgumentsError::Memory) => return Ok(Status::Memory),
     };
     if let Some(status) = refusal_of(rt.alloc(), &words) {
-        return status;
+        return Ok(status);
     }
-    let Ok(machine) = open_machine(rt) else {
-        return Status::Disk;
-    };
+    let machine = open_machine(rt)?;
     let progress = Progress::new("tt_archive", rt, rt.stderr());
     let mut machine = machine.watched(&progress);
-    run(rt.alloc(), &words, &mut machine)
+    Ok(run(rt.alloc(), &words, &mut machine))
 }
