@@ -94,7 +94,7 @@ class FolderImport(ArchiveCase):
 
     def test_one_at_a_time(self) -> None:
         with self.open():
-            self.assertIn("another tt is at work", self.tt("status", status=1).stderr)
+            self.assertIn("another tt is at work", self.tt("--wait", 0, "status", status=1).stderr)
 
     def test_the_command_by_itself(self) -> None:
         done = subprocess.run([TOOLS / "tt", "-C", self.archive, "find", "bridge"], capture_output=True, text=True)

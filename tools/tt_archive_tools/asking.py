@@ -9,13 +9,15 @@ from fractions import Fraction
 from typing import Sequence
 
 from . import commands
-from .collection import SHARDS, Collection, locked, shards_of
+from .collection import SHARDS, Collection, shards_of
 from .errors import ToolError
 from .journal import StoredPlan, summary
 from .ledger import FILE as LEDGER
 from .ledger import Ledger
+from .locks import locked
 from .names import FILE as NAMES
 from .names import NameTable
+from .opening import archive_of, claim_of
 from .program import find_program
 from .replies import Gone, Hit, Planned, Refused, Rows, Span, Text, Verdict, merge_rows
 from .shards import ask_with_parallel
@@ -54,7 +56,7 @@ def between(options: argparse.Namespace) -> None:
 
 def show(options: argparse.Namespace) -> None:
     at = parse_time(options.at)
-    with Collection(options.archive, find_program(options.program)) as collection:
+    with archive_of(options) as collection:
         doc = collection.names.number(options.name)
         reply = collection.ask_side(collection.side_of(doc), commands.show(doc, at))
     match reply:
@@ -68,7 +70,7 @@ def show(options: argparse.Namespace) -> None:
 
 def plan(options: argparse.Namespace) -> None:
     form = _form(" ".join(options.form))
-    with Collection(options.archive, find_program(options.program)) as collection:
+    with archive_of(options) as collection:
         replies = collection.ask_all(commands.plan(options.word, form))
         plans = [reply for reply in replies if isinstance(reply, Planned)]
         if not plans:
@@ -104,7 +106,7 @@ def _form(words: str) -> str:
 
 
 def status(options: argparse.Namespace) -> None:
-    with Collection(options.archive, find_program(options.program)) as collection:
+    with archive_of(options) as collection:
         held = summary(collection.shards)
         names = len(collection.names)
         shards = collection.shards
@@ -129,7 +131,7 @@ def status(options: argparse.Namespace) -> None:
 
 
 def verify(options: argparse.Namespace) -> None:
-    with Collection(options.archive, find_program(options.program)) as collection:
+    with archive_of(options) as collection:
         replies = collection.ask_all(commands.verify())
     words = segments = 0
     for reply in replies:
@@ -168,14 +170,14 @@ def _live(plans: Sequence[StoredPlan]) -> str:
 
 def _rows(options: argparse.Namespace, question: bytes) -> tuple[Rows, NameTable]:
     """The rows of a question and the names of their documents."""
-    command = find_program(options.program)
     if not (options.parallel or options.sshlogin):
-        with Collection(options.archive, command) as collection:
+        with archive_of(options) as collection:
             return collection.ask_rows(question), collection.names
     if not (options.archive / SHARDS).exists():
         raise ToolError(f"{options.archive} isn't split: `tt shard` does so")
-    with locked(options.archive):
-        replies = ask_with_parallel(shards_of(options.archive), command, options.sshlogin, question)
+    command = find_program(options.program)
+    with locked(options.archive, claim_of(options)) as lock:
+        replies = ask_with_parallel(shards_of(options.archive), command, options.sshlogin, question, lock)
         names = NameTable(options.archive / NAMES)
     return merge_rows(Collection.rows_of(reply) for reply in replies), names
 

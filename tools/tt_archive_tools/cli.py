@@ -3,12 +3,15 @@
 from __future__ import annotations
 
 import argparse
+import shlex
 import sys
 from importlib import import_module
 from pathlib import Path
 from typing import Sequence, TypeAlias
 
 from .errors import ToolError
+from .stops import Stopped, stops_in_order
+from .times import parse_wait
 from .wording import one_line
 
 #: The commands of a parser, or the sources of `import`.
@@ -21,22 +24,26 @@ _TIME = "a date (2007, 2007-07, 2007-07-23, 2007-07-23T12:30:00, all UTC), @SECO
 
 
 def main(words: Sequence[str] | None = None) -> int:
-    """Carries out one command; the exit status is 0, 1 for an error, 2 for wrong words, 130 when
-    stopped from the keyboard."""
+    """Carries out one command; the exit status is 0, 1 for an error, 2 for wrong words, and when
+    stopped by a signal what a shell says of it: 130 from the keyboard, 143 by TERM, 129 by HUP."""
     for stream in (sys.stdout, sys.stderr):
         # Names may have bytes that aren't UTF-8; they are shown as they are.
         stream.reconfigure(errors="surrogateescape")  # type: ignore[union-attr]
+    words = sys.argv[1:] if words is None else words
     options = _parser().parse_args(words)
+    options.command = shlex.join(("tt", *words))
     try:
-        module, function = options.run.split(".")  # only what is needed for this command is loaded
-        getattr(import_module(f".{module}", __package__), function)(options)
-        sys.stdout.flush()
+        with stops_in_order():
+            options.wait = parse_wait(options.wait)
+            module, function = options.run.split(".")  # only what is needed for this command is loaded
+            getattr(import_module(f".{module}", __package__), function)(options)
+            sys.stdout.flush()
     except ToolError as error:
         print(f"tt: {one_line(str(error))}", file=sys.stderr)
         return 1
-    except KeyboardInterrupt:
+    except Stopped as stopped:
         print(f"tt: {_STOPPED}", file=sys.stderr)
-        return 130
+        return stopped.status
     except BrokenPipeError:
         sys.stderr.close()
         return 1
@@ -51,6 +58,7 @@ def _parser() -> argparse.ArgumentParser:
     add = parser.add_argument
     add("-C", "--archive", type=Path, default=Path("."), metavar="FOLDER", help="the archive's folder (here)")
     add("--program", metavar="WORDS", help="the tt_archive to run ($TT_ARCHIVE, on the path, or built here)")
+    add("--wait", default="10s", metavar="TIME", help="how long to wait while another is at work in the folder (10s)")
     add("-q", "--quiet", action="store_true", help="no progress on a terminal")
     kinds = parser.add_subparsers(required=True, metavar="COMMAND")
     _add_filling(kinds)

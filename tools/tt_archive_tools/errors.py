@@ -14,6 +14,10 @@ class InputError(ToolError):
         super().__init__(f"{place}: {what}")
 
 
+class InUse(ToolError):
+    """Another process is at work in the folder."""
+
+
 class NotBuilt(ToolError):
     """The program answered that it doesn't know a command."""
 

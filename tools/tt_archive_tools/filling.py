@@ -9,6 +9,7 @@ from .changes import Notes
 from .collection import Collection, make_archive
 from .errors import ToolError
 from .feeding import Progress, Tally, import_source
+from .opening import archive_of, claim_of
 from .program import find_program
 from .sources import Source
 from .texts import Reading
@@ -17,25 +18,25 @@ from .wording import counted, one_line
 
 
 def init(options: argparse.Namespace) -> None:
-    make_archive(options.folder, find_program(options.program))
+    make_archive(options.folder, find_program(options.program), claim_of(options))
     print(f"an archive is in {options.folder}")
 
 
 def shard(options: argparse.Namespace) -> None:
     from .shards import make_shards, split
 
-    command = find_program(options.program)
+    command, claim = find_program(options.program), claim_of(options)
     if options.empty:
         make_shards(options.into, options.count)
-        with Collection(options.into, command):
+        with Collection(options.into, command, claim):
             pass
         print(f"{counted(options.count, 'empty archive')}, in {options.into}")
         return
-    with Collection(options.archive, command) as archive:
+    with archive_of(options) as archive:
         if len(archive.shards) > 1:
             raise ToolError(f"{options.archive} is split already")
         make_shards(options.into, options.count)
-        with Collection(options.into, command) as shards:
+        with Collection(options.into, command, claim) as shards:
             entries = split(archive, shards)
     print(f"{entries} versions and deletions are in {counted(options.count, 'archive')} in {options.into}")
 
@@ -51,7 +52,7 @@ def import_from(source: Source, options: argparse.Namespace) -> None:
     notes = Notes(tell, progress.show)
     reading = Reading(options.charset, options.keep_html)
     try:
-        with Collection(options.archive, find_program(options.program)) as collection:
+        with archive_of(options) as collection:
             tally = import_source(collection, source, reading, notes, progress)
     finally:
         progress.clear()
