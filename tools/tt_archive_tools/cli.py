@@ -98,6 +98,7 @@ def _add_sources(parser: argparse.ArgumentParser) -> None:
     warc.add_argument("files", type=Path, nargs="+", metavar="FILE.warc[.gz]")
     folder = _command(sources, "folder", "importing.import_folder", "import folders with dates, or files by time")
     folder.add_argument("trees", type=Path, nargs="+", metavar="TREE")
+    folder.add_argument("--by-time", action="store_true", help="each file at its last change, whatever folders are called")
     for source in (git, wiki, warc, folder):
         source.add_argument("--prefix", default="", help="what the documents' names begin with")
         source.add_argument("--charset", help="the character set of what isn't UTF-8 and doesn't declare its own")
