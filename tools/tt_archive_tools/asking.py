@@ -12,8 +12,8 @@ from . import commands
 from .collection import SHARDS, Collection, shards_of
 from .errors import ToolError
 from .journal import StoredPlan, summary
+from .ledger import BEGIN, END, Ledger
 from .ledger import FILE as LEDGER
-from .ledger import Ledger
 from .locks import locked
 from .names import FILE as NAMES
 from .names import NameTable
@@ -125,9 +125,10 @@ def status(options: argparse.Namespace) -> None:
         print(f"plan       {one_line(word)} {_live(plans)}")
     if len(held.live) > _MOST_PLANS:
         print(f"           and of {len(held.live) - _MOST_PLANS} words more")
-    ends = {line.source: line for line in lines if line.ended}
+    ends = {line.source: line for line in lines if line.kind != BEGIN}
     for source, line in ends.items():
-        print(f"imported   {source}, until {'-' if line.last is None else show_time(line.last)}")
+        how = "imported   {}, until {}" if line.kind == END else "refused    {}, at {}"
+        print(how.format(source, "-" if line.last is None else show_time(line.last)))
 
 
 def verify(options: argparse.Namespace) -> None:

@@ -8,7 +8,7 @@ import sys
 from .changes import Notes
 from .collection import Collection, make_archive
 from .errors import ToolError
-from .feeding import Progress, Tally, import_source
+from .feeding import Feeder, Progress
 from .opening import archive_of, claim_of
 from .program import find_program
 from .sources import Source
@@ -42,7 +42,7 @@ def shard(options: argparse.Namespace) -> None:
 
 
 def import_from(source: Source, options: argparse.Namespace) -> None:
-    """Feeds the archive of a command from a source, and tells how that went."""
+    """Feeds the archive of a command from a source, or tries that, and tells how it went."""
     progress = Progress(not options.quiet)
 
     def tell(line: str) -> None:
@@ -53,21 +53,35 @@ def import_from(source: Source, options: argparse.Namespace) -> None:
     reading = Reading(options.charset, options.keep_html)
     try:
         with archive_of(options) as collection:
-            tally = import_source(collection, source, reading, notes, progress)
+            feeder = _feeder(options)(collection, source.identity, notes, progress)
+            feeder.feed(source.changes(reading, notes))
     finally:
         progress.clear()
-    _report(tally, notes)
+    _report(feeder, notes)
+    if feeder.tally.refused_all:
+        raise ToolError("all is refused, and nothing of it is in the archive")
 
 
-def _report(tally: Tally, notes: Notes) -> None:
-    print(f"{counted(tally.arrived, 'version')} and {counted(tally.ended, 'deletion')} are in the archive")
+def _feeder(options: argparse.Namespace) -> type[Feeder]:
+    if not options.dry_run:
+        return Feeder
+    from .trying import Trier  # loaded where it is needed
+
+    return Trier
+
+
+def _report(feeder: Feeder, notes: Notes) -> None:
+    tally = feeder.tally
+    print(f"{counted(tally.arrived, 'version')} and {counted(tally.ended, 'deletion')} {feeder.taken}")
+    for line in feeder.prospect():
+        print(one_line(line))
     if tally.before:
         print(f"imported before, until {show_time(tally.before_until)}: {counted(tally.before, 'change')}")
     if tally.late:
         why = "since an archive takes nothing before its last time"
         print(f"of these new in the source, and too late, {why}: {tally.late}")
     for name, count in tally.refused.items():
-        print(f"refused, {name}: {count}")
+        print(f"{feeder.refused}, {name}: {count}")
     for kind, count in notes.counts.items():
         if not kind.startswith("refused: "):
             print(f"{kind}: {count}")
