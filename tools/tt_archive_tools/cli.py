@@ -39,7 +39,8 @@ def main(words: Sequence[str] | None = None) -> int:
             getattr(import_module(f".{module}", __package__), function)(options)
             sys.stdout.flush()
     except ToolError as error:
-        print(f"tt: {one_line(str(error))}", file=sys.stderr)
+        for line in (f"tt: {one_line(str(error))}", *error.shown):
+            print(line, file=sys.stderr)
         return 1
     except Stopped as stopped:
         print(f"tt: {_STOPPED}", file=sys.stderr)
@@ -81,8 +82,8 @@ def _add_filling(kinds: Kinds) -> None:
     shard.add_argument("count", type=int, metavar="N")
     shard.add_argument("into", type=Path, metavar="INTO")
     shard.add_argument("--empty", action="store_true", help="make empty archives, to import into")
-    _command(kinds, "status", "asking.status", "tell what the archive holds")
-    _command(kinds, "verify", "asking.verify", "check what the plans store by the archive's own texts")
+    _command(kinds, "status", "telling.status", "tell what the archive holds")
+    _command(kinds, "verify", "telling.verify", "check what the plans store by the archive's own texts")
 
 
 def _add_sources(parser: argparse.ArgumentParser) -> None:
@@ -110,8 +111,10 @@ def _add_questions(kinds: Kinds) -> None:
     find = _command(kinds, "find", "asking.find", "find the documents that had these words at a time")
     find.add_argument("words", metavar="WORDS", help="words, and, or, not, parentheses")
     find.add_argument("--at", default="now", metavar="TIME", help=_TIME)
+    find.add_argument("--snippets", action="store_true", help="show the words in the texts that were found")
     between = _command(kinds, "between", "asking.between", "find when documents had these words")
     between.add_argument("words", metavar="WORDS")
+    between.set_defaults(snippets=False)
     between.add_argument("--from", dest="start", default="1970", metavar="TIME", help=_TIME)
     between.add_argument("--to", dest="end", default="now", metavar="TIME", help="the first time not asked about")
     for question in (find, between):
@@ -122,7 +125,7 @@ def _add_questions(kinds: Kinds) -> None:
     show = _command(kinds, "show", "asking.show", "show a document's text at a time")
     show.add_argument("name", metavar="NAME", help="the document's name, or #NUMBER")
     show.add_argument("--at", default="now", metavar="TIME", help=_TIME)
-    plan = _command(kinds, "plan", "asking.plan", "store a plan of a word's list, which bounds reading or space")
+    plan = _command(kinds, "plan", "planning.plan", "store a plan of a word's list, which bounds reading or space")
     plan.add_argument("word", metavar="WORD")
     plan.add_argument("form", nargs="+", metavar="FORM", help="guarantee A/B, space A/B uniform, space A/B since TIME; 1.5 is 3/2")
 

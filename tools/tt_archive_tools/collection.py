@@ -18,7 +18,7 @@ from types import TracebackType
 from typing import Any, Callable, Iterator, Sequence
 
 from . import commands
-from .errors import InUse, NotBuilt, ProgramFailed, ToolError
+from .errors import BadQuery, InUse, NotBuilt, ProgramFailed, ToolError
 from .ledger import FILE as IMPORTS
 from .locks import Claim, locked, patiently
 from .names import FILE as NAMES
@@ -170,7 +170,7 @@ class Collection:
         if isinstance(reply, Rows):
             return reply
         if isinstance(reply, Refused) and reply.name == "BadQuery":
-            raise ToolError(f"what is asked is no query, which shows at its byte {reply.detail}")
+            raise BadQuery(int(reply.detail))
         raise ToolError(f"the question was refused: {reply}")
 
     def _take(self, timeout: float | None) -> None:
