@@ -89,6 +89,8 @@ for line in sys.stdin.buffer:
     match line.split():
         case [b"delete", _, _]:
             print("no 4 NoDocument", flush=True)
+        case [b"show", _, _]:
+            print("none", flush=True)
         case [b"arrive", doc, _, size]:
             sys.stdin.buffer.read(int(size) + 1)
             refusal = {refusal}

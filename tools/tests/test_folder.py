@@ -5,6 +5,7 @@ from __future__ import annotations
 import os
 import subprocess
 import sys
+from datetime import datetime, timezone
 
 from support import TOOLS, ArchiveCase, stand_in
 
@@ -52,6 +53,27 @@ class FolderImport(ArchiveCase):
         self.assertIn("1 version and 1 deletion are in the archive", done.stdout)
         self.assertEqual(self.texts_at(START + 3 * DAY), [{"two.txt": "Second again."}])
 
+    def test_snapshots_named_by_year_or_month(self) -> None:
+        self.write("2001-01-01/a/x.txt", "first")
+        self.write("2002/a/x.txt", "second")
+        self.write("2003-06/a/x.txt", "third")
+        done = self.tt("import", "folder", self.folder / "tree")
+        self.assertEqual(done.stderr, f"{self.folder}/tree: 3 snapshots, 2001-01-01 to 2003-06-01\n")
+        times = [int(datetime(*day, tzinfo=timezone.utc).timestamp()) for day in ((2001, 1, 1), (2002, 1, 1), (2003, 6, 1))]
+        texts = [{}, *({"a/x.txt": text} for text in ("first", "first", "second", "second", "third"))]
+        self.assertEqual(self.texts_at(*(time + s for time in times for s in (-1, 0))), texts)
+
+    def test_folders_of_both_kinds_are_named_and_refused(self) -> None:
+        self.write("2001-01-01/a/x.txt", "first", START)
+        self.write("2002-13/a/x.txt", "second", START)
+        self.write("spring/a/x.txt", "third", START)
+        done = self.tt("import", "folder", self.folder / "tree", status=1)
+        self.assertIn("these of its folders aren't named by dates, and the others are: 2002-13, spring; name all", done.stderr)
+        self.assertEqual(self.texts_at(START), [{}])
+        done = self.tt("import", "folder", "--by-time", self.folder / "tree")
+        self.assertEqual(done.stderr, f"{self.folder}/tree: 3 files, each at the time of its last change\n")
+        self.assertEqual(len(self.texts_at(START)[0]), 3)
+
     def test_files_by_their_times(self) -> None:
         self.write("b/late.txt", "late", START + 9)
         self.write("early.txt", "early", START)
@@ -94,7 +116,7 @@ class FolderImport(ArchiveCase):
 
     def test_one_at_a_time(self) -> None:
         with self.open():
-            self.assertIn("another tt is at work", self.tt("status", status=1).stderr)
+            self.assertIn("another tt is at work", self.tt("--wait", 0, "status", status=1).stderr)
 
     def test_the_command_by_itself(self) -> None:
         done = subprocess.run([TOOLS / "tt", "-C", self.archive, "find", "bridge"], capture_output=True, text=True)

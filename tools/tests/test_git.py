@@ -156,7 +156,7 @@ class GitImport(ArchiveCase):
         other = Repository(self.folder / "other")
         other.commit(START + DAY, same_txt=b"the same text\n", gone_txt=b"gone before it could come\n")
         other.commit(START + 20 * DAY, same_txt=b"another text\n", gone_txt=None)
-        self.tt("import", "git", other.path, "--branch", "HEAD~1")
+        self.tt("import", "git", other.path, "--branch", "HEAD~1", status=1)
         self.assertEqual(self.texts_at(START + 20 * DAY), [as_texts(self.repository.tree_at(START + 20 * DAY))])
         other.commit(START + 21 * DAY, same_txt=b"the same text\n")
         other.commit(START + 21 * DAY, same_txt=b"the same text\n", last_txt=b"last\n")

@@ -43,8 +43,6 @@ class Questions(ArchiveCase):
         self.assertEqual(self.tt("find", "closed and not ferry", "--at", "2007-07-25", "--tsv").stdout, "1\tbridge\n")
         self.fill([Version(START + 4 * DAY, "gruß", "Grüße an die Brücke")])
         self.assertEqual(self.tt("find", "GRÜSSE brücke", "--tsv").stdout, "2\tgruß\n")
-        done = self.tt("find", "(closed", status=1)
-        self.assertEqual(done.stderr, "tt: what is asked is no query, which shows at its byte 7\n")
 
     @needs("between")
     def test_between(self) -> None:

@@ -107,3 +107,55 @@ class WarcImport(ArchiveCase):
         self.assertRegex(self.tt("import", "warc", file, status=1).stderr, r"record 2 at byte \d+: no WARC record begins here, but b'junk")
         file.write_bytes(gzip.compress(CAPTURES[1])[:-40])
         self.assertIn("a.warc: it can't be read", self.tt("import", "warc", file, status=1).stderr)
+
+
+FLIP, HOP, JUMP, BARE = (f"http://example.org/{name}" for name in ("flip", "hop", "jump", "bare"))
+GONE, SENT, BUSY = (f"WARC-Payload-Digest: sha1:{name}" for name in ("GONE", "SENT", "BUSY"))
+PLAIN = ["Content-Type: text/plain"]
+#: A crawl on each of four days, deduplicated: what has the payload of an earlier capture is a revisit with the status
+#: that the server gave this time.
+DEDUPLICATED = [
+    response("2007-07-01T00:00:00", FLIP, "404 Not Found", HTML, b"<p>Not here.", GONE),
+    response("2007-07-01T00:00:00", HOP, "302 Found", ["Location: /"], b"Elsewhere.", SENT),
+    response("2007-07-01T00:00:00", JUMP, "200 OK", PLAIN, b"A jump.", "WARC-Payload-Digest: sha1:JUMP"),
+    response("2007-07-02T00:00:00", FLIP, "200 OK", PLAIN, b"Here.", "WARC-Payload-Digest: sha1:HERE"),
+    response("2007-07-02T00:00:00", HOP, "200 OK", PLAIN, b"No more hops.", "WARC-Payload-Digest: sha1:HOP"),
+    response("2007-07-02T00:00:00", JUMP, "503 Busy", HTML, b"<p>Later.", BUSY),
+    response("2007-07-03T00:00:00", FLIP, "404 Not Found", HTML, b"", GONE, kind="revisit"),
+    response("2007-07-03T00:00:00", HOP, "302 Found", ["Location: /"], b"", SENT, kind="revisit"),
+    response("2007-07-03T00:00:00", JUMP, "503 Busy", HTML, b"", BUSY, kind="revisit"),
+    response("2007-07-04T00:00:00", FLIP, "200 OK", PLAIN, b"", "WARC-Payload-Digest: sha1:HERE", kind="revisit"),
+    response("2007-07-04T00:00:00", HOP, "304 Not Modified", [], b"", kind="revisit"),
+    response("2007-07-04T00:00:00", BARE, "200 OK", PLAIN, b"Bare.", "WARC-Payload-Digest: sha1:BARE"),
+    record("revisit", "2007-07-05T00:00:00", FLIP, b"", "application/http; msgtype=response", GONE),
+    response("2007-07-05T00:00:00", BARE, "200 OK", PLAIN, b"", GONE, kind="revisit"),
+    record("revisit", "2007-07-04T00:00:00", JUMP, b"", "application/http; msgtype=response", BUSY),
+    record("revisit", "2007-07-04T00:00:00", BARE, b"", "application/http; msgtype=response"),
+    response("2007-07-04T00:00:00", BARE, "200 OK", PLAIN, b"", "WARC-Payload-Digest: sha1:ELSEWHERE", kind="revisit"),
+    record("resource", "2007-07-04T00:00:00", "<metadata://gnu.org/software/wget/warc/wget.log>", b"FINISHED --07:07:07--", "text/plain"),
+    record("resource", "2007-07-04T00:00:00", "metadata://gnu.org/software/wget/warc/wget_arguments.txt", b"-r", "text/plain"),
+]  # fmt: skip
+AFTER_EACH_DAY = {
+    "2007-07-01": {JUMP: "A jump."},
+    "2007-07-02": {FLIP: "Here.", HOP: "No more hops.", JUMP: "A jump."},
+    "2007-07-03": {JUMP: "A jump."},
+    "2007-07-04": {FLIP: "Here.", JUMP: "A jump.", BARE: "Bare."},
+    "2007-07-05": {JUMP: "A jump.", BARE: "Bare."},
+}
+
+
+class Deduplicated(ArchiveCase):
+    def test_a_revisit_says_what_its_own_status_says(self) -> None:
+        file = self.folder / "days.warc"
+        file.write_bytes(b"".join(DEDUPLICATED))
+        done = self.tt("import", "warc", file)
+        for (stamp, texts), found in zip(AFTER_EACH_DAY.items(), self.texts_at(*map(at, AFTER_EACH_DAY))):
+            self.assertEqual(found, texts, stamp)
+        self.assertIn("captures of what wasn't there: 2\n", done.stdout)
+        self.assertIn("captures of redirects: 2\n", done.stdout)
+        self.assertIn("capture with status 503, left out: 2\n", done.stdout)
+        for number in (14, 15):
+            self.assertIn(f"record {number}: revisit of a capture that has no text, left out\n", done.stderr)
+        self.assertIn("record 16: revisit that names no capture's payload, left out\n", done.stderr)
+        self.assertIn("record 17: revisit of a capture that isn't in these files, left out\n", done.stderr)
+        self.assertIn("records of a crawler of itself (metadata:), left out: 2\n", done.stdout)

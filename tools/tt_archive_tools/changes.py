@@ -73,7 +73,7 @@ class Tidier:
         for _, together in groupby(self._from_1970(changes), key=attrgetter("time")):
             last: dict[str, Change] = {}
             for change in together:
-                if change.name in last:
+                if change.name in last and last[change.name].text not in (None, change.text):
                     self._notes.count("versions that another of the same second replaced")
                 last[change.name] = change
             for change in last.values():

@@ -3,12 +3,15 @@
 from __future__ import annotations
 
 import argparse
+import shlex
 import sys
 from importlib import import_module
 from pathlib import Path
 from typing import Sequence, TypeAlias
 
 from .errors import ToolError
+from .stops import Stopped, stops_in_order
+from .times import parse_wait
 from .wording import one_line
 
 #: The commands of a parser, or the sources of `import`.
@@ -21,22 +24,27 @@ _TIME = "a date (2007, 2007-07, 2007-07-23, 2007-07-23T12:30:00, all UTC), @SECO
 
 
 def main(words: Sequence[str] | None = None) -> int:
-    """Carries out one command; the exit status is 0, 1 for an error, 2 for wrong words, 130 when
-    stopped from the keyboard."""
+    """Carries out one command; the exit status is 0, 1 for an error, 2 for wrong words, and when
+    stopped by a signal what a shell says of it: 130 from the keyboard, 143 by TERM, 129 by HUP."""
     for stream in (sys.stdout, sys.stderr):
         # Names may have bytes that aren't UTF-8; they are shown as they are.
         stream.reconfigure(errors="surrogateescape")  # type: ignore[union-attr]
+    words = sys.argv[1:] if words is None else words
     options = _parser().parse_args(words)
+    options.command = shlex.join(("tt", *words))
     try:
-        module, function = options.run.split(".")  # only what is needed for this command is loaded
-        getattr(import_module(f".{module}", __package__), function)(options)
-        sys.stdout.flush()
+        with stops_in_order():
+            options.wait = parse_wait(options.wait)
+            module, function = options.run.split(".")  # only what is needed for this command is loaded
+            getattr(import_module(f".{module}", __package__), function)(options)
+            sys.stdout.flush()
     except ToolError as error:
-        print(f"tt: {one_line(str(error))}", file=sys.stderr)
+        for line in (f"tt: {one_line(str(error))}", *error.shown):
+            print(line, file=sys.stderr)
         return 1
-    except KeyboardInterrupt:
+    except Stopped as stopped:
         print(f"tt: {_STOPPED}", file=sys.stderr)
-        return 130
+        return stopped.status
     except BrokenPipeError:
         sys.stderr.close()
         return 1
@@ -51,6 +59,7 @@ def _parser() -> argparse.ArgumentParser:
     add = parser.add_argument
     add("-C", "--archive", type=Path, default=Path("."), metavar="FOLDER", help="the archive's folder (here)")
     add("--program", metavar="WORDS", help="the tt_archive to run ($TT_ARCHIVE, on the path, or built here)")
+    add("--wait", default="10s", metavar="TIME", help="how long to wait while another is at work in the folder (10s)")
     add("-q", "--quiet", action="store_true", help="no progress on a terminal")
     kinds = parser.add_subparsers(required=True, metavar="COMMAND")
     _add_filling(kinds)
@@ -73,8 +82,8 @@ def _add_filling(kinds: Kinds) -> None:
     shard.add_argument("count", type=int, metavar="N")
     shard.add_argument("into", type=Path, metavar="INTO")
     shard.add_argument("--empty", action="store_true", help="make empty archives, to import into")
-    _command(kinds, "status", "asking.status", "tell what the archive holds")
-    _command(kinds, "verify", "asking.verify", "check what the plans store by the archive's own texts")
+    _command(kinds, "status", "telling.status", "tell what the archive holds")
+    _command(kinds, "verify", "telling.verify", "check what the plans store by the archive's own texts")
 
 
 def _add_sources(parser: argparse.ArgumentParser) -> None:
@@ -90,18 +99,22 @@ def _add_sources(parser: argparse.ArgumentParser) -> None:
     warc.add_argument("files", type=Path, nargs="+", metavar="FILE.warc[.gz]")
     folder = _command(sources, "folder", "importing.import_folder", "import folders with dates, or files by time")
     folder.add_argument("trees", type=Path, nargs="+", metavar="TREE")
+    folder.add_argument("--by-time", action="store_true", help="each file at its last change, whatever folders are called")
     for source in (git, wiki, warc, folder):
         source.add_argument("--prefix", default="", help="what the documents' names begin with")
         source.add_argument("--charset", help="the character set of what isn't UTF-8 and doesn't declare its own")
         source.add_argument("--keep-html", action="store_true", help="keep HTML as it is, with its tags")
+        source.add_argument("--dry-run", action="store_true", help="read all, tell what would be taken and refused, and send nothing")
 
 
 def _add_questions(kinds: Kinds) -> None:
     find = _command(kinds, "find", "asking.find", "find the documents that had these words at a time")
     find.add_argument("words", metavar="WORDS", help="words, and, or, not, parentheses")
     find.add_argument("--at", default="now", metavar="TIME", help=_TIME)
+    find.add_argument("--snippets", action="store_true", help="show the words in the texts that were found")
     between = _command(kinds, "between", "asking.between", "find when documents had these words")
     between.add_argument("words", metavar="WORDS")
+    between.set_defaults(snippets=False)
     between.add_argument("--from", dest="start", default="1970", metavar="TIME", help=_TIME)
     between.add_argument("--to", dest="end", default="now", metavar="TIME", help="the first time not asked about")
     for question in (find, between):
@@ -112,7 +125,7 @@ def _add_questions(kinds: Kinds) -> None:
     show = _command(kinds, "show", "asking.show", "show a document's text at a time")
     show.add_argument("name", metavar="NAME", help="the document's name, or #NUMBER")
     show.add_argument("--at", default="now", metavar="TIME", help=_TIME)
-    plan = _command(kinds, "plan", "asking.plan", "store a plan of a word's list, which bounds reading or space")
+    plan = _command(kinds, "plan", "planning.plan", "store a plan of a word's list, which bounds reading or space")
     plan.add_argument("word", metavar="WORD")
     plan.add_argument("form", nargs="+", metavar="FORM", help="guarantee A/B, space A/B uniform, space A/B since TIME; 1.5 is 3/2")
 

@@ -7,10 +7,9 @@ is one archive. Names and what was imported stand in the folder itself.
 
 from __future__ import annotations
 
-import fcntl
 import os
 from collections import deque
-from contextlib import ExitStack, contextmanager
+from contextlib import ExitStack
 from dataclasses import dataclass
 from itertools import repeat
 from pathlib import Path
@@ -19,15 +18,15 @@ from types import TracebackType
 from typing import Any, Callable, Iterator, Sequence
 
 from . import commands
-from .errors import NotBuilt, ProgramFailed, ToolError
+from .errors import BadQuery, InUse, NotBuilt, ProgramFailed, ToolError
 from .ledger import FILE as IMPORTS
+from .locks import Claim, locked, patiently
 from .names import FILE as NAMES
 from .names import NameTable
-from .program import JOURNAL, Program, Shard
+from .program import AT_WORK, JOURNAL, Program, Shard
 from .replies import Refused, Reply, Rows, merge_rows
 
 SHARDS = "shards.tsv"
-_LOCK = ".tt.lock"
 #: So many commands may be under way in all; it bounds the memory for what isn't answered yet.
 _MOST_UNDER_WAY = 8_192
 
@@ -52,17 +51,6 @@ def shards_of(folder: Path) -> list[Shard]:
     return shards
 
 
-@contextmanager
-def locked(folder: Path) -> Iterator[None]:
-    """One tt at a time works in a folder; what stands beside the archive is read and written so."""
-    with open(folder / _LOCK, "ab") as lock:
-        try:
-            fcntl.flock(lock, fcntl.LOCK_EX | fcntl.LOCK_NB)
-        except BlockingIOError:
-            raise ToolError(f"another tt is at work in {folder}") from None
-        yield
-
-
 @dataclass
 class _Side:
     """One archive's program, and what it has not yet answered."""
@@ -74,7 +62,7 @@ class _Side:
 class Collection:
     """A context in which the archive is locked, and its programs run."""
 
-    def __init__(self, folder: Path, command: Sequence[str]) -> None:
+    def __init__(self, folder: Path, command: Sequence[str], claim: Claim = Claim()) -> None:
         if not folder.is_dir():
             raise ToolError(f"there is no folder {folder}")
         self.folder = folder
@@ -82,17 +70,18 @@ class Collection:
         if not any((folder / file).exists() for file in (NAMES, JOURNAL)):
             raise ToolError(f"{folder} has no archive: `tt init {folder}` makes one")
         self._command = command
-        self._lock = ExitStack()
+        self._claim = claim
+        self._locked = ExitStack()
         self._printing = PollSelector()
         self._sides: list[_Side] = []
         self._count = 0
 
     def __enter__(self) -> Collection:
-        self._lock.enter_context(locked(self.folder))
+        self._lock = self._locked.enter_context(locked(self.folder, self._claim))
         try:
             self.names = NameTable(self.folder / NAMES)
             self._check_journals()
-            self._start()
+            patiently(self._start, self._claim)
         except BaseException:
             self._close()
             raise
@@ -181,7 +170,7 @@ class Collection:
         if isinstance(reply, Rows):
             return reply
         if isinstance(reply, Refused) and reply.name == "BadQuery":
-            raise ToolError(f"what is asked is no query, which shows at its byte {reply.detail}")
+            raise BadQuery(int(reply.detail))
         raise ToolError(f"the question was refused: {reply}")
 
     def _take(self, timeout: float | None) -> None:
@@ -202,11 +191,19 @@ class Collection:
                 raise ToolError(f"{shard.folder / JOURNAL} is gone, and {self.folder / NAMES} names documents of it")
 
     def _start(self) -> None:
+        """Starts the programs, and returns when each has its archive, as it then answers a first question."""
         self._printing = PollSelector()
         self._count = 0
         for shard in self.shards:
-            self._sides.append(_Side(Program(self._command, shard), deque()))
+            self._sides.append(_Side(Program(self._command, shard, self._lock), deque()))
             self._printing.register(self._sides[-1].program, EVENT_READ, self._sides[-1])
+        try:
+            for side in range(len(self._sides)):
+                self.send(side, commands.show(commands.NO_DOCUMENT, 0), [side], lambda *answered: None)
+            self.settle()
+        except InUse:
+            self._end()
+            raise
 
     def _end(self) -> list[tuple[int, str]]:
         """Ends the programs, whose last replies nobody takes."""
@@ -221,7 +218,7 @@ class Collection:
         try:
             return self._end()
         finally:
-            self._lock.close()
+            self._locked.close()
 
 
 def _replies(program: Program) -> Iterator[Reply]:
@@ -234,6 +231,8 @@ def _replies(program: Program) -> Iterator[Reply]:
     if wrong or program.ended:
         program.end_input()
         status, said = program.wait()
+        if status == AT_WORK:
+            raise InUse(f"another program is at work in {program.shard}, which no tt of this folder started")
         why = _explained(said, program.shard) or wrong or f"tt_archive ended with status {status}"
         raise ProgramFailed(f"{program.shard}: {why}")
 
@@ -244,12 +243,12 @@ def _explained(said: str, shard: Shard) -> str:
     return explained(said, shard)
 
 
-def make_archive(folder: Path, command: Sequence[str]) -> None:
+def make_archive(folder: Path, command: Sequence[str], claim: Claim) -> None:
     """Makes the folder, an empty archive in it where there is none, and the tables beside it."""
     folder.mkdir(parents=True, exist_ok=True)
     for file in (NAMES, IMPORTS):
         (folder / file).touch()
-    with Collection(folder, command):
+    with Collection(folder, command, claim):
         pass
     descriptor = os.open(folder, os.O_RDONLY)
     try:

@@ -2,9 +2,15 @@
 
 from __future__ import annotations
 
+from typing import Sequence
+
 
 class ToolError(Exception):
-    """Something that the user can see and mend; its text is one line."""
+    """Something that the user can see and mend; its text is one line, which lines that show it may follow."""
+
+    def __init__(self, text: str, shown: Sequence[str] = ()) -> None:
+        super().__init__(text)
+        self.shown = shown
 
 
 class InputError(ToolError):
@@ -12,6 +18,18 @@ class InputError(ToolError):
 
     def __init__(self, place: str, what: str) -> None:
         super().__init__(f"{place}: {what}")
+
+
+class InUse(ToolError):
+    """Another process is at work in the folder."""
+
+
+class BadQuery(ToolError):
+    """What is asked is no query, which shows at this byte of it."""
+
+    def __init__(self, byte: int) -> None:
+        super().__init__(f"what is asked is no query, which shows at its byte {byte}")
+        self.byte = byte
 
 
 class NotBuilt(ToolError):

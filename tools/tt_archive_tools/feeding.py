@@ -6,23 +6,24 @@ import sys
 import time as clock
 from collections import Counter
 from dataclasses import dataclass, field
-from typing import Iterable, NamedTuple
+from typing import Iterable, Iterator, NamedTuple
 
 from . import commands
 from .changes import Change, Notes, Tidier
 from .collection import Collection
 from .errors import ProgramFailed
 from .ledger import FILE as LEDGER
-from .ledger import Done, Ledger
+from .ledger import Ledger
 from .replies import Ok, Refused, Reply
-from .sources import Source
-from .texts import Reading
 from .times import show_time
+from .wording import counted
 
 #: Changes are sent in batches of so many, at first fewer, so that the program begins soon, or of so many
 #: bytes of text.
 _FIRST, _BATCH = 16, 256
 _BATCH_BYTES = 1 << 20
+#: So many bytes of text at most are read ahead before the first version is sent.
+_AHEAD_BYTES = 1 << 26
 
 
 class _Sent(NamedTuple):
@@ -46,6 +47,11 @@ class Tally:
     before: int = 0
     before_until: int = 0
     late: int = 0
+
+    @property
+    def refused_all(self) -> bool:
+        """There was something, and the archive has none of it."""
+        return bool(self.refused) and not (self.arrived or self.ended or self.before)
 
 
 class Progress:
@@ -76,39 +82,27 @@ class Progress:
             sys.stderr.flush()
 
 
-def import_source(
-    collection: Collection, source: Source, reading: Reading, notes: Notes, progress: Progress
-) -> Tally:
-    """Feeds a source's changes, from where the last import of this source ended."""
-    last = collection.last_time()
-    ledger = Ledger(collection.folder / LEDGER)
-    tidier = Tidier(collection.names.__contains__, notes)
-    feeder = _Feeder(collection, last, ledger.done(source.identity, last), tidier, notes, progress)
-    ledger.begin(source.identity, last)
-    feeder.feed(tidier.tidied(source.changes(reading, notes)))
-    ledger.end(source.identity, collection.last_time(), feeder.changes_until_last())
-    return feeder.tally
+class Feeder:
+    """Feeds the changes of one source to an archive, from where the last import of it ended, and notes how far."""
 
+    #: What is said of changes.
+    taken, refused = "are in the archive", "refused"
 
-class _Feeder:
-    def __init__(
-        self,
-        collection: Collection,
-        last: int | None,
-        done: Done | None,
-        tidier: Tidier,
-        notes: Notes,
-        progress: Progress,
-    ) -> None:
-        self.tally = Tally(before_until=done.end if done else 0)
+    def __init__(self, collection: Collection, source: str, notes: Notes, progress: Progress) -> None:
         self._collection = collection
-        self._last = last
-        self._done = done
-        self._tidier = tidier
+        self._ledger = Ledger(collection.folder / LEDGER)
+        self._source = source
+        self._last = collection.last_time()
+        self._done = self._ledger.done(source, self._last)
+        self._tidier = Tidier(collection.names.__contains__, notes)
         self._notes = notes
         self._progress = progress
+        self.tally = Tally(before_until=self._done.end if self._done else 0)
+        self._begun = False
         self._changes = 0
-        self._latest = -1 if last is None else last
+        #: Changes taken of times up to which the source was imported before.
+        self._behind = 0
+        self._latest = -1 if self._last is None else self._last
         self._refused_times: list[int] = []
         self._batch: list[Change] = []
         self._most = _FIRST
@@ -116,33 +110,75 @@ class _Feeder:
 
     def feed(self, changes: Iterable[Change]) -> None:
         done_changes = 0
-        for change in changes:
+        for change in self._weighed(self._tidier.tidied(changes)):
             self._changes += not change.maybe
-            if self._done and change.time <= self._done.end:
+            if self._is_again(change):
                 done_changes += not change.maybe
-            if self._last is None or change.time >= self._last:
+            if self._in_time(change):
                 self._take(change)
-            elif self._done and self._done.reached(change.time):
+            elif self._reached(change):
                 # Fed by an earlier import, or refused by it and told then.
                 self.tally.before += 1
-                if not self._done.fed(change.time):
+                if self._done and not self._done.fed(change.time):
                     self._tidier.forget(change.name)
             else:
                 self._tidier.forget(change.name)
-                self._refuse(_sent(change, False), Refused(2, "TimeBack", str(self._last)))
+                self._refuse(sent_of(change, False), Refused(2, "TimeBack", str(self._last)))
         self._send()
-        self._collection.settle()
+        self._finish()
         if self._done and self._done.changes is not None:
-            self.tally.late = max(0, done_changes - self._done.changes)
+            self.tally.late = max(0, done_changes - self._done.changes - self._behind)
 
-    def changes_until_last(self) -> int:
-        """How many of the changes lie up to the archive's last time."""
-        return self._changes - sum(time > self._latest for time in self._refused_times)
+    def prospect(self) -> list[str]:
+        """What an import that was only tried tells more."""
+        return []
+
+    def _in_time(self, change: Change) -> bool:
+        return self._last is None or change.time >= self._last
+
+    def _reached(self, change: Change) -> bool:
+        return self._done is not None and self._done.reached(change.time)
+
+    def _is_again(self, change: Change) -> bool:
+        """The source was imported up to this time before."""
+        return self._done is not None and change.time <= self._done.end
+
+    def _weighed(self, changes: Iterator[Change]) -> Iterator[Change]:
+        """The changes. Where more lie before the archive's last time than behind it, this is told before any of those
+        behind it is sent; so they are read ahead until there are as many."""
+        early = size = 0
+        ahead: list[Change] = []
+        for change in changes:
+            if not self._in_time(change):
+                early += not self._reached(change)
+                yield change
+                continue
+            ahead.append(change)
+            size += len(change.text or b"")
+            if len(ahead) >= early or size >= _AHEAD_BYTES:
+                break
+        if early > len(ahead):
+            assert self._last is not None
+            self._notes.tell(
+                f"warning: {counted(early, 'change')} of {early + len(ahead)} lie before the archive's last time, "
+                f"{show_time(self._last)}, and are refused: import what is oldest first, or all at once"
+            )
+        yield from ahead
+        yield from changes
+
+    def _finish(self) -> None:
+        """Waits for the replies, and notes how far the source was imported."""
+        self._collection.settle()
+        if not self._begun:
+            self._ledger.begin(self._source, self._last)
+        until_last = self._changes - sum(time > self._latest for time in self._refused_times)
+        taken = not self.tally.refused_all
+        self._ledger.end(self._source, self._collection.last_time(), until_last, taken)
 
     def _take(self, change: Change) -> None:
         if len(change.text or b"") > commands.MOST_TEXT:
             # The archive would refuse it, by its length alone.
-            self._refuse(_sent(change, False), Refused(5, "TooLong", str(commands.MOST_TEXT)))
+            self._refuse(sent_of(change, False), Refused(5, "TooLong", str(commands.MOST_TEXT)))
             return
         self._batch.append(change)
         self._bytes += len(change.text or b"")
@@ -153,6 +189,9 @@ class _Feeder:
         """Makes the names of the batch durable, and then sends it."""
         if not self._batch:
             return
+        if not self._begun:
+            self._ledger.begin(self._source, self._last)
+            self._begun = True
         names, side_of = self._collection.names, self._collection.side_of
         scripts: dict[int, tuple[list[bytes], list[_Sent]]] = {}
         for change in self._batch:
@@ -162,7 +201,7 @@ class _Feeder:
                 lines.append(commands.delete(doc, change.time))
             else:
                 lines.append(commands.arrive(doc, change.time, change.text))
-            sent.append(_sent(change, self._done is not None and change.time <= self._done.end))
+            sent.append(sent_of(change, self._is_again(change)))
         names.keep()
         for side, (lines, sent) in scripts.items():
             self._collection.send(side, b"".join(lines), sent, self._answered)
@@ -175,6 +214,7 @@ class _Feeder:
         match reply:
             case Ok():
                 self._latest = max(self._latest, sent.change_time)
+                self._behind += sent.again and not sent.maybe
                 self.tally.arrived += sent.arrives
                 self.tally.ended += not sent.arrives
             case Refused(name="SameTime" | "NoDocument") if sent.again:
@@ -192,5 +232,5 @@ class _Feeder:
         self._notes.add(f"refused: {refusal}", f"{show_time(sent.change_time)} {sent.name} ({sent.place})")
 
 
-def _sent(change: Change, again: bool) -> _Sent:
+def sent_of(change: Change, again: bool) -> _Sent:
     return _Sent(change.time, change.name, change.place, change.text is not None, change.maybe, again)

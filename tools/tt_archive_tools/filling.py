@@ -8,7 +8,8 @@ import sys
 from .changes import Notes
 from .collection import Collection, make_archive
 from .errors import ToolError
-from .feeding import Progress, Tally, import_source
+from .feeding import Feeder, Progress
+from .opening import archive_of, claim_of
 from .program import find_program
 from .sources import Source
 from .texts import Reading
@@ -17,31 +18,31 @@ from .wording import counted, one_line
 
 
 def init(options: argparse.Namespace) -> None:
-    make_archive(options.folder, find_program(options.program))
+    make_archive(options.folder, find_program(options.program), claim_of(options))
     print(f"an archive is in {options.folder}")
 
 
 def shard(options: argparse.Namespace) -> None:
     from .shards import make_shards, split
 
-    command = find_program(options.program)
+    command, claim = find_program(options.program), claim_of(options)
     if options.empty:
         make_shards(options.into, options.count)
-        with Collection(options.into, command):
+        with Collection(options.into, command, claim):
             pass
         print(f"{counted(options.count, 'empty archive')}, in {options.into}")
         return
-    with Collection(options.archive, command) as archive:
+    with archive_of(options) as archive:
         if len(archive.shards) > 1:
             raise ToolError(f"{options.archive} is split already")
         make_shards(options.into, options.count)
-        with Collection(options.into, command) as shards:
+        with Collection(options.into, command, claim) as shards:
             entries = split(archive, shards)
     print(f"{entries} versions and deletions are in {counted(options.count, 'archive')} in {options.into}")
 
 
 def import_from(source: Source, options: argparse.Namespace) -> None:
-    """Feeds the archive of a command from a source, and tells how that went."""
+    """Feeds the archive of a command from a source, or tries that, and tells how it went."""
     progress = Progress(not options.quiet)
 
     def tell(line: str) -> None:
@@ -51,22 +52,36 @@ def import_from(source: Source, options: argparse.Namespace) -> None:
     notes = Notes(tell, progress.show)
     reading = Reading(options.charset, options.keep_html)
     try:
-        with Collection(options.archive, find_program(options.program)) as collection:
-            tally = import_source(collection, source, reading, notes, progress)
+        with archive_of(options) as collection:
+            feeder = _feeder(options)(collection, source.identity, notes, progress)
+            feeder.feed(source.changes(reading, notes))
     finally:
         progress.clear()
-    _report(tally, notes)
+    _report(feeder, notes)
+    if feeder.tally.refused_all:
+        raise ToolError("all is refused, and nothing of it is in the archive")
 
 
-def _report(tally: Tally, notes: Notes) -> None:
-    print(f"{counted(tally.arrived, 'version')} and {counted(tally.ended, 'deletion')} are in the archive")
+def _feeder(options: argparse.Namespace) -> type[Feeder]:
+    if not options.dry_run:
+        return Feeder
+    from .trying import Trier  # loaded where it is needed
+
+    return Trier
+
+
+def _report(feeder: Feeder, notes: Notes) -> None:
+    tally = feeder.tally
+    print(f"{counted(tally.arrived, 'version')} and {counted(tally.ended, 'deletion')} {feeder.taken}")
+    for line in feeder.prospect():
+        print(one_line(line))
     if tally.before:
         print(f"imported before, until {show_time(tally.before_until)}: {counted(tally.before, 'change')}")
     if tally.late:
         why = "since an archive takes nothing before its last time"
         print(f"of these new in the source, and too late, {why}: {tally.late}")
     for name, count in tally.refused.items():
-        print(f"refused, {name}: {count}")
+        print(f"{feeder.refused}, {name}: {count}")
     for kind, count in notes.counts.items():
         if not kind.startswith("refused: "):
             print(f"{kind}: {count}")

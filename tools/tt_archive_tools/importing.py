@@ -34,7 +34,8 @@ def import_warc(options: argparse.Namespace) -> None:
 def import_folder(options: argparse.Namespace) -> None:
     from .sources.folder import FolderSource
 
-    _import(options, _together([FolderSource(*each) for each in _prefixed(options.trees, options.prefix)]))
+    trees = _prefixed(options.trees, options.prefix)
+    _import(options, _together([FolderSource(*tree, options.by_time) for tree in trees]))
 
 
 def _prefixed(paths: list[Path], prefix: str) -> list[tuple[Path, str]]:

@@ -1,9 +1,10 @@
 """What was imported from where: `imports.tsv` beside an archive, so that an import goes on where the last one ended.
 
-A line is `begin` or `end`, the archive's last time then (`-` where it had none), how many changes
-of the source lie up to there (`-` at a beginning), and the source. Imports don't overlap, since an
-archive has one writer. One that has no `end` was stopped: all that it fed lies up to the last time
-of the next `begin`, or of the archive.
+A line is `begin`, `end` or `refused`, the archive's last time then (`-` where it had none), how many
+changes of the source lie up to there (`-` at a beginning), and the source. `begin` is written before
+the first version is sent. Imports don't overlap, since an archive has one writer. One that has no
+`end` was stopped: all that it fed lies up to the last time of the next `begin`, or of the archive.
+`refused` ends one of which nothing was taken, as if it had never been.
 """
 
 from __future__ import annotations
@@ -16,6 +17,8 @@ from .errors import ToolError
 from .names import escape, unescape
 
 FILE = "imports.tsv"
+#: The kinds of lines.
+BEGIN, END, REFUSED = "begin", "end", "refused"
 
 
 @dataclass(frozen=True)
@@ -43,7 +46,7 @@ class Done:
 class Line:
     """One line of the ledger."""
 
-    ended: bool
+    kind: str
     last: int | None
     changes: int | None
     source: str
@@ -59,28 +62,32 @@ class Ledger:
     def done(self, source: str, last: int | None) -> Done | None:
         """How far the source was imported, where the archive's last time is `last`."""
         ranges: list[tuple[int, int]] = []
-        changes = None
+        changes = kept = None
         for index, line in enumerate(self.lines):
             if line.source != source:
                 continue
-            if line.ended:
-                start = ranges.pop()[0] if ranges else 0
-                end, changes = line.last, line.changes
+            if line.kind == BEGIN:
+                start, end = line.last or 0, (self.lines[index + 1].last if index + 1 < len(self.lines) else last)
+                kept, changes = changes, None
             else:
-                start = line.last or 0
-                end, changes = (self.lines[index + 1].last if index + 1 < len(self.lines) else last), None
+                start = ranges.pop()[0] if ranges else 0
+                if line.kind == REFUSED:
+                    changes = kept
+                    continue
+                end, changes = line.last, line.changes
             ranges.append((start, start if end is None else max(start, end)))
         return Done(tuple(ranges), changes) if ranges else None
 
     def begin(self, source: str, last: int | None) -> None:
-        self._append(Line(False, last, None, source))
+        self._append(Line(BEGIN, last, None, source))
 
-    def end(self, source: str, last: int | None, changes: int) -> None:
-        self._append(Line(True, last, changes, source))
+    def end(self, source: str, last: int | None, changes: int, taken: bool = True) -> None:
+        """`taken` says whether the archive took anything of the source, now or before."""
+        self._append(Line(END if taken else REFUSED, last, changes, source))
 
     def _append(self, line: Line) -> None:
         fields = (
-            "end" if line.ended else "begin",
+            line.kind,
             "-" if line.last is None else str(line.last),
             "-" if line.changes is None else str(line.changes),
             escape(line.source),
@@ -100,9 +107,9 @@ def _read(path: Path) -> list[Line]:
     lines = []
     for count, text in enumerate(content[:whole].decode("utf-8", "replace").split("\n")[:-1], 1):
         match text.split("\t"):
-            case ["begin" | "end" as kind, last, changes, source]:
+            case ["begin" | "end" | "refused" as kind, last, changes, source]:
                 try:
-                    lines.append(Line(kind == "end", _number(last), _number(changes), unescape(source)))
+                    lines.append(Line(kind, _number(last), _number(changes), unescape(source)))
                     continue
                 except ValueError:
                     pass

@@ -8,13 +8,12 @@ import sys
 from pathlib import Path
 
 from . import timeline, tradeoff
-from .collection import Collection
 from .errors import ToolError
-from .program import find_program
+from .opening import archive_of
 
 
 def draw_timeline(options: argparse.Namespace) -> None:
-    with Collection(options.archive, find_program(options.program)) as collection:
+    with archive_of(options) as collection:
         line = timeline.gather(collection, options.word)
         picture = timeline.draw(line, collection)
         page = timeline.page(line, picture, collection) if options.html else ""
@@ -27,7 +26,7 @@ def draw_timeline(options: argparse.Namespace) -> None:
 
 
 def draw_tradeoff(options: argparse.Namespace) -> None:
-    with Collection(options.archive, find_program(options.program)) as collection:
+    with archive_of(options) as collection:
         picture = tradeoff.draw(tradeoff.gather(collection, options.word))
     _write(options.output or _named_after(options.word), picture)
 

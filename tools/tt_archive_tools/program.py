@@ -12,11 +12,14 @@ from pathlib import Path
 from typing import Iterator, Sequence
 
 from .errors import ToolError
+from .locks import Lock
 from .replies import Reply, ReplyReader
 
 VARIABLE = "TT_ARCHIVE"
 #: The files of an archive.
 JOURNAL, PAGES = "archive.journal", "archive.pages"
+#: The status of a program that found another at work in its folder, and did nothing.
+AT_WORK = 11
 _BUILT = Path(__file__).resolve().parents[2] / "crates" / "tt_archive" / "out" / "tt_archive"
 
 #: So much of what is printed is read at once, which is what a pipe holds.
@@ -57,9 +60,9 @@ class Shard:
 
 class Program:
     """A tt_archive in its folder, run through ssh where that is on another machine. Writing to it and
-    reading from it don't wait, so that it works while the tool does."""
+    reading from it don't wait, so that it works while the tool does. It holds the lock until it ends."""
 
-    def __init__(self, command: Sequence[str], shard: Shard) -> None:
+    def __init__(self, command: Sequence[str], shard: Shard, lock: Lock | None = None) -> None:
         self.shard = shard
         self.ended = False
         self._reader = ReplyReader()
@@ -74,10 +77,13 @@ class Program:
                 stdin=subprocess.PIPE,
                 stdout=subprocess.PIPE,
                 stderr=subprocess.PIPE,
+                pass_fds=(lock.descriptor,) if lock else (),
                 start_new_session=True,  # Ctrl-C stops the tool, which ends the program in order
             )
         except OSError as error:
             raise ToolError(f"{command[0]} can't be started in {shard}: {error.strerror}") from None
+        if lock:
+            lock.handed_to(process.pid)
         assert process.stdin and process.stdout and process.stderr
         self._process = process
         self._input, self._output, self._errors = process.stdin, process.stdout, process.stderr

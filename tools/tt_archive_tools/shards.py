@@ -18,6 +18,7 @@ from .collection import SHARDS, Collection
 from .damage import explained
 from .errors import ProgramFailed, ToolError
 from .journal import entries
+from .locks import Lock
 from .names import FILE as NAMES
 from .program import JOURNAL, Shard
 from .replies import Ok, Reply, ReplyReader
@@ -78,7 +79,7 @@ def _taken(line: Any, reply: Reply) -> None:
 
 
 def ask_with_parallel(
-    shards: Sequence[Shard], command: Sequence[str], logins: str | None, question: bytes
+    shards: Sequence[Shard], command: Sequence[str], logins: str | None, question: bytes, lock: Lock
 ) -> list[Reply]:
     """The shards' replies to one question, each shard run by GNU parallel: where its line in the
     table says, or all on the machines of `logins`, which then need the folders at the same paths."""
@@ -88,7 +89,9 @@ def ask_with_parallel(
     words = ["parallel", "--will-cite", "--keep-order", *_machines(shards, logins), run]
     words += [":::", *_places(shards, logins), ":::", question.decode().rstrip("\n")]
     sh = {"PARALLEL_SHELL": "/bin/sh"}  # not the shell of whoever is logged in there, who may have none
-    done = subprocess.run(words, stdin=subprocess.DEVNULL, capture_output=True, env={**os.environ, **sh})
+    done = subprocess.run(
+        words, stdin=subprocess.DEVNULL, capture_output=True, env={**os.environ, **sh}, pass_fds=(lock.descriptor,)
+    )
     if done.returncode != 0:
         here = {str(shard.folder.resolve()): shard for shard in shards if not (shard.login or logins)}
         raise ProgramFailed(_fault(done.stderr.decode("utf-8", "replace").strip(), done.returncode, here))

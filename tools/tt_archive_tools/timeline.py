@@ -2,7 +2,6 @@
 
 from __future__ import annotations
 
-import unicodedata
 from dataclasses import dataclass
 from html import escape
 from typing import Iterable, Sequence
@@ -13,6 +12,7 @@ from .errors import NotBuilt, ToolError
 from .journal import summary
 from .replies import Hit, Pieces, Rows, Span
 from .times import DAY, LAST_TIME, show_day, show_time
+from .words import key_of
 
 #: Of a word without a plan that is shown, a picture asks for the cost at so many times at most.
 _MOST_QUESTIONS = 300
@@ -149,13 +149,9 @@ def _horizons(collection: Collection, word: str, plans: Iterable[Pieces | None])
     """The horizons of the word's plans that stand. A plan that the program doesn't show is in the journal."""
     horizons = {plan.segments[-1].end for plan in plans if plan}
     if not horizons:
-        live = summary(collection.shards).live.get(_key(word), ())
+        live = summary(collection.shards).live.get(key_of(word), ())
         horizons = {plan.horizon for plan in live}
     return tuple(sorted(horizons))
-
-
-def _key(word: str) -> str:
-    return unicodedata.normalize("NFD", unicodedata.normalize("NFD", word).casefold())
 
 
 def _some(times: Sequence[int], most: int) -> list[int]:

@@ -17,6 +17,8 @@ _EPOCH = datetime(1970, 1, 1, tzinfo=timezone.utc)
 _DATE = re.compile(
     r"(\d{4})(?:-(\d{2})(?:-(\d{2})(?:[T ](\d{2}):(\d{2})(?::(\d{2}))?Z?)?)?)?\Z", re.ASCII
 )
+_LENGTH = re.compile(r"(\d{1,9}(?:\.\d{1,9})?)([smh]?)\Z", re.ASCII)
+_UNITS = {"": 1, "s": 1, "m": 60, "h": 3_600}
 _SECONDS = re.compile(r"@(\d{1,13})\Z", re.ASCII)
 _STAMP = re.compile(
     r"(\d{4})-?(\d{2})-?(\d{2})"
@@ -44,6 +46,14 @@ def parse_time(text: str) -> int:
         int(part) if part else default for part, default in zip(date.groups(), (0, 1, 1, 0, 0, 0))
     )
     return _in_range(_seconds_of(text, year, month, day, hour, minute, second), text)
+
+
+def parse_wait(text: str) -> float:
+    """A length of time on the command line, in seconds: `60s`, `5m`, `1h`, or a number of seconds."""
+    length = _LENGTH.match(text)
+    if not length:
+        raise ToolError(f"{text!r} is no length of time: write 60s, 5m or 1h")
+    return float(length[1]) * _UNITS[length[2]]
 
 
 def parse_stamp(text: str) -> int | None:

@@ -2,6 +2,8 @@
 
 from __future__ import annotations
 
+import fcntl
+import os
 from bisect import bisect_right
 from collections import Counter
 from dataclasses import dataclass
@@ -29,16 +31,20 @@ class Version:
 
 
 class History:
-    """An archive in a folder."""
+    """An archive in a folder, which it locks as it is opened; where another has the lock, a BlockingIOError tells."""
 
-    def __init__(self, folder: Path) -> None:
+    def __init__(self, folder: Path, locks: bool = True) -> None:
         self._path = folder / "archive.journal"
         self._versions: dict[int, list[Version]] = {}
         self._last: int | None = None
         self._length = 0
         self._plans: dict[str, Stored] = {}
         self._lists: dict[str, list[Posting]] = {}
-        if not self._path.exists():
+        self._gate = len(HEADER)
+        self._file = os.fdopen(os.open(self._path, os.O_RDWR | os.O_CREAT, 0o666), "r+b")
+        if locks:
+            fcntl.flock(self._file, fcntl.LOCK_EX | fcntl.LOCK_NB)
+        if self._path.stat().st_size <= len(HEADER) + 1:
             self._path.write_bytes(HEADER + b"\0")
         self._load()
 
@@ -197,14 +203,14 @@ class History:
         return stored.plan if stored else None
 
     def _append(self, body: bytes) -> None:
-        with open(self._path, "r+b") as file:
-            gate = file.seek(0, 2) - 1
-            file.seek(gate)
-            file.write(b"\xa5" + len(body).to_bytes(4, "big") + body + b"\0")
+        self._file.seek(self._gate)
+        self._file.write(b"\xa5" + len(body).to_bytes(4, "big") + body + b"\0")
+        self._file.flush()
         self._note(body)
 
     def _note(self, body: bytes) -> None:
         self._length += 1
+        self._gate += 5 + len(body)
         if body[0] == 3:
             stored = Stored.decode(body)
             self._plans[stored.key] = stored
@@ -217,11 +223,9 @@ class History:
 
     def _load(self) -> None:
         data = self._path.read_bytes()
-        gate = len(HEADER)
-        while data[gate] == 0xA5:
-            size = int.from_bytes(data[gate + 1 : gate + 5], "big")
-            self._note(data[gate + 5 : gate + 5 + size])
-            gate += 5 + size
+        while data[self._gate] == 0xA5:
+            size = int.from_bytes(data[self._gate + 1 : self._gate + 5], "big")
+            self._note(data[self._gate + 5 : self._gate + 5 + size])
 
 
 def _change(tag: int, doc: int, time: int) -> bytes:

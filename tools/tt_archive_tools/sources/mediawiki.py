@@ -1,9 +1,10 @@
-"""A MediaWiki export: pages with their revisions, and a log of deletions.
+"""A MediaWiki export: pages with their revisions, and a log of moves and deletions.
 
-A document is a page, by its title. Files that hold revisions (`pages-meta-history`) and files that
-hold the log (`pages-logging`) can be given together. A revision begins at its timestamp, whatever
-the order in the file; a deletion ends the page; a restoration brings back its newest revision. A
-redirect has no text of its own. Texts stay wikitext.
+A document is a title. Files that hold revisions (`pages-meta-history`) and files that hold the log
+(`pages-logging`) can be given together. A revision begins at its timestamp, under the title that its
+page had then, whatever the order in the file. A move ends the old title, and begins the new one; a
+deletion ends the title; a restoration brings back its newest revision. A redirect has no text of its
+own. Texts stay wikitext.
 """
 
 from __future__ import annotations
@@ -14,7 +15,7 @@ import re
 import xml.etree.ElementTree as ElementTree
 from contextlib import closing
 from dataclasses import dataclass, field
-from enum import IntEnum
+from enum import Enum
 from pathlib import Path
 from typing import BinaryIO, Iterator
 
@@ -23,17 +24,29 @@ from ..errors import InputError
 from ..spool import Place, Spool
 from ..texts import Reading
 from ..times import parse_stamp
+from .mediawiki_titles import Titles, target_of
 
 _REDIRECT = re.compile(r"\s*#\s*(\w+)\s*:?\s*\[\[")
 _ENDINGS = {"delete", "delete_redir", "delete_redir2"}
 
 
-class _Kind(IntEnum):
-    """In the order in which they count within a second."""
+_LOST = "pages that the log deletes, and of which the export has nothing"
+_NO_LOG = (
+    "there is no log among the files: pages have their last title throughout, and nothing is known of deletions "
+    "(`dumpBackup.php --logs` or pages-logging has it)"
+)
+_NO_MOVES = "the log has no moves; where pages were moved all the same, they have their last title throughout"
 
+
+#: Within a second the log's entries count before revisions, each as they are numbered.
+_LOG, _REVISIONS = 0, 1
+
+
+class _Kind(Enum):
     DELETED = 0
     RESTORED = 1
-    REVISED = 2
+    MOVED = 2
+    REVISED = 3
 
 
 @dataclass(frozen=True, slots=True)
@@ -44,6 +57,8 @@ class _Event:
     text: Place | None = None
     #: The word of `#REDIRECT [[..]]`, in whatever language, where the text begins so.
     redirect: str | None = None
+    #: Where a page was moved to.
+    target: str = ""
 
 
 @dataclass
@@ -51,7 +66,42 @@ class _Dump:
     """What the files hold."""
 
     spool: Spool[_Event] = field(default_factory=Spool)
+    titles: Titles = field(default_factory=Titles)
     redirect_words: set[str] = field(default_factory=lambda: {"redirect"})
+    log_entries: int = 0
+    moves: int = 0
+
+
+@dataclass
+class _Wiki:
+    """What stands under each title, event by event."""
+
+    newest: dict[str, bytes | None] = field(default_factory=dict)
+    deleted: dict[str, bytes | None] = field(default_factory=dict)
+    #: The titles that pages were moved from, where a redirect may be of which nothing is left.
+    moved_from: set[str] = field(default_factory=set)
+    #: The titles that were deleted, and were unknown before.
+    lost: set[str] = field(default_factory=set)
+
+    def delete(self, title: str) -> None:
+        if title in self.newest:
+            self.deleted[title] = self.newest.pop(title)
+        elif title not in self.deleted and title not in self.moved_from:
+            self.lost.add(title)
+
+    def restore(self, title: str) -> bool:
+        """Whether that brings back a text. Where a page is there, it has the newest one."""
+        if title in self.newest or title not in self.deleted:
+            return False
+        self.newest[title] = self.deleted.pop(title)
+        return True
+
+    def move(self, title: str, target: str) -> bool:
+        if title not in self.newest:
+            return False
+        self.newest[target] = self.newest.pop(title)
+        self.moved_from.add(title)
+        return True
 
 
 @dataclass(frozen=True)
@@ -71,20 +121,30 @@ class MediaWikiSource:
         dump = _Dump()
         for path in self.files:
             _read(path, dump, notes)
-        newest: dict[str, bytes | None] = {}
+        if not dump.moves:
+            notes.tell(_NO_MOVES if dump.log_entries else _NO_LOG)
+        wiki = _Wiki()
         for time, event in dump.spool.in_order():
             place = f"{event.title} ({'revision' if event.kind is _Kind.REVISED else 'log entry'} {event.number})"
+            title = event.title
             match event.kind:
                 case _Kind.REVISED:
-                    text = self._text(event, dump, notes)
-                    newest[event.title] = text
+                    title = dump.titles.at(title, time)
+                    wiki.newest[title] = self._text(event, dump, notes)
                 case _Kind.RESTORED:
-                    if event.title not in newest:
+                    if not wiki.restore(title):
                         continue
-                    text = newest[event.title]
+                case _Kind.MOVED:
+                    if not wiki.move(title, event.target):
+                        continue
+                    notes.count("moves of pages")
+                    yield Change(time, self.prefix + title, None, place)
+                    title = event.target
                 case _Kind.DELETED:
-                    text = None
-            yield Change(time, self.prefix + event.title, text, place)
+                    wiki.delete(title)
+            yield Change(time, self.prefix + title, wiki.newest.get(title), place)
+        if wiki.lost:
+            notes.counts[_LOST] = len(wiki.lost)
 
     def _text(self, event: _Event, dump: _Dump, notes: Notes) -> bytes | None:
         if event.redirect in dump.redirect_words and not self.keep_redirects:
@@ -180,19 +240,33 @@ class _Reader:
         self._newest = max(self._newest, (time, word), key=lambda pair: pair[0])
         self._notes.read(len(self._dump.spool), "revisions and log entries")
         event = _Event(_Kind.REVISED, self._title, number, self._dump.spool.put(content.encode()), word)
-        self._dump.spool.add((time, event.kind, number), event)
+        self._dump.spool.add((time, _REVISIONS, number), event)
 
     def _log_entry(self, element: ElementTree.Element) -> None:
-        if _text_of(element, "type") != "delete":
-            return
-        action = _text_of(element, "action")
+        self._dump.log_entries += 1
+        kind = _kind(_text_of(element, "type"), _text_of(element, "action"))
         title = _text_of(element, "logtitle")
-        kind = _Kind.DELETED if action in _ENDINGS else _Kind.RESTORED if action == "restore" else None
         if kind is None or not title:
             return
         number = _number(_text_of(element, "id"))
         time = _time(element, f"{self._path}: log entry {number}")
-        self._dump.spool.add((time, kind, number), _Event(kind, title, number))
+        target = target_of(_text_of(element, "params")) if kind is _Kind.MOVED else ""
+        if kind is _Kind.MOVED:
+            if not target:
+                self._notes.add("move without a target, left out", f"{self._path}: log entry {number}")
+                return
+            self._dump.moves += 1
+            self._dump.titles.moved((time, number), title, target)
+        self._dump.spool.add((time, _LOG, number), _Event(kind, title, number, target=target))
+
+
+def _kind(type: str, action: str) -> _Kind | None:
+    """What a log's entry does to a page; None where that is nothing."""
+    if type == "move":
+        return _Kind.MOVED
+    if type != "delete":
+        return None
+    return _Kind.DELETED if action in _ENDINGS else _Kind.RESTORED if action == "restore" else None
 
 
 def _tag(element: ElementTree.Element) -> str:

@@ -3,7 +3,9 @@
 A document is an address. A capture with status 2xx and a text begins a version at its date; a
 redirect, 404 or 410 says that the address has no text of its own from then on, and so does a
 capture that is no text (an image, say). Other statuses say nothing of the page and are left out.
-A revisit record stands for the capture whose payload it names.
+A revisit record has a status of its own, which says the same as a capture's; where it is 2xx, or the
+record has none, it stands for the capture whose payload it names. What a crawler notes of itself
+under `metadata:` is no page.
 """
 
 from __future__ import annotations
@@ -21,6 +23,8 @@ from .warc_records import Record, Response, read_records, response_of
 
 _TEXT_TYPES = {"application/xhtml+xml", "application/xml", "application/json"}
 _HTML_TYPES = {"text/html", "application/xhtml+xml"}
+#: What a revisit may have in place of a status that tells of the page: none, or "not modified".
+_AS_BEFORE = {0, 304}
 _NO_TEXT = {300, 301, 302, 303, 307, 308, 404, 410}
 
 
@@ -31,6 +35,8 @@ class _Capture:
     text: Place | None
     #: Set where the text is that of another capture with this digest.
     same_as: str | None = None
+    #: The record tells no status of its own, so that of the other capture counts.
+    bare: bool = False
 
 
 @dataclass(frozen=True)
@@ -53,8 +59,11 @@ class WarcSource:
         for time, capture in captures.spool.in_order():
             place = captures.texts.get(capture.same_as) if capture.same_as else capture.text
             if capture.same_as and capture.same_as not in captures.texts:
-                notes.add("revisit of a capture that isn't in these files, left out", capture.place)
-                continue
+                gone = captures.textless.get(capture.same_as)
+                if not (gone and capture.bare):
+                    what = "isn't in these files" if gone is None else "has no text"
+                    notes.add(f"revisit of a capture that {what}, left out", capture.place)
+                    continue
             text = captures.spool.text(place) if place else None
             yield Change(time, self.prefix + capture.address, text, capture.place)
 
@@ -64,7 +73,10 @@ class _Captures:
 
     def __init__(self, reading: Reading, notes: Notes) -> None:
         self.spool: Spool[_Capture] = Spool()
+        #: By digest the text of each payload with status 2xx; None where it is no text.
         self.texts: dict[str | None, Place | None] = {}
+        #: By digest of each payload with another status, whether that says that there is no text any more.
+        self.textless: dict[str | None, bool] = {}
         self._reading = reading
         self._notes = notes
         self._count = 0
@@ -72,6 +84,9 @@ class _Captures:
     def take(self, record: Record) -> None:
         address = record.get("warc-target-uri").strip("<>")
         if record.kind not in ("response", "resource", "revisit") or not address:
+            return
+        if address.lower().startswith("metadata:"):
+            self._notes.count("records of a crawler of itself (metadata:), left out")
             return
         if record.kind != "resource" and not record.get("content-type").lower().startswith("application/http"):
             return
@@ -87,25 +102,34 @@ class _Captures:
 
     def _capture(self, record: Record, address: str) -> _Capture | None:
         digest = record.get("warc-payload-digest") or None
-        if record.kind == "revisit":
-            if response_of(record).status == 304:
-                return None
-            return _Capture(address, record.place, None, digest)
         if record.kind == "resource":
             response = Response(200, record.headers, record.block)
         else:
             response = response_of(record)
+        if record.kind == "revisit" and response.status in _AS_BEFORE:
+            return self._revisit(record, address, digest, bare=True) if response.status == 0 else None
         if response.status in _NO_TEXT:
             self._notes.count("captures of redirects" if response.status < 400 else "captures of what wasn't there")
+            self.textless[digest] = True
             return _Capture(address, record.place, None)
         if not 200 <= response.status < 300 or response.status == 206:
             self._notes.add(f"capture with status {response.status}, left out", record.place)
+            self.textless.setdefault(digest, False)
             return None
+        if record.kind == "revisit":
+            return self._revisit(record, address, digest, bare=False)
         text = self._text(response, record.place)
         place = None if text is None else self.spool.put(text)
         if digest:
             self.texts[digest] = place
         return _Capture(address, record.place, place)
+
+    def _revisit(self, record: Record, address: str, digest: str | None, bare: bool) -> _Capture | None:
+        """A capture with the payload of another one."""
+        if digest is None:
+            self._notes.add("revisit that names no capture's payload, left out", record.place)
+            return None
+        return _Capture(address, record.place, None, digest, bare)
 
     def _text(self, response: Response, place: str) -> bytes | None:
         kind, charset = response.content_type()

@@ -1,0 +1,17 @@
+"""The archive that the words of a command name, and the claim that the command has to it."""
+
+from __future__ import annotations
+
+import argparse
+
+from .collection import Collection
+from .locks import Claim
+from .program import find_program
+
+
+def claim_of(options: argparse.Namespace) -> Claim:
+    return Claim(f"`{options.command}`", options.wait)
+
+
+def archive_of(options: argparse.Namespace) -> Collection:
+    return Collection(options.archive, find_program(options.program), claim_of(options))
