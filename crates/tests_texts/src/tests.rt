@@ -3,7 +3,6 @@ mod command_lines;
 mod entries;
 mod in_words;
 mod plan_entries;
-mod replies;
 mod samples;
 mod scripts;
 mod words;

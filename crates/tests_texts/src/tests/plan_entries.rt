@@ -1,9 +1,8 @@
 //! Stored plans as bytes, and bytes that spell none.
 use commands::Kind;
-use record_codec::{CodecError, Entry, Layout, decode, encode, encode_plan};
+use record_codec::{CodecError, Entry, Layout, PlanEntry, decode, encode, encode_plan};
 use std::alloc::Global;
 use std::process::Abort;
-use std::test::Fail;
 
 /// A plan of the word `v`: guarantee 1/1, horizon 40, cuts 10, 20 and 30, in blocks of 18, 22 and 18
 /// bytes.
@@ -46,71 +45,87 @@ fn named(read: Result<Entry, CodecError>) -> Option<u64> {
     }
 }
 
-#[test]
-fn a_plan_in_blocks_has_a_hundred_and_eighty_one_bytes(rt: HostRuntime) -> Result<(), Fail> {
-    let body = joined(&rt, rt.alloc(), &IN_BLOCKS);
-    assert_eq!(rt; body.len(), 181);
-    let Entry::Planned(plan) = decode(rt.alloc(), &body)? else {
-        return Err(Fail::from("no plan was read"));
-    };
-    assert_eq!(rt; plan.word.as_str(), "v");
-    assert!(rt; plan.layout == Layout::Blocks);
-    assert!(rt; matches!(plan.kind, Kind::Guarantee));
-    assert_eq!(rt; (plan.fraction.over(), plan.fraction.under()), (1, 1));
-    assert_eq!(rt; plan.horizon.seconds(), 40);
-    let mut cuts = Vec::new(rt.alloc());
-    for cut in plan.cuts.as_slice() {
-        cuts.push(cut.seconds()).expect(&rt, "memory");
+/// The plan of an entry.
+fn planned(entry: Entry) -> Option<PlanEntry> {
+    match entry {
+        Entry::Planned(plan) => Some(plan),
+        _ => None,
     }
-    assert_eq!(rt; cuts.as_slice(), [10, 20, 30].as_slice());
-    let mut places = Vec::new(rt.alloc());
+}
+
+/// The plan that bytes spell, which they also spell when it is written.
+fn plan_of(rt: &impl Abort, alloc: Global, body: &[u8]) -> PlanEntry {
+    let entry = decode(alloc, body).expect(rt, "an entry");
+    let spelled = encode(alloc, &entry).expect(rt, "memory");
+    assert_eq!(rt; spelled.as_slice(), body);
+    let plan = planned(entry).expect(rt, "a plan");
+    let spelled = encode_plan(alloc, &plan).expect(rt, "memory");
+    assert_eq!(rt; spelled.as_slice(), body);
+    plan
+}
+
+/// The first page, the length and the last byte of the digest of each place of a plan.
+fn places_of(rt: &impl Abort, alloc: Global, plan: &PlanEntry) -> Vec<(u32, u64, u8)> {
+    let mut places = Vec::new(alloc);
     for place in plan.places.as_slice() {
         places
             .push((place.extent.first, place.extent.bytes, place.digest[31]))
-            .expect(&rt, "memory");
+            .expect(rt, "memory");
     }
+    places
+}
+
+/// The seconds at which a plan is cut.
+fn cuts_of(rt: &impl Abort, alloc: Global, plan: &PlanEntry) -> Vec<u64> {
+    let mut cuts = Vec::new(alloc);
+    for cut in plan.cuts.as_slice() {
+        cuts.push(cut.seconds()).expect(rt, "memory");
+    }
+    cuts
+}
+
+#[test]
+fn a_plan_in_blocks_has_a_hundred_and_eighty_one_bytes(rt: HostRuntime) {
+    let alloc = rt.alloc();
+    let body = joined(&rt, alloc, &IN_BLOCKS);
+    assert_eq!(rt; body.len(), 181);
+    let plan = plan_of(&rt, alloc, &body);
+    assert_eq!(rt; plan.word.as_str(), "v");
+    assert!(rt; plan.layout == Layout::Blocks && matches!(plan.kind, Kind::Guarantee));
+    assert_eq!(rt; (plan.fraction.over(), plan.fraction.under()), (1, 1));
+    assert_eq!(rt; plan.horizon.seconds(), 40);
+    let cuts = cuts_of(&rt, alloc, &plan);
+    assert_eq!(rt; cuts.as_slice(), [10, 20, 30].as_slice());
+    let places = places_of(&rt, alloc, &plan);
     assert_eq!(rt;
         places.as_slice(),
         [(0, 18, 161), (1, 22, 178), (2, 18, 195)].as_slice()
     );
-    let spelled = encode_plan(rt.alloc(), &plan).expect(&rt, "memory");
-    assert_eq!(rt; spelled.as_slice(), body.as_slice());
-    Ok(())
 }
 
 #[test]
-fn a_plan_of_an_archive_with_flat_lists_is_read(rt: HostRuntime) -> Result<(), Fail> {
+fn a_plan_of_an_archive_with_flat_lists_is_read(rt: HostRuntime) {
     let body = joined(&rt, rt.alloc(), &WITH_FLAT_LISTS);
-    let Entry::Planned(plan) = decode(rt.alloc(), &body)? else {
-        return Err(Fail::from("no plan was read"));
-    };
+    let plan = plan_of(&rt, rt.alloc(), &body);
     assert!(rt; plan.layout == Layout::Flat);
-    let mut lengths = Vec::new(rt.alloc());
-    for place in plan.places.as_slice() {
-        lengths.push(place.extent.bytes).expect(&rt, "memory");
-    }
-    assert_eq!(rt; lengths.as_slice(), [24, 48, 24].as_slice());
-    let spelled = encode(rt.alloc(), &Entry::Planned(plan)).expect(&rt, "memory");
-    assert_eq!(rt; spelled.as_slice(), body.as_slice());
-    Ok(())
+    let places = places_of(&rt, rt.alloc(), &plan);
+    assert_eq!(rt;
+        places.as_slice(),
+        [(0, 24, 0x49), (1, 48, 0x18), (2, 24, 0x49)].as_slice()
+    );
 }
 
 #[test]
-fn a_plan_since_a_time_has_eight_bytes_more(rt: HostRuntime) -> Result<(), Fail> {
+fn a_plan_since_a_time_has_eight_bytes_more(rt: HostRuntime) {
     let body = joined(&rt, rt.alloc(), &FROM_A_TIME_ON);
     assert_eq!(rt; body.len(), 85);
-    let Entry::Planned(plan) = decode(rt.alloc(), &body)? else {
-        return Err(Fail::from("no plan was read"));
-    };
+    let plan = plan_of(&rt, rt.alloc(), &body);
     let since = match plan.kind {
         Kind::Since { at } => Some(at.seconds()),
         _ => None,
     };
     assert_eq!(rt; since, Some(5));
     assert_eq!(rt; (plan.fraction.over(), plan.fraction.under()), (3, 2));
-    let spelled = encode(rt.alloc(), &Entry::Planned(plan)).expect(&rt, "memory");
-    assert_eq!(rt; spelled.as_slice(), body.as_slice());
-    Ok(())
 }
 
 /// Places in the plan in blocks, a byte put there, and the place that is named.
