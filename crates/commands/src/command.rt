@@ -1,4 +1,5 @@
 //! What an archive may be asked to do.
+use crate::batch::BatchItems;
 use crate::phrase::Phrase;
 use crate::text::Text;
 use time_base::{DocId, Fraction, Span, Time};
@@ -81,6 +82,10 @@ pub enum Command {
     },
     /// A check of all that is stored.
     Verify,
+    /// The mark of a journal that may have batches.
+    Format,
+    /// Changes of documents that come all at once.
+    Batch(BatchItems),
 }
 
 /// What is answered.

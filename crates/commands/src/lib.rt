@@ -8,10 +8,12 @@
 //! is in range where `HasDocument` (`specs/Documents.antt`) says so.
 #![tactic(auto)]
 
+mod batch;
 mod command;
 mod phrase;
 mod text;
 
+pub use batch::{BatchItem, BatchItems, BatchList, MOST_BATCH_BYTES, MOST_BATCH_ITEMS};
 pub use command::{Command, Item, Kind};
 pub use phrase::{MOST_PHRASE_BYTES, Phrase};
 pub use text::{Content, MOST_TEXT_BYTES, Text};

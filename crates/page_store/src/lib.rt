@@ -16,4 +16,4 @@ pub use laws::{
     one_list_of_places, page_writes_join, taken_in_any_order,
 };
 pub use live::LiveError;
-pub use pages::{Pages, TakeError};
+pub use pages::{AtError, Pages, TakeError};

@@ -1,5 +1,5 @@
 //! The pages that extents leave free which are taken already.
-ghost use Rattle.std.specs.Prelude.{◌≡◌, ◌∷◌, [], ◌++◌, true, false, ℕ, List, IfOk, IfErr};
+ghost use Rattle.std.specs.Prelude.{◌≡◌, ◌∷◌, true, false, ℕ, List, IfOk, OnErr, IfErr};
 ghost use Rattle.page_store.specs.declared.live.LiveError.{LiveError};
 ghost use Rattle.time_base.specs.declared.extent.Extent.{Extent as PlainExtent};
 ghost use Rattle.page_store.specs.Runs.{IsPageOf, IsTaken};
@@ -59,9 +59,11 @@ impl Pages {
     }
 
     /// Takes the pages of an extent; false, and no page is taken, where one of them is.
-    fn claim(&mut self, extent: Extent) -> Result<bool, AllocError>
-        ensures yes { IfOk result (λ free. free ≡ true → (extents : List PlainExtent) → HasTaken self.old extents → HasTaken self.new (extents ++ extent ∷ [])) }
+    pub(crate) fn claim(&mut self, extent: Extent) -> Result<bool, AllocError>
+        ensures yes { IfOk result (λ free. free ≡ true → (extents : List PlainExtent) → HasTaken self.old extents → HasTaken self.new (extent ∷ extents)) }
         ensures no { IfOk result (λ free. free ≡ false → (extents : List PlainExtent) → HasTaken self.old extents → (p : ℕ) × (IsPageOf extent p × IsTaken extents p)) }
+        ensures unclaimed { IfOk result (λ free. free ≡ false → self.new ≡ self.old) }
+        ensures same { OnErr result (self.new ≡ self.old) }
     {
         if extent.bytes == 0 {
             return Ok(true);

@@ -1,8 +1,9 @@
 //! Which pages are free.
 ghost use Rattle.std.specs.Prelude.{◌≡◌, ◌≤◌, [], ◌∷◌, ◌++◌, List, ℕ, IfOk, OnOk, OnErr, IsErrOf};
 ghost use Rattle.page_store.specs.declared.pages.TakeError.{TakeError};
+ghost use Rattle.page_store.specs.declared.pages.AtError.{AtError};
 ghost use Rattle.time_base.specs.declared.extent.Extent.{Extent as PlainExtent};
-ghost use Rattle.page_store.specs.Runs.{IsFreeRun, IsLowestRun, pages_for};
+ghost use Rattle.page_store.specs.Runs.{IsFreeRun, IsLowestRun, IsPageOf, IsTaken, pages_for};
 ghost use Rattle.page_store.specs.Edges.{AreFree};
 ghost use Rattle.page_store.specs.Taken.{HasTaken};
 
@@ -25,6 +26,23 @@ impl From<AllocError> for TakeError {
 
     fn from(_: AllocError) -> TakeError {
         TakeError::Memory
+    }
+}
+
+/// Why the pages of an extent were not taken.
+#[derive(Clone, Copy, Debug, PartialEq, Eq, Drop)]
+pub enum AtError {
+    /// The extent shares a page with one that is taken.
+    Taken,
+    /// There was no memory.
+    Memory,
+}
+
+impl From<AllocError> for AtError {
+    ghost from_gives = { λ _ e. e ≡ AtError.Memory };
+
+    fn from(_: AllocError) -> AtError {
+        AtError::Memory
     }
 }
 
@@ -78,6 +96,20 @@ impl Pages {
         };
         self.hold(extent)?;
         Ok(extent)
+    }
+
+    /// Takes the pages of an extent, wherever it lies, and makes the room for giving it back. With no
+    /// bytes it has no page. It costs the logarithm of the number of free runs, and a move of those
+    /// behind it.
+    pub fn take_at(&mut self, extent: Extent) -> Result<(), AtError>
+        ensures taken { OnOk result ((extents : List PlainExtent) → HasTaken self.old extents → HasTaken self.new (extent ∷ extents)) }
+        ensures refused { IsErrOf result AtError.Taken → (extents : List PlainExtent) → HasTaken self.old extents → (p : ℕ) × (IsPageOf extent p × IsTaken extents p) }
+        ensures same { OnErr result (self.new ≡ self.old) }
+    {
+        if !self.claim(extent)? {
+            return Err(AtError::Taken);
+        }
+        Ok(())
     }
 
     // Takes an extent whose pages are free, and makes the room for giving them back.

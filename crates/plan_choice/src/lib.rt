@@ -8,8 +8,10 @@
 
 mod choice;
 mod choosing;
+mod judging;
 mod loads;
 mod parts;
 
 pub use choice::{Choice, ChoiceError};
 pub use choosing::choose;
+pub use judging::is_good;

@@ -1,11 +1,15 @@
 //! Best partitions for a load that answers by a function of the span.
-ghost use Rattle.std.specs.Prelude.{◌≡◌, ◌≤◌, ◌^◌, IfOk};
+ghost use Rattle.std.specs.Prelude.{◌≡◌, ◌↔◌, ◌-◌, ◌≤◌, ◌^◌, ℕ, List, length, drop, slice_index, IfOk, IsTrue};
+ghost use Rattle.time_base.specs.declared.posting.Posting.{Posting};
+ghost use Rattle.elementary.specs.Counts.{Tabulates};
+ghost use Rattle.space_planner.specs.Loads.{weights_by};
+ghost use Rattle.space_planner.specs.Plans.{IsBestUnder};
 ghost use Rattle.elementary.specs.Partitions.{IsFitting};
 ghost use Rattle.stored_plans.specs.Plans.{each_second_since};
 ghost use Rattle.plan_choice.specs.Bests.{IsBestFor};
 
 use elementary::{Partition, Table};
-use space_planner::{Load, plan};
+use space_planner::{Load, is_best, plan};
 use std::alloc::{AllocError, Global};
 use time_base::{Fraction, Span};
 
@@ -28,4 +32,28 @@ pub(crate) fn best_since(
     );
     let (partition, cost) = plan(alloc, table, factor, &load)?;
     Ok((partition, cost))
+}
+
+/// Whether a partition, from the first boundary to the last, is a best one where each second from a time
+/// on is as likely to be asked for. Costs what `space_planner::plan` does.
+pub(crate) fn is_best_since(
+    alloc: Global,
+    table: &Table,
+    factor: Fraction,
+    since: u64,
+    partition: &Partition,
+) -> Result<bool, AllocError>
+    requires first { slice_index partition.now 0 ≡ slice_index table.now.boundaries 0 }
+    requires last { slice_index partition.now (length partition.now - 1) ≡ slice_index table.now.boundaries (length table.now.boundaries - 1) }
+    ensures { IfOk result (λ b. (list : List Posting) (horizon : ℕ) → Tabulates list horizon table.now
+        → (IsTrue b ↔ IsBestUnder list table.now.boundaries (weights_by (each_second_since since) table.now.boundaries) factor (slice_index table.now.boundaries 0) horizon (drop 1 partition.now))) }
+{
+    let load = Load::new(
+        move |span: Span| -> u64
+            ensures value { result ≡ each_second_since since span.from span.to }
+            ensures few { result ≤ 2 ^ 40 }
+        { span.to.saturating_sub(since.max(span.from)) },
+    );
+    let best = is_best(alloc, table, factor, &load, partition)?;
+    Ok(best)
 }

@@ -1,5 +1,5 @@
 -- When what facts say of a document changes.
-use Rattle.std.specs.Prelude.{◌≡◌, ◌⊎◌, ℕ, ◌<◌, ◌≤◌, ◌&&◌, true, cond, if◌then◌else◌, nat_le, nat_lt, max, List, [], ◌∷◌, ◌++◌, get_or, filter, All, Contains, Option, Some, None, is_none, IsPermutation, refl}
+use Rattle.std.specs.Prelude.{◌≡◌, ◌⊎◌, ℕ, ◌<◌, ◌≤◌, ◌&&◌, true, cond, if◌then◌else◌, nat_le, nat_lt, max, List, [], ◌∷◌, ◌++◌, get_or, filter, All, Contains, Option, Some, None, IsPermutation, refl}
 use Rattle.std.specs.List.{filter_map, list_any}
 use Rattle.std.proofs.Common.{arith, ap, sym, ◌∙◌, subst, inl, inr}
 use Rattle.std.proofs.lemmas.Bool.{cases_lt}
@@ -68,7 +68,7 @@ score-still query facts d e t f h s =
     let (one, tell, is) = h d e in
     let (other, tells, so) = h d t in
     let g : List Fact = filter (of_doc d) facts in
-    let alive : alive_now e g ≡ alive_now t g = ap (λ l. list_any (λ x. is_none x.hit) l) s in
+    let alive : alive_now e g ≡ alive_now t g = ap (λ l. list_any (λ x. x.alive) l) s in
     let same : All (λ w. one w ≡ other w) (words_of query) =
     (λ k z l. ap one (get-any (words_of query) k z [] l) ∙ sym (tell k l) ∙ ap (λ l. found (filter_map (λ x. x.hit) l) k) s ∙ tells k l ∙ ap other (get-any (words_of query) k [] z l)) in
     is
@@ -79,7 +79,7 @@ score-still query facts d e t f h s =
 
 -- where no fact holds, nothing is scored
 score-none : (query : Query) (facts : List Fact) (d t : ℕ) (f : ℕ → ℕ → Option ℕ) → IsScored query facts f → filter (covers t) (filter (of_doc d) facts) ≡ [] → f d t ≡ None
-score-none query facts d t f h s = let (often, tell, is) = h d t in is ∙ ap (λ q. score_if q query often) (ap (λ l. list_any (λ x. is_none x.hit) l) s)
+score-none query facts d t f h s = let (often, tell, is) = h d t in is ∙ ap (λ q. score_if q query often) (ap (λ l. list_any (λ x. x.alive) l) s)
 
 -- at the events of a window what is scored changes
 pub events-change : (query : Query) (facts : List Fact) (a b : ℕ) (events : List Event) (f : ℕ → ℕ → Option ℕ) → IsScored query facts f → AreEvents facts a b events → ChangesAt events a b f

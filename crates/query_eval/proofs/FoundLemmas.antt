@@ -1,5 +1,5 @@
 -- What parts tell of documents, and the answer that is made of it.
-use Rattle.std.proofs.Common.{option_to_list, ◌≡◌, ◌≢◌, ◌⊎◌, ◌↔◌, ℕ, zero, suc, ◌+◌, ◌<◌, ◌==◌, ◌&&◌, Bool, true, false, cond, List, [], ◌∷◌, ◌++◌, length, map, take, get_or, filter, sum_by, All, Contains, Option, Some, None, refl, sym, ap, subst, ◌∙◌, arith, inl, inr, add-one, if◌then◌else◌}
+use Rattle.std.proofs.Common.{◌*◌, option_to_list, ◌≡◌, ◌≢◌, ◌⊎◌, ◌↔◌, ℕ, zero, suc, ◌+◌, ◌<◌, ◌==◌, ◌&&◌, Bool, true, false, cond, List, [], ◌∷◌, ◌++◌, length, map, take, get_or, filter, sum_by, All, Contains, Option, Some, None, refl, sym, ap, subst, ◌∙◌, arith, inl, inr, add-one, if◌then◌else◌}
 use Rattle.std.proofs.lemmas.Bool.{eq-eqb, eqb-true}
 use Rattle.std.proofs.lemmas.Bool.Decides.{nat_tests, eqb_tells}
 use Rattle.std.proofs.lemmas.List.{get_or-map, length-map, same_lists, take_more}
@@ -16,7 +16,7 @@ use Rattle.fold_tokens.proofs.CountLemmas.{itself}
 use Rattle.postings.specs.Lists.{holds, rows_at, frequency}
 use Rattle.postings.proofs.Order.{Heads, next-cons}
 use Rattle.query_lang.specs.Grammar.{Query}
-use Rattle.query_lang.specs.Meaning.{matches, words_of, is_positive, score}
+use Rattle.query_lang.specs.Meaning.{matches, words_of, weight, score}
 use Rattle.query_lang.proofs.Deciding.{agreeing, matches-same, score-same}
 use Rattle.query_eval.specs.Answers.{RanksBefore, AreRanked, IsRow, IsAnswer}
 use Rattle.query_eval.specs.Found.{told, row_of, same_row, once, AreSorted}
@@ -41,9 +41,9 @@ counts-are counts words often group n c f =
     let m : k < length words = omega (arith, l, n) in
     get-any counts k d 0 l ∙ c k m ∙ f k m ∙ sym (get_or-map often words k [] d m))
 
-sum-zeros : (words : List (List ℕ)) → sum_by (λ _. 0) words ≡ 0
-sum-zeros [] = refl
-sum-zeros (w ∷ words) = let h = sum-zeros words in let c = sum_by-cons (λ (_ : List ℕ). 0) w words in omega (arith, c, h)
+sum-zeros : (weigh : List ℕ → ℕ) (words : List (List ℕ)) → sum_by (λ w. weigh w * 0) words ≡ 0
+sum-zeros weigh [] = refl
+sum-zeros weigh (w ∷ words) = let h = sum-zeros weigh words in let c = sum_by-cons (λ w. weigh w * 0) w words in omega (arith, c, h)
 
 -- where there is no hit, no word occurs
 no-hits : (words : List (List ℕ)) (often : List ℕ → ℕ) (group : List Hit) → group ≡ [] → ((k : ℕ) → k < length words → found group k ≡ often (get_or words k [])) → All (λ w. often w ≡ 0) words
@@ -59,7 +59,7 @@ bare-matches : (query : Query) (often : List ℕ → ℕ) (group : List Hit) →
     → (matches query often ≡ matches query (λ _. 0)) × (score query often ≡ 0)
 bare-matches query often group e f =
     let a = no-hits (words_of query) often group e f in
-    (matches-same often (λ _. 0) query (agreeing often (λ _. 0) query a), score-same often (λ _. 0) query a ∙ sum-zeros (filter (is_positive query) (words_of query)))
+    (matches-same often (λ _. 0) query (agreeing often (λ _. 0) query a), score-same often (λ _. 0) query a ∙ sum-zeros (weight query) (words_of query))
 
 pub bare-some : (query : Query) (often : List ℕ → ℕ) (doc : DocId) (group : List Hit) → group ≡ [] → ((k : ℕ) → k < length (words_of query) → found group k ≡ often (get_or (words_of query) k []))
     → matches query (λ _. 0) ≡ true → Some (let r : Row = record { doc = doc; score = 0 } in r) ≡ row_of query often doc

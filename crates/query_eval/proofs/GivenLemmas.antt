@@ -23,7 +23,7 @@ some-word often (w ∷ words) = go (cases_lt 0 (often w)) (some-word often words
         each zero d l = omega (arith, h)
         each (suc k) d l = a k d (omega (arith, l))
 
-has-word : (often : List ℕ → ℕ) (query : Query) → matches query (λ _. 0) ≡ false → matches query often ≡ true → (k : ℕ) × (k < length (words_of query)) × (0 < often (get_or (words_of query) k []))
+pub has-word : (often : List ℕ → ℕ) (query : Query) → matches query (λ _. 0) ≡ false → matches query often ≡ true → (k : ℕ) × (k < length (words_of query)) × (0 < often (get_or (words_of query) k []))
 has-word often query bare m = go (some-word often (words_of query))
   where
     go : All (λ w. often w ≡ 0) (words_of query) ⊎ ((k : ℕ) × (k < length (words_of query)) × (0 < often (get_or (words_of query) k []))) → (k : ℕ) × (k < length (words_of query)) × (0 < often (get_or (words_of query) k []))

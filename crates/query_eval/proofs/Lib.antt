@@ -9,4 +9,5 @@ mod MadeLemmas
 mod Groups
 mod Changing
 mod FactLemmas
+pub mod OverHits
 pub mod SpanRows

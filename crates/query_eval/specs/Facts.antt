@@ -1,5 +1,5 @@
 -- What is known of documents over time, and what it says at a time.
-use Rattle.std.specs.Prelude.{◌≡◌, ◌<◌, ◌≤◌, ℕ, ◌+◌, ◌==◌, ◌&&◌, Bool, if◌then◌else◌, nat_le, nat_lt, max, List, [], ◌∷◌, ◌++◌, length, get_or, filter, map, Contains, Option, Some, None, is_none}
+use Rattle.std.specs.Prelude.{◌≡◌, ◌<◌, ◌≤◌, ℕ, ◌+◌, ◌==◌, ◌&&◌, Bool, true, if◌then◌else◌, nat_le, nat_lt, max, List, [], ◌∷◌, ◌++◌, length, get_or, filter, map, Contains, Option, Some, None}
 use Rattle.std.specs.List.{filter_map, list_any}
 use Rattle.time_base.specs.declared.posting.Posting.{Posting}
 use Rattle.stretches.specs.declared.event.Event.{Event}
@@ -11,17 +11,17 @@ use Rattle.query_eval.specs.declared.facts.Fact.{Fact}
 use Rattle.query_eval.specs.declared.hit.Hit.{Hit}
 use Rattle.query_eval.specs.declared.part.Part.{Part}
 
--- the fact of a life, and of a posting of the word at a place
+-- the fact of a life, and of a posting of the word at a place, which shows that the document is alive, or doesn't
 abbrev pub life_fact : Life → Fact
-life_fact l = record { doc = l.doc; span = l.span; hit = None }
+life_fact l = record { doc = l.doc; span = l.span; alive = true; hit = None }
 
-abbrev pub word_fact : ℕ → Posting → Fact
-word_fact place p = record { doc = p.doc; span = p.span; hit = Some (hit_of place p) }
+abbrev pub word_fact : Bool → ℕ → Posting → Fact
+word_fact shows place p = record { doc = p.doc; span = p.span; alive = shows; hit = Some (hit_of place p) }
 
 -- the facts of parts, of which the first is that of the word at a place
-abbrev pub facts_of : ℕ → List Part → List Fact
-facts_of place [] = []
-facts_of place (part ∷ parts) = map (word_fact place) part.list.items ++ facts_of (place + 1) parts
+abbrev pub facts_of : Bool → ℕ → List Part → List Fact
+facts_of shows place [] = []
+facts_of shows place (part ∷ parts) = map (word_fact shows place) part.list.items ++ facts_of shows (place + 1) parts
 
 -- the fact is of a document, before one, up to one
 abbrev pub of_doc : ℕ → Fact → Bool
@@ -36,7 +36,7 @@ abbrev pub hits_now : ℕ → List Fact → List Hit
 hits_now t facts = filter_map (λ f. f.hit) (filter (covers t) facts)
 
 abbrev pub alive_now : ℕ → List Fact → Bool
-alive_now t facts = list_any (λ f. is_none f.hit) (filter (covers t) facts)
+alive_now t facts = list_any (λ f. f.alive) (filter (covers t) facts)
 
 -- how often each word occurs is as hits say
 abbrev pub TellWords : Query → List Hit → (List ℕ → ℕ) → Type 0

@@ -11,13 +11,15 @@ use std::alloc::{AllocError, Global};
 use stretches::{Event, Life, sort_events};
 use time_base::{DocId, Posting, Span, Time};
 
-/// That a document is alive in a span, or has a word so often.
+/// That a document is alive in a span, or has a word so often, or both.
 #[derive(Clone, Copy, Debug)]
 pub(crate) struct Fact {
     /// The document.
     pub(crate) doc: DocId,
     /// When.
     pub(crate) span: Span,
+    /// Whether it shows that the document is alive.
+    pub(crate) alive: bool,
     /// The word; None where it is a life.
     pub(crate) hit: Option<Hit>,
 }
@@ -29,20 +31,27 @@ fn note_lives(facts: &mut Vec<Fact>, lives: &[Life]) -> Result<(), AllocError>
         facts.push(Fact {
             doc: life.doc,
             span: life.span,
+            alive: true,
             hit: None,
         })?;
     }
     Ok(())
 }
 
-/// The facts of the word at a place.
-fn note_word(facts: &mut Vec<Fact>, place: usize, list: &[Posting]) -> Result<(), AllocError>
-    ensures { OnOk result (facts.new.items ≡ facts.old.items ++ map (word_fact place) list.now) }
+/// The facts of the word at a place, which show that the documents are alive where `shows` says so.
+fn note_word(
+    facts: &mut Vec<Fact>,
+    shows: bool,
+    place: usize,
+    list: &[Posting],
+) -> Result<(), AllocError>
+    ensures { OnOk result (facts.new.items ≡ facts.old.items ++ map (word_fact shows place) list.now) }
 {
     for p in list {
         facts.push(Fact {
             doc: p.doc,
             span: p.span,
+            alive: shows,
             hit: Some(Hit {
                 doc: p.doc,
                 place,
@@ -54,13 +63,18 @@ fn note_word(facts: &mut Vec<Fact>, place: usize, list: &[Posting]) -> Result<()
 }
 
 /// The facts of lives, and then of all parts, word by word.
-fn gather(alloc: Global, parts: &[Part], lives: &[Life]) -> Result<Vec<Fact>, AllocError>
-    ensures { IfOk result (λ facts. facts.items ≡ map life_fact lives.now ++ facts_of 0 parts.now) }
+fn gather(
+    alloc: Global,
+    shows: bool,
+    parts: &[Part],
+    lives: &[Life],
+) -> Result<Vec<Fact>, AllocError>
+    ensures { IfOk result (λ facts. facts.items ≡ map life_fact lives.now ++ facts_of shows 0 parts.now) }
 {
     let mut facts = Vec::new(alloc);
     note_lives(&mut facts, lives)?;
     for (place, part) in parts.iter().enumerate() {
-        note_word(&mut facts, place, &part.list)?;
+        note_word(&mut facts, shows, place, &part.list)?;
     }
     Ok(facts)
 }
@@ -78,14 +92,15 @@ fn sort_by_doc(facts: &mut Vec<Fact>) -> Result<(), AllocError>
 /// lives and the postings, and a sort of both.
 pub(crate) fn facts_by_doc(
     alloc: Global,
+    shows: bool,
     parts: &[Part],
     lives: &[Life],
 ) -> Result<Vec<Fact>, AllocError>
     ensures sorted { IfOk result (λ facts. IsNonDecreasingBy (λ f. f.doc.0) facts.items) }
     ensures each { IfOk result (λ facts. (d : ℕ) → filter (of_doc d) facts.items
-        ≡ filter (of_doc d) (map life_fact lives.now ++ facts_of 0 parts.now)) }
+        ≡ filter (of_doc d) (map life_fact lives.now ++ facts_of shows 0 parts.now)) }
 {
-    let mut facts = gather(alloc, parts, lives)?;
+    let mut facts = gather(alloc, shows, parts, lives)?;
     sort_by_doc(&mut facts)?;
     Ok(facts)
 }

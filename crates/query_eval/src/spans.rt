@@ -1,14 +1,15 @@
 //! Answers to queries over a window of time.
-ghost use Rattle.std.specs.Prelude.{◌≡◌, ◌⊎◌, ◌+◌, ◌<◌, ◌≤◌, ℕ, List, Ok, Some, None, Option, length, drop, slice_index_or, IfOk, OnOk, IsErrOf, MatchOption};
+ghost use Rattle.std.specs.Prelude.{◌≡◌, ◌⊎◌, ◌+◌, ◌<◌, ◌≤◌, ℕ, Bool, true, false, List, Ok, Some, None, Option, length, drop, slice_index_or, IfOk, OnOk, IsErrOf, MatchOption};
 ghost use Rattle.std.specs.List.Sorted.{IsNonDecreasingBy};
 ghost use Rattle.stretches.specs.Events.{end_of};
 ghost use Rattle.stretches.specs.Kinds.{is_alive};
 ghost use Rattle.stretches.specs.Stretches.{AreStretches};
 ghost use Rattle.stretches.specs.declared.event.Event.{Event as EventValue};
-ghost use Rattle.query_lang.specs.Meaning.{words_of};
+ghost use Rattle.query_lang.specs.Meaning.{matches, words_of};
+ghost use Rattle.time_base.specs.declared.ids.DocId.{DocId as DocValue};
 ghost use Rattle.query_eval.specs.Asked.{Asks, AsksFront, AsksToFault, read_of};
 ghost use Rattle.query_eval.specs.Facts.{alive_now, hits_now, score_if, IsScored, TellWords};
-ghost use Rattle.query_eval.specs.Found.{told};
+ghost use Rattle.query_eval.specs.Found.{told, HasHit};
 ghost use Rattle.query_eval.specs.Spans.{row_kind, IsSpanAnswer};
 ghost use Rattle.query_eval.specs.declared.part.Part.{Part as PartValue};
 
@@ -93,9 +94,9 @@ fn gather_now(hits: &mut Vec<Hit>, group: &[Fact], t: Time) -> Result<bool, Allo
     let mut alive = false;
     for fact in group {
         if fact.span.from <= t.seconds && t.seconds < fact.span.to {
-            match fact.hit {
-                Some(hit) => hits.push(hit)?,
-                None => alive = true,
+            alive = alive || fact.alive;
+            if let Some(hit) = fact.hit {
+                hits.push(hit)?;
             }
         }
     }
@@ -200,7 +201,34 @@ pub fn answer_over(
         (λ doc t. told (words_of query.now) parts.now t doc.0) query.now span.from span.to a.rows.items) }
     ensures read { IfOk result (λ a. a.read ≡ read_of parts.now) }
 {
-    let facts = facts_by_doc(alloc, parts, lives)?;
+    let facts = facts_by_doc(alloc, false, parts, lives)?;
+    let mut room = room_for(alloc, query)?;
+    let rows = rows_over(alloc, query, span, &facts, &mut room)?;
+    Ok(SpanAnswer {
+        rows,
+        read: read_of(parts),
+    })
+}
+
+/// What the query finds in a window of time by the parts of the lists of its words as in `answer_over`,
+/// where a document counts as alive while it has one of the words. Where
+/// `Query::matches_without_words` is false, and whatever has a word in the window is alive then, these
+/// are the rows by the lives of all documents. Costs the postings and a sort of them, and for each time
+/// at which one of a document's begins or ends two searches, a look at the document's own, and, where
+/// it has a hit, the query's length.
+pub fn answer_over_hits(
+    alloc: Global,
+    query: &Query,
+    span: Span,
+    parts: &[Part],
+) -> Result<SpanAnswer, AllocError>
+    requires { length parts.now ≡ length (words_of query.now) }
+    ensures rows { IfOk result (λ a. (alive : DocValue → ℕ → Bool) → matches query.now (λ _. 0) ≡ false
+        → ((doc : DocValue) (t : ℕ) → span.from ≤ t → t < span.to → HasHit (words_of query.now) parts.now t doc → alive doc t ≡ true)
+        → IsSpanAnswer alive (λ doc t. told (words_of query.now) parts.now t doc.0) query.now span.from span.to a.rows.items) }
+    ensures read { IfOk result (λ a. a.read ≡ read_of parts.now) }
+{
+    let facts = facts_by_doc(alloc, true, parts, &[])?;
     let mut room = room_for(alloc, query)?;
     let rows = rows_over(alloc, query, span, &facts, &mut room)?;
     Ok(SpanAnswer {

@@ -1,12 +1,14 @@
 -- A query looks only at its words.
-use Rattle.std.proofs.Common.{◌≡◌, ℕ, suc, ◌+◌, nat_lt, Bool, true, false, cond, not, ◌||◌, ◌&&◌, List, [], ◌∷◌, ◌++◌, filter, sum_by, All, refl, sym, ap, ap₂, ◌∙◌, arith}
+use Rattle.std.proofs.Common.{◌≡◌, ℕ, suc, ◌+◌, ◌*◌, nat_lt, subst, Bool, true, false, not, ◌||◌, ◌&&◌, List, [], ◌∷◌, ◌++◌, sum_by, All, refl, sym, ap, ap₂, ◌∙◌, arith}
+use Rattle.std.proofs.lemmas.List.{map-append}
 use Rattle.std.proofs.lemmas.List.Folds.{list_any-append}
 use Rattle.std.proofs.lemmas.List.Sums.{sum_by-cons}
 use Rattle.std.specs.List.{list_any}
 use Rattle.std.specs.Str.{bytes_eq}
 use Rattle.fold_tokens.proofs.CountLemmas.{same, itself, member-with_all}
 use Rattle.query_lang.specs.Grammar.{Query, Has, Lacks, Both, Either}
-use Rattle.query_lang.specs.Meaning.{matches, occurring, words_of, is_positive, score}
+use Rattle.query_lang.specs.Meaning.{matches, terms_of, keys_of, occurring, words_of, weight, score}
+use Rattle.query_lang.specs.declared.term.Term.{Term}
 
 -- each of these words is as frequent by f as by g
 abbrev pub Agree : (List ℕ → ℕ) → (List ℕ → ℕ) → List (List ℕ) → Type 0
@@ -34,19 +36,21 @@ right f g xs ys h = λ w e. h w (list_any-append (bytes_eq w) xs ys ∙ ap (λ b
     go true = refl
     go false = refl
 
-pub matches-same : (f g : List ℕ → ℕ) (q : Query) → Agree f g (occurring q) → matches q f ≡ matches q g
-matches-same f g (Has key) h = ap (λ n. nat_lt 0 n) (h key (ap (λ b. b || false) (itself key)))
-matches-same f g (Lacks q) h = ap not (matches-same f g q h)
-matches-same f g (Both p q) h = ap₂ (λ a b. a && b) (matches-same f g p (left f g _ _ h)) (matches-same f g q (right f g (occurring p) _ h))
-matches-same f g (Either p q) h = ap₂ (λ a b. a || b) (matches-same f g p (left f g _ _ h)) (matches-same f g q (right f g (occurring p) _ h))
+agree-parts : (f g : List ℕ → ℕ) (p q : Query) → Agree f g (keys_of (terms_of p ++ terms_of q)) → Agree f g (occurring p ++ occurring q)
+agree-parts f g p q h = subst (Agree f g) (map-append (λ (t : Term). t.key) (terms_of p) (terms_of q)) h
 
-sums-same : (f g : List ℕ → ℕ) (p : List ℕ → Bool) (words : List (List ℕ)) → All (λ w. f w ≡ g w) words → sum_by f (filter p words) ≡ sum_by g (filter p words)
+pub matches-same : (f g : List ℕ → ℕ) (q : Query) → Agree f g (occurring q) → matches q f ≡ matches q g
+matches-same f g (Has term) h = ap (λ n. nat_lt 0 n) (h term.key (ap (λ b. b || false) (itself term.key)))
+matches-same f g (Lacks q) h = ap not (matches-same f g q h)
+matches-same f g (Both p q) h = let k = agree-parts f g p q h in ap₂ (λ a b. a && b) (matches-same f g p (left f g _ _ k)) (matches-same f g q (right f g (occurring p) _ k))
+matches-same f g (Either p q) h = let k = agree-parts f g p q h in ap₂ (λ a b. a || b) (matches-same f g p (left f g _ _ k)) (matches-same f g q (right f g (occurring p) _ k))
+
+sums-same : (f g p : List ℕ → ℕ) (words : List (List ℕ)) → All (λ w. f w ≡ g w) words → sum_by (λ w. p w * f w) words ≡ sum_by (λ w. p w * g w) words
 sums-same f g p [] h = refl
-sums-same f g p (w ∷ words) h = go (p w) (h 0 w (omega arith)) (sums-same f g p words (λ k d l. h (suc k) d (omega (arith, l))))
-  where
-    go : (b : Bool) → f w ≡ g w → sum_by f (filter p words) ≡ sum_by g (filter p words) → sum_by f (cond b (w ∷ filter p words) (filter p words)) ≡ sum_by g (cond b (w ∷ filter p words) (filter p words))
-    go true e r = sum_by-cons f w (filter p words) ∙ ap₂ (λ m n. m + n) e r ∙ sym (sum_by-cons g w (filter p words))
-    go false e r = r
+sums-same f g p (w ∷ words) h =
+    sum_by-cons (λ w. p w * f w) w words
+    ∙ ap₂ (λ m n. p w * m + n) (h 0 w (omega arith)) (sums-same f g p words (λ k d l. h (suc k) d (omega (arith, l))))
+    ∙ sym (sum_by-cons (λ w. p w * g w) w words)
 
 pub score-same : (f g : List ℕ → ℕ) (q : Query) → All (λ w. f w ≡ g w) (words_of q) → score q f ≡ score q g
-score-same f g q h = sums-same f g (is_positive q) (words_of q) h
+score-same f g q h = sums-same f g (weight q) (words_of q) h

@@ -3,6 +3,7 @@ pub mod Deciding
 mod NumberLemmas
 mod PostfixLaws
 mod ReadLemmas
+mod LightLemmas
 pub mod ReadingLaws
 mod Sound
 mod TokenLemmas

@@ -1,6 +1,7 @@
 -- The code's stacks follow the machine, and what they make has the query's meaning.
 use Rattle.std.specs.Prelude.{◌≡◌, ℕ, ◌+◌, nat_lt, Bool, true, false, not, List, [], ◌∷◌, ◌++◌, map, Option, Some, None, option_map, Result, Ok, Err, if◌then◌else◌, refl}
 use Rattle.std.proofs.Common.{ap, ◌∙◌, append_assoc, append-nil}
+use Rattle.query_lang.specs.declared.term.Term.{Term}
 use Rattle.query_lang.specs.declared.token.Token.{Token}
 use Rattle.query_lang.specs.declared.token.Token.TheVariants.{Word, Wordless, And, Or, Not, Open, Close}
 use Rattle.query_lang.specs.declared.token.Placed.{Placed}
@@ -10,8 +11,8 @@ use Rattle.query_lang.specs.declared.kind.Kind.{Kind}
 use Rattle.query_lang.specs.declared.kind.Kind.TheVariants.{AfterNot, AfterOpen, AfterAnd, AfterOr}
 use Rattle.query_lang.specs.Grammar.{Query, Has, Lacks, Both, Either}
 use Rattle.query_lang.specs.Machine.{Waiting, Negation, Parenthesis, AndThen, OrElse, Reading, Wants, Holds, opened, factor_ends, step, whole, or_place, read_from}
-use Rattle.query_lang.specs.Meaning.{matches, occurring, affirmed}
-use Rattle.query_lang.specs.Postfix.{postfix, pushed, pushed_even, built, built_by, tree}
+use Rattle.query_lang.specs.Meaning.{matches, terms_of, affirmed}
+use Rattle.query_lang.specs.Postfix.{postfix, pushed, pushed_even, built, built_by, tree, no_term}
 use Rattle.query_lang.specs.Evaluation.{truths_by, truths_of}
 use Rattle.query_lang.specs.Stacks.{Stacks, wanting, holding, open_count, is_even, settled, taken, ended, laid_from}
 
@@ -26,7 +27,7 @@ abbrev kinds : List Waiting → List Kind
 kinds ws = map kind_of ws
 
 -- the operators of the queries on the left of what waits
-abbrev laid : List Waiting → List (Op (List ℕ))
+abbrev laid : List Waiting → List (Op Term)
 laid [] = []
 laid (Negation ∷ ws) = laid ws
 laid (Parenthesis ∷ ws) = laid ws
@@ -113,7 +114,7 @@ ended-is (Holds (OrElse l ∷ AndThen m ∷ ws) q) = refl
 ended-is (Holds (OrElse l ∷ OrElse m ∷ ws) q) = refl
 
 -- the postfix form of a query that was read
-abbrev pub in_postfix : Result Query ℕ → Result (List (Op (List ℕ))) ℕ
+abbrev pub in_postfix : Result Query ℕ → Result (List (Op Term)) ℕ
 in_postfix (Ok q) = Ok (postfix true q)
 in_postfix (Err at) = Err at
 
@@ -121,7 +122,7 @@ in_postfix (Err at) = Err at
 pub laid-is : (end : ℕ) (r : Reading) (placed : List Placed) → laid_from end (stacks r) placed ≡ in_postfix (read_from end r placed)
 laid-is end r [] = ap (or_place end (λ x. Ok x)) (ended-is r) ∙ go (whole r)
   where
-    go : (o : Option Query) → or_place {B = List (Op (List ℕ))} end (λ x. Ok x) (option_map (postfix true) o) ≡ in_postfix (or_place end (λ q. Ok q) o)
+    go : (o : Option Query) → or_place {B = List (Op Term)} end (λ x. Ok x) (option_map (postfix true) o) ≡ in_postfix (or_place end (λ q. Ok q) o)
     go (Some q) = refl
     go None = refl
 laid-is end r (p ∷ placed) = ap (or_place p.at (λ s. laid_from end s placed)) (taken-is r p.token) ∙ go (λ s. laid-is end s placed) (step r p.token)
@@ -131,7 +132,7 @@ laid-is end r (p ∷ placed) = ap (or_place p.at (λ s. laid_from end s placed))
     go f (Some s) = f s
     go f None = refl
 
-built-append : (a b : List (Op (List ℕ))) (qs : List Query) → built (a ++ b) qs ≡ built b (built a qs)
+built-append : (a b : List (Op Term)) (qs : List Query) → built (a ++ b) qs ≡ built b (built a qs)
 built-append [] b qs = refl
 built-append (op ∷ a) b qs = built-append a b (built_by op qs)
 
@@ -147,22 +148,26 @@ built-postfix even (Either p q) qs =
 
 -- a query is the tree of its operators
 pub tree-postfix : (q : Query) → tree (postfix true q) ≡ q
-tree-postfix q = ap {B = Query} (λ qs. elim qs [ [] ↦ Has [] | p ∷ ps ↦ p ]) (built-postfix true q [])
+tree-postfix q = ap {B = Query} (λ qs. elim qs [ [] ↦ Has no_term | p ∷ ps ↦ p ]) (built-postfix true q [])
 
 truths-append : {W : Type 0} (f : W → ℕ) (a b : List (Op W)) (ts : List Bool) → truths_of f (a ++ b) ts ≡ truths_of f b (truths_of f a ts)
 truths-append f [] b ts = refl
 truths-append f (op ∷ a) b ts = truths-append f a b (truths_by f op ts)
 
+-- a word's frequency, by its key
+abbrev pub by_key : (List ℕ → ℕ) → Term → ℕ
+by_key f term = f term.key
+
 -- evaluating the operators in turn gives the query's truth
-pub truths-postfix : (f : List ℕ → ℕ) (even : Bool) (q : Query) (ts : List Bool) → truths_of f (postfix even q) ts ≡ matches q f ∷ ts
+pub truths-postfix : (f : List ℕ → ℕ) (even : Bool) (q : Query) (ts : List Bool) → truths_of (by_key f) (postfix even q) ts ≡ matches q f ∷ ts
 truths-postfix f even (Has key) ts = refl
-truths-postfix f even (Lacks q) ts = truths-append f (postfix (not even) q) (Negate ∷ []) ts ∙ ap (truths_by f Negate) (truths-postfix f (not even) q ts)
+truths-postfix f even (Lacks q) ts = truths-append (by_key f) (postfix (not even) q) (Negate ∷ []) ts ∙ ap (truths_by (by_key f) Negate) (truths-postfix f (not even) q ts)
 truths-postfix f even (Both p q) ts =
-    truths-append f (postfix even p) _ ts ∙ ap (truths_of f (postfix even q ++ Conjoin ∷ [])) (truths-postfix f even p ts)
-    ∙ truths-append f (postfix even q) (Conjoin ∷ []) _ ∙ ap (truths_by f Conjoin) (truths-postfix f even q (matches p f ∷ ts))
+    truths-append (by_key f) (postfix even p) _ ts ∙ ap (truths_of (by_key f) (postfix even q ++ Conjoin ∷ [])) (truths-postfix f even p ts)
+    ∙ truths-append (by_key f) (postfix even q) (Conjoin ∷ []) _ ∙ ap (truths_by (by_key f) Conjoin) (truths-postfix f even q (matches p f ∷ ts))
 truths-postfix f even (Either p q) ts =
-    truths-append f (postfix even p) _ ts ∙ ap (truths_of f (postfix even q ++ Disjoin ∷ [])) (truths-postfix f even p ts)
-    ∙ truths-append f (postfix even q) (Disjoin ∷ []) _ ∙ ap (truths_by f Disjoin) (truths-postfix f even q (matches p f ∷ ts))
+    truths-append (by_key f) (postfix even p) _ ts ∙ ap (truths_of (by_key f) (postfix even q ++ Disjoin ∷ [])) (truths-postfix f even p ts)
+    ∙ truths-append (by_key f) (postfix even q) (Disjoin ∷ []) _ ∙ ap (truths_by (by_key f) Disjoin) (truths-postfix f even q (matches p f ∷ ts))
 
 pub pushed-append : {W : Type 0} (a b : List (Op W)) → pushed (a ++ b) ≡ pushed a ++ pushed b
 pushed-append [] b = refl
@@ -180,7 +185,7 @@ pushed_even-append (Conjoin ∷ a) b = pushed_even-append a b
 pushed_even-append (Disjoin ∷ a) b = pushed_even-append a b
 
 -- the words that are pushed are those of the query
-pub pushed-postfix : (even : Bool) (q : Query) → pushed (postfix even q) ≡ occurring q
+pub pushed-postfix : (even : Bool) (q : Query) → pushed (postfix even q) ≡ terms_of q
 pushed-postfix even (Has key) = refl
 pushed-postfix even (Lacks q) = pushed-append (postfix (not even) q) _ ∙ append-nil _ ∙ pushed-postfix (not even) q
 pushed-postfix even (Both p q) = simp (pushed-append, append-nil, pushed-postfix even p, pushed-postfix even q)

@@ -4,6 +4,7 @@ use Rattle.std.proofs.Common.{arith, ap, sym, ◌∙◌, eqb-true, ltb-true, ltb
 use Rattle.std.proofs.lemmas.List.{length-map}
 use Rattle.std.proofs.lemmas.Bool.{eqb-false}
 use Rattle.std.proofs.Math.Seq.{take-length}
+use Rattle.query_lang.specs.declared.term.Term.{Term}
 use Rattle.query_lang.specs.declared.token.Token.{Token}
 use Rattle.query_lang.specs.declared.token.Placed.{Placed}
 use Rattle.query_lang.specs.Tokens.{tokens, plain}
@@ -74,7 +75,7 @@ reads end (s ∷ ss) r = go (λ m. reads end ss m) (step r s.token) refl
     go f None h = (0, record { within = omega arith; place = refl; reached = r; before = refl; unfinished = λ e. absurd (omega (arith, e)); stopped = λ lt. rw h refl })
 
 -- Each text is read as the grammar has it.
-pub is_read : (key : List ℕ → Option (List ℕ)) (text : List ℕ) → IsRead key text (read key text)
+pub is_read : (key : List ℕ → Option Term) (text : List ℕ) → IsRead key text (read key text)
 is_read key text = go (read key text) (reads (length text) (tokens key text) (Wants []))
   where
     ss : List Placed
@@ -128,7 +129,7 @@ one_break ts n m a b = go (nat_lt n m) (nat_lt m n) refl refl
     go false false h k = omega (arith, ltb-false _ _ h, ltb-false _ _ k)
 
 -- a text is read one way
-pub one_reading : (key : List ℕ → Option (List ℕ)) (text : List ℕ) (a b : Result Query ℕ) → IsRead key text a → IsRead key text b → a ≡ b
+pub one_reading : (key : List ℕ → Option Term) (text : List ℕ) (a b : Result Query ℕ) → IsRead key text a → IsRead key text b → a ≡ b
 one_reading key text (Ok p) (Ok q) v w = ap (λ x. Ok x) (one_query _ p q v w)
 one_reading key text (Ok p) (Err at) v (n, b, e) = absurd (b.unwritten p v)
 one_reading key text (Err at) (Ok q) (n, b, e) w = absurd (b.unwritten q w)

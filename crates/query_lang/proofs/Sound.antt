@@ -4,6 +4,7 @@ use Rattle.std.proofs.Common.{arith, ap, sym, subst, ◌∙◌, ltb-true, append
 use Rattle.query_lang.specs.declared.token.Token.{Token}
 use Rattle.query_lang.specs.declared.token.Token.TheVariants.{Word, Wordless, And, Or, Not, Open, Close}
 use Rattle.query_lang.specs.Grammar.{Query, Has, Both, Either, Expr, OneConj, Alternative, Conj, OneFactor, Joined, Factor, Negated, Group, Single, and_if, expr_tokens, conj_tokens, factor_tokens, expr_depth, conj_depth, factor_depth, expr_query, conj_query, factor_query, Writes, Begins}
+use Rattle.query_lang.specs.Postfix.{no_term}
 use Rattle.query_lang.specs.Machine.{Waiting, Negation, Parenthesis, AndThen, OrElse, Reading, Wants, Holds, opened, factor_ends, opening, or_comes, group_ends, step, whole, run}
 
 -- a query with a hole: where an expression may come, a conjunction, a factor
@@ -262,7 +263,7 @@ leads ts s e = run-leads ts (Wants []) s [] (record { hole = First (Start Top); 
 -- some query begins with the tokens before a hole, and with those before a conjunction's hole and the conjunction
 hole-begins : (h : FactorHole) → FactorFits h → Begins (factor_before h)
 hole-begins h k =
-    let f : Factor = Single [] in
+    let f : Factor = Single no_term in
     record {
       more = factor_tokens f ++ factor_behind h;
       query = expr_query (factor_filled h f);

@@ -8,13 +8,14 @@ abbrev pub Letter : Type 0
 Letter = Bool × (Bool × List ℕ)
 
 abbrev pub letters : Query → List Letter
-letters (Has key) = (true, (true, key)) ∷ []
+letters (Has term) = (true, (true, term.weight ∷ term.key)) ∷ []
 letters (Lacks q) = letters q ++ (true, (false, [])) ∷ []
 letters (Both p q) = letters p ++ (letters q ++ (false, (true, [])) ∷ [])
 letters (Either p q) = letters p ++ (letters q ++ (false, (false, [])) ∷ [])
 
 abbrev pub made_by : Letter → List Query → List Query
-made_by (true, (true, key)) qs = Has key ∷ qs
+made_by (true, (true, [])) qs = qs
+made_by (true, (true, weight ∷ key)) qs = Has (record { key = key; weight = weight }) ∷ qs
 made_by (true, (false, key)) [] = []
 made_by (true, (false, key)) (q ∷ qs) = Lacks q ∷ qs
 made_by (false, (both, key)) [] = []
@@ -27,7 +28,7 @@ made [] qs = qs
 made (l ∷ ls) qs = made ls (made_by l qs)
 
 abbrev pub last_made : List Query → Query
-last_made [] = Has []
+last_made [] = Has (record { key = []; weight = 0 })
 last_made (q ∷ qs) = q
 
 abbrev made-append : (a b : List Letter) (qs : List Query) → made (a ++ b) qs ≡ made b (made a qs)
@@ -35,7 +36,7 @@ made-append [] b qs = refl
 made-append (l ∷ a) b qs = made-append a b (made_by l qs)
 
 abbrev made-letters : (q : Query) (qs : List Query) → made (letters q) qs ≡ q ∷ qs
-made-letters (Has key) qs = refl
+made-letters (Has term) qs = refl
 made-letters (Lacks q) qs = made-append (letters q) _ qs ∙ ap (made_by (true, (false, []))) (made-letters q qs)
 made-letters (Both p q) qs =
     made-append (letters p) _ qs ∙ ap (made (letters q ++ (false, (true, [])) ∷ [])) (made-letters p qs)

@@ -1,6 +1,7 @@
 -- Evaluating operators in turn, by how often each word occurs.
-use Rattle.std.specs.Prelude.{ℕ, ◌+◌, if◌then◌else◌, ◌||◌, ◌&&◌, Bool, false, not, nat_lt, List, [], ◌∷◌}
+use Rattle.std.specs.Prelude.{ℕ, ◌+◌, ◌*◌, ◌==◌, max, slice_index, if◌then◌else◌, ◌||◌, ◌&&◌, Bool, true, false, not, nat_lt, List, [], ◌∷◌}
 use Rattle.query_lang.specs.declared.op.Op.{Op}
+use Rattle.query_lang.specs.declared.op.Spot.{Spot}
 use Rattle.query_lang.specs.declared.op.Op.TheVariants.{Push, Negate, Conjoin, Disjoin}
 
 -- the truths on a pile after one operator
@@ -25,8 +26,21 @@ abbrev pub top_truth : List Bool → Bool
 top_truth [] = false
 top_truth (b ∷ truths) = b
 
--- the sum of those counts that are marked
-abbrev pub scored : List Bool → List ℕ → ℕ
+-- how often the word at a place occurs
+abbrev pub count_of : List ℕ → Spot → ℕ
+count_of counts spot = slice_index counts spot.place
+
+-- the greatest weight of the word at a place under an even number of `not`
+abbrev pub most_at : ℕ → List (Op Spot) → ℕ
+most_at k [] = 0
+most_at k (Push spot true ∷ ops) = if spot.place == k then max spot.weight (most_at k ops) else most_at k ops
+most_at k (Push spot false ∷ ops) = most_at k ops
+most_at k (Negate ∷ ops) = most_at k ops
+most_at k (Conjoin ∷ ops) = most_at k ops
+most_at k (Disjoin ∷ ops) = most_at k ops
+
+-- the sum of the counts, each by its weight
+abbrev pub scored : List ℕ → List ℕ → ℕ
 scored [] counts = 0
-scored (b ∷ marks) [] = 0
-scored (b ∷ marks) (n ∷ counts) = (if b then n else 0) + scored marks counts
+scored (w ∷ weights) [] = 0
+scored (w ∷ weights) (n ∷ counts) = w * n + scored weights counts

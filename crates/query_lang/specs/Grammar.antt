@@ -1,13 +1,14 @@
 -- The grammar of queries.
 use Rattle.std.specs.Prelude.{◌≡◌, ℕ, zero, suc, ◌+◌, ◌<◌, ◌≤◌, max, Bool, true, false, List, [], ◌∷◌, ◌++◌, length, take, Option, Result, Ok, Err}
+use Rattle.query_lang.specs.declared.term.Term.{Term}
 use Rattle.query_lang.specs.declared.token.Token.{Token}
 use Rattle.query_lang.specs.declared.token.Token.TheVariants.{Word, And, Or, Not, Open, Close}
 use Rattle.query_lang.specs.declared.token.Placed.{Placed}
 use Rattle.query_lang.specs.Tokens.{tokens, plain}
 
--- a query: a word by its key, what lacks a query, what has both of two, what has at least one of two
+-- a query: a word by its key, with its weight, what lacks a query, what has both of two, what has at least one of two
 pub data Query : Type 0 where
-  Has : List ℕ → Query
+  Has : Term → Query
   Lacks : Query → Query
   Both : Query → Query → Query
   Either : Query → Query → Query
@@ -29,7 +30,7 @@ mutual
   pub data Factor : Type 0 where
     Negated : Factor → Factor
     Group : Expr → Factor
-    Single : List ℕ → Factor
+    Single : Term → Factor
 
 -- `and` where it is written
 abbrev pub and_if : Bool → List Token
@@ -49,7 +50,7 @@ abbrev mutual
   pub factor_tokens : Factor → List Token
   factor_tokens (Negated f) = Not ∷ factor_tokens f
   factor_tokens (Group e) = Open ∷ (expr_tokens e ++ Close ∷ [])
-  factor_tokens (Single key) = Word key ∷ []
+  factor_tokens (Single term) = Word term ∷ []
 
 -- how many `not` and `(` are open at once at most
 abbrev mutual
@@ -64,7 +65,7 @@ abbrev mutual
   pub factor_depth : Factor → ℕ
   factor_depth (Negated f) = 1 + factor_depth f
   factor_depth (Group e) = 1 + expr_depth e
-  factor_depth (Single key) = 0
+  factor_depth (Single term) = 0
 
 -- the query that each writes
 abbrev mutual
@@ -79,7 +80,7 @@ abbrev mutual
   pub factor_query : Factor → Query
   factor_query (Negated f) = Lacks (factor_query f)
   factor_query (Group e) = expr_query e
-  factor_query (Single key) = Has key
+  factor_query (Single term) = Has term
 
 -- these tokens write this query, with at most 64 `not` and `(` open at once
 pub record Writes (tokens : List Token) (query : Query) : Type 0 where
@@ -108,7 +109,7 @@ place_at end (p ∷ placed) zero = p.at
 place_at end (p ∷ placed) (suc n) = place_at end placed n
 
 -- What a text is read as: the query that its tokens write, or the place of the token behind the longest front that begins some
--- query, which is the text's length where there is none. The first argument gives the key of a word.
-abbrev pub IsRead : (List ℕ → Option (List ℕ)) → List ℕ → Result Query ℕ → Type 0
+-- query, which is the text's length where there is none. The first argument gives the key and the weight of a word.
+abbrev pub IsRead : (List ℕ → Option Term) → List ℕ → Result Query ℕ → Type 0
 IsRead key text (Ok q) = Writes (plain (tokens key text)) q
 IsRead key text (Err at) = (n : ℕ) × BreakAt (plain (tokens key text)) n × (at ≡ place_at (length text) (tokens key text) n)

@@ -1,5 +1,6 @@
 -- A machine that reads queries token by token.
 use Rattle.std.specs.Prelude.{ℕ, ◌+◌, if◌then◌else◌, List, [], ◌∷◌, length, nat_lt, Option, Some, None, option_and_then, Result, Ok, Err}
+use Rattle.query_lang.specs.declared.term.Term.{Term}
 use Rattle.query_lang.specs.declared.token.Token.{Token}
 use Rattle.query_lang.specs.declared.token.Token.TheVariants.{Word, Wordless, And, Or, Not, Open, Close}
 use Rattle.query_lang.specs.declared.token.Placed.{Placed}
@@ -54,14 +55,14 @@ group_ends ws q = None
 
 -- what a token makes of a reading, where a query may go on with it
 abbrev pub step : Reading → Token → Option Reading
-step (Wants ws) (Word key) = Some (factor_ends ws (Has key))
+step (Wants ws) (Word term) = Some (factor_ends ws (Has term))
 step (Wants ws) Not = opening Negation ws
 step (Wants ws) Open = opening Parenthesis ws
 step (Wants ws) Close = None
 step (Wants ws) And = None
 step (Wants ws) Or = None
 step (Wants ws) Wordless = None
-step (Holds ws q) (Word key) = Some (factor_ends (AndThen q ∷ ws) (Has key))
+step (Holds ws q) (Word term) = Some (factor_ends (AndThen q ∷ ws) (Has term))
 step (Holds ws q) Not = opening Negation (AndThen q ∷ ws)
 step (Holds ws q) Open = opening Parenthesis (AndThen q ∷ ws)
 step (Holds ws q) Close = group_ends ws q
@@ -91,5 +92,5 @@ read_from end reading [] = or_place end (λ q. Ok q) (whole reading)
 read_from end reading (p ∷ placed) = or_place p.at (λ r. read_from end r placed) (step reading p.token)
 
 -- the query of a text, or the place of the first token with which no query goes on; the first argument gives the key of a word
-abbrev pub read : (List ℕ → Option (List ℕ)) → List ℕ → Result Query ℕ
+abbrev pub read : (List ℕ → Option Term) → List ℕ → Result Query ℕ
 read key text = read_from (length text) (Wants []) (tokens key text)

@@ -1,12 +1,13 @@
 -- Queries as the code keeps them: each operator behind what it joins.
-use Rattle.std.specs.Prelude.{ℕ, Bool, true, false, not, List, [], ◌∷◌, ◌++◌}
+use Rattle.std.specs.Prelude.{Bool, true, false, not, List, [], ◌∷◌, ◌++◌}
+use Rattle.query_lang.specs.declared.term.Term.{Term}
 use Rattle.query_lang.specs.declared.op.Op.{Op}
 use Rattle.query_lang.specs.declared.op.Op.TheVariants.{Push, Negate, Conjoin, Disjoin}
 use Rattle.query_lang.specs.Grammar.{Query, Has, Lacks, Both, Either}
 
 -- the operators of a query that stands under an even number of `not` or not; each word is marked so too
-abbrev pub postfix : Bool → Query → List (Op (List ℕ))
-postfix even (Has key) = Push key even ∷ []
+abbrev pub postfix : Bool → Query → List (Op Term)
+postfix even (Has term) = Push term even ∷ []
 postfix even (Lacks q) = postfix (not even) q ++ Negate ∷ []
 postfix even (Both p q) = postfix even p ++ (postfix even q ++ Conjoin ∷ [])
 postfix even (Either p q) = postfix even p ++ (postfix even q ++ Disjoin ∷ [])
@@ -29,8 +30,8 @@ pushed_even (Conjoin ∷ ops) = pushed_even ops
 pushed_even (Disjoin ∷ ops) = pushed_even ops
 
 -- the queries on a pile after one operator
-abbrev pub built_by : Op (List ℕ) → List Query → List Query
-built_by (Push key even) qs = Has key ∷ qs
+abbrev pub built_by : Op Term → List Query → List Query
+built_by (Push term even) qs = Has term ∷ qs
 built_by Negate [] = []
 built_by Negate (q ∷ qs) = Lacks q ∷ qs
 built_by Conjoin [] = []
@@ -40,15 +41,19 @@ built_by Disjoin [] = []
 built_by Disjoin (q ∷ []) = q ∷ []
 built_by Disjoin (q ∷ p ∷ qs) = Either p q ∷ qs
 
-abbrev pub built : List (Op (List ℕ)) → List Query → List Query
+abbrev pub built : List (Op Term) → List Query → List Query
 built [] qs = qs
 built (op ∷ ops) qs = built ops (built_by op qs)
 
+-- a word of nothing
+abbrev pub no_term : Term
+no_term = record { key = []; weight = 0 }
+
 -- the query on top of a pile
 abbrev pub top_query : List Query → Query
-top_query [] = Has []
+top_query [] = Has no_term
 top_query (q ∷ qs) = q
 
 -- the query that operators spell
-abbrev pub tree : List (Op (List ℕ)) → Query
+abbrev pub tree : List (Op Term) → Query
 tree ops = top_query (built ops [])

@@ -3,13 +3,13 @@
 ghost use Rattle.std.specs.Prelude.{◌≡◌, ℕ, List, Result, All};
 ghost use Rattle.query_lang.specs.Grammar.{Query, IsRead};
 ghost use Rattle.query_lang.specs.Meaning.{matches, words_of, score};
-ghost use Rattle.query_lang.specs.Tokens.{key_of};
+ghost use Rattle.query_lang.specs.Tokens.{term_of};
 
 /// The grammar leaves no text out, and reads none in two ways.
 pub fn each_text_is_read_one_way()
-    ensures total { (text : List ℕ) → (r : Result Query ℕ) × IsRead key_of text r }
+    ensures total { (text : List ℕ) → (r : Result Query ℕ) × IsRead term_of text r }
     ensures one { (text : List ℕ) (r s : Result Query ℕ)
-        → IsRead key_of text r → IsRead key_of text s → r ≡ s }
+        → IsRead term_of text r → IsRead term_of text s → r ≡ s }
 {}
 
 /// Two texts in which each word of a query is as frequent are one to the query.

@@ -17,9 +17,11 @@ mod op;
 mod pile;
 mod query;
 mod reader;
+mod term;
 mod token;
 
 pub use error::QueryError;
 pub use laws::{each_text_is_read_one_way, words_decide};
 pub use pile::Pile;
 pub use query::{MOST_QUERY_BYTES, Query};
+pub use term::Term;

@@ -1,10 +1,12 @@
 //! The distinct words of operators, and their places among these.
-ghost use Rattle.std.specs.Prelude.{◌≡◌, [], ◌∷◌, ◌<◌, length, All, get_or, IfOk, OnOk};
+ghost use Rattle.std.specs.Prelude.{◌≡◌, [], ◌∷◌, ◌<◌, ℕ, length, map, All, get_or, max, slice_set, if◌then◌else◌, IfOk, OnOk};
 ghost use Rattle.fold_tokens.specs.Words.{entered, with_all, distinct};
+ghost use Rattle.query_lang.specs.Meaning.{keys_of, greatest};
 ghost use Rattle.query_lang.specs.Numbered.{IsPlaced, named_by, named};
 ghost use Rattle.query_lang.specs.Postfix.{pushed, pushed_even};
 
-use crate::op::Op;
+use crate::op::{Op, Spot};
+use crate::term::Term;
 use indexmap::IndexSet;
 use std::alloc::{AllocError, Global};
 use time_base::Key;
@@ -20,23 +22,16 @@ fn place_of(words: &mut IndexSet<Key>, key: &Key) -> Result<usize, AllocError>
 }
 
 /// Enters the words of an operator, and names its word by its place.
-fn number(
-    op: &Op<Key>,
-    words: &mut IndexSet<Key>,
-    affirmed: &mut IndexSet<Key>,
-) -> Result<Op<usize>, AllocError>
-    ensures words { OnOk result (words.new.keys ≡ with_all words.old.keys (pushed (op.now ∷ []))) }
-    ensures affirmed { OnOk result (affirmed.new.keys ≡ with_all affirmed.old.keys (pushed_even (op.now ∷ []))) }
+fn number(op: &Op<Term>, words: &mut IndexSet<Key>) -> Result<Op<Spot>, AllocError>
+    ensures words { OnOk result (words.new.keys ≡ with_all words.old.keys (keys_of (pushed (op.now ∷ [])))) }
     ensures op { IfOk result (λ o. named_by words.new.keys o ≡ op.now) }
     ensures placed { IfOk result (λ o. IsPlaced (length words.new.keys) o) }
 {
     match op {
-        Op::Push(key, even) => {
-            let place = place_of(words, key)?;
-            if *even {
-                let _ = place_of(affirmed, key)?;
-            }
-            Ok(Op::Push(place, *even))
+        Op::Push(term, even) => {
+            let place = place_of(words, &term.key)?;
+            let weight = term.weight;
+            Ok(Op::Push(Spot { place, weight }, *even))
         }
         Op::Negate => Ok(Op::Negate),
         Op::Conjoin => Ok(Op::Conjoin),
@@ -49,28 +44,20 @@ fn number(
 pub(crate) struct Numbering {
     /// The distinct words in the order of first occurrence.
     pub(crate) words: IndexSet<Key>,
-    /// Those that stand somewhere under an even number of `not`.
-    pub(crate) affirmed: IndexSet<Key>,
     /// The operators.
-    pub(crate) ops: Vec<Op<usize>>,
+    pub(crate) ops: Vec<Op<Spot>>,
 }
 
 /// The operators with the places of their words. Costs a look-up for each.
-pub(crate) fn numbered(alloc: Global, laid: &[Op<Key>]) -> Result<Numbering, AllocError>
-    ensures words { IfOk result (λ n. n.words.keys ≡ distinct (pushed laid.now)) }
-    ensures affirmed { IfOk result (λ n. n.affirmed.keys ≡ distinct (pushed_even laid.now)) }
+pub(crate) fn numbered(alloc: Global, laid: &[Op<Term>]) -> Result<Numbering, AllocError>
+    ensures words { IfOk result (λ n. n.words.keys ≡ distinct (keys_of (pushed laid.now))) }
     ensures ops { IfOk result (λ n. named n.words.keys n.ops.items ≡ laid.now) }
     ensures placed { IfOk result (λ n. All (IsPlaced (length n.words.keys)) n.ops.items) }
 {
     let mut words = IndexSet::new(alloc);
-    let mut affirmed = IndexSet::new(alloc);
     let mut ops = Vec::new(alloc);
     for op in laid {
-        ops.push(number(op, &mut words, &mut affirmed)?)?;
+        ops.push(number(op, &mut words)?)?;
     }
-    Ok(Numbering {
-        words,
-        affirmed,
-        ops,
-    })
+    Ok(Numbering { words, ops })
 }

@@ -1,20 +1,20 @@
 //! Queries.
-ghost use Rattle.std.specs.Prelude.{◌≡◌, ◌≤◌, ℕ, List, [], true, length, map, All, Ok, Err, IfOk, IsErrOf};
-ghost use Rattle.std.specs.List.{list_any};
-ghost use Rattle.std.specs.Str.{bytes_eq};
+ghost use Rattle.std.specs.Prelude.{◌≡◌, ◌≤◌, ℕ, ◌<◌, List, [], true, length, map, All, Ok, Err, IfOk, IsErrOf};
+ghost use Rattle.std.specs.List.{slice_index_or};
 ghost use Rattle.query_lang.specs.Grammar.{IsRead};
-ghost use Rattle.query_lang.specs.Meaning.{matches, words_of, is_positive, score};
+ghost use Rattle.query_lang.specs.Meaning.{matches, words_of, weight, score};
 ghost use Rattle.query_lang.specs.Postfix.{postfix, pushed, tree};
-ghost use Rattle.query_lang.specs.Tokens.{key_of};
+ghost use Rattle.query_lang.specs.Tokens.{term_of};
 ghost use Rattle.query_lang.specs.Evaluation.{truths_of, top_truth};
 ghost use Rattle.query_lang.specs.Numbered.{IsPlaced};
 
 use crate::error::QueryError;
-use crate::evaluation::{evaluated, scored};
+use crate::evaluation::{evaluated, scored, weights_of};
 use crate::numbering::{Numbering, numbered};
-use crate::op::Op;
+use crate::op::{Op, Spot};
 use crate::pile::Pile;
 use crate::reader::laid_of;
+use crate::term::Term;
 use crate::token::tokens_of;
 use indexmap::IndexSet;
 use std::alloc::{AllocError, Global};
@@ -31,8 +31,8 @@ pub const MOST_QUERY_BYTES: usize = 4096;
 #[derive(Drop)]
 pub struct Query {
     words: IndexSet<Key>,
-    positive: Vec<bool>,
-    ops: Vec<Op<usize>>,
+    weights: Vec<u32>,
+    ops: Vec<Op<Spot>>,
     bare: bool,
 }
 
@@ -48,19 +48,20 @@ impl Model for Query {
 
     ghost view = { λ q. tree (named q.words.keys q.ops.items) };
 
-    ghost invariant = { λ q. AreQuery q.words.keys q.positive.items q.ops.items q.bare };
+    ghost invariant = { λ q. AreQuery q.words.keys q.weights.items q.ops.items q.bare };
 }
 
 impl Query {
     /// The query that a text spells. Its tokens are the parentheses and the longest stretches of
     /// bytes without spaces and parentheses; `and`, `or` and `not` in these letters are operators,
-    /// and another token is a word where `one_term` gives its key. `BadQuery` names the token behind
+    /// and another token is a word where `one_term` gives its key,
+    /// or where it is a word, `^`, and a weight from 1 to 1,000. `BadQuery` names the token behind
     /// the longest front that begins some query. Its cost grows with the length of the text.
     pub fn read(alloc: Global, text: &str) -> Result<Query, QueryError>
         requires { length text.now ≤ 4096 }
-        ensures query { IfOk result (λ q. IsRead key_of text.now (Ok q)) }
+        ensures query { IfOk result (λ q. IsRead term_of text.now (Ok q)) }
         ensures bad { (at : ℕ) → IsErrOf result (QueryError.BadQuery at)
-            → IsRead key_of text.now (Err at) }
+            → IsRead term_of text.now (Err at) }
     {
         let tokens = tokens_of(alloc, text.as_bytes())?;
         match laid_of(alloc, &tokens, text.len()) {
@@ -77,12 +78,13 @@ impl Query {
         self.words.as_slice()
     }
 
-    /// Which of the words are positive, by their places: each that stands somewhere under an even
-    /// number of `not`. Constant cost.
-    pub fn positive(&self) -> &[bool]
-        ensures { result.now ≡ map (is_positive self.now) (words_of self.now) }
+    /// How much the word at a place weighs: the greatest weight that it has under an even number of
+    /// `not`; 0 where it stands under none. Constant cost.
+    pub fn weight(&self, index: usize) -> u32
+        requires { index < length (words_of self.now) }
+        ensures { result ≡ weight self.now (slice_index_or (words_of self.now) index []) }
     {
-        self.positive.as_slice()
+        self.weights[index]
     }
 
     /// Whether a text that has none of the words matches. Where it doesn't, only documents with one
@@ -110,27 +112,12 @@ impl Query {
         ensures { (often : List ℕ → ℕ) → counts.now ≡ map often (words_of self.now)
             → result ≡ score self.now often }
     {
-        scored(&self.positive, counts)
+        scored(&self.weights, counts)
     }
 }
 
-/// Which of the words are among those that are affirmed.
-fn positive_of(
-    alloc: Global,
-    words: &IndexSet<Key>,
-    affirmed: &IndexSet<Key>,
-) -> Result<Vec<bool>, AllocError>
-    ensures { IfOk result (λ v. v.items ≡ map (λ w. list_any (bytes_eq w) affirmed.now.keys) words.now.keys) }
-{
-    words
-        .as_slice()
-        .iter()
-        .map(|word| affirmed.contains(word))
-        .collect(alloc)
-}
-
 /// Whether a text matches in which each of so many words occurs 0 times.
-fn bare_of(alloc: Global, ops: &[Op<usize>], words: usize) -> Result<bool, AllocError>
+fn bare_of(alloc: Global, ops: &[Op<Spot>], words: usize) -> Result<bool, AllocError>
     requires { All (IsPlaced words) ops.now }
     ensures { IfOk result (λ b. b ≡ top_truth (truths_of (λ _. 0) ops.now [])) }
 {
@@ -139,21 +126,18 @@ fn bare_of(alloc: Global, ops: &[Op<usize>], words: usize) -> Result<bool, Alloc
 }
 
 /// The query of operators in postfix form.
-fn query_of(alloc: Global, laid: &[Op<Key>]) -> Result<Query, AllocError>
+fn query_of(alloc: Global, laid: &[Op<Term>]) -> Result<Query, AllocError>
     requires spelled { laid.now ≡ postfix true (tree laid.now) }
     requires few { length (pushed laid.now) ≤ 4096 }
+    requires light { All (λ t. t.weight ≤ 1000) (pushed laid.now) }
     ensures { IfOk result (λ q. q ≡ tree laid.now) }
 {
-    let Numbering {
-        words,
-        affirmed,
-        ops,
-    } = numbered(alloc, laid)?;
-    let positive = positive_of(alloc, &words, &affirmed)?;
+    let Numbering { words, ops } = numbered(alloc, laid)?;
+    let weights = weights_of(alloc, &ops, words.len())?;
     let bare = bare_of(alloc, &ops, words.len())?;
     Ok(Query {
         words,
-        positive,
+        weights,
         ops,
         bare,
     })

@@ -6,10 +6,10 @@ use crate::error::QueryError;
 use crate::kind::Kind;
 use crate::op::Op;
 use crate::pile::Pile;
+use crate::term::Term;
 use crate::token::{Placed, Token};
 use std::alloc::{AllocError, Global};
 use std::marker::Model;
-use time_base::Key;
 
 /// The most `not` and `(` that may be open at once.
 const MOST_OPEN: usize = 64;
@@ -19,7 +19,7 @@ const MOST_OPEN: usize = 64;
 #[derive(Debug, Drop)]
 struct Reader {
     kinds: Pile<Kind>,
-    laid: Vec<Op<Key>>,
+    laid: Vec<Op<Term>>,
     holds: bool,
 }
 
@@ -69,7 +69,7 @@ impl Reader {
         even
     }
 
-    fn lay(&mut self, op: Op<Key>) -> Result<(), AllocError>
+    fn lay(&mut self, op: Op<Term>) -> Result<(), AllocError>
         ensures { OnOk result (self.new ≡ record self.old { laid = self.old.laid ++ op ∷ [] }) }
     {
         self.laid.push(op)?;
@@ -77,7 +77,7 @@ impl Reader {
     }
 
     /// The operator of a `not` or an `and` that a factor ends, which is taken off.
-    fn ending(&mut self) -> Option<Op<Key>>
+    fn ending(&mut self) -> Option<Op<Term>>
         ensures kinds { IfSome result (λ op. settled self.old.kinds self.old.laid ≡ settled self.new.kinds (self.new.laid ++ op ∷ [])) }
         ensures less { IfSome result (λ _. length self.new.kinds < length self.old.kinds) }
         ensures none { IfNone result (settled self.old.kinds self.old.laid ≡ holding self.new.kinds self.new.laid) }
@@ -113,13 +113,13 @@ impl Reader {
         Ok(())
     }
 
-    fn word(&mut self, key: Key) -> Result<(), AllocError>
+    fn word(&mut self, term: Term) -> Result<(), AllocError>
         ensures { OnOk result (self.new ≡ settled (begun self.old)
-            (self.old.laid ++ Op.Push key (is_even self.old.kinds) ∷ [])) }
+            (self.old.laid ++ Op.Push term (is_even self.old.kinds) ∷ [])) }
     {
         let even = self.is_even();
         self.begin()?;
-        self.lay(Op::Push(key, even))?;
+        self.lay(Op::Push(term, even))?;
         self.settle()
     }
 
@@ -192,8 +192,8 @@ impl Reader {
         ensures { IfOk result (λ moved. Moves (taken self.old token.now) moved self.new) }
     {
         match token {
-            Token::Word(key) => {
-                self.word(key.clone()?)?;
+            Token::Word(term) => {
+                self.word(term.copied()?)?;
                 Ok(true)
             }
             Token::Not => self.opens(Kind::AfterNot),
@@ -206,7 +206,7 @@ impl Reader {
     }
 
     /// The operators, where the query may end here.
-    fn end(mut self) -> Result<Option<Vec<Op<Key>>>, AllocError>
+    fn end(mut self) -> Result<Option<Vec<Op<Term>>>, AllocError>
         ensures { IfOk result (λ laid. option_map (λ v. v.items) laid ≡ ended self) }
     {
         if !self.holds {
@@ -226,7 +226,7 @@ pub(crate) fn laid_of(
     alloc: Global,
     tokens: &[Placed],
     end: usize,
-) -> Result<Vec<Op<Key>>, QueryError>
+) -> Result<Vec<Op<Term>>, QueryError>
     ensures laid { IfOk result (λ v. laid_from end (wanting [] []) tokens.now ≡ Ok v.items) }
     ensures bad { (at : ℕ) → IsErrOf result (QueryError.BadQuery at)
         → laid_from end (wanting [] []) tokens.now ≡ Err at }

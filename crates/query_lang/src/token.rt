@@ -1,17 +1,21 @@
 //! The tokens of a query's text.
-ghost use Rattle.std.specs.Prelude.{◌≡◌, ◌+◌, ◌-◌, ◌≤◌, ◌<◌, ◌∷◌, ◌++◌, ℕ, List, length, take, drop, slice_index, IfOk, OnOk};
-ghost use Rattle.query_lang.specs.Tokens.{role, token_of, closed, tokens_from, tokens, key_of};
+ghost use Rattle.std.specs.Prelude.{◌≡◌, ◌+◌, ◌-◌, ◌≤◌, ◌<◌, ◌∷◌, ◌++◌, ℕ, List, length, take, drop, slice_index, option_map, IfSome, IfOk, OnOk};
+ghost use Rattle.query_lang.specs.Tokens.{role, token_of, closed, tokens_from, tokens, key_of, weight_from, parted, weighted, term_of};
 
+use crate::term::Term;
 use fold_tokens::one_term;
 use std::alloc::{AllocError, Global};
 use std::str;
 use time_base::Key;
 
+/// The most that a word may weigh.
+const MOST_WEIGHT: u32 = 1_000;
+
 /// A token of a query's text.
 #[derive(Debug, Drop)]
 pub(crate) enum Token {
-    /// A word by its key.
-    Word(Key),
+    /// A word.
+    Word(Term),
     /// What is no operator and has no key.
     Wordless,
     And,
@@ -66,9 +70,70 @@ fn key_of(alloc: Global, bytes: &[u8]) -> Result<Option<Key>, AllocError>
     }
 }
 
+/// The weight that digits say, from 1 to 1,000.
+fn weight_of(bytes: &[u8]) -> Option<u32>
+    ensures { result ≡ weight_from 0 bytes.now }
+{
+    let mut weight = 0;
+    for b in bytes {
+        if !b.is_ascii_digit() {
+            return None;
+        }
+        weight = 10 * weight + u32::from(*b - b'0');
+        if weight > MOST_WEIGHT {
+            return None;
+        }
+    }
+    if weight == 0 {
+        return None;
+    }
+    Some(weight)
+}
+
+/// The place of the last `^`.
+fn last_caret(bytes: &[u8]) -> Option<usize>
+    ensures parts { option_map (λ i. (take i bytes.now, drop (i + 1) bytes.now)) result ≡ parted bytes.now }
+    ensures within { IfSome result (λ i. i < length bytes.now) }
+{
+    let mut i = bytes.len();
+    while i > 0 {
+        i -= 1;
+        if bytes[i] == b'^' {
+            return Some(i);
+        }
+    }
+    None
+}
+
+/// The word of bytes that are one with a weight behind it.
+fn weighted(alloc: Global, bytes: &[u8]) -> Result<Option<Term>, AllocError>
+    ensures { IfOk result (λ t. t ≡ weighted (parted bytes.now)) }
+{
+    let Some(i) = last_caret(bytes) else {
+        return Ok(None);
+    };
+    let Some(key) = key_of(alloc, &bytes[..i])? else {
+        return Ok(None);
+    };
+    let Some(weight) = weight_of(&bytes[i + 1..]) else {
+        return Ok(None);
+    };
+    Ok(Some(Term { key, weight }))
+}
+
+/// The word of bytes, with its weight.
+fn term_of(alloc: Global, bytes: &[u8]) -> Result<Option<Term>, AllocError>
+    ensures { IfOk result (λ t. t ≡ term_of bytes.now) }
+{
+    match key_of(alloc, bytes)? {
+        Some(key) => Ok(Some(Term { key, weight: 1 })),
+        None => weighted(alloc, bytes),
+    }
+}
+
 /// The token of bytes without spaces and parentheses.
 fn token_of(alloc: Global, bytes: &[u8]) -> Result<Token, AllocError>
-    ensures { IfOk result (λ t. t ≡ token_of key_of bytes.now) }
+    ensures { IfOk result (λ t. t ≡ token_of term_of bytes.now) }
 {
     if bytes == b"and".as_slice() {
         return Ok(Token::And);
@@ -79,15 +144,15 @@ fn token_of(alloc: Global, bytes: &[u8]) -> Result<Token, AllocError>
     if bytes == b"not".as_slice() {
         return Ok(Token::Not);
     }
-    match key_of(alloc, bytes)? {
-        Some(key) => Ok(Token::Word(key)),
+    match term_of(alloc, bytes)? {
+        Some(term) => Ok(Token::Word(term)),
         None => Ok(Token::Wordless),
     }
 }
 
 /// Ends the token that has these bytes, where it has any.
 fn close(alloc: Global, found: &mut Vec<Placed>, at: usize, run: &[u8]) -> Result<(), AllocError>
-    ensures { OnOk result (found.new.items ≡ found.old.items ++ closed key_of at run.now) }
+    ensures { OnOk result (found.new.items ≡ found.old.items ++ closed term_of at run.now) }
 {
     if run.is_empty() {
         return Ok(());
@@ -110,8 +175,8 @@ fn pass(
     requires inside { i < length text.now }
     ensures behind { IfOk result (λ next. next ≤ i + 1) }
     ensures tokens { IfOk result (λ next. (rest : List ℕ) →
-        found.new.items ++ tokens_from key_of next (take (i + 1 - next) (drop next text.now)) rest
-        ≡ found.old.items ++ tokens_from key_of start (take (i - start) (drop start text.now))
+        found.new.items ++ tokens_from term_of next (take (i + 1 - next) (drop next text.now)) rest
+        ≡ found.old.items ++ tokens_from term_of start (take (i - start) (drop start text.now))
         (slice_index text.now i ∷ rest)) }
 {
     let token = match role_of(text[i]) {
@@ -129,7 +194,7 @@ fn pass(
 
 /// The tokens of a text, each with its place. Costs its length.
 pub(crate) fn tokens_of(alloc: Global, text: &[u8]) -> Result<Vec<Placed>, AllocError>
-    ensures { IfOk result (λ v. v.items ≡ tokens key_of text.now) }
+    ensures { IfOk result (λ v. v.items ≡ tokens term_of text.now) }
 {
     let mut found = Vec::new(alloc);
     let mut start = 0;

@@ -1,5 +1,5 @@
 -- What is chosen is best, and costs what it says.
-use Rattle.std.specs.Prelude.{◌≡◌, ℕ, ◌+◌, ◌-◌, ◌*◌, ◌<◌, ◌≤◌, Option, Some, List, [], ◌∷◌, map, drop, length, slice_index, refl}
+use Rattle.std.specs.Prelude.{◌≡◌, ◌⊎◌, ◌↔◌, ℕ, ◌+◌, ◌-◌, ◌*◌, ◌<◌, ◌≤◌, Option, Some, List, [], ◌∷◌, map, drop, length, slice_index, refl}
 use Rattle.std.proofs.Common.{arith, ap, sym, ◌∙◌, subst, inl, inr}
 use Rattle.time_base.specs.declared.posting.Posting.{Posting}
 use Rattle.time_base.specs.declared.fraction.Fraction.{Fraction}
@@ -22,7 +22,7 @@ count_is list horizon table many t = omega (arith, postings_is list horizon tabl
 
 module _ (list : List Posting) (horizon : ℕ) (table : Counts) (factor : Fraction) (unit' budget' : ℕ) (weights sums places : List ℕ) (cells : List (Option ℕ)) (t : Tabulates list horizon table)
     (s : IsSurvey table factor unit' budget' weights sums places cells) where
-  end_is : slice_index table.boundaries (slice_index places 0) ≡ horizon
+  pub end_is : slice_index table.boundaries (slice_index places 0) ≡ horizon
   end_is = ap (λ p. slice_index table.boundaries p) (stop_last (length table.boundaries) places s.stops) ∙ last_is_horizon list horizon table.boundaries t.boundaries t.early
 
   start_is : slice_index table.boundaries (slice_index places (length places - 1)) ≡ slice_index table.boundaries 0
@@ -66,14 +66,14 @@ module _ (list : List Posting) (horizon : ℕ) (table : Counts) (factor : Fracti
       (λ path p. (map (λ k. slice_index table.boundaries (slice_index places k)) path, within_of path c p, cost_of path p.0)) (λ cuts w. path_within cuts c w)
 
   -- the cost of the one piece
-  before_end : slice_index table.boundaries 0 < horizon
+  pub before_end : slice_index table.boundaries 0 < horizon
   before_end = omega (arith, rises table.boundaries t.boundaries.ascending 0 (length table.boundaries - 1) (omega (arith, s.many)) (omega (arith, s.many)), last_is_horizon list horizon table.boundaries t.boundaries t.early)
 
   leg_whole : leg_cost table sums places (length places - 1) 0 ≡ whole_cost table sums
   leg_whole = ap (λ p. (slice_index sums (slice_index places 0) - slice_index sums p) * size_between table p (slice_index places 0)) (stop_first (length table.boundaries) places s.stops)
       ∙ ap (λ p. (slice_index sums p - slice_index sums 0) * size_between table 0 p) (stop_last (length table.boundaries) places s.stops)
 
-  piece_cost : expected_cost list (slice_index table.boundaries 0) (horizon ∷ []) table.boundaries weights ≡ whole_cost table sums
+  pub piece_cost : expected_cost list (slice_index table.boundaries 0) (horizon ∷ []) table.boundaries weights ≡ whole_cost table sums
   piece_cost = ap (λ x. expected_cost list (slice_index table.boundaries 0) (x ∷ []) table.boundaries weights) (sym end_is) ∙ (cost_of (0 ∷ []) (one_leg table.boundaries places s.many t.boundaries.ascending s.stops) ∙ omega (arith, leg_whole))
 
   -- the limits by the list
@@ -137,3 +137,59 @@ module _ (list : List Posting) (horizon : ℕ) (table : Counts) (factor : Fracti
       λ h. (a.each p).1 (omega (arith, h.0, budget_by), fall_from p.charge p.cost (subst (λ u. IsFall list table.boundaries weights u (slice_index table.boundaries 0) horizon p.charge p.cost) (sym unit_by) h.1)),
     );
   }
+
+  -- ---- a partition that is there
+
+  -- one of a path of stops that keeps the budget may be chosen, and costs what the path does
+  pub path_eligible : (cuts path : List ℕ) → Falls (length places - 1) path → map (λ k. slice_index table.boundaries (slice_index places k)) path ≡ cuts → along (leg_charge table unit' places) (length places - 1) path ≤ budget'
+      → IsEligible list table.boundaries factor (slice_index table.boundaries 0) horizon cuts
+      × (along (leg_cost table sums places) (length places - 1) path ≡ expected_cost list (slice_index table.boundaries 0) cuts table.boundaries weights)
+  path_eligible cuts path falls are within =
+      subst (λ (l : List ℕ). IsEligible list table.boundaries factor (slice_index table.boundaries 0) horizon l × (along (leg_cost table sums places) (length places - 1) path ≡ expected_cost list (slice_index table.boundaries 0) l table.boundaries weights)) are
+      (inr (subst (λ u. IsWithin list table.boundaries u (budget (cap factor (length list))) (slice_index table.boundaries 0) horizon (map (λ k. slice_index table.boundaries (slice_index places k)) path)) unit_by
+      (within_of path (budget (cap factor (length list))) (falls, omega (arith, within, budget_by)))), sym (cost_of path falls))
+
+  -- one that may be chosen is the one piece, or one of such a path
+  pub eligible_path : (cuts : List ℕ) → IsEligible list table.boundaries factor (slice_index table.boundaries 0) horizon cuts
+      → (cuts ≡ horizon ∷ []) ⊎ ((path : List ℕ) × Falls (length places - 1) path × (map (λ k. slice_index table.boundaries (slice_index places k)) path ≡ cuts) × (along (leg_charge table unit' places) (length places - 1) path ≤ budget'))
+  eligible_path cuts e = elim e [ inl piece ↦ inl piece.1 | inr w ↦ inr (from w) ]
+    where
+      from : IsWithin list table.boundaries (unit (cap factor (length list))) (budget (cap factor (length list))) (slice_index table.boundaries 0) horizon cuts
+          → (path : List ℕ) × Falls (length places - 1) path × (map (λ k. slice_index table.boundaries (slice_index places k)) path ≡ cuts) × (along (leg_charge table unit' places) (length places - 1) path ≤ budget')
+      from w =
+          let here = subst (λ u. IsWithin list table.boundaries u (budget (cap factor (length list))) (slice_index table.boundaries 0) horizon cuts) (sym unit_by) w in
+          let p = path_of list horizon table unit' weights sums places s.many t s.stops s.long s.sums_are cuts (length places - 1) top
+              (subst (λ x. Ascends x cuts (slice_index table.boundaries (slice_index places 0))) (sym start_is) (subst (λ y. Ascends (slice_index table.boundaries 0) cuts y) (sym end_is) here.ascends)) here.candidates in (
+            p.0,
+            p.1,
+            p.2,
+            omega (
+              arith,
+              path_charges list horizon table unit' weights sums places s.many t s.stops s.long s.sums_are (length places - 1) p.0 top p.1,
+              here.charged,
+              budget_by,
+              ap (λ x. charges list unit' x (map (λ k. slice_index table.boundaries (slice_index places k)) p.0)) start_is,
+              ap (λ (y : List ℕ). charges list unit' (slice_index table.boundaries 0) y) p.2,
+            ),
+          )
+
+-- of two partitions that may be chosen, one of which is best, the other is best where it costs as much
+pub as_good : (list : List Posting) (times weights : List ℕ) (factor : Fraction) (f g horizon : ℕ) (cuts best : List ℕ) (cost least : ℕ) → g ≡ f → IsEligible list times factor f horizon cuts
+    → cost ≡ expected_cost list f cuts times weights → IsBestUnder list times weights factor g horizon best → least ≡ expected_cost list g best times weights
+    → (cost ≡ least) ↔ IsBestUnder list times weights factor f horizon cuts
+as_good list times weights factor f g horizon cuts best cost least same may cost_is is least_is =
+    let E : ℕ → List ℕ → Type 0 = λ x l. IsEligible list times factor x horizon l in (
+      (λ e. record {
+        eligible = may;
+        best = λ other o. omega (arith, e, cost_is, least_is, is.best other (subst (λ x. E x other) (sym same) o), ap (λ x. expected_cost list x other times weights) same);
+      }),
+      (λ b. omega (
+        arith,
+        cost_is,
+        least_is,
+        b.best best (subst (λ x. E x best) same is.eligible),
+        is.best cuts (subst (λ x. E x cuts) (sym same) may),
+        ap (λ x. expected_cost list x best times weights) same,
+        ap (λ x. expected_cost list x cuts times weights) same,
+      )),
+    )

@@ -6,10 +6,11 @@ mod CourseLemmas
 mod CutLemmas
 mod FrontLemmas
 pub mod FunctionLemmas
-mod LeastLemmas
+pub mod LeastLemmas
 mod LegLemmas
 mod PlanLemmas
 pub mod ShortLemmas
 mod StopLemmas
 pub mod ThereIsABest
 mod WeightLemmas
+mod JudgeLemmas

@@ -167,3 +167,15 @@ IsBefore charge cost i n = IsLeast (λ path. Falls i path × (along charge i pat
 abbrev pub with_fall : List Point → ℕ → Option ℕ → List Point
 with_fall points c None = points
 with_fall points c (Some v) = points ++ (record { charge = c; cost = v }) ∷ []
+
+-- These cuts behind a stop are those of a path from it, which is charged and costs so much.
+pub record IsWay (table : Counts) (unit' : ℕ) (sums places : List ℕ) (at : ℕ) (cuts : List ℕ) (charged cost : ℕ) : Type 0 where
+  pub path : List ℕ
+  pub falls : Falls at path
+  pub are : map (λ k. slice_index table.boundaries (slice_index places k)) path ≡ cuts
+  pub charged_is : charged ≡ along (leg_charge table unit' places) at path
+  pub cost_is : cost ≡ along (leg_cost table sums places) at path
+
+-- They are those of no path.
+abbrev pub IsNoPath : List ℕ → List ℕ → ℕ → List ℕ → Type 0
+IsNoPath times places at cuts = (path : List ℕ) → Falls at path → map (λ k. slice_index times (slice_index places k)) path ≡ cuts → ⊥

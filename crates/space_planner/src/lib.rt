@@ -8,6 +8,7 @@
 
 mod course;
 mod fronts;
+mod judging;
 mod laws;
 mod limits;
 mod load;
@@ -22,6 +23,7 @@ mod weights;
 pub use laws::{
     each_list_has_a_best, eligible_is_capped, eligible_is_short, weights_of_a_function,
 };
+pub use judging::is_best;
 pub use load::Load;
 pub use planning::{front, plan};
 pub use point::Point;

@@ -19,7 +19,11 @@ use std::alloc::{AllocError, Global};
 use time_base::{Fraction, Span};
 
 /// A best partition by a survey, and its cost.
-fn plan_by(alloc: Global, table: &Table, survey: &Survey) -> Result<(Partition, u128), AllocError>
+pub(crate) fn plan_by(
+    alloc: Global,
+    table: &Table,
+    survey: &Survey,
+) -> Result<(Partition, u128), AllocError>
     requires { (factor : Fraction) × (weights : List ℕ) × IsSurvey table.now factor survey.now.limits.unit survey.now.limits.budget weights survey.now.sums.items survey.now.places.items survey.now.cells.items }
     ensures fits { IfOk result (λ p. IsFitting table.now.boundaries p.0) }
     ensures best { (factor : Fraction) (weights : List ℕ) → IsSurvey table.now factor survey.now.limits.unit survey.now.limits.budget weights survey.now.sums.items survey.now.places.items survey.now.cells.items

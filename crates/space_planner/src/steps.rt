@@ -14,7 +14,7 @@ pub(crate) struct Legs {
 }
 
 /// What the leg from stop `i` to stop `j` is charged, and what it costs.
-fn leg(
+pub(crate) fn leg(
     table: &Table,
     limits: Limits,
     sums: &[u128],
@@ -31,6 +31,7 @@ fn leg(
     requires small { All (λ s. s ≤ 2 ^ 80) sums.now }
     ensures charge { result.0 ≡ leg_charge table.now limits.unit places.now i j }
     ensures cost { result.1 ≡ leg_cost table.now sums.now places.now i j }
+    ensures few { result.0 ≤ 2 ^ 38 }
     ensures small { result.1 ≤ 2 ^ 118 }
 {
     let (from, to) = (places[i], places[j]);

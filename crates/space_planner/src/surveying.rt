@@ -66,7 +66,7 @@ pub(crate) fn survey_of<F: Fn(Span) -> u64>(
 }
 
 /// The cost of the one piece.
-fn whole(table: &Table, sums: &[u128]) -> u128
+pub(crate) fn whole(table: &Table, sums: &[u128]) -> u128
     requires long { length sums.now ≡ length table.now.boundaries }
     requires rising { (j k : ℕ) → j ≤ k → k < length sums.now → slice_index sums.now j ≤ slice_index sums.now k }
     requires small { (k : ℕ) → k < length sums.now → slice_index sums.now k ≤ 2 ^ 80 }

@@ -4,6 +4,7 @@ mod AskLemmas
 pub mod KeptLemmas
 pub mod PlaceLemmas
 pub mod WriteLemmas
+pub mod PagedLemmas
 pub mod HoldLemmas
 mod UnionLemmas
 mod JoinLemmas
@@ -11,3 +12,4 @@ mod FetchLemmas
 mod OneGathering
 pub mod HeldLemmas
 pub mod SpellLemmas
+mod AtLemmas

@@ -100,13 +100,13 @@ pub none_so_far : (store : PagesState) → ArePlacedSoFar store store [] []
 unfolding with_placed
 none_so_far store = record { each = tt; placed = λ taken has. tt; taken = λ taken has. has }
 
-zip-push : (places : List Place) (all : List (List ℕ)) (p : Place) (bytes : List ℕ) → AllZip IsFor places all → IsFor p bytes → AllZip IsFor (places ++ p ∷ []) (all ++ bytes ∷ [])
+pub zip-push : (places : List Place) (all : List (List ℕ)) (p : Place) (bytes : List ℕ) → AllZip IsFor places all → IsFor p bytes → AllZip IsFor (places ++ p ∷ []) (all ++ bytes ∷ [])
 zip-push [] [] p bytes each is = (is, tt)
 zip-push (q ∷ places) (b ∷ all) p bytes each is = (each.0, zip-push places all p bytes each.1 is)
 zip-push [] (b ∷ all) p bytes each is = absurd each
 zip-push (q ∷ places) [] p bytes each is = absurd each
 
-extents-push : (places : List Place) (p : Place) → extents (places ++ p ∷ []) ≡ extents places ++ p.extent ∷ []
+pub extents-push : (places : List Place) (p : Place) → extents (places ++ p ∷ []) ≡ extents places ++ p.extent ∷ []
 extents-push places p = map-append (λ (q : Place). q.extent) places (p ∷ [])
 
 sizes-push : (all : List (List ℕ)) (bytes : List ℕ) → sizes (all ++ bytes ∷ []) ≡ sizes all ++ length bytes ∷ []

@@ -6,4 +6,7 @@ pub mod Gathering
 pub mod Joining
 pub mod Preparing
 pub mod Caching
+pub mod Paged
 pub mod Laws
+pub mod PlacedAt
+pub mod Framing

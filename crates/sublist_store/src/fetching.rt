@@ -120,7 +120,7 @@ fn sifted(
 }
 
 /// The first posting that doesn't belong to a segment.
-fn first_astray(list: &[Posting], bounds: Bounds) -> Option<Posting>
+pub(crate) fn first_astray(list: &[Posting], bounds: Bounds) -> Option<Posting>
     ensures { MatchOption result (All (λ q. belongs bounds.from bounds.to bounds.horizon q ≡ true) list.now) (λ p. IsFirstAstray bounds.from bounds.to bounds.horizon list.now p) }
 {
     for posting in list {

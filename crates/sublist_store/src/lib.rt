@@ -11,9 +11,11 @@
 
 mod checker;
 mod fetching;
+mod framing;
 mod gathering;
 mod joining;
 mod laws;
+mod paged;
 mod parts;
 mod placing;
 mod prepared;
@@ -22,6 +24,7 @@ mod spelling;
 mod store;
 mod why;
 
+pub use framing::opened;
 pub use gathering::Gathered;
 pub use laws::{
     held_sublists_are_gathered, one_answer_of_bytes, one_gathering, pieces_hold_sublists,
@@ -30,4 +33,4 @@ pub use laws::{
 pub use parts::{narrowed, sublist_bytes};
 pub use prepared::Prepared;
 pub use store::Sublists;
-pub use why::{Damage, FetchError, Why};
+pub use why::{Damage, FetchError, PlaceError, Why};

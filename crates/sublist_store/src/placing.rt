@@ -1,17 +1,20 @@
 //! Taking the pages of places, and giving them back.
-ghost use Rattle.std.specs.Prelude.{◌≡◌, ◌++◌, ℕ, List, length, IfOk, OnOk, OnErr, IsErrOf};
+ghost use Rattle.std.specs.Prelude.{◌≡◌, ◌∷◌, ◌++◌, ℕ, List, length, All, IfOk, IfErr, OnOk, OnErr, IsErrOf};
 ghost use Rattle.std.specs.List.{AllZip};
 ghost use Rattle.time_base.specs.declared.extent.Extent.{Extent};
 ghost use Rattle.page_store.specs.Runs.{IsFreeRun, pages_for};
 ghost use Rattle.page_store.specs.Taken.{HasTaken};
 ghost use Rattle.page_store.specs.Placing.{ArePlaced, HaveNoRoom};
 ghost use Rattle.sublist_store.specs.Caching.{without_all};
+ghost use Rattle.record_codec.specs.declared.place.Place.{Place as PlainPlace};
 ghost use Rattle.sublist_store.specs.Preparing.{Adds, IsFor, extents, sizes};
+ghost use Rattle.sublist_store.specs.PlacedAt.{IsPlaceFault, IsFaultOf};
 
 use crate::checker::Checker;
 use crate::spelled::Spelling;
+use crate::why::PlaceError;
 use page_cache::PageCache;
-use page_store::{Pages, TakeError};
+use page_store::{AtError, Pages, TakeError};
 use record_codec::Place;
 use sha2::{Digest, Sha256};
 use std::alloc::Global;
@@ -40,6 +43,60 @@ pub(crate) fn place_all(
         }
     }
     Ok(places)
+}
+
+/// Takes the pages of these places, which are for these bytes; none, where one of them fails.
+pub(crate) fn take_all(
+    pages: &mut Pages,
+    places: &[Place],
+    spellings: &[Spelling],
+) -> Result<(), PlaceError>
+    requires as_many { length places.now ≡ length spellings.now }
+    requires empty { All (λ (p : PlainPlace). p.extent.bytes ≡ 0 → p.extent.first ≡ 0) places.now }
+    requires taken { (taken : List Extent) × HasTaken pages.old taken }
+    ensures each { OnOk result (AllZip IsFor places.now spellings.now) }
+    ensures taken { (taken : List Extent) → HasTaken pages.old taken → OnOk result (HasTaken pages.new (extents places.now ++ taken)) }
+    ensures refused { (taken : List Extent) → HasTaken pages.old taken → IfErr result (IsPlaceFault taken places.now spellings.now) }
+    ensures none { (taken : List Extent) → HasTaken pages.old taken → OnErr result (HasTaken pages.new taken) }
+{
+    for k in 0..places.len() {
+        match take_place(pages, k as u64, places[k], &spellings[k]) {
+            Ok(()) => {}
+            Err(error) => {
+                release(pages, &places[..k]);
+                return Err(error);
+            }
+        }
+    }
+    Ok(())
+}
+
+/// Takes the pages of a segment's place, which is for these bytes.
+fn take_place(
+    pages: &mut Pages,
+    segment: u64,
+    place: Place,
+    spelling: &Spelling,
+) -> Result<(), PlaceError>
+    requires empty { place.extent.bytes ≡ 0 → place.extent.first ≡ 0 }
+    ensures suits { OnOk result (IsFor place spelling.now) }
+    ensures taken { OnOk result ((taken : List Extent) → HasTaken pages.old taken → HasTaken pages.new (place.extent ∷ taken)) }
+    ensures refused { IfErr result (IsFaultOf pages.old segment place spelling.now) }
+    ensures pages { OnErr result (pages.new ≡ pages.old) }
+{
+    let bytes = spelling.bytes();
+    if place.extent.bytes != bytes.len() as u64 {
+        return Err(PlaceError::Differs { segment });
+    }
+    let digest: [u8; 32] = Sha256::digest(bytes);
+    if digest != place.digest {
+        return Err(PlaceError::Differs { segment });
+    }
+    match pages.take_at(place.extent) {
+        Ok(()) => Ok(()),
+        Err(AtError::Taken) => Err(PlaceError::Taken { segment }),
+        Err(AtError::Memory) => Err(PlaceError::Memory),
+    }
 }
 
 /// Takes the pages of a place for these bytes.

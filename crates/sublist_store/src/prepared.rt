@@ -1,5 +1,5 @@
 //! Sublists that are prepared, and then written and adopted, or forgotten.
-ghost use Rattle.std.specs.Prelude.{◌≡◌, ◌++◌, List, All, IfOk, OnOk, OnErr, IsErrOf};
+ghost use Rattle.std.specs.Prelude.{◌≡◌, ◌++◌, List, length, All, IfOk, IfErr, OnOk, OnErr, IsErrOf};
 ghost use Rattle.std.specs.List.{AllZip};
 ghost use Rattle.time_base.specs.declared.extent.Extent.{Extent};
 ghost use Rattle.record_codec.specs.declared.place.Place.{Place as PlainPlace};
@@ -14,11 +14,13 @@ ghost use Rattle.page_store.specs.Crash.{ChangesOnly};
 ghost use Rattle.page_cache.specs.Caches.{StandsFor};
 ghost use Rattle.sublist_store.specs.Caching.{without_all};
 ghost use Rattle.sublist_store.specs.Segments.{seconds};
+ghost use Rattle.sublist_store.specs.PlacedAt.{IsPlaceFault};
 ghost use Rattle.sublist_store.specs.Preparing.{IsFor, extents, pieces, pieces_of, sizes, spellings};
 
-use crate::placing::{let_go, place_all, release};
+use crate::placing::{let_go, place_all, release, take_all};
 use crate::spelled::{Spelling, spell_all};
 use crate::store::Sublists;
+use crate::why::PlaceError;
 use machine_model::{Disk, Failed};
 use page_store::{Pages, TakeError};
 use record_codec::{Layout, Place};
@@ -29,8 +31,8 @@ use time_base::{Posting, Time};
 /// Sublists with their bytes, whose pages are taken.
 #[derive(Drop)]
 pub struct Prepared {
-    places: Vec<Place>,
-    spellings: Vec<Spelling>,
+    pub(crate) places: Vec<Place>,
+    pub(crate) spellings: Vec<Spelling>,
 }
 
 impl Model for Prepared {
@@ -85,6 +87,43 @@ impl Sublists {
         };
         match place_all(&mut self.pages, alloc, &spellings) {
             Ok(places) => Ok(Prepared { places, spellings }),
+            Err(error) => Err(error),
+        }
+    }
+
+    /// Spells the sublist of each segment and takes the pages of these places, in the order of the
+    /// segments: for each it tests first that the place is for the bytes, by their number and their
+    /// digest, and then that its pages are free. After an error no page is taken. It costs what
+    /// `prepare` does, and a copy of the places.
+    pub fn prepare_at(
+        &mut self,
+        alloc: Global,
+        layout: Layout,
+        list: &[Posting],
+        cuts: &[Time],
+        horizon: Time,
+        places: &[Place],
+    ) -> Result<Prepared, PlaceError>
+        requires list { IsList list.now }
+        requires as_many { length places.now ≡ length cuts.now }
+        requires empty { All (λ (p : PlainPlace). p.extent.bytes ≡ 0 → p.extent.first ≡ 0) places.now }
+        requires taken { (taken : List Extent) × HasTaken self.old.pages taken }
+        ensures spelled { IfOk result (λ p. p.spellings ≡ spellings layout list.now (seconds cuts.now) horizon.seconds) }
+        ensures places { IfOk result (λ p. p.places ≡ places.now) }
+        ensures each { IfOk result (λ p. AllZip IsFor p.places p.spellings) }
+        ensures taken { (taken : List Extent) → HasTaken self.old.pages taken → IfOk result (λ p. HasTaken self.new.pages (extents p.places ++ taken)) }
+        // The first place that fails a test is named.
+        ensures refused { (taken : List Extent) → HasTaken self.old.pages taken → IfErr result (IsPlaceFault taken places.now (spellings layout list.now (seconds cuts.now) horizon.seconds)) }
+        ensures none { (taken : List Extent) → HasTaken self.old.pages taken → OnErr result (HasTaken self.new.pages taken) }
+        ensures cache { self.new.cache ≡ self.old.cache }
+    {
+        let spellings = spell_all(alloc, layout, list, cuts, horizon)?;
+        let copy = Vec::from_slice(alloc, places)?;
+        match take_all(&mut self.pages, places, &spellings) {
+            Ok(()) => Ok(Prepared {
+                places: copy,
+                spellings,
+            }),
             Err(error) => Err(error),
         }
     }

@@ -11,9 +11,11 @@ ghost use Rattle.page_cache.specs.Caches.{after_asking_all, missed_by_all, Stand
 ghost use Rattle.page_cache.specs.Laws.{LieIn};
 ghost use Rattle.sublist_store.specs.Caching.{pieces_at};
 ghost use Rattle.sublist_store.specs.Fetching.{IsFetched, Explains, IfDamaged, IfFailed};
+ghost use Rattle.sublist_store.specs.Framing.{IsFramed, IsUnframed};
 
 use crate::checker::Checker;
 use crate::fetching::{Bounds, Segment, fetch_one};
+use crate::framing::frames_of;
 use crate::why::FetchError;
 use machine_model::{Area, Disk, Failed};
 use page_cache::PageCache;
@@ -21,6 +23,7 @@ use page_store::{LiveError, Pages};
 use record_codec::{Layout, Place};
 use std::alloc::Global;
 use std::marker::Model;
+use sublist_codec::Frames;
 use time_base::{Extent, Posting, Span, Time};
 
 /// The pages that sublists have, pages that were read, and bytes that were checked. Contracts see the
@@ -135,5 +138,32 @@ impl Sublists {
             place,
             segment,
         )
+    }
+
+    /// Reads the bytes of a place that is spelled in blocks, and gives the headers of these. Pages that are
+    /// kept are not read again. It costs the digest of the bytes, and constant time a block.
+    pub fn fetch_frames<D: Disk>(
+        &mut self,
+        alloc: Global,
+        disk: &mut D,
+        place: &Place,
+    ) -> Result<Frames, FetchError>
+        requires inside { place.now.extent.first * 4096 + place.now.extent.bytes ≤ (D.disk disk.old).reach.pages }
+        ensures only { D.Disk.only disk.old disk.new }
+        ensures failed { IfErr result (IfFailed (Rose (D.disk disk.old).faults (D.disk disk.new).faults)) }
+        ensures same { D.disk disk.new ≡ record (D.disk disk.old) { faults = (D.disk disk.new).faults; bytes_read = (D.disk disk.new).bytes_read } }
+        ensures pages { self.new.pages ≡ self.old.pages }
+        ensures asked { D.disk_tells → StandsFor self.old.cache (D.disk disk.old).holds.pages
+            → OnOk result (self.new.cache ≡ after_asking_all (pieces_at (D.disk disk.old).holds.pages place.now.extent) self.old.cache) }
+        ensures count { D.disk_tells → StandsFor self.old.cache (D.disk disk.old).holds.pages
+            → OnOk result ((D.disk disk.new).bytes_read ≡ replaced (D.disk disk.old).bytes_read Area.Pages ((D.disk disk.old).bytes_read.pages
+            + missed_by_all (pieces_at (D.disk disk.old).holds.pages place.now.extent) self.old.cache)) }
+        ensures found { D.disk_tells → StandsFor self.old.cache (D.disk disk.old).holds.pages → IfOk result (λ f. IsFramed place.now.digest (bytes_in place.now.extent (D.disk disk.old).holds.pages) f) }
+        ensures damaged { D.disk_tells → StandsFor self.old.cache (D.disk disk.old).holds.pages
+            → IfErr result (IfDamaged (λ d. (d.page ≡ place.now.extent.first) × IsUnframed place.now.digest (bytes_in place.now.extent (D.disk disk.old).holds.pages) d.why)) }
+        ensures stays { D.disk_tells → StandsFor self.old.cache (D.disk disk.old).holds.pages → StandsFor self.new.cache (D.disk disk.new).holds.pages }
+        ensures lie { (taken : List PlainExtent) → ((p : ℕ) → IsPageOf place.now.extent p → IsTaken taken p) → LieIn taken self.old.cache → LieIn taken self.new.cache }
+    {
+        frames_of(&mut self.cache, alloc, disk, place)
     }
 }

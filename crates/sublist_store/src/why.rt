@@ -1,6 +1,7 @@
 //! Why no list is given.
 ghost use Rattle.std.specs.Prelude.{◌≡◌};
 ghost use Rattle.sublist_store.specs.declared.why.FetchError.{FetchError};
+ghost use Rattle.sublist_store.specs.declared.why.PlaceError.{PlaceError};
 
 use machine_model::Failed;
 use std::alloc::AllocError;
@@ -45,6 +46,31 @@ pub struct Damage {
     pub page: u32,
     /// Why its bytes are refused.
     pub why: Why,
+}
+
+/// Why the pages of places weren't taken for sublists.
+#[derive(Clone, Copy, Debug, PartialEq, Eq)]
+pub enum PlaceError {
+    /// The place of a segment is for other bytes than the segment's sublist has.
+    Differs {
+        /// The number of the segment, from 0 on.
+        segment: u64,
+    },
+    /// The place of a segment shares a page with what is taken, or with an earlier one.
+    Taken {
+        /// The number of the segment, from 0 on.
+        segment: u64,
+    },
+    /// There was no memory.
+    Memory,
+}
+
+impl From<AllocError> for PlaceError {
+    ghost from_gives = { λ _ e. e ≡ PlaceError.Memory };
+
+    fn from(_: AllocError) -> PlaceError {
+        PlaceError::Memory
+    }
 }
 
 /// Why nothing was fetched.

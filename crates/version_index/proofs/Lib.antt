@@ -8,3 +8,4 @@ mod Measured
 mod NumberSteps
 mod Lookups
 mod Loading
+mod NewWordSteps

@@ -6,3 +6,4 @@ pub mod Turned
 pub mod Measuring
 pub mod Indexes
 pub mod Loads
+pub mod NewWords

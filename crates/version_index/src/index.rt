@@ -1,14 +1,14 @@
 //! The index.
-ghost use Rattle.std.specs.Prelude.{◌≡◌, ℕ, ◌<◌, ◌≤◌, ◌^◌, ◌↔◌, List, [], ◌∷◌, ◌++◌, length, Option, option_map, Contains, Err, IfOk, OnOk, IfSome, IsSome, IsTrue};
-ghost use Rattle.fold_tokens.specs.Words.{number_of, with_all};
+ghost use Rattle.std.specs.Prelude.{◌≡◌, ℕ, ◌<◌, ◌≤◌, ◌^◌, ◌↔◌, List, [], ◌∷◌, ◌++◌, length, Option, option_map, Contains, Err, IfOk, OnOk, OnErr, map, IfSome, IsSome, IsTrue};
+ghost use Rattle.fold_tokens.specs.Words.{number_of, with_all, counted, fresh_of};
 ghost use Rattle.version_store.specs.declared.change.Change.{Change};
-ghost use Rattle.version_index.specs.Words.{words_in, IsListFrom, IsPartFrom};
+ghost use Rattle.version_index.specs.Words.{words_in, keys_held, IsListFrom, IsPartFrom};
 ghost use Rattle.version_index.specs.Horizons.{trimmed};
 ghost use Rattle.version_index.specs.Indexing.{ComesLater};
 ghost use Rattle.version_index.specs.declared.prepared.Prepared.{Prepared};
 ghost use Rattle.version_index.specs.Indexes.{state_of, seen, Indexes, IndexesFrom, HasRoom, IsPreparedFor};
 
-use crate::measure::{Measured, measure};
+use crate::measure::{Measured, fresh_keys, measure};
 use crate::newest::Newest;
 use crate::numbering::number_all;
 use crate::part::ListPart;
@@ -119,6 +119,42 @@ impl Index {
             fresh,
             weights,
         })
+    }
+
+    /// The words of a text that no text has. Nothing changes. The text is read once.
+    pub(crate) fn fresh_keys(
+        &mut self,
+        alloc: Global,
+        text: Option<&str>,
+    ) -> Result<Vec<Key>, AllocError>
+        requires { IfSome text (λ t. length t.now < 2 ^ 32) }
+        ensures keys { IfOk result (λ keys. keys.items ≡ map (λ e. e.0) (fresh_of (state_of self.old).words (counted (keys_held (option_map (λ t. t.now) text.entry))))) }
+        ensures same { state_of self.new ≡ state_of self.old }
+    {
+        fresh_keys(alloc, &self.vocabulary, &mut self.places, text)
+    }
+
+    /// Makes a change at once: measures its text, makes room for it and makes it, at a time behind the
+    /// document's earlier ones and not before any word's horizon. An `Err` changes no answer. It
+    /// costs what these three do.
+    pub fn take_in(
+        &mut self,
+        alloc: Global,
+        doc: DocId,
+        at: Time,
+        text: Option<&str>,
+    ) -> Result<(), NumberError>
+        requires { IfSome text (λ t. length t.now < 2 ^ 32) }
+        ensures taken { OnOk result ((horizon : List ℕ → ℕ) → ((word : List ℕ) → horizon word ≤ at.seconds)
+            → (changes : List (Change (List ℕ))) → IndexesFrom horizon (state_of self.old) changes
+            → ComesLater changes (record { doc = doc; at = at; held = option_map (λ t. t.now) text.entry })
+            → IndexesFrom horizon (state_of self.new) (changes ++ record { doc = doc; at = at; held = option_map (λ t. t.now) text.entry } ∷ [])) }
+        ensures same { OnErr result (seen (state_of self.new) ≡ seen (state_of self.old)) }
+    {
+        let change = self.prepare(alloc, doc, text)?;
+        self.make_room(&change)?;
+        self.commit(change, at);
+        Ok(())
     }
 
     /// Makes room for a change, so that its commit takes no memory. No answer changes, also after an

@@ -11,6 +11,7 @@
 mod index;
 mod loader;
 mod measure;
+mod new_words;
 mod newest;
 mod numbering;
 mod part;
@@ -20,5 +21,6 @@ mod word_tails;
 
 pub use index::Index;
 pub use loader::Loader;
+pub use new_words::NewWords;
 pub use part::ListPart;
 pub use prepared::Prepared;

@@ -142,3 +142,18 @@ pub(crate) fn measure(
     let weights = weights_by(alloc, counts)?;
     Ok(Measured { fresh, weights })
 }
+
+/// The words of a text, or of nothing for a deletion, that have no number. The text is read once.
+pub(crate) fn fresh_keys(
+    alloc: Global,
+    vocabulary: &Vocabulary,
+    places: &mut Places,
+    text: Option<&str>,
+) -> Result<Vec<Key>, AllocError>
+    requires { IfSome text (λ t. length t.now < 2 ^ 32) }
+    ensures { IfOk result (λ keys. keys.items ≡ map (λ e. e.0) (fresh_of vocabulary.now.words (counted (keys_held (option_map (λ t. t.now) text.entry))))) }
+{
+    let weighed = weigh_held(alloc, vocabulary, places, text)?;
+    let parted = part(alloc, weighed)?;
+    Ok(parted.fresh)
+}

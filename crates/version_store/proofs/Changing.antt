@@ -109,7 +109,7 @@ module _ {A : Type 0} where
       all : (k : ℕ) (d : Change A) → k < length (changes_of doc changes) → (get_or (changes_of doc changes) k d).doc.0 ≡ doc.0 → Unmoved e t (get_or (changes_of doc changes) k d)
       all k d m = All-filter (λ c. c.doc.0 == doc.0) (λ c. c.doc.0 ≡ doc.0 → Unmoved e t c) changes (λ i x n. u (get_or changes i x) (Contains-get_or changes i x n)) k d m
 
-  lived-by : (changes : List (Change A)) (d e t : ℕ) → held_at (record { 0 = d }) e changes ≡ held_at (record { 0 = d }) t changes → lived changes d e ≡ lived changes d t
+  pub lived-by : (changes : List (Change A)) (d e t : ℕ) → held_at (record { 0 = d }) e changes ≡ held_at (record { 0 = d }) t changes → lived changes d e ≡ lived changes d t
   lived-by changes d e t h = ap (λ o. option_map (λ _. tt) o) h
 
   -- at the events of a window what is said of a document changes

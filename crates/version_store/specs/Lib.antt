@@ -7,3 +7,5 @@ pub mod Links
 pub mod Lives
 pub mod Refusals
 pub mod Tests
+pub mod Coming
+pub mod Walks

@@ -1,5 +1,6 @@
 -- When documents are alive.
-use Rattle.std.specs.Prelude.{◌≡◌, ℕ, ◌<◌, ◌≤◌, List, Option, Contains}
+use Rattle.std.specs.Prelude.{◌≡◌, ◌⊎◌, ℕ, ◌<◌, ◌≤◌, ◌==◌, if◌then◌else◌, List, Option, None, Contains}
+use Rattle.std.specs.List.{list_any}
 use Rattle.std.specs.Option.{option_map}
 use Rattle.time_base.specs.declared.ids.DocId.{DocId}
 use Rattle.time_base.specs.declared.time.Time.{Time}
@@ -34,3 +35,20 @@ pub record AreEvents {A : Type 0} (changes : List (Change A)) (docs : List DocId
   pub inside : (x : Event) → Contains events x → (a ≤ x.at.seconds) × (x.at.seconds < b)
   pub started : (doc : DocId) → Contains docs doc → (x : Event) × Contains events x × (x.doc ≡ doc) × (x.at.seconds ≡ a)
   pub changed : (c : Change A) → Contains changes c → a < c.at.seconds → c.at.seconds < b → (x : Event) × Contains events x × (x.doc ≡ c.doc) × (x.at.seconds ≡ c.at.seconds)
+
+-- what is said of these documents alone
+abbrev pub lived_of : {A : Type 0} → List DocId → List (Change A) → ℕ → ℕ → Option (Unit {0})
+lived_of docs changes d t = if list_any (λ doc. d == doc.0) docs then lived changes d t else None
+
+-- these events, and some more of one document inside [a, b): one at its start, and one for each of its changes behind that
+pub record AreNoted {A : Type 0} (changes : List (Change A)) (doc : DocId) (a b : ℕ) (old new : List Event) : Type 0 where
+  pub kept : (x : Event) → Contains old x → Contains new x
+  pub only : (x : Event) → Contains new x → Contains old x ⊎ ((x.doc ≡ doc) × (a ≤ x.at.seconds) × (x.at.seconds < b))
+  pub started : (x : Event) × Contains new x × (x.doc ≡ doc) × (x.at.seconds ≡ a)
+  pub changed : (c : Change A) → Contains changes c → c.doc ≡ doc → a < c.at.seconds → c.at.seconds < b → (x : Event) × Contains new x × (x.doc ≡ doc) × (x.at.seconds ≡ c.at.seconds)
+
+-- events of these documents inside [a, b)
+pub record AreEventsOf {A : Type 0} (changes : List (Change A)) (docs : List DocId) (a b : ℕ) (events : List Event) : Type 0 where
+  pub inside : (x : Event) → Contains events x → Contains docs x.doc × (a ≤ x.at.seconds) × (x.at.seconds < b)
+  pub started : (doc : DocId) → Contains docs doc → (x : Event) × Contains events x × (x.doc ≡ doc) × (x.at.seconds ≡ a)
+  pub changed : (c : Change A) → Contains changes c → Contains docs c.doc → a < c.at.seconds → c.at.seconds < b → (x : Event) × Contains events x × (x.doc ≡ c.doc) × (x.at.seconds ≡ c.at.seconds)

@@ -1,5 +1,5 @@
 -- Why a change of a document isn't allowed after others, by a list of tests in their order.
-use Rattle.std.specs.Prelude.{◌==◌, ◌&&◌, nat_lt, nat_le, List, [], ◌∷◌, length, Option, is_none, option_and_then}
+use Rattle.std.specs.Prelude.{◌==◌, ◌&&◌, nat_lt, nat_le, List, [], ◌∷◌, length, Option, Some, None, is_none, option_and_then}
 use Rattle.time_base.specs.Limits.{limit_of}
 use Rattle.time_base.specs.declared.ids.DocId.{DocId}
 use Rattle.time_base.specs.declared.time.Time.{Time}
@@ -37,3 +37,11 @@ arrive_refusal doc at changes = first_of (time_back at changes ∷ same_time doc
 -- why a deletion isn't allowed after these changes: the first cause in order
 abbrev pub delete_refusal : {A : Type 0} → DocId → Time → List (Change A) → Option VersionRefusal
 delete_refusal doc at changes = first_of (time_back at changes ∷ no_document doc changes ∷ same_time doc at changes ∷ full_versions changes ∷ [])
+
+-- why a change isn't allowed after these: an arrival, of whose text something is held, or a deletion
+abbrev pub refusal_by : {A B : Type 0} → Option A → DocId → Time → List (Change B) → Option VersionRefusal
+refusal_by (Some held) doc at changes = arrive_refusal doc at changes
+refusal_by None doc at changes = delete_refusal doc at changes
+
+abbrev pub change_refusal : {A B : Type 0} → Change A → List (Change B) → Option VersionRefusal
+change_refusal change changes = refusal_by change.held change.doc change.at changes

@@ -1,8 +1,9 @@
 //! The directory of an archive's changes, and the index by which it finds a document's versions.
-ghost use Rattle.std.specs.Prelude.{◌≡◌, ◌+◌, ◌≤◌, ◌<◌, [], ◌∷◌, ◌++◌, length, Some, None, IfOk, OnOk, MatchResult, IsTrue, IsSome, ◌↔◌};
+ghost use Rattle.std.specs.Prelude.{◌≡◌, ◌⊎◌, ◌+◌, ◌≤◌, ◌<◌, [], ◌∷◌, ◌++◌, length, Some, None, IfOk, OnOk, MatchResult, IsTrue, IsSome, ◌↔◌, Contains};
 ghost use Rattle.std.specs.List.Sorted.{IsNonDecreasingBy};
 ghost use Rattle.time_base.specs.Limits.{limit_of};
 ghost use Rattle.time_base.specs.declared.ids.DocId.{DocId as Document};
+ghost use Rattle.stretches.specs.declared.event.Event.{Event as EventValue};
 ghost use Rattle.version_store.specs.Index.{times};
 ghost use Rattle.version_store.specs.Changes.{last_time, latest, documents, held_at, alive};
 ghost use Rattle.version_store.specs.Refusals.{arrive_refusal, delete_refusal, time_back, full_versions};
@@ -10,12 +11,14 @@ ghost use Rattle.version_store.specs.Refusals.{arrive_refusal, delete_refusal, t
 use crate::change::Change;
 use crate::last_life::LastLife;
 use crate::link::Link;
+use crate::lives::note_changes;
 use crate::refusal::VersionRefusal;
 use crate::walk::{alive_from, held_from};
 use std::alloc::{AllocError, Global};
 use std::collections::HashMap;
 use std::marker::Model;
-use time_base::{DocId, TextPlace, Time, Which};
+use stretches::Event;
+use time_base::{DocId, Span, TextPlace, Time, Which};
 
 /// The changes of all documents, with each text's place in the journal.
 ///
@@ -225,6 +228,31 @@ impl Directory {
         Ok(docs)
     }
 
+    /// Notes an event of the document at the start of a span, and at each of its changes inside behind
+    /// that. It costs one look-up, steps in the logarithm of the document's changes, and one for each that
+    /// is noted.
+    pub(crate) fn note_events(
+        &self,
+        events: &mut Vec<Event>,
+        doc: DocId,
+        start: Time,
+        span: Span,
+    ) -> Result<(), AllocError>
+        requires { start.seconds ≡ span.from }
+        ensures kept { OnOk result ((x : _) → Contains events.old.items x → Contains events.new.items x) }
+        ensures only { OnOk result ((x : _) → Contains events.new.items x → Contains events.old.items x ⊎ ((x.doc ≡ doc) × (span.from ≤ x.at.seconds) × (x.at.seconds < span.to))) }
+        ensures started { OnOk result ((x : EventValue) × Contains events.new.items x × (x.doc ≡ doc) × (x.at.seconds ≡ span.from)) }
+        ensures changed { OnOk result ((c : _) → Contains self.now.changes c → c.doc ≡ doc → span.from < c.at.seconds → c.at.seconds < span.to
+            → (x : EventValue) × Contains events.new.items x × (x.doc ≡ doc) × (x.at.seconds ≡ c.at.seconds)) }
+    {
+        events.push(Event { doc, at: start })?;
+        let Some(life) = self.latest.get(&doc) else {
+            return Ok(());
+        };
+        note_changes(events, &self.log, &self.links, life.place, doc, span)?;
+        Ok(())
+    }
+
     /// Makes room for one change of any document, so that it takes no memory. Its cost is constant
     /// on average over the changes; an `Err` leaves the changes as they were.
     pub fn reserve(&mut self, _doc: DocId) -> Result<(), AllocError>
@@ -235,6 +263,18 @@ impl Directory {
         self.log.reserve(1)?;
         self.links.reserve(1)?;
         self.latest.reserve(1)
+    }
+
+    /// Makes room for so many changes of any documents, so that each of them takes no memory. An
+    /// `Err` leaves the changes as they were.
+    pub fn reserve_all(&mut self, count: usize) -> Result<(), AllocError>
+        ensures room { OnOk result (count ≤ self.new.room) }
+        ensures same { self.new.changes ≡ self.old.changes }
+        ensures kept { self.old.room ≤ self.new.room }
+    {
+        self.log.reserve(count)?;
+        self.links.reserve(count)?;
+        self.latest.reserve(count)
     }
 
     /// Adds a version of the document, whose text lies at that place of the journal. It takes no
@@ -290,7 +330,7 @@ impl Directory {
 }
 
 /// The refusal for a limit that would be passed.
-fn full(which: Which) -> VersionRefusal
+pub(crate) fn full(which: Which) -> VersionRefusal
     ensures { result ≡ VersionRefusal.Full which (limit_of which) }
 {
     VersionRefusal::Full {

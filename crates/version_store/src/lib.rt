@@ -8,6 +8,7 @@
 #![tactic(auto)]
 
 mod change;
+mod coming;
 mod directory;
 mod last_life;
 mod laws;
@@ -17,6 +18,7 @@ mod refusal;
 mod walk;
 
 pub use change::Change;
+pub use coming::Coming;
 pub use directory::Directory;
 pub use laws::{held_as_changes_come, lives_are_one, the_alive_hold_something};
 pub use refusal::VersionRefusal;

@@ -1,15 +1,20 @@
 //! When documents are alive.
-ghost use Rattle.std.specs.Prelude.{◌≡◌, ◌⊎◌, ◌↔◌, ◌+◌, ◌<◌, ◌≤◌, ℕ, true, false, None, Some, Option, length, drop, map, slice_index_or, nat_le, nat_lt, Contains, IfOk, MatchOption, IsTrue, IsSome};
+ghost use Rattle.std.specs.Prelude.{◌≡◌, ◌⊎◌, ◌↔◌, ◌+◌, ◌<◌, ◌≤◌, ℕ, true, false, None, Some, Option, length, take, drop, map, slice_index_or, nat_le, nat_lt, Contains, IfOk, OnOk, MatchOption, IsTrue, IsSome};
 ghost use Rattle.std.specs.List.Sorted.{IsNonDecreasingBy, IsPartitionPoint};
 ghost use Rattle.time_base.specs.declared.ids.DocId.{DocId as Document};
 ghost use Rattle.stretches.specs.Events.{AreInOrder, end_of};
-ghost use Rattle.stretches.specs.Kinds.{is_alive};
+ghost use Rattle.stretches.specs.Kinds.{is_alive, life_kind};
+ghost use Rattle.stretches.specs.Stretches.{AreStretches};
 ghost use Rattle.stretches.specs.declared.event.Event.{Event as EventValue};
 ghost use Rattle.version_store.specs.Changes.{held_at};
-ghost use Rattle.version_store.specs.Lives.{AreLives, AreEvents, lived, start_of, event_of};
+ghost use Rattle.version_store.specs.Index.{AreLinked};
+ghost use Rattle.version_store.specs.Walks.{IsOf};
+ghost use Rattle.version_store.specs.Lives.{AreLives, AreEvents, AreEventsOf, lived, lived_of, start_of, event_of};
 
 use crate::change::Change;
 use crate::directory::Directory;
+use crate::link::Link;
+use crate::walk::last_until;
 use std::alloc::{AllocError, Global};
 use stretches::{Event, Life, end_of, note, sort_events};
 use time_base::{DocId, Span, TextPlace, Time};
@@ -33,6 +38,47 @@ impl Directory {
             }
         }
         Ok(lives)
+    }
+
+    /// When these documents are alive in the span, as `lives` tells it of all. It costs for each of them a
+    /// look-up and steps in the logarithm of its changes, for each of its changes in the span what
+    /// `alive_at` does, and a sort of these changes.
+    pub fn lives_of(
+        &self,
+        alloc: Global,
+        docs: &[DocId],
+        span: Span,
+    ) -> Result<Vec<Life>, AllocError>
+        ensures lives { IfOk result (λ lives. AreStretches life_kind (lived_of docs.now self.now.changes) span.from span.to lives.items) }
+    {
+        let events = self.events_of(alloc, docs, span)?;
+        let mut lives = Vec::new(alloc);
+        for i in 0..events.len() {
+            if let Some(life) = self.life_from(&events, i, span) {
+                note(&mut lives, life)?;
+            }
+        }
+        Ok(lives)
+    }
+
+    /// The events of these documents in a span, in order.
+    fn events_of(
+        &self,
+        alloc: Global,
+        docs: &[DocId],
+        span: Span,
+    ) -> Result<Vec<Event>, AllocError>
+        ensures sorted { IfOk result (λ events. AreInOrder events.items) }
+        ensures events { IfOk result (λ events. AreEventsOf self.now.changes docs.now span.from span.to events.items) }
+    {
+        let start = Time { seconds: span.from };
+        let mut events = Vec::new(alloc);
+        for i in 0..docs.len() {
+            let doc = docs[i];
+            self.note_events(&mut events, doc, start, span)?;
+        }
+        sort_events(&mut events);
+        Ok(events)
     }
 
     /// The life of an event's document from there to the next event, if it is alive then. It costs
@@ -105,6 +151,43 @@ fn events_in(
     events.extend_from_slice(&later)?;
     sort_events(&mut events);
     Ok(events)
+}
+
+/// Notes an event of a document at each of its changes inside the span, behind its start, by the place of
+/// its latest one. Its steps are in the logarithm of the document's changes, and one for each that is
+/// noted.
+pub(crate) fn note_changes(
+    events: &mut Vec<Event>,
+    log: &[Change<TextPlace>],
+    links: &[Link],
+    latest: usize,
+    doc: DocId,
+    span: Span,
+) -> Result<(), AllocError>
+    requires linked { AreLinked log.now links.now }
+    requires there { latest < length log.now }
+    requires of { IsOf doc log.now latest }
+    ensures kept { OnOk result ((x : _) → Contains events.old.items x → Contains events.new.items x) }
+    ensures only { OnOk result ((x : _) → Contains events.new.items x → Contains events.old.items x ⊎ ((x.doc ≡ doc) × (span.from ≤ x.at.seconds) × (x.at.seconds < span.to))) }
+    ensures changed { OnOk result ((c : _) → Contains (take (latest + 1) log.now) c → c.doc ≡ doc → span.from < c.at.seconds → c.at.seconds < span.to
+        → (x : EventValue) × Contains events.new.items x × (x.doc ≡ doc) × (x.at.seconds ≡ c.at.seconds)) }
+{
+    let mut place = latest;
+    let mut end = span.to;
+    while span.from < end {
+        let t = Time { seconds: end - 1 };
+        let Some(found) = last_until(log, links, place, t) else {
+            return Ok(());
+        };
+        let at = log[found].at;
+        if at.seconds <= span.from {
+            return Ok(());
+        }
+        events.push(Event { doc, at })?;
+        place = found;
+        end = at.seconds;
+    }
+    Ok(())
 }
 
 /// An event for each document, at one time.

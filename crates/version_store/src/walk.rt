@@ -1,10 +1,11 @@
 //! The walk back from a document's latest change to the one that is valid at a time, and when there
 //! is none to make.
-ghost use Rattle.std.specs.Prelude.{◌≡◌, ◌↔◌, ◌<◌, length, slice_get, None, Some, IsTrue, IsSome, IfSome, MatchOption};
+ghost use Rattle.std.specs.Prelude.{◌≡◌, ◌↔◌, ◌<◌, ◌≤◌, length, get_or, slice_get, None, Some, IsTrue, IsSome, IfSome, MatchOption};
 ghost use Rattle.time_base.specs.declared.ids.DocId.{DocId as Document};
 ghost use Rattle.version_store.specs.Changes.{held_at};
 ghost use Rattle.version_store.specs.Index.{AreLinked, Leads};
 ghost use Rattle.version_store.specs.LastLives.{IsLastLife};
+ghost use Rattle.version_store.specs.Walks.{IsOf, IsReached, AreBehind};
 
 use crate::change::Change;
 use crate::last_life::LastLife;
@@ -48,6 +49,30 @@ pub(crate) fn held_from(
     log[place].held
 }
 
+/// The place of the last change that isn't behind the time, of the document of the change at the place
+/// `latest`, among those up to there; None where each is behind. Its steps are in the logarithm of the
+/// document's changes.
+pub(crate) fn last_until(
+    log: &[Change<TextPlace>],
+    links: &[Link],
+    latest: usize,
+    t: Time,
+) -> Option<usize>
+    requires linked { AreLinked log.now links.now }
+    requires there { latest < length log.now }
+    ensures until { IfSome result (λ i. (i < length log.now) × ((d : _) → (get_or log.now i d).at.seconds ≤ t.seconds)) }
+    ensures reached { (doc : Document) → IsOf doc log.now latest → MatchOption result (AreBehind doc t.seconds log.now latest) (IsReached doc t.seconds log.now latest) }
+{
+    let mut place = latest;
+    while t.seconds < log[place].at.seconds {
+        match step_back(log, links, place, t) {
+            Some(earlier) => place = earlier,
+            None => return None,
+        }
+    }
+    Some(place)
+}
+
 /// The place to go on with from a change behind the time: where its jump leads if that is behind
 /// the time too, else the change before it; None where it is the document's first. Constant cost.
 fn step_back(log: &[Change<TextPlace>], links: &[Link], place: usize, t: Time) -> Option<usize>
@@ -59,6 +84,7 @@ fn step_back(log: &[Change<TextPlace>], links: &[Link], place: usize, t: Time) -
         MatchOption result
         (None ≡ held_at doc t.seconds log.now)
         (Leads doc t.seconds log.now) }
+    ensures reaches { (doc : Document) → IsOf doc log.now place → MatchOption result (AreBehind doc t.seconds log.now place) (IsReached doc t.seconds log.now place) }
 {
     let link = links[place];
     let Some(before) = link.before else {

@@ -4,5 +4,5 @@ use Rattle.query_lang.proofs.evaluation.scored.Given as goal
 
 abbrev pub invariant-loop-place : goal.invariant-loop-place
 invariant-loop-place l =
-    (l.score + scored (drop l.place l.marks) (drop l.place l.counts) ≡ scored l.marks l.counts)
-    × (l.score ≤ 4294967296 * l.place)
+    (l.score + scored (drop l.place l.weights) (drop l.place l.counts) ≡ scored l.weights l.counts)
+    × (l.score ≤ 4294967296000 * l.place)

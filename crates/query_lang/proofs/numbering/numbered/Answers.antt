@@ -7,7 +7,6 @@ use Rattle.query_lang.proofs.numbering.numbered.Goals as goal
 pub loop-op-init : goal.loop-op-init
 loop-op-init c = record {
   words_are = c.new-words.ensures.empty;
-  affirmed_are = c.new-affirmed.ensures.empty;
   ops_are = ap (named c.new-words.result.keys) c.new-ops.ensures.items;
   placed = λ k d l. absurd (let h = ap length c.new-ops.ensures.items in omega (arith, h, l));
 }
@@ -17,6 +16,6 @@ loop-op-preserved c =
     let n = c.in_ok-number.ensures in
     let h = c.op-item.is in
     let e : take (c.loop-op.op-index + 1) c.args.laid.now ≡ take c.loop-op.op-index c.args.laid.now ++ c.op-item.result ∷ [] = take_more c.args.laid.now c.loop-op.op-index c.op-item.result c.loop-op-test.true ∙ ap (λ x. take c.loop-op.op-index c.args.laid.now ++ x ∷ []) (sym h) in
-    subst (λ done. AreNumbered done c.number.new.words.keys c.number.new.affirmed.keys c.push.new.self.items) (sym e)
-    (subst (λ ops. AreNumbered (take c.loop-op.op-index c.args.laid.now ++ c.op-item.result ∷ []) c.number.new.words.keys c.number.new.affirmed.keys ops) (sym c.in_ok-push.ensures.items)
-    (numbered-more _ _ _ _ _ _ _ _ c.loop-op.invariant n.words n.affirmed n.op n.placed))
+    subst (λ done. AreNumbered done c.number.new.words.keys c.push.new.self.items) (sym e)
+    (subst (λ ops. AreNumbered (take c.loop-op.op-index c.args.laid.now ++ c.op-item.result ∷ []) c.number.new.words.keys ops) (sym c.in_ok-push.ensures.items)
+    (numbered-more _ _ _ _ _ _ c.loop-op.invariant n.words n.op n.placed))

@@ -1,6 +1,7 @@
 use Rattle.std.proofs.Common.{arith, None}
 use Rattle.version_store.specs.declared.link.Link.{Link}
 use Rattle.version_store.proofs.Steps.{jump_within, jump_back, before_back, none_left, to_before, to_jump}
+use Rattle.version_store.proofs.Reaching.{all-behind, to-before, to-jump}
 use Rattle.version_store.proofs.walk.step_back.Goals as goal
 
 pub returns-in_default-clause-leads : goal.returns-in_default-clause-leads
@@ -26,3 +27,12 @@ returns-else-t-log-clause-earlier c = before_back _ _ c.requires.linked c.args.p
 
 pub returns-else-t-log-clause-leads : goal.returns-else-t-log-clause-leads
 returns-else-t-log-clause-leads c = λ doc h. to_before _ _ c.requires.linked c.args.place c.requires.there _ c.args.t.seconds c.requires.behind doc h c.in-Some.before c.in-Some.is
+
+pub returns-in_default-clause-reaches : goal.returns-in_default-clause-reaches
+returns-in_default-clause-reaches c = λ doc h. all-behind _ _ c.requires.linked c.args.place c.requires.there _ c.args.t.seconds c.requires.behind doc h c.in_default.is
+
+pub returns-then-t-log-clause-reaches : goal.returns-then-t-log-clause-reaches
+returns-then-t-log-clause-reaches c = λ doc h. to-jump _ _ c.requires.linked c.args.place c.requires.there _ c.args.t.seconds c.requires.behind doc h c.index-log-link.result c.if-t-log.true
+
+pub returns-else-t-log-clause-reaches : goal.returns-else-t-log-clause-reaches
+returns-else-t-log-clause-reaches c = λ doc h. to-before _ _ c.requires.linked c.args.place c.requires.there _ c.args.t.seconds c.requires.behind doc h c.in-Some.before c.in-Some.is

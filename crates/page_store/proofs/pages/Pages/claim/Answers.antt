@@ -1,15 +1,12 @@
-use Rattle.std.proofs.Common.{ℕ, List, [], ◌∷◌, refl, ap, subst, ◌∙◌, rules}
-use Rattle.std.proofs.lemmas.List.Sorted.{IsPermutation-append_comm}
+use Rattle.std.proofs.Common.{ℕ, List, refl, ap, subst, ◌∙◌, rules}
 use Rattle.page_store.specs.Runs.{pages_for}
 use Rattle.page_store.specs.Edges.{AreFree}
 use Rattle.page_store.specs.Taken.{PagesState}
-use Rattle.page_store.proofs.OrderLemmas.{taken_permuted}
 use Rattle.page_store.proofs.TakenLemmas.{none_more, taken_page}
 use Rattle.page_store.proofs.pages.Pages.claim.Goals as goal
 
 pub returns-then-extent-eq0-clause-yes : goal.returns-then-extent-eq0-clause-yes
-returns-then-extent-eq0-clause-yes c free extents has =
-    taken_permuted c.args.self.now _ _ (IsPermutation-append_comm (c.args.extent ∷ []) extents) (none_more c.args.self.now extents c.args.extent c.if-extent-eq0.true has)
+returns-then-extent-eq0-clause-yes c free extents has = none_more c.args.self.now extents c.args.extent c.if-extent-eq0.true has
 
 pub returns-then-not-are_free-clause-no : goal.returns-then-not-are_free-clause-no
 returns-then-not-are_free-clause-no c not_free extents has = taken_page c.args.self.now extents c.args.extent has (search rules)
@@ -18,4 +15,4 @@ pub returns-clause-yes : goal.returns-clause-yes
 returns-clause-yes c free extents has =
     let same = c.deref.ensures.value ∙ ap (λ (s : PagesState). s.edges) c.self.view_is in
     let were_free = subst (λ (es : List ℕ). AreFree es c.args.extent.first (pages_for c.args.extent.bytes)) same (c.if-not-are_free.ensures.yes refl) in
-    taken_permuted c.hold.new.self _ _ (IsPermutation-append_comm (c.args.extent ∷ []) extents) (c.in_ok-hold.ensures.held extents has were_free)
+    c.in_ok-hold.ensures.held extents has were_free

@@ -1,7 +1,9 @@
-use Rattle.std.proofs.Common.{List, take, arith, sym, subst, All}
+use Rattle.std.proofs.Common.{List, [], ◌∷◌, take, arith, sym, subst, All}
 use Rattle.time_base.specs.declared.extent.Extent.{Extent}
 use Rattle.page_store.specs.Taken.{HasTaken}
 use Rattle.page_store.specs.Live.{IsInside, IsNext}
+use Rattle.std.proofs.lemmas.List.Sorted.{IsPermutation-append_comm}
+use Rattle.page_store.proofs.OrderLemmas.{taken_permuted}
 use Rattle.page_store.proofs.TakenLemmas.{next_extent, inside_more}
 use Rattle.page_store.proofs.pages.Pages.from_live.Goals as goal
 
@@ -28,7 +30,9 @@ loop-index-preserved c =
     let live = c.args.live.now in
     let next = next_extent live c.loop-index.index c.index-live-index.result c.loop-index-test.true c.index-live-index.is in
     record {
-      taken = subst (λ (xs : List Extent). HasTaken c.claim.new.self xs) (sym next) (c.in_ok-claim.ensures.yes c.if-not-branch.false (take c.loop-index.index live) c.loop-index.invariant.taken);
+      taken = subst (λ (xs : List Extent). HasTaken c.claim.new.self xs) (sym next)
+          (taken_permuted c.claim.new.self _ _ (IsPermutation-append_comm (c.index-live-index.result ∷ []) (take c.loop-index.index live))
+          (c.in_ok-claim.ensures.yes c.if-not-branch.false (take c.loop-index.index live) c.loop-index.invariant.taken));
       inside = subst (λ (xs : List Extent). All (IsInside c.args.reach) xs) (sym next)
           (inside_more c.args.reach (take c.loop-index.index live) c.index-live-index.result c.loop-index.invariant.inside (omega (arith, c.if-end-reach.false, c.end.ensures)));
     }

@@ -1,0 +1,13 @@
+use Rattle.std.proofs.Common.{◌<◌, length}
+use Rattle.time_base.specs.declared.ids.DocId.{DocId}
+use Rattle.version_store.specs.Walks.{IsOf, IsReached}
+use Rattle.version_store.proofs.walk.last_until.Given as goal
+
+abbrev pub invariant-loop-place : goal.invariant-loop-place
+invariant-loop-place l = record {
+  there : l.place < length l.log;
+  reached : (doc : DocId) → IsOf doc l.log l.fn.latest → IsReached doc l.t.seconds l.log l.fn.latest l.place;
+}
+
+abbrev pub decreases-loop-place : goal.decreases-loop-place
+decreases-loop-place l = l.place
