@@ -9,5 +9,5 @@ mod MadeLemmas
 mod Groups
 mod Changing
 mod FactLemmas
-pub mod OverHits
+mod OverHits
 pub mod SpanRows

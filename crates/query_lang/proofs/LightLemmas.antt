@@ -64,10 +64,6 @@ abbrev pub AreLight : List Token → Type 0
 AreLight [] = ⊤
 AreLight (t ∷ ts) = IsLight t × AreLight ts
 
-light-join : (a b : List Token) → AreLight a → AreLight b → AreLight (a ++ b)
-light-join [] b x y = y
-light-join (t ∷ a) b x y = (x.0, light-join a b x.1 y)
-
 light-left : (a b : List Token) → AreLight (a ++ b) → AreLight a
 light-left [] b x = tt
 light-left (t ∷ a) b x = (x.0, light-left a b x.1)

@@ -1,9 +1,9 @@
 //! The distinct words of operators, and their places among these.
-ghost use Rattle.std.specs.Prelude.{◌≡◌, [], ◌∷◌, ◌<◌, ℕ, length, map, All, get_or, max, slice_set, if◌then◌else◌, IfOk, OnOk};
+ghost use Rattle.std.specs.Prelude.{◌≡◌, [], ◌∷◌, ◌<◌, length, All, get_or, IfOk, OnOk};
 ghost use Rattle.fold_tokens.specs.Words.{entered, with_all, distinct};
-ghost use Rattle.query_lang.specs.Meaning.{keys_of, greatest};
+ghost use Rattle.query_lang.specs.Meaning.{keys_of};
 ghost use Rattle.query_lang.specs.Numbered.{IsPlaced, named_by, named};
-ghost use Rattle.query_lang.specs.Postfix.{pushed, pushed_even};
+ghost use Rattle.query_lang.specs.Postfix.{pushed};
 
 use crate::op::{Op, Spot};
 use crate::term::Term;

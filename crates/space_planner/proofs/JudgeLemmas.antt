@@ -17,10 +17,6 @@ use Rattle.space_planner.proofs.StopLemmas.{stop_falls, stop_inside}
 
 -- ---- a path, cut by cut
 
-pub no_cuts : (times places : List ℕ) (at : ℕ) → (at ≡ 0 → ⊥) → IsNoPath times places at []
-no_cuts times places at some [] falls are = some falls
-no_cuts times places at some (j ∷ path) falls are = cc
-
 head_same : (x y : ℕ) (xs ys : List ℕ) → x ∷ xs ≡ y ∷ ys → x ≡ y
 head_same x y xs ys e = cc
 
@@ -59,9 +55,6 @@ module _ (times places : List ℕ) (some : 2 ≤ length times) (up : IsStrictlyI
       let same : i ≡ j = one_stop i j (omega (arith, l, f.0)) (omega (arith, l, g.0)) (head_same _ _ _ _ e) in
       let rest : p ≡ q = one_path i p q (omega (arith, l, f.0)) f.1 (subst (λ k. Falls k q) (sym same) g.1) (tail_same _ _ _ _ e) in
       ap (λ k. k ∷ p) same ∙ ap (λ (xs : List ℕ). j ∷ xs) rest
-
-pub way_none : (table : Counts) (unit' : ℕ) (sums places : List ℕ) (at : ℕ) → at ≡ 0 → IsWay table unit' sums places at [] 0 0
-way_none table unit' sums places at e = record { path = []; falls = e; are = refl; charged_is = refl; cost_is = refl }
 
 pub way_more : (table : Counts) (unit' : ℕ) (sums places : List ℕ) (at next cut : ℕ) (behind : List ℕ) (charge cost charged costs : ℕ) → next < at → slice_index table.boundaries (slice_index places next) ≡ cut
     → charge ≡ leg_charge table unit' places at next → cost ≡ leg_cost table sums places at next → IsWay table unit' sums places next behind charged costs → IsWay table unit' sums places at (cut ∷ behind) (charge + charged) (cost + costs)

@@ -4,7 +4,7 @@ mod AskLemmas
 pub mod KeptLemmas
 pub mod PlaceLemmas
 pub mod WriteLemmas
-pub mod PagedLemmas
+mod PagedLemmas
 pub mod HoldLemmas
 mod UnionLemmas
 mod JoinLemmas

@@ -17,7 +17,7 @@ use Rattle.page_store.specs.Ranges.{SameOutside, range_of, bytes_in}
 use Rattle.page_store.specs.Runs.{IsPageOf, IsTaken, pages_for}
 use Rattle.page_store.specs.Taken.{AreApart, HasTaken, PagesState}
 use Rattle.page_store.proofs.StayLemmas.{apart_left, part_stays}
-use Rattle.page_store.specs.Wrote.{Piece, HoldsPiece, Wrote, ranges_of, reach_with}
+use Rattle.page_store.specs.Wrote.{Piece, HoldsPiece, Wrote, reach_with}
 use Rattle.page_store.proofs.ChangeLemmas.{changes_join, changes_more, changes_nothing, same_joins, same_outside}
 use Rattle.page_cache.specs.Caches.{Kept, IsHeld, StandsFor}
 use Rattle.page_cache.specs.Pieces.{piece, pieces}
@@ -369,15 +369,6 @@ some_changed tells old mid new n most rest left after all these next changes so_
 pub some_done : (tells : Type 0) (old new : DiskState) (n most : ℕ) (rest : List Extent) (left all : List Kept) → left ≡ [] → (so_far : AreWrittenSome tells old new n most rest left all) → so_far.done ≡ all
 some_done tells old new n most rest left all none so_far = sym (append-nil so_far.done) ∙ ap (λ (l : List Kept). so_far.done ++ l) (sym none) ∙ so_far.is
 
-pub some_wrote : (tells : Type 0) (old new : DiskState) (n most : ℕ) (rest : List Extent) (left all : List Kept) → left ≡ [] → AreWrittenSome tells old new n most rest left all → tells → WrotePages all old.holds new.holds
-some_wrote tells old new n most rest left all none so_far told = subst (λ (ks : List Kept). WrotePages ks old.holds new.holds) (some_done tells old new n most rest left all none so_far) (so_far.wrote told)
-
-pub some_images : (tells : Type 0) (old new : DiskState) (n most : ℕ) (rest : List Extent) (left all : List Kept) → left ≡ [] → AreWrittenSome tells old new n most rest left all → tells → ChangesOnly (page_ranges all) old new
-some_images tells old new n most rest left all none so_far told = subst (λ (ks : List Kept). ChangesOnly (page_ranges ks) old new) (some_done tells old new n most rest left all none so_far) (so_far.images told)
-
-pub some_inside : (tells : Type 0) (old new : DiskState) (n most : ℕ) (rest : List Extent) (left all : List Kept) → left ≡ [] → AreWrittenSome tells old new n most rest left all → ReachPages new.reach.pages all
-some_inside tells old new n most rest left all none so_far = subst (λ (ks : List Kept). ReachPages new.reach.pages ks) (some_done tells old new n most rest left all none so_far) so_far.inside
-
 -- ---- what is left of the places from one on
 
 -- so many pages from one on, of the places from this one on
@@ -444,69 +435,7 @@ some_outside places all m s was pages each same =
     same_wider (page_ranges (take m (drop s (pages_of (pieces_of places all))))) (map range_of (extents places)) was pages
     (λ k un. untouched_part (λ x. record { at = x.page * 4096; count = length x.bytes }) m s (pages_of (pieces_of places all)) k (paged_untouched places all k each un)) same
 
-pub some_change_places : (places : List Place) (all : List (List ℕ)) (m s : ℕ) (a b : DiskState) → AllZip IsFor places all → ChangesOnly (page_ranges (take m (drop s (pages_of (pieces_of places all))))) a b
-    → ChangesOnly (map range_of (extents places)) a b
-some_change_places places all m s a b each changes =
-    changes_wider (page_ranges (take m (drop s (pages_of (pieces_of places all))))) (map range_of (extents places)) a b
-    (λ k un. untouched_part (λ x. record { at = x.page * 4096; count = length x.bytes }) m s (pages_of (pieces_of places all)) k (paged_untouched places all k each un)) changes
-
 -- ---- all pages of places that were written
-
--- what holds of each piece of an extent's bytes holds of the piece of one page
-held_at : (first : ℕ) (bytes pages : List ℕ) (i : ℕ) → StandsFor (pieces first bytes) pages → i < pages_for (length bytes) → IsHeld pages (piece first bytes i)
-held_at first bytes pages i all below =
-    let n : ℕ = pages_for (length bytes) in
-    subst (IsHeld pages) (get_or-map-range_with_len (piece first bytes) 0 n i i (piece first bytes 0) below (omega arith))
-    (all i (piece first bytes 0) (omega (arith, below, length-map-range_with_len (piece first bytes) 0 n)))
-
--- where each page is what Pages holds, so are the bytes up to any place
-pages_held : (n m first : ℕ) (bytes pages : List ℕ) → m ≤ 4096 * n → m ≤ length bytes → ((k : ℕ) → k < n → IsHeld pages (piece first bytes k)) → take m bytes ≡ take m (drop (first * 4096) pages)
-pages_held zero m first bytes pages low within held = let none : m ≡ 0 = omega arith in rw none refl
-pages_held (suc n) m first bytes pages low within held = elim (cases_lt m (4096 * n)) [
-  | inl before ↦ pages_held n m first bytes pages (omega arith) within (λ k below. held k (omega arith))
-  | inr from ↦ (
-      let at : ℕ = 4096 * n in
-      let r : ℕ = m - at in
-      let there : List ℕ = drop (first * 4096) pages in
-      let k : Kept = piece first bytes n in
-      let is : m ≡ at + r = omega arith in
-      let page : k.page * 4096 ≡ first * 4096 + at = omega arith in
-      let long : r ≤ length k.bytes = omega (arith, length-take 4096 (drop at bytes), length-drop at bytes) in
-      let front : take at bytes ≡ take at there = pages_held n at first bytes pages (omega arith) (omega arith) (λ i below. held i (omega arith)) in
-      let last : k.bytes ≡ take (length k.bytes) (drop at there) =
-      (held n (omega arith)).bytes ∙ ap (take (length k.bytes)) (ap (λ i. drop i pages) page ∙ sym (drop-drop at (first * 4096) pages)) in
-      let rest : take r (drop at bytes) ≡ take r (drop at there) =
-      sym (take-take r 4096 (drop at bytes) (omega arith)) ∙ ap (take r) last ∙ take-take r (length k.bytes) (drop at there) long in
-      ap (λ i. take i bytes) is ∙ take-add at r bytes ∙ rw (front, rest) refl ∙ sym (take-add at r there) ∙ ap (λ i. take i there) (sym is))
-]
-
-piece_held_whole : (e : Extent) (bytes pages : List ℕ) → length bytes ≡ e.bytes → StandsFor (pieces e.first bytes) pages → HoldsPiece pages (record { extent = e; bytes = bytes })
-piece_held_whole e bytes pages long held = record {
-  inside = λ some.
-      let i : ℕ = pages_for (length bytes) - 1 in
-      let k : Kept = piece e.first bytes i in
-      let last = held_at e.first bytes pages i held (omega (arith, long, some)) in
-      omega (arith, piece_long e.first bytes i, ap (λ (l : List ℕ). length l) last.bytes, length-take (length k.bytes) (drop (k.page * 4096) pages), length-drop (k.page * 4096) pages, long, some);
-  bytes = ap (λ n. take n (drop (e.first * 4096) pages)) (sym long)
-      ∙ sym (pages_held (pages_for (length bytes)) (length bytes) e.first bytes pages (omega arith) (omega arith) (λ k below. held_at e.first bytes pages k held below)) ∙ take_all (length bytes) bytes (omega arith);
-}
-
--- pages that hold each page of places hold the places' bytes
-pub paged_held : (places : List Place) (all : List (List ℕ)) (pages : List ℕ) → AllZip IsFor places all → StandsFor (pages_of (pieces_of places all)) pages → All (HoldsPiece pages) (pieces_of places all)
-paged_held [] all pages each held = All-nil (HoldsPiece pages)
-paged_held (p ∷ places) [] pages each held = absurd each
-paged_held (p ∷ places) (b ∷ all) pages each held =
-    let front = pieces p.extent.first b in
-    let behind = pages_of (pieces_of places all) in
-    let long : length b ≡ p.extent.bytes = sym each.0.size in
-    All-cons (HoldsPiece pages) (record { extent = p.extent; bytes = b }) (pieces_of places all)
-    (piece_held_whole p.extent b pages long (λ i d within. subst (IsHeld pages) (get_or_append_left front behind d i within) (held i d (omega (arith, within, length-append front behind)))))
-    (paged_held places all pages each.1
-    (λ i d within. subst (IsHeld pages) (get_or-append-add front behind i d) (held (length front + i) d (omega (arith, within, length-append front behind)))))
-
--- and so are good writes of them
-pub paged_wrote : (places : List Place) (all : List (List ℕ)) (b : Bytes) → AllZip IsFor places all → StandsFor (pages_of (pieces_of places all)) b.pages → Wrote (pieces_of places all) b b
-paged_wrote places all b each held = record { journal = refl; elsewhere = same_outside (ranges_of (pieces_of places all)) b.pages; each = paged_held places all b.pages each held }
 
 -- ---- pages that were written before stay where others are written
 

@@ -1,5 +1,5 @@
 -- The words that one change more brings.
-use Rattle.std.proofs.Common.{◌≡◌, ℕ, ◌+◌, List, [], ◌∷◌, ◌++◌, length, map, sym, ap, ◌∙◌, append_assoc}
+use Rattle.std.proofs.Common.{◌≡◌, ℕ, ◌+◌, List, [], ◌∷◌, ◌++◌, map, sym, ap, ◌∙◌, append_assoc}
 use Rattle.fold_tokens.specs.Words.{with_all, distinct, counted, fresh_of}
 use Rattle.fold_tokens.proofs.NewLemmas.{new_in, fresh-keys, with_all-beside}
 use Rattle.version_store.specs.declared.change.Change.{Change}

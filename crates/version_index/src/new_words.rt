@@ -1,5 +1,5 @@
 //! The words that texts bring which are to come all at once.
-ghost use Rattle.std.specs.Prelude.{◌≡◌, ℕ, ◌<◌, ◌≤◌, ◌^◌, List, [], ◌∷◌, ◌++◌, length, option_map, Err, IfOk, OnOk, OnErr, IfSome};
+ghost use Rattle.std.specs.Prelude.{◌≡◌, ℕ, ◌<◌, ◌≤◌, ◌^◌, List, [], ◌∷◌, ◌++◌, length, option_map, Err, IfOk, OnOk, IfSome};
 ghost use Rattle.version_store.specs.declared.change.Change.{Change};
 ghost use Rattle.version_index.specs.Words.{words_in};
 ghost use Rattle.version_index.specs.Indexes.{state_of, IndexesFrom};

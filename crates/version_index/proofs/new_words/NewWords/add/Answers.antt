@@ -1,7 +1,7 @@
-use Rattle.std.proofs.Common.{◌≡◌, ℕ, ◌++◌, ◌∷◌, [], List, length, map, sym, ap, subst, refl, ◌∙◌, arith}
+use Rattle.std.proofs.Common.{ℕ, ◌++◌, List, length, map, sym, ap, refl, ◌∙◌, arith}
 use Rattle.std.proofs.lemmas.List.{length-append}
 use Rattle.fold_tokens.specs.Words.{with_all, counted, fresh_of}
-use Rattle.version_index.specs.Words.{keys_held, words_in}
+use Rattle.version_index.specs.Words.{keys_held}
 use Rattle.version_index.specs.Indexes.{state_of, IndexState}
 use Rattle.version_index.proofs.NewWordSteps.{brings-more}
 use Rattle.version_index.proofs.new_words.NewWords.add.Goals as goal

@@ -1,4 +1,4 @@
-use Rattle.std.proofs.Common.{arith, ap, sym, ◌∙◌, is_some, inl, inr}
+use Rattle.std.proofs.Common.{arith, ap, ◌∙◌, inl, inr}
 use Rattle.stretches.specs.Kinds.{life_kind}
 use Rattle.stretches.proofs.Laid.{laid-longest}
 use Rattle.stretches.proofs.Pieces.{begin, finish, put, pass}
