@@ -1,7 +1,12 @@
 //! The rows, by what they ask of the program.
 mod broken;
 mod deletions;
+mod faults;
+mod foreign;
+mod history;
 mod lines;
 mod pieces;
+mod plan_stops;
 mod replies;
 mod statuses;
+mod stops;

@@ -1,10 +1,14 @@
 //! The rows, by what they ask of the program.
 mod audits;
 mod changed;
+mod damaged;
 mod disks;
 mod faults;
 mod flat;
+mod foreign;
+mod journals;
 mod least;
+mod places;
 mod realistic;
 mod samples;
 mod sound;

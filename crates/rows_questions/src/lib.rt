@@ -1,7 +1,9 @@
-//! The rows of the questions `find`, `between`, `show` and `propose`, over the machine in memory.
+//! The rows of the questions `find`, `between`, `show` and `propose`, over the machine in memory, and of those
+//! that read Pages through the cache: how many bytes are read for each.
 //!
 //! There are tests alone here, and worked rows that hold by computation (`specs/Rows.antt`). What a
-//! row wants comes from the worked rows and the formats, never from what the program answers.
+//! row wants comes from the worked rows and the formats, or is counted from these, never from what the
+//! program answers.
 #![tactic(auto)]
 
 #[cfg(test)]

@@ -1,5 +1,6 @@
 //! The rows, by what they ask of the program.
 mod between;
+mod cache;
 mod find;
 mod propose;
 mod show;

@@ -1,5 +1,5 @@
 //! Reads that fail, which end a run only where a page that isn't kept is asked for.
-use crate::rows::steps::{BOTH, ONE};
+use crate::rows::cache::steps::{BOTH, ONE};
 use archive_rig::{copy_image, first_disk, machine_on, run_on};
 use archive_shell::Status;
 use machine_mem::{CallKind, Fault};

@@ -1,7 +1,7 @@
 //! How many bytes of Pages are read: those of a sublist once, until its pages are freed.
 //!
 //! The first plan's sublists have 18, 22 and 18 bytes in the pages 0, 1 and 2.
-use crate::rows::steps::{
+use crate::rows::cache::steps::{
     BOTH, ONE, Step, expect_same, expect_steps, find_15, find_25, find_35, over, step_of,
 };
 use archive_rig::{FIRST_CERTIFICATE, first_disk, flat_disk};

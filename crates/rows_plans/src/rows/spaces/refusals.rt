@@ -1,5 +1,5 @@
 //! What can't be planned under a space bound, and why.
-use crate::rows::plans::four_disk;
+use crate::rows::spaces::plans::four_disk;
 use archive_rig::{FIRST_PLAN, Row, disk_after, expect_on, new_disk};
 
 #[test]

@@ -1,6 +1,6 @@
 //! What a stop may leave of a run that stores a plan under a space bound: after each device call, and within
 //! the load that follows.
-use crate::rows::plans::{four_disk, planned_disk};
+use crate::rows::spaces::plans::{four_disk, planned_disk};
 use archive_rig::{
     EXTRAS, FILLS, Row, copy_image, expect_entries, machine_after, machine_on, pick_image, run_on,
     whole_images,
