@@ -11,7 +11,7 @@ use Rattle.query_eval.specs.Spans.{row_kind, scored_at, IsSpanAnswer}
 use Rattle.query_eval.specs.declared.spans.SpanRow.{SpanRow}
 use Rattle.archive_state.specs.Histories.{History, text_at}
 use Rattle.archive_core.specs.States.{ArchiveState, StandsFor}
-use Rattle.archive_state.proofs.ChosenLemmas.{stretches-same}
+use Rattle.stretches.proofs.Windows.{stretches-same}
 use Rattle.archive_core.proofs.AnswerLemmas.{alive_is}
 
 same_truth : (b c : Bool) → (b ≡ true) ↔ (c ≡ true) → b ≡ c

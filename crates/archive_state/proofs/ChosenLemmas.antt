@@ -11,7 +11,7 @@ use Rattle.fold_tokens.proofs.CountLemmas.{itself}
 use Rattle.postings.specs.Lists.{holds, meets, sublist, frequency}
 use Rattle.postings.proofs.Clipping.{one_list_of, outside}
 use Rattle.postings.proofs.Merged.{append-none, append-some}
-use Rattle.stretches.specs.Stretches.{Kind, IsLongest, AreStretches}
+use Rattle.stretches.proofs.Windows.{stretches-same}
 use Rattle.query_lang.specs.Grammar.{Query}
 use Rattle.query_lang.specs.Meaning.{matches, score, words_of}
 use Rattle.query_lang.proofs.Deciding.{agreeing, matches-same, score-same}
@@ -240,39 +240,6 @@ module _ (h : History) (pages : List ℕ) (a b : ℕ) (now : b ≤ 2 ^ 40) (load
       let each = λ (k : ℕ) (w : List ℕ) (within : k < length (words_of query)). chosen_told (words_of query) parts doc t k w from to are within in
       ap (λ (b : Bool). if (is_some (text_at h doc t) && b) then Some (score query f) else None) (matches-same f g query (agreeing f g query each))
       ∙ ap (λ (n : ℕ). if (is_some (text_at h doc t) && matches query g) then Some n else None) (score-same f g query each)
-
--- ---- longest stretches inside a window look at its times alone
-
-module _ {R V : Type 0} (k : Kind R V) (f g : ℕ → ℕ → Option V) (a b : ℕ) (same : (d t : ℕ) → a ≤ t → t < b → f d t ≡ g d t) where
-  longest-same : (r : R) → IsLongest k f a b r → IsLongest k g a b r
-  longest-same r l =
-      let some = k.some r in
-      record {
-        begins = l.begins;
-        ends = l.ends;
-        same = λ t x y. sym (same (k.doc r) t (omega (arith, l.begins, x)) (omega (arith, y, l.ends))) ∙ l.same t x y;
-        new = elim (cases_lt a (k.from r)) [
-          | inr e ↦ inl (omega (arith, l.begins, e))
-          | inl x ↦ elim l.new [
-            | inl e ↦ inl e
-            | inr n ↦ inr (λ e. n (same (k.doc r) (k.from r - 1) (omega (arith, x)) (omega (arith, some, l.ends, x)) ∙ e))
-          ]
-        ];
-        over = elim (cases_lt (k.to r) b) [
-          | inr e ↦ inl (omega (arith, l.ends, e))
-          | inl x ↦ elim l.over [
-            | inl e ↦ inl e
-            | inr n ↦ inr (λ e. n (same (k.doc r) (k.to r) (omega (arith, some, l.begins)) x ∙ e))
-          ]
-        ];
-      }
-
-  pub stretches-same : (rows : List R) → AreStretches k f a b rows → AreStretches k g a b rows
-  stretches-same rows h = record {
-    ordered = h.ordered;
-    longest = λ r c. longest-same r (h.longest r c);
-    covered = λ d t v x y e. h.covered d t v x y (same d t x y ∙ e);
-  }
 
 -- ---- the answers
 

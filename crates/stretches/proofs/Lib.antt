@@ -6,3 +6,4 @@ pub mod Longest
 pub mod Pieces
 mod Sorted
 pub mod Stable
+pub mod Windows
