@@ -21,4 +21,6 @@ pub use found::{answer_at, answer_by_hits, answer_by_living_hits, answer_from, p
 pub use laws::{an_answer_is_one, each_query_has_an_answer, only_hits_matter, only_words_matter};
 pub use part::{EvalError, Lists, Part};
 pub use span_laws::{a_span_answer_is_one, each_window_has_an_answer, span_rows_are_the_longest};
-pub use spans::{SpanAnswer, SpanRow, answer_between, answer_over, answer_over_hits, parts_between};
+pub use spans::{
+    SpanAnswer, SpanRow, answer_between, answer_over, answer_over_hits, parts_between,
+};

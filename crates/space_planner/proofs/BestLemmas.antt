@@ -145,9 +145,11 @@ module _ (list : List Posting) (horizon : ℕ) (table : Counts) (factor : Fracti
       → IsEligible list table.boundaries factor (slice_index table.boundaries 0) horizon cuts
       × (along (leg_cost table sums places) (length places - 1) path ≡ expected_cost list (slice_index table.boundaries 0) cuts table.boundaries weights)
   path_eligible cuts path falls are within =
-      subst (λ (l : List ℕ). IsEligible list table.boundaries factor (slice_index table.boundaries 0) horizon l × (along (leg_cost table sums places) (length places - 1) path ≡ expected_cost list (slice_index table.boundaries 0) l table.boundaries weights)) are
-      (inr (subst (λ u. IsWithin list table.boundaries u (budget (cap factor (length list))) (slice_index table.boundaries 0) horizon (map (λ k. slice_index table.boundaries (slice_index places k)) path)) unit_by
-      (within_of path (budget (cap factor (length list))) (falls, omega (arith, within, budget_by)))), sym (cost_of path falls))
+      subst (λ (l : List ℕ). IsEligible list table.boundaries factor (slice_index table.boundaries 0) horizon l × (along (leg_cost table sums places) (length places - 1) path ≡ expected_cost list (slice_index table.boundaries 0) l table.boundaries weights)) are (
+        inr (subst (λ u. IsWithin list table.boundaries u (budget (cap factor (length list))) (slice_index table.boundaries 0) horizon (map (λ k. slice_index table.boundaries (slice_index places k)) path)) unit_by
+            (within_of path (budget (cap factor (length list))) (falls, omega (arith, within, budget_by)))),
+        sym (cost_of path falls),
+      )
 
   -- one that may be chosen is the one piece, or one of such a path
   pub eligible_path : (cuts : List ℕ) → IsEligible list table.boundaries factor (slice_index table.boundaries 0) horizon cuts
@@ -159,7 +161,7 @@ module _ (list : List Posting) (horizon : ℕ) (table : Counts) (factor : Fracti
       from w =
           let here = subst (λ u. IsWithin list table.boundaries u (budget (cap factor (length list))) (slice_index table.boundaries 0) horizon cuts) (sym unit_by) w in
           let p = path_of list horizon table unit' weights sums places s.many t s.stops s.long s.sums_are cuts (length places - 1) top
-              (subst (λ x. Ascends x cuts (slice_index table.boundaries (slice_index places 0))) (sym start_is) (subst (λ y. Ascends (slice_index table.boundaries 0) cuts y) (sym end_is) here.ascends)) here.candidates in (
+          (subst (λ x. Ascends x cuts (slice_index table.boundaries (slice_index places 0))) (sym start_is) (subst (λ y. Ascends (slice_index table.boundaries 0) cuts y) (sym end_is) here.ascends)) here.candidates in (
             p.0,
             p.1,
             p.2,

@@ -97,8 +97,8 @@ module _ (list : List Posting) (horizon : ℕ) (table : Counts) (factor : Fracti
   too_much more many charged cost w over may = elim (eligible_path list horizon table factor unit' budget' weights sums places cells t s (drop 1 cuts) may) [
     | inl one ↦ more (omega (arith, ap (λ (l : List ℕ). length l) one, length-drop 1 cuts, many))
     | inr p ↦ (
-      let same : p.0 ≡ w.path = one_path table.boundaries places s.many t.boundaries.ascending s.stops (length places - 1) p.0 w.path (omega (arith, s.stops.some)) p.1 w.falls (p.2 ∙ sym w.are) in
-      absurd (omega (arith, p.3, over, w.charged_is, ap (λ (q : List ℕ). along (leg_charge table unit' places) (length places - 1) q) same)))
+        let same : p.0 ≡ w.path = one_path table.boundaries places s.many t.boundaries.ascending s.stops (length places - 1) p.0 w.path (omega (arith, s.stops.some)) p.1 w.falls (p.2 ∙ sym w.are) in
+        absurd (omega (arith, p.3, over, w.charged_is, ap (λ (q : List ℕ). along (leg_charge table unit' places) (length places - 1) q) same)))
   ]
 
   pub enough : (charged cost : ℕ) → IsWay table unit' sums places (length places - 1) (drop 1 cuts) charged cost → charged ≤ budget'

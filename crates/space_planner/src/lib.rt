@@ -20,10 +20,10 @@ mod stops;
 mod surveying;
 mod weights;
 
+pub use judging::is_best;
 pub use laws::{
     each_list_has_a_best, eligible_is_capped, eligible_is_short, weights_of_a_function,
 };
-pub use judging::is_best;
 pub use load::Load;
 pub use planning::{front, plan};
 pub use point::Point;

@@ -62,12 +62,7 @@ impl Directory {
     }
 
     /// The events of these documents in a span, in order.
-    fn events_of(
-        &self,
-        alloc: Global,
-        docs: &[DocId],
-        span: Span,
-    ) -> Result<Vec<Event>, AllocError>
+    fn events_of(&self, alloc: Global, docs: &[DocId], span: Span) -> Result<Vec<Event>, AllocError>
         ensures sorted { IfOk result (λ events. AreInOrder events.items) }
         ensures events { IfOk result (λ events. AreEventsOf self.now.changes docs.now span.from span.to events.items) }
     {

@@ -23,8 +23,8 @@ returns c =
     let load = each_second_since c.args.since in
     let P : Bool → Type 0 = λ b. (list : List Posting) (horizon : ℕ) → Tabulates list horizon c.args.table.now → (IsTrue b ↔ IsBestUnder list times (weights_by load times) c.args.factor (slice_index times 0) horizon (drop 1 p)) in
     let Q : Bool → Type 0 = λ b. (list : List Posting) (cuts : List Time) (horizon : Time) → Tabulates list horizon.seconds c.args.table.now → IsPartition p → p ≡ map (λ (t : Time). t.seconds) (cuts ++ horizon ∷ [])
-        → (IsTrue b ↔ IsBestPlan load list c.args.factor cuts horizon.seconds) in
+    → (IsTrue b ↔ IsBestPlan load list c.args.factor cuts horizon.seconds) in
     IfOk-weaker c.is_best_since.result P Q (λ b h list cuts horizon t part e.
-        let one = h list horizon.seconds t in
-        let is = best_is load list c.args.factor times p cuts horizon t.boundaries part e (c.if-not-spans.ensures.yes.0 refl).0 in
-        ((λ x. is.0 (one.0 x)), (λ plan. one.1 (is.1 plan)))) c.is_best_since.ensures
+    let one = h list horizon.seconds t in
+    let is = best_is load list c.args.factor times p cuts horizon t.boundaries part e (c.if-not-spans.ensures.yes.0 refl).0 in
+    ((λ x. is.0 (one.0 x)), (λ plan. one.1 (is.1 plan)))) c.is_best_since.ensures

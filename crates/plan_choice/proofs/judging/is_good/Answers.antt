@@ -10,7 +10,7 @@ use Rattle.plan_choice.proofs.judging.is_good.Goals as goal
 pub returns-in_default : goal.returns-in_default
 returns-in_default c =
     let part : IsGoodPlan c.args.kind c.args.list.now c.args.factor c.args.cuts.now c.args.horizon.seconds → IsPartition (map (λ (t : Time). t.seconds) (c.args.cuts.now ++ c.args.horizon ∷ [])) =
-        λ good. fit_is_partition c.args.kind c.args.list.now c.args.factor c.args.cuts.now c.args.horizon (good_is_fit c.args.kind c.args.list.now c.args.factor c.args.cuts.now c.args.horizon good) in
+    λ good. fit_is_partition c.args.kind c.args.list.now c.args.factor c.args.cuts.now c.args.horizon (good_is_fit c.args.kind c.args.list.now c.args.factor c.args.cuts.now c.args.horizon good) in
     grind (arith, part)
 
 pub returns-in-Guarantee : goal.returns-in-Guarantee
@@ -27,7 +27,7 @@ returns-in-Uniform c =
     let cuts = c.args.cuts.now in
     let h = c.args.horizon.seconds in
     rw c.in-Uniform.is (IfOk-weaker c.costs_least.result _ _ (λ b is.
-        subst (λ (load : ℕ → ℕ → ℕ). IsTrue b ↔ IsBestPlan load list c.args.factor cuts h) since_first (is list cuts c.args.horizon c.in_ok-table.ensures part made)) c.costs_least.ensures)
+    subst (λ (load : ℕ → ℕ → ℕ). IsTrue b ↔ IsBestPlan load list c.args.factor cuts h) since_first (is list cuts c.args.horizon c.in_ok-table.ensures part made)) c.costs_least.ensures)
 
 pub returns : goal.returns
 returns c =
@@ -37,4 +37,4 @@ returns c =
     let cuts = c.args.cuts.now in
     let h = c.args.horizon.seconds in
     rw c.in-Since.is (IfOk-weaker c.costs_least-in-Since.result _ _ (λ b is.
-        subst (λ n. IsTrue b ↔ IsBestPlan (each_second_since n) list c.args.factor cuts h) c.seconds.ensures.value (is list cuts c.args.horizon c.in_ok-table.ensures part made)) c.costs_least-in-Since.ensures)
+    subst (λ n. IsTrue b ↔ IsBestPlan (each_second_since n) list c.args.factor cuts h) c.seconds.ensures.value (is list cuts c.args.horizon c.in_ok-table.ensures part made)) c.costs_least-in-Since.ensures)

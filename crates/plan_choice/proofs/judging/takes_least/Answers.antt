@@ -20,8 +20,7 @@ returns-in-Ok c list cuts horizon t part e =
     let least = c.in-Ok.ensures.least list horizon.seconds t in
     let is = kept list c.args.factor times p q cuts horizon t.boundaries part e keeps c.in-Ok.ensures.fits least in
     let mine : c.whole_space.result ≡ space list (slice_index p 0) (drop 1 p) = c.whole_space.ensures.value list horizon.seconds t in
-    let other : c.whole_space-in-Ok.result ≡ space list (slice_index q 0) (drop 1 q) = c.whole_space-in-Ok.ensures.value list horizon.seconds t in
-    (
+    let other : c.whole_space-in-Ok.result ≡ space list (slice_index q 0) (drop 1 q) = c.whole_space-in-Ok.ensures.value list horizon.seconds t in (
       (λ same. is.0 (sym mine ∙ eqb-true c.whole_space.result c.whole_space-in-Ok.result same ∙ other)),
       (λ good. eq-eqb c.whole_space.result c.whole_space-in-Ok.result (mine ∙ is.1 good ∙ sym other)),
     )

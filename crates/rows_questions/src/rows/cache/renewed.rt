@@ -1,5 +1,7 @@
 //! Pages that are freed while they are kept, and written anew.
-use crate::rows::cache::steps::{Step, expect_same, expect_steps, find_15, find_25, find_35, step_of};
+use crate::rows::cache::steps::{
+    Step, expect_same, expect_steps, find_15, find_25, find_35, step_of,
+};
 use archive_rig::{Row, disk_after, first_disk, flat_disk, new_disk};
 
 /// A step of a script that reads nothing of Pages.

@@ -25,8 +25,8 @@ returns-in_err-charged c factor weights s list horizon t =
     let long : c.len.result ≡ length places = omega (arith, c.len.ensures, c.deref-3.ensures.len, ap (λ (l : List ℕ). length l) c.deref-3.ensures.value) in
     let none : IsNoPath times c.deref-3.result.now (c.len.result - 1) part = c.in_err-charged.ensures.none in
     let none_of : IsNoPath times places (length places - 1) (drop 1 cuts) =
-        subst (λ (l : List ℕ). IsNoPath times places (length places - 1) l) whole
-        (subst (λ n. IsNoPath times places (n - 1) part) long (subst (λ (ps : List ℕ). IsNoPath times ps (c.len.result - 1) part) c.deref-3.ensures.value none)) in
+    subst (λ (l : List ℕ). IsNoPath times places (length places - 1) l) whole
+    (subst (λ n. IsNoPath times places (n - 1) part) long (subst (λ (ps : List ℕ). IsNoPath times ps (c.len.result - 1) part) c.deref-3.ensures.value none)) in
     rw c.from_residual.ensures (no_path list horizon c.args.table.now factor survey.limits.unit survey.limits.budget weights survey.sums.items places survey.cells.items t s cuts c.requires.last
     (λ two. omega (arith, c.if-cuts-eq2.false, two)) c.requires.many none_of)
 
@@ -41,8 +41,8 @@ returns-then-charged-survey c factor weights s list horizon t =
     let W : List ℕ → List ℕ → ℕ → List ℕ → Type 0 = λ sums ps n l. IsWay c.args.table.now survey.limits.unit sums ps (n - 1) l c.in_ok-charged.charged c.in_ok-charged.cost in
     let way : W c.deref-2.result.now c.deref-3.result.now c.len.result part = c.in_ok-charged.ensures.way in
     let way_of : W survey.sums.items places (length places) (drop 1 cuts) =
-        subst (λ (l : List ℕ). W survey.sums.items places (length places) l) whole (subst (λ n. W survey.sums.items places n part) long
-        (subst (λ (ps : List ℕ). W survey.sums.items ps c.len.result part) c.deref-3.ensures.value (subst (λ (xs : List ℕ). W xs c.deref-3.result.now c.len.result part) c.deref-2.ensures.value way))) in
+    subst (λ (l : List ℕ). W survey.sums.items places (length places) l) whole (subst (λ n. W survey.sums.items places n part) long
+    (subst (λ (ps : List ℕ). W survey.sums.items ps c.len.result part) c.deref-3.ensures.value (subst (λ (xs : List ℕ). W xs c.deref-3.result.now c.len.result part) c.deref-2.ensures.value way))) in
     too_much list horizon c.args.table.now factor survey.limits.unit survey.limits.budget weights survey.sums.items places survey.cells.items t s cuts c.requires.last
     (λ two. omega (arith, c.if-cuts-eq2.false, two)) c.requires.many c.in_ok-charged.charged c.in_ok-charged.cost way_of (omega (arith, c.if-charged-survey.true))
 
@@ -57,7 +57,7 @@ returns c factor weights s list horizon t =
     let W : List ℕ → List ℕ → ℕ → List ℕ → Type 0 = λ sums ps n l. IsWay c.args.table.now survey.limits.unit sums ps (n - 1) l c.in_ok-charged.charged c.in_ok-charged.cost in
     let way : W c.deref-2.result.now c.deref-3.result.now c.len.result part = c.in_ok-charged.ensures.way in
     let way_of : W survey.sums.items places (length places) (drop 1 cuts) =
-        subst (λ (l : List ℕ). W survey.sums.items places (length places) l) whole (subst (λ n. W survey.sums.items places n part) long
-        (subst (λ (ps : List ℕ). W survey.sums.items ps c.len.result part) c.deref-3.ensures.value (subst (λ (xs : List ℕ). W xs c.deref-3.result.now c.len.result part) c.deref-2.ensures.value way))) in
+    subst (λ (l : List ℕ). W survey.sums.items places (length places) l) whole (subst (λ n. W survey.sums.items places n part) long
+    (subst (λ (ps : List ℕ). W survey.sums.items ps c.len.result part) c.deref-3.ensures.value (subst (λ (xs : List ℕ). W xs c.deref-3.result.now c.len.result part) c.deref-2.ensures.value way))) in
     enough list horizon c.args.table.now factor survey.limits.unit survey.limits.budget weights survey.sums.items places survey.cells.items t s cuts c.requires.last
     c.in_ok-charged.charged c.in_ok-charged.cost way_of (omega (arith, c.if-charged-survey.false))
