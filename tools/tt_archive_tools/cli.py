@@ -64,6 +64,7 @@ def _parser() -> argparse.ArgumentParser:
     kinds = parser.add_subparsers(required=True, metavar="COMMAND")
     _add_filling(kinds)
     _add_questions(kinds)
+    _add_documents(kinds)
     _add_pictures(kinds)
     return parser
 
@@ -128,6 +129,20 @@ def _add_questions(kinds: Kinds) -> None:
     plan = _command(kinds, "plan", "planning.plan", "store a plan of a word's list, which bounds reading or space")
     plan.add_argument("word", metavar="WORD")
     plan.add_argument("form", nargs="+", metavar="FORM", help="guarantee A/B, space A/B uniform, space A/B since TIME; 1.5 is 3/2")
+
+
+def _add_documents(kinds: Kinds) -> None:
+    log = _command(kinds, "log", "documents.log", "list a document's versions: when each begins, its bytes, and where the document ends")
+    diff = _command(kinds, "diff", "documents.diff", "show what a document's version changed")
+    for one in (log, diff):
+        one.add_argument("name", metavar="NAME", help="the document's name, or #NUMBER")
+    diff.add_argument("--at", default="now", metavar="TIME", help=f"of the version that stands then: {_TIME}")
+    diff.add_argument("--from", dest="start", metavar="TIME", help="and of all from this time on (from the version before)")
+    names = _command(kinds, "names", "documents.names", "list the documents whose names have this part, without regard to case and marks")
+    names.add_argument("part", metavar="PART", nargs="?", default="", help="a part of the name (all names)")
+    names.add_argument("--limit", type=int, default=0, metavar="N", help="show the first N names (all)")
+    for listing in (log, names):
+        listing.add_argument("--tsv", action="store_true", help="rows as tab-separated values, and nothing else")
 
 
 def _add_pictures(kinds: Kinds) -> None:

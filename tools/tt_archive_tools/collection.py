@@ -51,6 +51,16 @@ def shards_of(folder: Path) -> list[Shard]:
     return shards
 
 
+def archives_in(folder: Path) -> list[Shard]:
+    """The archives of a folder, which has to be there and to have some."""
+    if not folder.is_dir():
+        raise ToolError(f"there is no folder {folder}")
+    shards = shards_of(folder)
+    if not any((folder / file).exists() for file in (NAMES, JOURNAL)):
+        raise ToolError(f"{folder} has no archive: `tt init {folder}` makes one")
+    return shards
+
+
 @dataclass
 class _Side:
     """One archive's program, and what it has not yet answered."""
@@ -63,12 +73,8 @@ class Collection:
     """A context in which the archive is locked, and its programs run."""
 
     def __init__(self, folder: Path, command: Sequence[str], claim: Claim = Claim()) -> None:
-        if not folder.is_dir():
-            raise ToolError(f"there is no folder {folder}")
         self.folder = folder
-        self.shards = shards_of(folder)
-        if not any((folder / file).exists() for file in (NAMES, JOURNAL)):
-            raise ToolError(f"{folder} has no archive: `tt init {folder}` makes one")
+        self.shards = archives_in(folder)
         self._command = command
         self._claim = claim
         self._locked = ExitStack()
