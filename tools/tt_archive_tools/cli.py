@@ -20,7 +20,7 @@ Kinds: TypeAlias = "argparse._SubParsersAction[argparse.ArgumentParser]"
 _ABOUT = """Fills a time-travel text archive from what keepers have, asks it by names and dates, and draws what it
 holds. The tools write scripts for tt_archive and read its replies."""
 _STOPPED = "stopped; what was acknowledged is in the archive, and the same import goes on from there"
-_TIME = "a date (2007, 2007-07, 2007-07-23, 2007-07-23T12:30:00, all UTC), @SECONDS, or now"
+_TIME = "a date (2007, 2007-07, 2007-07-23, 2007-07-23T12:30:00, all UTC; 2007-07-23T14:30:00+02:00), @SECONDS, or now"
 
 
 def main(words: Sequence[str] | None = None) -> int:

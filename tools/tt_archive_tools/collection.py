@@ -100,7 +100,7 @@ class Collection:
         if kind is None:
             for shard, (status, said) in zip(self.shards, ends):
                 if status != 0:
-                    raise ProgramFailed(f"{shard}: {_explained(said, shard) or 'status %d' % status}")
+                    raise ProgramFailed(f"{shard}: {_explained(said, shard, status)}")
 
     def side_of(self, doc: int) -> int:
         """Which of the archives has the document."""
@@ -239,14 +239,13 @@ def _replies(program: Program) -> Iterator[Reply]:
         status, said = program.wait()
         if status == AT_WORK:
             raise InUse(f"another program is at work in {program.shard}, which no tt of this folder started")
-        why = _explained(said, program.shard) or wrong or f"tt_archive ended with status {status}"
-        raise ProgramFailed(f"{program.shard}: {why}")
+        raise ProgramFailed(f"{program.shard}: {_explained(said or wrong, program.shard, status)}")
 
 
-def _explained(said: str, shard: Shard) -> str:
-    from .damage import explained  # loaded where something is wrong
+def _explained(said: str, shard: Shard, status: int) -> str:
+    from .damage import explained, killed  # loaded where something is wrong
 
-    return explained(said, shard)
+    return killed(status) or explained(said, shard) or f"tt_archive ended with status {status}"
 
 
 def make_archive(folder: Path, command: Sequence[str], claim: Claim) -> None:
