@@ -159,3 +159,6 @@ class Deduplicated(ArchiveCase):
         self.assertIn("record 16: revisit that names no capture's payload, left out\n", done.stderr)
         self.assertIn("record 17: revisit of a capture that isn't in these files, left out\n", done.stderr)
         self.assertIn("records of a crawler of itself (metadata:), left out: 2\n", done.stdout)
+        tried = self.tt("import", "warc", "-v", "--dry-run", file).stderr
+        self.assertIn(f"captures of what wasn't there: {file}: record 7, {FLIP}\n", tried)
+        self.assertIn(f"(metadata:), left out: {file}: record 18, metadata://gnu.org/software/wget/warc/wget.log\n", tried)

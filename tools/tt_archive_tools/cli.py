@@ -105,6 +105,7 @@ def _add_sources(parser: argparse.ArgumentParser) -> None:
         source.add_argument("--prefix", default="", help="what the documents' names begin with")
         source.add_argument("--charset", help="the character set of what isn't UTF-8 and doesn't declare its own")
         source.add_argument("--keep-html", action="store_true", help="keep HTML as it is, with its tags")
+        source.add_argument("-v", "--verbose", action="store_true", help="name each of what is otherwise only counted")
         source.add_argument("--dry-run", action="store_true", help="read all, tell what would be taken and refused, and send nothing")
 
 

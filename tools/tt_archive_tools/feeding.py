@@ -14,7 +14,7 @@ from .collection import Collection
 from .errors import ProgramFailed
 from .ledger import FILE as LEDGER
 from .ledger import Ledger
-from .replies import Ok, Refused, Reply
+from .replies import Gone, Ok, Refused, Reply, Text
 from .times import show_time
 from .wording import counted
 
@@ -34,7 +34,8 @@ class _Sent(NamedTuple):
     place: str
     arrives: bool
     maybe: bool
-    again: bool
+    #: The change itself, where an earlier import came up to its time.
+    again: Change | None
 
 
 @dataclass
@@ -104,6 +105,8 @@ class Feeder:
         self._behind = 0
         self._latest = -1 if self._last is None else self._last
         self._refused_times: list[int] = []
+        #: Of the second at which an earlier import ended, what the archive refused: it has a change of its own then.
+        self._same: list[Change] = []
         self._batch: list[Change] = []
         self._most = _FIRST
         self._bytes = 0
@@ -123,15 +126,24 @@ class Feeder:
                     self._tidier.forget(change.name)
             else:
                 self._tidier.forget(change.name)
-                self._refuse(sent_of(change, False), Refused(2, "TimeBack", str(self._last)))
+                self._refuse(self._sent(change), Refused(2, "TimeBack", str(self._last)))
         self._send()
         self._finish()
+        for change in self._same:
+            if not self._has(change):
+                self._notes.add("another text than the archive's, of its last second then, left out", change.place)
         if self._done and self._done.changes is not None:
             self.tally.late = max(0, done_changes - self._done.changes - self._behind)
 
     def prospect(self) -> list[str]:
         """What an import that was only tried tells more."""
         return []
+
+    def _has(self, change: Change) -> bool:
+        """Whether the archive has at this change's time what it brings."""
+        doc = self._collection.names.give(change.name)
+        reply = self._collection.ask_side(self._collection.side_of(doc), commands.show(doc, change.time))
+        return reply == (Gone() if change.text is None else Text(change.text))
 
     def _in_time(self, change: Change) -> bool:
         return self._last is None or change.time >= self._last
@@ -178,7 +190,7 @@ class Feeder:
     def _take(self, change: Change) -> None:
         if len(change.text or b"") > commands.MOST_TEXT:
             # The archive would refuse it, by its length alone.
-            self._refuse(sent_of(change, False), Refused(5, "TooLong", str(commands.MOST_TEXT)))
+            self._refuse(self._sent(change), Refused(5, "TooLong", str(commands.MOST_TEXT)))
             return
         self._batch.append(change)
         self._bytes += len(change.text or b"")
@@ -201,7 +213,7 @@ class Feeder:
                 lines.append(commands.delete(doc, change.time))
             else:
                 lines.append(commands.arrive(doc, change.time, change.text))
-            sent.append(sent_of(change, self._is_again(change)))
+            sent.append(self._sent(change))
         names.keep()
         for side, (lines, sent) in scripts.items():
             self._collection.send(side, b"".join(lines), sent, self._answered)
@@ -214,13 +226,14 @@ class Feeder:
         match reply:
             case Ok():
                 self._latest = max(self._latest, sent.change_time)
-                self._behind += sent.again and not sent.maybe
+                self._behind += sent.again is not None and not sent.maybe
                 self.tally.arrived += sent.arrives
                 self.tally.ended += not sent.arrives
             case Refused(name="SameTime" | "NoDocument") if sent.again:
                 self.tally.before += 1
+                self._same.append(sent.again)
             case Refused(name="NoDocument") if sent.maybe:
-                self._notes.count("ends of documents that had none")
+                self._notes.count("ends of documents that had none", f"{sent.name} ({sent.place})")
             case Refused():
                 self._refuse(sent, reply)
             case _:
@@ -231,6 +244,6 @@ class Feeder:
         self._refused_times.append(sent.change_time)
         self._notes.add(f"refused: {refusal}", f"{show_time(sent.change_time)} {sent.name} ({sent.place})")
 
-
-def sent_of(change: Change, again: bool) -> _Sent:
-    return _Sent(change.time, change.name, change.place, change.text is not None, change.maybe, again)
+    def _sent(self, change: Change) -> _Sent:
+        again = change if self._is_again(change) else None
+        return _Sent(change.time, change.name, change.place, change.text is not None, change.maybe, again)

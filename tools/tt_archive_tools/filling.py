@@ -49,7 +49,7 @@ def import_from(source: Source, options: argparse.Namespace) -> None:
         progress.clear()
         print(one_line(line), file=sys.stderr)
 
-    notes = Notes(tell, progress.show)
+    notes = Notes(tell, progress.show, options.verbose)
     reading = Reading(options.charset, options.keep_html)
     try:
         with archive_of(options) as collection:

@@ -79,7 +79,7 @@ def decode(data: bytes, declared: str | None, place: str, notes: Notes) -> str |
 
 
 def _by_codec(data: bytes, codec: str, place: str, notes: Notes) -> str:
-    notes.count(f"texts decoded as {codec}")
+    notes.count(f"texts decoded as {codec}", place)
     text = data.decode(codec, "replace")
     if "\N{REPLACEMENT CHARACTER}" in text:
         notes.add(f"bytes that aren't {codec}, replaced", place)

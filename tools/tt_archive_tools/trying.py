@@ -6,7 +6,7 @@ from dataclasses import dataclass
 
 from .changes import Change, Notes
 from .collection import Collection
-from .feeding import Feeder, Progress, sent_of
+from .feeding import Feeder, Progress
 from .journal import entries
 from .names import escape
 from .replies import Ok, Refused, Reply
@@ -49,8 +49,7 @@ class Trier(Feeder):
 
     def _send(self) -> None:
         for change in self._batch:
-            sent = sent_of(change, self._is_again(change))
-            self._answered(sent, self._reply(change))
+            self._answered(self._sent(change), self._reply(change))
         if self._batch:
             self._progress.step(len(self._batch), self._batch[-1].time)
         self._batch.clear()

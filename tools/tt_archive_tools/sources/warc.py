@@ -86,7 +86,7 @@ class _Captures:
         if record.kind not in ("response", "resource", "revisit") or not address:
             return
         if address.lower().startswith("metadata:"):
-            self._notes.count("records of a crawler of itself (metadata:), left out")
+            self._notes.count("records of a crawler of itself (metadata:), left out", f"{record.place}, {address}")
             return
         if record.kind != "resource" and not record.get("content-type").lower().startswith("application/http"):
             return
@@ -109,7 +109,8 @@ class _Captures:
         if record.kind == "revisit" and response.status in _AS_BEFORE:
             return self._revisit(record, address, digest, bare=True) if response.status == 0 else None
         if response.status in _NO_TEXT:
-            self._notes.count("captures of redirects" if response.status < 400 else "captures of what wasn't there")
+            kind = "captures of redirects" if response.status < 400 else "captures of what wasn't there"
+            self._notes.count(kind, f"{record.place}, {address}")
             self.textless[digest] = True
             return _Capture(address, record.place, None)
         if not 200 <= response.status < 300 or response.status == 206:
@@ -134,7 +135,7 @@ class _Captures:
     def _text(self, response: Response, place: str) -> bytes | None:
         kind, charset = response.content_type()
         if not (kind.startswith("text/") or kind in _TEXT_TYPES):
-            self._notes.count(f"captures of {kind or 'no declared type'}, without a text")
+            self._notes.count(f"captures of {kind or 'no declared type'}, without a text", place)
             return None
         body = response.content()
         if body is None:
