@@ -30,7 +30,7 @@ def main(words: Sequence[str] | None = None) -> int:
         # Names may have bytes that aren't UTF-8; they are shown as they are.
         stream.reconfigure(errors="surrogateescape")  # type: ignore[union-attr]
     words = sys.argv[1:] if words is None else words
-    options = _parser().parse_args(words)
+    options = parsed(words)
     options.command = shlex.join(("tt", *words))
     try:
         with stops_in_order():
@@ -52,6 +52,11 @@ def main(words: Sequence[str] | None = None) -> int:
         print(f"tt: {error}", file=sys.stderr)
         return 1
     return 0
+
+
+def parsed(words: Sequence[str]) -> argparse.Namespace:
+    """What the words say; an end of the program where they are wrong."""
+    return _parser().parse_args(words)
 
 
 def _parser() -> argparse.ArgumentParser:
@@ -79,6 +84,8 @@ def _add_filling(kinds: Kinds) -> None:
     init = _command(kinds, "init", "filling.init", "make an empty archive")
     init.add_argument("folder", type=Path, metavar="FOLDER")
     _add_sources(kinds.add_parser("import", help="fill the archive from a source"))
+    refresh = _command(kinds, "refresh", "refreshing.refresh", "import each source of this archive again, all in one order of time")
+    refresh.add_argument("--go-on", action="store_true", help="leave out the sources that can't be read; what is new in them may be too late afterwards")
     shard = _command(kinds, "shard", "filling.shard", "split the archive by document into N archives below INTO")
     shard.add_argument("count", type=int, metavar="N")
     shard.add_argument("into", type=Path, metavar="INTO")
@@ -88,18 +95,18 @@ def _add_filling(kinds: Kinds) -> None:
 
 
 def _add_sources(parser: argparse.ArgumentParser) -> None:
-    sources = parser.add_subparsers(required=True, metavar="SOURCE")
-    git = _command(sources, "git", "importing.import_git", "import the files of a branch, as each commit left them")
-    git.add_argument("repositories", type=Path, nargs="+", metavar="REPOSITORY")
+    sources = parser.add_subparsers(required=True, metavar="SOURCE", dest="source")
+    git = _command(sources, "git", "importing.import_source", "import the files of a branch, as each commit left them")
+    git.add_argument("paths", type=Path, nargs="+", metavar="REPOSITORY")
     git.add_argument("--branch", default="HEAD", help="the branch whose first parents are followed (HEAD)")
     git.add_argument("--only", nargs="+", default=[], metavar="PATH", help="the files that these paths name for git")
-    wiki = _command(sources, "mediawiki", "importing.import_mediawiki", "import a MediaWiki export and its logs")
-    wiki.add_argument("files", type=Path, nargs="+", metavar="DUMP.xml[.gz|.bz2]")
+    wiki = _command(sources, "mediawiki", "importing.import_source", "import a MediaWiki export and its logs")
+    wiki.add_argument("paths", type=Path, nargs="+", metavar="DUMP.xml[.gz|.bz2]")
     wiki.add_argument("--keep-redirects", action="store_true", help="keep redirects as texts")
-    warc = _command(sources, "warc", "importing.import_warc", "import web captures")
-    warc.add_argument("files", type=Path, nargs="+", metavar="FILE.warc[.gz]")
-    folder = _command(sources, "folder", "importing.import_folder", "import folders with dates, or files by time")
-    folder.add_argument("trees", type=Path, nargs="+", metavar="TREE")
+    warc = _command(sources, "warc", "importing.import_source", "import web captures")
+    warc.add_argument("paths", type=Path, nargs="+", metavar="FILE.warc[.gz]")
+    folder = _command(sources, "folder", "importing.import_source", "import folders with dates, or files by time")
+    folder.add_argument("paths", type=Path, nargs="+", metavar="TREE")
     folder.add_argument("--by-time", action="store_true", help="each file at its last change, whatever folders are called")
     for source in (git, wiki, warc, folder):
         source.add_argument("--prefix", default="", help="what the documents' names begin with")

@@ -29,8 +29,8 @@ class Trier(Feeder):
 
     taken, refused = "would be taken", "would be refused"
 
-    def __init__(self, collection: Collection, source: str, notes: Notes, progress: Progress) -> None:
-        super().__init__(collection, source, notes, progress)
+    def __init__(self, collection: Collection, source: str, words: str, notes: Notes, progress: Progress) -> None:
+        super().__init__(collection, source, words, notes, progress)
         self._documents = _documents(collection)
         self._first: int | None = None
         self._last_taken = 0
@@ -47,7 +47,7 @@ class Trier(Feeder):
             f"documents  {len(names)}: {', '.join(names[:_MOST_NAMES])}{more}",
         ]
 
-    def _send(self) -> None:
+    def send(self) -> None:
         for change in self._batch:
             self._answered(self._sent(change), self._reply(change))
         if self._batch:
@@ -55,7 +55,7 @@ class Trier(Feeder):
         self._batch.clear()
         self._bytes = 0
 
-    def _finish(self) -> None:
+    def _note(self) -> None:
         """Nothing is noted."""
 
     def _reply(self, change: Change) -> Reply:
