@@ -15,7 +15,7 @@ from itertools import repeat
 from pathlib import Path
 from selectors import EVENT_READ, PollSelector
 from types import TracebackType
-from typing import Any, Callable, Iterator, Sequence
+from typing import Any, Callable, Iterable, Iterator, Sequence
 
 from . import commands
 from .errors import BadQuery, InUse, NotBuilt, ProgramFailed, ToolError
@@ -137,21 +137,25 @@ class Collection:
         return merge_rows(self.rows_of(reply) for reply in self.ask_all(question))
 
     def last_time(self) -> int | None:
-        """The archive's last time, or None before there is any entry.
+        """The archive's last time, or None before there is any entry."""
+        return latest(self.last_times())
+
+    def last_times(self) -> list[int | None]:
+        """The last time of each of the archives.
 
         Asked by deleting a document that never was: this is refused, because it lies before the
         last time, or because there is no document.
         """
-        times = []
+        times: list[int | None] = []
         for reply in self.ask_all(commands.delete(commands.NO_DOCUMENT, 0)):
             match reply:
                 case Refused(name="TimeBack", detail=last):
                     times.append(int(last))
                 case Refused(name="NoDocument"):
-                    pass
+                    times.append(None)
                 case _:
                     raise ProgramFailed(f"tt_archive answered {reply} to a deletion of no document")
-        return max(times, default=None)
+        return times
 
     def _ask(self, sides: Sequence[int], question: bytes) -> list[Reply]:
         replies: dict[int, Reply] = {}
@@ -246,6 +250,11 @@ def _explained(said: str, shard: Shard, status: int) -> str:
     from .damage import explained, killed  # loaded where something is wrong
 
     return killed(status) or explained(said, shard) or f"tt_archive ended with status {status}"
+
+
+def latest(times: Iterable[int | None]) -> int | None:
+    """The last of the times that are known."""
+    return max((time for time in times if time is not None), default=None)
 
 
 def make_archive(folder: Path, command: Sequence[str], claim: Claim) -> None:

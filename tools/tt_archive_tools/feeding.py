@@ -11,7 +11,7 @@ from typing import Iterable, Iterator, NamedTuple, Sequence
 
 from . import commands
 from .changes import Change, Notes, Tidier
-from .collection import Collection
+from .collection import Collection, latest
 from .errors import ProgramFailed
 from .ledger import FILE as LEDGER
 from .ledger import Ledger
@@ -96,7 +96,8 @@ class Feeder:
         self._ledger = Ledger(collection.folder / LEDGER)
         self._source = source
         self._words = words
-        self._last = collection.last_time()
+        self._lasts = collection.last_times()
+        self._last = latest(self._lasts)
         self._done = self._ledger.done(source, self._last)
         self._tidier = Tidier(collection.names.__contains__, notes)
         self._notes = notes
@@ -162,7 +163,16 @@ class Feeder:
         return reply == (Gone() if change.text is None else Text(change.text))
 
     def _in_time(self, change: Change) -> bool:
-        return self._last is None or change.time >= self._last
+        return self._last is None or change.time >= self._last or self._is_missed(change)
+
+    def _is_missed(self, change: Change) -> bool:
+        """The last import of the source was stopped, and the shard of the document hadn't come to this time. Names are
+        durable before anything is sent, so what has none was sent to no shard."""
+        done, names = self._done, self._collection.names
+        if not done or done.stopped is None or change.time < done.stopped or change.name not in names:
+            return False
+        last = self._lasts[self._collection.side_of(names.give(change.name))]
+        return last is None or change.time >= last
 
     def _reached(self, change: Change) -> bool:
         return self._done is not None and self._done.reached(change.time)
@@ -264,14 +274,14 @@ def feed_together(streams: Sequence[tuple[Feeder, Iterable[Change]]]) -> None:
     """Feeds what each of the feeders wants, in one order of time over all."""
     for feeder, _ in streams:
         feeder.begin(beside=feeder is not streams[0][0])
-    latest = None
+    before = None
     for feeder, change in merge(*(_tagged(*stream) for stream in streams), key=lambda pair: pair[1].time):
-        if latest not in (None, feeder):
-            latest.send()
-        latest = feeder
+        if before and before is not feeder:
+            before.send()
+        before = feeder
         feeder.take(change)
-    if latest:
-        latest.send()
+    if before:
+        before.send()
     for feeder, _ in streams:
         feeder.finish()
 

@@ -30,6 +30,8 @@ class Done:
 
     ranges: tuple[tuple[int, int], ...]
     changes: int | None
+    #: The first time of the imports that were stopped since the last one that came to its end.
+    stopped: int | None = None
 
     @property
     def end(self) -> int:
@@ -70,7 +72,7 @@ class Ledger:
     def done(self, source: str, last: int | None) -> Done | None:
         """How far the source was imported, where the archive's last time is `last`."""
         ranges: list[tuple[int, int]] = []
-        changes = kept = None
+        changes = kept = stopped = None
         for index, line in enumerate(self.lines):
             if line.source != source:
                 continue
@@ -78,14 +80,16 @@ class Ledger:
                 behind = (later.last for later in self.lines[index + 1 :] if later.kind != WITH)
                 start, end = line.last or 0, next(behind, last)
                 kept, changes = changes, None
+                stopped = start if stopped is None else stopped
             else:
+                stopped = None
                 start = ranges.pop()[0] if ranges else 0
                 if line.kind == REFUSED:
                     changes = kept
                     continue
                 end, changes = line.last, line.changes
             ranges.append((start, start if end is None else max(start, end)))
-        return Done(tuple(ranges), changes) if ranges else None
+        return Done(tuple(ranges), changes, stopped) if ranges else None
 
     def sources(self) -> dict[str, str]:
         """The sources of which something was taken, or may have been, each with the words of its newest import."""
