@@ -120,6 +120,18 @@ class Refresh(ArchiveCase):
         self.assertIn("nothing was imported here", self.tt("refresh", status=1).stderr)
         dump = self.folder / "a\tdump.xml"
         dump.write_text(DUMP)
+        # By a link, which later points to something newer.
+        self.archive = self.folder / "linked"
+        self.tt("init", self.archive)
+        link, newer = self.folder / "current.xml", self.folder / "newer.xml"
+        link.symlink_to(dump)
+        self.tt("import", "mediawiki", link)
+        newer.write_text(DUMP.replace("</mediawiki>", page("New", revision(60, "2008-01-01T00:00:00", "new")) + "</mediawiki>"))
+        link.unlink()
+        link.symlink_to(newer)
+        self.assertIn("1 version and 0 deletions", self.tt("refresh").stdout)
+        self.assertEqual(self.texts_at(at("2008-01-01"))[0]["New"], "new")
+        self.archive = self.folder / "archive"
         self.tt("import", "mediawiki", "--keep-redirects", "--charset", "latin-1", dump)
         words = Ledger(self.archive / "imports.tsv").sources()[f"mediawiki {dump}"]
         self.assertEqual(words, f"mediawiki '{dump}' --keep-redirects --charset=latin-1")

@@ -122,8 +122,13 @@ class Shards(ArchiveCase):
             cut = f"case $PWD in *shard-1) n={size};; *) n=1000000;; esac; dd bs=1 count=$n status=none"
             stopping = f"sh -c '{cut} | {shlex.join(find_program(None))}'"
             self.tt("-C", self.shards, "import", "folder", tree, status=1, TT_ARCHIVE=stopping)
+        (self.folder / "other").mkdir()
+        said = self.tt("-C", self.shards, "import", "folder", self.folder / "other", "--dry-run").stderr
+        self.assertIn(f"warning: an import was stopped; what shards miss of it is lost if it isn't imported first: folder {tree}\n", said)
         done = self.tt("-C", self.shards, "import", "folder", tree)
+        self.assertNotIn("warning", done.stderr)
         self.assertNotIn("refused", done.stdout)
+        self.assertNotIn("warning", self.tt("-C", self.shards, "import", "folder", self.folder / "other").stderr)
         self.archive = self.shards
         self.assertEqual(self.texts_at(2 * DAY), [wanted])
 

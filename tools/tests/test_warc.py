@@ -68,6 +68,17 @@ class WarcImport(ArchiveCase):
         for (stamp, texts), found in zip(EXPECTED.items(), self.texts_at(*map(at, EXPECTED))):
             self.assertEqual(found, texts, stamp)
 
+    def test_a_folder_of_crawls(self) -> None:
+        crawls = self.folder / "crawls"
+        (crawls / "july").mkdir(parents=True)
+        (crawls / "notes.txt").write_text("no capture")
+        self.assertIn("there is no file *.warc or *.warc.gz in it", self.tt("import", "warc", crawls, status=1).stderr)
+        (crawls / "july" / "one.warc").write_bytes(b"".join(CAPTURES[:4]))
+        self.tt("import", "warc", crawls)
+        (crawls / "two.warc.gz").write_bytes(gzip.compress(b"".join(CAPTURES[5:])))
+        self.assertEqual(self.tt("refresh").stdout, f"warc {crawls}: 1 version and 2 deletions are in the archive\n")
+        self.assertEqual(self.texts_at(at("2007-07-06"), at("2007-07-08")), [{HOME: "Welcome."}, {HOME: "Welcome."}])
+
     def test_what_servers_do_to_bodies(self) -> None:
         body = b"A text that was sent in pieces."
         chunks = b"10\r\n" + body[:16] + b"\r\nf;x=y\r\n" + body[16:] + b"\r\n0\r\n\r\n"

@@ -104,7 +104,7 @@ def _add_sources(parser: argparse.ArgumentParser) -> None:
     wiki.add_argument("paths", type=Path, nargs="+", metavar="DUMP.xml[.gz|.bz2]")
     wiki.add_argument("--keep-redirects", action="store_true", help="keep redirects as texts")
     warc = _command(sources, "warc", "importing.import_source", "import web captures")
-    warc.add_argument("paths", type=Path, nargs="+", metavar="FILE.warc[.gz]")
+    warc.add_argument("paths", type=Path, nargs="+", metavar="FILE.warc[.gz]", help="a file, or a folder of such files")
     folder = _command(sources, "folder", "importing.import_source", "import folders with dates, or files by time")
     folder.add_argument("paths", type=Path, nargs="+", metavar="TREE")
     folder.add_argument("--by-time", action="store_true", help="each file at its last change, whatever folders are called")

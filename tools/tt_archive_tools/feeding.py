@@ -115,6 +115,9 @@ class Feeder:
         self._bytes = 0
 
     def feed(self, changes: Iterable[Change]) -> None:
+        others = [source for source in self._ledger.stopped() if source != self._source]
+        if others and len(self._lasts) > 1:
+            self._notes.tell(f"warning: an import was stopped; what shards miss of it is lost if it isn't imported first: {', '.join(others)}")
         for change in self.wanted(changes):
             self.take(change)
         self.send()

@@ -3,6 +3,7 @@
 from __future__ import annotations
 
 import argparse
+import os
 import shlex
 from contextlib import ExitStack
 from pathlib import Path
@@ -46,8 +47,9 @@ def source_of(options: argparse.Namespace, running: ExitStack) -> Source:
 
 
 def again(options: argparse.Namespace) -> str:
-    """The words behind `tt import` that import the same from any folder."""
-    words = [options.source, *(str(path.resolve()) for path in options.paths)]
+    """The words behind `tt import` that import the same from any folder. A symbolic link stays one, as it may come to
+    point to something newer."""
+    words = [options.source, *map(os.path.abspath, options.paths)]
     words += [f"--{flag.replace('_', '-')}" for flag in _FLAGS if getattr(options, flag, False)]
     words += [f"--{name}={value}" for name in _VALUES if (value := getattr(options, name, None))]
     only = getattr(options, "only", [])

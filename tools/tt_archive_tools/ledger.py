@@ -97,6 +97,11 @@ class Ledger:
         newest = {line.source: line.kind for line in self.lines}
         return {source: words for source, words in found.items() if newest[source] != REFUSED}
 
+    def stopped(self) -> list[str]:
+        """The sources whose newest import didn't come to its end."""
+        newest = {line.source: line for line in self.lines}
+        return [source for source, line in newest.items() if line.begins]
+
     def begin(self, source: str, last: int | None, words: str, beside: bool = False) -> None:
         """`beside` says that the changes are fed in one order of time with those of the source that began before."""
         self._append(Line(WITH if beside else BEGIN, last, None, source, words))

@@ -25,6 +25,7 @@ _TEXT_TYPES = {"application/xhtml+xml", "application/xml", "application/json"}
 _HTML_TYPES = {"text/html", "application/xhtml+xml"}
 #: What a revisit may have in place of a status that tells of the page: none, or "not modified".
 _AS_BEFORE = {0, 304}
+_NAMES = (".warc", ".warc.gz")
 _NO_TEXT = {300, 301, 302, 303, 307, 308, 404, 410}
 
 
@@ -41,7 +42,7 @@ class _Capture:
 
 @dataclass(frozen=True)
 class WarcSource:
-    """The files of one or more crawls."""
+    """The files of one or more crawls. A folder stands for all the files in it that are named so."""
 
     files: tuple[Path, ...]
     prefix: str = ""
@@ -53,7 +54,7 @@ class WarcSource:
 
     def changes(self, reading: Reading, notes: Notes) -> Iterator[Change]:
         captures = _Captures(reading, notes)
-        for path in self.files:
+        for path in self._all_files():
             for record in read_records(path):
                 captures.take(record)
         for time, capture in captures.spool.in_order():
@@ -66,6 +67,16 @@ class WarcSource:
                     continue
             text = captures.spool.text(place) if place else None
             yield Change(time, self.prefix + capture.address, text, capture.place)
+
+    def _all_files(self) -> Iterator[Path]:
+        for path in self.files:
+            if not path.is_dir():
+                yield path
+                continue
+            found = sorted(file for file in path.rglob("*") if file.name.lower().endswith(_NAMES))
+            if not found:
+                raise InputError(str(path), "there is no file *.warc or *.warc.gz in it")
+            yield from found
 
 
 class _Captures:
