@@ -191,7 +191,7 @@ class GitImport(ArchiveCase):
             done = self.tt("import", "git", self.repository.path, *words)
             self.assertIn("1 version and 0 deletions ", done.stdout)
             self.assertNotIn("too late", done.stdout)
-            self.assertIn("another text than the archive's, of its last second then, left out: 1\n", done.stdout)
+            self.assertIn("another text than the archive has of that second, left out: 1\n", done.stdout)
             self.assertIn(":one.txt: another text", done.stderr)
         self.repository.commit(START + 12 * DAY, one_txt=b"one again\n")
         self.tt("import", "git", self.repository.path)

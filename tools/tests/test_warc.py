@@ -101,14 +101,16 @@ class WarcImport(ArchiveCase):
         pages = {
             "http": response("2007-07-01T00:00:00", "http", "200 OK", ["Content-Type: text/html; charset=ISO-8859-1"], "Öl\x80".encode("latin-1")),
             "meta": response("2007-07-01T00:00:00", "meta", "200 OK", ["Content-Type: text/html"], b'<meta charset="koi8-r"><p>\xd2\xd5\xc2\xcc\xd8'),
+            "utf8": response("2007-07-01T00:00:00", "utf8", "200 OK", HTML, b"<p>th\xe9"),
             "none": response("2007-07-01T00:00:00", "none", "200 OK", ["Content-Type: text/html"], b"<p>caf\xe9"),
         }  # fmt: skip
         file = self.folder / "a.warc"
         file.write_bytes(b"".join(pages.values()))
         done = self.tt("import", "warc", file)
-        self.assertEqual(self.texts_at(at("2007-07-01")), [{"http": "Öl€", "meta": "рубль", "none": "caf�"}])
+        self.assertEqual(self.texts_at(at("2007-07-01")), [{"http": "Öl€", "meta": "рубль", "utf8": "th�", "none": "caf�"}])
         self.assertIn("texts decoded as cp1252: 1", done.stdout)
-        self.assertIn("record 3: bytes that aren't UTF-8 and whose character set isn't known, replaced", done.stderr)
+        self.assertIn("record 3: bytes that are declared as utf-8 and aren't, replaced", done.stderr)
+        self.assertIn("record 4: bytes that aren't UTF-8 and whose character set isn't known, replaced", done.stderr)
 
     def test_faults_have_their_place(self) -> None:
         file = self.folder / "a.warc"

@@ -65,7 +65,7 @@ def _parser() -> argparse.ArgumentParser:
     add("-C", "--archive", type=Path, default=Path("."), metavar="FOLDER", help="the archive's folder (here)")
     add("--program", metavar="WORDS", help="the tt_archive to run ($TT_ARCHIVE, on the path, or built here)")
     add("--wait", default="10s", metavar="TIME", help="how long to wait while another is at work in the folder (10s)")
-    add("-q", "--quiet", action="store_true", help="no progress on a terminal")
+    add("-q", "--quiet", action="store_true", help="no progress on a terminal; of a refresh only what was refused")
     kinds = parser.add_subparsers(required=True, metavar="COMMAND")
     _add_filling(kinds)
     _add_questions(kinds)
@@ -141,11 +141,11 @@ def _add_questions(kinds: Kinds) -> None:
 
 def _add_documents(kinds: Kinds) -> None:
     log = _command(kinds, "log", "documents.log", "list a document's versions: when each begins, its bytes, and where the document ends")
-    diff = _command(kinds, "diff", "documents.diff", "show what a document's version changed")
+    diff = _command(kinds, "diff", "documents.diff", "show what the version of a document that stands at a time changed, or all that changed until then")
     for one in (log, diff):
         one.add_argument("name", metavar="NAME", help="the document's name, or #NUMBER")
-    diff.add_argument("--at", default="now", metavar="TIME", help=f"of the version that stands then: {_TIME}")
-    diff.add_argument("--from", dest="start", metavar="TIME", help="and of all from this time on (from the version before)")
+    diff.add_argument("--at", default="now", metavar="TIME", help=f"the version that stands then, and now where none is given: {_TIME}")
+    diff.add_argument("--from", dest="start", metavar="TIME", help="show all that changed since this time (since the version before)")
     names = _command(kinds, "names", "documents.names", "list the documents whose names have this part, without regard to case and marks")
     names.add_argument("part", metavar="PART", nargs="?", default="", help="a part of the name (all names)")
     names.add_argument("--limit", type=int, default=0, metavar="N", help="show the first N names (all)")

@@ -151,7 +151,7 @@ class Feeder:
         self._note()
         for change in self._same:
             if not self._has(change):
-                self._notes.add("another text than the archive's, of its last second then, left out", change.place)
+                self._notes.add("another text than the archive has of that second, left out", change.place)
         if self._done and self._done.changes is not None:
             self.tally.late = max(0, self._again - self._done.changes - self._behind)
 
