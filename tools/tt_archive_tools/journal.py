@@ -5,7 +5,7 @@ from __future__ import annotations
 import struct
 from dataclasses import dataclass, field
 from pathlib import Path
-from typing import BinaryIO, Iterable, Iterator
+from typing import BinaryIO, Iterable, Iterator, NamedTuple
 
 from .errors import InputError
 from .program import JOURNAL, PAGES, Shard
@@ -33,8 +33,7 @@ class StoredPlan:
     end: int
 
 
-@dataclass(frozen=True)
-class Entry:
+class Entry(NamedTuple):
     """An arrival (with its text, where texts are read), a deletion, or a plan (no document)."""
 
     tag: int
