@@ -8,7 +8,7 @@ from typing import Sequence
 from . import commands
 from .errors import ToolError
 from .journal import StoredPlan, summary
-from .ledger import BEGIN, END, Ledger
+from .ledger import END, Ledger
 from .ledger import FILE as LEDGER
 from .opening import archive_of
 from .replies import Verdict
@@ -39,7 +39,7 @@ def status(options: argparse.Namespace) -> None:
         print(f"plan       {one_line(word)} {_live(plans)}")
     if len(held.live) > _MOST_PLANS:
         print(f"           and of {len(held.live) - _MOST_PLANS} words more")
-    ends = {line.source: line for line in lines if line.kind != BEGIN}
+    ends = {line.source: line for line in lines if not line.begins}
     for source, line in ends.items():
         how = "imported   {}, until {}" if line.kind == END else "refused    {}, at {}"
         print(how.format(source, "-" if line.last is None else show_time(line.last)))
