@@ -121,12 +121,12 @@ opened-none [] word e = refl
 opened-none (k ∷ lanes) zero e = e.0
 opened-none (k ∷ lanes) (suc word) e = opened-none lanes word e.1
 
-pub opened-set : (lanes : List Lane) (i : ℕ) (v x : Lane) (word : ℕ) → i < length lanes → x ≡ get_or lanes i x → v.opened ≡ x.opened → opened_at (set lanes i v) word ≡ opened_at lanes word
-opened-set [] i v x word l e h = absurd (omega (arith, l))
-opened-set (k ∷ lanes) zero v x zero l e h = h ∙ ap (λ (y : Lane). y.opened) e
-opened-set (k ∷ lanes) zero v x (suc word) l e h = refl
-opened-set (k ∷ lanes) (suc i) v x zero l e h = refl
-opened-set (k ∷ lanes) (suc i) v x (suc word) l e h = opened-set lanes i v x word (omega (arith, l)) e h
+pub opened-set : (lanes : List Lane) (i : ℕ) (v d : Lane) (word : ℕ) → i < length lanes → v.opened ≡ (get_or lanes i d).opened → opened_at (set lanes i v) word ≡ opened_at lanes word
+opened-set [] i v d word l h = absurd (omega (arith, l))
+opened-set (k ∷ lanes) zero v d zero l h = h
+opened-set (k ∷ lanes) zero v d (suc word) l h = refl
+opened-set (k ∷ lanes) (suc i) v d zero l h = refl
+opened-set (k ∷ lanes) (suc i) v d (suc word) l h = opened-set lanes i v d word (omega (arith, l)) h
 
 -- where the blocks that cover a document are opened
 pub opened-after : (old new : List Lane) (word : ℕ) (l : Lane) → AllZip IsOpened old new → word < length old → l ≡ get_or old word l → opened_at new word ≡ max (max l.opened l.cover) l.after

@@ -45,10 +45,10 @@ pub weights-push : (a : List Lane) (l : Lane) → weights_of (a ++ l ∷ []) ≡
 weights-push [] l = refl
 weights-push (k ∷ a) l = ap (λ ws. k.weight ∷ ws) (weights-push a l)
 
-pub weights-set : (lanes : List Lane) (i : ℕ) (v x : Lane) → i < length lanes → x ≡ get_or lanes i x → v.weight ≡ x.weight → weights_of (set lanes i v) ≡ weights_of lanes
-weights-set [] i v x l e h = absurd (omega (arith, l))
-weights-set (k ∷ lanes) zero v x l e h = let w : v.weight ≡ k.weight = h ∙ ap (λ (y : Lane). y.weight) e in ap (λ n. n ∷ weights_of lanes) w
-weights-set (k ∷ lanes) (suc i) v x l e h = ap (λ ws. k.weight ∷ ws) (weights-set lanes i v x (omega (arith, l)) e h)
+pub weights-set : (lanes : List Lane) (i : ℕ) (v d : Lane) → i < length lanes → v.weight ≡ (get_or lanes i d).weight → weights_of (set lanes i v) ≡ weights_of lanes
+weights-set [] i v d l h = absurd (omega (arith, l))
+weights-set (k ∷ lanes) zero v d l h = ap (λ n. n ∷ weights_of lanes) h
+weights-set (k ∷ lanes) (suc i) v d l h = ap (λ ws. k.weight ∷ ws) (weights-set lanes i v d (omega (arith, l)) h)
 
 -- the same weights, one beside the other
 pub weights-same : (R : Lane → Lane → Type 0) → ((a b : Lane) → R a b → b.weight ≡ a.weight) → (old new : List Lane) → AllZip R old new → weights_of new ≡ weights_of old

@@ -199,7 +199,7 @@ pub through-scored : (at : ℕ) (ws : List ℕ) (ss : List Sheet) (count d end :
     → AllZip (IsPassed at end) old new → AreFirst (below end (score at ws ss)) count more
     → ((x : ℕ) → shows more x ≡ true → (shows rows x ≡ true) ⊎ ((d ≤ x) × (x < end)))
     → AreThrough at ws ss count d old rows os → AreThrough at ws ss count end new more os
-through-scored at ws ss count d end old new rows more os sheets l border open zip first seen t = record {
+through-scored at ws ss count d end old new rows more os sheets l border ready zip first seen t = record {
   lies = zip-through (λ s k. Lies at s d k × (d < k.border)) (IsPassed at end) (λ s k. Lies at s end k) (λ s k n z p. lies-passed at s d end k n l z.1 z.0 p) ss old new both zip;
   first = first;
   distinct = t.distinct;
@@ -223,7 +223,7 @@ through-scored at ws ss count d end old new rows more os sheets l border open zi
             let w : o.word < length old = omega (arith, near, zip-long (λ s k. Lies at s d k) ss old t.lies) in
             let k = lane-at old o.word w in
             let lies = subst (λ (x : Lane). Lies at (sheet_at ss o.word) d x × (d < x.border)) (sym k.1) (zip-at (λ s k. Lies at s d k × (d < k.border)) ss old o.word no_sheet k.0 both w) in
-            let op = subst (λ (x : Lane). (x.after ≤ x.opened) × (end ≤ x.start)) (sym k.1) (each-at (λ k. (k.after ≤ k.opened) × (end ≤ k.start)) o.word old k.0 w open) in
+            let op = subst (λ (x : Lane). (x.after ≤ x.opened) × (end ≤ x.start)) (sym k.1) (each-at (λ k. (k.after ≤ k.opened) × (end ≤ k.start)) o.word old k.0 w ready) in
             let st = lies.0.stands lies.1 in
             let range = each-in (λ q. ((head_at ss o.word o.block).first.0 ≤ q.doc.0) × (q.doc.0 ≤ (head_at ss o.word o.block).last.0)) (get_or (sheet_at ss o.word).blocks o.block []) p c (block-is at (sheet_at ss o.word) o.block (each-at (IsSheet at) o.word ss no_sheet near sheets) inside).range in
             elim (cases_lt o.block k.0.after) [
