@@ -1,7 +1,7 @@
 -- The blocks that are opened word by word.
-use Rattle.std.specs.Prelude.{◌≡◌, ◌≢◌, ℕ, zero, suc, ◌+◌, ◌-◌, ◌<◌, ◌≤◌, max, List, [], ◌∷◌, ◌++◌, length, get_or, Contains, ⊤, refl}
+use Rattle.std.specs.Prelude.{◌≡◌, ◌≢◌, ℕ, zero, suc, ◌+◌, ◌-◌, ◌<◌, ◌≤◌, max, min, List, [], ◌∷◌, ◌++◌, length, take, get_or, Contains, ⊤, refl}
 use Rattle.std.specs.List.{AllZip}
-use Rattle.std.proofs.Common.{arith, ap, sym, ◌∙◌, subst, inl, inr, append_assoc}
+use Rattle.std.proofs.Common.{arith, ap, sym, ◌∙◌, subst, inl, inr, append_assoc, length-take}
 use Rattle.std.proofs.Math.ListN.{set}
 use Rattle.std.proofs.lemmas.Bool.{cases_lt}
 use Rattle.std.proofs.lemmas.List.Elements.{Contains-append_left, Contains-append_right}
@@ -10,7 +10,7 @@ use Rattle.block_top.specs.Lanes.{opened_at, IsOpened, IsPassed}
 use Rattle.block_top.specs.Opening.{Call, Opened, Opens, OpensToFault, run_of, AreDistinct}
 use Rattle.block_top.specs.Steps.{runs}
 use Rattle.block_top.specs.declared.lane.Lane.{Lane}
-use Rattle.block_top.proofs.EachLemmas.{each-append}
+use Rattle.block_top.proofs.EachLemmas.{each-append, take-at}
 
 -- ---- calls
 
@@ -30,7 +30,7 @@ fault-join call x y z e a h k = record {
 
 -- ---- runs
 
-append-empty : (a : List Opened) → a ++ [] ≡ a
+pub append-empty : (a : List Opened) → a ++ [] ≡ a
 append-empty [] = refl
 append-empty (o ∷ a) = ap (λ os. o ∷ os) (append-empty a)
 
@@ -42,6 +42,14 @@ runs-push base (k ∷ a) l =
     let e : (base + 1) + length a ≡ base + length (k ∷ a) = omega arith in
     ap (λ os. run_of base (max k.opened k.cover) (k.after - max k.opened k.cover) ++ os) (runs-push (base + 1) a l ∙ ap (λ w. runs (base + 1) a ++ run_of w (max l.opened l.cover) (l.after - max l.opened l.cover)) e)
     ∙ sym (append_assoc (run_of base (max k.opened k.cover) (k.after - max k.opened k.cover)) (runs (base + 1) a) (run_of (base + length (k ∷ a)) (max l.opened l.cover) (l.after - max l.opened l.cover)))
+
+-- one lane more
+pub runs-more : (i word : ℕ) (was : List Lane) (x k : Lane) → i < length was → word ≡ i → k ≡ get_or was i x → runs 0 (take (i + 1) was) ≡ runs 0 (take i was) ++ run_of word (max k.opened k.cover) (k.after - max k.opened k.cover)
+runs-more i word was x k l e is =
+    let n : length (take i was) ≡ min i (length was) = length-take i was in
+    let at : 0 + length (take i was) ≡ word = omega (arith, n, l, e) in
+    let t : take (i + 1) was ≡ take i was ++ k ∷ [] = take-at i was x l ∙ ap (λ y. take i was ++ y ∷ []) (sym is) in
+    ap (runs 0) t ∙ runs-push 0 (take i was) k ∙ ap (λ w. runs 0 (take i was) ++ run_of w (max k.opened k.cover) (k.after - max k.opened k.cover)) at
 
 pub run-each : (P : Opened → Type 0) (word from n : ℕ) → ((i : ℕ) → from ≤ i → i < from + n → P (record { word = word; block = i })) → Each P (run_of word from n)
 run-each P word from zero f = tt

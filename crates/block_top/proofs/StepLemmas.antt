@@ -11,7 +11,7 @@ use Rattle.time_base.specs.declared.posting.Posting.{Posting}
 use Rattle.postings.specs.Lists.{holds}
 use Rattle.block_top.specs.Firsts.{Each, AreFirst, AreEnough, below, shows, no_row}
 use Rattle.block_top.specs.Sheets.{Sheet, IsSheet, often, covers, most, total, score, bound, sheet_at, head_at, no_sheet, no_head}
-use Rattle.block_top.specs.Lanes.{tally, weighted, weights_of, opened_at, Keeps, Stands, Lie, Lies, IsOpened, IsPassed}
+use Rattle.block_top.specs.Lanes.{tally, weighted, weights_of, opened_at, IsFit, Keeps, Stands, Lie, Lies, IsOpened, IsPassed}
 use Rattle.block_top.specs.Opening.{Opened, Opens, Call, HasOpened, HasShown, AreDistinct}
 use Rattle.block_top.specs.Steps.{runs, AreThrough}
 use Rattle.block_top.specs.declared.lane.Lane.{Lane}
@@ -52,6 +52,28 @@ lies-passed at s d e old new l b k p =
     let st = k.stands b in
     let stands : Stands at s e (record old { cursor = new.cursor }) = stands-same at s e old old.opened new.cursor old.hits st.opened (stands-on at s d e old l st) in
     subst (λ (x : Lane). Lies at s e x) (sym p.same) (record { keeps = keeps; stands = λ _. stands })
+
+pub fit-opened : (n : ℕ) (old new : Lane) → IsFit n old → IsOpened old new → IsFit n new
+fit-opened n old new f o = subst (IsFit n) (sym o.same) (record {
+  covering = f.covering;
+  reaches = f.reaches;
+  cursor = o.cursor;
+  light = f.light;
+  ends = f.ends;
+  border = f.border;
+  starts = f.starts;
+})
+
+pub fit-passed : (n at end : ℕ) (old new : Lane) → IsFit n old → IsPassed at end old new → IsFit n new
+fit-passed n at end old new f p = subst (IsFit n) (sym p.same) (record {
+  covering = f.covering;
+  reaches = f.reaches;
+  cursor = p.cursor;
+  light = f.light;
+  ends = f.ends;
+  border = f.border;
+  starts = f.starts;
+})
 
 -- ---- what is passed over
 

@@ -1,13 +1,13 @@
-use Rattle.std.proofs.Common.{◌≡◌, ◌<◌, ◌≤◌, ◌+◌, ◌-◌, ◌++◌, ◌∷◌, [], ℕ, List, max, length, take, get_or, arith, ap, sym, subst, ◌∙◌}
+use Rattle.std.proofs.Common.{◌≡◌, ◌<◌, ◌≤◌, ◌+◌, ◌-◌, ◌++◌, ◌∷◌, [], ℕ, List, max, length, take, get_or, arith, rules, ap, sym, subst, ◌∙◌}
 use Rattle.block_top.specs.Sheets.{Sheet, IsSheet, no_sheet, sheet_at}
 use Rattle.block_top.specs.Firsts.{Each}
 use Rattle.block_top.specs.Lanes.{AreFit, IsFit, Lies, Keeps, Stands, IsOpened}
 use Rattle.block_top.specs.Opening.{Opened, Opens, run_of}
 use Rattle.block_top.specs.Steps.{runs}
 use Rattle.block_top.specs.declared.lane.Lane.{Lane}
-use Rattle.block_top.proofs.EachLemmas.{each-at, take-at}
+use Rattle.block_top.proofs.EachLemmas.{each-at}
 use Rattle.block_top.proofs.LoopLemmas.{left-set, left-at, zip-turn, fit-left}
-use Rattle.block_top.proofs.RunLemmas.{opens-join, fault-join, runs-push}
+use Rattle.block_top.proofs.RunLemmas.{opens-join, fault-join, runs-more}
 use Rattle.block_top.proofs.ZipLemmas.{zip-at, zip-set, zip-long}
 use Rattle.block_top.proofs.lanes.open_all.Goals as goal
 
@@ -42,7 +42,7 @@ open_covering-requires-clause-cursor g c =
 
 pub returns-in_err-open_covering-clause-fault : goal.returns-in_err-open_covering-clause-fault
 returns-in_err-open_covering-clause-fault g c = λ e is.
-    fault-join g.B.Blocks.opens c.args.blocks.now c.loop-lane.blocks c.open_covering.new.blocks e (runs 0 (take c.loop-lane.lane-index c.args.lanes.now)) c.loop-lane.invariant.opens ?
+    fault-join g.B.Blocks.opens c.args.blocks.now c.loop-lane.blocks c.open_covering.new.blocks e (runs 0 (take c.loop-lane.lane-index c.args.lanes.now)) c.loop-lane.invariant.opens (search rules)
 
 pub loop-lane-preserved : goal.loop-lane-preserved
 loop-lane-preserved g c =
@@ -55,7 +55,6 @@ loop-lane-preserved g c =
     let there : c.loop-lane.lane-index < length c.args.lanes.now = omega arith in
     let n = zip-long (λ s k. IsFit (length s.heads) k) (g.B.Blocks.sheets c.args.blocks.now) c.args.lanes.now c.requires.fit in
     let inside : c.loop-lane.lane-index < length (g.B.Blocks.sheets c.args.blocks.now) = omega arith in
-    let item = c.lane-item.result in
     let was = left-at c.loop-lane.lane-index c.loop-lane.lanes c.args.lanes.now c.lane-item.result here there i.todo c.lane-item.is in
     let sheet : sheet_at (g.B.Blocks.sheets c.loop-lane.blocks) c.loop-lane.word ≡ get_or (g.B.Blocks.sheets c.args.blocks.now) c.loop-lane.lane-index no_sheet
           = ap (λ (ss : List Sheet). sheet_at ss c.loop-lane.word) i.sheets ∙ ap (sheet_at (g.B.Blocks.sheets c.args.blocks.now)) i.word in
@@ -63,8 +62,7 @@ loop-lane-preserved g c =
       same = o.same ∙ ap (λ m. record (get_or c.loop-lane.lanes c.loop-lane.lane-index c.lane-item.result) { opened = m; hits = c.open_covering.new.lane.hits; cursor = c.open_covering.new.lane.cursor }) o.opened;
       cursor = o.cursor;
     } in
-    let run : runs 0 (take (c.loop-lane.lane-index + 1) c.args.lanes.now) ≡ runs 0 (take c.loop-lane.lane-index c.args.lanes.now) ++ run_of c.loop-lane.word (max (get_or c.loop-lane.lanes c.loop-lane.lane-index c.lane-item.result).opened (get_or c.loop-lane.lanes c.loop-lane.lane-index c.lane-item.result).cover) ((get_or c.loop-lane.lanes c.loop-lane.lane-index c.lane-item.result).after - max (get_or c.loop-lane.lanes c.loop-lane.lane-index c.lane-item.result).opened (get_or c.loop-lane.lanes c.loop-lane.lane-index c.lane-item.result).cover)
-          = ?  in
+    let run = runs-more c.loop-lane.lane-index c.loop-lane.word c.args.lanes.now c.lane-item.result (get_or c.loop-lane.lanes c.loop-lane.lane-index c.lane-item.result) there word (sym c.lane-item.is ∙ was) in
     record {
       word = omega (arith, word);
       sheets = o.sheets ∙ i.sheets;
