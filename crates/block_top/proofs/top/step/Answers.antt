@@ -1,7 +1,8 @@
-use Rattle.std.proofs.Common.{◌≡◌, ◌⊎◌, ◌<◌, ◌≤◌, ◌+◌, ◌-◌, ◌++◌, [], ℕ, List, length, get_or, arith, refl, ap, sym, subst, ◌∙◌}
+use Rattle.std.specs.List.{AllZip}
+use Rattle.std.proofs.Common.{◌≡◌, ◌⊎◌, ◌<◌, ◌≤◌, ◌+◌, ◌-◌, ◌^◌, ◌++◌, [], true, ℕ, List, length, take, get_or, length-take, arith, refl, ap, sym, subst, ◌∙◌}
 use Rattle.block_top.specs.Sheets.{Sheet, IsSheet, score}
-use Rattle.block_top.specs.Firsts.{Each, AreRanked, no_row}
-use Rattle.block_top.specs.Lanes.{HasCursor, AreAscending, weights_of, AreFit, IsFit, Lies, IsOpened, IsPassed}
+use Rattle.block_top.specs.Firsts.{Each, AreRanked, AreFirst, below, shows, no_row}
+use Rattle.block_top.specs.Lanes.{HasCursor, AreAscending, given, weights_of, AreFit, IsFit, Lies, IsOpened, IsPassed}
 use Rattle.block_top.specs.Opening.{Opened}
 use Rattle.block_top.specs.Steps.{runs, AreThrough}
 use Rattle.block_top.specs.declared.lane.Lane.{Lane}
@@ -10,7 +11,7 @@ use Rattle.block_top.proofs.EachLemmas.{each-weaker}
 use Rattle.block_top.proofs.RunLemmas.{append-empty}
 use Rattle.block_top.proofs.ScoreLemmas.{IsOpen, given-score, score-light, weights-same}
 use Rattle.block_top.proofs.StepLemmas.{through-surveyed, through-passed, through-opened, through-scored, fit-opened, fit-passed}
-use Rattle.block_top.proofs.ZipLemmas.{zip-and, zip-with, zip-each, zip-through, each-over}
+use Rattle.block_top.proofs.ZipLemmas.{zip-and, zip-with, zip-each, zip-long, zip-through, each-over}
 use Rattle.block_top.proofs.top.step.Goals as goal
 
 pub returns-then-is_passed-clause-through : goal.returns-then-is_passed-clause-through
@@ -28,16 +29,18 @@ score_all-requires-clause-fit g c = zip-each IsOpened HasCursor (λ a b o. o.cur
 
 pub returns-clause-fit : goal.returns-clause-fit
 returns-clause-fit g c =
-    zip-through (λ (s : Sheet) (k : Lane). IsFit (length s.heads) k) (λ (a b : Lane). IsPassed c.args.at.seconds (c.args.d + (c.min-end.result - c.args.d)) a b) (λ (s : Sheet) (k : Lane). IsFit (length s.heads) k)
-    (λ s a b f p. fit-passed (length s.heads) c.args.at.seconds (c.args.d + (c.min-end.result - c.args.d)) a b f p)
+    let window : List ℕ = take (c.min-end.result - c.args.d) c.args.sums.now in
+    zip-through (λ (s : Sheet) (k : Lane). IsFit (length s.heads) k) (IsPassed c.args.at.seconds (c.args.d + length window)) (λ (s : Sheet) (k : Lane). IsFit (length s.heads) k)
+    (λ s a b f p. fit-passed (length s.heads) c.args.at.seconds (c.args.d + length window) a b f p)
     (g.B.Blocks.sheets c.args.blocks.now) c.open_all.new.lanes c.score_all.new.lanes
     (zip-through (λ (s : Sheet) (k : Lane). IsFit (length s.heads) k) IsOpened (λ (s : Sheet) (k : Lane). IsFit (length s.heads) k) (λ s a b f o. fit-opened (length s.heads) a b f o)
     (g.B.Blocks.sheets c.args.blocks.now) c.survey-view.new.lanes c.open_all.new.lanes c.survey-view.ensures.fit c.in_ok-open_all.ensures.opened)
-    ?
+    c.in_ok-score_all.ensures.passed
 
 pub returns-clause-weights : goal.returns-clause-weights
 returns-clause-weights g c =
-    weights-same (IsPassed c.args.at.seconds (c.args.d + (c.min-end.result - c.args.d))) (λ a b p. ap (λ (x : Lane). x.weight) p.same) c.open_all.new.lanes c.score_all.new.lanes ?
+    let window : List ℕ = take (c.min-end.result - c.args.d) c.args.sums.now in
+    weights-same (IsPassed c.args.at.seconds (c.args.d + length window)) (λ a b p. ap (λ (x : Lane). x.weight) p.same) c.open_all.new.lanes c.score_all.new.lanes c.in_ok-score_all.ensures.passed
     ∙ weights-same IsOpened (λ a b o. ap (λ (x : Lane). x.weight) o.same) c.survey-view.new.lanes c.open_all.new.lanes c.in_ok-open_all.ensures.opened ∙ c.survey-view.ensures.weights
 
 pub returns-clause-through : goal.returns-clause-through
@@ -61,4 +64,21 @@ returns-clause-through g c = (runs 0 c.survey-view.new.lanes, c.in_ok-open_all.e
         (zip-and (λ (s : Sheet) (k : Lane). Lies c.args.at.seconds s c.args.d k × (c.args.d < k.border)) (λ k. (k.after ≤ k.opened) × (c.min-end.result ≤ k.start)) (g.B.Blocks.sheets c.args.blocks.now) c.open_all.new.lanes
         (zip-and (λ (s : Sheet) (k : Lane). Lies c.args.at.seconds s c.args.d k) (λ k. c.args.d < k.border) (g.B.Blocks.sheets c.args.blocks.now) c.open_all.new.lanes lies near) ready) in
     let f = c.in_ok-score_all.ensures in
-    ?)
+    let all = c.requires.window in
+    let cut : length (take (c.min-end.result - c.args.d) c.args.sums.now) ≡ _ = length-take (c.min-end.result - c.args.d) c.args.sums.now in
+    let start = v.far.1 in
+    let end : c.args.d + length (take (c.min-end.result - c.args.d) c.args.sums.now) ≡ c.min-end.result = omega (arith, cut, all, min, far, start) in
+    let fit = zip-through (λ (s : Sheet) (k : Lane). IsFit (length s.heads) k) IsOpened (λ (s : Sheet) (k : Lane). IsFit (length s.heads) k) (λ s a b q r. fit-opened (length s.heads) a b q r)
+        (g.B.Blocks.sheets c.args.blocks.now) c.survey-view.new.lanes c.open_all.new.lanes v.fit o.opened in
+    let weights : weights_of c.open_all.new.lanes ≡ weights_of c.args.lanes.now = weights-same IsOpened (λ a b r. ap (λ (x : Lane). x.weight) r.same) c.survey-view.new.lanes c.open_all.new.lanes o.opened ∙ v.weights in
+    let words : length c.open_all.new.lanes ≤ 4096 = let n = zip-long IsOpened c.survey-view.new.lanes c.open_all.new.lanes o.opened in let m = c.survey-view.auto.lanes in let w = c.requires.words in omega (arith, n, m, w) in
+    let is = subst (λ (ws : List ℕ). (x : ℕ) → c.args.d ≤ x → x < c.min-end.result → score c.args.at.seconds ws (g.B.Blocks.sheets c.args.blocks.now) x ≡ given c.args.at.seconds x c.open_all.new.lanes) weights
+        (λ x a b. given-score c.args.at.seconds c.args.d c.min-end.result x (g.B.Blocks.sheets c.args.blocks.now) c.open_all.new.lanes opens a b) in
+    let light = subst (λ (ws : List ℕ). (x : ℕ) → score c.args.at.seconds ws (g.B.Blocks.sheets c.args.blocks.now) x < 2 ^ 64) weights
+        (λ x. score-light c.args.at.seconds x (g.B.Blocks.sheets c.args.blocks.now) c.open_all.new.lanes fit words) in
+    let ascends = zip-each (λ (s : Sheet) (k : Lane). Lies c.args.at.seconds s c.args.d k) (λ k. AreAscending k.hits.items) (λ s k z. z.keeps.ascending) (g.B.Blocks.sheets c.args.blocks.now) c.open_all.new.lanes lies in
+    let first = subst (λ n. AreFirst (below n (score c.args.at.seconds (weights_of c.args.lanes.now) (g.B.Blocks.sheets c.args.blocks.now))) c.args.count c.score_all.new.rows.items) end
+        (f.first (score c.args.at.seconds (weights_of c.args.lanes.now) (g.B.Blocks.sheets c.args.blocks.now)) ascends (λ k l. (is (c.args.d + k) (omega arith) (omega (arith, l, end)), light (c.args.d + k))) two.first) in
+    through-scored c.args.at.seconds (weights_of c.args.lanes.now) (g.B.Blocks.sheets c.args.blocks.now) c.args.count c.args.d c.min-end.result c.open_all.new.lanes c.score_all.new.lanes c.args.rows.now.items c.score_all.new.rows.items (os ++ runs 0 c.survey-view.new.lanes)
+    sheets (omega (arith, end)) near ready (subst (λ n. AllZip (IsPassed c.args.at.seconds n) c.open_all.new.lanes c.score_all.new.lanes) end f.passed) first
+    (subst (λ n. (x : ℕ) → shows c.score_all.new.rows.items x ≡ true → (shows c.args.rows.now.items x ≡ true) ⊎ ((c.args.d ≤ x) × (x < n))) end f.shown) two)

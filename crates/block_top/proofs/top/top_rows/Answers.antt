@@ -8,6 +8,7 @@ use Rattle.block_top.specs.declared.lane.Lane.{Lane}
 use Rattle.block_top.specs.declared.ranking.Row.{Row}
 use Rattle.block_top.proofs.StepLemmas.{through-none, through-first, through-opens}
 use Rattle.block_top.proofs.ZipLemmas.{zip-long}
+use Rattle.block_top.proofs.top.top_rows.Given.{Over}
 use Rattle.block_top.proofs.top.top_rows.Goals as goal
 
 pub search-requires-clause-words : goal.search-requires-clause-words
@@ -19,9 +20,9 @@ search-requires-clause-words g c =
     omega (arith, n, v, words, few)
 
 pub returns-in_err-search-clause-fault : goal.returns-in_err-search-clause-fault
-returns-in_err-search-clause-fault g c = λ e is. search rules
+returns-in_err-search-clause-fault g c = λ e is. c.in_err-search.ensures.fault e (search rules)
 
-through : (g : goal.Over) (c : goal.After-drop-lanes-2 g) → Each (IsSheet c.args.at.seconds) (g.B.Blocks.sheets c.args.blocks.now)
+through : (g : Over) (c : goal.After-drop-lanes-2 g) → Each (IsSheet c.args.at.seconds) (g.B.Blocks.sheets c.args.blocks.now)
     → AreThrough c.args.at.seconds c.args.weights.now (g.B.Blocks.sheets c.args.blocks.now) c.args.count (2 ^ 32) c.search.new.lanes c.search.new.rows.items c.in_ok-search.ensures.through.0
 through g c sheets =
     let lanes = c.deref_mut.ensures.value in
