@@ -39,3 +39,6 @@ returns-clause-first g c = λ sheets. through-first c.args.at.seconds c.args.wei
 pub returns-clause-opened : goal.returns-clause-opened
 returns-clause-opened g c = λ sheets. through-opens g.B.Blocks.opens c.args.at.seconds c.args.weights.now (g.B.Blocks.sheets c.args.blocks.now) c.args.count c.search.new.lanes c.search.new.rows.items c.in_ok-search.ensures.through.0 c.args.blocks.now c.search.new.blocks
     c.in_ok-search.ensures.through.1 (through g c sheets)
+
+pub returns-clause-calls : goal.returns-clause-calls
+returns-clause-calls g c = (c.in_ok-search.ensures.through.0, c.in_ok-search.ensures.through.1)
