@@ -1,23 +1,21 @@
 -- What lanes give a document is its score.
-use Rattle.std.specs.Prelude.{◌≡◌, ◌≢◌, ◌⊎◌, ℕ, zero, suc, ◌+◌, ◌-◌, ◌*◌, ◌^◌, ◌<◌, ◌≤◌, ◌==◌, ◌&&◌, max, Bool, true, false, cond, List, [], ◌∷◌, ◌++◌, length, take, drop, get_or, ⊤, refl}
+use Rattle.std.specs.Prelude.{◌≡◌, ◌≢◌, ℕ, zero, suc, ◌+◌, ◌-◌, ◌*◌, ◌^◌, ◌<◌, ◌≤◌, ◌==◌, ◌&&◌, Bool, true, false, cond, List, [], ◌∷◌, ◌++◌, length, take, drop, get_or, refl}
 use Rattle.std.specs.List.{AllZip}
-use Rattle.std.proofs.Common.{arith, ap, sym, ◌∙◌, subst, inl, inr}
+use Rattle.std.proofs.Common.{arith, ap, sym, ◌∙◌, inl, inr}
 use Rattle.std.proofs.Math.ListN.{set}
 use Rattle.std.proofs.Math.Nat.{mul-le-mul_left}
-use Rattle.std.proofs.lemmas.Bool.{cases_lt}
-use Rattle.std.proofs.lemmas.Bool.Decides.{nat_tests, eqb_tells, Decides-and}
+use Rattle.std.proofs.lemmas.Bool.Decides.{nat_tests, eqb_tells}
 use Rattle.std.proofs.lemmas.List.{take_all}
 use Rattle.time_base.specs.declared.posting.Posting.{Posting}
 use Rattle.postings.specs.Lists.{ComesBefore, IsList, frequency, holds}
 use Rattle.block_top.specs.Firsts.{Each}
-use Rattle.block_top.specs.Sheets.{Sheet, IsSheet, joined, often, greatest, total, score, no_head}
-use Rattle.block_top.specs.Lanes.{tally, given, weighted, weights_of, AreFit, IsFit, Keeps, Stands, Lie, Lies}
+use Rattle.block_top.specs.Sheets.{Sheet, IsSheet, joined, often, total, score, no_head}
+use Rattle.block_top.specs.Lanes.{tally, given, weighted, weights_of, AreFit, Lies}
 use Rattle.block_top.specs.declared.lane.Lane.{Lane}
-use Rattle.block_top.proofs.EachLemmas.{each-weaker, take-at}
-use Rattle.block_top.proofs.HeadLemmas.{all-behind, list-tail, freq-greatest}
+use Rattle.block_top.proofs.EachLemmas.{each-weaker}
+use Rattle.block_top.proofs.HeadLemmas.{all-behind, list-tail}
 use Rattle.block_top.proofs.LaneLemmas.{tally-none}
-use Rattle.block_top.proofs.OpenLemmas.{IsBlock, block-is, tally-append, tally-block, zip-length}
-use Rattle.block_top.proofs.ZipLemmas.{zip-long}
+use Rattle.block_top.proofs.OpenLemmas.{block-is, tally-block, zip-length}
 
 -- ---- sums over lanes
 

@@ -1,5 +1,5 @@
 -- How the search goes on from document to document.
-use Rattle.std.specs.Prelude.{◌≡◌, ◌≢◌, ◌⊎◌, ℕ, zero, suc, ◌+◌, ◌-◌, ◌*◌, ◌^◌, ◌<◌, ◌≤◌, max, min, ◌==◌, ◌||◌, Bool, true, false, List, [], ◌∷◌, ◌++◌, length, take, drop, get_or, Contains, ⊤, refl}
+use Rattle.std.specs.Prelude.{◌≡◌, ◌≢◌, ◌⊎◌, ℕ, zero, suc, ◌+◌, ◌-◌, ◌^◌, ◌<◌, ◌≤◌, max, min, ◌==◌, ◌||◌, Bool, true, false, List, [], ◌∷◌, ◌++◌, length, take, get_or, Contains, ⊤, refl}
 use Rattle.std.specs.List.{AllZip}
 use Rattle.std.proofs.Common.{arith, ap, sym, ◌∙◌, subst, inl, inr, length-take}
 use Rattle.std.proofs.lemmas.Bool.{cases_lt}
@@ -8,18 +8,17 @@ use Rattle.std.proofs.lemmas.List.{take_all}
 use Rattle.std.proofs.lemmas.List.Elements.{Contains-append_left, Contains-append_right}
 use Rattle.time_base.specs.declared.ids.DocId.{DocId}
 use Rattle.time_base.specs.declared.posting.Posting.{Posting}
-use Rattle.postings.specs.Lists.{holds}
 use Rattle.block_top.specs.Firsts.{Each, AreFirst, AreEnough, below, shows, no_row}
-use Rattle.block_top.specs.Sheets.{Sheet, IsSheet, often, covers, most, total, score, bound, sheet_at, head_at, no_sheet, no_head}
-use Rattle.block_top.specs.Lanes.{tally, weighted, weights_of, opened_at, IsFit, Keeps, Stands, Lie, Lies, IsOpened, IsPassed}
-use Rattle.block_top.specs.Opening.{Opened, Opens, Call, HasOpened, HasShown, AreDistinct}
+use Rattle.block_top.specs.Sheets.{Sheet, IsSheet, often, covers, most, total, score, bound, sheet_at, head_at, no_sheet}
+use Rattle.block_top.specs.Lanes.{weighted, weights_of, opened_at, IsFit, Keeps, Stands, Lie, Lies, IsOpened, IsPassed}
+use Rattle.block_top.specs.Opening.{Opened, Opens, Call, HasOpened}
 use Rattle.block_top.specs.Steps.{runs, AreThrough}
 use Rattle.block_top.specs.declared.lane.Lane.{Lane}
 use Rattle.block_top.specs.declared.ranking.Row.{Row}
-use Rattle.block_top.proofs.EachLemmas.{each-append, each-weaker, each-at, each-both, take-at}
+use Rattle.block_top.proofs.EachLemmas.{each-append, each-weaker, each-at, take-at}
 use Rattle.block_top.proofs.RankLemmas.{below-yes, below-no, below-some, pass-first}
 use Rattle.block_top.proofs.LaneLemmas.{covers-tells, keeps-on, stands-on}
-use Rattle.block_top.proofs.OpenLemmas.{IsBlock, block-is, zip-length}
+use Rattle.block_top.proofs.OpenLemmas.{block-is, zip-length}
 use Rattle.block_top.proofs.TakeLemmas.{stands-same}
 use Rattle.block_top.proofs.TopLemmas.{tops-bound, wanted-room, wanted-more}
 use Rattle.block_top.proofs.ZipLemmas.{zip-at, zip-long, zip-and, zip-with, zip-through, get-past}
@@ -239,8 +238,8 @@ through-scored at ws ss count d end old new rows more os sheets l border ready z
       | inr far ↦ absurd (let e : get_or (sheet_at ss o.word).blocks o.block [] ≡ [] = ap (λ (s : Sheet). get_or s.blocks o.block []) (get-past ss o.word no_sheet far) in none-in p (subst (λ ps. Contains ps p) e c))
       | inl near ↦ elim (cases_lt o.block (length (sheet_at ss o.word).heads)) [
         | inr far ↦ absurd (
-          let n = zip-length (sheet_at ss o.word).heads (sheet_at ss o.word).blocks (each-at (IsSheet at) o.word ss no_sheet near sheets).heads_are in
-          none-in p (subst (λ ps. Contains ps p) (get-past (sheet_at ss o.word).blocks o.block [] (omega (arith, far, n))) c))
+            let n = zip-length (sheet_at ss o.word).heads (sheet_at ss o.word).blocks (each-at (IsSheet at) o.word ss no_sheet near sheets).heads_are in
+            none-in p (subst (λ ps. Contains ps p) (get-past (sheet_at ss o.word).blocks o.block [] (omega (arith, far, n))) c))
         | inl inside ↦
             let w : o.word < length old = omega (arith, near, zip-long (λ s k. Lies at s d k) ss old t.lies) in
             let k = lane-at old o.word w in

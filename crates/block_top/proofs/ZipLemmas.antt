@@ -1,7 +1,7 @@
 -- Lists beside one another.
-use Rattle.std.specs.Prelude.{◌≡◌, ℕ, zero, suc, ◌+◌, ◌<◌, ◌≤◌, List, [], ◌∷◌, ◌++◌, length, take, get_or, ⊤, refl}
+use Rattle.std.specs.Prelude.{◌≡◌, ℕ, zero, suc, ◌+◌, ◌<◌, ◌≤◌, List, [], ◌∷◌, ◌++◌, length, take, get_or, refl}
 use Rattle.std.specs.List.{AllZip}
-use Rattle.std.proofs.Common.{arith, ap, sym, ◌∙◌, add-one}
+use Rattle.std.proofs.Common.{arith, ap, add-one}
 use Rattle.std.proofs.Math.ListN.{set}
 use Rattle.block_top.specs.Firsts.{Each}
 

@@ -1,4 +1,4 @@
-use Rattle.std.proofs.Common.{◌≡◌, ◌<◌, ◌+◌, ◌++◌, ◌∷◌, [], ℕ, List, length, take, get_or, arith, ap, sym, subst, ◌∙◌}
+use Rattle.std.proofs.Common.{◌≡◌, ◌<◌, ◌+◌, ◌++◌, ◌∷◌, [], List, length, take, get_or, arith, ap, sym, subst, ◌∙◌}
 use Rattle.block_top.specs.Sheets.{Sheet, IsSheet, no_sheet}
 use Rattle.block_top.specs.Firsts.{Each}
 use Rattle.block_top.specs.Lanes.{AreFit, IsFit, Lie, Lies, weights_of}
@@ -16,7 +16,7 @@ loop-word-preserved g c =
     let there : c.loop-word.word < length (g.B.Blocks.sheets c.args.blocks.now) = omega arith in
     let push : c.push.new.self.items ≡ c.loop-word.lanes.items ++ c.in_ok-lane.lane ∷ [] = c.in_ok-push.ensures.items in
     let more : take (c.loop-word.word + 1) (g.B.Blocks.sheets c.args.blocks.now) ≡ take c.loop-word.word (g.B.Blocks.sheets c.args.blocks.now) ++ get_or (g.B.Blocks.sheets c.args.blocks.now) c.loop-word.word no_sheet ∷ []
-          = take-at c.loop-word.word (g.B.Blocks.sheets c.args.blocks.now) no_sheet there in
+    = take-at c.loop-word.word (g.B.Blocks.sheets c.args.blocks.now) no_sheet there in
     record {
       fit = subst (λ (ls : List Lane). AreFit (take (c.loop-word.word + 1) (g.B.Blocks.sheets c.args.blocks.now)) ls) (sym push) (subst (λ (ss : List Sheet). AreFit ss (c.loop-word.lanes.items ++ c.in_ok-lane.lane ∷ [])) (sym more)
           (zip-more (λ s k. IsFit (length s.heads) k) (take c.loop-word.word (g.B.Blocks.sheets c.args.blocks.now)) c.loop-word.lanes.items (get_or (g.B.Blocks.sheets c.args.blocks.now) c.loop-word.word no_sheet) c.in_ok-lane.lane i.fit

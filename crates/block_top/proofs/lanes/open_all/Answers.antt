@@ -1,8 +1,7 @@
-use Rattle.std.proofs.Common.{◌≡◌, ◌<◌, ◌≤◌, ◌+◌, ◌-◌, ◌++◌, ◌∷◌, [], ℕ, List, max, length, take, get_or, arith, rules, ap, sym, subst, ◌∙◌}
+use Rattle.std.proofs.Common.{◌≡◌, ◌<◌, ◌≤◌, List, length, take, get_or, arith, rules, ap, sym, subst, ◌∙◌}
 use Rattle.block_top.specs.Sheets.{Sheet, IsSheet, no_sheet, sheet_at}
-use Rattle.block_top.specs.Firsts.{Each}
-use Rattle.block_top.specs.Lanes.{AreFit, IsFit, Lies, Keeps, Stands, IsOpened}
-use Rattle.block_top.specs.Opening.{Opened, Opens, run_of}
+use Rattle.block_top.specs.Lanes.{IsFit, Lies, Keeps, Stands, IsOpened}
+use Rattle.block_top.specs.Opening.{Opened, Opens}
 use Rattle.block_top.specs.Steps.{runs}
 use Rattle.block_top.specs.declared.lane.Lane.{Lane}
 use Rattle.block_top.proofs.EachLemmas.{each-at}
@@ -57,7 +56,7 @@ loop-lane-preserved g c =
     let inside : c.loop-lane.lane-index < length (g.B.Blocks.sheets c.args.blocks.now) = omega arith in
     let was = left-at c.loop-lane.lane-index c.loop-lane.lanes c.args.lanes.now c.lane-item.result here there i.todo c.lane-item.is in
     let sheet : sheet_at (g.B.Blocks.sheets c.loop-lane.blocks) c.loop-lane.word ≡ get_or (g.B.Blocks.sheets c.args.blocks.now) c.loop-lane.lane-index no_sheet
-          = ap (λ (ss : List Sheet). sheet_at ss c.loop-lane.word) i.sheets ∙ ap (sheet_at (g.B.Blocks.sheets c.args.blocks.now)) i.word in
+    = ap (λ (ss : List Sheet). sheet_at ss c.loop-lane.word) i.sheets ∙ ap (sheet_at (g.B.Blocks.sheets c.args.blocks.now)) i.word in
     let one : IsOpened (get_or c.loop-lane.lanes c.loop-lane.lane-index c.lane-item.result) c.open_covering.new.lane = record {
       same = o.same ∙ ap (λ m. record (get_or c.loop-lane.lanes c.loop-lane.lane-index c.lane-item.result) { opened = m; hits = c.open_covering.new.lane.hits; cursor = c.open_covering.new.lane.cursor }) o.opened;
       cursor = o.cursor;
@@ -74,6 +73,6 @@ loop-lane-preserved g c =
           let lies = zip-at (λ s l. Lies at s d l) (g.B.Blocks.sheets c.args.blocks.now) c.loop-lane.lanes c.loop-lane.lane-index no_sheet c.lane-item.result (i.lies at d sheets border k) here in
           let near = subst (λ (x : Lane). d < x.border) (sym was ∙ c.lane-item.is) (each-at (λ l. d < l.border) c.loop-lane.lane-index c.args.lanes.now c.lane-item.result there border) in
           let both = subst (λ (s : Sheet). IsSheet at s → d < (get_or c.loop-lane.lanes c.loop-lane.lane-index c.lane-item.result).border → Keeps at s d (get_or c.loop-lane.lanes c.loop-lane.lane-index c.lane-item.result) → Stands at s d (get_or c.loop-lane.lanes c.loop-lane.lane-index c.lane-item.result) → Keeps at s d c.open_covering.new.lane × Stands at s d c.open_covering.new.lane) sheet (o.keeps at d)
-              (each-at (IsSheet at) c.loop-lane.lane-index (g.B.Blocks.sheets c.args.blocks.now) no_sheet inside sheets) near lies.keeps (lies.stands near) in
+          (each-at (IsSheet at) c.loop-lane.lane-index (g.B.Blocks.sheets c.args.blocks.now) no_sheet inside sheets) near lies.keeps (lies.stands near) in
           zip-set (λ s l. Lies at s d l) (g.B.Blocks.sheets c.args.blocks.now) c.loop-lane.lanes c.loop-lane.lane-index no_sheet c.open_covering.new.lane (i.lies at d sheets border k) here (record { keeps = both.0; stands = λ _. both.1 });
     }

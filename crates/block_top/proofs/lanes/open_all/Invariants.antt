@@ -2,7 +2,7 @@ use Rattle.std.proofs.Common.{◌≡◌, ℕ, ◌<◌, take, drop}
 use Rattle.std.specs.List.{AllZip}
 use Rattle.block_top.specs.Sheets.{IsSheet}
 use Rattle.block_top.specs.Firsts.{Each}
-use Rattle.block_top.specs.Lanes.{AreFit, Lie, IsOpened}
+use Rattle.block_top.specs.Lanes.{Lie, IsOpened}
 use Rattle.block_top.specs.Opening.{Opens}
 use Rattle.block_top.specs.Steps.{runs}
 use Rattle.block_top.proofs.lanes.open_all.Given as goal

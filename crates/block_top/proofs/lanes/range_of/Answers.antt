@@ -1,4 +1,4 @@
-use Rattle.std.proofs.Common.{◌≡◌, ◌<◌, length, arith}
+use Rattle.std.proofs.Common.{◌<◌, length, arith}
 use Rattle.block_top.proofs.LoopLemmas.{greatest-more, range-more}
 use Rattle.block_top.proofs.lanes.range_of.Goals as goal
 

@@ -1,9 +1,7 @@
-use Rattle.std.proofs.Common.{◌≡◌, ◌<◌, ◌≤◌, ◌^◌, ℕ, List, length, get_or, arith, ap, sym, subst, ◌∙◌}
+use Rattle.std.proofs.Common.{◌≡◌, ◌<◌, ◌≤◌, List, length, get_or, arith, ap, sym, subst, ◌∙◌}
 use Rattle.sublist_codec.specs.declared.head.BlockHead.{BlockHead}
-use Rattle.block_top.specs.Sheets.{IsSheet, no_sheet, sheet_at}
-use Rattle.block_top.specs.Firsts.{Each}
-use Rattle.block_top.specs.Lanes.{AreFit, IsFit, Lies}
-use Rattle.block_top.specs.declared.lane.Lane.{Lane}
+use Rattle.block_top.specs.Sheets.{IsSheet, no_sheet}
+use Rattle.block_top.specs.Lanes.{IsFit, Lies}
 use Rattle.block_top.proofs.EachLemmas.{each-at, each-weaker}
 use Rattle.block_top.proofs.LoopLemmas.{each-turn, weighted-turn}
 use Rattle.block_top.proofs.RunLemmas.{opened-set}

@@ -1,4 +1,4 @@
-use Rattle.std.proofs.Common.{◌≡◌, ◌-◌, ◌^◌, ℕ, ◌≤◌, List, [], length}
+use Rattle.std.proofs.Common.{◌≡◌, ◌-◌, ◌^◌, ◌≤◌, List, [], length}
 use Rattle.block_top.specs.Sheets.{IsSheet}
 use Rattle.block_top.specs.Firsts.{Each}
 use Rattle.block_top.specs.Lanes.{weights_of, AreFit}

@@ -1,8 +1,7 @@
-use Rattle.std.proofs.Common.{◌≡◌, ◌<◌, ◌≤◌, ◌++◌, ◌^◌, [], ℕ, List, length, arith, rules, ap, sym, subst, ◌∙◌}
-use Rattle.block_top.specs.Sheets.{Sheet, IsSheet, score}
-use Rattle.block_top.specs.Firsts.{Each, AreFirst}
-use Rattle.block_top.specs.Lanes.{weights_of, AreFit, IsFit, Lie}
-use Rattle.block_top.specs.Opening.{Opened, HasOpened}
+use Rattle.std.proofs.Common.{◌≡◌, ◌^◌, [], ℕ, List, length, arith, rules, ap, sym, subst, ◌∙◌}
+use Rattle.block_top.specs.Sheets.{IsSheet}
+use Rattle.block_top.specs.Firsts.{Each}
+use Rattle.block_top.specs.Lanes.{weights_of, IsFit, Lie}
 use Rattle.block_top.specs.Steps.{AreThrough}
 use Rattle.block_top.specs.declared.lane.Lane.{Lane}
 use Rattle.block_top.specs.declared.ranking.Row.{Row}
@@ -29,7 +28,7 @@ through g c sheets =
     let rows = c.new-rows.ensures.items in
     let w : weights_of c.deref_mut.result.now ≡ c.args.weights.now = ap weights_of lanes ∙ c.in_ok-lanes.ensures.weights in
     let none = through-none c.args.at.seconds (weights_of c.deref_mut.result.now) (g.B.Blocks.sheets c.args.blocks.now) c.args.count c.deref_mut.result.now
-        (subst (λ (ls : List Lane). Each (λ k. k.opened ≡ 0) ls) (sym lanes) c.in_ok-lanes.ensures.opened) (subst (λ (ls : List Lane). Lie c.args.at.seconds 0 (g.B.Blocks.sheets c.args.blocks.now) ls) (sym lanes) (c.in_ok-lanes.ensures.lies c.args.at.seconds sheets)) in
+    (subst (λ (ls : List Lane). Each (λ k. k.opened ≡ 0) ls) (sym lanes) c.in_ok-lanes.ensures.opened) (subst (λ (ls : List Lane). Lie c.args.at.seconds 0 (g.B.Blocks.sheets c.args.blocks.now) ls) (sym lanes) (c.in_ok-lanes.ensures.lies c.args.at.seconds sheets)) in
     subst (λ (ws : List ℕ). AreThrough c.args.at.seconds ws (g.B.Blocks.sheets c.args.blocks.now) c.args.count (2 ^ 32) c.search.new.lanes c.search.new.rows.items c.in_ok-search.ensures.through.0) w
     (c.in_ok-search.ensures.through.2 sheets (subst (λ (rs : List Row). AreThrough c.args.at.seconds (weights_of c.deref_mut.result.now) (g.B.Blocks.sheets c.args.blocks.now) c.args.count 0 c.deref_mut.result.now rs []) (sym rows) none))
 
