@@ -1,0 +1,157 @@
+//! Random words beside a look at each document.
+ghost use Rattle.std.specs.Prelude.{◌<◌};
+
+use super::given::{assert_rows, posting, shelf, top};
+use super::shelf::{Shelf, Word};
+use std::alloc::Global;
+use std::process::Abort;
+use time_base::{Posting, Time};
+
+/// Numbers that look random: a linear congruential generator, with Knuth's multiplier for 64 bits.
+#[derive(Drop)]
+struct Numbers(u64);
+
+impl Numbers {
+    /// The next number below `end`.
+    fn below(&mut self, end: u32) -> u32
+        requires { 0 < end }
+        ensures { result < end }
+    {
+        self.0 = self
+            .0
+            .wrapping_mul(6364136223846793005)
+            .wrapping_add(1442695040888963407);
+        u32::try_from(self.0 >> 33).unwrap_or(0) % end
+    }
+}
+
+/// The documents of the random lists lie below this number.
+const DOCS: u32 = 64;
+
+/// A list of some documents, each with up to three postings; frequent or rare.
+fn random_list(rt: &impl Abort, alloc: Global, numbers: &mut Numbers) -> Vec<Posting> {
+    let mut list = Vec::new(alloc);
+    let share = 1 + numbers.below(8);
+    let most = 1 + numbers.below(4);
+    for doc in 0..DOCS {
+        if numbers.below(share) != 0 {
+            continue;
+        }
+        let heavy = if doc / 8 % 4 == 0 { 5 } else { 1 };
+        let first = u64::from(numbers.below(4));
+        for turn in 0u64..3 {
+            let from = first + 10 * turn;
+            let to = from + 1 + u64::from(numbers.below(10));
+            let tf = (1 + numbers.below(most)) * heavy;
+            if numbers.below(3) != 0 {
+                list.push(posting(rt, doc, from, to, tf)).expect(rt, "memory");
+            }
+        }
+    }
+    list
+}
+
+/// How often the word of a list occurs in a document at a time.
+fn often(list: &[Posting], doc: u32, at: Time) -> u64 {
+    for p in list {
+        if p.doc.0 == doc && p.span.holds(at) {
+            return u64::from(p.tf);
+        }
+    }
+    0
+}
+
+/// The scores of all documents.
+fn scores(rt: &impl Abort, alloc: Global, lists: &[Vec<Posting>], weights: &[u32], at: u64) -> Vec<u64> {
+    let at = Time::new(at).expect(rt, "a time");
+    let mut scores = Vec::new(alloc);
+    for doc in 0..DOCS {
+        let mut score = 0u64;
+        for (list, weight) in lists.iter().zip(weights.iter()) {
+            score = score.saturating_add(u64::from(*weight).saturating_mul(often(list, doc, at)));
+        }
+        scores.push(score).expect(rt, "memory");
+    }
+    scores
+}
+
+/// The first document of the greatest score, if that is above 0.
+fn best(scores: &[u64]) -> Option<(u32, u64)> {
+    let mut found = None;
+    let mut most = 0;
+    for (doc, score) in (0u32..).zip(scores.iter()) {
+        if *score > most {
+            most = *score;
+            found = Some((doc, most));
+        }
+    }
+    found
+}
+
+/// All documents with a score above 0 in order, and of these the first.
+fn sorted(rt: &impl Abort, alloc: Global, mut scores: Vec<u64>, count: usize) -> Vec<(u32, u64)> {
+    let mut rows = Vec::new(alloc);
+    for _ in 0..count {
+        if let Some((doc, score)) = best(&scores) {
+            rows.push((doc, score)).expect(rt, "memory");
+            if let Some(it) = scores.get_mut(doc as usize) {
+                *it = 0;
+            }
+        }
+    }
+    rows
+}
+
+/// Some words with their lists, in blocks or at hand.
+#[derive(Drop)]
+struct Case {
+    lists: Vec<Vec<Posting>>,
+    weights: Vec<u32>,
+    shelf: Shelf,
+}
+
+impl Case {
+    fn random(rt: &impl Abort, alloc: Global, numbers: &mut Numbers) -> Case {
+        let mut lists = Vec::new(alloc);
+        let mut weights = Vec::new(alloc);
+        let mut words = Vec::new(alloc);
+        for _ in 0..numbers.below(5) {
+            let list = random_list(rt, alloc, numbers);
+            weights.push(1 + numbers.below(3)).expect(rt, "memory");
+            let size = 1 + numbers.below(6) as usize;
+            words
+                .push(Word::blocked(alloc, &list, size).expect(rt, "memory"))
+                .expect(rt, "memory");
+            lists.push(list).expect(rt, "memory");
+        }
+        Case {
+            lists,
+            weights,
+            shelf: shelf(alloc, words),
+        }
+    }
+}
+
+/// That the first rows are those of all documents, sorted.
+fn assert_sorted(rt: &impl Abort, alloc: Global, case: &mut Case, at: u64, count: usize) {
+    let all = scores(rt, alloc, &case.lists, &case.weights, at);
+    let wanted = sorted(rt, alloc, all, count);
+    let rows = top(rt, alloc, &mut case.shelf, &case.weights, at, count)
+        .ok()
+        .expect(rt, "rows");
+    assert_rows(rt, &rows, &wanted);
+}
+
+#[test]
+fn first_rows_of_random_words_are_those_of_all_documents(rt: HostRuntime) {
+    let alloc = rt.alloc();
+    let mut numbers = Numbers(18);
+    for _ in 0..60 {
+        let mut case = Case::random(&rt, alloc, &mut numbers);
+        for at in [5u64, 15, 22] {
+            for count in [1usize, 2, 5, 100] {
+                assert_sorted(&rt, alloc, &mut case, at, count);
+            }
+        }
+    }
+}
