@@ -1,5 +1,5 @@
 -- How long the texts of a batch are.
-use Rattle.std.specs.Prelude.{ℕ, ◌+◌, nat_lt, if◌then◌else◌, List, [], ◌∷◌, length}
+use Rattle.std.specs.Prelude.{ℕ, ◌+◌, List, [], ◌∷◌, length}
 use Rattle.commands.specs.declared.text.Text.{Text}
 use Rattle.commands.specs.declared.text.Text.TheVariants as texts
 use Rattle.commands.specs.declared.batch.BatchItem.{BatchItem}
