@@ -5,6 +5,7 @@ use mathlib.Core.HLevel.{is_prop→PathP}
 use Rattle.time_base.specs.declared.time.Time.{Time}
 use Rattle.time_base.specs.declared.time.Span.{Span}
 use Rattle.time_base.specs.declared.fraction.Fraction.{Fraction}
+use Rattle.time_base.specs.declared.tolerance.Tolerance.{Tolerance}
 use Rattle.time_base.specs.declared.posting.Posting.{Posting}
 use Rattle.time_base.specs.declared.extent.Extent.{Extent}
 
@@ -32,6 +33,15 @@ same_fraction a b o u = λ i. record {
   proper = is_prop→PathP (λ j. 1 ≤ u j) (λ j. le_prop) a.proper b.proper i;
   at_least_one = is_prop→PathP (λ j. u j ≤ o j) (λ j. le_prop) a.at_least_one b.at_least_one i;
   in_range = is_prop→PathP (λ j. o j < 2 ^ 32) (λ j. le_prop) a.in_range b.in_range i;
+}
+
+-- tolerances that are written alike are one
+pub same_tolerance : (a b : Tolerance) → a.part ≡ b.part → a.whole ≡ b.whole → a ≡ b
+same_tolerance a b p w = λ i. record {
+  part = p i;
+  whole = w i;
+  below = is_prop→PathP (λ j. p j < w j) (λ j. le_prop) a.below b.below i;
+  in_range = is_prop→PathP (λ j. w j < 2 ^ 32) (λ j. le_prop) a.in_range b.in_range i;
 }
 
 -- postings with the same document, span and frequency are one
