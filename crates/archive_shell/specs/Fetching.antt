@@ -5,7 +5,7 @@ use Rattle.commands.specs.declared.command.Item.{Item}
 use Rattle.commands.specs.declared.command.Item.TheVariants as items
 use Rattle.query_lang.specs.Grammar.{Query, IsRead}
 use Rattle.query_lang.specs.Meaning.{words_of}
-use Rattle.query_lang.specs.Tokens.{key_of}
+use Rattle.query_lang.specs.Tokens.{term_of}
 use Rattle.page_cache.specs.Caches.{Kept, missed_by_all}
 use Rattle.archive_state.specs.Chosen.{pieces_for}
 use Rattle.archive_state.specs.Histories.{History}
@@ -17,7 +17,7 @@ pieces_by history pages a b (Err place) = []
 
 -- for a text, as it is read
 abbrev pub ArePiecesOf : History → List ℕ → ℕ → ℕ → List ℕ → List Kept → Type 0
-ArePiecesOf history pages a b text pieces = (query : Result Query ℕ) × IsRead key_of text query × (pieces ≡ pieces_by history pages a b query)
+ArePiecesOf history pages a b text pieces = (query : Result Query ℕ) × IsRead term_of text query × (pieces ≡ pieces_by history pages a b query)
 
 -- The item asks what is found, at a time, which is a window up to the next one, or over a window; and this is so of the window's bounds and the
 -- text.

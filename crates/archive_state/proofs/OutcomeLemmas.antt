@@ -29,7 +29,7 @@ use Rattle.record_codec.specs.declared.entry.Entry.TheVariants as entries
 use Rattle.query_lang.specs.Grammar.{Query}
 use Rattle.query_lang.specs.Machine.{read}
 use Rattle.query_lang.specs.Meaning.{words_of}
-use Rattle.query_lang.specs.Tokens.{key_of}
+use Rattle.query_lang.specs.Tokens.{term_of}
 use Rattle.query_lang.proofs.ReadingLaws.{is_read, one_reading}
 use Rattle.query_eval.specs.Spans.{row_kind, scored_at}
 use Rattle.query_eval.specs.declared.answer.Row.{Row}
@@ -173,8 +173,8 @@ each_replied Finds each (Ok query) = each query
 
 each_text : (Finds : Query → Reply → Type 0) → ((query : Query) → (reply : Reply) × Finds query reply) → (text : List ℕ) → (reply : Reply) × IsReplied Finds text reply
 each_text Finds each text =
-    let found = each_replied Finds each (read key_of text) in
-    (found.0, (read key_of text, is_read key_of text, found.1))
+    let found = each_replied Finds each (read term_of text) in
+    (found.0, (read term_of text, is_read term_of text, found.1))
 
 each_found : (h : History) (at : Time) → IsLegal h → (query : Query) → (reply : Reply) × FindsBy h at query reply
 each_found h at legal query =
@@ -320,7 +320,7 @@ one_replied Finds one (Ok query) reply other a b = one query reply other a b
 one_text : (Finds : Query → Reply → Type 0) → IsOnly Finds → (text : List ℕ) (reply other : Reply) → IsReplied Finds text reply → IsReplied Finds text other → reply ≡ other
 one_text Finds one text reply other a b =
     let F : Result Query ℕ → Type 0 = λ q. IsRepliedBy Finds q reply in
-    one_replied Finds one b.0 reply other (subst F (one_reading key_of text a.0 b.0 a.1 b.1) a.2) b.2
+    one_replied Finds one b.0 reply other (subst F (one_reading term_of text a.0 b.0 a.1 b.1) a.2) b.2
 
 one_found : (h : History) (at : Time) → IsOnly (FindsBy h at)
 one_found h at query reply other a b =

@@ -35,7 +35,7 @@ use Rattle.proposals.specs.declared.proposal.Node.{Node}
 use Rattle.proposals.specs.declared.proposal.Segment.{Segment}
 use Rattle.query_lang.specs.Grammar.{Query, IsRead}
 use Rattle.query_lang.specs.Meaning.{words_of}
-use Rattle.query_lang.specs.Tokens.{key_of}
+use Rattle.query_lang.specs.Tokens.{term_of}
 use Rattle.query_eval.specs.declared.answer.Row.{Row}
 use Rattle.query_eval.specs.declared.spans.SpanRow.{SpanRow}
 use Rattle.archive_state.specs.declared.refusal.Refusal.{Refusal}
@@ -113,7 +113,7 @@ IsRepliedBy Finds (Err place) reply = reply ≡ Refused (refusals.BadQuery place
 
 -- what a text is answered, as it is read
 abbrev pub IsReplied : (Query → Reply → Type 0) → List ℕ → Reply → Type 0
-IsReplied Finds text reply = (query : Result Query ℕ) × IsRead key_of text query × IsRepliedBy Finds query reply
+IsReplied Finds text reply = (query : Result Query ℕ) × IsRead term_of text query × IsRepliedBy Finds query reply
 
 -- what is found at a time by a query, in rows and postings read
 abbrev pub FindsBy : History → Time → Query → Reply → Type 0
