@@ -24,14 +24,7 @@ ArePiecesOf history pages a b text pieces = (query : Result Query ℕ) × IsRead
 abbrev pub AsksOver : (ℕ → ℕ → List ℕ → Type 0) → Item → Type 0
 AsksOver P (items.Command (commands.Find at expr)) = P at.seconds (at.seconds + 1) expr
 AsksOver P (items.Command (commands.Between span expr)) = P span.from span.to expr
-AsksOver P (items.Command (commands.Arrive doc at text)) = ⊥
-AsksOver P (items.Command (commands.Delete doc at)) = ⊥
-AsksOver P (items.Command (commands.Show doc at)) = ⊥
-AsksOver P (items.Command (commands.Plan word kind fraction)) = ⊥
-AsksOver P (items.Command (commands.Propose word fraction)) = ⊥
-AsksOver P (items.Command (commands.Certificate word)) = ⊥
-AsksOver P (items.Command commands.Verify) = ⊥
-AsksOver P items.Line = ⊥
+AsksOver P other = ⊥
 
 -- the item asks what is found, and these are the pieces of pages that are asked for
 abbrev pub AsksFor : History → List ℕ → Item → List Kept → Type 0
