@@ -1,5 +1,5 @@
 -- On what footing a disk stands for a history, and what the machine does on it. Durability needs the journal alone: what lies in Pages is made of it.
-use Rattle.std.specs.Prelude.{◌≡◌, ◌⊎◌, ℕ}
+use Rattle.std.specs.Prelude.{◌≡◌}
 use Rattle.machine_model.specs.Areas.{Bytes}
 use Rattle.machine_model.specs.Images.{MayLeave}
 use Rattle.machine_model.specs.States.{DiskState}
@@ -13,7 +13,7 @@ use Rattle.archive_state.specs.declared.refusal.Refusal.TheVariants as refusals
 use Rattle.archive_state.specs.Histories.{History}
 use Rattle.archive_state.specs.Legal.{IsLegal, IsLoadable}
 use Rattle.archive_state.specs.Stands.{Stands, bodies_of}
-use Rattle.archive_state.specs.Steps.{Reply, Accepted, Refused, Found, Spanned, Version, Proposed, Planned, Verified, CarriesOut, Declines, Step}
+use Rattle.archive_state.specs.Steps.{Reply, Accepted, Planned, CarriesOut, Declines, Step}
 use Rattle.archive_state.specs.Worlds.{World}
 use Rattle.archive_core.specs.States.{ArchiveState, AreInStep, CacheStands, StandsFor}
 
