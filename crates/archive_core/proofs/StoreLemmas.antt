@@ -42,14 +42,13 @@ use Rattle.archive_state.proofs.RefusalLemmas.{when_true, when_false}
 use Rattle.archive_state.proofs.StoringLemmas.{plan_legal}
 use Rattle.archive_state.proofs.OutcomeLemmas.{loaded_plans}
 use Rattle.archive_core.specs.Adding.{HasSameShelf}
-use Rattle.archive_core.specs.After.{IsDone}
 use Rattle.archive_core.specs.Changing.{LeadsOn, LeadsTo, KeepsHistory}
 use Rattle.archive_core.specs.Footings.{Footing, Alone, Whole, AreInStepOn, IsRecorded, StepOn}
 use Rattle.archive_core.specs.States.{ArchiveState, StandsFor, CacheStands, AreInStep}
 use Rattle.plan_shelf.specs.Shelves.{ShelfState, extents_all}
 use Rattle.plan_shelf.specs.Readying.{HasPlaces, IsFull, IsReady, plan_with, tells_of, summary_of}
 use Rattle.archive_core.specs.Storing.{IsDraft, IsStorable, IsStoredAs}
-use Rattle.archive_core.specs.Takes.{Takes, TakesOn, planned}
+use Rattle.archive_core.specs.Takes.{TakesOn, planned}
 use Rattle.archive_core.specs.declared.error.ChangeError.{ChangeError}
 use Rattle.archive_core.specs.declared.error.ChangeError.TheVariants as changes
 use Rattle.plan_shelf.specs.declared.readying.Draft.{Draft}

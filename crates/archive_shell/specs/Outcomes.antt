@@ -10,7 +10,7 @@ use Rattle.archive_state.specs.Replies.{reply_text}
 use Rattle.archive_state.specs.Runs.{Outcome}
 use Rattle.archive_state.specs.Standing.{Carried}
 use Rattle.archive_state.specs.Worlds.{World, world_of}
-use Rattle.archive_core.specs.States.{ArchiveState, Reaches, StandsFor}
+use Rattle.archive_core.specs.States.{ArchiveState, Reaches}
 use Rattle.archive_core.specs.Footings.{Footing, AreInStepOn, EachStandsOn, SpoiledOn, StandsInOn, StepOn, TellsNoEntry}
 use Rattle.archive_core.specs.Changing.{LeadsOn}
 use Rattle.archive_core.specs.Takes.{Ending, Replied, Starved, Faulted, Spoiled, answered}

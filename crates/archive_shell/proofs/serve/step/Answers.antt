@@ -1,4 +1,4 @@
-use Rattle.std.proofs.Common.{◌≡◌, List, [], Ok, Err, refl, sym, ap, ◌∙◌}
+use Rattle.std.proofs.Common.{List, [], Ok, Err, sym, ap, ◌∙◌}
 use Rattle.std.proofs.lemmas.List.{append-nil}
 use Rattle.machine_model.specs.Pulls.{Pull}
 use Rattle.machine_model.specs.States.{MachineState, SourceState, state_by}
