@@ -11,7 +11,7 @@ use Rattle.query_lang.specs.declared.error.QueryError.{QueryError}
 use Rattle.query_lang.specs.declared.error.QueryError.TheVariants as queries
 use Rattle.query_lang.specs.Grammar.{Query, IsRead}
 use Rattle.query_lang.specs.Meaning.{words_of}
-use Rattle.query_lang.specs.Tokens.{key_of}
+use Rattle.query_lang.specs.Tokens.{term_of}
 use Rattle.query_eval.specs.declared.answer.Answer.{Answer}
 use Rattle.query_eval.specs.declared.spans.SpanAnswer.{SpanAnswer}
 use Rattle.sublist_store.specs.declared.why.Damage.{Damage}
@@ -55,19 +55,19 @@ unanswered_after tells phrase from to IsMade error d a unfailed none undamaged =
 
 -- after a text that is none
 pub after_no_query : {T : Type 0} (tells : Type 0) (text phrase : List ℕ) (from to : ℕ) (IsMade : History → Query → T → Type 0) (error : AskError) (why : QueryError) (d : DiskState) (a : ArchiveState) → text ≡ phrase
-    → error ≡ ask_error_of_query why → ((place : ℕ) → ◌≡◌ {A = Result Query QueryError} (Err why) (Err (queries.BadQuery place)) → IsRead key_of text (Err place)) → AfterQuestion {T = T} tells phrase from to IsMade (Err error) d d a a
+    → error ≡ ask_error_of_query why → ((place : ℕ) → ◌≡◌ {A = Result Query QueryError} (Err why) (Err (queries.BadQuery place)) → IsRead term_of text (Err place)) → AfterQuestion {T = T} tells phrase from to IsMade (Err error) d d a a
 after_no_query tells text phrase from to IsMade error (queries.BadQuery place) d a same is bad =
-    let read = subst (λ (t : List ℕ). IsRead key_of t (Err place)) same (bad place refl) in
+    let read = subst (λ (t : List ℕ). IsRead term_of t (Err place)) same (bad place refl) in
     unanswered_after tells phrase from to IsMade error d a (λ failed. absurd cc) (λ why refused. (let at : why ≡ refusals.BadQuery place = cc in (place, read, at))) (λ damage damaged. absurd cc)
 after_no_query tells text phrase from to IsMade error queries.Memory d a same is bad =
     unanswered_after tells phrase from to IsMade error d a (λ failed. absurd cc) (λ why refused. absurd cc) (λ damage damaged. absurd cc)
 
 -- after sublists were fetched for a query
 pub after_fetching : {T : Type 0} (tells : Type 0) (text phrase : List ℕ) (from to : ℕ) (IsMade : History → Query → T → Type 0) (query : Query) (r : Result T AskError) (fetched : Result T FetchError) (d e : DiskState) (x y : ArchiveState)
-    → text ≡ phrase → IsRead key_of text (Ok query) → r ≡ asked_of fetched → AfterFetching tells fetched d e x y
+    → text ≡ phrase → IsRead term_of text (Ok query) → r ≡ asked_of fetched → AfterFetching tells fetched d e x y
     → Fetches tells from to (words_of query) (λ h answer. IsMade h query answer) fetched d e x y → AfterQuestion tells phrase from to IsMade r d e x y
 after_fetching {T} tells text phrase from to IsMade query r fetched d e x y same read is after fetch =
-    let is_read : IsRead key_of phrase (Ok query) = subst (λ (t : List ℕ). IsRead key_of t (Ok query)) same read in
+    let is_read : IsRead term_of phrase (Ok query) = subst (λ (t : List ℕ). IsRead term_of t (Ok query)) same read in
     record {
       same = after.same;
       but_cache = after.but_cache;

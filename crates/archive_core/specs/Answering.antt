@@ -6,7 +6,7 @@ use Rattle.machine_model.specs.declared.area.Area.TheVariants.{Pages}
 use Rattle.page_cache.specs.Caches.{Kept, after_asking_all, missed_by_all}
 use Rattle.query_lang.specs.Grammar.{Query, IsRead}
 use Rattle.query_lang.specs.Meaning.{words_of}
-use Rattle.query_lang.specs.Tokens.{key_of}
+use Rattle.query_lang.specs.Tokens.{term_of}
 use Rattle.archive_state.specs.declared.refusal.Refusal.{Refusal}
 use Rattle.archive_state.specs.declared.refusal.Refusal.TheVariants as refusals
 use Rattle.archive_state.specs.Histories.{History}
@@ -14,11 +14,11 @@ use Rattle.archive_state.specs.Chosen.{pieces_for}
 
 -- the phrase is a query
 abbrev pub IsQuery : List ℕ → Type 0
-IsQuery phrase = (query : Query) × IsRead key_of phrase (Ok query)
+IsQuery phrase = (query : Query) × IsRead term_of phrase (Ok query)
 
 -- the phrase is none, which shows at the place that is told
 abbrev pub IsNoQuery : List ℕ → Refusal → Type 0
-IsNoQuery phrase why = (place : ℕ) × IsRead key_of phrase (Err place) × (why ≡ refusals.BadQuery place)
+IsNoQuery phrase why = (place : ℕ) × IsRead term_of phrase (Err place) × (why ≡ refusals.BadQuery place)
 
 -- Pages were asked for that gave these pieces, in turn: those that were missed were read of Pages, and nothing else; the cache is the one after
 -- the asking.
@@ -34,4 +34,4 @@ HasReadFor history a b query was now old new = HasAsked (pieces_for history old.
 -- and after.
 abbrev pub IsAnswerTo : History → ℕ → ℕ → List ℕ → (Query → Type 0) → List Kept → List Kept → DiskState → DiskState → Type 0
 IsAnswerTo history a b phrase IsMade was now old new =
-    (query : Query) × IsRead key_of phrase (Ok query) × IsMade query × HasReadFor history a b query was now old new
+    (query : Query) × IsRead term_of phrase (Ok query) × IsMade query × HasReadFor history a b query was now old new

@@ -53,6 +53,8 @@ pub(crate) fn carry_out<D: Disk>(
         | Command::Propose { .. }
         | Command::Between { .. }
         | Command::Show { .. }
-        | Command::Certificate { .. } => unreachable!(),
+        | Command::Certificate { .. }
+        | Command::Format
+        | Command::Batch(_) => unreachable!(),
     }
 }

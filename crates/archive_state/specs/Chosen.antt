@@ -13,7 +13,7 @@ use Rattle.sublist_store.specs.Caching.{pieces_of_all}
 use Rattle.sublist_store.specs.declared.why.Damage.{Damage}
 use Rattle.query_lang.specs.Grammar.{Query, IsRead}
 use Rattle.query_lang.specs.Meaning.{words_of}
-use Rattle.query_lang.specs.Tokens.{key_of}
+use Rattle.query_lang.specs.Tokens.{term_of}
 use Rattle.query_eval.specs.Answers.{IsAnswer}
 use Rattle.query_eval.specs.Asked.{read_of}
 use Rattle.query_eval.specs.Found.{told}
@@ -87,7 +87,7 @@ pub record IsFirstDamage (history : History) (pages : List ℕ) (a b : ℕ) (wor
 -- the phrase is a query, and this is the first that is damaged of what is read for its words over [a, b)
 pub record SpoilsAnswer (history : History) (pages : List ℕ) (a b : ℕ) (phrase : List ℕ) (damage : Damage) : Type 0 where
   pub query : Query
-  pub is_read : IsRead key_of phrase (Ok query)
+  pub is_read : IsRead term_of phrase (Ok query)
   pub first : IsFirstDamage history pages a b (words_of query) damage
 
 -- the pieces of the pages that are asked for, for a word over [a, b), by its live plan if it has one: those of the places that are chosen, in order

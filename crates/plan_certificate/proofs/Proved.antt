@@ -1,5 +1,5 @@
 -- Certificates, and the parts of their check.
-use Rattle.std.specs.Prelude.{◌≡◌, ◌↔◌, ℕ, ◌+◌, ◌-◌, ◌<◌, ◌≤◌, Bool, IsTrue, false, List, drop, length, slice_index}
+use Rattle.std.specs.Prelude.{◌≡◌, ◌↔◌, ℕ, ◌+◌, ◌-◌, ◌<◌, ◌≤◌, Bool, IsTrue, false, List, [], drop, length, slice_index, refl}
 use Rattle.std.proofs.Common.{arith, ap, sym, ◌∙◌, subst, nat_eq}
 use Rattle.std.proofs.lemmas.List.Elements.{Contains-get_or, All-drop}
 use Rattle.time_base.specs.declared.posting.Posting.{Posting}
@@ -7,11 +7,13 @@ use Rattle.time_base.specs.declared.fraction.Fraction.{Fraction}
 use Rattle.postings.specs.Sizes.{size}
 use Rattle.elementary.specs.Boundaries.{IsBoundary, IsFirst, AreBoundaries}
 use Rattle.elementary.specs.Counts.{Counts, Tabulates}
-use Rattle.elementary.specs.Partitions.{IsAdmissible, Covers, IsLeast, IsFitting, space}
+use Rattle.elementary.specs.Partitions.{IsAdmissible, Covers, IsBest, IsLeast, IsFitting, space}
+use Rattle.elementary.proofs.Bests.{IsWayTo, longer_way}
 use Rattle.elementary.proofs.Cuts.{eq_from, is_eq}
+use Rattle.elementary.proofs.Places.{rises}
 use Rattle.elementary.proofs.Tables.{some_time, first_le, last_is_horizon, size_is, admissible_from_counts, counts_from_admissible}
 use Rattle.elementary.proofs.Walk.{AreBounds, paths_cost}
-use Rattle.plan_certificate.specs.Certificates.{Certifies, CertifiesCuts, CertificateProvesLeast}
+use Rattle.plan_certificate.specs.Certificates.{BestNumbersCertify, Certifies, CertifiesCuts, CertificateProvesLeast}
 use Rattle.plan_certificate.specs.Edges.{EdgesBelow}
 
 pub first_is : (list : List Posting) (horizon : ℕ) (times : List ℕ) → AreBoundaries list horizon times → IsFirst list horizon (slice_index times 0)
@@ -35,6 +37,27 @@ certificate_proves_least list factor times pi cuts horizon c = record {
             (subst (λ h. Covers list factor (slice_index times 0) other h) (sym e) p),
       );
 }
+
+-- a segment more is a way more: so no number is above an earlier one and the segment between them
+pub best_numbers_certify : BestNumbersCertify
+best_numbers_certify list factor times pi cuts horizon early best least =
+    let some : 0 < length times = some_time list horizon times best.times_are in
+    let last : IsBest list factor horizon (slice_index times 0) horizon (slice_index pi (length times - 1)) = rw (last_is_horizon list horizon times best.times_are early) at (best.each (length times - 1) (omega (arith, some))) in
+    record {
+      times_are = best.times_are;
+      early = early;
+      at_boundaries = least.at_boundaries;
+      covers = least.covers;
+      long = best.long;
+      starts = omega (arith, (best.each 0 some).least [] refl);
+      edges = λ j k lt l adm.
+          let from = best.each j (omega (arith, lt, l)) in
+          let way : IsWayTo list factor horizon (slice_index times 0) (slice_index times j) (slice_index pi j) = record { cuts = from.cuts; covers = from.covers; at_boundaries = from.at_boundaries; takes = from.takes } in
+          let on = longer_way list factor horizon (slice_index times 0) (slice_index times j) (slice_index times k) (slice_index pi j) way (rises times best.times_are.ascending j k lt l) adm
+          ((best.times_are.each _).0 (Contains-get_or times k 0 l)) in
+          omega (arith, on.takes, (best.each k l).least on.cuts on.covers);
+      total = omega (arith, last.takes, last.least cuts least.covers, least.least last.cuts last.covers);
+    }
 
 -- the edges by counts are those by sizes
 pub edges_from : (list : List Posting) (horizon : ℕ) (table : Counts) (factor : Fraction) (pi : List ℕ) → Tabulates list horizon table → length pi ≡ length table.boundaries → EdgesBelow table factor pi (length pi)

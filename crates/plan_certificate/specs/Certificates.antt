@@ -4,7 +4,7 @@ use Rattle.time_base.specs.declared.posting.Posting.{Posting}
 use Rattle.time_base.specs.declared.fraction.Fraction.{Fraction}
 use Rattle.postings.specs.Sizes.{size}
 use Rattle.elementary.specs.Boundaries.{IsBoundary, AreBoundaries}
-use Rattle.elementary.specs.Partitions.{IsAdmissible, Covers, IsLeast, IsFitting, space}
+use Rattle.elementary.specs.Partitions.{IsAdmissible, Covers, IsLeast, IsFitting, AreBest, space}
 
 -- The numbers pi, one for each boundary, certify the partition from the first boundary with these later cuts: its cuts
 -- are boundaries, it is admissible, and pi starts at 0, grows over no admissible segment by more than the
@@ -29,3 +29,9 @@ pub record CertifiesCuts (list : List Posting) (factor : Fraction) (times pi cut
 -- cut times, takes less space.
 abbrev pub CertificateProvesLeast : Type 0
 CertificateProvesLeast = (list : List Posting) (factor : Fraction) (times pi cuts : List ℕ) (horizon : ℕ) → Certifies list factor times pi cuts horizon → IsLeast list factor (slice_index times 0) cuts horizon
+
+-- The least spaces up to the boundaries certify each least partition: so who is shown these numbers with a least partition can check it.
+abbrev pub BestNumbersCertify : Type 0
+BestNumbersCertify =
+    (list : List Posting) (factor : Fraction) (times pi cuts : List ℕ) (horizon : ℕ) → All (λ p. p.span.to ≤ horizon) list → AreBest list factor horizon times pi
+    → IsLeast list factor (slice_index times 0) cuts horizon → Certifies list factor times pi cuts horizon

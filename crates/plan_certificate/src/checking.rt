@@ -3,7 +3,7 @@ ghost use Rattle.std.specs.Prelude.{◌≡◌, ◌↔◌, ℕ, ◌+◌, ◌<◌,
 ghost use Rattle.time_base.specs.declared.posting.Posting.{Posting};
 ghost use Rattle.elementary.specs.Counts.{Tabulates, size_between};
 ghost use Rattle.elementary.specs.Partitions.{IsLeast};
-ghost use Rattle.plan_certificate.specs.Certificates.{CertifiesCuts, CertificateProvesLeast};
+ghost use Rattle.plan_certificate.specs.Certificates.{BestNumbersCertify, CertifiesCuts, CertificateProvesLeast};
 ghost use Rattle.plan_certificate.specs.Edges.{EdgesBelow};
 
 use crate::certificate::Certificate;
@@ -96,4 +96,10 @@ pub fn check(
 /// nothing when it runs.
 pub fn certificate_proves_least()
     ensures { CertificateProvesLeast }
+{}
+
+/// The least spaces up to the boundaries certify each least partition, so they pass `check`. Does
+/// nothing when it runs.
+pub fn best_numbers_certify()
+    ensures { BestNumbersCertify }
 {}
