@@ -55,6 +55,12 @@ pub(crate) fn carry_out<D: Disk>(
         | Command::Show { .. }
         | Command::Certificate { .. }
         | Command::Format
-        | Command::Batch(_) => unreachable!(),
+        | Command::Batch(_)
+        | Command::Begin { .. }
+        | Command::Top { .. }
+        | Command::Best { .. }
+        | Command::Approx { .. }
+        | Command::Rough { .. }
+        | Command::Share { .. } => unreachable!(),
     }
 }

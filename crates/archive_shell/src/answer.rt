@@ -94,6 +94,12 @@ pub(crate) fn answer<D: Disk>(
         }
         Command::Format => refuse(page, Refusal::Line),
         Command::Batch(_) => refuse(page, Refusal::Line),
+        Command::Begin { .. } => refuse(page, Refusal::Line),
+        Command::Top { .. } => refuse(page, Refusal::Line),
+        Command::Best { .. } => refuse(page, Refusal::Line),
+        Command::Approx { .. } => refuse(page, Refusal::Line),
+        Command::Rough { .. } => refuse(page, Refusal::Line),
+        Command::Share { .. } => refuse(page, Refusal::Line),
     }
 }
 
