@@ -17,7 +17,7 @@ use Rattle.commands.specs.declared.command.Item.TheVariants.{Command, Line}
 use Rattle.commands.specs.declared.command.Kind.TheVariants.{Guarantee, Uniform, Since}
 use Rattle.script_read.specs.declared.first.First.TheVariants.{Whole, Broken, More, End}
 use Rattle.script_read.specs.Dates.{date, day_number}
-use Rattle.script_read.specs.Values.{fraction, tolerance, top_count, best_count, share_fraction, share_words, texts}
+use Rattle.script_read.specs.Values.{fraction, tolerance, top_count, best_count, share_fraction, texts}
 use Rattle.script_read.specs.Lines.{meaning, kind, spanning}
 use Rattle.script_read.specs.Items.{first}
 
