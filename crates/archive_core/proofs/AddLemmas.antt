@@ -5,7 +5,7 @@ use Rattle.std.proofs.lemmas.List.Elements.{All-weaker, All-nil}
 use Rattle.std.proofs.lemmas.Bool.{cases_lt}
 use Rattle.machine_model.specs.Areas.{Bytes}
 use Rattle.time_base.specs.declared.extent.Extent.{Extent}
-use Rattle.page_store.specs.Live.{IsInside}
+use Rattle.page_store.specs.Live.{AreLive, IsInside}
 use Rattle.machine_model.specs.States.{DiskState, moment}
 use Rattle.machine_model.specs.Images.{MayLeave, Only}
 use Rattle.machine_model.proofs.MomentLemmas.{goes_on_same, left_now, allowed_left}
@@ -22,7 +22,7 @@ use Rattle.record_codec.specs.declared.entry.Entry.TheVariants.{Arrive, Delete, 
 use Rattle.stored_plans.specs.Plans.{IsGoodPlan}
 use Rattle.archive_state.specs.Histories.{History, changes, end_of}
 use Rattle.archive_state.specs.Legal.{IsLegal, IsLegalEntry, IsLoadable}
-use Rattle.archive_state.specs.Plans.{live_plans}
+use Rattle.archive_state.specs.Plans.{live_extents, live_plans}
 use Rattle.archive_state.specs.Holding.{HoldsPlans, HoldsPlan}
 use Rattle.archive_state.proofs.HoldLemmas.{held_push, same_live}
 use Rattle.archive_state.specs.Stands.{bodies_of, Stands, EachStands, IsNotArchive}
@@ -32,7 +32,7 @@ use Rattle.archive_state.specs.declared.refusal.Refusal.TheVariants.{Full}
 use Rattle.version_store.specs.Tests.{first_of}
 use Rattle.archive_state.specs.Steps.{full_journal}
 use Rattle.archive_state.proofs.RefusalLemmas.{cause, cause-allowed, cause-full, cause-none}
-use Rattle.archive_core.specs.States.{ArchiveState, StandsFor, CacheStands, AreInStep}
+use Rattle.archive_core.specs.States.{ArchiveState, StandsFor, CacheStands, AreInStep, Reaches}
 use Rattle.plan_shelf.specs.Shelves.{ShelfState, IsBadShelf, extents_all}
 use Rattle.version_index.specs.Indexes.{IsPreparedFor, IndexState, Indexes}
 use Rattle.version_index.specs.declared.prepared.Prepared.{Prepared as Words}
@@ -44,7 +44,8 @@ use Rattle.archive_core.specs.declared.error.ChangeError.TheVariants as errors
 use Rattle.archive_replay.specs.declared.error.Declined.{Declined}
 use Rattle.archive_replay.specs.declared.preparing.Prepared.{Prepared}
 use Rattle.archive_replay.specs.declared.error.Declined.TheVariants as declines
-use Rattle.archive_core.specs.Changing.{LeadsTo, KeepsHistory}
+use Rattle.archive_core.specs.Changing.{LeadsOn, LeadsTo, KeepsHistory}
+use Rattle.archive_core.specs.Footings.{Footing, Alone, Whole, AreInStepOn, EachStandsOn, IsRecorded, StandsOn}
 use Rattle.archive_replay.proofs.PlaceLemmas.{placed_more}
 use Rattle.page_store.specs.Taken.{HasTaken}
 use Rattle.gate_journal.specs.Records.{front}
@@ -185,6 +186,60 @@ leads_entry r a b old new h e x body words in_step next prepared more appends pa
     }
     go (Err error) more step cached = tt
 
+-- ---- on any footing
+
+-- where an archive is in step with its disk, each image stands for the history
+pub on_stands : (f : Footing) (d : DiskState) (a : ArchiveState) (h : History) → AreInStepOn f d a h → EachStandsOn f d h
+on_stands Alone d a h recorded = step_spells d a.end (bodies_of h) recorded.journal
+on_stands Whole d a h in_step = in_step_stands d a h in_step
+
+-- and where no call is made, each still does
+pub on_nowhere : (f : Footing) (d : DiskState) (a : ArchiveState) (h after : History) → AreInStepOn f d a h → LeadsOn f h after d d
+on_nowhere f d a h after in_step = record {
+  goes_on = goes_on_same d;
+  images = left_now d (λ image beside. (StandsOn f h image ⊎ StandsOn f after image) × (beside ≡ d.now.beside)) (λ image allowed. (inl (on_stands f d a h in_step image allowed), refl));
+}
+
+-- what an archive stands for that is in step
+pub on_history : (f : Footing) (d : DiskState) (a : ArchiveState) (h : History) → AreInStepOn f d a h → StandsFor a h
+on_history Alone d a h recorded = recorded.stands
+on_history Whole d a h in_step = in_step.stands
+
+-- and what it keeps
+pub on_cache : (f : Footing) (d : DiskState) (a : ArchiveState) (h : History) → AreInStepOn f d a h → CacheStands d a
+on_cache Alone d a h recorded = recorded.cached
+on_cache Whole d a h in_step = in_step.cached
+
+-- an archive that is in step by pages too is so by its journal
+pub recorded : (d : DiskState) (a : ArchiveState) (h : History) → AreInStep d a h → IsRecorded d a h
+recorded d a h in_step = record { stands = in_step.stands; journal = in_step.journal; cached = in_step.cached }
+
+-- ---- by the journal alone
+
+-- where the journal has an entry more, each image stands for the history or for that with the entry, whatever lies in Pages
+pub enters_more : (h : History) (e : Entry) (body : List ℕ) (old new : DiskState) → body ≡ spelling e → Appends (bodies_of h) body old new → LeadsOn Alone h (h ++ e ∷ []) old new
+enters_more h e body old new same appends = record {
+  goes_on = appends.goes_on;
+  images = λ image beside left.
+      let was = appends.images image beside left in (
+        elim was.0 [
+          | inl spelled ↦ inl spelled
+          | inr spelled ↦ inr (rw (← bodies_more h e body same) spelled)
+        ],
+        was.1,
+      );
+}
+
+-- an entry that was added
+pub enters_entry : (r : Result ℕ ChangeError) (a b : ArchiveState) (old new : DiskState) (h : History) (e : Entry) (x : Change ℕ) (body : List ℕ) (words : Words)
+    → IsRecorded old a h → IsNext h e x body → IsPreparedFor a.index (document_of e) (text_of e) words → IfOk r (λ n. IsMore a b x body words × (n ≡ b.length)) → Appends (bodies_of h) body old new
+    → OnOk r (IsInStep new b.end (bodies_of h ++ body ∷ [])) → (IsOk r → CacheStands new b) → LeadsOn Alone h (h ++ e ∷ []) old new × OnOk r (IsRecorded new b (h ++ e ∷ []))
+enters_entry r a b old new h e x body words was next prepared more appends step cached = (enters_more h e body old new next.spelled appends, go r more step cached)
+  where
+    go : (r : Result ℕ ChangeError) → IfOk r (λ n. IsMore a b x body words × (n ≡ b.length)) → OnOk r (IsInStep new b.end (bodies_of h ++ body ∷ [])) → (IsOk r → CacheStands new b) → OnOk r (IsRecorded new b (h ++ e ∷ []))
+    go (Ok n) more step cached = record { stands = stands_more a b h e x body words was.stands next prepared more.0; journal = rw (← bodies_more h e body next.spelled) step; cached = cached refl }
+    go (Err error) more step cached = tt
+
 -- ---- a change, or a plan, that was given up
 
 -- it was not made, and no call of the disk failed
@@ -311,6 +366,21 @@ in_step_loaded a mid new old end bodies g h stands empty end_is same spelled ste
       cached = none_cached new a empty;
     }
 
+-- and by the journal alone it is for the history that was found
+pub recorded_loaded : (a : ArchiveState) (mid new : DiskState) (old : Bytes) (end : ℕ) (bodies : List (List ℕ)) (h : History)
+    → StandsFor a h → a.shelf.cache ≡ [] → a.end ≡ end → bodies_of h ≡ bodies → Spells old.journal bodies → IsInStep mid end bodies → OnlyReads mid new → (found : History) × (IsRecorded new a found × Spells old.journal (bodies_of found))
+recorded_loaded a mid new old end bodies h stands empty end_is same spelled step reads = (
+  h,
+  (
+    record {
+      stands = stands;
+      journal = subst (λ (l : List (List ℕ)). IsInStep new a.end l) (sym same) (subst (λ (n : ℕ). IsInStep new n bodies) (sym end_is) (step_reads mid new end bodies step reads));
+      cached = none_cached new a empty;
+    },
+    subst (λ (l : List (List ℕ)). Spells old.journal l) (sym same) spelled,
+  ),
+)
+
 -- what the journal's error is where a load hands it on
 pub journal_exit : {T U : Type 0} (r : Result T JournalError) (s : Result U LoadError) (e : JournalError) (y : LoadError) (at : ℕ) → r ≡ Err e → s ≡ Err y → y ≡ load_error_of e
     → s ≡ Err (NotArchive at) → r ≡ Err (NotJournal at)
@@ -322,3 +392,9 @@ journal_exit r s Memory y at was made same is = absurd cc
 pub IfOk-both : {T E : Type 0} (r : Result T E) (P Q R : T → Type 0) → ((x : T) → P x → Q x → R x) → IfOk r P → IfOk r Q → IfOk r R
 IfOk-both (Ok x) P Q R both p q = both x p q
 IfOk-both (Err e) P Q R both p q = tt
+
+-- the live places of an archive that was loaded lie well
+pub lie_well : (h : History) (d : DiskState) (a : ArchiveState) → StandsFor a h → Reaches d.reach a → length d.holds.pages ≡ d.reach.pages → AreLive (live_extents h) (length d.holds.pages)
+lie_well h d a stands reaches same =
+    let I : ℕ → Type 0 = λ reach. All (IsInside reach) (live_extents h) in
+    (subst I (sym same) (subst (λ (plans : List StoredPlan). All (IsInside d.reach.pages) (extents_all plans)) stands.plans_are reaches.1), stands.pages_are.apart)

@@ -2,6 +2,7 @@ mod TextLemmas
 pub mod AddLemmas
 mod AskedLemmas
 mod TakeLemmas
+pub mod FootingLemmas
 mod AnswerLemmas
 mod SpanLemmas
 mod PlanLemmas

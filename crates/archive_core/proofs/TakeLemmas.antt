@@ -28,38 +28,39 @@ use Rattle.archive_check.specs.declared.error.VerifyError.TheVariants as checks
 use Rattle.archive_core.specs.After.{IsDone}
 use Rattle.archive_core.specs.States.{ArchiveState, StandsFor, AreInStep}
 use Rattle.archive_core.specs.Adding.{Adds}
-use Rattle.archive_core.specs.Changing.{LeadsTo}
-use Rattle.archive_core.specs.Takes.{Ending, Replied, Starved, Faulted, Spoiled, Takes, changed, proposed, unchanged, version_shown, verified}
+use Rattle.archive_core.specs.Changing.{LeadsOn, LeadsTo}
+use Rattle.archive_core.specs.Footings.{Footing, AreInStepOn, StepOn}
+use Rattle.archive_core.specs.Takes.{Ending, Replied, Starved, Faulted, Spoiled, Takes, TakesOn, changed, proposed, unchanged, version_shown, verified}
 use Rattle.archive_core.specs.declared.error.ChangeError.{ChangeError}
 use Rattle.archive_core.specs.declared.error.ChangeError.TheVariants as changes
 use Rattle.archive_replay.specs.declared.error.ReadError.{ReadError}
 use Rattle.archive_replay.specs.declared.error.ReadError.TheVariants as reads
 use Rattle.archive_replay.specs.declared.error.Declined.{Declined}
 use Rattle.archive_replay.specs.declared.error.Declined.TheVariants as declines
-use Rattle.archive_core.proofs.AddLemmas.{in_step_stands, leads_nowhere, step_reads}
+use Rattle.archive_core.proofs.AddLemmas.{in_step_stands, leads_nowhere, on_nowhere, on_stands, step_reads}
 use Rattle.archive_core.proofs.CacheLemmas.{cache_reads}
 
 -- a change that was not made: it is refused, or it failed and each image stands for the history before an outcome or after it, or there was no memory
-pub takes_unmade : (h : History) (item : Item) (error : ChangeError) (old new : DiskState) (a b : ArchiveState) → AreInStep old a h
-    → ((why : Refusal) → error ≡ changes.Refused why → (new ≡ old) × Step (world_of h) item (Refused why) (world_of h) × AreInStep old b h)
-    → (error ≡ changes.Failed → (reply : Reply) × ((next : History) × (Step (world_of h) item reply (world_of next) × LeadsTo h next old new)))
-    → (error ≡ changes.Memory → new ≡ old) → (reply : Reply) × ((next : History) × Step (world_of h) item reply (world_of next)) → Takes h item (unchanged error) old new b
-takes_unmade h item (changes.Refused why) old new a b in_step refused failed memory any =
+pub takes_unmade : (f : Footing) (h : History) (item : Item) (error : ChangeError) (old new : DiskState) (a b : ArchiveState) → AreInStepOn f old a h
+    → ((why : Refusal) → error ≡ changes.Refused why → (new ≡ old) × StepOn f (world_of h) item (Refused why) (world_of h) × AreInStepOn f old b h)
+    → (error ≡ changes.Failed → (reply : Reply) × ((next : History) × (StepOn f (world_of h) item reply (world_of next) × LeadsOn f h next old new)))
+    → (error ≡ changes.Memory → new ≡ old) → (reply : Reply) × ((next : History) × StepOn f (world_of h) item reply (world_of next)) → TakesOn f h item (unchanged error) old new b
+takes_unmade f h item (changes.Refused why) old new a b in_step refused failed memory any =
     let (still, step, same) = refused why refl in
-    record { outcome = record { reply = Refused why; next = world_of h }; step = step; leads = rw still (leads_nowhere old a h h in_step); ends = (refl, rw still same) }
-takes_unmade h item changes.Failed old new a b in_step refused failed memory any =
+    record { outcome = record { reply = Refused why; next = world_of h }; step = step; leads = rw still (on_nowhere f old a h h in_step); ends = (refl, rw still same) }
+takes_unmade f h item changes.Failed old new a b in_step refused failed memory any =
     let (reply, (next, (step, leads))) = failed refl in
     record { outcome = record { reply = reply; next = world_of next }; step = step; leads = leads; ends = tt }
-takes_unmade h item changes.Memory old new a b in_step refused failed memory (reply, (next, step)) =
+takes_unmade f h item changes.Memory old new a b in_step refused failed memory (reply, (next, step)) =
     let still = memory refl in
-    record { outcome = record { reply = reply; next = world_of next }; step = step; leads = rw still (leads_nowhere old a h next in_step); ends = rw still (in_step_stands old a h in_step) }
+    record { outcome = record { reply = reply; next = world_of next }; step = step; leads = rw still (on_nowhere f old a h next in_step); ends = rw still (on_stands f old a h in_step) }
 
 -- an item that adds an entry, or is refused
-pub takes_entry : (h : History) (item : Item) (e : Entry) (refusal : Option Refusal) (r : Result ℕ ChangeError) (old new : DiskState) (a b : ArchiveState)
-    → ((reply : Reply) (next : History) → machine.Adds h e refusal reply next → Step (world_of h) item reply (world_of next))
-    → AreInStep old a h → Adds h e refusal r b → ((why : Refusal) → r ≡ Err (changes.Refused why) → (b ≡ a) × (new ≡ old)) → (r ≡ Err changes.Memory → new ≡ old)
-    → LeadsTo h (h ++ e ∷ []) old new × OnOk r (AreInStep new b (h ++ e ∷ [])) → Takes h item (changed r) old new b
-takes_entry h item e refusal (Ok n) old new a b step in_step adds same memory (leads, there) =
+pub takes_entry : (f : Footing) (h : History) (item : Item) (e : Entry) (refusal : Option Refusal) (r : Result ℕ ChangeError) (old new : DiskState) (a b : ArchiveState)
+    → ((reply : Reply) (next : History) → machine.Adds h e refusal reply next → StepOn f (world_of h) item reply (world_of next))
+    → AreInStepOn f old a h → Adds h e refusal r b → ((why : Refusal) → r ≡ Err (changes.Refused why) → (b ≡ a) × (new ≡ old)) → (r ≡ Err changes.Memory → new ≡ old)
+    → LeadsOn f h (h ++ e ∷ []) old new × OnOk r (AreInStepOn f new b (h ++ e ∷ [])) → TakesOn f h item (changed r) old new b
+takes_entry f h item e refusal (Ok n) old new a b step in_step adds same memory (leads, there) =
     let next = h ++ e ∷ [] in
     let added = subst (λ (o : Option Refusal). machine.Adds h e o (Accepted (length next)) next) (sym (adds.allowed (inl refl))) (refl, refl) in
     record {
@@ -68,10 +69,10 @@ takes_entry h item e refusal (Ok n) old new a b step in_step adds same memory (l
       leads = leads;
       ends = (ap Accepted (omega (arith, adds.stands.1, length-append h (e ∷ []))), there);
     }
-takes_entry h item e refusal (Err error) old new a b step in_step adds same memory (leads, there) =
+takes_entry f h item e refusal (Err error) old new a b step in_step adds same memory (leads, there) =
     let next = h ++ e ∷ [] in
     let outcome = adds_outcome h e refusal in
-    takes_unmade h item error old new a b in_step
+    takes_unmade f h item error old new a b in_step
     (λ why is.
     let (was, still) = same why (ap Err is) in
     let refused = subst (λ (o : Option Refusal). machine.Adds h e o (Refused why) h) (sym (adds.refused why (ap Err is))) (refl, refl) in

@@ -9,12 +9,12 @@ use Rattle.query_eval.specs.declared.answer.Answer.{Answer}
 use Rattle.query_eval.specs.declared.spans.SpanAnswer.{SpanAnswer}
 use Rattle.archive_state.specs.Histories.{History}
 use Rattle.archive_state.specs.declared.verdict.Verdict.{Verdict}
-use Rattle.archive_state.specs.Steps.{Reply, Accepted, Refused, Found, Spanned, Version, Proposed, Planned, Verified, Step}
+use Rattle.archive_state.specs.Steps.{Reply, Accepted, Refused, Found, Spanned, Version, Proposed, Planned, Verified}
 use Rattle.archive_state.specs.Runs.{Outcome}
-use Rattle.archive_state.specs.Stands.{EachStands}
 use Rattle.archive_state.specs.Worlds.{World, world_of}
-use Rattle.archive_core.specs.States.{ArchiveState, AreInStep}
-use Rattle.archive_core.specs.Changing.{LeadsTo}
+use Rattle.archive_core.specs.States.{ArchiveState}
+use Rattle.archive_core.specs.Footings.{Footing, Whole, AreInStepOn, EachStandsOn, SpoiledOn, StepOn}
+use Rattle.archive_core.specs.Changing.{LeadsOn}
 use Rattle.plan_shelf.specs.declared.readying.PlanReport.{PlanReport}
 use Rattle.plan_shelf.specs.Readying.{summary_of}
 use Rattle.archive_core.specs.declared.error.ChangeError.{ChangeError}
@@ -83,17 +83,20 @@ verified (Err checks.Failed) = Faulted
 verified (Err checks.Memory) = Starved
 
 -- Where a reply was given it is that of the outcome, and the archive stands for the history after the outcome; where memory ran out, each image
--- stands for the history before it. Nothing is damaged.
-abbrev pub EndsBy : History → Outcome Reply World → DiskState → ArchiveState → Ending → Type 0
-EndsBy before outcome new archive_now (Replied reply) = (outcome.reply ≡ reply) × AreInStep new archive_now outcome.next.history
-EndsBy before outcome new archive_now Starved = EachStands new before
-EndsBy before outcome new archive_now Faulted = Unit {0}
-EndsBy before outcome new archive_now (Spoiled damage) = ⊥
+-- stands for the history before it.
+abbrev pub EndsBy : Footing → History → Outcome Reply World → DiskState → ArchiveState → Ending → Type 0
+EndsBy footing before outcome new archive_now (Replied reply) = (outcome.reply ≡ reply) × AreInStepOn footing new archive_now outcome.next.history
+EndsBy footing before outcome new archive_now Starved = EachStandsOn footing new before
+EndsBy footing before outcome new archive_now Faulted = Unit {0}
+EndsBy footing before outcome new archive_now (Spoiled damage) = SpoiledOn footing new before
 
 -- The item has an outcome of the abstract machine from this history. Each image left since the start of the call stands for the history before
 -- the outcome or after it.
-pub record Takes (history : History) (item : Item) (ending : Ending) (old new : DiskState) (archive_now : ArchiveState) : Type 0 where
+pub record TakesOn (footing : Footing) (history : History) (item : Item) (ending : Ending) (old new : DiskState) (archive_now : ArchiveState) : Type 0 where
   pub outcome : Outcome Reply World
-  pub step : Step (world_of history) item outcome.reply outcome.next
-  pub leads : LeadsTo history outcome.next.history old new
-  pub ends : EndsBy history outcome new archive_now ending
+  pub step : StepOn footing (world_of history) item outcome.reply outcome.next
+  pub leads : LeadsOn footing history outcome.next.history old new
+  pub ends : EndsBy footing history outcome new archive_now ending
+
+abbrev pub Takes : History → Item → Ending → DiskState → DiskState → ArchiveState → Type 0
+Takes = TakesOn Whole

@@ -16,8 +16,9 @@ ghost use Rattle.archive_core.specs.Storing.{IsDraft, IsStoredAs};
 ghost use Rattle.plan_shelf.specs.Readying.{IsFull, tells_of};
 ghost use Rattle.archive_core.specs.Answering.{HasAsked};
 ghost use Rattle.archive_core.specs.States.{StandsFor, CacheStands, IsSameButCache, AreInStep, Reaches};
-ghost use Rattle.archive_core.specs.Changing.{LeadsTo};
-ghost use Rattle.archive_core.specs.Takes.{Takes, changed, planned};
+ghost use Rattle.archive_core.specs.Changing.{LeadsOn, LeadsTo};
+ghost use Rattle.archive_core.specs.Footings.{Alone, IsRecorded};
+ghost use Rattle.archive_core.specs.Takes.{Takes, TakesOn, changed, planned};
 ghost use Rattle.plan_shelf.specs.Readying.{summary_of};
 ghost use Rattle.record_codec.specs.declared.entry.Entry.{Entry};
 ghost use Rattle.archive_core.specs.Adding.{Adds, GivesUp, IsMore, IsSpent};
@@ -193,6 +194,8 @@ impl Archive {
         ensures follows { (h : History) → StandsFor self.old h → IsDone result → (more : History) × StandsFor self.new (h ++ more) }
         // In step, it is a step of the abstract machine; each image left since stands for the history before it or after it.
         ensures takes { D.disk_tells → (h : History) → AreInStep (D.disk disk.old) self.old h → Takes h (items.Command (commands.Arrive doc at (texts.Bytes text.now))) (changed result) (D.disk disk.old) (D.disk disk.new) self.new }
+        // And so it is by the journal alone, whatever lies in Pages.
+        ensures enters { D.disk_tells → (h : History) → IsRecorded (D.disk disk.old) self.old h → TakesOn Alone h (items.Command (commands.Arrive doc at (texts.Bytes text.now))) (changed result) (D.disk disk.old) (D.disk disk.new) self.new }
         ensures pages { D.disk_tells → KeepsPages (D.disk disk.old) (D.disk disk.new) }
     {
         let prepared = self.arrival(alloc, doc, at, text);
@@ -227,6 +230,8 @@ impl Archive {
         ensures follows { (h : History) → StandsFor self.old h → IsDone result → (more : History) × StandsFor self.new (h ++ more) }
         // In step, it is a step of the abstract machine; each image left since stands for the history before it or after it.
         ensures takes { D.disk_tells → (h : History) → AreInStep (D.disk disk.old) self.old h → Takes h (items.Command (commands.Delete doc at)) (changed result) (D.disk disk.old) (D.disk disk.new) self.new }
+        // And so it is by the journal alone, whatever lies in Pages.
+        ensures enters { D.disk_tells → (h : History) → IsRecorded (D.disk disk.old) self.old h → TakesOn Alone h (items.Command (commands.Delete doc at)) (changed result) (D.disk disk.old) (D.disk disk.new) self.new }
         ensures pages { D.disk_tells → KeepsPages (D.disk disk.old) (D.disk disk.new) }
     {
         let prepared = self.deletion(alloc, doc, at);
@@ -265,6 +270,8 @@ impl Archive {
         ensures follows { (h : History) → StandsFor self.old h → IsDone result → (more : History) × StandsFor self.new (h ++ more) }
         // In step, it is a step of the abstract machine; each image left since stands for the history before it or after it.
         ensures takes { D.disk_tells → (h : History) → AreInStep (D.disk disk.old) self.old h → Takes h (items.Command (commands.Plan word.now kind factor)) (planned result) (D.disk disk.old) (D.disk disk.new) self.new }
+        // And so it is by the journal alone, whatever lies in Pages.
+        ensures enters { D.disk_tells → (h : History) → IsRecorded (D.disk disk.old) self.old h → TakesOn Alone h (items.Command (commands.Plan word.now kind factor)) (planned result) (D.disk disk.old) (D.disk disk.new) self.new }
     {
         match self.draft(alloc, word, kind, factor) {
             Ok(draft) => self.store(alloc, disk, draft),
@@ -295,6 +302,9 @@ impl Archive {
         ensures leads { D.disk_tells → (h : History) → AreInStep (D.disk disk.old) self.old h → IsOk result ⊎ IsErrOf result ChangeError.Failed →
             (plan : PlanEntry) × (IsStoredAs h draft plan × LeadsTo h (h ++ entries.Planned plan ∷ []) (D.disk disk.old) (D.disk disk.new)
             × IfOk result (λ r. (summary_of r ≡ tells_of draft (length h + 1)) × AreInStep (D.disk disk.new) self.new (h ++ entries.Planned plan ∷ []))) }
+        ensures enters { D.disk_tells → (h : History) → IsRecorded (D.disk disk.old) self.old h → IsOk result ⊎ IsErrOf result ChangeError.Failed →
+            (plan : PlanEntry) × (IsStoredAs h draft plan × LeadsOn Alone h (h ++ entries.Planned plan ∷ []) (D.disk disk.old) (D.disk disk.new)
+            × IfOk result (λ r. (summary_of r ≡ tells_of draft (length h + 1)) × IsRecorded (D.disk disk.new) self.new (h ++ entries.Planned plan ∷ []))) }
         ensures stays { (h : History) → StandsFor self.old h → ((why : Refusal) × IsErrOf result (ChangeError.Refused why)) ⊎ IsErrOf result ChangeError.Memory → StandsFor self.new h }
     {
         let ready = match make_ready(
@@ -361,6 +371,8 @@ impl Archive {
         ensures adds { (h : History) (entry : Entry) (refusal : Option Refusal) → StandsFor self.old h → IsPrepared h self.old.index entry refusal prepared → Adds h entry refusal result self.new }
         ensures leads { D.disk_tells → (h : History) (entry : Entry) (refusal : Option Refusal) → AreInStep (D.disk disk.old) self.old h → IsPrepared h self.old.index entry refusal prepared →
             LeadsTo h (h ++ entry ∷ []) (D.disk disk.old) (D.disk disk.new) × OnOk result (AreInStep (D.disk disk.new) self.new (h ++ entry ∷ [])) }
+        ensures enters { D.disk_tells → (h : History) (entry : Entry) (refusal : Option Refusal) → IsRecorded (D.disk disk.old) self.old h → IsPrepared h self.old.index entry refusal prepared →
+            LeadsOn Alone h (h ++ entry ∷ []) (D.disk disk.old) (D.disk disk.new) × OnOk result (IsRecorded (D.disk disk.new) self.new (h ++ entry ∷ [])) }
         ensures pages { D.disk_tells → KeepsPages (D.disk disk.old) (D.disk disk.new) }
     {
         match prepared {

@@ -4,12 +4,13 @@ ghost use Rattle.machine_model.specs.Areas.{Bytes};
 ghost use Rattle.machine_model.specs.Causes.{Rose};
 ghost use Rattle.machine_model.specs.Calls.{OnlyReads, Syncs};
 ghost use Rattle.gate_journal.specs.Heads.{AreInRow, LiesBefore, heads_of};
-ghost use Rattle.gate_journal.specs.Spelled.{Spells};
-ghost use Rattle.gate_journal.specs.Crash.{KeepsPages};
+ghost use Rattle.gate_journal.specs.Spelled.{EachSpells, Spells};
+ghost use Rattle.gate_journal.specs.Crash.{KeepsBodies, KeepsPages};
 ghost use Rattle.archive_state.specs.Histories.{History};
 ghost use Rattle.archive_state.specs.Stands.{Stands, EachStands, IsNotArchive, bodies_of};
 ghost use Rattle.archive_core.specs.States.{StandsFor, AreInStep, Reaches};
 ghost use Rattle.archive_core.specs.Changing.{KeepsHistory};
+ghost use Rattle.archive_core.specs.Footings.{IsRecorded};
 
 use crate::archive::Archive;
 use archive_replay::{LoadError, Replayed, replay};
@@ -41,10 +42,14 @@ impl Archive {
         // What it answers of the bytes that reads gave at the start; where they stand for a history, it is the one loaded.
         ensures not_archive { D.disk_tells → (at : ℕ) → IsErrOf result (LoadError.NotArchive at) → IsNotArchive (D.disk disk.old).holds at }
         ensures found { D.disk_tells → IfOk result (λ a. (h : History) × (StandsFor a h × Spells (D.disk disk.old).holds.journal (bodies_of h))) }
+        // And the disk is in step with its journal then, whatever lies in Pages.
+        ensures recorded { D.disk_tells → IfOk result (λ a. (h : History) × (IsRecorded (D.disk disk.new) a h × Spells (D.disk disk.old).holds.journal (bodies_of h))) }
         ensures in_step { D.disk_tells → (h : History) → Stands h (D.disk disk.old).holds → IfOk result (λ a. AreInStep (D.disk disk.new) a h) }
         ensures exact { D.disk_tells → OnOk result ((at : ℕ) → IsNotArchive (D.disk disk.old).holds at → ⊥) }
         // Where each image stands for one history, each image left since stands for it.
         ensures crash { D.disk_tells → (h : History) → EachStands (D.disk disk.old) h → KeepsHistory h (D.disk disk.old) (D.disk disk.new) }
+        // So it is of the bodies that each journal spells, whatever they are and whatever lies in Pages.
+        ensures kept { D.disk_tells → (bodies : List (List ℕ)) → EachSpells (D.disk disk.old) bodies → KeepsBodies bodies (D.disk disk.old) (D.disk disk.new) }
         ensures never { D.disk_tells → (h : History) → EachStands (D.disk disk.old) h → (at : ℕ) → IsErrOf result (LoadError.NotArchive at) → ⊥ }
         // No byte of Pages is read.
         ensures unread { D.disk_tells → (D.disk disk.new).bytes_read.pages ≡ (D.disk disk.old).bytes_read.pages }

@@ -1,5 +1,5 @@
 //! Plans that are stored.
-ghost use Rattle.std.specs.Prelude.{◌≡◌, ◌+◌, ◌-◌, ◌<◌, ◌≤◌, ◌^◌, ◌++◌, ◌∷◌, [], List, length, All, IsTrue, IfOk, OnOk, OnErr, IsErrOf};
+ghost use Rattle.std.specs.Prelude.{ℕ, ◌≡◌, ◌+◌, ◌-◌, ◌<◌, ◌≤◌, ◌^◌, ◌++◌, ◌∷◌, [], List, length, All, IsTrue, IfOk, OnOk, OnErr, IsErrOf};
 ghost use Rattle.machine_model.specs.Causes.{Rose};
 ghost use Rattle.machine_model.specs.Areas.{Bytes};
 ghost use Rattle.machine_model.specs.Images.{MayLeave};
@@ -7,6 +7,7 @@ ghost use Rattle.std.specs.Prelude.{Some};
 ghost use Rattle.time_base.specs.declared.extent.Extent.{Extent as PlainExtent};
 ghost use Rattle.record_codec.specs.declared.place.Place.{Place as PlainPlace};
 ghost use Rattle.record_codec.specs.declared.plan.PlanEntry.{PlanEntry as PlainPlan};
+ghost use Rattle.gate_journal.specs.Crash.{Appends};
 ghost use Rattle.gate_journal.specs.InStep.{IsInStep};
 ghost use Rattle.page_cache.specs.Caches.{StandsFor as IsCacheOf};
 ghost use Rattle.page_store.specs.Live.{IsInside};
@@ -131,6 +132,8 @@ pub(crate) fn write_ready<D: Disk>(
     ensures in_step { D.disk_tells → (h : History) → IsInStep (D.disk disk.old) journal.old.end (bodies_of h) → ((image : Bytes) → MayLeave (D.disk disk.old).now image → HoldsPlans h image.pages) → IsLegal h →
         IsStorable h ready.stored.plan ready.prepared ready.frame → OnOk result (IsInStep (D.disk disk.new) journal.new.end (bodies_of (h ++ entries.Planned ready.stored.plan ∷ []))
         × ((image : Bytes) → MayLeave (D.disk disk.new).now image → HoldsPlans (h ++ entries.Planned ready.stored.plan ∷ []) image.pages)) }
+    ensures enters { D.disk_tells → (bodies : List (List ℕ)) → IsInStep (D.disk disk.old) journal.old.end bodies → Appends bodies ready.frame (D.disk disk.old) (D.disk disk.new) }
+    ensures entered { D.disk_tells → (bodies : List (List ℕ)) → IsInStep (D.disk disk.old) journal.old.end bodies → OnOk result (IsInStep (D.disk disk.new) journal.new.end (bodies ++ ready.frame ∷ [])) }
 {
     let Ready {
         stored,
@@ -175,6 +178,8 @@ fn put_down<D: Disk>(
     ensures in_step { D.disk_tells → (h : History) (plan : PlainPlan) → IsInStep (D.disk disk.old) journal.old.end (bodies_of h) → ((image : Bytes) → MayLeave (D.disk disk.old).now image → HoldsPlans h image.pages) → IsLegal h →
         IsStorable h plan prepared.now frame.now → OnOk result (IsInStep (D.disk disk.new) journal.new.end (bodies_of (h ++ entries.Planned plan ∷ []))
         × ((image : Bytes) → MayLeave (D.disk disk.new).now image → HoldsPlans (h ++ entries.Planned plan ∷ []) image.pages)) }
+    ensures enters { D.disk_tells → (bodies : List (List ℕ)) → IsInStep (D.disk disk.old) journal.old.end bodies → Appends bodies frame.now (D.disk disk.old) (D.disk disk.new) }
+    ensures entered { D.disk_tells → (bodies : List (List ℕ)) → IsInStep (D.disk disk.old) journal.old.end bodies → OnOk result (IsInStep (D.disk disk.new) journal.new.end (bodies ++ frame.now ∷ [])) }
 {
     sublists.write(disk, prepared)?;
     match journal.append(disk, frame) {

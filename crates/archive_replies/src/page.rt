@@ -339,8 +339,15 @@ impl ReplyPage {
             Refusal::TooWide { boundaries } => self.put_named(b"TooWide ", boundaries),
             Refusal::Full { which, limit } => self.put_full(which, limit),
             Refusal::BadQuery { offset } => self.put_named(b"BadQuery ", offset),
+            Refusal::Busy => self.put(b"Busy"),
             Refusal::UnknownWord => self.put(b"UnknownWord"),
             Refusal::NoPlan => self.put(b"NoPlan"),
+            Refusal::OneJob => self.put(b"OneJob"),
+            Refusal::BatchLine { index } => self.put_named(b"BatchLine ", u64::from(index)),
+            Refusal::BatchTooLong { limit } => self.put_named(b"BatchTooLong ", limit),
+            Refusal::OldFormat => self.put(b"OldFormat"),
+            Refusal::HasFormat => self.put(b"HasFormat"),
+            Refusal::NotDisjunction => self.put(b"NotDisjunction"),
         }
     }
 

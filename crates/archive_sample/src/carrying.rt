@@ -53,6 +53,14 @@ pub(crate) fn carry_out<D: Disk>(
         | Command::Propose { .. }
         | Command::Between { .. }
         | Command::Show { .. }
-        | Command::Certificate { .. } => unreachable!(),
+        | Command::Certificate { .. }
+        | Command::Format
+        | Command::Batch(_)
+        | Command::Begin { .. }
+        | Command::Top { .. }
+        | Command::Best { .. }
+        | Command::Approx { .. }
+        | Command::Rough { .. }
+        | Command::Share { .. } => unreachable!(),
     }
 }

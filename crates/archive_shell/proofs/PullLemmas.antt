@@ -15,9 +15,8 @@ use Rattle.script_read.proofs.Splitting.{broken_once, each_splits, end-is, more-
 use Rattle.sublist_store.specs.declared.why.Damage.{Damage}
 use Rattle.archive_core.specs.States.{ArchiveState}
 use Rattle.archive_shell.specs.Causes.{IsLater, IsLeft, MayEnd}
-use Rattle.archive_shell.specs.Damages.{IsPulled}
-use Rattle.archive_shell.specs.Headline.{CarriesOutAll, EndsEarly, InputAt}
-use Rattle.archive_shell.specs.Serving.{Ends, Gives, Pulling, next_by}
+use Rattle.archive_shell.specs.Headline.{CarriesOutAll, Ends, EndsEarly, InputAt}
+use Rattle.archive_shell.specs.Serving.{Gives, Pulling, next_by}
 use Rattle.archive_shell.specs.Statuses.{status_of_stop, stop_of_halt}
 use Rattle.archive_shell.specs.declared.stop.Halt.{Halt}
 use Rattle.archive_shell.specs.declared.stop.Halt.TheVariants as halts
@@ -109,6 +108,10 @@ early_tells status ended pulled rest (inr (inr (inr (damage, is)))) = rw is tt
 pub input_early : (status : Status) (ended : Bool) (pulled rest : List ℕ) → EndsEarly status → InputAt status ended pulled rest
 input_early status ended pulled rest early = input_by status ended pulled rest (early_tells status ended pulled rest early) (λ at broken. inr early)
 
+-- where the input wasn't begun, nothing was pulled
+pub not_pulled : (status : Status) (old new : SourceState) → EndsEarly status → new ≡ old → Ends status old new
+not_pulled status old new early same = record { pulled = []; pulled_are = ap (λ (s : SourceState). s.left) (sym same); ended = false; ended_is = λ is. cc; rest = []; input_at = input_early status false [] [] early }
+
 -- ---- the end of a run
 
 -- a run ended by which so many items were given out: there are none behind them where all are carried out
@@ -169,22 +172,6 @@ pub ends_else : (status other : Status) → CarriesOutAll status ⊎ (status ≡
 ends_else status other (inl all) early late is = early (subst CarriesOutAll is all)
 ends_else status other (inr memory) early late is = late (sym memory ∙ is)
 
--- the last item that the reader gave is one of the bytes pulled
-pub last_pulled : (old new : SourceState) (held : ReaderState) (item : Item) (before : List Item) (damage : Damage) (pulling : Pulling old new held) → pulling.items ≡ before ++ item ∷ [] → IsPulled old new item
-last_pulled old new held item before damage pulling are =
-    let e = early_behind (Damaged damage) old new held (inr (inr (inr (damage, refl)))) pulling in
-    let I : List Item → Type 0 = λ items. Splits e.ends.ended e.ends.pulled items e.ends.rest in
-    record {
-      pulled = e.ends.pulled;
-      pulled_are = e.ends.pulled_are;
-      ended = e.ends.ended;
-      ended_is = e.ends.ended_is;
-      before = before;
-      behind = e.behind;
-      rest = e.ends.rest;
-      split = subst I (ap (λ (l : List Item). l ++ e.behind) are ∙ append_assoc before (item ∷ []) e.behind) e.split;
-    }
-
 -- why a run whose machine didn't fail came to its end, or found no memory or a sublist damaged
 pub completes : (status : Status) (old new : MachineState) → Ends status old.source new.source → MayEnd status old new → IsScript old.source.left → length old.source.left < 2 ^ 40
     → (status ≡ Disk → ⊥) → (status ≡ Source → ⊥) → (status ≡ Sink → ⊥) → (status ≡ Done) ⊎ ((status ≡ Memory) ⊎ ((damage : Damage) × (status ≡ Damaged damage)))
@@ -232,7 +219,6 @@ ends_later status old mid new later ends = record {
 pub left_joins : (tells : Type 0) (old mid new : DiskState) (first then now : ArchiveState) → IsLeft tells old mid first then → IsLeft tells mid new then now → IsLeft tells old new first now
 left_joins tells old mid new first then now one other = record {
   ready = other.ready;
-  follows = λ h stands. (let before = one.follows h stands in let further = other.follows (h ++ before.0) before.1 in (before.0 ++ further.0, rw append_assoc at further.1));
   cached = λ told stands. other.cached told (one.cached told stands);
 }
 
@@ -241,7 +227,7 @@ pub left_beside : (tells : Type 0) (old mid new : DiskState) (archive archive_no
 left_beside tells old mid new archive archive_now same left =
     let L : DiskState → Type 0 = λ d. IsLeft tells old d archive archive_now in
     let is = subst L (sym same.same) left in
-    record { ready = is.ready; follows = is.follows; cached = is.cached }
+    record { ready = is.ready; cached = is.cached }
 
 -- a run that is stopped at a damage was halted there
 pub halted_at : (halt : Halt) (damage : Damage) → stop_of_halt halt ≡ stops.Damaged damage → halt ≡ halts.Damaged damage

@@ -103,8 +103,8 @@ told_by_reads h item a b text reply Made IsMade old new archive archive_now (Err
       };
     }
 told_by_reads h item a b text reply Made IsMade old new archive archive_now r (Err halt) page replied of so damaged made after writes = record { damaged = damaged; made = λ question. tt; fetched = λ asking. tt }
-told_by_reads h item a b text reply Made IsMade old new archive archive_now (Ok answer) (Ok done) page replied of so damaged made after (inr none) = absurd cc
-told_by_reads h item a b text reply Made IsMade old new archive archive_now (Err (asks.Refused why)) (Ok done) page replied of so damaged made after (inr none) = absurd cc
+told_by_reads h item a b text reply Made IsMade old new archive archive_now (Ok answer) (Ok done) page replied of so damaged made after (inr (none, tells)) = absurd cc
+told_by_reads h item a b text reply Made IsMade old new archive archive_now (Err (asks.Refused why)) (Ok done) page replied of so damaged made after (inr (none, tells)) = absurd cc
 told_by_reads h item a b text reply Made IsMade old new archive archive_now (Err error) (Ok done) page replied of so damaged made after is = absurd cc
 
 -- what a check tells is on the page, where there was memory for it
@@ -112,7 +112,7 @@ pub made_verify : (h : History) (image : Bytes) (r : Result Verdict VerifyError)
     → Writes (verified r) result page → OnOk result (IsOnPage h image (items.Command commands.Verify) page)
 made_verify h image r (Err halt) page checked writes = tt
 made_verify h image (Ok verdict) (Ok done) page checked (inl is) = record { reply = Verified verdict; made = (verdict, checked, refl); is = is.1 }
-made_verify h image (Ok verdict) (Ok done) page checked (inr none) = absurd cc
+made_verify h image (Ok verdict) (Ok done) page checked (inr (none, tells)) = absurd cc
 made_verify h image (Err checks.Failed) (Ok done) page checked is = absurd cc
 made_verify h image (Err error) (Ok done) page checked is = absurd cc
 

@@ -3,11 +3,10 @@ use Rattle.std.specs.Prelude.{◌≡◌, ℕ, ◌≤◌, List, []}
 use Rattle.machine_model.specs.Causes.{Rose}
 use Rattle.machine_model.specs.Moments.{GoesOn}
 use Rattle.machine_model.specs.States.{DiskState, MachineState}
-use Rattle.archive_state.specs.Histories.{History}
 use Rattle.archive_state.specs.Stands.{EachStands}
 use Rattle.archive_core.specs.Changing.{KeepsHistory}
-use Rattle.archive_core.specs.States.{ArchiveState, CacheStands, StandsFor}
-use Rattle.archive_shell.specs.Outcomes.{CanGoOn, GoesOnFrom}
+use Rattle.archive_core.specs.States.{ArchiveState, CacheStands}
+use Rattle.archive_shell.specs.Outcomes.{CanGoOn}
 use Rattle.archive_shell.specs.declared.status.Status.{Status}
 use Rattle.archive_shell.specs.declared.status.Status.TheVariants.{Usage, NotArchive, Disk, Source, Sink, NotEmpty}
 
@@ -40,8 +39,6 @@ pub record MayEnd (status : Status) (old new : MachineState) : Type 0 where
 pub record IsLeft (tells : Type 0) (old new : DiskState) (archive archive_now : ArchiveState) : Type 0 where
   -- it is live, and its disk reaches as far
   pub ready : CanGoOn archive_now new.reach
-  -- it stands for the history that it stood for, and some entries more
-  pub follows : (history : History) → StandsFor archive history → GoesOnFrom history archive_now
   -- the pages that it keeps go on being what reads give
   pub cached : tells → CacheStands old archive → CacheStands new archive_now
 

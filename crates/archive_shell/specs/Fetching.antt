@@ -5,7 +5,7 @@ use Rattle.commands.specs.declared.command.Item.{Item}
 use Rattle.commands.specs.declared.command.Item.TheVariants as items
 use Rattle.query_lang.specs.Grammar.{Query, IsRead}
 use Rattle.query_lang.specs.Meaning.{words_of}
-use Rattle.query_lang.specs.Tokens.{key_of}
+use Rattle.query_lang.specs.Tokens.{term_of}
 use Rattle.page_cache.specs.Caches.{Kept, missed_by_all}
 use Rattle.archive_state.specs.Chosen.{pieces_for}
 use Rattle.archive_state.specs.Histories.{History}
@@ -17,21 +17,14 @@ pieces_by history pages a b (Err place) = []
 
 -- for a text, as it is read
 abbrev pub ArePiecesOf : History → List ℕ → ℕ → ℕ → List ℕ → List Kept → Type 0
-ArePiecesOf history pages a b text pieces = (query : Result Query ℕ) × IsRead key_of text query × (pieces ≡ pieces_by history pages a b query)
+ArePiecesOf history pages a b text pieces = (query : Result Query ℕ) × IsRead term_of text query × (pieces ≡ pieces_by history pages a b query)
 
 -- The item asks what is found, at a time, which is a window up to the next one, or over a window; and this is so of the window's bounds and the
 -- text.
 abbrev pub AsksOver : (ℕ → ℕ → List ℕ → Type 0) → Item → Type 0
 AsksOver P (items.Command (commands.Find at expr)) = P at.seconds (at.seconds + 1) expr
 AsksOver P (items.Command (commands.Between span expr)) = P span.from span.to expr
-AsksOver P (items.Command (commands.Arrive doc at text)) = ⊥
-AsksOver P (items.Command (commands.Delete doc at)) = ⊥
-AsksOver P (items.Command (commands.Show doc at)) = ⊥
-AsksOver P (items.Command (commands.Plan word kind fraction)) = ⊥
-AsksOver P (items.Command (commands.Propose word fraction)) = ⊥
-AsksOver P (items.Command (commands.Certificate word)) = ⊥
-AsksOver P (items.Command commands.Verify) = ⊥
-AsksOver P items.Line = ⊥
+AsksOver P other = ⊥
 
 -- the item asks what is found, and these are the pieces of pages that are asked for
 abbrev pub AsksFor : History → List ℕ → Item → List Kept → Type 0

@@ -1,7 +1,10 @@
 -- What a run of the program without words is: one run of the abstract machine over the items of the bytes pulled, what was shown of it and
 -- when, what each image left at any moment stands for, and where the input was at the end.
-use Rattle.std.specs.Prelude.{◌≡◌, ◌⊎◌, ℕ, ◌^◌, ◌<◌, ◌≤◌, Bool, true, false, List, [], ◌++◌, length, All}
+use Rattle.std.specs.Prelude.{◌≡◌, ◌⊎◌, ℕ, ◌^◌, ◌<◌, ◌≤◌, Bool, true, false, List, [], ◌∷◌, ◌++◌, length, All}
+use Rattle.machine_model.specs.Areas.{Bytes}
 use Rattle.machine_model.specs.States.{SourceState, SinkState, MachineState}
+use Rattle.gate_journal.specs.Spelled.{Spells}
+use Rattle.page_store.specs.Live.{AreLive}
 use Rattle.machine_model.specs.Causes.{Rose}
 use Rattle.machine_model.specs.Moments.{LeavesOnly}
 use Rattle.machine_model.specs.Pulls.{Pull}
@@ -10,12 +13,16 @@ use Rattle.commands.specs.declared.command.Item.{Item}
 use Rattle.script_read.specs.Items.{first, IsScript, Splits, IsBrokenAt}
 use Rattle.script_read.specs.declared.first.First.TheVariants.{More}
 use Rattle.archive_state.specs.Histories.{History}
-use Rattle.archive_state.specs.Steps.{Reply, Step}
+use Rattle.archive_state.specs.Steps.{Reply}
 use Rattle.archive_state.specs.Replies.{reply_text}
-use Rattle.archive_state.specs.Runs.{Outcome, IsRun, state_after, shown_by, Reopens}
-use Rattle.archive_state.specs.Stands.{EachStands, IsNotArchive, StandsIn}
+use Rattle.archive_state.specs.Runs.{Outcome, IsRun, IsAcknowledged, state_after, shown_by, Reopens}
+use Rattle.archive_state.specs.Legal.{IsLoadable}
+use Rattle.archive_state.specs.Plans.{live_extents}
+use Rattle.archive_state.specs.Stands.{Stands, IsNotArchive, bodies_of}
+use Rattle.archive_core.specs.Footings.{Footing, Alone, Whole, EachStandsOn, StandsInOn, StepOn}
 use Rattle.archive_state.specs.Worlds.{World, world_of}
 use Rattle.sublist_store.specs.declared.why.Damage.{Damage}
+use Rattle.archive_shell.specs.Damages.{Spoils}
 use Rattle.archive_shell.specs.declared.status.Status.{Status}
 use Rattle.archive_shell.specs.declared.status.Status.TheVariants.{Done, Usage, NotArchive, Disk, Source, Sink, Script, Damaged, Budget, NotEmpty, Memory}
 
@@ -48,6 +55,15 @@ pub record InputAt (status : Status) (ended : Bool) (pulled rest : List ℕ) : T
   pub script : (at : ℕ) → status ≡ Script at → IsBrokenAt ended pulled at
   pub broken : (at : ℕ) → IsBrokenAt ended pulled at → (status ≡ Script at) ⊎ EndsEarly status
 
+-- A run ended with this status: these bytes were pulled, and there the input was. Nothing is asked of the disk.
+pub record Ends (status : Status) (old new : SourceState) : Type 0 where
+  pub pulled : List ℕ
+  pub pulled_are : old.left ≡ pulled ++ new.left
+  pub ended : Bool
+  pub ended_is : ended ≡ true → new.left ≡ []
+  pub rest : List ℕ
+  pub input_at : InputAt status ended pulled rest
+
 -- A pull comes after the replies: no whole item waited for its own. What had been pulled by then is some of the items and a rest that begins with no
 -- whole one, and the replies to all of these had been shown.
 pub record ComesAfterReplies (input : SourceState) (output : SinkState) (items : List Item) (outcomes : List (Outcome Reply World)) (pull : Pull) : Type 0 where
@@ -65,7 +81,7 @@ pub record ComesAfterReplies (input : SourceState) (output : SinkState) (items :
   pub shown : pull.shown ≡ output.shown ++ shown_by reply_text answered
 
 -- One run of the abstract machine from this state over the items of the bytes pulled, and what was shown of it.
-pub record Ran (world : World) (status : Status) (input input_now : SourceState) (output output_now : SinkState) (pulls : List Pull) : Type 0 where
+pub record Ran (footing : Footing) (world : World) (status : Status) (input input_now : SourceState) (output output_now : SinkState) (pulls : List Pull) : Type 0 where
   -- the bytes pulled, and whether the end of the input was told
   pub pulled : List ℕ
   pub pulled_are : input.left ≡ pulled ++ input_now.left
@@ -78,7 +94,7 @@ pub record Ran (world : World) (status : Status) (input input_now : SourceState)
   pub input_at : InputAt status ended pulled rest
   -- one run of the abstract machine over all these items
   pub outcomes : List (Outcome Reply World)
-  pub run : IsRun Step world items outcomes
+  pub run : IsRun (StepOn footing) world items outcomes
   -- what was shown is a front of the joined texts of its replies, and all of them where all items are carried out
   pub shown : List ℕ
   pub shown_is : output_now.shown ≡ output.shown ++ shown
@@ -89,17 +105,49 @@ pub record Ran (world : World) (status : Status) (input input_now : SourceState)
   -- each pull was made when the replies to all items that were whole by then had been shown
   pub after_replies : All (ComesAfterReplies input output items outcomes) pulls
 
--- A run from this history: its status, the machine before and after, and the pulls among its calls.
-pub record Headline (history : History) (status : Status) (old new : MachineState) (pulls : List Pull) : Type 0 where
-  pub ran : Ran (world_of history) status old.source new.source old.sink new.sink pulls
+-- One of the items asks what is found, and this is the first damage of what is read for it by these pages and the history that the run had come to.
+pub record IsSpoiledAt (world : World) (items : List Item) (outcomes : List (Outcome Reply World)) (pages : List ℕ) (damage : Damage) : Type 0 where
+  pub before : List Item
+  pub item : Item
+  pub behind : List Item
+  pub items_are : items ≡ before ++ item ∷ behind
+  pub spoiled : Spoils (state_after world outcomes (length before)).history pages item damage
+
+-- what a run says that ends at a damaged sublist: which item came to it; and where the pages hold what they must, none does
+abbrev pub TellsOn : Footing → World → List Item → List (Outcome Reply World) → List ℕ → Damage → Type 0
+TellsOn Alone world items outcomes pages damage = IsSpoiledAt world items outcomes pages damage
+TellsOn Whole world items outcomes pages damage = ⊥
+
+-- A load takes an image for this history's: its journal spells the history's entries, which load, and the live places lie well. (What they hold isn't
+-- looked at.)
+pub record LoadsAs (history : History) (image : Bytes) : Type 0 where
+  pub spelled : Spells image.journal (bodies_of history)
+  pub loadable : IsLoadable history
+  pub live : AreLive (live_extents history) (length image.pages)
+
+-- Unless the bytes were refused, the disk failed or memory ran out, a load took the image for a history's.
+abbrev pub IsLoadedFrom : Bytes → Status → Type 0
+IsLoadedFrom image status = ((history : History) × LoadsAs history image) ⊎ (((at : ℕ) × (status ≡ NotArchive at)) ⊎ ((status ≡ Disk) ⊎ (status ≡ Memory)))
+
+-- what a run begins from
+abbrev pub BeginsOn : Footing → History → Bytes → Type 0
+BeginsOn Alone history image = LoadsAs history image
+BeginsOn Whole history image = Stands history image
+
+-- A run from this history, on a footing: its status, the machine before and after, and the pulls among its calls.
+pub record Headline (footing : Footing) (history : History) (status : Status) (old new : MachineState) (pulls : List Pull) : Type 0 where
+  pub ran : Ran footing (world_of history) status old.source new.source old.sink new.sink pulls
   -- each image left since, with the bytes shown then, stands for the history after as many outcomes as these acknowledge, or one more
-  pub images : EachStands old.disk history → LeavesOnly old.disk new.disk (Reopens reply_text StandsIn (world_of history) ran.outcomes old.sink.shown)
+  pub images : EachStandsOn footing old.disk history → LeavesOnly old.disk new.disk (Reopens reply_text (StandsInOn footing) (world_of history) ran.outcomes old.sink.shown)
   -- where all items are carried out, each image stands for the last history
-  pub last : CarriesOutAll status → EachStands new.disk (state_after (world_of history) ran.outcomes (length ran.outcomes)).history
+  pub last : CarriesOutAll status → EachStandsOn footing new.disk (state_after (world_of history) ran.outcomes (length ran.outcomes)).history
   -- where the disk didn't fail, all images stand for one history
-  pub steady : EachStands old.disk history → (status ≡ Disk → ⊥) → (j : ℕ) × (j ≤ length ran.outcomes) × EachStands new.disk (state_after (world_of history) ran.outcomes j).history
-  -- nothing is damaged
-  pub undamaged : (damage : Damage) → status ≡ Damaged damage → ⊥
+  pub steady : EachStandsOn footing old.disk history → (status ≡ Disk → ⊥) → (j : ℕ) × (j ≤ length ran.outcomes) × EachStandsOn footing new.disk (state_after (world_of history) ran.outcomes j).history
+  -- where memory ran out, each image stands for the history after just as many outcomes as the bytes shown acknowledge
+  pub starved : EachStandsOn footing old.disk history → status ≡ Memory
+      → (k : ℕ) × IsAcknowledged reply_text ran.outcomes ran.shown k × EachStandsOn footing new.disk (state_after (world_of history) ran.outcomes k).history
+  -- what is damaged
+  pub damaged : (damage : Damage) → status ≡ Damaged damage → TellsOn footing (world_of history) ran.items ran.outcomes new.disk.holds.pages damage
 
 -- Where nothing is wrong, a run comes to the end of the input: the bytes are an archive's, the input is a script of less than 2^40 bytes, and no
 -- count of faults rose. Then it may only run out of memory, or come to a sublist that is damaged.

@@ -36,27 +36,15 @@ TellsVerdict history image reply = (verdict : Verdict) × IsChecked history imag
 abbrev pub IsMadeReply : History → Bytes → Item → Reply → Type 0
 IsMadeReply history image (items.Command (commands.Find at expr)) reply = IsReplied (MakesAt history image.pages at) expr reply
 IsMadeReply history image (items.Command (commands.Between span expr)) reply = IsReplied (MakesOver history image.pages span) expr reply
-IsMadeReply history image (items.Command (commands.Arrive doc at text)) reply = ⊥
-IsMadeReply history image (items.Command (commands.Delete doc at)) reply = ⊥
-IsMadeReply history image (items.Command (commands.Show doc at)) reply = ⊥
-IsMadeReply history image (items.Command (commands.Plan word kind fraction)) reply = ⊥
-IsMadeReply history image (items.Command (commands.Propose word fraction)) reply = ⊥
-IsMadeReply history image (items.Command (commands.Certificate word)) reply = ⊥
 IsMadeReply history image (items.Command commands.Verify) reply = TellsVerdict history image reply
-IsMadeReply history image items.Line reply = ⊥
+IsMadeReply history image other reply = ⊥
 
 -- the item asks what is found, at a time or over a window, or has the archive checked
 abbrev pub IsQuestion : Item → Type 0
 IsQuestion (items.Command (commands.Find at expr)) = Unit {0}
 IsQuestion (items.Command (commands.Between span expr)) = Unit {0}
-IsQuestion (items.Command (commands.Arrive doc at text)) = ⊥
-IsQuestion (items.Command (commands.Delete doc at)) = ⊥
-IsQuestion (items.Command (commands.Show doc at)) = ⊥
-IsQuestion (items.Command (commands.Plan word kind fraction)) = ⊥
-IsQuestion (items.Command (commands.Propose word fraction)) = ⊥
-IsQuestion (items.Command (commands.Certificate word)) = ⊥
 IsQuestion (items.Command commands.Verify) = Unit {0}
-IsQuestion items.Line = ⊥
+IsQuestion other = ⊥
 
 -- behind what was shown before, the replies to these questions were shown, one by one, each made so
 pub record AreMade (history : History) (image : Bytes) (asked : List Item) (before after : List ℕ) : Type 0 where

@@ -4,6 +4,7 @@ ghost use Rattle.machine_model.specs.Causes.{Rose};
 ghost use Rattle.archive_state.specs.Histories.{History};
 ghost use Rattle.archive_state.specs.Replies.{reply_text};
 ghost use Rattle.archive_state.specs.Steps.{Found, Refused, Reply, Spanned};
+ghost use Rattle.archive_core.specs.Footings.{Alone, IsRecorded, TellsNoEntry, Whole};
 ghost use Rattle.archive_core.specs.States.{CacheStands, AreInStep, IsSameButCache, StandsFor};
 ghost use Rattle.archive_core.specs.Takes.{changed, planned, proposed, version_shown, unanswered, unchanged, verified};
 ghost use Rattle.commands.specs.declared.command.Item.TheVariants as items;
@@ -45,7 +46,10 @@ pub(crate) fn answer<D: Disk>(
     ensures by_reads { D.disk_tells → (h : History) → StandsFor archive.old h → CacheStands (D.disk disk.old) archive.old →
         IsByReads h item result (D.disk disk.old) (D.disk disk.new) archive.old archive.new page.new.bytes }
     ensures outcome { D.disk_tells → (h : History) → AreInStep (D.disk disk.old) archive.old h →
-        Answers h item result (D.disk disk.old) (D.disk disk.new) archive.new page.new.bytes }
+        Answers Whole h item result (D.disk disk.old) (D.disk disk.new) archive.new page.new.bytes }
+    // And so it is by the journal alone, whatever lies in Pages.
+    ensures entered { D.disk_tells → (h : History) → IsRecorded (D.disk disk.old) archive.old h →
+        Answers Alone h item result (D.disk disk.old) (D.disk disk.new) archive.new page.new.bytes }
 {
     let Item::Command(command) = item else {
         return refuse(page, Refusal::Line);
@@ -88,6 +92,14 @@ pub(crate) fn answer<D: Disk>(
             let result = archive.verify(alloc, disk);
             write_verified(page, result)
         }
+        Command::Format => refuse(page, Refusal::Line),
+        Command::Batch(_) => refuse(page, Refusal::Line),
+        Command::Begin { .. } => refuse(page, Refusal::Line),
+        Command::Top { .. } => refuse(page, Refusal::Line),
+        Command::Best { .. } => refuse(page, Refusal::Line),
+        Command::Approx { .. } => refuse(page, Refusal::Line),
+        Command::Rough { .. } => refuse(page, Refusal::Line),
+        Command::Share { .. } => refuse(page, Refusal::Line),
     }
 }
 
@@ -107,7 +119,9 @@ fn arrive<D: Disk>(
     ensures left { OnOk result (IsLeft D.disk_tells (D.disk disk.old) (D.disk disk.new) archive.old archive.new) }
     ensures undamaged { (d : Damage) → IsErrOf result (Halt.Damaged d) → ⊥ }
     ensures outcome { D.disk_tells → (h : History) → AreInStep (D.disk disk.old) archive.old h →
-        Answers h (items.Command (plain.Arrive doc at text)) result (D.disk disk.old) (D.disk disk.new) archive.new page.new.bytes }
+        Answers Whole h (items.Command (plain.Arrive doc at text)) result (D.disk disk.old) (D.disk disk.new) archive.new page.new.bytes }
+    ensures entered { D.disk_tells → (h : History) → IsRecorded (D.disk disk.old) archive.old h →
+        Answers Alone h (items.Command (plain.Arrive doc at text)) result (D.disk disk.old) (D.disk disk.new) archive.new page.new.bytes }
 {
     match text {
         Text::Bytes(content) => {
@@ -192,7 +206,8 @@ trait Written: Drop {
 
     /// Writes its reply on the page. An error means that there was no memory.
     fn write(&self, page: &mut ReplyPage) -> Result<(), AllocError>
-        ensures { OnOk result (page.new.bytes ≡ reply_text (reply self.now)) };
+        ensures written { OnOk result (page.new.bytes ≡ reply_text (reply self.now)) }
+        ensures none { TellsNoEntry (reply self.now) };
 }
 
 impl Written for Answer {

@@ -2,7 +2,8 @@
 ghost use Rattle.std.specs.Prelude.{◌≡◌, ◌≤◌, [], OnOk, IsErrOf};
 ghost use Rattle.machine_model.specs.Causes.{Rose};
 ghost use Rattle.archive_state.specs.Histories.{History};
-ghost use Rattle.archive_core.specs.States.{CacheStands, AreInStep, StandsFor};
+ghost use Rattle.archive_core.specs.Footings.{AreInStepOn, Footing};
+ghost use Rattle.archive_core.specs.States.{CacheStands, StandsFor};
 ghost use Rattle.archive_shell.specs.Damages.{Spoils};
 ghost use Rattle.archive_shell.specs.Asking.{IsAsked};
 ghost use Rattle.archive_shell.specs.Causes.{IsLeft};
@@ -38,8 +39,8 @@ pub(crate) fn carry_out<M: Machine>(
         Spoils h (M.disk machine.old).holds.pages item d × ((M.disk machine.new).holds.pages ≡ (M.disk machine.old).holds.pages) × (M.sink machine.new ≡ M.sink machine.old) }
     ensures question { M.disk_tells → M.sink_tells → (h : History) → StandsFor archive.old h → CacheStands (M.disk machine.old) archive.old → IsQuestion item →
         OnOk result (IsAsked h item (M.sink machine.old).shown (M.sink machine.new).shown (M.disk machine.old) (M.disk machine.new) archive.old archive.new) }
-    ensures outcome { M.disk_tells → M.sink_tells → (h : History) → AreInStep (M.disk machine.old) archive.old h →
-        CarriesOut h item result (M.sink machine.old).shown (M.sink machine.new).shown (M.disk machine.old) (M.disk machine.new) archive.new }
+    ensures outcome { M.disk_tells → M.sink_tells → (f : Footing) (h : History) → AreInStepOn f (M.disk machine.old) archive.old h →
+        CarriesOut f h item result (M.sink machine.old).shown (M.sink machine.new).shown (M.disk machine.old) (M.disk machine.new) archive.new }
 {
     match answer(alloc, machine, archive, page, item) {
         Ok(()) => {}

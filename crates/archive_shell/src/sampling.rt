@@ -1,9 +1,10 @@
 //! A run over the commands of a sample.
-ghost use Rattle.std.specs.Prelude.{◌≡◌, ◌⊎◌, ◌<◌, ◌≤◌, ℕ, [], length, IsTrue};
+ghost use Rattle.std.specs.Prelude.{◌≡◌, ◌⊎◌, ◌<◌, ◌≤◌, ℕ, List, [], length, IsTrue};
 ghost use Rattle.machine_model.specs.Calls.{Syncs};
 ghost use Rattle.machine_model.specs.Causes.{Rose};
 ghost use Rattle.machine_model.specs.States.{DiskState};
-ghost use Rattle.gate_journal.specs.Spelled.{Spells};
+ghost use Rattle.gate_journal.specs.Crash.{KeepsBodies};
+ghost use Rattle.gate_journal.specs.Spelled.{EachSpells, Spells};
 ghost use Rattle.archive_state.specs.Histories.{History};
 ghost use Rattle.archive_state.specs.Legal.{IsLoadable};
 ghost use Rattle.archive_state.specs.Stands.{Stands, EachStands, IsNotArchive, bodies_of};
@@ -44,6 +45,8 @@ pub(crate) fn run_sample<M: Machine>(
         (result ≡ Status.NotEmpty (length h)) ⊎ ((result ≡ Status.Disk) ⊎ ((result ≡ Status.Memory) ⊎ ((at : ℕ) × (result ≡ Status.NotArchive at)))) }
     ensures spared { M.disk_tells → (h : History) → EachStands (M.disk machine.old) h → 1 ≤ length h →
         (M.sink machine.new ≡ M.sink machine.old) × KeepsHistory h (M.disk machine.old) (M.disk machine.new) }
+    ensures kept { M.disk_tells → (bodies : List (List ℕ)) → EachSpells (M.disk machine.old) bodies → 1 ≤ length bodies →
+        (M.sink machine.new ≡ M.sink machine.old) × KeepsBodies bodies (M.disk machine.old) (M.disk machine.new) }
     ensures sampled { M.sink_tells → M.disk_tells → Stands [] (M.disk machine.old).holds →
         Sampled numbers.seed numbers.count result (M.sink machine.old) (M.sink machine.new) (M.disk machine.old) (M.disk machine.new) }
     ensures complete { M.disk_tells → Stands [] (M.disk machine.old).holds →

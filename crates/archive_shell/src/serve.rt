@@ -4,15 +4,14 @@ ghost use Rattle.machine_model.specs.Areas.{Bytes};
 ghost use Rattle.machine_model.specs.Pulls.{Pull};
 ghost use Rattle.machine_model.specs.States.{SourceState, MachineState, state_by};
 ghost use Rattle.commands.specs.declared.command.Item.{Item as PlainItem};
-ghost use Rattle.record_codec.specs.declared.entry.Entry.{Entry};
 ghost use Rattle.script_read.specs.Items.{Splits};
 ghost use Rattle.archive_state.specs.Histories.{History};
 ghost use Rattle.archive_state.specs.Worlds.{World};
-ghost use Rattle.archive_core.specs.States.{CacheStands, StandsFor};
-ghost use Rattle.archive_shell.specs.Damages.{IsPulled, Spoils};
+ghost use Rattle.archive_core.specs.Footings.{Footing};
+ghost use Rattle.archive_shell.specs.Headline.{Ends};
 ghost use Rattle.archive_shell.specs.Asking.{Asking, HasEnded};
 ghost use Rattle.archive_shell.specs.Causes.{IsLater, IsLeft, MayEnd};
-ghost use Rattle.archive_shell.specs.Serving.{AreAwaited, Gives, Pulling, Ends, Serving, Serves, pulls_beside};
+ghost use Rattle.archive_shell.specs.Serving.{AreAwaited, Gives, Pulling, Serving, Serves, pulls_beside};
 ghost use Rattle.archive_shell.specs.Outcomes.{CanGoOn};
 
 use crate::carry_out::carry_out;
@@ -68,18 +67,15 @@ pub(crate) fn step<M: Machine>(
     ensures cause { IfErr result (λ status. MayEnd status (state_by M.source M.sink M.disk machine.old)
         (state_by M.source M.sink M.disk machine.new)) }
     ensures left { OnOk result (IsLeft M.disk_tells (M.disk machine.old) (M.disk machine.new) archive.old archive.new) }
-    ensures damaged { M.disk_tells → (h : History) → StandsFor archive.old h → CacheStands (M.disk machine.old) archive.old → (d : Damage) → IsErrOf result (Status.Damaged d) →
-        (item : PlainItem) × Spoils h (M.disk machine.new).holds.pages item d
-        × (M.source_tells → (began : SourceState) → Pulling began (M.source machine.old) reader.old → IsPulled began (M.source machine.new) item) }
     ensures nearer { OnOk result (reader.old.passed < reader.new.passed) }
     ensures bound { reader.new.passed ≤ 2 ^ 40 }
     ensures pulls { M.source_tells → (began : SourceState) → Pulling began (M.source machine.old) reader.old →
         MatchResult result (λ _. Pulling began (M.source machine.new) reader.new) (λ status. Ends status began (M.source machine.new)) }
-    ensures goes_on { M.source_tells → M.sink_tells → M.disk_tells → (w : World) (began : MachineState) (before : List Pull) →
-        Serving w began (state_by M.source M.sink M.disk machine.old) archive.old reader.old before →
+    ensures goes_on { M.source_tells → M.sink_tells → M.disk_tells → (f : Footing) (w : World) (began : MachineState) (before : List Pull) →
+        Serving f w began (state_by M.source M.sink M.disk machine.old) archive.old reader.old before →
         (pulls : List Pull) × M.asked machine.old pulls machine.new × MatchResult result
-        (λ _. Serving w began (state_by M.source M.sink M.disk machine.new) archive.new reader.new (before ++ pulls))
-        (λ status. Serves w status began (state_by M.source M.sink M.disk machine.new) (before ++ pulls)) }
+        (λ _. Serving f w began (state_by M.source M.sink M.disk machine.new) archive.new reader.new (before ++ pulls))
+        (λ status. Serves f w status began (state_by M.source M.sink M.disk machine.new) (before ++ pulls)) }
     ensures asks { M.source_tells → M.sink_tells → M.disk_tells → (h : History) (image : Bytes) (began : MachineState) →
         Asking h image began (state_by M.source M.sink M.disk machine.old) archive.old reader.old → MatchResult result
         (λ _. Asking h image began (state_by M.source M.sink M.disk machine.new) archive.new reader.new)
@@ -108,15 +104,12 @@ pub(crate) fn serve<M: Machine>(
         (state_by M.source M.sink M.disk machine.new) }
     ensures cause { MayEnd result (state_by M.source M.sink M.disk machine.old)
         (state_by M.source M.sink M.disk machine.new) }
-    ensures damaged { M.disk_tells → (h : History) → StandsFor archive.old h → CacheStands (M.disk machine.old) archive.old → (d : Damage) → result ≡ Status.Damaged d →
-        (item : PlainItem) × ((more : List Entry) × Spoils (h ++ more) (M.disk machine.new).holds.pages item d)
-        × (M.source_tells → (began : SourceState) → Pulling began (M.source machine.old) reader.old → IsPulled began (M.source machine.new) item) }
     ensures ends { M.source_tells → (began : SourceState) → Pulling began (M.source machine.old) reader.old → Ends result began (M.source machine.new) }
-    ensures served { M.source_tells → M.sink_tells → M.disk_tells → (w : World) →
-        Serving w (state_by M.source M.sink M.disk machine.old)
+    ensures served { M.source_tells → M.sink_tells → M.disk_tells → (f : Footing) (w : World) →
+        Serving f w (state_by M.source M.sink M.disk machine.old)
         (state_by M.source M.sink M.disk machine.old) archive.old reader.old [] →
         (pulls : List Pull) × M.asked machine.old pulls machine.new
-        × Serves w result (state_by M.source M.sink M.disk machine.old)
+        × Serves f w result (state_by M.source M.sink M.disk machine.old)
         (state_by M.source M.sink M.disk machine.new) pulls }
     ensures asks { M.source_tells → M.sink_tells → M.disk_tells → (h : History) (image : Bytes) (began : MachineState) →
         Asking h image began (state_by M.source M.sink M.disk machine.old) archive.old reader.old →

@@ -61,7 +61,7 @@ use Rattle.archive_state.specs.Steps.{Reply, Accepted, Refused, Found, Spanned, 
 use Rattle.archive_state.specs.Runs.{Outcome, IsRun}
 use Rattle.archive_state.specs.Worlds.{World, world_of}
 use Rattle.archive_state.proofs.HistoryLemmas.{legal-push, legal_loads}
-use Rattle.archive_state.proofs.StoringLemmas.{plan_outcome, plans_legal}
+use Rattle.archive_state.proofs.StoringLemmas.{plan_outcome, plans_keep}
 use Rattle.archive_state.proofs.ToldLemmas.{plans_alike}
 use Rattle.archive_state.proofs.CertifyingLemmas.{each_certifies, one_certifies}
 use Rattle.archive_state.proofs.PlanningLemmas.{each_phrase, one_phrase, last_in_time}
@@ -208,13 +208,16 @@ each_proposes h phrase factor legal =
     (Proposed segments nodes total, (segments, nodes, total, proposal, refl)))
     (one_term phrase)
 
-pub each_plans : (h : History) (phrase : List ℕ) (kind : Kind) (factor : Fraction) → IsLegal h → (outcome : Outcome Reply History) × Plans h phrase kind factor outcome.reply outcome.next
-each_plans h phrase kind factor legal =
+pub loaded_plans : (h : History) (phrase : List ℕ) (kind : Kind) (factor : Fraction) → IsLoadable h → (outcome : Outcome Reply History) × Plans h phrase kind factor outcome.reply outcome.next
+loaded_plans h phrase kind factor loads =
     each_phrase kind h (λ (r : Outcome Reply History) why. Declines h why r.reply r.next) (λ (r : Outcome Reply History) word list. StoresPlan h kind factor word list r.reply r.next)
     (λ why. (record { reply = Refused why; next = h }, (refl, refl)))
-    (λ word. each_list_up_to h word (last_second h) (last_in_time h) (legal_loads h legal))
+    (λ word. each_list_up_to h word (last_second h) (last_in_time h) loads)
     (λ word list is some narrow. plan_outcome h kind factor word list is some narrow)
     (spelled_key (one_term phrase))
+
+pub each_plans : (h : History) (phrase : List ℕ) (kind : Kind) (factor : Fraction) → IsLegal h → (outcome : Outcome Reply History) × Plans h phrase kind factor outcome.reply outcome.next
+each_plans h phrase kind factor legal = loaded_plans h phrase kind factor (legal_loads h legal)
 
 declines_outcome : (h : History) (why : Refusal) → (outcome : Outcome Reply History) × Declines h why outcome.reply outcome.next
 declines_outcome h why = (record { reply = Refused why; next = h }, (refl, refl))
@@ -238,6 +241,7 @@ each_command h (commands.Certificate word) legal =
     let certified = each_certifies h word legal in
     (record { reply = certified.0; next = h }, (refl, certified.1))
 each_command h commands.Verify legal = (record { reply = Verified (sound_of h); next = h }, (refl, refl))
+each_command h to_come legal = declines_outcome h refusals.Line
 
 -- what came of a history, as the state that has it
 in_world : (P : Reply → History → Type 0) → (outcome : Outcome Reply History) × P outcome.reply outcome.next → (outcome : Outcome Reply World) × P outcome.reply outcome.next.history
@@ -247,29 +251,33 @@ pub each_outcome : (w : World) (item : Item) → IsLegal w.history → (outcome 
 each_outcome w (items.Command c) legal = in_world (CarriesOut w.history c) (each_command w.history c legal)
 each_outcome w items.Line legal = in_world (Declines w.history refusals.Line) (declines_outcome w.history refusals.Line)
 
--- and every outcome leads from a legal history to a legal one
-adds_legal : (h : History) (e : Entry) (refusal : Option Refusal) (reply : Reply) (next : History) → IsLegal h → (refusal ≡ None → IsLegalEntry h e) → Adds h e refusal reply next → IsLegal next
-adds_legal h e None reply next legal entry adds = subst IsLegal (sym adds.0) (legal-push h e legal (entry refl))
-adds_legal h e (Some why) reply next legal entry adds = subst IsLegal (sym adds.0) legal
+-- and what is so of a history, and stays so with a legal entry more, is so of what a command leads to
+adds_keep : (P : History → Type 0) → ((h : History) (e : Entry) → P h → IsLegalEntry h e → P (h ++ e ∷ []))
+    → (h : History) (e : Entry) (refusal : Option Refusal) (reply : Reply) (next : History) → P h → (refusal ≡ None → IsLegalEntry h e) → Adds h e refusal reply next → P next
+adds_keep P push h e None reply next is entry adds = subst P (sym adds.0) (push h e is (entry refl))
+adds_keep P push h e (Some why) reply next is entry adds = subst P (sym adds.0) is
 
-stays_legal : (h next : History) → IsLegal h → next ≡ h → IsLegal next
-stays_legal h next legal same = subst IsLegal (sym same) legal
+stays : (P : History → Type 0) (h next : History) → P h → next ≡ h → P next
+stays P h next is same = subst P (sym same) is
 
-command_legal : (h : History) (c : Command) (reply : Reply) (next : History) → IsLegal h → HasDocument (items.Command c) → CarriesOut h c reply next → IsLegal next
-command_legal h (commands.Arrive doc at (texts.Bytes text)) reply next legal range step = adds_legal h (entries.Arrive doc at text) (arrival_refusal h doc at text) reply next legal (arrival_legal h doc at text range) step
-command_legal h (commands.Arrive doc at (texts.TooLong bytes)) reply next legal range step = stays_legal h next legal step.0
-command_legal h (commands.Delete doc at) reply next legal range step = adds_legal h (entries.Delete doc at) (deletion_refusal h doc at) reply next legal (deletion_legal h doc at range) step
-command_legal h (commands.Find at expr) reply next legal range step = stays_legal h next legal step.0
-command_legal h (commands.Show doc at) reply next legal range step = stays_legal h next legal step.0
-command_legal h (commands.Plan word kind fraction) reply next legal range step = plans_legal h word kind fraction reply next legal step
-command_legal h (commands.Propose word fraction) reply next legal range step = stays_legal h next legal step.0
-command_legal h (commands.Between span expr) reply next legal range step = stays_legal h next legal step.0
-command_legal h (commands.Certificate word) reply next legal range step = stays_legal h next legal step.0
-command_legal h commands.Verify reply next legal range step = stays_legal h next legal step.0
+pub command_keeps : (P : History → Type 0) → ((h : History) (e : Entry) → P h → IsLegalEntry h e → P (h ++ e ∷ []))
+    → (h : History) (c : Command) (reply : Reply) (next : History) → P h → HasDocument (items.Command c) → CarriesOut h c reply next → P next
+command_keeps P push h (commands.Arrive doc at (texts.Bytes text)) reply next is range step = adds_keep P push h (entries.Arrive doc at text) (arrival_refusal h doc at text) reply next is (arrival_legal h doc at text range) step
+command_keeps P push h (commands.Arrive doc at (texts.TooLong bytes)) reply next is range step = stays P h next is step.0
+command_keeps P push h (commands.Delete doc at) reply next is range step = adds_keep P push h (entries.Delete doc at) (deletion_refusal h doc at) reply next is (deletion_legal h doc at range) step
+command_keeps P push h (commands.Find at expr) reply next is range step = stays P h next is step.0
+command_keeps P push h (commands.Show doc at) reply next is range step = stays P h next is step.0
+command_keeps P push h (commands.Plan word kind fraction) reply next is range step = plans_keep P push h word kind fraction reply next is step
+command_keeps P push h (commands.Propose word fraction) reply next is range step = stays P h next is step.0
+command_keeps P push h (commands.Between span expr) reply next is range step = stays P h next is step.0
+command_keeps P push h (commands.Certificate word) reply next is range step = stays P h next is step.0
+command_keeps P push h commands.Verify reply next is range step = stays P h next is step.0
+command_keeps P push h to_come reply next is range step = stays P h next is step.0
 
+-- so every outcome leads from a legal history to a legal one
 pub step_legal : (w : World) (item : Item) (reply : Reply) (next : World) → IsLegal w.history → HasDocument item → Step w item reply next → IsLegal next.history
-step_legal w (items.Command c) reply next legal range step = command_legal w.history c reply next.history legal range step
-step_legal w items.Line reply next legal range step = stays_legal w.history next.history legal step.0
+step_legal w (items.Command c) reply next legal range step = command_keeps IsLegal legal-push w.history c reply next.history legal range step
+step_legal w items.Line reply next legal range step = stays IsLegal w.history next.history legal step.0
 
 -- a run goes on over any items whose documents are in range
 pub run_on : (w : World) (events : List Item) → IsLegal w.history → All HasDocument events → (outcomes : List (Outcome Reply World)) × IsRun Step w events outcomes
@@ -369,6 +377,7 @@ one_command h (commands.Propose word fraction) reply other next then free a b = 
 one_command h (commands.Between span expr) reply other next then free a b = one_stays h reply other next then a.0 b.0 (one_spans h span expr reply other a.1 b.1)
 one_command h (commands.Certificate word) reply other next then free a b = one_stays h reply other next then a.0 b.0 (one_certifies h word reply other a.1 b.1)
 one_command h commands.Verify reply other next then free a b = one_stays h reply other next then a.0 b.0 (a.1 ∙ sym b.1)
+one_command h to_come reply other next then free a b = one_declines h refusals.Line reply other next then a b
 
 pub one_outcome_only : (w : World) (item : Item) (reply other : Reply) (next then : World) → (IsChoice item → ⊥) → Step w item reply next → Step w item other then → (reply ≡ other) × (next ≡ then)
 one_outcome_only w (items.Command c) reply other next then free a b = let one = one_command w.history c reply other next.history then.history free a b in (one.0, ap world_of one.1)

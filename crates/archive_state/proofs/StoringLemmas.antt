@@ -24,6 +24,7 @@ use Rattle.record_codec.specs.declared.entry.Entry.TheVariants as entries
 use Rattle.record_codec.specs.declared.place.Layout.{Layout}
 use Rattle.record_codec.specs.declared.place.Layout.TheVariants.{Blocks}
 use Rattle.record_codec.specs.declared.place.Place.{Place}
+use Rattle.record_codec.specs.declared.entry.Entry.{Entry}
 use Rattle.record_codec.specs.declared.plan.PlanEntry.{PlanEntry}
 use Rattle.record_codec.specs.PlanSpelling.{IsWord, IsDigest}
 use Rattle.sublist_store.specs.Preparing.{IsFor, extents, sizes, spellings}
@@ -38,12 +39,11 @@ use Rattle.version_store.specs.Changes.{last_time}
 use Rattle.archive_state.specs.declared.refusal.Refusal.{Refusal}
 use Rattle.archive_state.specs.declared.refusal.Refusal.TheVariants as refusals
 use Rattle.archive_state.specs.Histories.{History, changes}
-use Rattle.archive_state.specs.Legal.{IsLegal, IsLegalEntry}
+use Rattle.archive_state.specs.Legal.{IsLegalEntry}
 use Rattle.archive_state.specs.Planning.{last_second, IsListUpTo}
 use Rattle.archive_state.specs.Plans.{live_extents}
 use Rattle.archive_state.specs.Steps.{Reply, Refused, Planned, Declines, AddsPlan, StoresCuts, StoresPlan, Plans, in_blocks, spelled_key, full_journal}
 use Rattle.archive_state.specs.Runs.{Outcome}
-use Rattle.archive_state.proofs.HistoryLemmas.{legal-push}
 use Rattle.archive_state.proofs.PlanningLemmas.{of_phrase}
 
 -- ---- ranges
@@ -206,22 +206,24 @@ plan_outcome h kind factor word list is some narrow =
 
 -- ---- what is stored is legal
 
-unchanged : (old new : History) → new ≡ old → IsLegal old → IsLegal new
-unchanged old new same legal = subst IsLegal (sym same) legal
+unchanged : (P : History → Type 0) (old new : History) → new ≡ old → P old → P new
+unchanged P old new same is = subst P (sym same) is
 
-pub plans_legal : (h : History) (phrase : List ℕ) (kind : Kind) (factor : Fraction) (reply : Reply) (next : History) → IsLegal h → Plans h phrase kind factor reply next → IsLegal next
-plans_legal h phrase kind factor reply next legal =
-    of_phrase kind h (IsLegal next) (λ why. Declines h why reply next) (λ word list. StoresPlan h kind factor word list reply next) (spelled_key (one_term phrase))
-    (λ why declines. unchanged h next declines.0 legal)
+-- what is so of a history, and stays so with a legal entry more, is so of what a plan leads to
+pub plans_keep : (P : History → Type 0) → ((h : History) (e : Entry) → P h → IsLegalEntry h e → P (h ++ e ∷ []))
+    → (h : History) (phrase : List ℕ) (kind : Kind) (factor : Fraction) (reply : Reply) (next : History) → P h → Plans h phrase kind factor reply next → P next
+plans_keep P push h phrase kind factor reply next legal =
+    of_phrase kind h (P next) (λ why. Declines h why reply next) (λ word list. StoresPlan h kind factor word list reply next) (spelled_key (one_term phrase))
+    (λ why declines. unchanged P h next declines.0 legal)
     (λ word list term is some stores. stored word list term is some stores)
   where
-    added : (plan : PlanEntry) (refusal : Option Refusal) (list : List Posting) → IsLegalEntry h (entries.Planned plan) → AddsPlan h plan refusal list reply next → IsLegal next
-    added plan None list entry adds = subst IsLegal (sym adds.0) (legal-push h (entries.Planned plan) legal entry)
-    added plan (Some why) list entry adds = unchanged h next adds.0 legal
+    added : (plan : PlanEntry) (refusal : Option Refusal) (list : List Posting) → IsLegalEntry h (entries.Planned plan) → AddsPlan h plan refusal list reply next → P next
+    added plan None list entry adds = subst P (sym adds.0) (push h (entries.Planned plan) legal entry)
+    added plan (Some why) list entry adds = unchanged P h next adds.0 legal
 
-    stored : (word : List ℕ) (list : List Posting) → spelled_key (one_term phrase) ≡ Some word → IsListUpTo h word (last_second h) list → 0 < length list → StoresPlan h kind factor word list reply next → IsLegal next
+    stored : (word : List ℕ) (list : List Posting) → spelled_key (one_term phrase) ≡ Some word → IsListUpTo h word (last_second h) list → 0 < length list → StoresPlan h kind factor word list reply next → P next
     stored word list term is some s = elim s.stores [
-      | inl full ↦ unchanged h next full.1.0 legal
+      | inl full ↦ unchanged P h next full.1.0 legal
       | inr fits ↦
           let (places, placed, zip, adds) = fits in
           let plan = in_blocks word kind factor s.horizon s.cuts places in

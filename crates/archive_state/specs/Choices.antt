@@ -10,28 +10,13 @@ use Rattle.archive_state.specs.Steps.{Reply, Proposed, Summary}
 -- the item asks for a plan, to be proposed or to be stored: only such an item may have several outcomes
 abbrev pub IsChoice : Item → Type 0
 IsChoice (items.Command (commands.Propose word fraction)) = Unit {0}
-IsChoice (items.Command (commands.Arrive doc at text)) = ⊥
-IsChoice (items.Command (commands.Delete doc at)) = ⊥
-IsChoice (items.Command (commands.Find at expr)) = ⊥
-IsChoice (items.Command (commands.Show doc at)) = ⊥
 IsChoice (items.Command (commands.Plan word kind fraction)) = Unit {0}
-IsChoice (items.Command (commands.Between span expr)) = ⊥
-IsChoice (items.Command (commands.Certificate word)) = ⊥
-IsChoice (items.Command commands.Verify) = ⊥
-IsChoice items.Line = ⊥
+IsChoice other = ⊥
 
 -- the item asks for a plan to be stored
 abbrev pub IsStoring : Item → Type 0
 IsStoring (items.Command (commands.Plan word kind fraction)) = Unit {0}
-IsStoring (items.Command (commands.Propose word fraction)) = ⊥
-IsStoring (items.Command (commands.Arrive doc at text)) = ⊥
-IsStoring (items.Command (commands.Delete doc at)) = ⊥
-IsStoring (items.Command (commands.Find at expr)) = ⊥
-IsStoring (items.Command (commands.Show doc at)) = ⊥
-IsStoring (items.Command (commands.Between span expr)) = ⊥
-IsStoring (items.Command (commands.Certificate word)) = ⊥
-IsStoring (items.Command commands.Verify) = ⊥
-IsStoring items.Line = ⊥
+IsStoring other = ⊥
 
 -- the replies are the same, or two proposals that differ in their segments alone
 abbrev pub SameButSegments : Reply → Reply → Type 0

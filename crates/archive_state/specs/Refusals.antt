@@ -5,7 +5,7 @@ use Rattle.archive_state.specs.declared.refusal.Refusal.TheVariants as refusals
 use Rattle.version_store.specs.declared.refusal.VersionRefusal.{VersionRefusal}
 use Rattle.version_store.specs.declared.refusal.VersionRefusal.TheVariants as versions
 
--- the number by which a reply names a refusal; none has the number 12
+-- the number by which a reply names a refusal
 abbrev pub number_of : Refusal → ℕ
 number_of refusals.Line = 1
 number_of (refusals.TimeBack last) = 2
@@ -18,8 +18,15 @@ number_of refusals.NothingSealed = 8
 number_of (refusals.TooWide boundaries) = 9
 number_of (refusals.Full which limit) = 10
 number_of (refusals.BadQuery offset) = 11
+number_of refusals.Busy = 12
 number_of refusals.UnknownWord = 13
 number_of refusals.NoPlan = 14
+number_of refusals.OneJob = 15
+number_of (refusals.BatchLine index) = 16
+number_of (refusals.BatchTooLong limit) = 17
+number_of refusals.OldFormat = 18
+number_of refusals.HasFormat = 19
+number_of refusals.NotDisjunction = 20
 
 -- a refusal of the directory of versions, as one of the archive
 abbrev pub refusal_of : VersionRefusal → Refusal

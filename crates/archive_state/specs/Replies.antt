@@ -36,8 +36,15 @@ detail_text refusals.NothingSealed = codes "NothingSealed"
 detail_text (refusals.TooWide boundaries) = codes "TooWide " ++ decimal boundaries
 detail_text (refusals.Full which limit) = codes "Full " ++ which_text which ++ codes " " ++ decimal limit
 detail_text (refusals.BadQuery offset) = codes "BadQuery " ++ decimal offset
+detail_text refusals.Busy = codes "Busy"
 detail_text refusals.UnknownWord = codes "UnknownWord"
 detail_text refusals.NoPlan = codes "NoPlan"
+detail_text refusals.OneJob = codes "OneJob"
+detail_text (refusals.BatchLine index) = codes "BatchLine " ++ decimal index
+detail_text (refusals.BatchTooLong limit) = codes "BatchTooLong " ++ decimal limit
+detail_text refusals.OldFormat = codes "OldFormat"
+detail_text refusals.HasFormat = codes "HasFormat"
+detail_text refusals.NotDisjunction = codes "NotDisjunction"
 
 -- the line of a refusal: its number, its name, and its detail
 abbrev pub refusal_text : Refusal → List ℕ

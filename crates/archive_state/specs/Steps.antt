@@ -222,7 +222,7 @@ Arrives old doc at (texts.TooLong bytes) reply new = Declines old (refusals.TooL
 abbrev pub sound_of : History → Verdict
 sound_of history = Sound (length (live_plans history)) (segments_of (live_plans history))
 
--- from the old history, the archive may give this reply to the command and go on to the new one
+-- from the old history, the archive may give this reply to the command and go on to the new one; a command to come is refused as a line that is none
 abbrev pub CarriesOut : History → Command → Reply → History → Type 0
 CarriesOut old (commands.Arrive doc at text) reply new = Arrives old doc at text reply new
 CarriesOut old (commands.Delete doc at) reply new = Adds old (entries.Delete doc at) (deletion_refusal old doc at) reply new
@@ -233,6 +233,7 @@ CarriesOut old (commands.Propose word fraction) reply new = (new ≡ old) × Pro
 CarriesOut old (commands.Between span expr) reply new = (new ≡ old) × Spans old span expr reply
 CarriesOut old (commands.Certificate word) reply new = (new ≡ old) × Certifies old word reply
 CarriesOut old commands.Verify reply new = (new ≡ old) × (reply ≡ Verified (sound_of old))
+CarriesOut old to_come reply new = Declines old refusals.Line reply new
 
 -- The step of the machine, over an item of the input: a command is carried out, and a line that is none is refused.
 abbrev pub Step : World → Item → Reply → World → Type 0

@@ -50,10 +50,30 @@ pub enum Refusal {
         /// Where that shows, in bytes from its start.
         offset: u64,
     },
+    /// A plan of the word is being stored.
+    Busy,
     /// No text of the archive has the word.
     UnknownWord,
     /// The word has no live plan that keeps to a guarantee.
     NoPlan,
+    /// A plan of another word is being stored.
+    OneJob,
+    /// An item of a batch is neither an arrival nor a deletion.
+    BatchLine {
+        /// Which item is the first such one, from 1.
+        index: u32,
+    },
+    /// The texts of a batch have too many bytes together.
+    BatchTooLong {
+        /// The most bytes that they may have together.
+        limit: u64,
+    },
+    /// The journal has no mark that it may have batches.
+    OldFormat,
+    /// The journal has the mark.
+    HasFormat,
+    /// A query isn't one word, or words joined by `or`.
+    NotDisjunction,
 }
 
 impl Refusal {
@@ -73,8 +93,15 @@ impl Refusal {
             Refusal::TooWide { .. } => 9,
             Refusal::Full { .. } => 10,
             Refusal::BadQuery { .. } => 11,
+            Refusal::Busy => 12,
             Refusal::UnknownWord => 13,
             Refusal::NoPlan => 14,
+            Refusal::OneJob => 15,
+            Refusal::BatchLine { .. } => 16,
+            Refusal::BatchTooLong { .. } => 17,
+            Refusal::OldFormat => 18,
+            Refusal::HasFormat => 19,
+            Refusal::NotDisjunction => 20,
         }
     }
 }

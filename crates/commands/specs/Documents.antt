@@ -4,7 +4,7 @@ use Rattle.commands.specs.declared.batch.BatchItem.{BatchItem}
 use Rattle.commands.specs.declared.batch.BatchItem.TheVariants as members
 use Rattle.commands.specs.declared.batch.BatchItems.{BatchItems}
 use Rattle.commands.specs.declared.batch.BatchItems.TheVariants.{Items, TooLong}
-use Rattle.commands.specs.declared.command.Command.TheVariants.{Arrive, Delete, Plan, Propose, Find, Between, Show, Certificate, Verify, Format, Batch}
+use Rattle.commands.specs.declared.command.Command.TheVariants.{Arrive, Delete, Plan, Propose, Find, Between, Show, Certificate, Verify, Format, Batch, Begin, Top, Best, Approx, Rough, Share}
 use Rattle.commands.specs.declared.command.Item.{Item}
 use Rattle.commands.specs.declared.command.Item.TheVariants.{Command, Line}
 
@@ -31,4 +31,10 @@ HasDocument (Command (Certificate word)) = Unit {0}
 HasDocument (Command Verify) = Unit {0}
 HasDocument (Command Format) = Unit {0}
 HasDocument (Command (Batch items)) = HaveDocuments items
+HasDocument (Command (Begin word fraction)) = Unit {0}
+HasDocument (Command (Top count at expr)) = Unit {0}
+HasDocument (Command (Best count at expr)) = Unit {0}
+HasDocument (Command (Approx word tolerance)) = Unit {0}
+HasDocument (Command (Rough tolerance at expr)) = Unit {0}
+HasDocument (Command (Share fraction words)) = Unit {0}
 HasDocument Line = Unit {0}

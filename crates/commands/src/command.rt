@@ -1,8 +1,10 @@
 //! What an archive may be asked to do.
 use crate::batch::BatchItems;
+use crate::count::{BestCount, TopCount};
 use crate::phrase::Phrase;
+use crate::share::{ShareFraction, ShareWords};
 use crate::text::Text;
-use time_base::{DocId, Fraction, Span, Time};
+use time_base::{DocId, Fraction, Span, Time, Tolerance};
 
 /// What a plan is to keep to, and what its fraction says.
 #[derive(Clone, Copy, Debug)]
@@ -86,6 +88,54 @@ pub enum Command {
     Format,
     /// Changes of documents that come all at once.
     Batch(BatchItems),
+    /// A plan that keeps to a guarantee, to be chosen now, and to be stored while other commands go on.
+    Begin {
+        /// The word as it was written.
+        word: Phrase,
+        /// The factor on each read.
+        fraction: Fraction,
+    },
+    /// The first rows of a query at a time.
+    Top {
+        /// How many rows.
+        count: TopCount,
+        /// The time.
+        at: Time,
+        /// What is asked, which may be no query.
+        expr: Phrase,
+    },
+    /// The first rows of words joined by `or` at a time, from the blocks that are needed for them.
+    Best {
+        /// How many rows.
+        count: BestCount,
+        /// The time.
+        at: Time,
+        /// What is asked, which may be no query, or another one.
+        expr: Phrase,
+    },
+    /// A shortest list whose frequencies are near those of a word's list.
+    Approx {
+        /// The word as it was written.
+        word: Phrase,
+        /// How far a frequency may be from the list's.
+        tolerance: Tolerance,
+    },
+    /// The rows of a query at a time, by such lists.
+    Rough {
+        /// How far a frequency may be from the lists'.
+        tolerance: Tolerance,
+        /// The time.
+        at: Time,
+        /// What is asked, which may be no query.
+        expr: Phrase,
+    },
+    /// How words would best share a budget, by the times that were asked for.
+    Share {
+        /// How many times their lists the sublists may take together.
+        fraction: ShareFraction,
+        /// The words as they were written.
+        words: ShareWords,
+    },
 }
 
 /// What is answered.

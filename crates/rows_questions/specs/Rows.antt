@@ -15,7 +15,7 @@ use Rattle.time_base.specs.declared.time.Time.{Time}
 use Rattle.record_codec.specs.declared.entry.Entry.TheVariants as entries
 use Rattle.query_lang.specs.Grammar.{Query, Has, Both, Lacks, IsRead}
 use Rattle.query_lang.specs.Machine.{read}
-use Rattle.query_lang.specs.Tokens.{key_of}
+use Rattle.query_lang.specs.Tokens.{term_of}
 use Rattle.query_lang.proofs.ReadingLaws.{is_read}
 use Rattle.archive_state.specs.declared.refusal.Refusal.TheVariants as refusals
 use Rattle.time_base.specs.declared.posting.Posting.{Posting}
@@ -48,6 +48,10 @@ nine = record { seconds = 9; before_now = lit< tt }
 abbrev ten : Time
 ten = record { seconds = 10; before_now = lit< tt }
 
+-- a word by itself
+abbrev one : List ℕ → Query
+one word = Has (record { key = word; weight = 1 })
+
 abbrev one_arrival : History
 one_arrival = entries.Arrive (doc 7) ten (codes "red a") ∷ []
 
@@ -60,15 +64,15 @@ unfolding ucd_category caseless unicode_normalization chars encode is_utf8
 accepted = (refl, refl)
 
 -- a word in any case, and one that is no operator
-words : (read key_of (codes "RED") ≡ Ok (Has (codes "red"))) × (read key_of (codes "And") ≡ Ok (Has (codes "and")))
+words : (read term_of (codes "RED") ≡ Ok (one (codes "red"))) × (read term_of (codes "And") ≡ Ok (one (codes "and")))
 unfolding ucd_category caseless unicode_normalization chars encode is_utf8
 words = (refl, refl)
 
-no_words : (read key_of (codes "and") ≡ Err 0) × (read key_of (codes "not") ≡ Err 3) × (read key_of (codes "()") ≡ Err 1)
+no_words : (read term_of (codes "and") ≡ Err 0) × (read term_of (codes "not") ≡ Err 3) × (read term_of (codes "()") ≡ Err 1)
 no_words = (refl, refl, refl)
 
 -- one word, with a mark behind it; two words; and one that isn't one
-marks : (read key_of (codes "red.") ≡ Ok (Has (codes "red"))) × (read key_of (codes "red not blue") ≡ Ok (Both (Has (codes "red")) (Lacks (Has (codes "blue"))))) × (read key_of (codes "e-mail") ≡ Err 0)
+marks : (read term_of (codes "red.") ≡ Ok (one (codes "red"))) × (read term_of (codes "red not blue") ≡ Ok (Both (one (codes "red")) (Lacks (one (codes "blue"))))) × (read term_of (codes "e-mail") ≡ Err 0)
 unfolding ucd_category caseless unicode_normalization chars encode is_utf8
 marks = (refl, refl, refl)
 
@@ -78,14 +82,14 @@ unfolding ucd_category caseless unicode_normalization chars encode
 frequencies = (refl, refl, refl)
 
 -- what is no query is refused where that shows, and a text is shown while it is alive
-red_or : read key_of (codes "red or") ≡ Err 6
+red_or : read term_of (codes "red or") ≡ Err 6
 unfolding ucd_category caseless unicode_normalization chars encode is_utf8
 red_or = refl
 
 refused : Step arrived (Command (Find ten (codes "red or"))) (Refused (refusals.BadQuery 6)) arrived
 refused =
-    let R : Result Query ℕ → Type 0 = λ r. IsRead key_of (codes "red or") r in
-    (refl, (Err 6, subst R red_or (is_read key_of (codes "red or")), refl))
+    let R : Result Query ℕ → Type 0 = λ r. IsRead term_of (codes "red or") r in
+    (refl, (Err 6, subst R red_or (is_read term_of (codes "red or")), refl))
 
 shown : Step arrived (Command (Show (doc 7) ten)) (Version (Some (codes "red a"))) arrived × Step arrived (Command (Show (doc 7) nine)) (Version None) arrived
 shown = ((refl, refl), (refl, refl))
@@ -115,18 +119,18 @@ only_seven d t alive = go (7 == d) refl alive
     go false e alive = absurd cc
 
 -- the row stands for document 7 alone
-one_row : IsAnswerAt one_arrival 10 (Has red) (hit ∷ [])
+one_row : IsAnswerAt one_arrival 10 (one red) (hit ∷ [])
 unfolding ucd_category caseless unicode_normalization chars encode
 one_row = record { ranked = tt; each = λ row. (has row, is row) }
   where
-    has : (row : Row) → Contains (hit ∷ []) row → IsRow (λ d. IsSome (text_at one_arrival d 10)) (λ d word. frequency_at one_arrival word d 10) (Has red) row
+    has : (row : Row) → Contains (hit ∷ []) row → IsRow (λ d. IsSome (text_at one_arrival d 10)) (λ d word. frequency_at one_arrival word d 10) (one red) row
     has row there = elim (here-or-later hit row [] there) [
-      | inl same ↦ (let P : Row → Type 0 = λ r. IsRow (λ d. IsSome (text_at one_arrival d 10)) (λ d word. frequency_at one_arrival word d 10) (Has red) r in
+      | inl same ↦ (let P : Row → Type 0 = λ r. IsRow (λ d. IsSome (text_at one_arrival d 10)) (λ d word. frequency_at one_arrival word d 10) (one red) r in
           subst P same (record { alive = refl; matching = refl; scored = refl }))
       | inr later ↦ absurd (none row later)
     ]
 
-    is : (row : Row) → IsRow (λ d. IsSome (text_at one_arrival d 10)) (λ d word. frequency_at one_arrival word d 10) (Has red) row → Contains (hit ∷ []) row
+    is : (row : Row) → IsRow (λ d. IsSome (text_at one_arrival d 10)) (λ d word. frequency_at one_arrival word d 10) (one red) row → Contains (hit ∷ []) row
     is row has =
         let seven : row.doc.0 ≡ 7 = only_seven row.doc.0 10 has.alive in
         let F : ℕ → Type 0 = λ d. row.score ≡ frequency_at one_arrival red (doc d) 10 in
@@ -158,14 +162,14 @@ one_posting = record {
   same = λ d t some before. frequency_is d t before;
 }
 
-is_red : read key_of (codes "red") ≡ Ok (Has red)
+is_red : read term_of (codes "red") ≡ Ok (one red)
 unfolding ucd_category caseless unicode_normalization chars encode is_utf8
 is_red = refl
 
 found : Step arrived (Command (Find ten (codes "red"))) (Found (hit ∷ []) 1) arrived
 found =
-    let R : Result Query ℕ → Type 0 = λ r. IsRead key_of (codes "red") r in
-    (refl, (Ok (Has red), subst R is_red (is_read key_of (codes "red")), (hit ∷ [], 1, one_row, (1, 0, (posting ∷ [], one_posting, refl), refl, refl), refl)))
+    let R : Result Query ℕ → Type 0 = λ r. IsRead term_of (codes "red") r in
+    (refl, (Ok (one red), subst R is_red (is_read term_of (codes "red")), (hit ∷ [], 1, one_row, (1, 0, (posting ∷ [], one_posting, refl), refl, refl), refl)))
 
 -- the same over a window that ends while the version is alive: it has the word from its time on
 abbrev window : Span
@@ -179,13 +183,13 @@ unfolding digits
 span_texts = refl
 
 abbrev scored : ℕ → ℕ → Option ℕ
-scored d t = scored_at (λ x s. is_some (text_at one_arrival x s)) (λ x s word. frequency_at one_arrival word x s) (Has red) d t
+scored d t = scored_at (λ x s. is_some (text_at one_arrival x s)) (λ x s word. frequency_at one_arrival word x s) (one red) d t
 
 -- the score of a text alive, or nothing
 abbrev score_of : Option (List ℕ) → Option ℕ
 score_of held =
     let often = λ (word : List ℕ). unwrap_or (option_map (occurrences word) held) 0 in
-    if (is_some held && matches (Has red) often) then Some (score (Has red) often) else None
+    if (is_some held && matches (one red) often) then Some (score (one red) often) else None
 
 score_is : (d t : ℕ) → scored d t ≡ cond (7 == d && nat_le 10 t) (Some 1) None
 unfolding ucd_category caseless unicode_normalization chars encode
@@ -208,7 +212,7 @@ where_scored d t v is = go (7 == d) refl (nat_le 10 t) refl (sym (score_is d t) 
     go true e false f s = absurd cc
     go false e b f s = absurd cc
 
-one_span : IsSpanAnswerAt one_arrival 5 20 (Has red) (span_row ∷ [])
+one_span : IsSpanAnswerAt one_arrival 5 20 (one red) (span_row ∷ [])
 one_span = record { ordered = tt; longest = λ r there. longest r there; covered = λ d t v from to is. covered d t v to is }
   where
     L : SpanRow → Type 0
@@ -231,5 +235,5 @@ one_span = record { ordered = tt; longest = λ r there. longest r there; covered
 
 spanned : Step arrived (Command (Between window (codes "red"))) (Spanned (span_row ∷ []) 1) arrived
 spanned =
-    let R : Result Query ℕ → Type 0 = λ r. IsRead key_of (codes "red") r in
-    (refl, (Ok (Has red), subst R is_red (is_read key_of (codes "red")), (span_row ∷ [], 1, one_span, (1, 0, (posting ∷ [], one_posting, refl), refl, refl), refl)))
+    let R : Result Query ℕ → Type 0 = λ r. IsRead term_of (codes "red") r in
+    (refl, (Ok (one red), subst R is_red (is_read term_of (codes "red")), (span_row ∷ [], 1, one_span, (1, 0, (posting ∷ [], one_posting, refl), refl, refl), refl)))

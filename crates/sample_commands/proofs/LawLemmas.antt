@@ -8,7 +8,7 @@ use Rattle.std.proofs.lemmas.Nat.{mod_below}
 use Rattle.time_base.proofs.TimeLemmas.{time_of-seconds}
 use Rattle.commands.specs.Documents.{HasDocument}
 use Rattle.commands.specs.declared.command.Command.{Command}
-use Rattle.commands.specs.declared.command.Command.TheVariants.{Arrive, Delete, Plan, Propose, Find, Between, Show, Certificate, Verify}
+use Rattle.commands.specs.declared.command.Command.TheVariants.{Arrive, Delete, Plan, Find, Verify}
 use Rattle.commands.specs.declared.text.Text.TheVariants.{Bytes}
 use Rattle.commands.specs.declared.command.Item.TheVariants as item
 use Rattle.sample_commands.specs.Samples.{from_to, start_of, minute, document, text, change, plan, question, changes, plans, questions, sample_of, last_time}
@@ -46,12 +46,9 @@ in_range : (c : Command) → MayBeSampled c → HasDocument (item.Command c)
 in_range (Arrive doc at text) h = omega (arith, h.0.1)
 in_range (Delete doc at) h = omega (arith, h.1)
 in_range (Plan word kind fraction) h = tt
-in_range (Propose word fraction) h = tt
 in_range (Find at expr) h = tt
-in_range (Between span expr) h = tt
-in_range (Show doc at) h = absurd h
-in_range (Certificate word) h = tt
 in_range Verify h = tt
+in_range other h = absurd h
 
 pub documents : SamplesHaveDocuments
 documents seed count = All-map HasDocument (λ c. item.Command c) (sample_of seed count) (λ k d below. in_range _ (kinds seed count k d below))

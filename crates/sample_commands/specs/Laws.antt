@@ -7,7 +7,7 @@ use Rattle.commands.specs.declared.text.Text.TheVariants.{Bytes, TooLong}
 use Rattle.commands.specs.declared.command.Kind.{Kind}
 use Rattle.commands.specs.declared.command.Kind.TheVariants.{Guarantee, Uniform, Since}
 use Rattle.commands.specs.declared.command.Command.{Command}
-use Rattle.commands.specs.declared.command.Command.TheVariants.{Arrive, Delete, Plan, Propose, Find, Between, Show, Certificate, Verify}
+use Rattle.commands.specs.declared.command.Command.TheVariants.{Arrive, Delete, Plan, Find, Verify}
 use Rattle.commands.specs.declared.command.Item.TheVariants as item
 use Rattle.sample_commands.specs.Samples.{minute, sample_of}
 
@@ -38,12 +38,9 @@ abbrev pub MayBeSampled : Command → Type 0
 MayBeSampled (Arrive doc at text) = IsSampled doc × IsGiven text
 MayBeSampled (Delete doc at) = IsSampled doc
 MayBeSampled (Plan word kind fraction) = IsGuarantee kind
-MayBeSampled (Propose word fraction) = ⊥
 MayBeSampled (Find at expr) = Unit {0}
-MayBeSampled (Between span expr) = ⊥
-MayBeSampled (Show doc at) = ⊥
-MayBeSampled (Certificate word) = ⊥
 MayBeSampled Verify = Unit {0}
+MayBeSampled other = ⊥
 
 -- A sample has no other commands.
 abbrev pub SamplesAreOfFewKinds : Type 0

@@ -1,6 +1,7 @@
 mod NumberLemmas
 mod WordLemmas
 mod ValueLemmas
+mod ShareLemmas
 mod Calendar
 pub mod Ranges
 mod Cuts

@@ -6,7 +6,7 @@ use Rattle.std.proofs.lemmas.List.Elements.{All-nil, All-cons}
 use Rattle.time_base.specs.declared.ids.DocId.{DocId}
 use Rattle.time_base.specs.declared.time.Time.{Time}
 use Rattle.commands.specs.declared.command.Command.{Command}
-use Rattle.commands.specs.declared.command.Command.TheVariants.{Arrive, Delete, Plan, Propose, Find, Between, Show, Certificate, Verify}
+use Rattle.commands.specs.declared.command.Command.TheVariants.{Arrive, Delete, Plan, Begin, Format, Propose, Find, Between, Show, Certificate, Verify, Top, Best, Approx, Rough, Share}
 use Rattle.commands.specs.declared.command.Item.{Item}
 use Rattle.commands.specs.declared.command.Item.TheVariants as item
 use Rattle.commands.specs.Documents.{HasDocument}
@@ -16,9 +16,9 @@ use Rattle.script_read.specs.declared.first.First.{First}
 use Rattle.script_read.specs.declared.first.First.TheVariants.{Whole, Broken, More, End}
 use Rattle.script_read.specs.Words.{word, after_word, is_blank, phrase}
 use Rattle.script_read.specs.Numbers.{value_of, are_digits, number}
-use Rattle.script_read.specs.Values.{document, time, text, fraction, or_else, both, all_three, only_if}
+use Rattle.script_read.specs.Values.{document, time, text, fraction, tolerance, top_count, best_count, share_fraction, share_words, or_else, both, all_three, only_if}
 use Rattle.script_read.specs.Items.{text_at, without_cr, short, text_end, piece_of, last_piece, open_line, closed_line, first, Pieces, Items}
-use Rattle.script_read.specs.Lines.{kind, window, version, planning, proposing, finding, spanning, certifying, verifying, change, question, command, arrival_by, arrival, alone, is_skipped, meaning}
+use Rattle.script_read.specs.Lines.{kind, window, version, planning, beginning, formatting, proposing, finding, spanning, certifying, verifying, top_rows, best_rows, approximating, rough_rows, sharing, change, question, report, command, arrival_by, arrival, alone, is_skipped, meaning}
 
 number-below : (limit : ℕ) (word : List ℕ) → IfSome (number limit word) (λ n. n < limit)
 number-below limit word = go (are_digits word) (nat_lt (value_of word) limit) refl
@@ -118,6 +118,15 @@ spanning-fits words =
     let expr = text (phrase (after_word (after_word words))) in
     only-fits (not (is_blank (after_word (after_word words)))) (both Between span expr) (both-fit Between span expr (λ s e. tt))
 
+beginning-fits : (words : List ℕ) → IfSome (beginning words) Fits
+beginning-fits words =
+    let bound = after_word (after_word words) in
+    let goes = bytes_eq (word (after_word words)) (codes "guarantee") && is_blank (after_word bound) in
+    only-fits goes (both Begin (text (word words)) (fraction (word bound))) (both-fit Begin (text (word words)) (fraction (word bound)) (λ w f. tt))
+
+formatting-fits : (words : List ℕ) → IfSome (formatting words) Fits
+formatting-fits words = let fits : Fits Format = tt in only-fits (bytes_eq (word words) (codes "2") && is_blank (after_word words)) (Some Format) fits
+
 proposing-fits : (words : List ℕ) → IfSome (proposing words) Fits
 proposing-fits words =
     let bound = after_word (after_word words) in
@@ -136,10 +145,41 @@ planning-fits words =
 verifying-fits : (words : List ℕ) → IfSome (verifying words) Fits
 verifying-fits words = let fits : Fits Verify = tt in only-fits (is_blank words) (Some Verify) fits
 
+top_rows-fits : (words : List ℕ) → IfSome (top_rows words) Fits
+top_rows-fits words =
+    let second = after_word words in
+    let more = after_word second in
+    only-fits (not (is_blank more)) (all_three Top (top_count (word words)) (time (word second)) (text (phrase more)))
+    (three-fit Top (top_count (word words)) (time (word second)) (text (phrase more)) (λ k t e. tt))
+
+best_rows-fits : (words : List ℕ) → IfSome (best_rows words) Fits
+best_rows-fits words =
+    let second = after_word words in
+    let more = after_word second in
+    only-fits (not (is_blank more)) (all_three Best (best_count (word words)) (time (word second)) (text (phrase more)))
+    (three-fit Best (best_count (word words)) (time (word second)) (text (phrase more)) (λ k t e. tt))
+
+approximating-fits : (words : List ℕ) → IfSome (approximating words) Fits
+approximating-fits words =
+    let bound = after_word words in
+    only-fits (is_blank (after_word bound)) (both Approx (text (word words)) (tolerance (word bound))) (both-fit Approx (text (word words)) (tolerance (word bound)) (λ w t. tt))
+
+rough_rows-fits : (words : List ℕ) → IfSome (rough_rows words) Fits
+rough_rows-fits words =
+    let second = after_word words in
+    let more = after_word second in
+    only-fits (not (is_blank more)) (all_three Rough (tolerance (word words)) (time (word second)) (text (phrase more)))
+    (three-fit Rough (tolerance (word words)) (time (word second)) (text (phrase more)) (λ p t e. tt))
+
+sharing-fits : (words : List ℕ) → IfSome (sharing words) Fits
+sharing-fits words = both-fit Share (share_fraction (word words)) (share_words (after_word words)) (λ f ws. tt)
+
 change-fits : (name words : List ℕ) → IfSome (change name words) Fits
 change-fits name words =
     by-name (bytes_eq name (codes "delete")) _ _ (version-fits Delete (λ d t h. h) words)
-    (by-name (bytes_eq name (codes "plan")) _ _ (planning-fits words) tt)
+    (by-name (bytes_eq name (codes "plan")) _ _ (planning-fits words)
+    (by-name (bytes_eq name (codes "begin")) _ _ (beginning-fits words)
+    (by-name (bytes_eq name (codes "format")) _ _ (formatting-fits words) tt)))
 
 question-fits : (name words : List ℕ) → IfSome (question name words) Fits
 question-fits name words =
@@ -150,6 +190,14 @@ question-fits name words =
     (by-name (bytes_eq name (codes "certificate")) _ _ (certifying-fits words)
     (by-name (bytes_eq name (codes "verify")) _ _ (verifying-fits words) tt)))))
 
+report-fits : (name words : List ℕ) → IfSome (report name words) Fits
+report-fits name words =
+    by-name (bytes_eq name (codes "top")) _ _ (top_rows-fits words)
+    (by-name (bytes_eq name (codes "best")) _ _ (best_rows-fits words)
+    (by-name (bytes_eq name (codes "approx")) _ _ (approximating-fits words)
+    (by-name (bytes_eq name (codes "rough")) _ _ (rough_rows-fits words)
+    (by-name (bytes_eq name (codes "share")) _ _ (sharing-fits words) tt))))
+
 pub meaning-fits : (line : List ℕ) → IsFit (meaning line)
 unfolding meaning
 meaning-fits line = go (is_skipped line) (bytes_eq (word line) (codes "arrive"))
@@ -158,7 +206,9 @@ meaning-fits line = go (is_skipped line) (bytes_eq (word line) (codes "arrive"))
     behind = after_word line
 
     all : IfSome (command (word line) behind) Fits
-    all = or-fits (change (word line) behind) (question (word line) behind) (change-fits (word line) behind) (question-fits (word line) behind)
+    all = let name = word line in
+        or-fits (change name behind) (or_else (question name behind) (report name behind)) (change-fits name behind)
+        (or-fits (question name behind) (report name behind) (question-fits name behind) (report-fits name behind))
 
     go : (s a : Bool) → IsFit (if s then Skipped else (if a then arrival behind else alone (command (word line) behind)))
     go true a = tt

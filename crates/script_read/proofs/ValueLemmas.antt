@@ -1,14 +1,19 @@
--- Values that constructors of `time_base` answer are those of the definitions.
-use Rattle.std.specs.Prelude.{◌≡◌, ℕ, ◌<◌, ◌≤◌, ◌^◌, ◌↔◌, Bool, true, false, nat_lt, nat_le, Option, Some, None, IsSome, IfSome, refl}
+-- Values that constructors of `time_base` and `commands` answer are those of the definitions.
+use Rattle.std.specs.Prelude.{◌≡◌, ℕ, ◌*◌, ◌<◌, ◌≤◌, ◌^◌, ◌↔◌, Bool, true, false, nat_lt, nat_le, Option, Some, None, IsSome, IfSome, refl}
 use Rattle.std.proofs.Common.{ap, sym, ◌∙◌, ltb-true, lt-ltb, le-leb}
 use Rattle.std.proofs.lemmas.Bool.{leb-true}
 use Rattle.time_base.specs.declared.time.Time.{Time}
 use Rattle.time_base.specs.declared.time.Span.{Span}
 use Rattle.time_base.specs.declared.fraction.Fraction.{Fraction}
+use Rattle.time_base.specs.declared.tolerance.Tolerance.{Tolerance}
 use Rattle.time_base.specs.Times.{time_by, time_of}
-use Rattle.time_base.proofs.Equal.{same_span, same_fraction}
+use Rattle.time_base.proofs.Equal.{same_span, same_fraction, same_tolerance}
 use Rattle.time_base.proofs.TimeLemmas.{time_of-seconds}
-use Rattle.script_read.specs.Values.{fraction_by, fraction_of, span_by, span_of}
+use Rattle.commands.specs.declared.count.TopCount.{TopCount}
+use Rattle.commands.specs.declared.count.BestCount.{BestCount}
+use Rattle.commands.specs.declared.share.ShareFraction.{ShareFraction}
+use Rattle.commands.proofs.Equal.{same_top, same_best, same_share}
+use Rattle.script_read.specs.Values.{fraction_by, fraction_of, span_by, span_of, where_so, where_both, tolerance_of, top_count_of, best_count_of, share_fraction_of}
 
 -- what `Time::new` answers is the time of so many seconds
 pub time_of_new : (n : ℕ) (r : Option Time) → IsSome r ↔ (n < 2 ^ 40) → IfSome r (λ t. t.seconds ≡ n) → r ≡ time_of n
@@ -52,3 +57,44 @@ fraction_of_new a b None below valid value = go _ _ _ refl refl refl
     go true true false h k l = refl
     go true false r h k l = refl
     go false q r h k l = refl
+
+-- what a constructor answers that asks for a test is what is made of its holding
+where_so_new : {A : Type 0} (b : Bool) (make : b ≡ true → A) (r : Option A) → (IsSome r → b ≡ true) → (b ≡ true → IsSome r) → IfSome r (λ a. (h : b ≡ true) → make h ≡ a)
+    → r ≡ where_so b make
+where_so_new true make (Some a) needs gives value = ap Some (sym (value refl))
+where_so_new true make None needs gives value = let no = gives refl in cc
+where_so_new false make (Some a) needs gives value = let no = needs refl in cc
+where_so_new false make None needs gives value = refl
+
+-- and of two tests
+where_both_new : {A : Type 0} (b c : Bool) (make : b ≡ true → c ≡ true → A) (r : Option A) → (IsSome r → (b ≡ true) × (c ≡ true)) → (b ≡ true → c ≡ true → IsSome r)
+    → IfSome r (λ a. (h : b ≡ true) (k : c ≡ true) → make h k ≡ a) → r ≡ where_both b c make
+where_both_new true true make (Some a) needs gives value = ap Some (sym (value refl refl))
+where_both_new true true make None needs gives value = let no = gives refl refl in cc
+where_both_new true false make (Some a) needs gives value = let no = (needs refl).1 in cc
+where_both_new true false make None needs gives value = refl
+where_both_new false c make (Some a) needs gives value = let no = (needs refl).0 in cc
+where_both_new false c make None needs gives value = refl
+
+-- what `Tolerance::new` answers is the tolerance of two numbers below 2^32
+pub tolerance_of_new : (a b : ℕ) (r : Option Tolerance) → b < 2 ^ 32 → IsSome r ↔ (a < b) → IfSome r (λ t. (t.part ≡ a) × (t.whole ≡ b)) → r ≡ tolerance_of a b
+tolerance_of_new a b (Some t) below valid value =
+    where_both_new (nat_lt a b) (nat_lt b (2 ^ 32)) _ (Some t) (λ s. (lt-ltb _ _ (valid.0 s), lt-ltb _ _ below)) (λ h k. refl) (λ h k. same_tolerance _ t (sym value.0) (sym value.1))
+tolerance_of_new a b None below valid value = where_both_new (nat_lt a b) (nat_lt b (2 ^ 32)) _ None (λ s. cc) (λ h k. valid.1 (ltb-true _ _ h)) tt
+
+-- what `TopCount::new` and `BestCount::new` answer are the counts of a number
+pub top_count_of_new : (n : ℕ) (r : Option TopCount) → IsSome r ↔ ((1 ≤ n) × (n ≤ 1000000)) → IfSome r (λ c. c.number ≡ n) → r ≡ top_count_of n
+top_count_of_new n (Some c) valid value =
+    where_both_new (nat_le 1 n) (nat_le n 1000000) _ (Some c) (λ s. (le-leb _ _ (valid.0 s).0, le-leb _ _ (valid.0 s).1)) (λ h k. refl) (λ h k. same_top _ c (sym value))
+top_count_of_new n None valid value = where_both_new (nat_le 1 n) (nat_le n 1000000) _ None (λ s. cc) (λ h k. valid.1 (leb-true _ _ h, leb-true _ _ k)) tt
+
+pub best_count_of_new : (n : ℕ) (r : Option BestCount) → IsSome r ↔ ((1 ≤ n) × (n ≤ 1000)) → IfSome r (λ c. c.number ≡ n) → r ≡ best_count_of n
+best_count_of_new n (Some c) valid value =
+    where_both_new (nat_le 1 n) (nat_le n 1000) _ (Some c) (λ s. (le-leb _ _ (valid.0 s).0, le-leb _ _ (valid.0 s).1)) (λ h k. refl) (λ h k. same_best _ c (sym value))
+best_count_of_new n None valid value = where_both_new (nat_le 1 n) (nat_le n 1000) _ None (λ s. cc) (λ h k. valid.1 (leb-true _ _ h, leb-true _ _ k)) tt
+
+-- what `ShareFraction::new` answers is a factor that is at most 16
+pub share_fraction_of_new : (f : Fraction) (r : Option ShareFraction) → IsSome r ↔ (f.over ≤ 16 * f.under) → IfSome r (λ s. s.fraction ≡ f) → r ≡ share_fraction_of f
+share_fraction_of_new f (Some s) valid value =
+    where_so_new (nat_le f.over (16 * f.under)) _ (Some s) (λ o. le-leb _ _ (valid.0 o)) (λ h. refl) (λ h. same_share _ s (sym value))
+share_fraction_of_new f None valid value = where_so_new (nat_le f.over (16 * f.under)) _ None (λ o. cc) (λ h. valid.1 (leb-true _ _ h)) tt

@@ -4,13 +4,13 @@ use Rattle.time_base.specs.declared.ids.DocId.{DocId}
 use Rattle.time_base.specs.declared.time.Time.{Time}
 use Rattle.time_base.specs.declared.time.Span.{Span}
 use Rattle.commands.specs.declared.command.Command.{Command}
-use Rattle.commands.specs.declared.command.Command.TheVariants.{Delete, Plan, Propose, Find, Between, Show, Certificate, Verify}
+use Rattle.commands.specs.declared.command.Command.TheVariants.{Delete, Plan, Begin, Format, Propose, Find, Between, Show, Certificate, Verify, Top, Best, Approx, Rough, Share}
 use Rattle.commands.specs.declared.command.Kind.{Kind}
 use Rattle.commands.specs.declared.command.Kind.TheVariants.{Guarantee, Uniform, Since}
 use Rattle.commands.specs.declared.command.Item.TheVariants as item
 use Rattle.script_read.specs.Words.{word, after_word, is_blank, phrase}
 use Rattle.script_read.specs.Numbers.{number}
-use Rattle.script_read.specs.Values.{or_else, both, all_three, only_if, joined, document, time, text, fraction, span_of}
+use Rattle.script_read.specs.Values.{or_else, both, all_three, only_if, joined, document, time, text, fraction, tolerance, top_count, best_count, share_fraction, share_words, span_of}
 use Rattle.script_read.specs.declared.line.Meaning.{Meaning}
 use Rattle.script_read.specs.declared.line.Meaning.TheVariants.{Skipped, Alone, Arrival, Faulty}
 
@@ -48,6 +48,17 @@ planning words =
     let bound = after_word how in
     all_three (λ w k f. Plan w k f) (text (word words)) (kind (word how) (after_word bound)) (fraction (word bound))
 
+-- `begin` WORD `guarantee` FRACTION
+abbrev pub beginning : List ℕ → Option Command
+beginning words =
+    let how = after_word words in
+    let bound = after_word how in
+    only_if (bytes_eq (word how) (codes "guarantee") && is_blank (after_word bound)) (both (λ w f. Begin w f) (text (word words)) (fraction (word bound)))
+
+-- `format` `2`
+abbrev pub formatting : List ℕ → Option Command
+formatting words = only_if (bytes_eq (word words) (codes "2") && is_blank (after_word words)) (Some Format)
+
 -- `propose` WORD `guarantee` FRACTION
 abbrev pub proposing : List ℕ → Option Command
 proposing words =
@@ -84,12 +95,45 @@ certifying words = only_if (not (is_blank words) && is_blank (after_word words))
 abbrev pub verifying : List ℕ → Option Command
 verifying words = only_if (is_blank words) (Some Verify)
 
+-- `top` K TIME EXPR
+abbrev pub top_rows : List ℕ → Option Command
+top_rows words =
+    let second = after_word words in
+    let more = after_word second in
+    only_if (not (is_blank more)) (all_three (λ k at expr. Top k at expr) (top_count (word words)) (time (word second)) (text (phrase more)))
+
+-- `best` K TIME EXPR
+abbrev pub best_rows : List ℕ → Option Command
+best_rows words =
+    let second = after_word words in
+    let more = after_word second in
+    only_if (not (is_blank more)) (all_three (λ k at expr. Best k at expr) (best_count (word words)) (time (word second)) (text (phrase more)))
+
+-- `approx` WORD TOLERANCE
+abbrev pub approximating : List ℕ → Option Command
+approximating words =
+    let bound = after_word words in
+    only_if (is_blank (after_word bound)) (both (λ w t. Approx w t) (text (word words)) (tolerance (word bound)))
+
+-- `rough` TOLERANCE TIME EXPR
+abbrev pub rough_rows : List ℕ → Option Command
+rough_rows words =
+    let second = after_word words in
+    let more = after_word second in
+    only_if (not (is_blank more)) (all_three (λ t at expr. Rough t at expr) (tolerance (word words)) (time (word second)) (text (phrase more)))
+
+-- `share` FRACTION WORD .., the fraction at most 16, and 1 to 16 words
+abbrev pub sharing : List ℕ → Option Command
+sharing words = both (λ f ws. Share f ws) (share_fraction (word words)) (share_words (after_word words))
+
 -- The commands but arrivals by their names, with the words behind the name; in groups.
 abbrev pub change : List ℕ → List ℕ → Option Command
 change name words =
     if bytes_eq name (codes "delete") then deletion words
     else (if bytes_eq name (codes "plan") then planning words
-    else None)
+    else (if bytes_eq name (codes "begin") then beginning words
+    else (if bytes_eq name (codes "format") then formatting words
+    else None)))
 
 abbrev pub question : List ℕ → List ℕ → Option Command
 question name words =
@@ -101,8 +145,17 @@ question name words =
     else (if bytes_eq name (codes "verify") then verifying words
     else None)))))
 
+abbrev pub report : List ℕ → List ℕ → Option Command
+report name words =
+    if bytes_eq name (codes "top") then top_rows words
+    else (if bytes_eq name (codes "best") then best_rows words
+    else (if bytes_eq name (codes "approx") then approximating words
+    else (if bytes_eq name (codes "rough") then rough_rows words
+    else (if bytes_eq name (codes "share") then sharing words
+    else None))))
+
 abbrev pub command : List ℕ → List ℕ → Option Command
-command name words = or_else (change name words) (question name words)
+command name words = or_else (change name words) (or_else (question name words) (report name words))
 
 -- An arrival has a document, a time and a number of bytes below 2^40, and nothing else.
 abbrev pub arrival_by : Option DocId → Option Time → Option ℕ → Bool → Meaning

@@ -1,17 +1,23 @@
 -- Worked rows, which hold by computation.
-use Rattle.std.specs.Prelude.{◌≡◌, ℕ, nat_lt, ◌^◌, [], ◌∷◌, ◌++◌, List, Some, None, true, false, drop, codes, refl}
+use Rattle.std.specs.Prelude.{◌≡◌, ℕ, nat_lt, nat_le, ◌*◌, ◌^◌, [], ◌∷◌, ◌++◌, List, Some, None, true, false, drop, codes, refl}
 use Rattle.std.specs.Str.{is_utf8, chars}
 use lib.Utf8.{encode}
 use Rattle.std.proofs.Common.{ltb-true}
+use Rattle.std.proofs.lemmas.Bool.{leb-true}
 use Rattle.time_base.specs.declared.ids.DocId.{DocId}
+use Rattle.time_base.specs.declared.fraction.Fraction.{Fraction}
 use Rattle.time_base.specs.declared.time.Time.{Time}
+use Rattle.time_base.specs.declared.tolerance.Tolerance.{Tolerance}
+use Rattle.commands.specs.declared.count.BestCount.{BestCount}
+use Rattle.commands.specs.declared.count.TopCount.{TopCount}
+use Rattle.commands.specs.declared.share.ShareFraction.{ShareFraction}
 use Rattle.commands.specs.declared.text.Text.TheVariants.{Bytes}
-use Rattle.commands.specs.declared.command.Command.TheVariants.{Arrive, Find, Verify}
+use Rattle.commands.specs.declared.command.Command.TheVariants.{Arrive, Find, Verify, Begin, Format, Top, Best, Approx, Rough, Share}
 use Rattle.commands.specs.declared.command.Item.TheVariants.{Command, Line}
 use Rattle.commands.specs.declared.command.Kind.TheVariants.{Guarantee, Uniform, Since}
 use Rattle.script_read.specs.declared.first.First.TheVariants.{Whole, Broken, More, End}
 use Rattle.script_read.specs.Dates.{date, day_number}
-use Rattle.script_read.specs.Values.{fraction}
+use Rattle.script_read.specs.Values.{fraction, tolerance, top_count, best_count, share_fraction, texts}
 use Rattle.script_read.specs.Lines.{meaning, kind, spanning}
 use Rattle.script_read.specs.Items.{first}
 
@@ -114,3 +120,51 @@ finds = refl
 pub no_such_day : (first true (codes "find 1969-12-31 red") ≡ Whole (Some Line) 19) × (first true (codes "find 2007-02-30 red") ≡ Whole (Some Line) 19)
 unfolding meaning is_utf8 chars encode
 no_such_day = (refl, refl)
+
+-- a tolerance may be nothing, and is below the whole; counts are from 1 to their most; a shared budget is at most 16 times the lists
+abbrev part : (a b : ℕ) → nat_lt a b ≡ true → nat_lt b (2 ^ 32) ≡ true → Tolerance
+part a b h k = record { part = a; whole = b; below = ltb-true _ _ h; in_range = ltb-true _ _ k }
+
+abbrev rows : (n : ℕ) → nat_le 1 n ≡ true → nat_le n 1000000 ≡ true → TopCount
+rows n h k = record { number = n; some = leb-true _ _ h; few = leb-true _ _ k }
+
+abbrev best : (n : ℕ) → nat_le 1 n ≡ true → nat_le n 1000 ≡ true → BestCount
+best n h k = record { number = n; some = leb-true _ _ h; few = leb-true _ _ k }
+
+abbrev factor : (a b : ℕ) → nat_le 1 b ≡ true → nat_le b a ≡ true → nat_lt a (2 ^ 32) ≡ true → Fraction
+factor a b h k l = record { over = a; under = b; proper = leb-true _ _ h; at_least_one = leb-true _ _ k; in_range = ltb-true _ _ l }
+
+abbrev shared : (f : Fraction) → nat_le f.over (16 * f.under) ≡ true → ShareFraction
+shared f h = record { fraction = f; bounded = leb-true _ _ h }
+
+pub bounds :
+    (tolerance (codes "0/1") ≡ Some (part 0 1 refl refl))
+    × (tolerance (codes "1/1") ≡ None)
+    × (tolerance (codes "1/4294967296") ≡ None)
+    × (top_count (codes "0") ≡ None)
+    × (top_count (codes "1000000") ≡ Some (rows 1000000 refl refl))
+    × (top_count (codes "1000001") ≡ None)
+    × (best_count (codes "1000") ≡ Some (best 1000 refl refl))
+    × (best_count (codes "1001") ≡ None)
+    × (share_fraction (codes "16/1") ≡ Some (shared (factor 16 1 refl refl refl) refl))
+    × (share_fraction (codes "17/1") ≡ None)
+bounds = (refl, refl, refl, refl, refl, refl, refl, refl, refl, refl)
+
+pub reports :
+    (first true (codes "top 3 10 red") ≡ Whole (Some (Command (Top (rows 3 refl refl) (at 10 refl) (codes "red")))) 12)
+    × (first true (codes "best 2 10 a or b") ≡ Whole (Some (Command (Best (best 2 refl refl) (at 10 refl) (codes "a or b")))) 16)
+    × (first true (codes "approx v 1/4") ≡ Whole (Some (Command (Approx (codes "v") (part 1 4 refl refl)))) 12)
+    × (first true (codes "rough 1/4 15 v") ≡ Whole (Some (Command (Rough (part 1 4 refl refl) (at 15 refl) (codes "v")))) 14)
+    × (first true (codes "share 2/1 v moon") ≡ Whole (Some (Command (Share (shared (factor 2 1 refl refl refl) refl) (codes "v" ∷ codes "moon" ∷ [])))) 16)
+unfolding meaning is_utf8 chars encode texts
+reports = (refl, refl, refl, refl, refl)
+
+pub changes_to_come :
+    (first true (codes "begin v guarantee 2/1") ≡ Whole (Some (Command (Begin (codes "v") (factor 2 1 refl refl refl)))) 21)
+    × (first true (codes "format 2") ≡ Whole (Some (Command Format)) 8)
+    × (first true (codes "begin v space 2/1") ≡ Whole (Some Line) 17)
+    × (first true (codes "format 3") ≡ Whole (Some Line) 8)
+    × (first true (codes "approx v 1/1") ≡ Whole (Some Line) 12)
+    × (first true (codes "share 2/1") ≡ Whole (Some Line) 9)
+unfolding meaning is_utf8 chars encode texts
+changes_to_come = (refl, refl, refl, refl, refl, refl)

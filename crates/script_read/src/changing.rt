@@ -1,6 +1,6 @@
 //! The lines of commands that change an archive, but arrivals: what they say behind their names.
 ghost use Rattle.std.specs.Prelude.{◌≡◌, ◌≤◌, length, IfOk};
-ghost use Rattle.script_read.specs.Lines.{version, deletion, weighting, kind, planning, change};
+ghost use Rattle.script_read.specs.Lines.{version, deletion, weighting, kind, planning, beginning, formatting, change};
 
 use crate::values::{document, fraction, text, time};
 use crate::words::{is_blank, is_named, next_word};
@@ -86,6 +86,32 @@ fn planning(alloc: Global, words: &[u8]) -> Result<Option<Command>, AllocError>
     }
 }
 
+fn beginning(alloc: Global, words: &[u8]) -> Result<Option<Command>, AllocError>
+    requires { length words.now ≤ 4096 }
+    ensures { IfOk result (λ c. c ≡ beginning words.now) }
+{
+    let (word, more) = next_word(words);
+    let (how, bound) = next_word(more);
+    let (factor, rest) = next_word(bound);
+    if !is_named(how, b"guarantee") || !is_blank(rest) {
+        return Ok(None);
+    }
+    match (text(alloc, word)?, fraction(factor)) {
+        (Some(word), Some(fraction)) => Ok(Some(Command::Begin { word, fraction })),
+        _ => Ok(None),
+    }
+}
+
+fn formatting(words: &[u8]) -> Option<Command>
+    ensures { result ≡ formatting words.now }
+{
+    let (number, rest) = next_word(words);
+    if is_named(number, b"2") && is_blank(rest) {
+        return Some(Command::Format);
+    }
+    None
+}
+
 /// The command of this name that changes an archive, with the words behind it. Costs their length.
 pub(crate) fn change(
     alloc: Global,
@@ -100,6 +126,12 @@ pub(crate) fn change(
     }
     if is_named(name, b"plan") {
         return planning(alloc, words);
+    }
+    if is_named(name, b"begin") {
+        return beginning(alloc, words);
+    }
+    if is_named(name, b"format") {
+        return Ok(formatting(words));
     }
     Ok(None)
 }

@@ -18,6 +18,8 @@ mod laws;
 mod line;
 mod passing;
 mod reader;
+mod reporting;
+mod shares;
 mod values;
 mod words;
 

@@ -4,6 +4,7 @@ ghost use Rattle.script_read.specs.Lines.{arrival, command, is_skipped, meaning}
 
 use crate::asking::question;
 use crate::changing::change;
+use crate::reporting::report;
 use crate::values::{document, time};
 use crate::words::{is_blank, is_named, next_word, number_below};
 use commands::{Command, Item};
@@ -58,9 +59,12 @@ fn command(alloc: Global, name: &[u8], words: &[u8]) -> Result<Option<Command>, 
     requires { length words.now ≤ 4096 }
     ensures { IfOk result (λ c. c ≡ command name.now words.now) }
 {
-    match change(alloc, name, words)? {
+    if let Some(command) = change(alloc, name, words)? {
+        return Ok(Some(command));
+    }
+    match question(alloc, name, words)? {
         Some(command) => Ok(Some(command)),
-        None => question(alloc, name, words),
+        None => report(alloc, name, words),
     }
 }
 

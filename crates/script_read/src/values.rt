@@ -1,15 +1,15 @@
 //! The values that words name.
-ghost use Rattle.std.specs.Prelude.{◌≡◌, ◌<◌, ◌≤◌, ◌^◌, length, position, IfOk};
+ghost use Rattle.std.specs.Prelude.{◌≡◌, ◌<◌, ◌≤◌, ◌^◌, length, position, IfOk, IfSome};
 ghost use Rattle.script_read.specs.Dates.{date};
 ghost use Rattle.script_read.specs.Numbers.{number};
-ghost use Rattle.script_read.specs.Values.{or_else, document, time, text, fraction_of, factor_at, fraction, is_slash, span_of};
+ghost use Rattle.script_read.specs.Values.{or_else, document, time, text, fraction_of, parts_at, parts, fraction, tolerance_of, tolerance, top_count_of, top_count, best_count_of, best_count, is_slash, span_of};
 ghost use Rattle.script_read.specs.Lines.{window};
 
 use crate::dates::date_seconds;
 use crate::words::number_below;
-use commands::Phrase;
+use commands::{BestCount, Phrase, TopCount};
 use std::alloc::{AllocError, Global};
-use time_base::{DocId, Fraction, NOW, Span, Time};
+use time_base::{DocId, Fraction, NOW, Span, Time, Tolerance};
 
 /// The document that a word names. Costs the word's length.
 pub(crate) fn document(word: &[u8]) -> Option<DocId>
@@ -57,21 +57,75 @@ fn factor(over: u64, under: u64) -> Option<Fraction>
     Fraction::new(over as u32, under as u32)
 }
 
-/// The factor that a word names with a `/` at this place.
-fn factor_at(word: &[u8], slash: usize) -> Option<Fraction>
+/// The two numbers of a word with a `/` at this place.
+fn parts_at(word: &[u8], slash: usize) -> Option<(u64, u64)>
     requires { slash < length word.now }
-    ensures { result ≡ factor_at word.now slash }
+    ensures value { result ≡ parts_at word.now slash }
+    ensures small { IfSome result (λ p. (p.0 < 2 ^ 32) × (p.1 < 2 ^ 32)) }
 {
-    let over = number_below(1 << 32, &word[..slash])?;
-    let under = number_below(1 << 32, &word[slash + 1..])?;
-    factor(over, under)
+    let one = number_below(1 << 32, &word[..slash])?;
+    let other = number_below(1 << 32, &word[slash + 1..])?;
+    Some((one, other))
+}
+
+/// The two numbers of a word with a `/`.
+fn parts(word: &[u8]) -> Option<(u64, u64)>
+    ensures value { result ≡ parts word.now }
+    ensures small { IfSome result (λ p. (p.0 < 2 ^ 32) × (p.1 < 2 ^ 32)) }
+{
+    parts_at(word, find_slash(word)?)
 }
 
 /// The factor that a word names. Costs the word's length.
 pub(crate) fn fraction(word: &[u8]) -> Option<Fraction>
     ensures { result ≡ fraction word.now }
 {
-    factor_at(word, find_slash(word)?)
+    let (over, under) = parts(word)?;
+    factor(over, under)
+}
+
+fn part(part: u64, whole: u64) -> Option<Tolerance>
+    requires part { part < 2 ^ 32 }
+    requires whole { whole < 2 ^ 32 }
+    ensures { result ≡ tolerance_of part whole }
+{
+    Tolerance::new(part as u32, whole as u32)
+}
+
+/// The tolerance that a word names. Costs the word's length.
+pub(crate) fn tolerance(word: &[u8]) -> Option<Tolerance>
+    ensures { result ≡ tolerance word.now }
+{
+    let (below, whole) = parts(word)?;
+    part(below, whole)
+}
+
+fn top_of(number: u64) -> Option<TopCount>
+    requires { number < 2 ^ 32 }
+    ensures { result ≡ top_count_of number }
+{
+    TopCount::new(number as u32)
+}
+
+/// How many rows a word asks for, of all. Costs the word's length.
+pub(crate) fn top_count(word: &[u8]) -> Option<TopCount>
+    ensures { result ≡ top_count word.now }
+{
+    top_of(number_below(1 << 32, word)?)
+}
+
+fn best_of(number: u64) -> Option<BestCount>
+    requires { number < 2 ^ 32 }
+    ensures { result ≡ best_count_of number }
+{
+    BestCount::new(number as u32)
+}
+
+/// How many rows a word asks for, by the blocks of lists. Costs the word's length.
+pub(crate) fn best_count(word: &[u8]) -> Option<BestCount>
+    ensures { result ≡ best_count word.now }
+{
+    best_of(number_below(1 << 32, word)?)
 }
 
 fn span(from: Time, to: Time) -> Option<Span>

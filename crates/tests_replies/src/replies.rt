@@ -43,8 +43,18 @@ fn refusals_are_answered_by_number_name_and_detail(rt: HostRuntime) {
         (full(Which::Versions), "no 10 Full versions 4194304\n"),
         (full(Which::Journal), "no 10 Full journal 1099511627776\n"),
         (Refusal::BadQuery { offset: 0 }, "no 11 BadQuery 0\n"),
+        (Refusal::Busy, "no 12 Busy\n"),
         (Refusal::UnknownWord, "no 13 UnknownWord\n"),
         (Refusal::NoPlan, "no 14 NoPlan\n"),
+        (Refusal::OneJob, "no 15 OneJob\n"),
+        (Refusal::BatchLine { index: 1000 }, "no 16 BatchLine 1000\n"),
+        (
+            Refusal::BatchTooLong { limit: 16_777_216 },
+            "no 17 BatchTooLong 16777216\n",
+        ),
+        (Refusal::OldFormat, "no 18 OldFormat\n"),
+        (Refusal::HasFormat, "no 19 HasFormat\n"),
+        (Refusal::NotDisjunction, "no 20 NotDisjunction\n"),
     ] {
         page.refused(refusal);
         assert_eq!(rt; page.as_bytes(), text.as_bytes());

@@ -20,6 +20,24 @@ fn a_line_that_is_no_command_is_refused_and_the_run_goes_on(rt: HostRuntime) {
 }
 
 #[test]
+fn a_line_to_come_is_declined_and_the_run_goes_on(rt: HostRuntime) {
+    let alloc = rt.alloc();
+    let script = join(
+        alloc,
+        &[
+            FIRST_SCRIPT,
+            b"begin red guarantee 1/1\nformat 2\nbatch 1\ntop 1 10 red\nbest 1 10 red\napprox red 1/4\nrough 1/4 10 red\nshare 2/1 red\nfind 10 red",
+        ],
+    )
+    .expect(&rt, "memory");
+    let rows = [Row {
+        script: &script,
+        replies: b"ok 1\nno 1 Line\nno 1 Line\nno 1 Line\nno 1 Line\nno 1 Line\nno 1 Line\nno 1 Line\nno 1 Line\nhit 7 1\nend 1 read 1\n",
+    }];
+    expect_rows(alloc, b"", &rows).expect(&rt, "the replies");
+}
+
+#[test]
 fn comments_blank_lines_spaces_and_line_ends(rt: HostRuntime) {
     let rows = [
         Row {

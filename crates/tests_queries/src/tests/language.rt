@@ -116,6 +116,6 @@ fn a_long_chain_is_read(rt: HostRuntime) {
     assert_eq!(rt; refused_at(alloc, text.as_str()), None);
     let text = many(&rt, alloc, 2047, "a ");
     let query = read(&rt, alloc, text.as_str());
-    assert!(rt; !query.matches_without_words() && query.positive().len() == 1);
+    assert!(rt; !query.matches_without_words() && query.weight(0) == 1);
     assert_eq!(rt; query.words().len(), 1);
 }

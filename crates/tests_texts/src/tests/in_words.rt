@@ -1,5 +1,5 @@
 //! Commands in words.
-use commands::{Command, Kind, Text};
+use commands::{BatchItems, Command, Kind, ShareFraction, ShareWords, Text};
 use std::alloc::Global;
 use std::process::Abort;
 
@@ -16,6 +16,33 @@ fn kind_in_words(rt: &impl Abort, alloc: Global, kind: Kind) -> String {
         Kind::Uniform => String::from_str(alloc, "uniform").expect(rt, "memory"),
         Kind::Since { at } => format!(in alloc; "since {}", at.seconds()).expect(rt, "memory"),
     }
+}
+
+fn batch_in_words(rt: &impl Abort, alloc: Global, items: BatchItems) -> String {
+    match items {
+        BatchItems::Items(list) => {
+            format!(in alloc; "batch {}", list.as_slice().len()).expect(rt, "memory")
+        }
+        BatchItems::TooLong { bytes } => {
+            format!(in alloc; "batch too long {bytes}").expect(rt, "memory")
+        }
+    }
+}
+
+fn share_in_words(
+    rt: &impl Abort,
+    alloc: Global,
+    shared: ShareFraction,
+    words: &ShareWords,
+) -> String {
+    let fraction = shared.fraction();
+    let (over, under) = (fraction.over(), fraction.under());
+    let mut line = format!(in alloc; "share {over}/{under}").expect(rt, "memory");
+    for word in words.as_slice() {
+        line.push_str(" ").expect(rt, "memory");
+        line.push_str(word.as_str()).expect(rt, "memory");
+    }
+    line
 }
 
 /// A command in words: its name, its numbers, and what it holds.
@@ -56,5 +83,32 @@ pub(crate) fn command_in_words(rt: &impl Abort, alloc: Global, command: Command)
             rt, "memory",
         ),
         Command::Verify => String::from_str(alloc, "verify").expect(rt, "memory"),
+        Command::Format => String::from_str(alloc, "format 2").expect(rt, "memory"),
+        Command::Batch(items) => batch_in_words(rt, alloc, items),
+        Command::Begin { word, fraction } => {
+            let (over, under) = (fraction.over(), fraction.under());
+            format!(in alloc; "begin {} {over}/{under}", word.as_str()).expect(rt, "memory")
+        }
+        Command::Top { count, at, expr } => {
+            let (count, at) = (count.number(), at.seconds());
+            format!(in alloc; "top {count} {at} {}", expr.as_str()).expect(rt, "memory")
+        }
+        Command::Best { count, at, expr } => {
+            let (count, at) = (count.number(), at.seconds());
+            format!(in alloc; "best {count} {at} {}", expr.as_str()).expect(rt, "memory")
+        }
+        Command::Approx { word, tolerance } => {
+            let (part, whole) = (tolerance.part, tolerance.whole);
+            format!(in alloc; "approx {} {part}/{whole}", word.as_str()).expect(rt, "memory")
+        }
+        Command::Rough {
+            tolerance,
+            at,
+            expr,
+        } => {
+            let (part, whole, at) = (tolerance.part, tolerance.whole, at.seconds());
+            format!(in alloc; "rough {part}/{whole} {at} {}", expr.as_str()).expect(rt, "memory")
+        }
+        Command::Share { fraction, words } => share_in_words(rt, alloc, fraction, &words),
     }
 }

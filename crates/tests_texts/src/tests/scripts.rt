@@ -110,6 +110,81 @@ fn reads_every_command_in_any_pieces(rt: HostRuntime) {
     }
 }
 
+/// Lines to come: each with what is read, or `line` where a bound is broken.
+const LINES_TO_COME: [(&str, &str); 58] = [
+    ("begin v guarantee 3/2", "begin v 3/2"),
+    ("  begin  Straße  guarantee  1/1 ", "begin Straße 1/1"),
+    ("begin v space 3/2 uniform", "line"),
+    ("begin v guarantee 1/2", "line"),
+    ("begin v guarantee 3/2 x", "line"),
+    ("begin v guarantee", "line"),
+    ("begin", "line"),
+    ("format 2", "format 2"),
+    ("format 02", "line"),
+    ("format 1", "line"),
+    ("format", "line"),
+    ("format 2 2", "line"),
+    ("batch 1", "line"),
+    ("batch 0", "line"),
+    ("top 1 15 red or blue", "top 1 15 red or blue"),
+    ("top 1000000 1970-01-02  a  b ", "top 1000000 86400 a  b"),
+    ("top 007 15 v", "top 7 15 v"),
+    ("top 0 15 v", "line"),
+    ("top 1000001 15 v", "line"),
+    ("top 4294967296 15 v", "line"),
+    ("top 1 15", "line"),
+    ("top 1", "line"),
+    ("top v 15 v", "line"),
+    ("best 1 15 v", "best 1 15 v"),
+    ("best 1000 15 a or b", "best 1000 15 a or b"),
+    ("best 0 15 v", "line"),
+    ("best 1001 15 v", "line"),
+    ("best 1 x v", "line"),
+    ("best 1 15 ", "line"),
+    ("approx v 1/4", "approx v 1/4"),
+    ("approx v 0/1", "approx v 0/1"),
+    ("approx v 4294967294/4294967295", "approx v 4294967294/4294967295"),
+    ("approx v 1/1", "line"),
+    ("approx v 2/1", "line"),
+    ("approx v 0/0", "line"),
+    ("approx v 1/4294967296", "line"),
+    ("approx v 1/4 x", "line"),
+    ("approx 1/4", "line"),
+    ("rough 1/4 15 v", "rough 1/4 15 v"),
+    ("rough 0/7 15 not  v", "rough 0/7 15 not  v"),
+    ("rough 1/1 15 v", "line"),
+    ("rough 1/4 15", "line"),
+    ("rough 1/4 v 15", "line"),
+    ("rough 14 15 v", "line"),
+    ("share 2/1 v moon", "share 2/1 v moon"),
+    ("share 16/1 v", "share 16/1 v"),
+    ("share 32/2  v  v ", "share 32/2 v v"),
+    ("share 4294967295/268435456 v", "share 4294967295/268435456 v"),
+    ("share 17/1 v", "line"),
+    ("share 33/2 v", "line"),
+    ("share 4294967295/268435455 v", "line"),
+    ("share 1/2 v", "line"),
+    ("share 2/1", "line"),
+    ("share 2/1 ", "line"),
+    ("share v", "line"),
+    ("share 1/1 a b c d e f g h i j k l m n o p", "share 1/1 a b c d e f g h i j k l m n o p"),
+    ("share 1/1 a b c d e f g h i j k l m n o p q", "line"),
+    ("shares 1/1 a", "line"),
+];
+
+#[test]
+fn reads_each_line_to_come_whole(rt: HostRuntime) {
+    for (line, words) in LINES_TO_COME {
+        expect_answers(
+            &rt,
+            rt.alloc(),
+            line.as_bytes(),
+            3,
+            &["failed", words, "finished"],
+        );
+    }
+}
+
 #[test]
 fn names_the_place_of_what_is_broken(rt: HostRuntime) {
     let faulty = [

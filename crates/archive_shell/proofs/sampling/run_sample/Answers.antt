@@ -9,19 +9,23 @@ use Rattle.archive_state.specs.Stands.{bodies_of}
 use Rattle.archive_state.proofs.HistoryLemmas.{legal_loads}
 use Rattle.archive_state.proofs.StandsLemmas.{spells_one_history, stands_is_archive, not_archive_once}
 use Rattle.archive_shell.specs.declared.status.Status.TheVariants.{Disk, Sink, Memory, NotEmpty}
+use Rattle.gate_journal.proofs.SpellingLemmas.{spells_once}
+use Rattle.record_codec.specs.Spelling.{spelling}
+use Rattle.std.proofs.lemmas.List.{length-map}
+use Rattle.archive_core.specs.Footings.{Whole}
 use Rattle.archive_shell.proofs.SampleLemmas.{empty_stands, not_loaded, sample_completes}
-use Rattle.archive_shell.proofs.ServeLemmas.{keeps_still, load_completes, load_refused, load_undone, synced_if_refused}
+use Rattle.archive_shell.proofs.ServeLemmas.{bodies_still, keeps_still, load_completes, load_refused, load_undone, synced_if_refused}
 use Rattle.archive_shell.proofs.sampling.run_sample.Given.{Over}
 use Rattle.archive_shell.proofs.sampling.run_sample.Goals.{After-fill_and_show, After-length-length}
 use Rattle.archive_shell.proofs.sampling.run_sample.Goals as goal
 
 pub returns-in-Err-clause-spared : goal.returns-in-Err-clause-spared
-returns-in-Err-clause-spared g c = λ disk_tells h each some. (refl, keeps_still h (g.M.Disk.disk c.args.machine.now) each)
+returns-in-Err-clause-spared g c = λ disk_tells h each some. (refl, keeps_still Whole h (g.M.Disk.disk c.args.machine.now) each)
 
 pub returns-in-Err-clause-sampled : goal.returns-in-Err-clause-sampled
 returns-in-Err-clause-sampled g c = λ sink_tells disk_tells stands.
     let m = c.args.machine.now in
-    not_loaded c.args.numbers.seed c.args.numbers.count Memory _ _ _ _ tt (g.met.M.Machine.beside_shown m sink_tells disk_tells) refl (goes_on_same (g.M.Disk.disk m)) (keeps_still [] (g.M.Disk.disk m))
+    not_loaded c.args.numbers.seed c.args.numbers.count Memory _ _ _ _ tt (g.met.M.Machine.beside_shown m sink_tells disk_tells) refl (goes_on_same (g.M.Disk.disk m)) (keeps_still Whole [] (g.M.Disk.disk m))
 
 pub returns-in-Err-load-clause-refused : goal.returns-in-Err-load-clause-refused
 returns-in-Err-load-clause-refused g c = λ disk_tells at refused.
@@ -123,3 +127,26 @@ returns-clause-complete g c = λ disk_tells stands disk sink.
     let at = goal.at.returns-clause-complete g c in
     sample_completes c.fill_and_show.result c.fill_and_show.ensures.ends (λ is. disk (disk_rose g at.After-fill_and_show is)) (λ is. sink (sink_rose g at.After-fill_and_show is))
     (c.fill_and_show.ensures.undamaged disk_tells (c.in-Ok-load.ensures.in_step disk_tells [] stands))
+
+pub returns-in-Err-clause-kept : goal.returns-in-Err-clause-kept
+returns-in-Err-clause-kept g c = λ disk_tells bodies each some. (refl, bodies_still bodies (g.M.Disk.disk c.args.machine.now) each)
+
+pub returns-in-Err-load-clause-kept : goal.returns-in-Err-load-clause-kept
+returns-in-Err-load-clause-kept g c = λ disk_tells bodies each some. ((g.met.M.Machine.disk_alone _ _ c.load.ensures.only).1, c.load.ensures.kept disk_tells bodies each)
+
+pub returns-then-length-gt0-clause-kept : goal.returns-then-length-gt0-clause-kept
+returns-then-length-gt0-clause-kept g c = λ disk_tells bodies each some. ((g.met.M.Machine.disk_alone _ _ c.load.ensures.only).1, c.load.ensures.kept disk_tells bodies each)
+
+pub returns-clause-kept : goal.returns-clause-kept
+returns-clause-kept g c = λ disk_tells bodies each some.
+    let m = c.args.machine.now in
+    let found = c.in-Ok-load.ensures.found disk_tells in
+    let same = spells_once (g.M.Disk.disk m).holds.journal (bodies_of found.0) bodies found.1.1 (each (g.M.Disk.disk m).holds (g.met.M.Disk.holds_allowed m disk_tells)) in
+    absurd (omega (arith, some, c.if-length-gt0.false, c.length-length.ensures, found.1.0.length_is, ap length same, length-map found.0 spelling))
+
+pub returns-then-length-gt0-clause-not_empty : goal.returns-then-length-gt0-clause-not_empty
+returns-then-length-gt0-clause-not_empty g c = λ n is.
+    let same : c.length-length.result ≡ n = cc in (
+      omega (arith, c.if-length-gt0.true, same),
+      λ disk_tells. (let found = c.in-Ok-load.ensures.found disk_tells in (found.0, found.1.1, found.1.0.loadable, sym same ∙ c.length-length.ensures ∙ found.1.0.length_is)),
+    )

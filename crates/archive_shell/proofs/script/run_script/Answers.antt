@@ -1,23 +1,25 @@
-use Rattle.std.proofs.Common.{true, List, [], Err, refl, inl, inr, ap, subst}
+use Rattle.std.proofs.Common.{true, List, [], length, Err, refl, inl, inr, ap, subst}
 use Rattle.machine_model.specs.Areas.{Bytes}
+use Rattle.machine_model.specs.declared.area.Area.TheVariants as areas
 use Rattle.machine_model.specs.States.{SourceState, SinkState, state_by}
 use Rattle.commands.specs.declared.command.Item.{Item}
-use Rattle.gate_journal.specs.Spelled.{Spells}
+use Rattle.page_store.specs.Live.{AreLive}
 use Rattle.script_read.specs.Items.{Splits}
 use Rattle.archive_state.specs.Histories.{History}
-use Rattle.archive_state.specs.Stands.{bodies_of}
+use Rattle.archive_state.specs.Plans.{live_extents}
 use Rattle.archive_state.specs.Worlds.{world_of}
-use Rattle.archive_state.proofs.StandsLemmas.{stands_is_archive, not_archive_once}
-use Rattle.archive_core.proofs.CacheLemmas.{none_cached}
+use Rattle.archive_state.proofs.StandsLemmas.{not_archive_once}
+use Rattle.archive_core.proofs.AddLemmas.{lie_well}
 use Rattle.archive_shell.specs.Asking.{HasEnded}
 use Rattle.archive_shell.specs.Causes.{MayEnd}
 use Rattle.archive_shell.specs.Fetching.{ReadsMissed}
+use Rattle.archive_shell.specs.Headline.{LoadsAs}
 use Rattle.archive_shell.specs.Questions.{AreMade, AreMadeUpTo}
 use Rattle.archive_shell.specs.Serving.{Serves}
 use Rattle.archive_shell.specs.declared.status.Status.TheVariants.{Memory}
-use Rattle.archive_shell.proofs.PullLemmas.{completes, ends_later, later_alone, pulling_start}
+use Rattle.archive_shell.proofs.PullLemmas.{completes, ends_later, later_alone, not_pulled, pulling_start}
 use Rattle.archive_shell.proofs.QuestionLemmas.{asking_start, at_start, made_anywhere, reads_anywhere, stopped_anywhere}
-use Rattle.archive_shell.proofs.ServeLemmas.{keeps_still, load_completes, load_early, load_refused, load_undone, not_begun, serving_start, synced_if_refused, syncs_still, whole_run}
+use Rattle.archive_shell.proofs.ServeLemmas.{begins_archive, begins_in_step, begins_sound, keeps_still, load_keeps, load_completes, load_early, load_ends, load_fails, load_refused, load_undone, not_begun, serving_start, synced_if_refused, syncs_still, whole_run}
 use Rattle.archive_shell.proofs.script.run_script.Given.{Over}
 use Rattle.archive_shell.proofs.script.run_script.Goals.{After-serve}
 use Rattle.archive_shell.proofs.script.run_script.Goals as goal
@@ -26,12 +28,18 @@ pub returns-in-Err-clause-left_alone : goal.returns-in-Err-clause-left_alone
 returns-in-Err-clause-left_alone g c = λ disk_tells at refused. (refl, refl, syncs_still (g.M.Disk.disk c.args.machine.now))
 
 pub returns-in-Err-clause-headline : goal.returns-in-Err-clause-headline
-returns-in-Err-clause-headline g c = λ source_tells sink_tells disk_tells h stands.
+returns-in-Err-clause-headline g c = λ source_tells sink_tells disk_tells f h begins.
     let m = c.args.machine.now in (
       [],
       g.met.M.Machine.asked_laws.of_disk m m (g.met.M.Disk.only_same m),
-      not_begun h Memory _ _ (inr (inr (inl refl))) tt (refl, refl) (g.met.M.Machine.beside_shown m sink_tells disk_tells) (keeps_still h (g.M.Disk.disk m)),
+      not_begun f h Memory _ _ (inr (inr (inl refl))) tt (refl, refl) (g.met.M.Machine.beside_shown m sink_tells disk_tells) (keeps_still f h (g.M.Disk.disk m)),
     )
+
+pub returns-in-Err-clause-loaded : goal.returns-in-Err-clause-loaded
+returns-in-Err-clause-loaded g c = λ disk_tells. inr (inr (inr refl))
+
+pub returns-in-Err-clause-input_at : goal.returns-in-Err-clause-input_at
+returns-in-Err-clause-input_at g c = λ source_tells. inr (not_pulled Memory _ _ (inr (inr (inl refl))) refl)
 
 pub returns-in-Err-load-clause-refused : goal.returns-in-Err-load-clause-refused
 returns-in-Err-load-clause-refused g c = λ disk_tells at refused.
@@ -43,15 +51,22 @@ returns-in-Err-load-clause-left_alone g c = λ disk_tells at refused.
     (alone.0, alone.1, synced_if_refused (g.M.Disk.disk c.args.machine.now) (g.M.Disk.disk c.load.new.disk) at refused (c.in-Err-load.ensures.longer disk_tells))
 
 pub returns-in-Err-load-clause-headline : goal.returns-in-Err-load-clause-headline
-returns-in-Err-load-clause-headline g c = λ source_tells sink_tells disk_tells h stands.
+returns-in-Err-load-clause-headline g c = λ source_tells sink_tells disk_tells f h begins.
     let m = c.args.machine.now in
     let n = c.load.new.disk in
-    let early = load_early c.from.result c.in-Err-load.error c.from.ensures (λ at is. stands_is_archive h (g.M.Disk.disk m).holds at stands (c.in-Err-load.ensures.not_archive disk_tells at (ap Err is))) in (
+    let early = load_early c.from.result c.in-Err-load.error c.from.ensures (λ at is. begins_archive f h (g.M.Disk.disk m).holds at begins (c.in-Err-load.ensures.not_archive disk_tells at (ap Err is))) in (
       [],
       g.met.M.Machine.asked_laws.of_disk m n c.load.ensures.only,
-      not_begun h c.from.result _ _ early (load_undone c.from.result c.in-Err-load.error c.from.ensures) (g.met.M.Machine.disk_alone m n c.load.ensures.only)
-          (g.met.M.Machine.beside_shown m sink_tells disk_tells) (c.in-Err-load.ensures.crash disk_tells h),
+      not_begun f h c.from.result _ _ early (load_undone c.from.result c.in-Err-load.error c.from.ensures) (g.met.M.Machine.disk_alone m n c.load.ensures.only)
+          (g.met.M.Machine.beside_shown m sink_tells disk_tells) (load_keeps f h _ _ (c.load.ensures.crash disk_tells h) (c.load.ensures.kept disk_tells)),
     )
+
+pub returns-in-Err-load-clause-loaded : goal.returns-in-Err-load-clause-loaded
+returns-in-Err-load-clause-loaded g c = λ disk_tells. load_fails c.from.result c.in-Err-load.error (g.M.Disk.disk c.args.machine.now).holds c.from.ensures
+
+pub returns-in-Err-load-clause-input_at : goal.returns-in-Err-load-clause-input_at
+returns-in-Err-load-clause-input_at g c = λ source_tells.
+    load_ends c.from.result c.in-Err-load.error _ _ c.from.ensures (g.met.M.Machine.disk_alone c.args.machine.now c.load.new.disk c.load.ensures.only).0
 
 pub returns-in-Err-load-clause-complete : goal.returns-in-Err-load-clause-complete
 returns-in-Err-load-clause-complete g c = λ source_tells sink_tells disk_tells archive script few disk source sink.
@@ -75,16 +90,6 @@ returns-clause-sink_fault g c = (cause g (goal.at.returns-clause-sink_fault g c)
 pub returns-clause-not_archive : goal.returns-clause-not_archive
 returns-clause-not_archive g c = λ disk_tells at is. absurd (c.serve.ensures.cause.no_load at is)
 
-pub returns-clause-damaged : goal.returns-clause-damaged
-returns-clause-damaged g c = λ disk_tells d is.
-    let alone = g.met.M.Machine.disk_alone c.args.machine.now c.load.new.disk c.load.ensures.only in
-    let found = c.in-Ok-load.ensures.found disk_tells in
-    let (item, spoiled, pulled) = c.serve.ensures.damaged disk_tells found.0 found.1.0 (none_cached (g.M.Disk.disk c.load.new.disk) c.in-Ok-load.archive c.in-Ok-load.ensures.empty) d is in (
-      item,
-      record { loaded = found.0; spelled = found.1.1; added = spoiled.0; spoiled = spoiled.1 },
-      λ source_tells. pulled source_tells _ (pulling_start _ _ c.in-Ok.desk.reader alone.0 c.in-Ok.ensures),
-    )
-
 pub returns-clause-refused : goal.returns-clause-refused
 returns-clause-refused g c = λ disk_tells at refused. absurd (c.in-Ok-load.ensures.exact disk_tells at refused)
 
@@ -92,21 +97,26 @@ pub returns-clause-left_alone : goal.returns-clause-left_alone
 returns-clause-left_alone g c = λ disk_tells at refused. absurd (c.in-Ok-load.ensures.exact disk_tells at refused)
 
 pub returns-clause-headline : goal.returns-clause-headline
-returns-clause-headline g c = λ source_tells sink_tells disk_tells h stands.
+returns-clause-headline g c = λ source_tells sink_tells disk_tells f h begins.
     let m = c.args.machine.now in
     let n = c.load.new.disk in
     let last = c.serve.new.machine in
     let alone = g.met.M.Machine.disk_alone m n c.load.ensures.only in
-    let served = c.serve.ensures.served source_tells sink_tells disk_tells (world_of h)
-    (serving_start h (state_by g.M.Source.source g.M.Sink.sink g.M.Disk.disk n) c.in-Ok-load.archive c.in-Ok.desk.reader c.in-Ok.ensures (g.met.M.Machine.beside_shown n sink_tells disk_tells)
-    (c.in-Ok-load.ensures.in_step disk_tells h stands)) in
-    let S : SourceState → SinkState → Type 0 = λ s t. Serves (world_of h) c.serve.result (record { source = s; sink = t; disk = g.M.Disk.disk n }) (state_by g.M.Source.source g.M.Sink.sink g.M.Disk.disk last) served.0 in (
+    let served = c.serve.ensures.served source_tells sink_tells disk_tells f (world_of h)
+    (serving_start f h (state_by g.M.Source.source g.M.Sink.sink g.M.Disk.disk n) c.in-Ok-load.archive c.in-Ok.desk.reader c.in-Ok.ensures (g.met.M.Machine.beside_shown n sink_tells disk_tells)
+    (begins_sound f h (g.M.Disk.disk m).holds begins) (begins_in_step f h (g.M.Disk.disk m).holds (g.M.Disk.disk n) c.in-Ok-load.archive (c.in-Ok-load.ensures.in_step disk_tells h) (c.in-Ok-load.ensures.recorded disk_tells) begins)) in
+    let S : SourceState → SinkState → Type 0 = λ s t. Serves f (world_of h) c.serve.result (record { source = s; sink = t; disk = g.M.Disk.disk n }) (state_by g.M.Source.source g.M.Sink.sink g.M.Disk.disk last) served.0 in (
       served.0,
       g.met.M.Machine.asked_laws.join m n last [] served.0 (g.met.M.Machine.asked_laws.of_disk m n c.load.ensures.only) served.1,
-      whole_run h c.serve.result (state_by g.M.Source.source g.M.Sink.sink g.M.Disk.disk m) (g.M.Disk.disk n) (state_by g.M.Source.source g.M.Sink.sink g.M.Disk.disk last) served.0
-          (g.met.M.Machine.beside_shown m sink_tells disk_tells) (c.in-Ok-load.ensures.crash disk_tells h)
+      whole_run f h c.serve.result (state_by g.M.Source.source g.M.Sink.sink g.M.Disk.disk m) (g.M.Disk.disk n) (state_by g.M.Source.source g.M.Sink.sink g.M.Disk.disk last) served.0
+          (g.met.M.Machine.beside_shown m sink_tells disk_tells) (load_keeps f h _ _ (c.load.ensures.crash disk_tells h) (c.load.ensures.kept disk_tells))
           (subst (λ (s : SourceState). S s (g.M.Sink.sink m)) alone.0 (subst (λ (t : SinkState). S (g.M.Source.source n) t) alone.1 served.2)),
     )
+
+pub returns-clause-input_at : goal.returns-clause-input_at
+returns-clause-input_at g c = λ source_tells.
+    let alone = g.met.M.Machine.disk_alone c.args.machine.now c.load.new.disk c.load.ensures.only in
+    inr (c.serve.ensures.ends source_tells _ (pulling_start _ _ c.in-Ok.desk.reader alone.0 c.in-Ok.ensures))
 
 pub returns-clause-complete : goal.returns-clause-complete
 returns-clause-complete g c = λ source_tells sink_tells disk_tells archive script few disk source sink.
@@ -127,10 +137,24 @@ ended g c source_tells sink_tells tells =
 
 -- what is told by these bytes, for the history that was found, is told by those at entry
 loaded : (g : Over) (c : After-serve g) (tells : g.M.Disk.disk_tells) (P : History → Bytes → Type 0) → ((p q : Bytes) → P [] p → P [] q) → P (c.in-Ok-load.ensures.found tells).0 (g.M.Disk.disk c.load.new.disk).holds
-    → (h : History) × Spells (g.M.Disk.disk c.args.machine.now).holds.journal (bodies_of h) × P h (g.M.Disk.disk c.args.machine.now).holds
+    → (h : History) × LoadsAs h (g.M.Disk.disk c.args.machine.now).holds × P h (g.M.Disk.disk c.args.machine.now).holds
 loaded g c tells P anywhere told =
     let found = c.in-Ok-load.ensures.found tells in
-    (found.0, found.1.1, at_start P anywhere found.0 (g.M.Disk.disk c.args.machine.now) (g.M.Disk.disk c.load.new.disk) found.1.1 found.1.0.loadable (c.in-Ok-load.ensures.longer tells) told)
+    let first = λ (Q : History → Bytes → Type 0) (none : (p q : Bytes) → Q [] p → Q [] q). at_start Q none found.0 (g.M.Disk.disk c.args.machine.now) (g.M.Disk.disk c.load.new.disk) found.1.1 found.1.0.loadable (c.in-Ok-load.ensures.longer tells) in
+    (
+      found.0,
+      record {
+        spelled = found.1.1;
+        loadable = found.1.0.loadable;
+        live = first (λ h b. AreLive (live_extents h) (length b.pages)) (λ p q live. live) (lie_well found.0 (g.M.Disk.disk c.load.new.disk) c.in-Ok-load.archive found.1.0 c.in-Ok-load.ensures.within (g.met.M.Disk.reach_holds c.load.new.disk areas.Pages tells));
+      },
+      first P anywhere told,
+    )
+
+pub returns-clause-loaded : goal.returns-clause-loaded
+returns-clause-loaded g c = λ disk_tells.
+    let found = loaded g (goal.at.returns-clause-loaded g c).After-serve disk_tells (λ h b. Unit {0}) (λ p q any. any) tt in
+    inl (found.0, found.1)
 
 pub returns-clause-questions : goal.returns-clause-questions
 returns-clause-questions g c = λ source_tells sink_tells disk_tells asked split all is.

@@ -1,4 +1,4 @@
-use Rattle.std.proofs.Common.{◌++◌, Err, ap}
+use Rattle.std.proofs.Common.{◌++◌}
 use Rattle.archive_shell.proofs.PullLemmas.{ends_later, later_joins, left_joins}
 use Rattle.archive_shell.proofs.serve.serve.Goals as goal
 
@@ -11,25 +11,19 @@ items-preserved g c =
       left = left_joins _ _ _ _ _ _ _ was.left now.left;
       asking = λ source_tells sink_tells disk_tells h image began start. now.asks source_tells sink_tells disk_tells h image _ (was.asking source_tells sink_tells disk_tells h image began start);
       pulling = λ source_tells began start. now.pulls source_tells _ (was.pulling source_tells began start);
-      serving = λ source_tells sink_tells disk_tells w start.
-          let so_far = was.serving source_tells sink_tells disk_tells w start in
-          let next = now.goes_on source_tells sink_tells disk_tells w _ so_far.0 so_far.2 in
+      serving = λ source_tells sink_tells disk_tells f w start.
+          let so_far = was.serving source_tells sink_tells disk_tells f w start in
+          let next = now.goes_on source_tells sink_tells disk_tells f w _ so_far.0 so_far.2 in
           (so_far.0 ++ next.0, g.met.M.Machine.asked_laws.join _ _ _ so_far.0 next.0 so_far.1 next.1, next.2);
     }
-
-pub returns-in-Err-clause-damaged : goal.returns-in-Err-clause-damaged
-returns-in-Err-clause-damaged g c = λ tells h stands cached d is.
-    let before = c.items.invariant.left.follows h stands in
-    let (item, spoils, pulled) = c.in-Err.ensures.damaged tells (h ++ before.0) before.1 (c.items.invariant.left.cached tells cached) d (ap Err is) in
-    (item, (before.0, spoils), λ source_tells began start. pulled source_tells _ (c.items.invariant.pulling source_tells began start))
 
 pub returns-in-Err-clause-ends : goal.returns-in-Err-clause-ends
 returns-in-Err-clause-ends g c = λ source_tells began start. c.in-Err.ensures.pulls source_tells _ (c.items.invariant.pulling source_tells began start)
 
 pub returns-in-Err-clause-served : goal.returns-in-Err-clause-served
-returns-in-Err-clause-served g c = λ source_tells sink_tells disk_tells w start.
-    let so_far = c.items.invariant.serving source_tells sink_tells disk_tells w start in
-    let next = c.in-Err.ensures.goes_on source_tells sink_tells disk_tells w _ so_far.0 so_far.2 in
+returns-in-Err-clause-served g c = λ source_tells sink_tells disk_tells f w start.
+    let so_far = c.items.invariant.serving source_tells sink_tells disk_tells f w start in
+    let next = c.in-Err.ensures.goes_on source_tells sink_tells disk_tells f w _ so_far.0 so_far.2 in
     (so_far.0 ++ next.0, g.met.M.Machine.asked_laws.join _ _ _ so_far.0 next.0 so_far.1 next.1, next.2)
 
 pub returns-in-Err-clause-asks : goal.returns-in-Err-clause-asks

@@ -2,7 +2,8 @@ use Rattle.std.proofs.Common.{Result, inl, subst}
 use Rattle.archive_replay.specs.Entries.{IsPrepared}
 use Rattle.archive_replay.specs.declared.preparing.Prepared.{Prepared}
 use Rattle.archive_replay.specs.declared.error.Declined.{Declined}
-use Rattle.archive_core.proofs.AddLemmas.{adds_entry, leads_entry, adds_none, leads_nowhere, pages_nowhere}
+use Rattle.archive_core.specs.Footings.{Alone}
+use Rattle.archive_core.proofs.AddLemmas.{adds_entry, enters_entry, leads_entry, adds_none, leads_nowhere, on_nowhere, pages_nowhere}
 use Rattle.archive_core.proofs.archive.Archive.add.Goals as goal
 
 pub commit-requires-clause-next : goal.commit-requires-clause-next
@@ -32,3 +33,11 @@ returns-in-Err-clause-leads g c = λ tells h entry refusal in_step prepared. (le
 
 pub returns-in-Err-clause-pages : goal.returns-in-Err-clause-pages
 returns-in-Err-clause-pages g c = λ tells. pages_nowhere _
+
+pub returns-in-Ok-clause-enters : goal.returns-in-Ok-clause-enters
+returns-in-Ok-clause-enters g c = λ tells h entry refusal was prepared.
+    let is = subst (λ (p : Result Prepared Declined). IsPrepared h c.args.self.now.index entry refusal p) c.in-Ok.is prepared in
+    enters_entry c.commit.result c.args.self.now c.commit.new.self _ _ h entry c.in-Ok.prepared.change c.in-Ok.prepared.body.items c.in-Ok.prepared.words was is.0 is.1 c.commit.ensures.more (c.commit.ensures.crash tells _ was.journal) (c.commit.ensures.in_step tells _ was.journal) (λ ok. c.commit.ensures.cached tells was.cached (inl ok))
+
+pub returns-in-Err-clause-enters : goal.returns-in-Err-clause-enters
+returns-in-Err-clause-enters g c = λ tells h entry refusal was prepared. (on_nowhere Alone _ c.args.self.now h _ was, tt)

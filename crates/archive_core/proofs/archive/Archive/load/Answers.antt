@@ -2,10 +2,10 @@ use Rattle.std.proofs.Common.{◌≡◌, ℕ, ◌∙◌, List, [], length, inl, 
 use Rattle.std.proofs.lemmas.Result.{IfOk-weaker, err_from_is_err_and}
 use Rattle.machine_model.specs.declared.area.Area.TheVariants.{Pages}
 use Rattle.gate_journal.specs.Spelled.{Spells}
-use Rattle.gate_journal.proofs.LoadLemmas.{sync_reads}
+use Rattle.gate_journal.proofs.LoadLemmas.{kept_reads, sync_reads}
 use Rattle.archive_state.specs.Stands.{bodies_of}
 use Rattle.archive_state.proofs.StandsLemmas.{stands_is_archive}
-use Rattle.archive_core.proofs.AddLemmas.{history_loaded, pages_reads, in_step_loaded, journal_exit, IfOk-both}
+use Rattle.archive_core.proofs.AddLemmas.{recorded_loaded, history_loaded, pages_reads, in_step_loaded, journal_exit, IfOk-both}
 use Rattle.archive_core.proofs.archive.Archive.load.Given.{Over}
 use Rattle.archive_core.proofs.archive.Archive.load.Goals as goal
 
@@ -70,3 +70,14 @@ returns-clause-longer g c = λ tells longer.
 
 pub returns-clause-pages : goal.returns-clause-pages
 returns-clause-pages g c = λ tells. pages_reads (g.D.Disk.disk c.args.disk.now) (g.D.Disk.disk c.load.new.disk) (g.D.Disk.disk c.archive_of.new.disk) (c.load.ensures.pages tells) c.archive_of.ensures.same
+
+pub returns-clause-recorded : goal.returns-clause-recorded
+returns-clause-recorded g c = λ tells.
+    let found = c.in_ok-journal.ensures.found tells in
+    let step = c.in_ok-journal.ensures.in_step tells found.bodies found.spelled in
+    IfOk-both c.archive_of.result _ _ _ (λ a (end, empty) all. recorded_loaded a (g.D.Disk.disk c.load.new.disk) (g.D.Disk.disk c.archive_of.new.disk) (g.D.Disk.disk c.args.disk.now).holds c.in_ok-journal.journal.end found.bodies all.0
+    all.1.0 empty end all.1.1 found.spelled step.1 c.archive_of.ensures.same)
+    (IfOk-both c.archive_of.result _ _ (λ a. (a.end ≡ c.in_ok-journal.journal.end) × (a.shelf.cache ≡ [])) (λ a end empty. (end, empty)) c.archive_of.ensures.end c.archive_of.ensures.empty) (c.archive_of.ensures.found tells found.bodies (c.deref.ensures.value ∙ found.laid_out.heads_are) step.2)
+
+pub returns-clause-kept : goal.returns-clause-kept
+returns-clause-kept g c = λ tells bodies each. kept_reads bodies (g.D.Disk.disk c.args.disk.now) (g.D.Disk.disk c.load.new.disk) (g.D.Disk.disk c.archive_of.new.disk) (c.load.ensures.crash tells bodies each) c.archive_of.ensures.same

@@ -9,10 +9,12 @@ use Rattle.archive_state.specs.Histories.{History}
 use Rattle.archive_state.specs.Plans.{with_plan, live_extents}
 use Rattle.archive_state.proofs.HistoryLemmas.{legal-push}
 use Rattle.archive_core.specs.Adding.{HasSameShelf}
+use Rattle.archive_state.specs.Stands.{bodies_of}
+use Rattle.archive_core.specs.Footings.{IsRecorded}
 use Rattle.archive_core.specs.States.{ArchiveState, StandsFor, AreInStep}
 use Rattle.plan_shelf.specs.Shelves.{extents_all}
 use Rattle.plan_shelf.specs.Readying.{IsFull, summary_of, tells_of}
-use Rattle.archive_core.proofs.AddLemmas.{given_up_cached, given_up_refused, inside_on}
+use Rattle.archive_core.proofs.AddLemmas.{bodies_more, enters_more, given_up_cached, given_up_refused, inside_on}
 use Rattle.archive_core.proofs.CacheLemmas.{cached_on}
 use Rattle.archive_core.proofs.StoreLemmas.{ready_storable, ready_stored, stands_planned, placed_inside, same_shelf, stands_still}
 use Rattle.archive_core.proofs.archive.Archive.store.Given.{Over}
@@ -130,6 +132,39 @@ returns-in-Err-write_ready-clause-leads g c = λ tells h now is.
       (
         ready_stored h c.args.draft c.end.result c.self.inside.entries r (c.end.ensures.end ∙ stands.end_is) ready (c.in-Ok.ensures.placed _ stands.pages_are),
         c.in-Err-write_ready.ensures.crash tells h in_step.journal in_step.held in_step.legal storable,
+        tt,
+      ),
+    )
+
+pub returns-in-Ok-write_ready-clause-enters : goal.returns-in-Ok-write_ready-clause-enters
+returns-in-Ok-write_ready-clause-enters g c = λ tells h now is.
+    let was = subst (λ (s : ArchiveState). IsRecorded (g.D.Disk.disk c.args.disk.now) s h) (sym c.self.view_is) now in
+    let r = c.in-Ok.ready in
+    let ready = c.in-Ok.ensures.ready in (
+      r.stored.plan,
+      (
+        ready_stored h c.args.draft c.end.result c.self.inside.entries r (c.end.ensures.end ∙ was.stands.end_is) ready (c.in-Ok.ensures.placed _ was.stands.pages_are),
+        enters_more h (entries.Planned r.stored.plan) r.frame _ _ ready.framed (c.in-Ok-write_ready.ensures.enters tells (bodies_of h) was.journal),
+        (
+          ap summary_of c.in-Ok-write_ready.ensures.report ∙ ready.told ∙ ap (λ (n : ℕ). tells_of c.args.draft (n + 1)) was.stands.length_is,
+          record {
+            stands = planned g c h now.stands;
+            journal = rw (← bodies_more h (entries.Planned r.stored.plan) r.frame ready.framed) (c.in-Ok-write_ready.ensures.entered tells (bodies_of h) was.journal);
+            cached = returns-in-Ok-write_ready-clause-cached g c tells now.cached (inl refl);
+          },
+        ),
+      ),
+    )
+
+pub returns-in-Err-write_ready-clause-enters : goal.returns-in-Err-write_ready-clause-enters
+returns-in-Err-write_ready-clause-enters g c = λ tells h now is.
+    let was = subst (λ (s : ArchiveState). IsRecorded (g.D.Disk.disk c.args.disk.now) s h) (sym c.self.view_is) now in
+    let r = c.in-Ok.ready in
+    let ready = c.in-Ok.ensures.ready in (
+      r.stored.plan,
+      (
+        ready_stored h c.args.draft c.end.result c.self.inside.entries r (c.end.ensures.end ∙ was.stands.end_is) ready (c.in-Ok.ensures.placed _ was.stands.pages_are),
+        enters_more h (entries.Planned r.stored.plan) r.frame _ _ ready.framed (c.in-Err-write_ready.ensures.enters tells (bodies_of h) was.journal),
         tt,
       ),
     )
