@@ -130,7 +130,7 @@ posting-of d t [] some = absurd (omega (arith, some))
 posting-of d t (p ∷ list) some = go (p.doc.0 == d) (holds t p) refl refl some (λ m. posting-of d t list m)
   where
     further : (q : Posting) × Contains list q × (q.doc.0 ≡ d) × (holds t q ≡ true) → (q : Posting) × Contains (p ∷ list) q × (q.doc.0 ≡ d) × (holds t q ≡ true)
-    further (q, c, r) = (q, later p q list c, r)
+    further (q, c, i, r) = (q, later p q list c, i, r)
 
     go : (x y : Bool) → p.doc.0 == d ≡ x → holds t p ≡ y → 0 < (if (x && y) then p.tf else frequency d t list) → (0 < frequency d t list → (q : Posting) × Contains list q × (q.doc.0 ≡ d) × (holds t q ≡ true))
         → (q : Posting) × Contains (p ∷ list) q × (q.doc.0 ≡ d) × (holds t q ≡ true)

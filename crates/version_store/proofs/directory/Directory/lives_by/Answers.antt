@@ -1,4 +1,4 @@
-use Rattle.std.proofs.Common.{◌≡◌, ℕ, length, get_or, Contains, arith, ap, sym, subst, refl, ◌∙◌, inl, inr}
+use Rattle.std.proofs.Common.{◌≡◌, ◌<◌, ℕ, length, get_or, Contains, arith, ap, sym, subst, refl, ◌∙◌, inl, inr}
 use Rattle.std.proofs.lemmas.List.Elements.{Contains-get_or}
 use Rattle.stretches.specs.Kinds.{life_kind}
 use Rattle.stretches.specs.declared.event.Event.{Event}
@@ -13,7 +13,7 @@ pub loop-i-preserved : goal.loop-i-preserved
 loop-i-preserved c = λ f w one.
     let events = c.args.events.now in
     let i = c.loop-i.i in
-    let within : i < length events = omega (arith, c.loop-i-test.true, c.len-i-end.ensures) in
+    let within : i < length events = omega (arith, c.loop-i-test.true) in
     let there = λ (e : Event) (is : e ≡ get_or events i e). subst (λ x. Contains events x) (sym is) (Contains-get_or events i e within) in
     elim c.match-life_from.branch [
       | in-Some+in_ok-note p ↦ put life_kind f c.args.span.from c.args.span.to events events c.requires w i within refl
@@ -25,4 +25,4 @@ loop-i-preserved c = λ f w one.
     ]
 
 pub returns : goal.returns
-returns c = λ f w one. finish f c.args.span.from c.args.span.to life_kind c.args.events.now c.loop-i.i c.loop-i.lives.items (omega (arith, c.loop-i-test.false, c.len-i-end.ensures)) (c.loop-i.invariant f w one)
+returns c = λ f w one. finish f c.args.span.from c.args.span.to life_kind c.args.events.now c.loop-i.i c.loop-i.lives.items (omega (arith, c.loop-i-test.false)) (c.loop-i.invariant f w one)
