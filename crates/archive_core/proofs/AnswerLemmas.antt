@@ -1,5 +1,5 @@
 -- The answer at a time over the documents that the archive in hand has alive is one over those of the history.
-use Rattle.std.proofs.Common.{◌≡◌, ◌↔◌, ℕ, ◌+◌, ◌<◌, ◌^◌, Bool, true, false, List, All, Contains, Option, Some, None, IsSome, is_some, refl, ap, sym, subst, ◌∙◌}
+use Rattle.std.proofs.Common.{◌≡◌, ◌↔◌, ℕ, ◌+◌, ◌<◌, ◌^◌, Bool, true, false, List, All, Contains, Option, Some, None, IsSome, is_some, refl, ap, sym, subst, ◌∙◌, arith}
 use Rattle.std.proofs.lemmas.List.Elements.{All-weaker}
 use Rattle.time_base.specs.declared.ids.DocId.{DocId}
 use Rattle.time_base.specs.declared.text_place.TextPlace.{TextPlace}
@@ -42,16 +42,19 @@ by_alive a h t query often docs rows stands is answer =
 
 -- ---- over those that have a word, where others don't match, and are alive
 
+-- no word of which no plan is in hand has a live plan
+pub none_planned : (a : ArchiveState) (h : History) (words : List (List ℕ)) → StandsFor a h → All (λ word. All (λ s. is_another word s ≡ true) a.shelf.plans) words → All (λ word. plan_of h word ≡ None) words
+none_planned a h words stands others =
+    All-weaker (λ word. All (λ s. is_another word s ≡ true) a.shelf.plans) (λ word. plan_of h word ≡ None) (λ word each. unplanned_is a h word stands each) words others
+
 -- where no word has a plan, all that are told of are alive
 pub by_unplanned : (a : ArchiveState) (h : History) (pages : List ℕ) (t : ℕ) (query : Query) (parts : List Part) (rows : List Row) → t < 2 ^ 40 → StandsFor a h
     → All (λ word. All (λ s. is_another word s ≡ true) a.shelf.plans) (words_of query) → AreChosen h pages t (t + 1) (words_of query) parts → matches query (λ _. 0) ≡ false
     → IsAnswer (HasHit (words_of query) parts t) (λ doc. told (words_of query) parts t doc.0) query rows
     → IsAnswer (λ doc. IsSome (text_at h doc t)) (λ doc. told (words_of query) parts t doc.0) query rows
 by_unplanned a h pages t query parts rows now stands others chosen bare answer =
-    let none : All (λ word. plan_of h word ≡ None) (words_of query) =
-    All-weaker (λ word. All (λ s. is_another word s ≡ true) a.shelf.plans) (λ word. plan_of h word ≡ None) (λ word each. unplanned_is a h word stands each) (words_of query) others in
     only_hits_matter (λ doc. IsSome (text_at h doc t)) (HasHit (words_of query) parts t) (λ doc. told (words_of query) parts t doc.0) query rows bare
-    (λ doc hit. unplanned_alive h pages t (words_of query) parts doc now none chosen hit)
+    (λ doc hit. unplanned_alive h pages t (t + 1) t (words_of query) parts doc (omega (arith, now)) (none_planned a h (words_of query) stands others) chosen (omega arith) (omega arith) hit)
     (λ doc k is within some. record { place = k; within = within; some = some })
     answer
 

@@ -108,7 +108,7 @@ impl Archive {
     }
 
     /// Whether one of some words has a plan. Costs a search among the plans for each word.
-    fn is_any_planned(&self, words: &[Key]) -> bool
+    pub(crate) fn is_any_planned(&self, words: &[Key]) -> bool
         ensures { result ≡ false → All (λ word. All (λ s. is_another word s ≡ true) self.now.shelf.plans) words.now }
     {
         for word in words {

@@ -1,11 +1,11 @@
 //! What an archive is asked over a window of time.
-ghost use Rattle.std.specs.Prelude.{◌≡◌, length, is_some, IfOk};
+ghost use Rattle.std.specs.Prelude.{◌≡◌, ℕ, List, length, is_some, IfOk};
 ghost use Rattle.query_lang.specs.Meaning.{words_of};
 ghost use Rattle.query_eval.specs.Asked.{read_of};
 ghost use Rattle.query_eval.specs.Found.{told};
 ghost use Rattle.query_eval.specs.Spans.{IsSpanAnswer};
 ghost use Rattle.archive_state.specs.Histories.{History, text_at};
-ghost use Rattle.archive_state.specs.Chosen.{IsMadeOver};
+ghost use Rattle.archive_state.specs.Chosen.{AreChosen, IsMadeOver};
 ghost use Rattle.archive_core.specs.After.{AfterFetching, AfterQuestion, Fetches};
 ghost use Rattle.archive_core.specs.States.{StandsFor, AreInStep, Reaches};
 ghost use Rattle.archive_core.specs.Takes.{Takes, spanned};
@@ -16,7 +16,7 @@ use crate::archive::Archive;
 use crate::error::{AskError, asked};
 use commands::Phrase;
 use machine_model::Disk;
-use query_eval::{Part, SpanAnswer, answer_over};
+use query_eval::{Part, SpanAnswer, answer_over, answer_over_hits, docs_met};
 use query_lang::Query;
 use std::alloc::{AllocError, Global};
 use sublist_store::FetchError;
@@ -31,9 +31,12 @@ impl Archive {
     /// plan says. `Failed`: the disk failed.
     /// Costs the query's length. Of each word with a plan, the sublists of the segments that overlap the
     /// window are read from Pages, and its list in memory from the horizon on, where the window
-    /// reaches past it; of each other word its list in memory. Then it costs what the directory's
-    /// `lives` does, and a sort of the postings and the lives. A page that was read before is not read
-    /// again while it is among the 1,024 that were used last.
+    /// reaches past it; of each other word its list in memory. Then the postings in the window are
+    /// sorted, and no document is looked up. Where a word has a plan, each document with a posting in
+    /// the window is looked up once, with steps in the logarithm of its changes and one for each of its
+    /// changes in the window; where the query matches without any of its words, it costs what the
+    /// directory's `lives` does. A page that was read before is not read again while it is among the
+    /// 1,024 that were used last.
     pub fn between<D: Disk>(
         &mut self,
         alloc: Global,
@@ -84,11 +87,22 @@ impl Archive {
     ) -> Result<SpanAnswer, AllocError>
         requires { length parts.now ≡ length (words_of query.now) }
         ensures read { IfOk result (λ answer. answer.read ≡ read_of parts.now) }
-        ensures rows { (h : History) → StandsFor self.now h → IfOk result (λ answer. IsSpanAnswer (λ doc t. is_some (text_at h doc t))
+        ensures rows { (h : History) (pages : List ℕ) → StandsFor self.now h → AreChosen h pages span.from span.to (words_of query.now) parts.now → IfOk result (λ answer. IsSpanAnswer (λ doc t. is_some (text_at h doc t))
             (λ doc t. told (words_of query.now) parts.now t doc.0) query.now span.from span.to answer.rows.items) }
     {
-        let lives = self.directory().lives(alloc, span)?;
-        let answer = answer_over(alloc, query, span, parts, &lives)?;
+        if query.matches_without_words() {
+            let lives = self.directory().lives(alloc, span)?;
+            let answer = answer_over(alloc, query, span, parts, &lives)?;
+            return Ok(answer);
+        }
+        if self.is_any_planned(query.words()) {
+            // All postings lie within lives of their documents, but for bytes of Pages that no archive wrote.
+            let docs = docs_met(alloc, parts, span)?;
+            let lives = self.directory().lives_of(alloc, &docs, span)?;
+            let answer = answer_over(alloc, query, span, parts, &lives)?;
+            return Ok(answer);
+        }
+        let answer = answer_over_hits(alloc, query, span, parts)?;
         Ok(answer)
     }
 }

@@ -201,10 +201,10 @@ module _ (h : History) (a b : ℕ) where
       )
 
 pub unplanned_alive : UnplannedHitsAreAlive
-unplanned_alive h pages t words parts doc now none are hit =
+unplanned_alive h pages a b t words parts doc now none are from to hit =
     let word = get_or words hit.place [] in
-    let tell = unplanned_tell h t (t + 1) pages words parts (omega (arith, now)) none are in
-    has_word word (text_at h doc t) (omega (arith, hit.some, told_by h t (t + 1) words parts doc t hit.place [] (omega arith) (omega arith) tell hit.within))
+    let tell = unplanned_tell h a b pages words parts now none are in
+    has_word word (text_at h doc t) (omega (arith, hit.some, told_by h a b words parts doc t hit.place [] from to tell hit.within))
 
 module _ (h : History) (pages : List ℕ) (a b : ℕ) (now : b ≤ 2 ^ 40) (loads : IsLoadable h) (held_all : HoldsPlans h pages) where
   -- what is chosen from pages that hold the live plans does

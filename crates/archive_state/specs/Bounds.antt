@@ -65,8 +65,9 @@ abbrev pub HeldIsUndamaged : Type 0
 HeldIsUndamaged =
     (h : History) (pages : List ℕ) (word : List ℕ) (a b : ℕ) (damage : Damage) → IsLoadable h → HoldsPlans h pages → IsDamagedFor h pages word a b damage → ⊥
 
--- Whatever is in Pages: a document that has one of some words without plans at a time, by what is chosen of them, is alive then.
+-- Whatever is in Pages: a document that has one of some words without plans at a time in [a, b), by what is chosen of them for [a, b), is alive
+-- then.
 abbrev pub UnplannedHitsAreAlive : Type 0
 UnplannedHitsAreAlive =
-    (h : History) (pages : List ℕ) (t : ℕ) (words : List (List ℕ)) (parts : List Part) (doc : DocId) → t < 2 ^ 40 → All (λ word. plan_of h word ≡ None) words
-    → AreChosen h pages t (t + 1) words parts → HasHit words parts t doc → IsSome (text_at h doc t)
+    (h : History) (pages : List ℕ) (a b t : ℕ) (words : List (List ℕ)) (parts : List Part) (doc : DocId) → b ≤ 2 ^ 40 → All (λ word. plan_of h word ≡ None) words
+    → AreChosen h pages a b words parts → a ≤ t → t < b → HasHit words parts t doc → IsSome (text_at h doc t)

@@ -11,3 +11,4 @@ mod Changing
 mod FactLemmas
 mod OverHits
 pub mod SpanRows
+pub mod MetLemmas

@@ -4,6 +4,7 @@ pub mod Facts
 pub mod Found
 pub mod Hits
 pub mod Laws
+pub mod Met
 pub mod SpanLaws
 pub mod Spans
 pub mod Windows

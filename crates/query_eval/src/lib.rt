@@ -12,6 +12,7 @@ mod facts;
 mod found;
 mod hit;
 mod laws;
+mod met;
 mod part;
 mod span_laws;
 mod spans;
@@ -19,8 +20,10 @@ mod spans;
 pub use answer::{Answer, Row};
 pub use found::{answer_at, answer_by_hits, answer_by_living_hits, answer_from, parts_at};
 pub use laws::{an_answer_is_one, each_query_has_an_answer, only_hits_matter, only_words_matter};
+pub use met::docs_met;
 pub use part::{EvalError, Lists, Part};
-pub use span_laws::{a_span_answer_is_one, each_window_has_an_answer, span_rows_are_the_longest};
-pub use spans::{
-    SpanAnswer, SpanRow, answer_between, answer_over, answer_over_hits, parts_between,
+pub use span_laws::{
+    a_span_answer_is_one, each_window_has_an_answer, hits_are_met, only_hits_matter_over,
+    span_rows_are_the_longest,
 };
+pub use spans::{SpanAnswer, SpanRow, answer_between, answer_over, answer_over_hits, parts_between};

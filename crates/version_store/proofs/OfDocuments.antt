@@ -11,8 +11,9 @@ use Rattle.stretches.specs.Events.{ChangesAt, NoneIn}
 use Rattle.stretches.specs.declared.event.Event.{Event}
 use Rattle.stretches.proofs.Elements.{here-or-later, none}
 use Rattle.version_store.specs.declared.change.Change.{Change}
+use Rattle.version_store.specs.Changes.{held_at}
 use Rattle.version_store.specs.Lives.{AreEventsOf, lived, lived_of}
-use Rattle.version_store.proofs.Changing.{held-still, lived-by}
+use Rattle.version_store.proofs.Changing.{alive-said, held-still, lived-by}
 use Rattle.version_store.proofs.Indexed.{same, same-is}
 
 pub given : (d : ℕ) (docs : List DocId) → list_any (λ doc. d == doc.0) docs ≡ true → Contains docs (record { 0 = d })
@@ -85,3 +86,15 @@ module _ {A : Type 0} (changes : List (Change A)) (a b : ℕ) where
       silent : (d t : ℕ) → a ≤ t → ((x : Event) → Contains events x → x.doc.0 ≡ d → x.at.seconds ≤ t → ⊥) → (q : Bool) → list_any (λ doc. d == doc.0) docs ≡ q → (if q then lived changes d t else None) ≡ None
       silent d t x n false h = refl
       silent d t x n true h = absurd (let (z, k, j, i) = w.started (record { 0 = d }) (given d docs h) in n z k (ap (λ (q : DocId). q.0) j) (omega (arith, i, x)))
+
+  -- a document is alive by the lives of some where it is one of them, and alive
+  pub given-said : (docs : List DocId) (doc : DocId) (t : ℕ) (q : Bool) → q ≡ is_some (lived_of docs changes doc.0 t)
+      → (IsTrue q → Contains docs doc × IsSome (held_at doc t changes)) × (Contains docs doc × IsSome (held_at doc t changes) → IsTrue q)
+  given-said docs doc t q e = go (list_any (λ x. doc.0 == x.0) docs) refl
+    where
+      says : (g : Bool) → list_any (λ x. doc.0 == x.0) docs ≡ g → q ≡ is_some (if g then lived changes doc.0 t else None)
+      says g h = e ∙ ap (λ (b : Bool). is_some (if b then lived changes doc.0 t else None)) h
+
+      go : (g : Bool) → list_any (λ x. doc.0 == x.0) docs ≡ g → (IsTrue q → Contains docs doc × IsSome (held_at doc t changes)) × (Contains docs doc × IsSome (held_at doc t changes) → IsTrue q)
+      go true h = let s = alive-said changes doc t q (says true h) in (λ y. (given doc.0 docs h, s.0 y), λ p. s.1 p.1)
+      go false h = (λ y. absurd (let no = sym y ∙ says false h in cc), λ p. absurd (let yes = is-given doc docs p.0 in cc))

@@ -2,8 +2,9 @@
 ghost use Rattle.std.specs.Prelude.{◌≡◌, ◌⊎◌, ◌↔◌, ◌+◌, ◌<◌, ◌≤◌, ℕ, true, false, None, Some, Option, length, take, drop, map, slice_index_or, nat_le, nat_lt, Contains, IfOk, OnOk, MatchOption, IsTrue, IsSome};
 ghost use Rattle.std.specs.List.Sorted.{IsNonDecreasingBy, IsPartitionPoint};
 ghost use Rattle.time_base.specs.declared.ids.DocId.{DocId as Document};
-ghost use Rattle.stretches.specs.Events.{AreInOrder, end_of};
+ghost use Rattle.stretches.specs.Events.{AreInOrder, ChangesAt, inside, end_of};
 ghost use Rattle.stretches.specs.Kinds.{is_alive, life_kind};
+ghost use Rattle.stretches.specs.Laid.{AreLaid};
 ghost use Rattle.stretches.specs.Stretches.{AreStretches};
 ghost use Rattle.stretches.specs.declared.event.Event.{Event as EventValue};
 ghost use Rattle.version_store.specs.Changes.{held_at};
@@ -31,12 +32,7 @@ impl Directory {
         let start = Time { seconds: span.from };
         let docs = self.alive(alloc, start)?;
         let events = events_in(alloc, self.changes(), &docs, start, span)?;
-        let mut lives = Vec::new(alloc);
-        for i in 0..events.len() {
-            if let Some(life) = self.life_from(&events, i, span) {
-                note(&mut lives, life)?;
-            }
-        }
+        let lives = self.lives_by(alloc, &events, span)?;
         Ok(lives)
     }
 
@@ -50,11 +46,29 @@ impl Directory {
         span: Span,
     ) -> Result<Vec<Life>, AllocError>
         ensures lives { IfOk result (λ lives. AreStretches life_kind (lived_of docs.now self.now.changes) span.from span.to lives.items) }
+        ensures times { IfOk result (λ lives. (doc : Document) (t : ℕ) → span.from ≤ t → t < span.to
+            → IsTrue (is_alive lives.items doc.0 t) ↔ (Contains docs.now doc × IsSome (held_at doc t self.now.changes))) }
     {
         let events = self.events_of(alloc, docs, span)?;
+        let lives = self.lives_by(alloc, &events, span)?;
+        Ok(lives)
+    }
+
+    /// The lives that begin at events and go on until the next ones, those that touch in one.
+    fn lives_by(
+        &self,
+        alloc: Global,
+        events: &[Event],
+        span: Span,
+    ) -> Result<Vec<Life>, AllocError>
+        requires { AreInOrder events.now }
+        ensures { IfOk result (λ lives. (f : ℕ → ℕ → Option (Unit {0})) → ChangesAt events.now span.from span.to f
+            → ((e : EventValue) → Contains events.now e → f e.doc.0 e.at.seconds ≡ lived self.now.changes e.doc.0 e.at.seconds)
+            → AreLaid life_kind (inside f span.from span.to) lives.items) }
+    {
         let mut lives = Vec::new(alloc);
         for i in 0..events.len() {
-            if let Some(life) = self.life_from(&events, i, span) {
+            if let Some(life) = self.life_from(events, i, span) {
                 note(&mut lives, life)?;
             }
         }

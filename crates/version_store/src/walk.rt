@@ -39,14 +39,10 @@ pub(crate) fn held_from(
     ensures { (doc : Document) → Leads doc t.seconds log.now latest →
         result ≡ held_at doc t.seconds log.now }
 {
-    let mut place = latest;
-    while t.seconds < log[place].at.seconds {
-        match step_back(log, links, place, t) {
-            Some(earlier) => place = earlier,
-            None => return None,
-        }
+    match last_until(log, links, latest, t) {
+        Some(place) => log[place].held,
+        None => None,
     }
-    log[place].held
 }
 
 /// The place of the last change that isn't behind the time, of the document of the change at the place
@@ -62,6 +58,7 @@ pub(crate) fn last_until(
     requires there { latest < length log.now }
     ensures until { IfSome result (λ i. (i < length log.now) × ((d : _) → (get_or log.now i d).at.seconds ≤ t.seconds)) }
     ensures reached { (doc : Document) → IsOf doc log.now latest → MatchOption result (AreBehind doc t.seconds log.now latest) (IsReached doc t.seconds log.now latest) }
+    ensures leads { (doc : Document) → Leads doc t.seconds log.now latest → MatchOption result (None ≡ held_at doc t.seconds log.now) (Leads doc t.seconds log.now) }
 {
     let mut place = latest;
     while t.seconds < log[place].at.seconds {

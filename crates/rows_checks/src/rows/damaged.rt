@@ -1,8 +1,8 @@
 //! Sublists that aren't what the entries of their plans say, and the run's end where one is read.
 use archive_rig::{
-    CLIPPED_LIVES, FIRST_CERTIFICATE, FIRST_LIFE, LIFE_OF_1, LIFE_OF_3, NOTHING, Row, Sublist,
-    copy_image, disk_after, disk_with, expect_on, first_disk, first_segments, machine_on,
-    plan_of_v, read_image, run_on, segment_at,
+    CLIPPED_LIVES, FIRST_CERTIFICATE, FIRST_LIFE, GAP_RECORDS, LIFE_OF_1, LIFE_OF_3, NOTHING, Row,
+    Sublist, copy_image, disk_after, disk_with, expect_on, first_disk, first_segments, journal_of,
+    machine_on, pages_of, plan_of_v, plan_record, read_image, run_on, segment_at,
 };
 use archive_shell::Status;
 use machine_model::Image;
@@ -26,6 +26,13 @@ const LIFE_OF_9: Sublist<'static> = Sublist {
     bytes: b"\x01\x00\x03\x00\x00\x00\x01\x00\x00\x00\x09\x00\x00\x00\x09\x01\x0a\x1e",
     digest: b"\x87\xd0\xd4\x01\x6b\x76\xcc\x42\x34\xec\x5b\x61\xc1\x6b\x0f\xd3\
         \x59\x19\x70\xc8\x97\x73\x90\xb0\x77\x8d\xa5\xfe\x67\xbb\x52\x59",
+};
+
+/// Document 1 has the word once in [10, 40), and document 2 in [20, 40), which is deleted at 30.
+const LATE_LIVES: Sublist<'static> = Sublist {
+    bytes: b"\x02\x00\x07\x00\x00\x00\x01\x00\x00\x00\x01\x00\x00\x00\x02\x01\x0a\x1e\x01\x01\x14\x14",
+    digest: b"\x9c\x2e\x97\x53\x1a\x6c\x89\xca\x9c\x43\x17\xc2\xbe\x92\x01\xb4\
+        \xbc\x3d\xc6\x5c\x41\xbf\x3a\x62\x8c\x21\xec\x17\x71\xa8\xa2\x58",
 };
 
 /// The run of a script has shown this when it ends at a damaged sublist with this line and status 8, and the
@@ -220,6 +227,54 @@ fn a_document_that_is_not_alive_is_no_hit(rt: HostRuntime) {
     let rows = [Row {
         script: b"find 15 v\nbetween 10 20 v\nfind 25 v\n",
         replies: b"end 0 read 1\nend 0 read 1\nhit 1 1\nhit 2 1\nend 2 read 2\n",
+    }];
+    expect_on(alloc, &disk, &rows).expect(&rt, "the replies");
+}
+
+// Over a window a document has no row at a time at which it isn't alive, also beside a word without a plan.
+#[test]
+fn a_posting_past_a_life_is_cut_where_the_life_ends(rt: HostRuntime) {
+    let alloc = rt.alloc();
+    let [one, _, _] = first_segments();
+    let segments = [one, segment_at(20, 1, LATE_LIVES), segment_at(30, 2, LATE_LIVES)];
+    let disk = disk_with(alloc, &plan_of_v(40, &segments)).expect(&rt, "a disk");
+    let rows = [Row {
+        script: b"find 35 v\nbetween 15 41 v\nbetween 15 41 w or v\nbetween 30 40 v\nbetween 15 41 v and not w\n",
+        replies: b"hit 1 1\nend 1 read 2\nspan 1 15 40 1\nspan 2 20 30 1\nend 2 read 5\nspan 1 15 40 1\nspan 2 20 30 1\nend 2 read 5\nspan 1 30 40 1\nend 1 read 2\nspan 1 15 40 1\nspan 2 20 30 1\nend 2 read 5\n",
+    }];
+    expect_on(alloc, &disk, &rows).expect(&rt, "the replies");
+}
+
+#[test]
+fn a_posting_across_a_deletion_is_two_spans(rt: HostRuntime) {
+    let alloc = rt.alloc();
+    let segments = [
+        segment_at(10, 0, LIFE_OF_1),
+        segment_at(20, 1, LIFE_OF_1),
+        segment_at(30, 2, LIFE_OF_1),
+    ];
+    let record = plan_record(alloc, &plan_of_v(40, &segments)).expect(&rt, "memory");
+    let journal = journal_of(alloc, &[GAP_RECORDS, &record]).expect(&rt, "memory");
+    let pages = pages_of(alloc, &segments).expect(&rt, "memory");
+    let rows = [Row {
+        script: b"find 25 v\nbetween 5 50 v\nbetween 15 35 v\nbetween 20 30 v\n",
+        replies: b"end 0 read 1\nspan 1 10 20 1\nspan 1 30 40 1\nend 2 read 3\nspan 1 15 20 1\nspan 1 30 35 1\nend 2 read 3\nend 0 read 1\n",
+    }];
+    expect_on(alloc, &Image { journal, pages }, &rows).expect(&rt, "the replies");
+}
+
+#[test]
+fn a_document_that_never_came_has_no_span(rt: HostRuntime) {
+    let alloc = rt.alloc();
+    let segments = [
+        segment_at(10, 0, LIFE_OF_9),
+        segment_at(20, 1, LIFE_OF_9),
+        segment_at(30, 2, LIFE_OF_9),
+    ];
+    let disk = disk_with(alloc, &plan_of_v(40, &segments)).expect(&rt, "a disk");
+    let rows = [Row {
+        script: b"between 5 50 v\nbetween 20 30 v\n",
+        replies: b"end 0 read 3\nend 0 read 1\n",
     }];
     expect_on(alloc, &disk, &rows).expect(&rt, "the replies");
 }

@@ -172,5 +172,23 @@ fn lives_go_on_over_new_versions_and_end_where_a_document_is_deleted(rt: HostRun
                 .expect(&rt, "memory");
         }
         assert_eq!(rt; lives.as_slice(), wanted, "in [{from}, {to})");
+        let mut sevens = Vec::new(rt.alloc());
+        for (doc, from, to) in wanted {
+            if *doc == 7 {
+                sevens.push((7, *from, *to)).expect(&rt, "memory");
+            }
+        }
+        // a document that never came has none, and one that is named twice has its own once
+        let docs = [DocId(7), DocId(5), DocId(7)];
+        let mut lives = Vec::new(rt.alloc());
+        for life in directory
+            .lives_of(rt.alloc(), &docs, span)
+            .expect(&rt, "memory")
+        {
+            lives
+                .push((life.doc.0, life.span.from, life.span.to))
+                .expect(&rt, "memory");
+        }
+        assert_eq!(rt; lives.as_slice(), sevens.as_slice(), "of 7 in [{from}, {to})");
     }
 }

@@ -3,7 +3,7 @@ ghost use Rattle.std.specs.Prelude.{◌≡◌, length};
 ghost use Rattle.query_lang.specs.Meaning.{words_of};
 
 use super::given::read;
-use query_eval::{Part, answer_from, answer_over};
+use query_eval::{Part, answer_from, answer_over, docs_met};
 use query_lang::Query;
 use std::alloc::{AllocError, Global};
 use std::process::Abort;
@@ -425,12 +425,12 @@ fn answered_over(
     alloc: Global,
     query: &Query,
     parts: &[Part],
-    world: &World,
+    lives: &[Life],
     span: Span,
 ) -> Vec<(u32, u64, u64, u64)>
     requires { length parts.now ≡ length (words_of query.now) }
 {
-    let answer = answer_over(alloc, query, span, parts, &world.lives).expect(rt, "memory");
+    let answer = answer_over(alloc, query, span, parts, lives).expect(rt, "memory");
     let mut rows = Vec::new(alloc);
     for row in answer.rows {
         rows.push((row.doc.0, row.span.from, row.span.to, row.score))
@@ -439,7 +439,20 @@ fn answered_over(
     rows
 }
 
-/// In each window the answer is that of a look at each second.
+/// The lives of the documents with a posting in a window.
+fn lives_met(rt: &impl Abort, alloc: Global, parts: &[Part], world: &World, span: Span) -> Vec<Life> {
+    let docs = docs_met(alloc, parts, span).expect(rt, "memory");
+    let mut lives = Vec::new(alloc);
+    for life in &world.lives {
+        if docs.contains(&life.doc) {
+            lives.push(*life).expect(rt, "memory");
+        }
+    }
+    lives
+}
+
+/// In each window the answer is that of a look at each second, also by the lives of the documents with a
+/// posting there, where the query doesn't match without its words.
 fn expect_in_windows(rt: &impl Abort, alloc: Global, case: &Case) {
     let Case { nodes, world, text } = case;
     let query = read(rt, alloc, text.as_str());
@@ -447,13 +460,22 @@ fn expect_in_windows(rt: &impl Abort, alloc: Global, case: &Case) {
     for from in 0..END {
         for to in from.saturating_add(1)..END {
             let span = Span::new(from, to).expect(rt, "a window");
-            let rows = answered_over(rt, alloc, &query, &parts, world, span);
+            let rows = answered_over(rt, alloc, &query, &parts, &world.lives, span);
             let wanted = world.looked_over(alloc, nodes, span).expect(rt, "memory");
             assert_eq!(rt;
                 rows.as_slice(),
                 wanted.as_slice(),
                 "{text} in [{from}, {to})"
             );
+            if !query.matches_without_words() {
+                let lives = lives_met(rt, alloc, &parts, world, span);
+                let rows = answered_over(rt, alloc, &query, &parts, &lives, span);
+                assert_eq!(rt;
+                    rows.as_slice(),
+                    wanted.as_slice(),
+                    "{text} in [{from}, {to}) by those met"
+                );
+            }
         }
     }
 }

@@ -2,7 +2,9 @@
 ghost use Rattle.std.specs.Prelude.{◌≡◌, []};
 
 use super::given::{listed, read};
-use query_eval::{Lists, Part, SpanRow, answer_between, answer_over};
+use query_eval::{
+    Lists, Part, SpanRow, answer_between, answer_over, answer_over_hits, docs_met,
+};
 use std::alloc::{AllocError, Global};
 use std::process::Abort;
 use stretches::Life;
@@ -199,4 +201,62 @@ fn lists_are_asked_for_each_word(rt: HostRuntime) {
     assert_eq!(rt; answer.read, 2);
     let rows = rows_of(&rt, alloc, &[(1, 10, 20, 4)]);
     assert_eq!(rt; answer.rows.as_slice(), rows.as_slice());
+}
+
+/// The parts of blue and red.
+fn red_and_blue(rt: &impl Abort, alloc: Global) -> Vec<Part> {
+    let mut parts = Vec::new(alloc);
+    for word in ["blue", "red"] {
+        let list = list_of(rt, alloc, word);
+        parts.push(Part { list, read: 3 }).expect(rt, "memory");
+    }
+    parts
+}
+
+#[test]
+fn where_whatever_has_a_word_is_alive_postings_alone_make_the_rows(rt: HostRuntime) {
+    let alloc = rt.alloc();
+    let lives = [
+        life(&rt, 2, 30, NOW),
+        life(&rt, 4, 5, 30),
+        life(&rt, 1, 10, 50),
+        life(&rt, 2, 10, 20),
+        life(&rt, 3, 10, NOW),
+    ];
+    for text in ["red", "blue", "red or blue", "red blue", "red not blue"] {
+        for (from, to) in [(0, NOW), (15, 35), (20, 30), (29, 31), (0, 10), (20, 21)] {
+            let query = read(&rt, alloc, text);
+            let span = Span::new(from, to).expect(&rt, "a window");
+            let mut parts = Vec::new(alloc);
+            for word in query.words() {
+                let list = list_of(&rt, alloc, word.as_str());
+                parts.push(Part { list, read: 3 }).expect(&rt, "memory");
+            }
+            assert!(rt; parts.len() == query.words().len());
+            let answer = answer_over_hits(alloc, &query, span, &parts).expect(&rt, "memory");
+            let wanted = found(&rt, alloc, text, from, to, &lives);
+            assert_eq!(rt; answer.rows.as_slice(), wanted.as_slice(), "{text} in [{from}, {to})");
+        }
+    }
+}
+
+#[test]
+fn documents_with_a_posting_in_a_window_ascend_and_stand_once(rt: HostRuntime) {
+    let alloc = rt.alloc();
+    let parts = red_and_blue(&rt, alloc);
+    for (from, to, wanted) in [
+        (0, NOW, [1, 2, 4].as_slice()),
+        (0, 10, [].as_slice()),
+        (0, 11, [1, 2, 4].as_slice()),
+        (20, 30, [1, 4].as_slice()),
+        (30, 40, [1, 2].as_slice()),
+        (40, 41, [2].as_slice()),
+    ] {
+        let span = Span::new(from, to).expect(&rt, "a window");
+        let mut docs = Vec::new(alloc);
+        for doc in docs_met(alloc, &parts, span).expect(&rt, "memory") {
+            docs.push(doc.0).expect(&rt, "memory");
+        }
+        assert_eq!(rt; docs.as_slice(), wanted, "in [{from}, {to})");
+    }
 }

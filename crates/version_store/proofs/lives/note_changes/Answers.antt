@@ -1,7 +1,12 @@
 use Rattle.std.proofs.Common.{ap, refl, arith, get_or}
 use Rattle.stretches.specs.declared.event.Event.{Event}
-use Rattle.version_store.proofs.Noting.{early, noted-more}
+use Rattle.version_store.proofs.Noting.{early, noted-more, out}
 use Rattle.version_store.proofs.lives.note_changes.Goals as goal
+
+pub returns-in_default-clause-changed : goal.returns-in_default-clause-changed
+returns-in_default-clause-changed c =
+    out c.args.log.now c.args.doc c.args.span.from c.args.span.to c.args.latest c.loop-end.place c.loop-end.end c.args.events.now.items c.loop-end.events.items c.requires.linked.ascending c.loop-end.invariant.noted
+    (c.in_default.ensures.reached c.args.doc c.loop-end.invariant.noted.of)
 
 pub returns-then-at-span-clause-changed : goal.returns-then-at-span-clause-changed
 returns-then-at-span-clause-changed c =

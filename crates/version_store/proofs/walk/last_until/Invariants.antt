@@ -1,5 +1,6 @@
 use Rattle.std.proofs.Common.{◌<◌, length}
 use Rattle.time_base.specs.declared.ids.DocId.{DocId}
+use Rattle.version_store.specs.Index.{Leads}
 use Rattle.version_store.specs.Walks.{IsOf, IsReached}
 use Rattle.version_store.proofs.walk.last_until.Given as goal
 
@@ -7,6 +8,7 @@ abbrev pub invariant-loop-place : goal.invariant-loop-place
 invariant-loop-place l = record {
   there : l.place < length l.log;
   reached : (doc : DocId) → IsOf doc l.log l.fn.latest → IsReached doc l.t.seconds l.log l.fn.latest l.place;
+  leads : (doc : DocId) → Leads doc l.t.seconds l.log l.fn.latest → Leads doc l.t.seconds l.log l.place;
 }
 
 abbrev pub decreases-loop-place : goal.decreases-loop-place
