@@ -143,7 +143,10 @@ const LINES_TO_COME: [(&str, &str); 58] = [
     ("best 1 15 ", "line"),
     ("approx v 1/4", "approx v 1/4"),
     ("approx v 0/1", "approx v 0/1"),
-    ("approx v 4294967294/4294967295", "approx v 4294967294/4294967295"),
+    (
+        "approx v 4294967294/4294967295",
+        "approx v 4294967294/4294967295",
+    ),
     ("approx v 1/1", "line"),
     ("approx v 2/1", "line"),
     ("approx v 0/0", "line"),
@@ -159,7 +162,10 @@ const LINES_TO_COME: [(&str, &str); 58] = [
     ("share 2/1 v moon", "share 2/1 v moon"),
     ("share 16/1 v", "share 16/1 v"),
     ("share 32/2  v  v ", "share 32/2 v v"),
-    ("share 4294967295/268435456 v", "share 4294967295/268435456 v"),
+    (
+        "share 4294967295/268435456 v",
+        "share 4294967295/268435456 v",
+    ),
     ("share 17/1 v", "line"),
     ("share 33/2 v", "line"),
     ("share 4294967295/268435455 v", "line"),
@@ -167,7 +173,10 @@ const LINES_TO_COME: [(&str, &str); 58] = [
     ("share 2/1", "line"),
     ("share 2/1 ", "line"),
     ("share v", "line"),
-    ("share 1/1 a b c d e f g h i j k l m n o p", "share 1/1 a b c d e f g h i j k l m n o p"),
+    (
+        "share 1/1 a b c d e f g h i j k l m n o p",
+        "share 1/1 a b c d e f g h i j k l m n o p",
+    ),
     ("share 1/1 a b c d e f g h i j k l m n o p q", "line"),
     ("shares 1/1 a", "line"),
 ];

@@ -44,7 +44,8 @@ fn random_list(rt: &impl Abort, alloc: Global, numbers: &mut Numbers) -> Vec<Pos
             let to = from + 1 + u64::from(numbers.below(10));
             let tf = (1 + numbers.below(most)) * heavy;
             if numbers.below(3) != 0 {
-                list.push(posting(rt, doc, from, to, tf)).expect(rt, "memory");
+                list.push(posting(rt, doc, from, to, tf))
+                    .expect(rt, "memory");
             }
         }
     }
@@ -62,7 +63,13 @@ fn often(list: &[Posting], doc: u32, at: Time) -> u64 {
 }
 
 /// The scores of all documents.
-fn scores(rt: &impl Abort, alloc: Global, lists: &[Vec<Posting>], weights: &[u32], at: u64) -> Vec<u64> {
+fn scores(
+    rt: &impl Abort,
+    alloc: Global,
+    lists: &[Vec<Posting>],
+    weights: &[u32],
+    at: u64,
+) -> Vec<u64> {
     let at = Time::new(at).expect(rt, "a time");
     let mut scores = Vec::new(alloc);
     for doc in 0..DOCS {

@@ -140,8 +140,7 @@ loaded : (g : Over) (c : After-serve g) (tells : g.M.Disk.disk_tells) (P : Histo
     → (h : History) × LoadsAs h (g.M.Disk.disk c.args.machine.now).holds × P h (g.M.Disk.disk c.args.machine.now).holds
 loaded g c tells P anywhere told =
     let found = c.in-Ok-load.ensures.found tells in
-    let first = λ (Q : History → Bytes → Type 0) (none : (p q : Bytes) → Q [] p → Q [] q). at_start Q none found.0 (g.M.Disk.disk c.args.machine.now) (g.M.Disk.disk c.load.new.disk) found.1.1 found.1.0.loadable (c.in-Ok-load.ensures.longer tells) in
-    (
+    let first = λ (Q : History → Bytes → Type 0) (none : (p q : Bytes) → Q [] p → Q [] q). at_start Q none found.0 (g.M.Disk.disk c.args.machine.now) (g.M.Disk.disk c.load.new.disk) found.1.1 found.1.0.loadable (c.in-Ok-load.ensures.longer tells) in (
       found.0,
       record {
         spelled = found.1.1;
