@@ -1,9 +1,10 @@
 use Rattle.std.proofs.Common.{true, List, [], length, Err, refl, inl, inr, ap, subst}
+use Rattle.std.proofs.lemmas.List.Elements.{All-nil}
 use Rattle.machine_model.specs.Areas.{Bytes}
 use Rattle.machine_model.specs.declared.area.Area.TheVariants as areas
 use Rattle.machine_model.specs.States.{SourceState, SinkState, state_by}
 use Rattle.commands.specs.declared.command.Item.{Item}
-use Rattle.page_store.specs.Live.{AreLive}
+use Rattle.page_store.specs.Live.{AreLive, IsInside}
 use Rattle.script_read.specs.Items.{Splits}
 use Rattle.archive_state.specs.Histories.{History}
 use Rattle.archive_state.specs.Plans.{live_extents}
@@ -145,7 +146,7 @@ loaded g c tells P anywhere told =
       record {
         spelled = found.1.1;
         loadable = found.1.0.loadable;
-        live = first (λ h b. AreLive (live_extents h) (length b.pages)) (λ p q live. live) (lie_well found.0 (g.M.Disk.disk c.load.new.disk) c.in-Ok-load.archive found.1.0 c.in-Ok-load.ensures.within (g.met.M.Disk.reach_holds c.load.new.disk areas.Pages tells));
+        live = first (λ h b. AreLive (live_extents h) (length b.pages)) (λ p q live. (All-nil (IsInside (length q.pages)), tt)) (lie_well found.0 (g.M.Disk.disk c.load.new.disk) c.in-Ok-load.archive found.1.0 c.in-Ok-load.ensures.within (g.met.M.Disk.reach_holds c.load.new.disk areas.Pages tells));
       },
       first P anywhere told,
     )
