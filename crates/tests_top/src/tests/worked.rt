@@ -11,7 +11,8 @@ fn run(rt: &impl Abort, alloc: Global, from: u32, to: u32, first: u32, rest: u32
     let mut list = Vec::new(alloc);
     for doc in from..to {
         let tf = if doc == from { first } else { rest };
-        list.push(posting(rt, doc, 10, NOW, tf)).expect(rt, "memory");
+        list.push(posting(rt, doc, 10, NOW, tf))
+            .expect(rt, "memory");
     }
     list
 }
@@ -50,7 +51,14 @@ fn a_block_that_can_only_tie_is_not_opened(rt: HostRuntime) {
                     .expect(&rt, "memory");
             }
         }
-        assert_found(&rt, alloc, &mut words, (&[weight], 15, count), &wanted, opened);
+        assert_found(
+            &rt,
+            alloc,
+            &mut words,
+            (&[weight], 15, count),
+            &wanted,
+            opened,
+        );
     }
     // headers don't tell times
     assert_found(&rt, alloc, &mut words, (&[1], 9, 2), &[], 2);
@@ -72,7 +80,14 @@ fn tops_of_words_are_added_up_by_weight(rt: HostRuntime) {
     words.words.push(flat).expect(&rt, "memory");
     // 200 has 2 + 10 * 2; the third block has at most 1
     assert_found(&rt, alloc, &mut words, (&[1, 10], 15, 1), &[(200, 22)], 2);
-    assert_found(&rt, alloc, &mut words, (&[1, 10], 15, 2), &[(200, 22), (129, 2)], 2);
+    assert_found(
+        &rt,
+        alloc,
+        &mut words,
+        (&[1, 10], 15, 2),
+        &[(200, 22), (129, 2)],
+        2,
+    );
     // at the time before, of the second word alone nothing
     assert_found(&rt, alloc, &mut words, (&[1, 10], 5, 1), &[], 3);
 }
@@ -83,7 +98,8 @@ fn blocks_of_one_document_are_opened_together(rt: HostRuntime) {
     let alloc = rt.alloc();
     let mut list = Vec::new(alloc);
     for at in 0u64..130 {
-        list.push(posting(&rt, 7, at, at + 1, 2)).expect(&rt, "memory");
+        list.push(posting(&rt, 7, at, at + 1, 2))
+            .expect(&rt, "memory");
     }
     list.push(posting(&rt, 9, 0, NOW, 1)).expect(&rt, "memory");
     let mut words = blocked(&rt, alloc, &[&list]);
@@ -104,7 +120,14 @@ fn first_and_last_documents(rt: HostRuntime) {
     let word = Word::blocked(alloc, &list, 1).expect(&rt, "memory");
     words.words.push(word).expect(&rt, "memory");
     assert_found(&rt, alloc, &mut words, (&[1], 15, 1), &[(u32::MAX, 2)], 2);
-    assert_found(&rt, alloc, &mut words, (&[1], 15, 2), &[(u32::MAX, 2), (0, 1)], 2);
+    assert_found(
+        &rt,
+        alloc,
+        &mut words,
+        (&[1], 15, 2),
+        &[(u32::MAX, 2), (0, 1)],
+        2,
+    );
 }
 
 /// That a torn block is told where it is asked for.
