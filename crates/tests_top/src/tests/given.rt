@@ -1,5 +1,4 @@
 //! Postings and questions for the tests.
-ghost use Rattle.std.specs.Prelude.{◌≤◌};
 
 use super::shelf::{Fault, Shelf, Word};
 use block_top::{Row, TopError, top_rows};

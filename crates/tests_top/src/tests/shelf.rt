@@ -1,5 +1,4 @@
 //! Words whose blocks lie in memory.
-ghost use Rattle.std.specs.Prelude.{◌≡◌, ⊤};
 
 use block_top::Blocks;
 use std::alloc::{AllocError, Global};
@@ -92,8 +91,7 @@ pub(crate) struct Shelf {
 }
 
 impl Blocks for Shelf {
-    ghost use Rattle.std.specs.Prelude.{map, length, get_or};
-    ghost use Rattle.block_top.specs.Sheets.{sheet_at};
+    ghost use Rattle.std.specs.Prelude.{map};
 
     type Fault = Fault;
 

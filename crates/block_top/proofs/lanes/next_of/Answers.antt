@@ -1,4 +1,4 @@
-use Rattle.std.proofs.Common.{◌≡◌, ◌<◌, ◌≤◌, ◌*◌, length, arith, ap, subst, sym}
+use Rattle.std.proofs.Common.{◌<◌, ◌*◌, length, arith, ap, subst, sym}
 use Rattle.block_top.specs.Lanes.{AreAscending}
 use Rattle.block_top.specs.declared.lane.Lane.{Lane}
 use Rattle.block_top.proofs.EachLemmas.{each-at}

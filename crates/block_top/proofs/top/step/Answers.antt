@@ -75,8 +75,8 @@ returns-clause-through g c = (
       let all = c.requires.window in
       let cut : length (take (c.min-end.result - c.max-from.result) c.args.sums.now) ≡ _ = length-take (c.min-end.result - c.max-from.result) c.args.sums.now in
       let start = v.far.1 in
-    let until = c.next_of.ensures.until in
-    let from = c.max-from.ensures in
+      let until = c.next_of.ensures.until in
+      let from = c.max-from.ensures in
       let end : c.max-from.result + length (take (c.min-end.result - c.max-from.result) c.args.sums.now) ≡ c.min-end.result = omega (arith, cut, all, min, far, start, from, until) in
       let fit = zip-through (λ (s : Sheet) (k : Lane). IsFit (length s.heads) k) IsOpened (λ (s : Sheet) (k : Lane). IsFit (length s.heads) k) (λ s a b q r. fit-opened (length s.heads) a b q r)
       (g.B.Blocks.sheets c.args.blocks.now) c.survey-view.new.lanes c.open_all.new.lanes v.fit o.opened in
@@ -88,10 +88,11 @@ returns-clause-through g c = (
       (λ x. score-light c.args.at.seconds x (g.B.Blocks.sheets c.args.blocks.now) c.open_all.new.lanes fit words) in
       let ascends = zip-each (λ (s : Sheet) (k : Lane). Lies c.args.at.seconds s c.args.d k) (λ k. AreAscending k.hits.items) (λ s k z. z.keeps.ascending) (g.B.Blocks.sheets c.args.blocks.now) c.open_all.new.lanes lies in
       let empty = pass-first (score c.args.at.seconds (weights_of c.args.lanes.now) (g.B.Blocks.sheets c.args.blocks.now)) c.args.count c.args.d c.max-from.result c.args.rows.now.items (omega (arith, from)) two.first
-        (λ x a b p. absurd (let e = is x a (omega (arith, b, end)) in let z = c.next_of.ensures.none ascends c.args.at.seconds x (omega (arith, a, b, from)) in omega (arith, e, z, p))) in
-    let first = subst (λ n. AreFirst (below n (score c.args.at.seconds (weights_of c.args.lanes.now) (g.B.Blocks.sheets c.args.blocks.now))) c.args.count c.score_all.new.rows.items) end
-        (f.first (score c.args.at.seconds (weights_of c.args.lanes.now) (g.B.Blocks.sheets c.args.blocks.now)) ascends (λ k l. (is (c.max-from.result + k) (omega (arith, from)) (omega (arith, l, end)), light (c.max-from.result + k))) empty) in
-    let seen = subst (λ n. (x : ℕ) → shows c.score_all.new.rows.items x ≡ true → (shows c.args.rows.now.items x ≡ true) ⊎ ((c.max-from.result ≤ x) × (x < n))) end f.shown in
-    through-scored c.args.at.seconds (weights_of c.args.lanes.now) (g.B.Blocks.sheets c.args.blocks.now) c.args.count c.args.d c.min-end.result c.open_all.new.lanes c.score_all.new.lanes c.args.rows.now.items c.score_all.new.rows.items (os ++ runs 0 c.survey-view.new.lanes)
+      (λ x a b p. absurd (let e = is x a (omega (arith, b, end)) in let z = c.next_of.ensures.none ascends c.args.at.seconds x (omega (arith, a, b, from)) in omega (arith, e, z, p))) in
+      let first = subst (λ n. AreFirst (below n (score c.args.at.seconds (weights_of c.args.lanes.now) (g.B.Blocks.sheets c.args.blocks.now))) c.args.count c.score_all.new.rows.items) end
+      (f.first (score c.args.at.seconds (weights_of c.args.lanes.now) (g.B.Blocks.sheets c.args.blocks.now)) ascends (λ k l. (is (c.max-from.result + k) (omega (arith, from)) (omega (arith, l, end)), light (c.max-from.result + k))) empty) in
+      let seen = subst (λ n. (x : ℕ) → shows c.score_all.new.rows.items x ≡ true → (shows c.args.rows.now.items x ≡ true) ⊎ ((c.max-from.result ≤ x) × (x < n))) end f.shown in
+      through-scored c.args.at.seconds (weights_of c.args.lanes.now) (g.B.Blocks.sheets c.args.blocks.now) c.args.count c.args.d c.min-end.result c.open_all.new.lanes c.score_all.new.lanes c.args.rows.now.items c.score_all.new.rows.items (os ++ runs 0 c.survey-view.new.lanes)
       sheets (omega (arith, from, end)) near ready (subst (λ n. AllZip (IsPassed c.args.at.seconds n) c.open_all.new.lanes c.score_all.new.lanes) end f.passed) first
-    (λ x h. elim (seen x h) [ inl k ↦ inl k | inr k ↦ inr (omega (arith, k.0, from), k.1) ]) two)
+      (λ x h. elim (seen x h) [ inl k ↦ inl k | inr k ↦ inr (omega (arith, k.0, from), k.1) ]) two,
+)

@@ -1,4 +1,4 @@
-use Rattle.std.proofs.Common.{◌<◌, length, arith}
+use Rattle.std.proofs.Common.{arith}
 use Rattle.block_top.proofs.LaneLemmas.{tally-before}
 use Rattle.block_top.proofs.lane.Lane.next_hit.Goals as goal
 
