@@ -2,7 +2,7 @@
 ghost use Rattle.std.specs.Prelude.{◌<◌};
 
 use super::given::{assert_rows, posting, shelf, top};
-use super::shelf::{Shelf, Word};
+use super::shelf::Word;
 use std::alloc::Global;
 use std::process::Abort;
 use time_base::{Posting, Time};
@@ -109,41 +109,63 @@ fn sorted(rt: &impl Abort, alloc: Global, mut scores: Vec<u64>, count: usize) ->
     rows
 }
 
-/// Some words with their lists, in blocks or at hand.
+/// The postings of a list that hold a time.
+fn held(rt: &impl Abort, alloc: Global, list: &[Posting], at: u64) -> Vec<Posting> {
+    let at = Time::new(at).expect(rt, "a time");
+    let mut held = Vec::new(alloc);
+    for p in list {
+        if p.span.holds(at) {
+            held.push(*p).expect(rt, "memory");
+        }
+    }
+    held
+}
+
+/// Some words: their lists, their weights, and the most postings of a block, or 0 where a list is at hand.
 #[derive(Drop)]
 struct Case {
     lists: Vec<Vec<Posting>>,
     weights: Vec<u32>,
-    shelf: Shelf,
+    sizes: Vec<u32>,
 }
 
 impl Case {
     fn random(rt: &impl Abort, alloc: Global, numbers: &mut Numbers) -> Case {
-        let mut lists = Vec::new(alloc);
-        let mut weights = Vec::new(alloc);
-        let mut words = Vec::new(alloc);
+        let mut case = Case {
+            lists: Vec::new(alloc),
+            weights: Vec::new(alloc),
+            sizes: Vec::new(alloc),
+        };
         for _ in 0..numbers.below(5) {
             let list = random_list(rt, alloc, numbers);
-            weights.push(1 + numbers.below(3)).expect(rt, "memory");
-            let size = 1 + numbers.below(6) as usize;
-            words
-                .push(Word::blocked(alloc, &list, size).expect(rt, "memory"))
-                .expect(rt, "memory");
-            lists.push(list).expect(rt, "memory");
+            case.lists.push(list).expect(rt, "memory");
+            case.weights.push(1 + numbers.below(3)).expect(rt, "memory");
+            case.sizes.push(numbers.below(6)).expect(rt, "memory");
         }
-        Case {
-            lists,
-            weights,
-            shelf: shelf(alloc, words),
+        case
+    }
+
+    /// The words as they are at hand and in blocks for a time.
+    fn words(&self, rt: &impl Abort, alloc: Global, at: u64) -> Vec<Word> {
+        let mut words = Vec::new(alloc);
+        for (list, size) in self.lists.iter().zip(self.sizes.iter()) {
+            let word = if *size == 0 {
+                Word::flat(alloc, &held(rt, alloc, list, at))
+            } else {
+                Word::blocked(alloc, list, *size as usize)
+            };
+            words.push(word.expect(rt, "memory")).expect(rt, "memory");
         }
+        words
     }
 }
 
 /// That the first rows are those of all documents, sorted.
-fn assert_sorted(rt: &impl Abort, alloc: Global, case: &mut Case, at: u64, count: usize) {
+fn assert_sorted(rt: &impl Abort, alloc: Global, case: &Case, at: u64, count: usize) {
     let all = scores(rt, alloc, &case.lists, &case.weights, at);
     let wanted = sorted(rt, alloc, all, count);
-    let rows = top(rt, alloc, &mut case.shelf, &case.weights, at, count)
+    let mut shelf = shelf(alloc, case.words(rt, alloc, at));
+    let rows = top(rt, alloc, &mut shelf, &case.weights, at, count)
         .ok()
         .expect(rt, "rows");
     assert_rows(rt, &rows, &wanted);
@@ -154,10 +176,10 @@ fn first_rows_of_random_words_are_those_of_all_documents(rt: HostRuntime) {
     let alloc = rt.alloc();
     let mut numbers = Numbers(18);
     for _ in 0..60 {
-        let mut case = Case::random(&rt, alloc, &mut numbers);
+        let case = Case::random(&rt, alloc, &mut numbers);
         for at in [5u64, 15, 22] {
             for count in [1usize, 2, 5, 100] {
-                assert_sorted(&rt, alloc, &mut case, at, count);
+                assert_sorted(&rt, alloc, &case, at, count);
             }
         }
     }

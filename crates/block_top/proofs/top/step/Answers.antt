@@ -1,5 +1,5 @@
 use Rattle.std.specs.List.{AllZip}
-use Rattle.std.proofs.Common.{◌≡◌, ◌⊎◌, ◌<◌, ◌≤◌, ◌+◌, ◌-◌, ◌^◌, ◌++◌, [], true, ℕ, List, length, take, get_or, length-take, arith, refl, ap, sym, subst, ◌∙◌}
+use Rattle.std.proofs.Common.{◌≡◌, ◌⊎◌, ◌<◌, ◌≤◌, ◌+◌, ◌-◌, ◌^◌, ◌++◌, [], true, ℕ, List, length, take, get_or, length-take, arith, refl, ap, sym, subst, inl, inr, ◌∙◌}
 use Rattle.block_top.specs.Sheets.{Sheet, IsSheet, score}
 use Rattle.block_top.specs.Firsts.{Each, AreRanked, AreFirst, below, shows, no_row}
 use Rattle.block_top.specs.Lanes.{HasCursor, AreAscending, given, weights_of, IsFit, Lies, IsOpened, IsPassed}
@@ -8,6 +8,7 @@ use Rattle.block_top.specs.Steps.{runs, AreThrough}
 use Rattle.block_top.specs.declared.lane.Lane.{Lane}
 use Rattle.block_top.specs.declared.ranking.Row.{Row}
 use Rattle.block_top.proofs.EachLemmas.{each-weaker}
+use Rattle.block_top.proofs.RankLemmas.{pass-first}
 use Rattle.block_top.proofs.RunLemmas.{append-empty}
 use Rattle.block_top.proofs.ScoreLemmas.{IsOpen, given-score, score-light, weights-same}
 use Rattle.block_top.proofs.StepLemmas.{through-surveyed, through-passed, through-opened, through-scored, fit-opened, fit-passed}
@@ -33,9 +34,9 @@ score_all-requires-clause-fit g c = zip-each IsOpened HasCursor (λ a b o. o.cur
 
 pub returns-clause-fit : goal.returns-clause-fit
 returns-clause-fit g c =
-    let window : List ℕ = take (c.min-end.result - c.args.d) c.args.sums.now in
-    zip-through (λ (s : Sheet) (k : Lane). IsFit (length s.heads) k) (IsPassed c.args.at.seconds (c.args.d + length window)) (λ (s : Sheet) (k : Lane). IsFit (length s.heads) k)
-    (λ s a b f p. fit-passed (length s.heads) c.args.at.seconds (c.args.d + length window) a b f p)
+    let window : List ℕ = take (c.min-end.result - c.max-from.result) c.args.sums.now in
+    zip-through (λ (s : Sheet) (k : Lane). IsFit (length s.heads) k) (IsPassed c.args.at.seconds (c.max-from.result + length window)) (λ (s : Sheet) (k : Lane). IsFit (length s.heads) k)
+    (λ s a b f p. fit-passed (length s.heads) c.args.at.seconds (c.max-from.result + length window) a b f p)
     (g.B.Blocks.sheets c.args.blocks.now) c.open_all.new.lanes c.score_all.new.lanes
     (zip-through (λ (s : Sheet) (k : Lane). IsFit (length s.heads) k) IsOpened (λ (s : Sheet) (k : Lane). IsFit (length s.heads) k) (λ s a b f o. fit-opened (length s.heads) a b f o)
     (g.B.Blocks.sheets c.args.blocks.now) c.survey-view.new.lanes c.open_all.new.lanes c.survey-view.ensures.fit c.in_ok-open_all.ensures.opened)
@@ -43,8 +44,8 @@ returns-clause-fit g c =
 
 pub returns-clause-weights : goal.returns-clause-weights
 returns-clause-weights g c =
-    let window : List ℕ = take (c.min-end.result - c.args.d) c.args.sums.now in
-    weights-same (IsPassed c.args.at.seconds (c.args.d + length window)) (λ a b p. ap (λ (x : Lane). x.weight) p.same) c.open_all.new.lanes c.score_all.new.lanes c.in_ok-score_all.ensures.passed
+    let window : List ℕ = take (c.min-end.result - c.max-from.result) c.args.sums.now in
+    weights-same (IsPassed c.args.at.seconds (c.max-from.result + length window)) (λ a b p. ap (λ (x : Lane). x.weight) p.same) c.open_all.new.lanes c.score_all.new.lanes c.in_ok-score_all.ensures.passed
     ∙ weights-same IsOpened (λ a b o. ap (λ (x : Lane). x.weight) o.same) c.survey-view.new.lanes c.open_all.new.lanes c.in_ok-open_all.ensures.opened ∙ c.survey-view.ensures.weights
 
 pub returns-clause-through : goal.returns-clause-through
@@ -72,9 +73,11 @@ returns-clause-through g c = (
       (zip-and (λ (s : Sheet) (k : Lane). Lies c.args.at.seconds s c.args.d k) (λ k. c.args.d < k.border) (g.B.Blocks.sheets c.args.blocks.now) c.open_all.new.lanes lies near) ready) in
       let f = c.in_ok-score_all.ensures in
       let all = c.requires.window in
-      let cut : length (take (c.min-end.result - c.args.d) c.args.sums.now) ≡ _ = length-take (c.min-end.result - c.args.d) c.args.sums.now in
+      let cut : length (take (c.min-end.result - c.max-from.result) c.args.sums.now) ≡ _ = length-take (c.min-end.result - c.max-from.result) c.args.sums.now in
       let start = v.far.1 in
-      let end : c.args.d + length (take (c.min-end.result - c.args.d) c.args.sums.now) ≡ c.min-end.result = omega (arith, cut, all, min, far, start) in
+      let until = c.next_of.ensures.until in
+      let from = c.max-from.ensures in
+      let end : c.max-from.result + length (take (c.min-end.result - c.max-from.result) c.args.sums.now) ≡ c.min-end.result = omega (arith, cut, all, min, far, start, from, until) in
       let fit = zip-through (λ (s : Sheet) (k : Lane). IsFit (length s.heads) k) IsOpened (λ (s : Sheet) (k : Lane). IsFit (length s.heads) k) (λ s a b q r. fit-opened (length s.heads) a b q r)
       (g.B.Blocks.sheets c.args.blocks.now) c.survey-view.new.lanes c.open_all.new.lanes v.fit o.opened in
       let weights : weights_of c.open_all.new.lanes ≡ weights_of c.args.lanes.now = weights-same IsOpened (λ a b r. ap (λ (x : Lane). x.weight) r.same) c.survey-view.new.lanes c.open_all.new.lanes o.opened ∙ v.weights in
@@ -84,9 +87,12 @@ returns-clause-through g c = (
       let light = subst (λ (ws : List ℕ). (x : ℕ) → score c.args.at.seconds ws (g.B.Blocks.sheets c.args.blocks.now) x < 2 ^ 64) weights
       (λ x. score-light c.args.at.seconds x (g.B.Blocks.sheets c.args.blocks.now) c.open_all.new.lanes fit words) in
       let ascends = zip-each (λ (s : Sheet) (k : Lane). Lies c.args.at.seconds s c.args.d k) (λ k. AreAscending k.hits.items) (λ s k z. z.keeps.ascending) (g.B.Blocks.sheets c.args.blocks.now) c.open_all.new.lanes lies in
+      let empty = pass-first (score c.args.at.seconds (weights_of c.args.lanes.now) (g.B.Blocks.sheets c.args.blocks.now)) c.args.count c.args.d c.max-from.result c.args.rows.now.items (omega (arith, from)) two.first
+      (λ x a b p. absurd (let e = is x a (omega (arith, b, end)) in let z = c.next_of.ensures.none ascends c.args.at.seconds x (omega (arith, a, b, from)) in omega (arith, e, z, p))) in
       let first = subst (λ n. AreFirst (below n (score c.args.at.seconds (weights_of c.args.lanes.now) (g.B.Blocks.sheets c.args.blocks.now))) c.args.count c.score_all.new.rows.items) end
-      (f.first (score c.args.at.seconds (weights_of c.args.lanes.now) (g.B.Blocks.sheets c.args.blocks.now)) ascends (λ k l. (is (c.args.d + k) (omega arith) (omega (arith, l, end)), light (c.args.d + k))) two.first) in
+      (f.first (score c.args.at.seconds (weights_of c.args.lanes.now) (g.B.Blocks.sheets c.args.blocks.now)) ascends (λ k l. (is (c.max-from.result + k) (omega (arith, from)) (omega (arith, l, end)), light (c.max-from.result + k))) empty) in
+      let seen = subst (λ n. (x : ℕ) → shows c.score_all.new.rows.items x ≡ true → (shows c.args.rows.now.items x ≡ true) ⊎ ((c.max-from.result ≤ x) × (x < n))) end f.shown in
       through-scored c.args.at.seconds (weights_of c.args.lanes.now) (g.B.Blocks.sheets c.args.blocks.now) c.args.count c.args.d c.min-end.result c.open_all.new.lanes c.score_all.new.lanes c.args.rows.now.items c.score_all.new.rows.items (os ++ runs 0 c.survey-view.new.lanes)
-      sheets (omega (arith, end)) near ready (subst (λ n. AllZip (IsPassed c.args.at.seconds n) c.open_all.new.lanes c.score_all.new.lanes) end f.passed) first
-      (subst (λ n. (x : ℕ) → shows c.score_all.new.rows.items x ≡ true → (shows c.args.rows.now.items x ≡ true) ⊎ ((c.args.d ≤ x) × (x < n))) end f.shown) two,
+      sheets (omega (arith, from, end)) near ready (subst (λ n. AllZip (IsPassed c.args.at.seconds n) c.open_all.new.lanes c.score_all.new.lanes) end f.passed) first
+      (λ x h. elim (seen x h) [ inl k ↦ inl k | inr k ↦ inr (omega (arith, k.0, from), k.1) ]) two,
 )
