@@ -10,7 +10,7 @@ from . import commands
 from .collection import SHARDS, Collection, shards_of
 from .errors import BadQuery, ToolError
 from .found import Part, pieces
-from .locks import locked
+from .locks import Use, locked
 from .names import FILE as NAMES
 from .names import NameTable
 from .opening import archive_of, claim_of
@@ -101,7 +101,7 @@ def _parallel(options: argparse.Namespace, question: bytes) -> _Answer:
     if options.snippets:
         raise ToolError("GNU parallel asks one question, and pieces of text are more: leave out --snippets or --parallel")
     command = find_program(options.program)
-    with locked(options.archive, claim_of(options)) as lock:
+    with locked(options.archive, claim_of(options, Use.ASKS)) as lock:
         replies = ask_with_parallel(shards_of(options.archive), command, options.sshlogin, question, lock)
         names = NameTable(options.archive / NAMES)
     return _Answer(merge_rows(Collection.rows_of(reply) for reply in replies), names, {})

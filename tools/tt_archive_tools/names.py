@@ -4,7 +4,7 @@ A line is a number, a tab and a name. Names are file names, titles and addresses
 a tab, a line feed and a carriage return are written `\\\\`, `\\t`, `\\n` and `\\r`, and another
 control character, or a byte of a file name that isn't UTF-8, `\\xHH`. A line is durable before the
 document's first version is sent, so a stop loses no name; a last line without its line feed was
-never used and is taken away.
+never used, and is taken away before the next one is written.
 """
 
 from __future__ import annotations
@@ -48,6 +48,8 @@ class NameTable:
         self._names: dict[int, str] = {}
         self._new: list[tuple[int, str]] = []
         self._next = 1
+        #: Where a line begins that isn't whole.
+        self._torn: int | None = None
         if path.exists():
             self._read()
 
@@ -103,6 +105,9 @@ class NameTable:
             return
         lines = "".join(f"{number}\t{escape(name)}\n" for number, name in self._new)
         with open(self._path, "ab") as file:
+            if self._torn is not None:
+                file.truncate(self._torn)
+            self._torn = None
             file.write(lines.encode())
             file.flush()
             os.fsync(file.fileno())
@@ -116,8 +121,7 @@ class NameTable:
     def _read(self) -> None:
         content = self._path.read_bytes()
         whole = content.rfind(b"\n") + 1
-        if whole < len(content):
-            os.truncate(self._path, whole)
+        self._torn = whole if whole < len(content) else None
         for count, line in enumerate(content[:whole].decode("utf-8", "replace").split("\n")[:-1], 1):
             number, tab, name = line.partition("\t")
             if not tab or not re.fullmatch(r"\d{1,10}", number, re.ASCII):
