@@ -67,7 +67,8 @@ class Asked:
         return Asked(parts.path, dict(words))
 
     def word(self, key: str) -> str:
-        return self.words.get(key, "").strip(" ")
+        text = self.words.get(key, "")
+        return text if key == "doc" else text.strip(" ")
 
     def time(self, key: str, default: int = LAST_TIME) -> int:
         text = self._slid() if key == "at" and self.words.get("by") == "slide" else self.word(key)

@@ -32,9 +32,7 @@ def curve_of(rows: Iterable[Hit | Span]) -> Curve:
     for row in rows:
         assert isinstance(row, Span)
         if before == (row.doc, row.start):
-            moves[row.start] -= 1
-            if not moves[row.start]:
-                del moves[row.start]
+            moves[row.start] += 1
         else:
             moves[row.start] = moves.get(row.start, 0) + 1
         moves[row.end] = moves.get(row.end, 0) - 1

@@ -6,7 +6,6 @@ import time as clock
 from bisect import bisect_left
 
 from .. import svg, timeline
-from ..found import pieces
 from ..replies import Hit, Span
 from ..times import LAST_TIME, show_time
 from ..wording import counted
@@ -26,7 +25,6 @@ _CHANGES = 100
 _NAMES = 200
 #: The heat map's stretches of time.
 _STRETCHES = 60
-_AROUND = 70
 
 
 def home(page: Page) -> str:
@@ -53,7 +51,7 @@ def find(page: Page) -> str:
     curve = archive.curve(query)
     some = [row for row in rows.rows[page.asked.start : page.asked.start + ROWS] if isinstance(row, Hit)]
     texts = archive.texts([(row.doc, at) for row in some])
-    found = [pieces(text or "", page.keys, _AROUND) for text in texts]
+    shown = [snippets(text or "", page.keys) for text in texts]
     took = f"{1000 * (clock.perf_counter() - began):.0f} ms"
     cite = address("/find", q=query, at=min(at, versions.last), start=page.asked.start)
     stays = (
@@ -65,7 +63,7 @@ def find(page: Page) -> str:
         f'<p>{counted(len(rows.rows), "document")} at {moment(at)}. <span class="meta">{counted(rows.read, "posting")} read; '
         f'<span id="took">{took}</span>. <a id="cite" href="{plain(cite)}">Link to this answer</a>. {stays}</span></p>'
     )
-    items = "".join(_hit(page, row, snippets(some_of)) for row, some_of in zip(some, found))
+    items = "".join(_hit(page, row, text) for row, text in zip(some, shown))
     body = f'{_curve(page, curve)}{told}<ol class="hits" start="{page.asked.start + 1}">{items}</ol>{_more(page, len(rows.rows))}'
     return page.rendered(f"{query} at {show_time(at)}", body)
 

@@ -4,11 +4,16 @@ from __future__ import annotations
 
 import re
 from html import escape
-from typing import AbstractSet, Iterable
+from typing import AbstractSet, Iterable, Iterator
 
 from ..found import Part, parts
 from ..times import LAST_TIME, show_time
+from ..words import key_of, runs
 
+#: So many characters are shown on both sides of a word, in so many stretches of at most so many.
+_AROUND = 70
+_PIECES = 3
+_MOST = 400
 #: What HTML can't hold, or what a terminal or a browser would act on; shown by the pictures that Unicode has for it.
 _CONTROL = re.compile("[\0-\x08\x0b-\x1f\x7f-\x9f\ud800-\udfff\ufffe\uffff]")
 
@@ -44,8 +49,45 @@ def marked(text: str, keys: AbstractSet[str]) -> str:
     return _parts(parts(text, keys))
 
 
-def snippets(pieces: Iterable[Iterable[Part]]) -> str:
-    return " ".join(_parts(piece) for piece in pieces)
+def snippets(text: str, keys: AbstractSet[str]) -> str:
+    """The first stretches of the text that have a word, marked; where there is none, its beginning."""
+    shown = []
+    for start, end in list(_stretches(text, keys)) or [(0, _bound(text, 2 * _AROUND, 1))]:
+        piece = marked(" ".join(text[start:end].split()), keys)
+        shown.append(("… " if start else "") + piece + (" …" if end < len(text) else ""))
+    return " ".join(shown)
+
+
+def _stretches(text: str, keys: AbstractSet[str]) -> Iterator[tuple[int, int]]:
+    """Stretches around words; those that meet are one."""
+    first = last = count = 0
+    for run in runs(text):
+        if key_of(run[0]) not in keys:
+            continue
+        start, end = _bound(text, run.start() - _AROUND, -1), _bound(text, run.end() + _AROUND, 1)
+        if last and start <= last:
+            last = min(end, first + _MOST)
+            if run.end() > last:
+                break
+            continue
+        if count == _PIECES:
+            break
+        if last:
+            yield first, last
+        first, last, count = start, end, count + 1
+    if last:
+        yield first, last
+
+
+def _bound(text: str, place: int, step: int) -> int:
+    """A place at or beyond this one at which no word is cut, unless it is far."""
+    place = max(0, min(place, len(text)))
+    for bound in range(place, place + 25 * step, step):
+        if not 0 < bound < len(text):
+            return max(0, min(bound, len(text)))
+        if text[bound - (step < 0)].isspace():
+            return bound
+    return place
 
 
 def _parts(some: Iterable[Part]) -> str:

@@ -183,6 +183,8 @@ class Handler(BaseHTTPRequestHandler):
 
     def _send(self, status: int, body: str, kind: str, more: Mapping[str, str] = {}) -> None:
         data = body.encode("utf-8", "replace")
+        if self.request_version == "HTTP/0.9":  # which has no head
+            self.request_version, self.close_connection = "HTTP/1.0", True
         self.send_response(status)
         closes = {"Connection": "close"} if self.close_connection else {}
         for key, value in {"Content-Type": kind, "Content-Length": str(len(data)), **_HEADERS, **more, **closes}.items():
@@ -197,7 +199,7 @@ class Handler(BaseHTTPRequestHandler):
         if code == 501:
             self._plain(405, "pages are only read: GET and HEAD", {"Allow": "GET, HEAD"})
         else:
-            self._plain(code, message or "the request can't be read")
+            self._plain(code, "the request can't be read")
 
     def log_message(self, *words: object) -> None:
         """Requests aren't logged: they tell what people look for."""
