@@ -75,6 +75,10 @@ def _command(kinds: Kinds, name: str, run: str, help: str) -> argparse.ArgumentP
     return parser
 
 
+#: What manual pages and completions are made of.
+parser = _parser
+
+
 def _add_filling(kinds: Kinds) -> None:
     init = _command(kinds, "init", "filling.init", "make an empty archive")
     init.add_argument("folder", type=Path, metavar="FOLDER")
