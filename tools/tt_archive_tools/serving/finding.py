@@ -4,6 +4,7 @@ from __future__ import annotations
 
 import time as clock
 from bisect import bisect_left
+from heapq import nsmallest
 
 from .. import svg, timeline
 from ..replies import Hit, Span
@@ -138,13 +139,15 @@ def _spans(page: Page) -> tuple[tuple[int, int], tuple[int, int], dict[int, list
     return window, (window[0], stop), found, rows.read
 
 
+def _heaviest(found: dict[int, list[Span]], end: int) -> list[int]:
+    """The documents with the most, as scores by seconds, in order."""
+    weights = {doc: sum((min(span.end, end) - span.start) * span.score for span in spans) for doc, spans in found.items()}
+    return nsmallest(_BARS, weights, key=lambda doc: (-weights[doc], doc))
+
+
 def between(page: Page) -> str:
     window, drawn, found, read = _spans(page)
-
-    def weight(doc: int) -> int:
-        return sum(max(min(span.end, drawn[1]) - span.start, 0) * span.score for span in found[doc])
-
-    order = sorted(found, key=lambda doc: (-weight(doc), doc))[:_BARS]
+    order = _heaviest(found, drawn[1])
     top = max((span.score for spans in found.values() for span in spans), default=0) or 1
     rows = [_bars_of(page, doc, found[doc], drawn, top) for doc in order]
     count = sum(map(len, found.values()))
@@ -185,15 +188,14 @@ def heat(page: Page) -> str:
     """The window as documents by stretches of time."""
     _, (first, last), found, read = _spans(page)
     width = max((last - first + _STRETCHES - 1) // _STRETCHES, 1)
-    cells = {doc: _cells(spans, first, last, width) for doc, spans in found.items()}
-    order = sorted(cells, key=lambda doc: (-sum(cells[doc].values()), doc))[:_BARS]
-    top = max((score for doc in order for score in cells[doc].values()), default=0) or 1
+    cells = {doc: _cells(found[doc], first, last, width) for doc in _heaviest(found, last)}
+    top = max((score for row in cells.values() for score in row.values()), default=0) or 1
     rows = []
-    for doc in order:
+    for doc, row in cells.items():
         shown = page.shown(doc)
         some = []
-        for stretch, score in sorted(cells[doc].items()):
-            start, end = first + stretch * width, min(first + (stretch + 1) * width, last)
+        for stretch, until, score in _runs(row):
+            start, end = first + stretch * width, min(first + until * width, last)
             there = max(start, next(span.start for span in found[doc] if span.end > start))
             to = address("/text", doc=shown, at=there, q=page.query)
             some.append(bands.Bar(start, end, 0.15 + 0.85 * (score / top) ** 0.5, to, f"up to {score} from {show_time(start)}"))
@@ -211,6 +213,17 @@ def _cells(spans: list[Span], first: int, last: int, width: int) -> dict[int, in
     for span in spans:
         for stretch in range((span.start - first) // width, (min(span.end, last) - 1 - first) // width + 1):
             found[stretch] = max(found.get(stretch, 0), span.score)
+    return found
+
+
+def _runs(row: dict[int, int]) -> list[tuple[int, int, int]]:
+    """Stretches side by side that have one score: the first, the one behind the last, the score."""
+    found: list[tuple[int, int, int]] = []
+    for stretch, score in sorted(row.items()):
+        if found and found[-1][1:] == (stretch, score):
+            found[-1] = (found[-1][0], stretch + 1, score)
+        else:
+            found.append((stretch, stretch + 1, score))
     return found
 
 
