@@ -362,11 +362,15 @@ class Parts(unittest.TestCase):
         self.assertEqual(b"".join(map(written, ReplyReader().replies(script))), script)
 
     def test_both_sides_of_a_difference(self) -> None:
-        for before, after in (("a\nb\nc", "a\nx\nc\nd"), ("", "new"), ("old", ""), ("same", "same"), ("x " * 3_000, "x " * 1_500 + "y " + "x " * 1_500)):
+        for before, after in (("a\nb\nc", "a\nx\nc\nd"), ("", "new"), ("old", ""), ("same", "same"), ("x " * 3_000, "x " * 1_500 + "y " + "x " * 1_500), ("a\rb\n" * 3, "a\rb\u2028\n")):
             lines = [line for line in difference(before, after) if isinstance(line, Line)]
             for signs, text in ((" -", before), (" +", after)):
-                self.assertLessEqual({"".join(piece.text for piece in line.pieces) for line in lines if line.sign in signs}, {*text.splitlines()})
+                self.assertLessEqual({"".join(piece.text for piece in line.pieces) for line in lines if line.sign in signs}, {*text.split("\n")})
             self.assertEqual(bool(lines), before != after)
+
+    def test_a_difference_of_large_texts(self) -> None:
+        long = "\n".join(" ".join(f"w{(at * 7 + k) % 50}" for k in range(250)) for at in range(3_000))
+        self.assertGreater(sum(1 for _ in difference(long, long.replace("w7 ", "w8 x "))), 3_000)
 
     def test_addresses(self) -> None:
         for doc in HOSTILE[:9]:

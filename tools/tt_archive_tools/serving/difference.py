@@ -8,9 +8,10 @@ from typing import Iterator, NamedTuple, Sequence, Union
 
 #: Lines around a change.
 _AROUND = 2
-#: Of longer texts no difference is made, and of lines of more words none within them.
+#: Of longer texts no difference is made; the words within lines are compared in pairs of so many, and so many in all.
 MOST_LINES = 4_000
-_MOST_WORDS = 1_000
+_MOST_WORDS = 2_000
+_MOST_WORDS_IN_ALL = 40_000
 #: From so many lines on, lines that stand often aren't used to find what is the same.
 _OFTEN = 2_000
 _WORD = re.compile(r"\w+|\W")
@@ -39,7 +40,8 @@ class Line(NamedTuple):
 
 def difference(before: str, after: str) -> Iterator[Union[Hunk, Line]]:
     """The lines that differ with those around them, each stretch behind its place."""
-    old, new = before.splitlines(), after.splitlines()
+    old, new = _lines(before), _lines(after)
+    words_left = _MOST_WORDS_IN_ALL
     matcher = SequenceMatcher(None, old, new, autojunk=len(old) + len(new) > _OFTEN)
     for group in matcher.get_grouped_opcodes(_AROUND):
         yield Hunk(group[0][3] + 1, group[-1][4])
@@ -48,7 +50,10 @@ def difference(before: str, after: str) -> Iterator[Union[Hunk, Line]]:
                 yield from (Line(" ", [Piece(text, False)]) for text in new[c:d])
             elif kind == "replace" and b - a == d - c:
                 for was, now in zip(old[a:b], new[c:d]):
-                    yield from _within(was, now)
+                    pair = _WORD.findall(was), _WORD.findall(now)
+                    count = len(pair[0]) + len(pair[1])
+                    yield from _within(*(pair if count <= min(words_left, _MOST_WORDS) else _bounds(*pair)))
+                    words_left -= min(count, words_left)
             else:
                 yield from (Line("-", [Piece(text, False)]) for text in old[a:b])
                 yield from (Line("+", [Piece(text, False)]) for text in new[c:d])
@@ -58,10 +63,11 @@ def is_too_long(text: str) -> bool:
     return text.count("\n") >= MOST_LINES
 
 
-def _within(was: str, now: str) -> Iterator[Line]:
-    old, new = _WORD.findall(was), _WORD.findall(now)
-    if max(len(old), len(new)) > _MOST_WORDS:
-        old, new = _bounds(old, new)
+def _lines(text: str) -> list[str]:
+    return text.removesuffix("\n").split("\n") if text else []
+
+
+def _within(old: list[str], new: list[str]) -> Iterator[Line]:
     left: list[Piece] = []
     right: list[Piece] = []
     for kind, a, b, c, d in SequenceMatcher(None, old, new, autojunk=False).get_opcodes():
@@ -80,6 +86,6 @@ def _bounds(old: list[str], new: list[str]) -> tuple[list[str], list[str]]:
 
     def one(words: list[str]) -> list[str]:
         stop = len(words) - end
-        return ["".join(words[:start]), "".join(words[start:stop]), "".join(words[stop:])]
+        return [part for part in ("".join(words[:start]), "".join(words[start:stop]), "".join(words[stop:])) if part]
 
     return one(old), one(new)

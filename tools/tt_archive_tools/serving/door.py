@@ -24,7 +24,7 @@ HELLO = b"side %d\n"
 _QUESTIONS = (b"find", b"between", b"show", b"certificate", b"propose", b"verify")
 _LAST_TIME = commands.delete(commands.NO_DOCUMENT, 0)
 #: So many seconds visitors have to finish when the folder is given up.
-_GRACE = 5.0
+GRACE = 5.0
 _PAUSE = 0.2
 
 
@@ -61,14 +61,14 @@ class Door:
         self._listener = listener
         threading.Thread(target=self._let_in, args=(listener,), daemon=True).start()
 
-    def close(self) -> None:
-        """Lets nobody in, and returns when nobody is inside, or had time enough to finish."""
+    def close(self, grace: float = GRACE) -> None:
+        """Lets nobody in, and returns when nobody is inside, or had so many seconds to finish."""
         if self._listener is None:
             return
         self._path.unlink(missing_ok=True)
         listener, self._listener = self._listener, None
         listener.close()
-        until = time.monotonic() + _GRACE
+        until = time.monotonic() + grace
         while self._inside and time.monotonic() < until:
             time.sleep(0.02)
         for visitor in list(self._inside):

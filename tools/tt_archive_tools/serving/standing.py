@@ -78,6 +78,8 @@ class Standing:
         if not self._turn.acquire(timeout=self._patience()):
             raise Away(at_work(self.folder) if self._given_up else "many ask at once; ask again")
         try:
+            if self._ending.is_set():
+                raise Away("this server is ending")
             if self._collection is None:
                 self._open(_WAIT)
             assert self._collection
@@ -187,6 +189,7 @@ class Standing:
         """Gives the folder up to a tt that wants to change the archive, and takes it back when that has ended."""
         self._door.close()
         with self._turn:
+            self._door.close(grace=0)  # who asked meanwhile may have opened it
             self._given_up = time.monotonic()
             self._shut()
             while turn_is_taken(self.folder):

@@ -96,7 +96,7 @@ class Server(ThreadingHTTPServer):
 def hosts_of(bound: str, port: int, names: Sequence[str]) -> frozenset[str]:
     """What `Host` may be. A name that a browser was made to believe is another one's."""
     literal = f"[{bound}]" if ":" in bound else bound
-    here = {literal, "localhost"}
+    here = {literal, "localhost", "127.0.0.1"}
     ports = {"", f":{port}"} if port == 80 else {f":{port}"}
     named = {name.lower() + end for name in names for end in ("", f":{port}")}
     return frozenset({host + end for host in here for end in ports} | named)
