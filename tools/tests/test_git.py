@@ -12,6 +12,7 @@ import tempfile
 import unittest
 from pathlib import Path
 from typing import Iterator
+from unittest import mock
 
 from support import ArchiveCase, find_program, needs
 
@@ -169,6 +170,52 @@ class GitImport(ArchiveCase):
         [texts] = self.texts_at(START + 22 * DAY)
         self.assertEqual((texts["same.txt"], texts["last.txt"], texts["a.txt"]), ("the same text\n", "last\n", "a again\n"))
         self.assertNotIn("gone.txt", texts)
+
+    def test_goes_on_within_a_second(self) -> None:
+        """An import ends at the first of a second's commits. The next one counts what it takes of the others as taken."""
+        self.repository.commit(START + 11 * DAY, one_txt=b"one\n", two_txt=b"two\n")
+        self.repository.commit(START + 11 * DAY, three_txt=b"three\n", x_txt=None)
+        self.repository.commit(START + 11 * DAY, four_txt=b"four\n")
+        self.repository.git("branch", "tip")
+        self.repository.git("reset", "-q", "--hard", "HEAD~2")
+        self.tt("import", "git", self.repository.path)
+        self.repository.git("reset", "-q", "--hard", "tip")
+        for words in (["--dry-run"], []):
+            done = self.tt("import", "git", self.repository.path, *words)
+            self.assertIn("2 versions and 1 deletion ", done.stdout)
+            self.assertNotIn("too late", done.stdout)
+            self.assertNotIn("another text", done.stdout)
+        self.assert_as_git_says(*self.all_times())
+        self.repository.commit(START + 11 * DAY, one_txt=b"one, twice in this second\n", five_txt=b"five\n")
+        for words in (["--dry-run"], []):
+            done = self.tt("import", "git", self.repository.path, *words)
+            self.assertIn("1 version and 0 deletions ", done.stdout)
+            self.assertNotIn("too late", done.stdout)
+            self.assertIn("another text than the archive has of that second, left out: 1\n", done.stdout)
+            self.assertIn(":one.txt: another text", done.stderr)
+        self.repository.commit(START + 12 * DAY, one_txt=b"one again\n")
+        self.tt("import", "git", self.repository.path)
+        self.assert_as_git_says(START + 12 * DAY)
+
+    def test_the_present_second_is_left_for_the_next_import(self) -> None:
+        now = START + 11 * DAY
+        self.repository.commit(now, x_txt=b"one of this second\n")
+        with mock.patch("tt_archive_tools.sources.git.clock.time", return_value=now + 0.9):
+            done = self.tt("import", "git", self.repository.path)
+        self.assertIn("commits from the present second on, left for the next import: 1\n", done.stdout)
+        self.assertEqual(self.texts_at(now), [as_texts(self.repository.tree_at(now - 1))])
+        self.repository.commit(now, x_txt=b"another of this second\n")
+        done = self.tt("import", "git", self.repository.path)
+        self.assertTrue(done.stdout.startswith("1 version and 0 deletions"), done.stdout)
+        self.assert_as_git_says(*self.all_times())
+
+    def test_each_is_named(self) -> None:
+        commits = self.repository.git("rev-list", "--first-parent", "--reverse", "main").decode().split()
+        done = self.tt("import", "git", "-v", self.repository.path)
+        for before, commit in zip(commits[-3:], commits[-2:]):
+            self.assertIn(f"commits that another of the same second replaced: {before[:12]}, by {commit[:12]}\n", done.stderr)
+        self.assertIn(f"versions that another of the same second replaced: {commits[-3][:12]}:x.txt\n", done.stderr)
+        self.assertNotIn("replaced", self.tt("import", "git", self.repository.path).stderr)
 
     def test_two_repositories_in_one_order(self) -> None:
         other = Repository(self.folder / "other")

@@ -167,9 +167,13 @@ class Moves(ArchiveCase):
     def test_what_the_files_do_not_tell_is_told(self) -> None:
         export = HEAD + page("Bridge", revision(1, "2007-01-01T00:00:00", "open")) + "</mediawiki>"
         self.assertIn("there is no log among the files: pages have their last title throughout", self.imported(export, []))
+        self.archive = self.folder / "with a log"
+        self.tt("init", self.archive)
         said = self.imported(export, [log(1, "2007-01-02T00:00:00", "delete", "Ferry"), log(2, "2007-01-03T00:00:00", "delete", "Ferry")])
         self.assertIn("the log has no moves; where pages were moved all the same", said)
         self.assertIn("pages that the log deletes, and of which the export has nothing: 1\n", said)
+        said = self.tt("import", "mediawiki", "-v", "--dry-run", self.folder / "dump.xml", self.folder / "log.xml").stderr
+        self.assertIn("pages that the log deletes, and of which the export has nothing: Ferry\n", said)
 
     def test_an_older_log(self) -> None:
         older = log(1, "2007-01-02T00:00:00", "move", "Bridge", kind="move").replace("</logitem>", "<params>The_bridge\n0</params></logitem>")

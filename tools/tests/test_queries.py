@@ -98,6 +98,13 @@ class Words(unittest.TestCase):
         found = [part.text for part in parts("plan plans PLAN; e\u0301 é e", {key_of("plan"), key_of("é")}) if part.found]
         self.assertEqual(found, ["plan", "PLAN", "e\u0301", "é"])
 
+    def test_pieces_lie_behind_one_another(self) -> None:
+        text = " ".join(f"w{number}" for number in range(100))
+        shown = ["".join(part.text for part in piece).strip("…").strip() for piece in pieces(text, {"w20", "w35", "w50"})]
+        self.assertEqual(len(shown), 3)
+        self.assertTrue(set(shown[0].split()).isdisjoint(shown[1].split()))
+        self.assertIn(" ".join(shown), text)
+
     def test_pieces(self) -> None:
         text = " ".join(f"w{number}" for number in range(100))
         shown = ["".join(part.text for part in piece) for piece in pieces(text, {"w0", "w1", "w50", "w99", "w70", "w80"})]

@@ -20,6 +20,18 @@ BRIDGE = [
     Version(START + 2 * DAY, "ferry", "The ferry is closed: take the bridge."),
     Version(START + 3 * DAY, "bridge", None),
 ]
+#: What is no plan, and what is said behind it.
+PLANS = {
+    "3/2": "; did you mean `guarantee 3/2`?",
+    "guarante 3:2": "; did you mean `guarantee 3/2`?",
+    "1.5 guarantee": "; did you mean `guarantee 1.5`?",
+    "space 3/2": "; did you mean `space 3/2 uniform` or `space 3/2 since TIME`?",
+    "space 3 / 2 unifrom": "; did you mean `space 3/2 uniform`?",
+    "guarantee 2 uniform": "; did you mean `space 2 uniform`?",
+    "space since 2007-07 3/2": "; did you mean `space 3/2 since 2007-07`?",
+    "space 3/2 2007-07": "; did you mean `space 3/2 since 2007-07`?",
+    "guarantee": "",
+}
 FAKE = "fake_tt_archive" in os.environ.get("TT_ARCHIVE", "")
 
 
@@ -78,6 +90,9 @@ class Questions(ArchiveCase):
         self.assertIn("a question is one line", self.tt("find", "a\nb", status=1).stderr)
         self.assertIn("is no time", self.tt("find", "a", "--at", "yesterday", status=1).stderr)
         self.assertIn("a plan is", self.tt("plan", "a", "guarantee", "2", "uniform", status=1).stderr)
+        for form, meant in PLANS.items():
+            said = self.tt("plan", "a", *form.split(), status=1).stderr
+            self.assertEqual(said, "tt: a plan is `guarantee A/B`, `space A/B uniform` or `space A/B since TIME`" + meant + "\n", form)
         for factor in ("0.5", "2/0", "2/3", "4294967296"):
             self.assertIn(f"'{factor}' is no factor", self.tt("plan", "a", "guarantee", factor, status=1).stderr)
 
@@ -257,6 +272,15 @@ class Pictures(ArchiveCase):
     def test_a_program_that_ends(self) -> None:
         done = self.tt("find", "w1", status=1, TT_ARCHIVE="sh -c 'echo tt_archive: disk fault >&2; exit 4'")
         self.assertEqual(done.stderr, f"tt: {self.archive}: tt_archive: disk fault\n")
+        for how in ("kill -9 $$", "sh -c \"kill -9 \\$\\$\"; exit $?"):
+            done = self.tt("find", "w1", status=1, TT_ARCHIVE=f"sh -c '{how}'")
+            self.assertEqual(
+                done.stderr,
+                f"tt: {self.archive}: tt_archive was killed (signal 9, SIGKILL), as the system does where memory is short; "
+                "what was acknowledged is in the archive, and the same command goes on from there\n",
+            )
+        done = self.tt("find", "w1", status=1, TT_ARCHIVE="sh -c 'exit 5'")
+        self.assertEqual(done.stderr, f"tt: {self.archive}: tt_archive ended with status 5\n")
         done = self.tt("find", "w1", status=1, TT_ARCHIVE="sh -c 'read line; echo what'")
         self.assertIn("tt_archive answered what is no reply: b'what\\n'", done.stderr)
         self.assertIn("there is no program /none", self.tt("find", "w1", status=1, TT_ARCHIVE="/none").stderr)

@@ -4,10 +4,11 @@ from __future__ import annotations
 
 import os
 import random
+import shlex
 import shutil
 import unittest
 
-from support import DAY, ArchiveCase, answers, needs, sample
+from support import DAY, ArchiveCase, answers, find_program, needs, sample
 from tt_archive_tools import commands, timeline
 from tt_archive_tools.replies import Pieces, Rows
 
@@ -108,6 +109,28 @@ class Shards(ArchiveCase):
             self.assertEqual(four.ask_rows(question), wanted)
             self.assertEqual(four.last_time(), one.last_time())
         self.assertIsInstance(wanted, Rows)
+
+    def test_a_shard_that_stops_before_the_others_misses_nothing(self) -> None:
+        tree = self.folder / "tree"
+        tree.mkdir()
+        wanted = {f"{index}.txt": f"text {index} " * 20 for index in range(200)}
+        for index, (name, text) in enumerate(wanted.items()):
+            (tree / name).write_text(text)
+            os.utime(tree / name, (DAY + 60 * index, DAY + 60 * index))
+        self.tt("shard", 4, self.shards, "--empty")
+        for size in (0, 900, 2_300):
+            cut = f"case $PWD in *shard-1) n={size};; *) n=1000000;; esac; dd bs=1 count=$n status=none"
+            stopping = f"sh -c '{cut} | {shlex.join(find_program(None))}'"
+            self.tt("-C", self.shards, "import", "folder", tree, status=1, TT_ARCHIVE=stopping)
+        (self.folder / "other").mkdir()
+        said = self.tt("-C", self.shards, "import", "folder", self.folder / "other", "--dry-run").stderr
+        self.assertIn(f"warning: an import was stopped; what shards miss of it is lost if it isn't imported first: folder {tree}\n", said)
+        done = self.tt("-C", self.shards, "import", "folder", tree)
+        self.assertNotIn("warning", done.stderr)
+        self.assertNotIn("refused", done.stdout)
+        self.assertNotIn("warning", self.tt("-C", self.shards, "import", "folder", self.folder / "other").stderr)
+        self.archive = self.shards
+        self.assertEqual(self.texts_at(2 * DAY), [wanted])
 
     @unittest.skipUnless(shutil.which("parallel"), "GNU parallel isn't installed")
     def test_side_by_side_with_parallel(self) -> None:

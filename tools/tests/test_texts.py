@@ -34,6 +34,7 @@ class Texts(unittest.TestCase):
         self.assertEqual(decoded(b"n\xe9"), ("n\ufffd", replaced))
         self.assertEqual(decoded(b"n\xe9", "no-such-set"), ("n\ufffd", replaced))
         self.assertEqual(decoded(b"n\xe9", "base64"), ("n\ufffd", replaced))
+        self.assertEqual(decoded(b"n\xe9", "UTF8"), ("n\ufffd", ["bytes that are declared as utf-8 and aren't, replaced"]))
 
     def test_binary(self) -> None:
         self.assertEqual(decoded(b"\x89PNG\0")[0], None)
@@ -54,6 +55,12 @@ class Texts(unittest.TestCase):
 
     def test_times(self) -> None:
         self.assertEqual([parse_time(text) for text in ("1970", "1970-02", "1970-01-02", "1970-01-01T00:01", "@7", "now")], [0, 2_678_400, 86_400, 60, 7, LAST_TIME])
+        noon = parse_time("2007-07-23T12:00:00Z")
+        for offset in ("T14:00+02:00", " 14:00:00 +0200", "T06:30:00-05:30", "T12:00+00:00", "T12:00-00:00"):
+            self.assertEqual(parse_time(f"2007-07-23{offset}"), noon, offset)
+        self.assertEqual(parse_time("2008-01-01T00:30+01:00"), parse_time("2007-12-31T23:30"))
+        for wrong in ("2007-07-23+02:00", "2007-07-23T14:00+2", "2007-07-23T14:00+24:00", "2007-07-23T14:00+01:60", "1970-01-01T00:00+00:01"):
+            self.assertRaises(ToolError, parse_time, wrong)
         for wrong in ("1969", "2007-02-30", "07-02-2007", "2007-1-1", "86400", "@1099511627776", ""):
             self.assertRaises(ToolError, parse_time, wrong)
         self.assertEqual([show_time(time) for time in (0, 60, LAST_TIME)], ["1970-01-01", "1970-01-01T00:01:00Z", "now"])

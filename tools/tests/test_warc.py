@@ -68,6 +68,17 @@ class WarcImport(ArchiveCase):
         for (stamp, texts), found in zip(EXPECTED.items(), self.texts_at(*map(at, EXPECTED))):
             self.assertEqual(found, texts, stamp)
 
+    def test_a_folder_of_crawls(self) -> None:
+        crawls = self.folder / "crawls"
+        (crawls / "july").mkdir(parents=True)
+        (crawls / "notes.txt").write_text("no capture")
+        self.assertIn("there is no file *.warc or *.warc.gz in it", self.tt("import", "warc", crawls, status=1).stderr)
+        (crawls / "july" / "one.warc").write_bytes(b"".join(CAPTURES[:4]))
+        self.tt("import", "warc", crawls)
+        (crawls / "two.warc.gz").write_bytes(gzip.compress(b"".join(CAPTURES[5:])))
+        self.assertEqual(self.tt("refresh").stdout, f"warc {crawls}: 1 version and 2 deletions are in the archive\n")
+        self.assertEqual(self.texts_at(at("2007-07-06"), at("2007-07-08")), [{HOME: "Welcome."}, {HOME: "Welcome."}])
+
     def test_what_servers_do_to_bodies(self) -> None:
         body = b"A text that was sent in pieces."
         chunks = b"10\r\n" + body[:16] + b"\r\nf;x=y\r\n" + body[16:] + b"\r\n0\r\n\r\n"
@@ -90,14 +101,16 @@ class WarcImport(ArchiveCase):
         pages = {
             "http": response("2007-07-01T00:00:00", "http", "200 OK", ["Content-Type: text/html; charset=ISO-8859-1"], "Öl\x80".encode("latin-1")),
             "meta": response("2007-07-01T00:00:00", "meta", "200 OK", ["Content-Type: text/html"], b'<meta charset="koi8-r"><p>\xd2\xd5\xc2\xcc\xd8'),
+            "utf8": response("2007-07-01T00:00:00", "utf8", "200 OK", HTML, b"<p>th\xe9"),
             "none": response("2007-07-01T00:00:00", "none", "200 OK", ["Content-Type: text/html"], b"<p>caf\xe9"),
         }  # fmt: skip
         file = self.folder / "a.warc"
         file.write_bytes(b"".join(pages.values()))
         done = self.tt("import", "warc", file)
-        self.assertEqual(self.texts_at(at("2007-07-01")), [{"http": "Öl€", "meta": "рубль", "none": "caf�"}])
+        self.assertEqual(self.texts_at(at("2007-07-01")), [{"http": "Öl€", "meta": "рубль", "utf8": "th�", "none": "caf�"}])
         self.assertIn("texts decoded as cp1252: 1", done.stdout)
-        self.assertIn("record 3: bytes that aren't UTF-8 and whose character set isn't known, replaced", done.stderr)
+        self.assertIn("record 3: bytes that are declared as utf-8 and aren't, replaced", done.stderr)
+        self.assertIn("record 4: bytes that aren't UTF-8 and whose character set isn't known, replaced", done.stderr)
 
     def test_faults_have_their_place(self) -> None:
         file = self.folder / "a.warc"
@@ -159,3 +172,6 @@ class Deduplicated(ArchiveCase):
         self.assertIn("record 16: revisit that names no capture's payload, left out\n", done.stderr)
         self.assertIn("record 17: revisit of a capture that isn't in these files, left out\n", done.stderr)
         self.assertIn("records of a crawler of itself (metadata:), left out: 2\n", done.stdout)
+        tried = self.tt("import", "warc", "-v", "--dry-run", file).stderr
+        self.assertIn(f"captures of what wasn't there: {file}: record 7, {FLIP}\n", tried)
+        self.assertIn(f"(metadata:), left out: {file}: record 18, metadata://gnu.org/software/wget/warc/wget.log\n", tried)

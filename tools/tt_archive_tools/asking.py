@@ -58,14 +58,17 @@ def between(options: argparse.Namespace) -> None:
 
 def show(options: argparse.Namespace) -> None:
     at = parse_time(options.at)
-    with archive_of(options) as collection:
+    with archive_of(options, Use.ASKS) as collection:
         doc = collection.names.number(options.name)
+        shard = collection.shards[collection.side_of(doc)]
         reply = collection.ask_side(collection.side_of(doc), commands.show(doc, at))
     match reply:
         case Text(text=text):
             sys.stdout.buffer.write(text if text.endswith(b"\n") else text + b"\n")
         case Gone():
-            raise ToolError(f"{options.name} has no text {show_at(at)}")
+            from .documents import why_gone  # loaded where it is needed
+
+            raise ToolError(f"{options.name} has no text {show_at(at)}{why_gone(shard, doc, at)}")
         case _:
             raise ToolError(f"the question was refused: {reply}")
 
@@ -83,7 +86,7 @@ def _answer(options: argparse.Namespace, question: bytes, at: int) -> _Answer:
 
 
 def _asked(options: argparse.Namespace, question: bytes, at: int) -> _Answer:
-    with archive_of(options) as collection:
+    with archive_of(options, Use.ASKS) as collection:
         rows = collection.ask_rows(question)
         found: dict[int, list[list[Part]]] = {}
         if options.snippets:

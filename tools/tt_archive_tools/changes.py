@@ -38,11 +38,13 @@ class Notes:
     tell: Callable[[str], None]
     #: Shows how far the reading of an input is.
     progress: Callable[[str], None] = lambda text: None
+    #: Each is told, also what is counted alone.
+    every: bool = False
     counts: Counter[str] = field(default_factory=Counter)
 
     def add(self, kind: str, place: str) -> None:
         self.counts[kind] += 1
-        if self.counts[kind] <= _TOLD_OF_A_KIND:
+        if self.every or self.counts[kind] <= _TOLD_OF_A_KIND:
             self.tell(f"{place}: {kind}")
         elif self.counts[kind] == _TOLD_OF_A_KIND + 1:
             self.tell(f"(more of `{kind}` are counted, and not told one by one)")
@@ -52,9 +54,11 @@ class Notes:
         if count % 100 == 0:
             self.progress(f"{count:,} {what} read")
 
-    def count(self, kind: str) -> None:
-        """Counts what isn't worth a line of its own."""
+    def count(self, kind: str, place: str) -> None:
+        """Counts what isn't worth a line of its own, unless each is told."""
         self.counts[kind] += 1
+        if self.every:
+            self.tell(f"{kind}: {place}")
 
 
 class Tidier:
@@ -73,8 +77,9 @@ class Tidier:
         for _, together in groupby(self._from_1970(changes), key=attrgetter("time")):
             last: dict[str, Change] = {}
             for change in together:
-                if change.name in last and last[change.name].text not in (None, change.text):
-                    self._notes.count("versions that another of the same second replaced")
+                replaced = last.get(change.name)
+                if replaced and replaced.text not in (None, change.text):
+                    self._notes.count("versions that another of the same second replaced", replaced.place)
                 last[change.name] = change
             for change in last.values():
                 yield from self._new_in(change)
@@ -86,7 +91,7 @@ class Tidier:
     def _from_1970(self, changes: Iterable[Change]) -> Iterator[Change]:
         for change in changes:
             if change.time < 0:
-                self._notes.count("versions before 1970, taken at 1970-01-01")
+                self._notes.count("versions before 1970, taken at 1970-01-01", change.place)
                 change = change._replace(time=0)
             yield change
 
@@ -104,7 +109,7 @@ class Tidier:
             return
         digest = hashlib.blake2b(change.text, digest_size=16).digest()
         if before == digest:
-            self._notes.count("versions with the text of the one before")
+            self._notes.count("versions with the text of the one before", change.place)
             return
         self._texts[change.name] = digest
         yield change

@@ -20,7 +20,7 @@ Kinds: TypeAlias = "argparse._SubParsersAction[argparse.ArgumentParser]"
 _ABOUT = """Fills a time-travel text archive from what keepers have, asks it by names and dates, and draws what it
 holds. The tools write scripts for tt_archive and read its replies."""
 _STOPPED = "stopped; what was acknowledged is in the archive, and the same import goes on from there"
-_TIME = "a date (2007, 2007-07, 2007-07-23, 2007-07-23T12:30:00, all UTC), @SECONDS, or now"
+_TIME = "a date (2007, 2007-07, 2007-07-23, 2007-07-23T12:30:00, all UTC; 2007-07-23T14:30:00+02:00), @SECONDS, or now"
 
 
 def main(words: Sequence[str] | None = None) -> int:
@@ -30,7 +30,7 @@ def main(words: Sequence[str] | None = None) -> int:
         # Names may have bytes that aren't UTF-8; they are shown as they are.
         stream.reconfigure(errors="surrogateescape")  # type: ignore[union-attr]
     words = sys.argv[1:] if words is None else words
-    options = _parser().parse_args(words)
+    options = parsed(words)
     options.command = shlex.join(("tt", *words))
     try:
         with stops_in_order():
@@ -54,16 +54,22 @@ def main(words: Sequence[str] | None = None) -> int:
     return 0
 
 
+def parsed(words: Sequence[str]) -> argparse.Namespace:
+    """What the words say; an end of the program where they are wrong."""
+    return _parser().parse_args(words)
+
+
 def _parser() -> argparse.ArgumentParser:
     parser = argparse.ArgumentParser(prog="tt", description=_ABOUT)
     add = parser.add_argument
     add("-C", "--archive", type=Path, default=Path("."), metavar="FOLDER", help="the archive's folder (here)")
     add("--program", metavar="WORDS", help="the tt_archive to run ($TT_ARCHIVE, on the path, or built here)")
     add("--wait", default="10s", metavar="TIME", help="how long to wait while another is at work in the folder (10s)")
-    add("-q", "--quiet", action="store_true", help="no progress on a terminal")
+    add("-q", "--quiet", action="store_true", help="no progress on a terminal; of a refresh only what was refused")
     kinds = parser.add_subparsers(required=True, metavar="COMMAND")
     _add_filling(kinds)
     _add_questions(kinds)
+    _add_documents(kinds)
     _add_pictures(kinds)
     _add_serving(kinds)
     return parser
@@ -83,6 +89,8 @@ def _add_filling(kinds: Kinds) -> None:
     init = _command(kinds, "init", "filling.init", "make an empty archive")
     init.add_argument("folder", type=Path, metavar="FOLDER")
     _add_sources(kinds.add_parser("import", help="fill the archive from a source"))
+    refresh = _command(kinds, "refresh", "refreshing.refresh", "import each source of this archive again, all in one order of time")
+    refresh.add_argument("--go-on", action="store_true", help="leave out the sources that can't be read; what is new in them may be too late afterwards")
     shard = _command(kinds, "shard", "filling.shard", "split the archive by document into N archives below INTO")
     shard.add_argument("count", type=int, metavar="N")
     shard.add_argument("into", type=Path, metavar="INTO")
@@ -92,23 +100,24 @@ def _add_filling(kinds: Kinds) -> None:
 
 
 def _add_sources(parser: argparse.ArgumentParser) -> None:
-    sources = parser.add_subparsers(required=True, metavar="SOURCE")
-    git = _command(sources, "git", "importing.import_git", "import the files of a branch, as each commit left them")
-    git.add_argument("repositories", type=Path, nargs="+", metavar="REPOSITORY")
+    sources = parser.add_subparsers(required=True, metavar="SOURCE", dest="source")
+    git = _command(sources, "git", "importing.import_source", "import the files of a branch, as each commit left them")
+    git.add_argument("paths", type=Path, nargs="+", metavar="REPOSITORY")
     git.add_argument("--branch", default="HEAD", help="the branch whose first parents are followed (HEAD)")
     git.add_argument("--only", nargs="+", default=[], metavar="PATH", help="the files that these paths name for git")
-    wiki = _command(sources, "mediawiki", "importing.import_mediawiki", "import a MediaWiki export and its logs")
-    wiki.add_argument("files", type=Path, nargs="+", metavar="DUMP.xml[.gz|.bz2]")
+    wiki = _command(sources, "mediawiki", "importing.import_source", "import a MediaWiki export and its logs")
+    wiki.add_argument("paths", type=Path, nargs="+", metavar="DUMP.xml[.gz|.bz2]")
     wiki.add_argument("--keep-redirects", action="store_true", help="keep redirects as texts")
-    warc = _command(sources, "warc", "importing.import_warc", "import web captures")
-    warc.add_argument("files", type=Path, nargs="+", metavar="FILE.warc[.gz]")
-    folder = _command(sources, "folder", "importing.import_folder", "import folders with dates, or files by time")
-    folder.add_argument("trees", type=Path, nargs="+", metavar="TREE")
+    warc = _command(sources, "warc", "importing.import_source", "import web captures")
+    warc.add_argument("paths", type=Path, nargs="+", metavar="FILE.warc[.gz]", help="a file, or a folder of such files")
+    folder = _command(sources, "folder", "importing.import_source", "import folders with dates, or files by time")
+    folder.add_argument("paths", type=Path, nargs="+", metavar="TREE")
     folder.add_argument("--by-time", action="store_true", help="each file at its last change, whatever folders are called")
     for source in (git, wiki, warc, folder):
         source.add_argument("--prefix", default="", help="what the documents' names begin with")
         source.add_argument("--charset", help="the character set of what isn't UTF-8 and doesn't declare its own")
         source.add_argument("--keep-html", action="store_true", help="keep HTML as it is, with its tags")
+        source.add_argument("-v", "--verbose", action="store_true", help="name each of what is otherwise only counted")
         source.add_argument("--dry-run", action="store_true", help="read all, tell what would be taken and refused, and send nothing")
 
 
@@ -133,6 +142,20 @@ def _add_questions(kinds: Kinds) -> None:
     plan = _command(kinds, "plan", "planning.plan", "store a plan of a word's list, which bounds reading or space")
     plan.add_argument("word", metavar="WORD")
     plan.add_argument("form", nargs="+", metavar="FORM", help="guarantee A/B, space A/B uniform, space A/B since TIME; 1.5 is 3/2")
+
+
+def _add_documents(kinds: Kinds) -> None:
+    log = _command(kinds, "log", "documents.log", "list a document's versions: when each begins, its bytes, and where the document ends")
+    diff = _command(kinds, "diff", "documents.diff", "show what the version of a document that stands at a time changed, or all that changed until then")
+    for one in (log, diff):
+        one.add_argument("name", metavar="NAME", help="the document's name, or #NUMBER")
+    diff.add_argument("--at", default="now", metavar="TIME", help=f"the version that stands then, and now where none is given: {_TIME}")
+    diff.add_argument("--from", dest="start", metavar="TIME", help="show all that changed since this time (since the version before)")
+    names = _command(kinds, "names", "documents.names", "list the documents whose names have this part, without regard to case and marks")
+    names.add_argument("part", metavar="PART", nargs="?", default="", help="a part of the name (all names)")
+    names.add_argument("--limit", type=int, default=0, metavar="N", help="show the first N names (all)")
+    for listing in (log, names):
+        listing.add_argument("--tsv", action="store_true", help="rows as tab-separated values, and nothing else")
 
 
 def _add_pictures(kinds: Kinds) -> None:

@@ -15,7 +15,7 @@ from itertools import repeat
 from pathlib import Path
 from selectors import EVENT_READ, PollSelector
 from types import TracebackType
-from typing import TYPE_CHECKING, Any, Callable, Iterator, Sequence
+from typing import TYPE_CHECKING, Any, Callable, Iterable, Iterator, Sequence
 
 from . import commands
 from .errors import BadQuery, InUse, NotBuilt, ProgramFailed, ToolError
@@ -54,6 +54,16 @@ def shards_of(folder: Path) -> list[Shard]:
     return shards
 
 
+def archives_in(folder: Path) -> list[Shard]:
+    """The archives of a folder, which has to be there and to have some."""
+    if not folder.is_dir():
+        raise ToolError(f"there is no folder {folder}")
+    shards = shards_of(folder)
+    if not any((folder / file).exists() for file in (NAMES, JOURNAL)):
+        raise ToolError(f"{folder} has no archive: `tt init {folder}` makes one")
+    return shards
+
+
 @dataclass
 class _Side:
     """One archive's program, and what it has not yet answered."""
@@ -66,12 +76,8 @@ class Collection:
     """A context in which the archive is locked, and its programs run."""
 
     def __init__(self, folder: Path, command: Sequence[str], claim: Claim = Claim()) -> None:
-        if not folder.is_dir():
-            raise ToolError(f"there is no folder {folder}")
         self.folder = folder
-        self.shards = shards_of(folder)
-        if not any((folder / file).exists() for file in (NAMES, JOURNAL)):
-            raise ToolError(f"{folder} has no archive: `tt init {folder}` makes one")
+        self.shards = archives_in(folder)
         self._command = command
         self._claim = claim
         self._locked = ExitStack()
@@ -99,7 +105,7 @@ class Collection:
         if kind is None:
             for shard, (status, said) in zip(self.shards, ends):
                 if status != 0:
-                    raise ProgramFailed(f"{shard}: {_explained(said, shard) or 'status %d' % status}")
+                    raise ProgramFailed(f"{shard}: {_explained(said, shard, status)}")
 
     def side_of(self, doc: int) -> int:
         """Which of the archives has the document."""
@@ -136,21 +142,25 @@ class Collection:
         return merge_rows(self.rows_of(reply) for reply in self.ask_all(question))
 
     def last_time(self) -> int | None:
-        """The archive's last time, or None before there is any entry.
+        """The archive's last time, or None before there is any entry."""
+        return latest(self.last_times())
+
+    def last_times(self) -> list[int | None]:
+        """The last time of each of the archives.
 
         Asked by deleting a document that never was: this is refused, because it lies before the
         last time, or because there is no document.
         """
-        times = []
+        times: list[int | None] = []
         for reply in self.ask_all(commands.delete(commands.NO_DOCUMENT, 0)):
             match reply:
                 case Refused(name="TimeBack", detail=last):
                     times.append(int(last))
                 case Refused(name="NoDocument"):
-                    pass
+                    times.append(None)
                 case _:
                     raise ProgramFailed(f"tt_archive answered {reply} to a deletion of no document")
-        return max(times, default=None)
+        return times
 
     def _ask(self, sides: Sequence[int], question: bytes) -> list[Reply]:
         replies: dict[int, Reply] = {}
@@ -261,14 +271,18 @@ def _replies(program: Program | Visit) -> Iterator[Reply]:
         status, said = program.wait()
         if status == AT_WORK:
             raise InUse(f"another program is at work in {program.shard}, which no tt of this folder started")
-        why = _explained(said, program.shard) or wrong or f"tt_archive ended with status {status}"
-        raise ProgramFailed(f"{program.shard}: {why}")
+        raise ProgramFailed(f"{program.shard}: {_explained(said or wrong, program.shard, status)}")
 
 
-def _explained(said: str, shard: Shard) -> str:
-    from .damage import explained  # loaded where something is wrong
+def _explained(said: str, shard: Shard, status: int) -> str:
+    from .damage import explained, killed  # loaded where something is wrong
 
-    return explained(said, shard)
+    return killed(status) or explained(said, shard) or f"tt_archive ended with status {status}"
+
+
+def latest(times: Iterable[int | None]) -> int | None:
+    """The last of the times that are known."""
+    return max((time for time in times if time is not None), default=None)
 
 
 def make_archive(folder: Path, command: Sequence[str], claim: Claim) -> None:

@@ -3,6 +3,7 @@
 from __future__ import annotations
 
 import re
+import signal
 
 from .errors import ToolError
 from .journal import StoredPlan, live_plans, pages_size
@@ -18,6 +19,18 @@ _CAUSES = {
     "bare": "it is a first segment's, and has no posting",
     "clash": "a posting of it contradicts one of an earlier segment",
 }
+
+
+def killed(status: int) -> str:
+    """That a signal ended the program, and what then holds; nothing where none did. A shell adds 128 to the signal."""
+    number = -status if status < 0 else status - 128
+    if number not in {each.value for each in signal.Signals}:
+        return ""
+    memory = ", as the system does where memory is short" if number == signal.SIGKILL else ""
+    return (
+        f"tt_archive was killed (signal {number}, {signal.Signals(number).name}){memory}; what was acknowledged is in the "
+        "archive, and the same command goes on from there"
+    )
 
 
 def explained(said: str, shard: Shard) -> str:

@@ -6,15 +6,16 @@ import sys
 import time as clock
 from collections import Counter
 from dataclasses import dataclass, field
-from typing import Iterable, Iterator, NamedTuple
+from heapq import merge
+from typing import Iterable, Iterator, NamedTuple, Sequence
 
 from . import commands
 from .changes import Change, Notes, Tidier
-from .collection import Collection
+from .collection import Collection, latest
 from .errors import ProgramFailed
 from .ledger import FILE as LEDGER
 from .ledger import Ledger
-from .replies import Ok, Refused, Reply
+from .replies import Gone, Ok, Refused, Reply, Text
 from .times import show_time
 from .wording import counted
 
@@ -34,7 +35,8 @@ class _Sent(NamedTuple):
     place: str
     arrives: bool
     maybe: bool
-    again: bool
+    #: The change itself, where an earlier import came up to its time.
+    again: Change | None
 
 
 @dataclass
@@ -88,11 +90,14 @@ class Feeder:
     #: What is said of changes.
     taken, refused = "are in the archive", "refused"
 
-    def __init__(self, collection: Collection, source: str, notes: Notes, progress: Progress) -> None:
+    def __init__(self, collection: Collection, source: str, words: str, notes: Notes, progress: Progress) -> None:
+        """`words` import the source again."""
         self._collection = collection
         self._ledger = Ledger(collection.folder / LEDGER)
         self._source = source
-        self._last = collection.last_time()
+        self._words = words
+        self._lasts = collection.last_times()
+        self._last = latest(self._lasts)
         self._done = self._ledger.done(source, self._last)
         self._tidier = Tidier(collection.names.__contains__, notes)
         self._notes = notes
@@ -100,22 +105,31 @@ class Feeder:
         self.tally = Tally(before_until=self._done.end if self._done else 0)
         self._begun = False
         self._changes = 0
-        #: Changes taken of times up to which the source was imported before.
-        self._behind = 0
-        self._latest = -1 if self._last is None else self._last
+        #: Of these the ones of times up to which the source was imported before, and those of them that were taken now.
+        self._again = self._behind = 0
         self._refused_times: list[int] = []
+        #: Of the second at which an earlier import ended, what the archive refused: it has a change of its own then.
+        self._same: list[Change] = []
         self._batch: list[Change] = []
         self._most = _FIRST
         self._bytes = 0
 
     def feed(self, changes: Iterable[Change]) -> None:
-        done_changes = 0
+        others = [source for source in self._ledger.stopped() if source != self._source]
+        if others and len(self._lasts) > 1:
+            self._notes.tell(f"warning: an import was stopped; what shards miss of it is lost if it isn't imported first: {', '.join(others)}")
+        for change in self.wanted(changes):
+            self.take(change)
+        self.send()
+        self.finish()
+
+    def wanted(self, changes: Iterable[Change]) -> Iterator[Change]:
+        """The changes that lie in time to be sent. The others are counted, or told as refused."""
         for change in self._weighed(self._tidier.tidied(changes)):
             self._changes += not change.maybe
-            if self._is_again(change):
-                done_changes += not change.maybe
+            self._again += self._is_again(change) and not change.maybe
             if self._in_time(change):
-                self._take(change)
+                yield change
             elif self._reached(change):
                 # Fed by an earlier import, or refused by it and told then.
                 self.tally.before += 1
@@ -123,18 +137,45 @@ class Feeder:
                     self._tidier.forget(change.name)
             else:
                 self._tidier.forget(change.name)
-                self._refuse(sent_of(change, False), Refused(2, "TimeBack", str(self._last)))
-        self._send()
-        self._finish()
+                self._refuse(self._sent(change), Refused(2, "TimeBack", str(self._last)))
+
+    def begin(self, beside: bool = False) -> None:
+        """Notes the beginning, once, before anything is sent; `beside` the source that began before."""
+        if not self._begun:
+            self._ledger.begin(self._source, self._last, self._words, beside)
+            self._begun = True
+
+    def finish(self) -> None:
+        """Waits for the replies, and notes and counts how far the source was imported."""
+        self._collection.settle()
+        self._note()
+        for change in self._same:
+            if not self._has(change):
+                self._notes.add("another text than the archive has of that second, left out", change.place)
         if self._done and self._done.changes is not None:
-            self.tally.late = max(0, done_changes - self._done.changes - self._behind)
+            self.tally.late = max(0, self._again - self._done.changes - self._behind)
 
     def prospect(self) -> list[str]:
         """What an import that was only tried tells more."""
         return []
 
+    def _has(self, change: Change) -> bool:
+        """Whether the archive has at this change's time what it brings."""
+        doc = self._collection.names.give(change.name)
+        reply = self._collection.ask_side(self._collection.side_of(doc), commands.show(doc, change.time))
+        return reply == (Gone() if change.text is None else Text(change.text))
+
     def _in_time(self, change: Change) -> bool:
-        return self._last is None or change.time >= self._last
+        return self._last is None or change.time >= self._last or self._is_missed(change)
+
+    def _is_missed(self, change: Change) -> bool:
+        """The last import of the source was stopped, and the shard of the document hadn't come to this time. Names are
+        durable before anything is sent, so what has none was sent to no shard."""
+        done, names = self._done, self._collection.names
+        if not done or done.stopped is None or change.time < done.stopped or change.name not in names:
+            return False
+        last = self._lasts[self._collection.side_of(names.give(change.name))]
+        return last is None or change.time >= last
 
     def _reached(self, change: Change) -> bool:
         return self._done is not None and self._done.reached(change.time)
@@ -166,32 +207,28 @@ class Feeder:
         yield from ahead
         yield from changes
 
-    def _finish(self) -> None:
-        """Waits for the replies, and notes how far the source was imported."""
-        self._collection.settle()
-        if not self._begun:
-            self._ledger.begin(self._source, self._last)
-        until_last = self._changes - sum(time > self._latest for time in self._refused_times)
-        taken = not self.tally.refused_all
-        self._ledger.end(self._source, self._collection.last_time(), until_last, taken)
+    def _note(self) -> None:
+        self.begin()
+        last = self._collection.last_time()
+        until_last = self._changes - sum(last is None or time > last for time in self._refused_times)
+        self._ledger.end(self._source, last, until_last, not self.tally.refused_all)
 
-    def _take(self, change: Change) -> None:
+    def take(self, change: Change) -> None:
+        """Puts the change into the batch, and sends that where it is full."""
         if len(change.text or b"") > commands.MOST_TEXT:
             # The archive would refuse it, by its length alone.
-            self._refuse(sent_of(change, False), Refused(5, "TooLong", str(commands.MOST_TEXT)))
+            self._refuse(self._sent(change), Refused(5, "TooLong", str(commands.MOST_TEXT)))
             return
         self._batch.append(change)
         self._bytes += len(change.text or b"")
         if len(self._batch) >= self._most or self._bytes >= _BATCH_BYTES:
-            self._send()
+            self.send()
 
-    def _send(self) -> None:
+    def send(self) -> None:
         """Makes the names of the batch durable, and then sends it."""
         if not self._batch:
             return
-        if not self._begun:
-            self._ledger.begin(self._source, self._last)
-            self._begun = True
+        self.begin()
         names, side_of = self._collection.names, self._collection.side_of
         scripts: dict[int, tuple[list[bytes], list[_Sent]]] = {}
         for change in self._batch:
@@ -201,7 +238,7 @@ class Feeder:
                 lines.append(commands.delete(doc, change.time))
             else:
                 lines.append(commands.arrive(doc, change.time, change.text))
-            sent.append(sent_of(change, self._is_again(change)))
+            sent.append(self._sent(change))
         names.keep()
         for side, (lines, sent) in scripts.items():
             self._collection.send(side, b"".join(lines), sent, self._answered)
@@ -213,14 +250,14 @@ class Feeder:
     def _answered(self, sent: _Sent, reply: Reply) -> None:
         match reply:
             case Ok():
-                self._latest = max(self._latest, sent.change_time)
-                self._behind += sent.again and not sent.maybe
+                self._behind += sent.again is not None and not sent.maybe
                 self.tally.arrived += sent.arrives
                 self.tally.ended += not sent.arrives
             case Refused(name="SameTime" | "NoDocument") if sent.again:
                 self.tally.before += 1
+                self._same.append(sent.again)
             case Refused(name="NoDocument") if sent.maybe:
-                self._notes.count("ends of documents that had none")
+                self._notes.count("ends of documents that had none", f"{sent.name} ({sent.place})")
             case Refused():
                 self._refuse(sent, reply)
             case _:
@@ -231,6 +268,26 @@ class Feeder:
         self._refused_times.append(sent.change_time)
         self._notes.add(f"refused: {refusal}", f"{show_time(sent.change_time)} {sent.name} ({sent.place})")
 
+    def _sent(self, change: Change) -> _Sent:
+        again = change if self._is_again(change) else None
+        return _Sent(change.time, change.name, change.place, change.text is not None, change.maybe, again)
 
-def sent_of(change: Change, again: bool) -> _Sent:
-    return _Sent(change.time, change.name, change.place, change.text is not None, change.maybe, again)
+
+def feed_together(streams: Sequence[tuple[Feeder, Iterable[Change]]]) -> None:
+    """Feeds what each of the feeders wants, in one order of time over all."""
+    for feeder, _ in streams:
+        feeder.begin(beside=feeder is not streams[0][0])
+    before = None
+    for feeder, change in merge(*(_tagged(*stream) for stream in streams), key=lambda pair: pair[1].time):
+        if before and before is not feeder:
+            before.send()
+        before = feeder
+        feeder.take(change)
+    if before:
+        before.send()
+    for feeder, _ in streams:
+        feeder.finish()
+
+
+def _tagged(feeder: Feeder, changes: Iterable[Change]) -> Iterator[tuple[Feeder, Change]]:
+    return ((feeder, change) for change in changes)

@@ -9,6 +9,7 @@ from .changes import Notes
 from .collection import Collection, make_archive
 from .errors import ToolError
 from .feeding import Feeder, Progress
+from .importing import again
 from .locks import Use
 from .opening import archive_of, claim_of
 from .program import find_program
@@ -50,11 +51,11 @@ def import_from(source: Source, options: argparse.Namespace) -> None:
         progress.clear()
         print(one_line(line), file=sys.stderr)
 
-    notes = Notes(tell, progress.show)
+    notes = Notes(tell, progress.show, options.verbose)
     reading = Reading(options.charset, options.keep_html)
     try:
         with archive_of(options, Use.ASKS if options.dry_run else Use.CHANGES) as collection:
-            feeder = _feeder(options)(collection, source.identity, notes, progress)
+            feeder = _feeder(options)(collection, source.identity, again(options), notes, progress)
             feeder.feed(source.changes(reading, notes))
     finally:
         progress.clear()

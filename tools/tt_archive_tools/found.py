@@ -30,8 +30,8 @@ def parts(text: str, keys: AbstractSet[str]) -> Iterator[Part]:
 
 
 def pieces(text: str, keys: AbstractSet[str], around: int = 40, most: int = 3) -> list[list[Part]]:
-    """The first pieces of the text that have a word, each with so many characters around; a word that stands
-    in an earlier piece makes none."""
+    """The first pieces of the text that have a word, each with so many characters around; none begins before
+    the end of another, and a word that stands in an earlier one makes none."""
     found: list[list[Part]] = []
     end = 0
     for run in _found(text, keys):
@@ -39,7 +39,7 @@ def pieces(text: str, keys: AbstractSet[str], around: int = 40, most: int = 3) -
             continue
         if len(found) == most:
             break
-        start, end = _from(text, run.start() - around), _until(text, run.end() + around)
+        start, end = max(end, _from(text, run.start() - around)), _until(text, run.end() + around)
         piece = ("…" if start else "") + _SPACES.sub(" ", text[start:end]).strip() + ("…" if end < len(text) else "")
         found.append(list(parts(piece, keys)))
     return found

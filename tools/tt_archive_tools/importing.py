@@ -3,39 +3,57 @@
 from __future__ import annotations
 
 import argparse
+import os
+import shlex
 from contextlib import ExitStack
 from pathlib import Path
 
 from .sources import Source, Together
 
+#: The options of a source that are there or not, and those that have a value.
+_FLAGS, _VALUES = ("keep_redirects", "by_time", "keep_html"), ("branch", "prefix", "charset")
 
-def import_git(options: argparse.Namespace) -> None:
-    from .sources.git import GitSource
 
+def import_source(options: argparse.Namespace) -> None:
     with ExitStack() as running:
-        _import(options, _together([
-            running.enter_context(GitSource(repository, options.branch, tuple(options.only), prefix))
-            for repository, prefix in _prefixed(options.repositories, options.prefix)
-        ]))  # fmt: skip
+        source = source_of(options, running)
+        from .filling import import_from  # git is at work while this is loaded
+
+        import_from(source, options)
 
 
-def import_mediawiki(options: argparse.Namespace) -> None:
-    from .sources.mediawiki import MediaWikiSource
+def source_of(options: argparse.Namespace, running: ExitStack) -> Source:
+    """The source that the words of a command name. What runs for it ends with `running`."""
+    match options.source:
+        case "git":
+            from .sources.git import GitSource
 
-    _import(options, MediaWikiSource(tuple(options.files), options.keep_redirects, options.prefix))
+            return _together([
+                running.enter_context(GitSource(repository, options.branch, tuple(options.only), prefix))
+                for repository, prefix in _prefixed(options.paths, options.prefix)
+            ])  # fmt: skip
+        case "mediawiki":
+            from .sources.mediawiki import MediaWikiSource
+
+            return MediaWikiSource(tuple(options.paths), options.keep_redirects, options.prefix)
+        case "warc":
+            from .sources.warc import WarcSource
+
+            return WarcSource(tuple(options.paths), options.prefix)
+        case _:
+            from .sources.folder import FolderSource
+
+            return _together([FolderSource(*tree, options.by_time) for tree in _prefixed(options.paths, options.prefix)])
 
 
-def import_warc(options: argparse.Namespace) -> None:
-    from .sources.warc import WarcSource
-
-    _import(options, WarcSource(tuple(options.files), options.prefix))
-
-
-def import_folder(options: argparse.Namespace) -> None:
-    from .sources.folder import FolderSource
-
-    trees = _prefixed(options.trees, options.prefix)
-    _import(options, _together([FolderSource(*tree, options.by_time) for tree in trees]))
+def again(options: argparse.Namespace) -> str:
+    """The words behind `tt import` that import the same from any folder. A symbolic link stays one, as it may come to
+    point to something newer."""
+    words = [options.source, *map(os.path.abspath, options.paths)]
+    words += [f"--{flag.replace('_', '-')}" for flag in _FLAGS if getattr(options, flag, False)]
+    words += [f"--{name}={value}" for name in _VALUES if (value := getattr(options, name, None))]
+    only = getattr(options, "only", [])
+    return shlex.join([*words, *(["--only", *only] if only else [])])
 
 
 def _prefixed(paths: list[Path], prefix: str) -> list[tuple[Path, str]]:
@@ -47,9 +65,3 @@ def _prefixed(paths: list[Path], prefix: str) -> list[tuple[Path, str]]:
 
 def _together(sources: list[Source]) -> Source:
     return sources[0] if len(sources) == 1 else Together(tuple(sources))
-
-
-def _import(options: argparse.Namespace, source: Source) -> None:
-    from .filling import import_from  # git is at work while this is loaded
-
-    import_from(source, options)

@@ -5,7 +5,7 @@ from __future__ import annotations
 import struct
 from dataclasses import dataclass, field
 from pathlib import Path
-from typing import BinaryIO, Iterable, Iterator
+from typing import BinaryIO, Iterable, Iterator, NamedTuple
 
 from .errors import InputError
 from .program import JOURNAL, PAGES, Shard
@@ -33,8 +33,7 @@ class StoredPlan:
     end: int
 
 
-@dataclass(frozen=True)
-class Entry:
+class Entry(NamedTuple):
     """An arrival (with its text, where texts are read), a deletion, or a plan (no document)."""
 
     tag: int
@@ -42,6 +41,9 @@ class Entry:
     time: int
     text: bytes
     plan: StoredPlan | None = None
+    #: Where the text stands in the journal, and how many bytes it has.
+    at: int = 0
+    size: int = 0
 
     @property
     def arrives(self) -> bool:
@@ -63,11 +65,29 @@ def entries(folder: Path, texts: bool) -> Iterator[Entry]:
         raise InputError(str(path), error.strerror or str(error)) from None
 
 
+def history(folder: Path, doc: int) -> list[Entry]:
+    """A document's versions and ends, in order of time."""
+    return [entry for entry in entries(folder, texts=False) if entry.doc == doc and entry.plan is None]
+
+
+def text_of(folder: Path, entry: Entry) -> bytes:
+    """The text of a version."""
+    path = folder / JOURNAL
+    try:
+        with open(path, "rb") as file:
+            file.seek(entry.at)
+            return file.read(entry.size)
+    except OSError as error:
+        raise InputError(str(path), error.strerror or str(error)) from None
+
+
 def _records(file: BinaryIO, path: Path, texts: bool) -> Iterator[Entry]:
     if file.read(len(_HEADER)) != _HEADER:
         raise InputError(str(path), "no archive's journal")
+    gate = len(_HEADER)
     while file.read(1) == _OPEN:
         size = int.from_bytes(file.read(4), "big")
+        body, gate = gate + 5, gate + 5 + size
         head = file.read(min(size, 13))
         tag = head[0] if head else 0
         rest = size - len(head)
@@ -77,7 +97,8 @@ def _records(file: BinaryIO, path: Path, texts: bool) -> Iterator[Entry]:
         text = file.read(rest) if texts else b""
         if not texts:
             file.seek(rest, 1)
-        yield Entry(tag, int.from_bytes(head[1:5], "big"), int.from_bytes(head[5:13], "big"), text)
+        doc, time = int.from_bytes(head[1:5], "big"), int.from_bytes(head[5:13], "big")
+        yield Entry(tag, doc, time, text, at=body + len(head), size=rest)
 
 
 def _plan(body: bytes, path: Path) -> StoredPlan:

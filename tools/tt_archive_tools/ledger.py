@@ -1,10 +1,12 @@
 """What was imported from where: `imports.tsv` beside an archive, so that an import goes on where the last one ended.
 
-A line is `begin`, `end` or `refused`, the archive's last time then (`-` where it had none), how many
-changes of the source lie up to there (`-` at a beginning), and the source. `begin` is written before
-the first version is sent. Imports don't overlap, since an archive has one writer. One that has no
-`end` was stopped: all that it fed lies up to the last time of the next `begin`, or of the archive.
-`refused` ends one of which nothing was taken, as if it had never been.
+A line is `begin`, `with`, `end` or `refused`, the archive's last time then (`-` where it had none), how
+many changes of the source lie up to there (`-` at a beginning), the source and, at a beginning, the
+words that import it again. `begin` is written before the first version is sent. `with` begins another
+source, whose changes are fed in one order of time with those of the line before. Else imports don't
+overlap, since an archive has one writer. One that has no `end` was stopped: all that it fed lies up to
+the last time of the next line that is no `with`, or of the archive. `refused` ends one of which nothing
+was taken, as if it had never been.
 """
 
 from __future__ import annotations
@@ -18,7 +20,7 @@ from .names import escape, unescape
 
 FILE = "imports.tsv"
 #: The kinds of lines.
-BEGIN, END, REFUSED = "begin", "end", "refused"
+BEGIN, WITH, END, REFUSED = "begin", "with", "end", "refused"
 
 
 @dataclass(frozen=True)
@@ -28,6 +30,8 @@ class Done:
 
     ranges: tuple[tuple[int, int], ...]
     changes: int | None
+    #: The first time of the imports that were stopped since the last one that came to its end.
+    stopped: int | None = None
 
     @property
     def end(self) -> int:
@@ -50,6 +54,12 @@ class Line:
     last: int | None
     changes: int | None
     source: str
+    #: At a beginning, how it is imported again: words of a shell behind `tt import`.
+    words: str = ""
+
+    @property
+    def begins(self) -> bool:
+        return self.kind in (BEGIN, WITH)
 
 
 class Ledger:
@@ -62,24 +72,39 @@ class Ledger:
     def done(self, source: str, last: int | None) -> Done | None:
         """How far the source was imported, where the archive's last time is `last`."""
         ranges: list[tuple[int, int]] = []
-        changes = kept = None
+        changes = kept = stopped = None
         for index, line in enumerate(self.lines):
             if line.source != source:
                 continue
-            if line.kind == BEGIN:
-                start, end = line.last or 0, (self.lines[index + 1].last if index + 1 < len(self.lines) else last)
+            if line.begins:
+                behind = (later.last for later in self.lines[index + 1 :] if later.kind != WITH)
+                start, end = line.last or 0, next(behind, last)
                 kept, changes = changes, None
+                stopped = start if stopped is None else stopped
             else:
+                stopped = None
                 start = ranges.pop()[0] if ranges else 0
                 if line.kind == REFUSED:
                     changes = kept
                     continue
                 end, changes = line.last, line.changes
             ranges.append((start, start if end is None else max(start, end)))
-        return Done(tuple(ranges), changes) if ranges else None
+        return Done(tuple(ranges), changes, stopped) if ranges else None
 
-    def begin(self, source: str, last: int | None) -> None:
-        self._append(Line(BEGIN, last, None, source))
+    def sources(self) -> dict[str, str]:
+        """The sources of which something was taken, or may have been, each with the words of its newest import."""
+        found = {line.source: line.words for line in self.lines if line.begins}
+        newest = {line.source: line.kind for line in self.lines}
+        return {source: words for source, words in found.items() if newest[source] != REFUSED}
+
+    def stopped(self) -> list[str]:
+        """The sources whose newest import didn't come to its end."""
+        newest = {line.source: line for line in self.lines}
+        return [source for source, line in newest.items() if line.begins]
+
+    def begin(self, source: str, last: int | None, words: str, beside: bool = False) -> None:
+        """`beside` says that the changes are fed in one order of time with those of the source that began before."""
+        self._append(Line(WITH if beside else BEGIN, last, None, source, words))
 
     def end(self, source: str, last: int | None, changes: int, taken: bool = True) -> None:
         """`taken` says whether the archive took anything of the source, now or before."""
@@ -91,6 +116,7 @@ class Ledger:
             "-" if line.last is None else str(line.last),
             "-" if line.changes is None else str(line.changes),
             escape(line.source),
+            *([escape(line.words)] if line.begins else []),
         )
         with open(self._path, "ab") as file:
             file.write("\t".join(fields).encode() + b"\n")
@@ -107,9 +133,9 @@ def _read(path: Path) -> list[Line]:
     lines = []
     for count, text in enumerate(content[:whole].decode("utf-8", "replace").split("\n")[:-1], 1):
         match text.split("\t"):
-            case ["begin" | "end" | "refused" as kind, last, changes, source]:
+            case ["begin" | "with" | "end" | "refused" as kind, last, changes, source, *words] if len(words) <= 1:
                 try:
-                    lines.append(Line(kind, _number(last), _number(changes), unescape(source)))
+                    lines.append(Line(kind, _number(last), _number(changes), *map(unescape, [source, *words])))
                     continue
                 except ValueError:
                     pass

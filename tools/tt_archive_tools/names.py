@@ -16,8 +16,11 @@ from typing import Iterable
 
 from .commands import NO_DOCUMENT
 from .errors import ToolError
+from .words import folded
 
 FILE = "names.tsv"
+#: So many names near a wrong one are told.
+_MOST_NEAR = 3
 
 _ESCAPES = {"\\": "\\\\", "\t": "\\t", "\n": "\\n", "\r": "\\r"}
 _PLAIN = {written: char for char, written in _ESCAPES.items()}
@@ -48,8 +51,8 @@ class NameTable:
         self._names: dict[int, str] = {}
         self._new: list[tuple[int, str]] = []
         self._next = 1
-        #: Where a line begins that isn't whole.
-        self._torn: int | None = None
+        #: The bytes of the table's whole lines.
+        self._whole = 0
         if path.exists():
             self._read()
 
@@ -77,11 +80,19 @@ class NameTable:
                 return self._numbers[spelled]
         if re.fullmatch(r"#\d{1,10}", name, re.ASCII):
             return int(name[1:])
+        close = ", ".join(map(escape, self._near(name)))
+        hint = f"; near it: {close}" if close else ", nor nearly so: `tt names PART` lists the names that have a part"
+        raise ToolError(f"no document is named {name!r}{hint}")
+
+    def _near(self, name: str) -> list[str]:
+        """The names nearest to this one, without regard to case and marks."""
         import difflib  # loaded where it is needed
 
-        close = difflib.get_close_matches(name, self._numbers, n=3)
-        hint = f"; near it: {', '.join(map(escape, close))}" if close else ""
-        raise ToolError(f"no document is named {name!r}{hint}")
+        spelled: dict[str, list[str]] = {}
+        for each in self._numbers:
+            spelled.setdefault(folded(each), []).append(each)
+        close = difflib.get_close_matches(folded(name), spelled, n=_MOST_NEAR)
+        return [each for key in close for each in spelled[key]][:_MOST_NEAR]
 
     def give(self, name: str) -> int:
         """The number of a name, a new one where it has none. `keep` makes new ones durable."""
@@ -105,10 +116,8 @@ class NameTable:
             return
         lines = "".join(f"{number}\t{escape(name)}\n" for number, name in self._new)
         with open(self._path, "ab") as file:
-            if self._torn is not None:
-                file.truncate(self._torn)
-            self._torn = None
-            file.write(lines.encode())
+            file.truncate(self._whole)
+            self._whole += file.write(lines.encode())
             file.flush()
             os.fsync(file.fileno())
         self._new.clear()
@@ -120,9 +129,8 @@ class NameTable:
 
     def _read(self) -> None:
         content = self._path.read_bytes()
-        whole = content.rfind(b"\n") + 1
-        self._torn = whole if whole < len(content) else None
-        for count, line in enumerate(content[:whole].decode("utf-8", "replace").split("\n")[:-1], 1):
+        self._whole = content.rfind(b"\n") + 1
+        for count, line in enumerate(content[: self._whole].decode("utf-8", "replace").split("\n")[:-1], 1):
             number, tab, name = line.partition("\t")
             if not tab or not re.fullmatch(r"\d{1,10}", number, re.ASCII):
                 raise ToolError(f"{self._path}:{count}: no number and name")

@@ -13,5 +13,5 @@ def claim_of(options: argparse.Namespace, use: Use = Use.CHANGES) -> Claim:
     return Claim(f"`{options.command}`", options.wait, use)
 
 
-def archive_of(options: argparse.Namespace, use: Use = Use.ASKS) -> Collection:
+def archive_of(options: argparse.Namespace, use: Use) -> Collection:
     return Collection(options.archive, find_program(options.program), claim_of(options, use))

@@ -3,6 +3,7 @@
 from __future__ import annotations
 
 import argparse
+import difflib
 import re
 from fractions import Fraction
 
@@ -14,6 +15,10 @@ from .replies import Planned, Refused
 from .times import parse_time, show_time
 from .wording import counted
 
+_KEYWORDS = ("guarantee", "space", "uniform", "since")
+#: A factor, also as it may be written by mistake.
+_RATIO = re.compile(r"(?<!\S)(\d+) ?[/:] ?(\d+)(?!\S)", re.ASCII)
+_NUMBER = re.compile(r"(?<!\S)(\d+(?:\.\d+)?)(?!\S)", re.ASCII)
 _FORM = re.compile(r"(guarantee|space) (\d+/\d+|\d+(?:\.\d+)?)( uniform| since \S+)?\Z", re.ASCII)
 
 
@@ -40,7 +45,7 @@ def _form(words: str) -> str:
     """The form as a script has it: the factor as A/B, the time in seconds."""
     match = _FORM.match(words)
     if not match or (match[1] == "space") != bool(match[3]):
-        raise ToolError("a plan is `guarantee A/B`, `space A/B uniform` or `space A/B since TIME`")
+        raise ToolError(f"a plan is `guarantee A/B`, `space A/B uniform` or `space A/B since TIME`{_guess(words)}")
     kind, factor, load = match.groups("")
     try:
         ratio = factor if "/" in factor else "%d/%d" % Fraction(factor).as_integer_ratio()
@@ -52,3 +57,30 @@ def _form(words: str) -> str:
     if load.startswith(" since "):
         load = f" since {parse_time(load.removeprefix(' since '))}"
     return f"{kind} {ratio}{load}"
+
+
+def _guess(words: str) -> str:
+    """What was probably meant, where a factor shows it."""
+    factor = _RATIO.search(words) or _NUMBER.search(words)
+    if not factor:
+        return ""
+    ratio = "/".join(factor.groups())
+    rest = (words[: factor.start()] + words[factor.end() :]).split()
+    known = {keyword for word in rest for keyword in difflib.get_close_matches(word.lower(), _KEYWORDS, n=1)}
+    time = next(filter(_is_time, rest), "TIME")
+    uniform, since = f"`space {ratio} uniform`", f"`space {ratio} since {time}`"
+    if "uniform" in known:
+        meant = uniform
+    elif "since" in known or time != "TIME":
+        meant = since
+    else:
+        meant = f"{uniform} or {since}" if "space" in known else f"`guarantee {ratio}`"
+    return f"; did you mean {meant}?"
+
+
+def _is_time(word: str) -> bool:
+    try:
+        parse_time(word)
+    except ToolError:
+        return False
+    return True

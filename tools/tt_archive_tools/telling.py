@@ -8,8 +8,9 @@ from typing import Sequence
 from . import commands
 from .errors import ToolError
 from .journal import StoredPlan, summary
-from .ledger import BEGIN, END, Ledger
+from .ledger import END, Ledger
 from .ledger import FILE as LEDGER
+from .locks import Use
 from .opening import archive_of
 from .replies import Verdict
 from .times import show_time
@@ -20,7 +21,7 @@ _MOST_PLANS = 20
 
 
 def status(options: argparse.Namespace) -> None:
-    with archive_of(options) as collection:
+    with archive_of(options, Use.ASKS) as collection:
         held = summary(collection.shards)
         names = len(collection.names)
         shards = collection.shards
@@ -39,14 +40,14 @@ def status(options: argparse.Namespace) -> None:
         print(f"plan       {one_line(word)} {_live(plans)}")
     if len(held.live) > _MOST_PLANS:
         print(f"           and of {len(held.live) - _MOST_PLANS} words more")
-    ends = {line.source: line for line in lines if line.kind != BEGIN}
+    ends = {line.source: line for line in lines if not line.begins}
     for source, line in ends.items():
         how = "imported   {}, until {}" if line.kind == END else "refused    {}, at {}"
         print(how.format(source, "-" if line.last is None else show_time(line.last)))
 
 
 def verify(options: argparse.Namespace) -> None:
-    with archive_of(options) as collection:
+    with archive_of(options, Use.ASKS) as collection:
         replies = collection.ask_all(commands.verify())
     words = segments = 0
     for reply in replies:

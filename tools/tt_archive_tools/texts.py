@@ -10,6 +10,7 @@ from posixpath import splitext
 from .changes import Notes
 
 REPLACED = "bytes that aren't UTF-8 and whose character set isn't known, replaced"
+MISDECLARED = "bytes that are declared as utf-8 and aren't, replaced"
 BINARY = "binary, so without a text"
 
 #: Of so many bytes the first zero byte shows that they are no text, which is git's rule.
@@ -73,12 +74,12 @@ def decode(data: bytes, declared: str | None, place: str, notes: Notes) -> str |
         pass
     if codec and codec != "utf-8":
         return _by_codec(data, codec, place, notes)
-    notes.add(REPLACED, place)
+    notes.add(MISDECLARED if codec else REPLACED, place)
     return data.decode("utf-8", "replace")
 
 
 def _by_codec(data: bytes, codec: str, place: str, notes: Notes) -> str:
-    notes.count(f"texts decoded as {codec}")
+    notes.count(f"texts decoded as {codec}", place)
     text = data.decode(codec, "replace")
     if "\N{REPLACEMENT CHARACTER}" in text:
         notes.add(f"bytes that aren't {codec}, replaced", place)

@@ -15,7 +15,7 @@ DAY = 86_400
 
 _EPOCH = datetime(1970, 1, 1, tzinfo=timezone.utc)
 _DATE = re.compile(
-    r"(\d{4})(?:-(\d{2})(?:-(\d{2})(?:[T ](\d{2}):(\d{2})(?::(\d{2}))?Z?)?)?)?\Z", re.ASCII
+    r"(\d{4})(?:-(\d{2})(?:-(\d{2})(?:[T ](\d{2}):(\d{2})(?::(\d{2}))?(?:Z| ?([+-])(\d{2}):?(\d{2}))?)?)?)?\Z", re.ASCII
 )
 _LENGTH = re.compile(r"(\d{1,9}(?:\.\d{1,9})?)([smh]?)\Z", re.ASCII)
 _UNITS = {"": 1, "s": 1, "m": 60, "h": 3_600}
@@ -28,9 +28,10 @@ _STAMP = re.compile(
 
 
 def parse_time(text: str) -> int:
-    """A time on the command line: a date, a date and time of UTC, `@SECONDS`, or `now`.
+    """A time on the command line: a date, a date and time, `@SECONDS`, or `now`.
 
-    `2007` is the first second of that year and `2007-07` of that month.
+    `2007` is the first second of that year and `2007-07` of that month. All are of UTC, but where a
+    time ends with how far its clocks are ahead of UTC, as in `2007-07-23T14:30:00+02:00`.
     """
     if text == "now":
         return LAST_TIME
@@ -40,12 +41,14 @@ def parse_time(text: str) -> int:
     date = _DATE.match(text)
     if not date:
         raise ToolError(
-            f"{text!r} is no time: write 2007-07-23, 2007-07-23T12:30:00, @SECONDS or now"
+            f"{text!r} is no time: write 2007-07-23, 2007-07-23T12:30:00 (of UTC), 2007-07-23T14:30:00+02:00, @SECONDS or now"
         )
+    *parts, sign, hours, minutes = date.groups()
     year, month, day, hour, minute, second = (
-        int(part) if part else default for part, default in zip(date.groups(), (0, 1, 1, 0, 0, 0))
+        int(part) if part else default for part, default in zip(parts, (0, 1, 1, 0, 0, 0))
     )
-    return _in_range(_seconds_of(text, year, month, day, hour, minute, second), text)
+    ahead = _ahead(text, sign, int(hours), int(minutes)) if sign else 0
+    return _in_range(_seconds_of(text, year, month, day, hour, minute, second) - ahead, text)
 
 
 def parse_wait(text: str) -> float:
@@ -100,6 +103,13 @@ def _seconds_of(
     except ValueError as error:
         raise ToolError(f"{text!r} is no time: {error}") from None
     return (moment - _EPOCH) // timedelta(seconds=1)
+
+
+def _ahead(text: str, sign: str, hours: int, minutes: int) -> int:
+    """How many seconds clocks are ahead of UTC."""
+    if hours > 23 or minutes > 59:
+        raise ToolError(f"{text!r} is no time: clocks are less than a day ahead of UTC or behind it, as in +02:00")
+    return (hours * 3_600 + minutes * 60) * (-1 if sign == "-" else 1)
 
 
 def _in_range(seconds: int, text: str) -> int:

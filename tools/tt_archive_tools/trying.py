@@ -6,7 +6,7 @@ from dataclasses import dataclass
 
 from .changes import Change, Notes
 from .collection import Collection
-from .feeding import Feeder, Progress, sent_of
+from .feeding import Feeder, Progress
 from .journal import entries
 from .names import escape
 from .replies import Ok, Refused, Reply
@@ -29,8 +29,8 @@ class Trier(Feeder):
 
     taken, refused = "would be taken", "would be refused"
 
-    def __init__(self, collection: Collection, source: str, notes: Notes, progress: Progress) -> None:
-        super().__init__(collection, source, notes, progress)
+    def __init__(self, collection: Collection, source: str, words: str, notes: Notes, progress: Progress) -> None:
+        super().__init__(collection, source, words, notes, progress)
         self._documents = _documents(collection)
         self._first: int | None = None
         self._last_taken = 0
@@ -47,16 +47,15 @@ class Trier(Feeder):
             f"documents  {len(names)}: {', '.join(names[:_MOST_NAMES])}{more}",
         ]
 
-    def _send(self) -> None:
+    def send(self) -> None:
         for change in self._batch:
-            sent = sent_of(change, self._is_again(change))
-            self._answered(sent, self._reply(change))
+            self._answered(self._sent(change), self._reply(change))
         if self._batch:
             self._progress.step(len(self._batch), self._batch[-1].time)
         self._batch.clear()
         self._bytes = 0
 
-    def _finish(self) -> None:
+    def _note(self) -> None:
         """Nothing is noted."""
 
     def _reply(self, change: Change) -> Reply:

@@ -3,7 +3,8 @@
 The line of first parents is followed, so a merge shows at its own time what it brought. A commit
 stands at its committer time, or at its parent's where that is later; of the commits of one second
 the last one counts. A renamed file ends under the old name and begins under the new one. Files
-that git would call binary, symbolic links and submodules have no text.
+that git would call binary, symbolic links and submodules have no text. Commits of the second in which
+the import begins are left for the next one, since that second may still bring others.
 
 Three commands of git (2.31 or newer) run beside the import: the commits, what each changed, and the
 contents, which are asked for ahead. They begin before the rest of the tools is loaded and the archive
@@ -13,6 +14,7 @@ is open, since the oldest commit is the last that git comes to.
 from __future__ import annotations
 
 import os
+import time as clock
 from contextlib import ExitStack, suppress
 from io import BufferedReader
 from itertools import islice
@@ -58,6 +60,7 @@ class GitSource:
         self._running = ExitStack()
 
     def __enter__(self) -> GitSource:
+        self._present = int(clock.time())
         with ExitStack() as running:
             self._commits = self._start(running, *_COMMITS, self.branch, "--", stderr=PIPE)
             self._trees = self._start(running, *_CHANGES, "--", *self.only, stdin=self._commits.stdout)
@@ -76,7 +79,7 @@ class GitSource:
     def changes(self, reading: Reading, notes: Notes) -> Iterator[Change]:
         from ..changes import Change  # git walks while this is loaded
 
-        for change in _asked_for(self._blobs, _differences(self._trees, notes)):
+        for change in _asked_for(self._blobs, _differences(self._trees, self._present, notes)):
             place = f"{change.commit[:12]}:{change.path}"
             text = _text(change, self._blobs, reading, place, notes)
             yield Change(change.time, self.prefix + change.path, text, place)
@@ -112,25 +115,30 @@ def _end(process: Popen[bytes]) -> None:
     process.communicate()
 
 
-def _differences(trees: Popen[bytes], notes: Notes) -> Iterator[_FileChange]:
-    """What each commit changed: its hash and time, and then for each file two modes, two contents
-    and a letter, and its path."""
-    latest = -1
+def _differences(trees: Popen[bytes], present: int, notes: Notes) -> Iterator[_FileChange]:
+    """What each commit changed until the present second: its hash and time, and then for each file two
+    modes, two contents and a letter, and its path."""
+    commit, latest, left = "", -1, False
     fields = _fields(trees)
     for field in fields:
         if b":" not in field:
-            commit, seconds = field.decode().split()
+            before, (commit, seconds) = commit, field.decode().split()
             time = int(seconds)
+            left = left or max(time, latest) == present
+            if left:
+                notes.count("commits from the present second on, left for the next import", commit[:12])
+                continue
             if time < latest:
-                notes.count("commits older than their parent, taken at its time")
+                notes.count("commits older than their parent, taken at its time", commit[:12])
             if time <= latest:
-                notes.count("commits that another of the same second replaced")
+                notes.count("commits that another of the same second replaced", f"{before[:12]}, by {commit[:12]}")
             latest = max(time, latest)
             continue
         _, mode, _, blob, _ = field.split(b" ")
         if (path := next(fields, None)) is None:
             return  # git was stopped, which its status tells
-        yield _FileChange(commit, latest, path.decode("utf-8", "surrogateescape"), mode, blob)
+        if not left:
+            yield _FileChange(commit, latest, path.decode("utf-8", "surrogateescape"), mode, blob)
 
 
 def _fields(process: Popen[bytes]) -> Iterator[bytes]:

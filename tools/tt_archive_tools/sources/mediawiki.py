@@ -137,18 +137,18 @@ class MediaWikiSource:
                 case _Kind.MOVED:
                     if not wiki.move(title, event.target):
                         continue
-                    notes.count("moves of pages")
+                    notes.count("moves of pages", place)
                     yield Change(time, self.prefix + title, None, place)
                     title = event.target
                 case _Kind.DELETED:
                     wiki.delete(title)
             yield Change(time, self.prefix + title, wiki.newest.get(title), place)
-        if wiki.lost:
-            notes.counts[_LOST] = len(wiki.lost)
+        for title in sorted(wiki.lost):
+            notes.count(_LOST, title)
 
     def _text(self, event: _Event, dump: _Dump, notes: Notes) -> bytes | None:
         if event.redirect in dump.redirect_words and not self.keep_redirects:
-            notes.count("redirects, without a text of their own")
+            notes.count("redirects, without a text of their own", f"{event.title} (revision {event.number})")
             return None
         return dump.spool.text(event.text) if event.text else None
 

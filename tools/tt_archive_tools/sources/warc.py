@@ -25,6 +25,7 @@ _TEXT_TYPES = {"application/xhtml+xml", "application/xml", "application/json"}
 _HTML_TYPES = {"text/html", "application/xhtml+xml"}
 #: What a revisit may have in place of a status that tells of the page: none, or "not modified".
 _AS_BEFORE = {0, 304}
+_NAMES = (".warc", ".warc.gz")
 _NO_TEXT = {300, 301, 302, 303, 307, 308, 404, 410}
 
 
@@ -41,7 +42,7 @@ class _Capture:
 
 @dataclass(frozen=True)
 class WarcSource:
-    """The files of one or more crawls."""
+    """The files of one or more crawls. A folder stands for all the files in it that are named so."""
 
     files: tuple[Path, ...]
     prefix: str = ""
@@ -53,7 +54,7 @@ class WarcSource:
 
     def changes(self, reading: Reading, notes: Notes) -> Iterator[Change]:
         captures = _Captures(reading, notes)
-        for path in self.files:
+        for path in self._all_files():
             for record in read_records(path):
                 captures.take(record)
         for time, capture in captures.spool.in_order():
@@ -66,6 +67,16 @@ class WarcSource:
                     continue
             text = captures.spool.text(place) if place else None
             yield Change(time, self.prefix + capture.address, text, capture.place)
+
+    def _all_files(self) -> Iterator[Path]:
+        for path in self.files:
+            if not path.is_dir():
+                yield path
+                continue
+            found = sorted(file for file in path.rglob("*") if file.name.lower().endswith(_NAMES))
+            if not found:
+                raise InputError(str(path), "there is no file *.warc or *.warc.gz in it")
+            yield from found
 
 
 class _Captures:
@@ -86,7 +97,7 @@ class _Captures:
         if record.kind not in ("response", "resource", "revisit") or not address:
             return
         if address.lower().startswith("metadata:"):
-            self._notes.count("records of a crawler of itself (metadata:), left out")
+            self._notes.count("records of a crawler of itself (metadata:), left out", f"{record.place}, {address}")
             return
         if record.kind != "resource" and not record.get("content-type").lower().startswith("application/http"):
             return
@@ -109,7 +120,8 @@ class _Captures:
         if record.kind == "revisit" and response.status in _AS_BEFORE:
             return self._revisit(record, address, digest, bare=True) if response.status == 0 else None
         if response.status in _NO_TEXT:
-            self._notes.count("captures of redirects" if response.status < 400 else "captures of what wasn't there")
+            kind = "captures of redirects" if response.status < 400 else "captures of what wasn't there"
+            self._notes.count(kind, f"{record.place}, {address}")
             self.textless[digest] = True
             return _Capture(address, record.place, None)
         if not 200 <= response.status < 300 or response.status == 206:
@@ -134,7 +146,7 @@ class _Captures:
     def _text(self, response: Response, place: str) -> bytes | None:
         kind, charset = response.content_type()
         if not (kind.startswith("text/") or kind in _TEXT_TYPES):
-            self._notes.count(f"captures of {kind or 'no declared type'}, without a text")
+            self._notes.count(f"captures of {kind or 'no declared type'}, without a text", place)
             return None
         body = response.content()
         if body is None:
