@@ -20,6 +20,7 @@ sys.path.insert(0, str(TOOLS))
 
 from installing.manuals import DOCS, manuals  # noqa: E402
 from installing.roff import inline  # noqa: E402
+from tt_archive_tools.cli import parsed as parsed_words  # noqa: E402
 
 #: What each page is made of.
 SOURCES = {"tt_archive.1": "manual.md", "tt.1": "keepers.md", "tt_archive.5": "formats.md"}
@@ -108,6 +109,8 @@ class Installed(unittest.TestCase):
             if unit.suffix == ".service":
                 command = parsed["Service"]["ExecStart"]
                 self.assertTrue(command.startswith(f"{self.prefix}/bin/tt -C /srv/tt/%i "), command)
+                words = command.removeprefix(f"{self.prefix}/bin/tt ").replace("$TT_SERVE", "--port 1 --name a.example").split(" ")
+                self.assertIn(parsed_words(words).run, ("serving.serve.serve", "refreshing.refresh"))
         self.assertEqual(len(list(units.iterdir())), 3)
 
     @unittest.skipUnless(shutil.which("systemd-analyze"), "there is no systemd-analyze")

@@ -293,6 +293,26 @@ class Pages(PagesCase):
         self.assertEqual(found, [200] * web.MOST_REQUESTS)
 
 
+class Small(PagesCase):
+    def test_an_empty_archive(self) -> None:
+        self.serve()
+        self.assertIn("The archive is empty.", self.page("/").text)
+        for to in ("/find?q=a", "/find?q=a&at=2007-01-01", "/between?q=a", "/heat?q=a", "/changes", "/names", "/names?part=a"):
+            self.assertEqual(self.get(to).rows, [], to)
+            self.page(to)
+        self.page("/text?doc=a", 404)
+        self.assertIn("the archive has no version yet", self.page("/timeline?word=a", 400).text)
+
+    def test_one_version(self) -> None:
+        self.fill([Version(START, "one", "a text")])
+        self.serve()
+        for to in ("/", "/find?q=text", "/find?q=text&at=2007-07-23", "/find?q=text&at=1970-01-01", "/between?q=text", "/heat?q=text", "/changes", "/diff?doc=one"):
+            self.page(to)
+        self.assertEqual(self.get("/find?q=text").rows, [("1", "one")])
+        self.assertIn("no text yet", self.page("/text?doc=one&at=1970-01-01").text)
+        self.assertIn("There is no text at now.", self.page("/text?doc=%239").text)
+
+
 class Hostile(PagesCase):
     def shape(self, to: str) -> tuple[set[str], str]:
         """The elements of a page with their attributes, and its text."""

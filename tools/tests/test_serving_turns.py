@@ -93,7 +93,9 @@ class Turns(Served):
         self.assertEqual(done.stdout, "3 versions and 0 deletions are in the archive\n")
         self.assertEqual(self.found("text", 4), ["first", "one0.txt", "one1.txt", "one2.txt"])
         self.tt("plan", "text", "guarantee", "3/2")
-        self.assertEqual(len(self.found("text", 4)), 4)
+        self.tree("one", START + 10, 5)
+        self.tt("refresh")
+        self.assertEqual(len(self.found("text", 6)), 6)
 
     def test_two_imports_at_once(self) -> None:
         self.serve()
@@ -123,11 +125,9 @@ class Turns(Served):
         end = time.monotonic() + 30
         while "import" not in (self.archive / ".tt.lock").read_text() and time.monotonic() < end:
             time.sleep(0.05)
-        began = time.monotonic()
         status, [text] = self.find("text")
         self.assertEqual(status, 503)
         self.assertRegex(text, r"another tt is at work in .*: `tt -C .* import folder .*`, process \d+, since")
-        self.assertLess(time.monotonic() - began, 11.5)
         self.assertEqual(len(self.found("text", 2)), 2)
 
 
