@@ -15,6 +15,7 @@ from fake.words import parse, runs
 from pages import Node, PagesCase
 from support import DAY, Version, needs, sample
 from tt_archive_tools.errors import ToolError
+from tt_archive_tools.journal import entries, heads
 from tt_archive_tools.names import escape
 from tt_archive_tools.replies import ReplyReader, Span
 from tt_archive_tools.serving import bands, finding, web
@@ -426,3 +427,15 @@ class Heads(unittest.TestCase):
             self.assertGreater(len(web._file(name)), 50)
         self.assertEqual(len(web._file("page.js").splitlines()), 7)
         self.assertIsNone(re.search(r"innerHTML|eval|document\.write", web._file("page.js")))
+
+
+class Journals(PagesCase):
+    def test_heads_are_those_of_the_entries(self) -> None:
+        self.assertEqual(list(heads(self.archive)), [])
+        self.fill(sample(seed=5, documents=4, count=60))
+        self.tt("plan", "w1", "guarantee", "3/2")
+        self.fill([Version(2_000 * DAY, "doc1", "")])
+        wanted = [(entry.doc, entry.time, entry.arrives) for entry in entries(self.archive, texts=False) if not entry.plan]
+        self.assertEqual((list(heads(self.archive)), len(wanted)), (wanted, 61))
+        (self.archive / "archive.journal").write_bytes(b"this is no journal at all")
+        self.assertRaises(ToolError, list, heads(self.archive))

@@ -5,7 +5,7 @@ from __future__ import annotations
 from bisect import bisect_right
 from typing import Iterable, NamedTuple, Sequence
 
-from ..journal import entries
+from ..journal import heads
 from ..program import Shard
 from ..times import NOW
 
@@ -35,11 +35,10 @@ class Versions:
         for shard in shards:
             if shard.login:
                 continue
-            for entry in entries(shard.folder, texts=False):
-                if entry.plan is None:
-                    known = self._of.setdefault(entry.doc, [])
-                    self.changes.append(Change(entry.time, entry.doc, len(known), entry.arrives))
-                    known.append(Version(entry.time, entry.arrives))
+            for doc, time, arrives in heads(shard.folder):
+                known = self._of.setdefault(doc, [])
+                self.changes.append(Change(time, doc, len(known), arrives))
+                known.append(Version(time, arrives))
         self.changes.sort(key=lambda change: change.time)
         self.times = [change.time for change in self.changes]
 

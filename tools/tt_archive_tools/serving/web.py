@@ -127,7 +127,7 @@ class Handler(BaseHTTPRequestHandler):
         hosts = self.headers.get_all("Host") or []
         if len(hosts) != 1 or hosts[0].lower() not in self.server.hosts:
             self._plain(421, "another host is asked for; `tt serve --name HOST` serves it")
-        elif "Content-Length" in self.headers or "Transfer-Encoding" in self.headers:
+        elif self.headers.get("Content-Length", "0") != "0" or "Transfer-Encoding" in self.headers:
             self.close_connection = True
             self._plain(400, "a request here has no content")
         else:
