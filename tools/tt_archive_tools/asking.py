@@ -10,7 +10,7 @@ from . import commands
 from .collection import SHARDS, Collection, shards_of
 from .errors import BadQuery, ToolError
 from .found import Part, pieces
-from .locks import locked
+from .locks import Use, locked
 from .names import FILE as NAMES
 from .names import NameTable
 from .opening import archive_of, claim_of
@@ -58,7 +58,7 @@ def between(options: argparse.Namespace) -> None:
 
 def show(options: argparse.Namespace) -> None:
     at = parse_time(options.at)
-    with archive_of(options) as collection:
+    with archive_of(options, Use.ASKS) as collection:
         doc = collection.names.number(options.name)
         shard = collection.shards[collection.side_of(doc)]
         reply = collection.ask_side(collection.side_of(doc), commands.show(doc, at))
@@ -86,7 +86,7 @@ def _answer(options: argparse.Namespace, question: bytes, at: int) -> _Answer:
 
 
 def _asked(options: argparse.Namespace, question: bytes, at: int) -> _Answer:
-    with archive_of(options) as collection:
+    with archive_of(options, Use.ASKS) as collection:
         rows = collection.ask_rows(question)
         found: dict[int, list[list[Part]]] = {}
         if options.snippets:
@@ -104,7 +104,7 @@ def _parallel(options: argparse.Namespace, question: bytes) -> _Answer:
     if options.snippets:
         raise ToolError("GNU parallel asks one question, and pieces of text are more: leave out --snippets or --parallel")
     command = find_program(options.program)
-    with locked(options.archive, claim_of(options)) as lock:
+    with locked(options.archive, claim_of(options, Use.ASKS)) as lock:
         replies = ask_with_parallel(shards_of(options.archive), command, options.sshlogin, question, lock)
         names = NameTable(options.archive / NAMES)
     return _Answer(merge_rows(Collection.rows_of(reply) for reply in replies), names, {})

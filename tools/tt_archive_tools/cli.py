@@ -35,7 +35,7 @@ def main(words: Sequence[str] | None = None) -> int:
     try:
         with stops_in_order():
             options.wait = parse_wait(options.wait)
-            module, function = options.run.split(".")  # only what is needed for this command is loaded
+            module, _, function = options.run.rpartition(".")  # only what is needed for this command is loaded
             getattr(import_module(f".{module}", __package__), function)(options)
             sys.stdout.flush()
     except ToolError as error:
@@ -71,6 +71,7 @@ def _parser() -> argparse.ArgumentParser:
     _add_questions(kinds)
     _add_documents(kinds)
     _add_pictures(kinds)
+    _add_serving(kinds)
     return parser
 
 
@@ -78,6 +79,10 @@ def _command(kinds: Kinds, name: str, run: str, help: str) -> argparse.ArgumentP
     parser = kinds.add_parser(name, help=help, description=help[0].upper() + help[1:] + ".")
     parser.set_defaults(run=run)
     return parser
+
+
+#: What manual pages and completions are made of.
+parser = _parser
 
 
 def _add_filling(kinds: Kinds) -> None:
@@ -160,3 +165,10 @@ def _add_pictures(kinds: Kinds) -> None:
         picture.add_argument("word", metavar="WORD")
         picture.add_argument("-o", "--output", type=Path, metavar="FILE.svg", help="where the picture goes (WORD.svg)")
     line.add_argument("--html", type=Path, metavar="FILE.html", help="write a page with the picture and a table, too")
+
+
+def _add_serving(kinds: Kinds) -> None:
+    serve = _command(kinds, "serve", "serving.serve.serve", "serve pages to ask the archive from, until it is stopped")
+    serve.add_argument("--port", type=int, default=8080, metavar="N", help="the port (8080); 0 takes a free one")
+    serve.add_argument("--bind", default="127.0.0.1", metavar="ADDRESS", help="the address (127.0.0.1, which only this machine reaches)")
+    serve.add_argument("--name", action="append", default=[], metavar="HOST", help="a name under which browsers may ask")

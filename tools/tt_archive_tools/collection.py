@@ -10,21 +10,24 @@ from __future__ import annotations
 import os
 from collections import deque
 from contextlib import ExitStack
-from dataclasses import dataclass
+from dataclasses import dataclass, replace
 from itertools import repeat
 from pathlib import Path
 from selectors import EVENT_READ, PollSelector
 from types import TracebackType
-from typing import Any, Callable, Iterable, Iterator, Sequence
+from typing import TYPE_CHECKING, Any, Callable, Iterable, Iterator, Sequence
 
 from . import commands
 from .errors import BadQuery, InUse, NotBuilt, ProgramFailed, ToolError
 from .ledger import FILE as IMPORTS
-from .locks import Claim, locked, patiently
+from .locks import DOOR, Claim, Lock, Use, locked, patiently
 from .names import FILE as NAMES
 from .names import NameTable
 from .program import AT_WORK, JOURNAL, Program, Shard
 from .replies import Refused, Reply, Rows, merge_rows
+
+if TYPE_CHECKING:
+    from .serving.visit import Visit
 
 SHARDS = "shards.tsv"
 #: So many commands may be under way in all; it bounds the memory for what isn't answered yet.
@@ -65,7 +68,7 @@ def archives_in(folder: Path) -> list[Shard]:
 class _Side:
     """One archive's program, and what it has not yet answered."""
 
-    program: Program
+    program: Program | Visit
     under_way: deque[tuple[Any, Handler]]
 
 
@@ -81,13 +84,15 @@ class Collection:
         self._printing = PollSelector()
         self._sides: list[_Side] = []
         self._count = 0
+        self._lock: Lock | None = None
 
     def __enter__(self) -> Collection:
-        self._lock = self._locked.enter_context(locked(self.folder, self._claim))
         try:
+            patiently(self._come_in, self._claim)
             self.names = NameTable(self.folder / NAMES)
             self._check_journals()
-            patiently(self._start, self._claim)
+            if self._lock:
+                patiently(self._start, self._claim)
         except BaseException:
             self._close()
             raise
@@ -200,12 +205,35 @@ class Collection:
             if len(self.names) and not (shard.login or (shard.folder / JOURNAL).exists()):
                 raise ToolError(f"{shard.folder / JOURNAL} is gone, and {self.folder / NAMES} names documents of it")
 
+    def _come_in(self) -> None:
+        """Takes the folder; a tt that only asks is let in by a `tt serve` that has it."""
+        claim = self._claim
+        if claim.use is Use.ASKS:
+            if (self.folder / DOOR).exists() and self._is_let_in():
+                return
+            claim = replace(claim, wait=0)  # and tries both again
+        self._lock = self._locked.enter_context(locked(self.folder, claim))
+
+    def _is_let_in(self) -> bool:
+        try:
+            self._start()
+        except ConnectionError:  # whoever opened that door is gone
+            self._end()
+        return bool(self._sides)
+
+    def _program(self, side: int) -> Program | Visit:
+        if self._lock:
+            return Program(self._command, self.shards[side], self._lock)
+        from .serving.visit import Visit  # loaded where it is needed
+
+        return Visit(self.folder, self.shards[side], side)
+
     def _start(self) -> None:
         """Starts the programs, and returns when each has its archive, as it then answers a first question."""
         self._printing = PollSelector()
         self._count = 0
-        for shard in self.shards:
-            self._sides.append(_Side(Program(self._command, shard, self._lock), deque()))
+        for side in range(len(self.shards)):
+            self._sides.append(_Side(self._program(side), deque()))
             self._printing.register(self._sides[-1].program, EVENT_READ, self._sides[-1])
         try:
             for side in range(len(self._sides)):
@@ -231,7 +259,7 @@ class Collection:
             self._locked.close()
 
 
-def _replies(program: Program) -> Iterator[Reply]:
+def _replies(program: Program | Visit) -> Iterator[Reply]:
     """The replies that are there. An error where the program ended, or what it prints is none."""
     wrong = ""
     try:

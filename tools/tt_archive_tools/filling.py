@@ -10,6 +10,7 @@ from .collection import Collection, make_archive
 from .errors import ToolError
 from .feeding import Feeder, Progress
 from .importing import again
+from .locks import Use
 from .opening import archive_of, claim_of
 from .program import find_program
 from .sources import Source
@@ -33,7 +34,7 @@ def shard(options: argparse.Namespace) -> None:
             pass
         print(f"{counted(options.count, 'empty archive')}, in {options.into}")
         return
-    with archive_of(options) as archive:
+    with archive_of(options, Use.CHANGES) as archive:
         if len(archive.shards) > 1:
             raise ToolError(f"{options.archive} is split already")
         make_shards(options.into, options.count)
@@ -53,7 +54,7 @@ def import_from(source: Source, options: argparse.Namespace) -> None:
     notes = Notes(tell, progress.show, options.verbose)
     reading = Reading(options.charset, options.keep_html)
     try:
-        with archive_of(options) as collection:
+        with archive_of(options, Use.ASKS if options.dry_run else Use.CHANGES) as collection:
             feeder = _feeder(options)(collection, source.identity, again(options), notes, progress)
             feeder.feed(source.changes(reading, notes))
     finally:

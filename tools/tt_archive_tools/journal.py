@@ -2,6 +2,7 @@
 
 from __future__ import annotations
 
+import mmap
 import struct
 from dataclasses import dataclass, field
 from pathlib import Path
@@ -14,6 +15,8 @@ _HEADER = b"TIMETRAVELTEXT\x00\x01"
 _OPEN = b"\xa5"
 _PAGE = 4_096
 _ARRIVE, _DELETE, _PLAN = 1, 2, 3
+#: The length of an entry, its tag, and what follows it in an arrival and a deletion.
+_HEAD = struct.Struct(">IBIQ")
 #: The kinds of plans, as a script writes them.
 _KINDS = {1: "guarantee {}/{}", 2: "space {}/{} uniform", 3: "space {}/{} since {}"}
 #: A segment: its cut, first page, bytes, and a digest.
@@ -63,6 +66,28 @@ def entries(folder: Path, texts: bool) -> Iterator[Entry]:
                 yield from _records(file, path, texts)
     except OSError as error:
         raise InputError(str(path), error.strerror or str(error)) from None
+
+
+def heads(folder: Path) -> Iterator[tuple[int, int, bool]]:
+    """The document and the time of each arrival and deletion, in order, and whether it is an arrival. Of all ways
+    to read a journal the fastest."""
+    path = folder / JOURNAL
+    try:
+        with open(path, "rb") as file:
+            size = path.stat().st_size
+            if size <= len(_HEADER) + 1:
+                return
+            with mmap.mmap(file.fileno(), size, access=mmap.ACCESS_READ) as data:
+                if data[: len(_HEADER)] != _HEADER:
+                    raise InputError(str(path), "no archive's journal")
+                gate = len(_HEADER)
+                while data[gate] == _OPEN[0]:
+                    length, tag, doc, time = _HEAD.unpack_from(data, gate + 1)
+                    if tag != _PLAN:
+                        yield doc, time, tag == _ARRIVE
+                    gate += 5 + length
+    except (OSError, IndexError, struct.error) as error:
+        raise InputError(str(path), getattr(error, "strerror", None) or str(error)) from None
 
 
 def history(folder: Path, doc: int) -> list[Entry]:

@@ -4,6 +4,10 @@ The lock is the system's, on `.tt.lock`. It is held as long as one process has t
 this tt opened: tt itself, and each program that was handed the descriptor. So the folder of a tt
 that was killed stays locked until its program has ended. What is written in the file names these
 processes, and no lock rests on it.
+
+A `tt serve` holds that lock for days. So a tt that changes the archive first locks `.tt.turn`, and
+holds it until it ends: a `tt serve` looks for this, gives the folder up, and takes it back
+afterwards. A tt that only asks is let in by the door of a `tt serve` (`serving/door.py`).
 """
 
 from __future__ import annotations
@@ -12,8 +16,9 @@ import fcntl
 import os
 import sys
 import time
-from contextlib import contextmanager
+from contextlib import ExitStack, contextmanager
 from dataclasses import dataclass
+from enum import Enum
 from pathlib import Path
 from typing import Callable, Iterator
 
@@ -23,16 +28,29 @@ from .times import show_time
 from .wording import one_line
 
 FILE = ".tt.lock"
+#: Locked by a tt that changes the archive, or waits to.
+TURN = ".tt.turn"
+#: Where a `tt serve` answers the questions of others.
+DOOR = ".tt.socket"
 #: A lock that another has is tried again after so many seconds.
 _PAUSE = 0.05
 
 
+class Use(Enum):
+    """What a tt wants a folder for."""
+
+    ASKS = "to ask, be it through a `tt serve`"
+    CHANGES = "to change it, to which a `tt serve` gives way"
+    SERVES = "to serve it"
+
+
 @dataclass(frozen=True)
 class Claim:
-    """Who asks for a folder, and for how many seconds it waits while another has it."""
+    """Who asks for a folder, for how many seconds it waits while another has it, and what for."""
 
     command: str = "tt"
     wait: float = 10
+    use: Use = Use.CHANGES
 
 
 class Lock:
@@ -55,10 +73,24 @@ class Lock:
 @contextmanager
 def locked(folder: Path, claim: Claim) -> Iterator[Lock]:
     """The folder's lock; what stands beside the archive is read and written under it."""
-    with open(folder / FILE, "ab") as file:
+    with ExitStack() as files:
+        if claim.use is Use.CHANGES:
+            turn = files.enter_context(open(folder / TURN, "ab"))
+            patiently(lambda: _take(turn.fileno(), folder), claim)
+        file = files.enter_context(open(folder / FILE, "ab"))
         patiently(lambda: _take(file.fileno(), folder), claim)
         yield Lock(file.fileno(), claim)
         os.ftruncate(file.fileno(), 0)  # who stops without this is still named
+
+
+def turn_is_taken(folder: Path) -> bool:
+    """Whether a tt changes the archive, or waits to."""
+    with open(folder / TURN, "ab") as turn:
+        try:
+            fcntl.flock(turn, fcntl.LOCK_SH | fcntl.LOCK_NB)
+        except BlockingIOError:
+            return True
+    return False
 
 
 def patiently(attempt: Callable[[], None], claim: Claim) -> None:
@@ -86,11 +118,15 @@ def _take(descriptor: int, folder: Path) -> None:
     try:
         fcntl.flock(descriptor, fcntl.LOCK_EX | fcntl.LOCK_NB)
     except BlockingIOError:
-        raise InUse(f"another tt is at work in {folder}{_holder(folder / FILE)}") from None
+        raise InUse(at_work(folder)) from None
+
+
+def at_work(folder: Path) -> str:
+    """That another tt is at work, and which: the first process of the lock's text that is still there."""
+    return f"another tt is at work in {folder}{_holder(folder / FILE)}"
 
 
 def _holder(path: Path) -> str:
-    """Who has the lock, by the first process of its text that is still there."""
     for line in path.read_bytes().decode("utf-8", "replace").splitlines():
         process, _, rest = line.partition("\t")
         since, _, what = rest.partition("\t")

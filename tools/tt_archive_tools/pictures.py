@@ -9,11 +9,12 @@ from pathlib import Path
 
 from . import timeline, tradeoff
 from .errors import ToolError
+from .locks import Use
 from .opening import archive_of
 
 
 def draw_timeline(options: argparse.Namespace) -> None:
-    with archive_of(options) as collection:
+    with archive_of(options, Use.ASKS) as collection:
         line = timeline.gather(collection, options.word)
         picture = timeline.draw(line, collection)
         page = timeline.page(line, picture, collection) if options.html else ""
@@ -26,7 +27,7 @@ def draw_timeline(options: argparse.Namespace) -> None:
 
 
 def draw_tradeoff(options: argparse.Namespace) -> None:
-    with archive_of(options) as collection:
+    with archive_of(options, Use.ASKS) as collection:
         picture = tradeoff.draw(tradeoff.gather(collection, options.word))
     _write(options.output or _named_after(options.word), picture)
 

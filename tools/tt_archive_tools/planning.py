@@ -9,6 +9,7 @@ from fractions import Fraction
 
 from . import commands
 from .errors import ToolError
+from .locks import Use
 from .opening import archive_of
 from .replies import Planned, Refused
 from .times import parse_time, show_time
@@ -23,7 +24,7 @@ _FORM = re.compile(r"(guarantee|space) (\d+/\d+|\d+(?:\.\d+)?)( uniform| since \
 
 def plan(options: argparse.Namespace) -> None:
     form = _form(" ".join(options.form))
-    with archive_of(options) as collection:
+    with archive_of(options, Use.CHANGES) as collection:
         replies = collection.ask_all(commands.plan(options.word, form))
         plans = [reply for reply in replies if isinstance(reply, Planned)]
         if not plans:

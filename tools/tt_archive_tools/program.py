@@ -20,6 +20,8 @@ VARIABLE = "TT_ARCHIVE"
 JOURNAL, PAGES = "archive.journal", "archive.pages"
 #: The status of a program that found another at work in its folder, and did nothing.
 AT_WORK = 11
+#: Where `tools/install` puts the program, and where the repository builds it.
+_INSTALLED = Path(__file__).resolve().parents[1] / "tt_archive"
 _BUILT = Path(__file__).resolve().parents[2] / "crates" / "tt_archive" / "out" / "tt_archive"
 
 #: So much of what is printed is read at once, which is what a pipe holds.
@@ -30,7 +32,7 @@ _PATIENCE = 10
 
 def find_program(named: str | None) -> list[str]:
     """The words that start the program: those named, those of TT_ARCHIVE, `tt_archive` on the
-    path, or the one built in this repository."""
+    path, the one installed with the tools, or the one built in this repository."""
     words = shlex.split(named or os.environ.get(VARIABLE, ""))
     if words:
         if "/" in words[0]:
@@ -40,8 +42,9 @@ def find_program(named: str | None) -> list[str]:
         return words
     if found := shutil.which("tt_archive"):
         return [os.path.abspath(found)]
-    if os.access(_BUILT, os.X_OK):
-        return [str(_BUILT)]
+    for place in (_INSTALLED, _BUILT):
+        if os.access(place, os.X_OK):
+            return [str(place)]
     raise ToolError(
         f"there is no tt_archive: build it with bin/tt_archive, or name it with --program or {VARIABLE}"
     )

@@ -23,6 +23,7 @@ from .feeding import Feeder, Progress, feed_together
 from .importing import source_of
 from .ledger import FILE as LEDGER
 from .ledger import Ledger
+from .locks import Use
 from .opening import archive_of
 from .texts import Reading
 from .wording import counted, one_line
@@ -45,7 +46,7 @@ def refresh(options: argparse.Namespace) -> None:
         print(one_line(line), file=sys.stderr)
 
     try:
-        with ExitStack() as running, archive_of(options) as collection:
+        with ExitStack() as running, archive_of(options, Use.CHANGES) as collection:
             sources = Ledger(collection.folder / LEDGER).sources()
             if not sources:
                 raise ToolError("nothing was imported here: `tt import` does so first")

@@ -130,6 +130,9 @@ class ReplyReader:
             try:
                 if line.startswith(b"ok "):  # most of what is printed
                     reply: Reply | None = Ok(int(line[3:]))
+                elif line.startswith((b"span ", b"hit ")):  # and what is printed most of answers
+                    self._rows.append(_row(line))
+                    reply = None
                 elif line.startswith(b"text "):
                     size = int(line[5:])
                     if len(printed) <= end + size:
@@ -153,10 +156,6 @@ class ReplyReader:
     def _reply(self, words: list[str]) -> Reply | None:
         """The reply that ends with a line of these words; None where more lines follow."""
         match words:
-            case ["hit", doc, score]:
-                self._rows.append(Hit(int(doc), int(score)))
-            case ["span", doc, start, end, score]:
-                self._rows.append(Span(int(doc), int(start), int(end), int(score)))
             case ["segment", start, end, size]:
                 self._segments.append(Segment(int(start), int(end), int(size)))
             case ["node", time, space]:
@@ -170,6 +169,13 @@ class ReplyReader:
             case _:
                 return _one_line(words)
         return None
+
+
+def _row(line: bytes) -> Hit | Span:
+    kind, *numbers = line.split()
+    if len(numbers) != (4 if kind == b"span" else 2):
+        raise ValueError(line)
+    return Span._make(map(int, numbers)) if kind == b"span" else Hit._make(map(int, numbers))
 
 
 def _one_line(words: list[str]) -> Reply:

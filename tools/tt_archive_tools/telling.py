@@ -10,6 +10,7 @@ from .errors import ToolError
 from .journal import StoredPlan, summary
 from .ledger import END, Ledger
 from .ledger import FILE as LEDGER
+from .locks import Use
 from .opening import archive_of
 from .replies import Verdict
 from .times import show_time
@@ -20,7 +21,7 @@ _MOST_PLANS = 20
 
 
 def status(options: argparse.Namespace) -> None:
-    with archive_of(options) as collection:
+    with archive_of(options, Use.ASKS) as collection:
         held = summary(collection.shards)
         names = len(collection.names)
         shards = collection.shards
@@ -46,7 +47,7 @@ def status(options: argparse.Namespace) -> None:
 
 
 def verify(options: argparse.Namespace) -> None:
-    with archive_of(options) as collection:
+    with archive_of(options, Use.ASKS) as collection:
         replies = collection.ask_all(commands.verify())
     words = segments = 0
     for reply in replies:
