@@ -1,4 +1,4 @@
-use Rattle.std.proofs.Common.{◌≡◌, ℕ, sym, subst, ap, ◌∙◌, ◌↔◌, List, All, true, Contains, IsTrue, IsSome, is_some}
+use Rattle.std.proofs.Common.{◌≡◌, ℕ, sym, subst, ◌∙◌, ◌↔◌, List, All, true, IsTrue, IsSome, is_some}
 use Rattle.time_base.specs.declared.ids.DocId.{DocId}
 use Rattle.query_lang.specs.Meaning.{words_of}
 use Rattle.query_eval.specs.Found.{told}
@@ -9,7 +9,7 @@ use Rattle.version_store.specs.declared.change.Change.{Change}
 use Rattle.version_store.specs.Changes.{held_at}
 use Rattle.archive_state.specs.Histories.{text_at}
 use Rattle.archive_state.specs.Plans.{is_another}
-use Rattle.archive_core.proofs.SpanLemmas.{by_lives, by_met, hits_alive}
+use Rattle.archive_core.proofs.SpanLemmas.{by_lives, hits_alive}
 use Rattle.archive_core.proofs.archive.Archive.span_answer_by.Goals as goal
 
 pub returns-then-matches_without_words-clause-rows : goal.returns-then-matches_without_words-clause-rows
