@@ -9,6 +9,6 @@ mod MadeLemmas
 mod Groups
 mod Changing
 mod FactLemmas
-pub mod OverHits
+mod OverHits
 pub mod SpanRows
 pub mod MetLemmas

@@ -1,5 +1,5 @@
 -- The documents with a posting in a window: those that are gathered, each once, and that no other has a hit there.
-use Rattle.std.proofs.Common.{◌≡◌, ◌↔◌, ℕ, zero, suc, ◌<◌, ◌≤◌, ◌==◌, ◌&&◌, Bool, true, false, cond, if◌then◌else◌, bytes_eq, List, [], ◌∷◌, ◌++◌, length, get_or, Contains, IsPermutation, refl, ap, sym, subst, inl, inr, ◌∙◌, arith}
+use Rattle.std.proofs.Common.{◌≡◌, ◌↔◌, ℕ, suc, ◌<◌, ◌≤◌, ◌==◌, ◌&&◌, Bool, true, false, cond, if◌then◌else◌, bytes_eq, List, [], ◌∷◌, length, get_or, Contains, IsPermutation, refl, ap, sym, subst, inl, inr, ◌∙◌, arith}
 use Rattle.std.specs.List.{dedup, dedup_from}
 use Rattle.std.specs.List.Sorted.{IsNonDecreasingBy}
 use Rattle.std.proofs.lemmas.Bool.Decides.{nat_tests, eqb_tells}
@@ -60,9 +60,6 @@ from-sorted n (d ∷ ds) h up = (h d (omega arith), from-sorted d.0 ds (λ x m. 
 
 higher : (k x : DocId) → same x k ≡ false → k.0 ≤ x.0 → k.0 < x.0
 higher k x e l = grind (arith, nat_tests)
-
-level : (k x : DocId) → same x k ≡ true → x.0 ≤ k.0
-level k x e = grind (arith, nat_tests)
 
 lower : (n m : ℕ) (ds : List DocId) → n ≤ m → IsFrom m ds → IsFrom n ds
 lower n m [] l h = tt

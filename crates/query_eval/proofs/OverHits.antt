@@ -1,9 +1,8 @@
 -- Rows over time by hits alone: a document counts as alive where it has a hit.
-use Rattle.std.specs.Prelude.{◌≡◌, ℕ, ◌+◌, ◌-◌, ◌<◌, ◌≤◌, ◌||◌, ◌&&◌, Bool, true, false, if◌then◌else◌, List, [], ◌∷◌, ◌++◌, length, get_or, filter, map, Contains, Option, Some, None, refl}
+use Rattle.std.specs.Prelude.{◌≡◌, ℕ, ◌+◌, ◌-◌, ◌<◌, ◌≤◌, ◌||◌, Bool, true, false, if◌then◌else◌, List, [], ◌∷◌, ◌++◌, length, get_or, filter, map, Contains, Option, Some, None, refl}
 use Rattle.std.specs.List.{IsDistinct}
 use Rattle.std.specs.Str.{bytes_eq}
-use Rattle.std.proofs.Common.{arith, ap, ap₂, sym, ◌∙◌, subst, inl, inr}
-use Rattle.std.proofs.lemmas.Bool.{cases_lt}
+use Rattle.std.proofs.Common.{arith, ap, ap₂, sym, ◌∙◌, subst}
 use Rattle.std.proofs.lemmas.List.Elements.{filter-append}
 use Rattle.time_base.specs.declared.ids.DocId.{DocId}
 use Rattle.time_base.specs.declared.posting.Posting.{Posting}
@@ -13,9 +12,9 @@ use Rattle.stretches.proofs.Elements.{here}
 use Rattle.stretches.proofs.Windows.{stretches-same}
 use Rattle.query_lang.specs.Grammar.{Query}
 use Rattle.query_lang.specs.Meaning.{matches, score, words_of}
-use Rattle.query_eval.specs.Facts.{word_fact, facts_of, of_doc, covers, hits_now, alive_now, score_if, IsScored}
+use Rattle.query_eval.specs.Facts.{word_fact, facts_of, of_doc, hits_now, alive_now, score_if, IsScored}
 use Rattle.query_eval.specs.Found.{told, HasHit}
-use Rattle.query_eval.specs.Hits.{hit_of, hits_in, gathered, is_of, hits_of, found}
+use Rattle.query_eval.specs.Hits.{hits_in, gathered, is_of, hits_of, found}
 use Rattle.query_eval.specs.Spans.{row_kind, scored_at, IsSpanAnswer}
 use Rattle.query_eval.specs.declared.facts.Fact.{Fact}
 use Rattle.query_eval.specs.declared.hit.Hit.{Hit}

@@ -26,4 +26,6 @@ pub use span_laws::{
     a_span_answer_is_one, each_window_has_an_answer, hits_are_met, only_hits_matter_over,
     span_rows_are_the_longest,
 };
-pub use spans::{SpanAnswer, SpanRow, answer_between, answer_over, answer_over_hits, parts_between};
+pub use spans::{
+    SpanAnswer, SpanRow, answer_between, answer_over, answer_over_hits, parts_between,
+};

@@ -1,12 +1,11 @@
 -- A document's changes inside a window, noted from the last one back.
-use Rattle.std.specs.Prelude.{◌≡◌, ◌⊎◌, ℕ, zero, suc, ◌+◌, ◌-◌, ◌<◌, ◌≤◌, List, [], ◌∷◌, ◌++◌, length, take, get_or, slice_get, ◌==◌, Option, Some, None, Contains, refl}
+use Rattle.std.specs.Prelude.{◌≡◌, ◌⊎◌, ℕ, zero, suc, ◌+◌, ◌-◌, ◌<◌, ◌≤◌, List, [], ◌∷◌, ◌++◌, length, take, get_or, slice_get, ◌==◌, Some, None, Contains, refl}
 use Rattle.std.specs.List.Sorted.{IsNonDecreasingBy}
 use Rattle.std.proofs.Common.{arith, ap, sym, ◌∙◌, subst, inl, inr}
 use Rattle.std.proofs.lemmas.Bool.{cases_lt, eq-eqb}
 use Rattle.std.proofs.lemmas.List.{length-take-le, get_or-take}
 use Rattle.std.proofs.lemmas.List.Elements.{Contains-append_left, Contains-push, Contains-push_cases}
 use Rattle.time_base.specs.declared.ids.DocId.{DocId}
-use Rattle.time_base.specs.declared.time.Time.{Time}
 use Rattle.time_base.specs.declared.text_place.TextPlace.{TextPlace}
 use Rattle.stretches.specs.declared.event.Event.{Event}
 use Rattle.version_store.specs.declared.change.Change.{Change}
@@ -45,14 +44,7 @@ pub record AreNotedFrom (log : List (Change TextPlace)) (doc : DocId) (a b lates
   pub only : (x : Event) → Contains new x → Contains old x ⊎ ((x.doc ≡ doc) × (a ≤ x.at.seconds) × (x.at.seconds < b))
   pub noted : (c : Change TextPlace) → Contains (take (latest + 1) log) c → c.doc ≡ doc → a < c.at.seconds → c.at.seconds < b → IsThere new doc c.at.seconds ⊎ (Contains (take (place + 1) log) c × (c.at.seconds < end))
 
-pub begun : (log : List (Change TextPlace)) (doc : DocId) (a b latest : ℕ) (events : List Event) → IsOf doc log latest → AreNotedFrom log doc a b latest latest b events events
-begun log doc a b latest events o = record { of = o; kept = λ x c. c; only = λ x c. inl c; noted = λ c k e l m. inr (k, m) }
-
 module _ (log : List (Change TextPlace)) (doc : DocId) (a b latest place end : ℕ) (old new : List Event) (up : IsNonDecreasingBy (λ y. y.at.seconds) log) (h : AreNotedFrom log doc a b latest place end old new) where
-  -- nothing of the window is left
-  pub over : end ≤ a → (c : Change TextPlace) → Contains (take (latest + 1) log) c → c.doc ≡ doc → a < c.at.seconds → c.at.seconds < b → IsThere new doc c.at.seconds
-  over l c k e x y = elim (h.noted c k e x y) [ inl t ↦ t | inr r ↦ absurd (omega (arith, l, r.1, x)) ]
-
   pub out : AreBehind doc (end - 1) log place → (c : Change TextPlace) → Contains (take (latest + 1) log) c → c.doc ≡ doc → a < c.at.seconds → c.at.seconds < b → IsThere new doc c.at.seconds
   out g c k e x y = elim (h.noted c k e x y) [ inl t ↦ t | inr r ↦ absurd (g c r.0 e (omega (arith, r.1))) ]
 

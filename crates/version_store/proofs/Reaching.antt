@@ -1,5 +1,5 @@
 -- How far a step back through a document's changes leads.
-use Rattle.std.specs.Prelude.{◌≡◌, ℕ, ◌+◌, ◌<◌, ◌≤◌, List, [], ◌∷◌, ◌++◌, length, take, drop, ◌==◌, true, filter, slice_get, Option, Some, None, IfSome, MatchOption, Contains, get_or, refl}
+use Rattle.std.specs.Prelude.{◌≡◌, ℕ, ◌+◌, ◌<◌, ◌≤◌, List, [], ◌∷◌, ◌++◌, length, take, drop, ◌==◌, slice_get, Option, Some, None, IfSome, MatchOption, Contains, get_or}
 use Rattle.std.proofs.Common.{arith, ap, sym, ◌∙◌, subst, inl, inr}
 use Rattle.std.proofs.lemmas.Bool.{eq-eqb, cases_lt}
 use Rattle.std.proofs.lemmas.List.{length-take, length-take-le, get_or-take, take-append-drop, take-append-le}
@@ -18,17 +18,6 @@ use Rattle.version_store.proofs.Valid.{take-next}
 
 pub when-none : {A : Type 0} (o : Option A) (P : Type 0) (Q : A → Type 0) → o ≡ None → MatchOption o P Q → P
 when-none o P Q e m = let h : MatchOption None P Q = subst (λ x. MatchOption x P Q) e m in h
-
-pub when-some : {A : Type 0} (o : Option A) (P : Type 0) (Q : A → Type 0) (x : A) → o ≡ Some x → MatchOption o P Q → Q x
-when-some o P Q x e m = let h : MatchOption (Some x) P Q = subst (λ y. MatchOption y P Q) e m in h
-
--- no step
-pub reached-start : (doc : DocId) (t : ℕ) (log : List (Change TextPlace)) (i : ℕ) → IsOf doc log i → IsReached doc t log i i
-reached-start doc t log i o = record { back = omega arith; of = o; rest = λ c k e l. k }
-
--- one step more
-pub reached-more : (doc : DocId) (t : ℕ) (log : List (Change TextPlace)) (i j k : ℕ) → IsReached doc t log i j → IsReached doc t log j k → IsReached doc t log i k
-reached-more doc t log i j k h g = record { back = omega (arith, h.back, g.back); of = g.of; rest = λ c m e l. g.rest c (h.rest c m e l) e l }
 
 pub behind-more : (doc : DocId) (t : ℕ) (log : List (Change TextPlace)) (i j : ℕ) → IsReached doc t log i j → AreBehind doc t log j → AreBehind doc t log i
 behind-more doc t log i j h g = λ c m e l. g c (h.rest c m e l) e l

@@ -55,12 +55,7 @@ impl Directory {
     }
 
     /// The lives that begin at events and go on until the next ones, those that touch in one.
-    fn lives_by(
-        &self,
-        alloc: Global,
-        events: &[Event],
-        span: Span,
-    ) -> Result<Vec<Life>, AllocError>
+    fn lives_by(&self, alloc: Global, events: &[Event], span: Span) -> Result<Vec<Life>, AllocError>
         requires { AreInOrder events.now }
         ensures { IfOk result (λ lives. (f : ℕ → ℕ → Option (Unit {0})) → ChangesAt events.now span.from span.to f
             → ((e : EventValue) → Contains events.now e → f e.doc.0 e.at.seconds ≡ lived self.now.changes e.doc.0 e.at.seconds)
@@ -76,12 +71,7 @@ impl Directory {
     }
 
     /// The events of these documents in a span, in order.
-    fn events_of(
-        &self,
-        alloc: Global,
-        docs: &[DocId],
-        span: Span,
-    ) -> Result<Vec<Event>, AllocError>
+    fn events_of(&self, alloc: Global, docs: &[DocId], span: Span) -> Result<Vec<Event>, AllocError>
         ensures sorted { IfOk result (λ events. AreInOrder events.items) }
         ensures events { IfOk result (λ events. AreEventsOf self.now.changes docs.now span.from span.to events.items) }
     {

@@ -189,6 +189,10 @@ fn lives_go_on_over_new_versions_and_end_where_a_document_is_deleted(rt: HostRun
                 .push((life.doc.0, life.span.from, life.span.to))
                 .expect(&rt, "memory");
         }
-        assert_eq!(rt; lives.as_slice(), sevens.as_slice(), "of 7 in [{from}, {to})");
+        assert_eq!(rt;
+            lives.as_slice(),
+            sevens.as_slice(),
+            "of 7 in [{from}, {to})"
+        );
     }
 }

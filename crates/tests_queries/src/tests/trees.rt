@@ -440,7 +440,13 @@ fn answered_over(
 }
 
 /// The lives of the documents with a posting in a window.
-fn lives_met(rt: &impl Abort, alloc: Global, parts: &[Part], world: &World, span: Span) -> Vec<Life> {
+fn lives_met(
+    rt: &impl Abort,
+    alloc: Global,
+    parts: &[Part],
+    world: &World,
+    span: Span,
+) -> Vec<Life> {
     let docs = docs_met(alloc, parts, span).expect(rt, "memory");
     let mut lives = Vec::new(alloc);
     for life in &world.lives {

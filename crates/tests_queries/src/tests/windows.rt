@@ -2,9 +2,7 @@
 ghost use Rattle.std.specs.Prelude.{◌≡◌, []};
 
 use super::given::{listed, read};
-use query_eval::{
-    Lists, Part, SpanRow, answer_between, answer_over, answer_over_hits, docs_met,
-};
+use query_eval::{Lists, Part, SpanRow, answer_between, answer_over, answer_over_hits, docs_met};
 use std::alloc::{AllocError, Global};
 use std::process::Abort;
 use stretches::Life;
@@ -235,7 +233,11 @@ fn where_whatever_has_a_word_is_alive_postings_alone_make_the_rows(rt: HostRunti
             assert!(rt; parts.len() == query.words().len());
             let answer = answer_over_hits(alloc, &query, span, &parts).expect(&rt, "memory");
             let wanted = found(&rt, alloc, text, from, to, &lives);
-            assert_eq!(rt; answer.rows.as_slice(), wanted.as_slice(), "{text} in [{from}, {to})");
+            assert_eq!(rt;
+                answer.rows.as_slice(),
+                wanted.as_slice(),
+                "{text} in [{from}, {to})"
+            );
         }
     }
 }

@@ -1,4 +1,4 @@
-use Rattle.std.proofs.Common.{ap, sym, refl, ◌∙◌, arith, get_or}
+use Rattle.std.proofs.Common.{ap, refl, arith, get_or}
 use Rattle.stretches.specs.declared.event.Event.{Event}
 use Rattle.version_store.proofs.Noting.{early, noted-more, out}
 use Rattle.version_store.proofs.lives.note_changes.Goals as goal

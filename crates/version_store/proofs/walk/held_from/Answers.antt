@@ -1,6 +1,5 @@
 use Rattle.std.proofs.Common.{◌∙◌, ap}
 use Rattle.std.proofs.lemmas.Option.{get_or_from_slice_get, slice_get-get_or}
-use Rattle.version_store.proofs.Reaching.{when-some}
 use Rattle.version_store.proofs.Steps.{reached}
 use Rattle.version_store.proofs.walk.held_from.Goals as goal
 

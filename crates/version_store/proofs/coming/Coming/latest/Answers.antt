@@ -1,4 +1,4 @@
-use Rattle.std.proofs.Common.{◌≡◌, ◌∙◌, ◌<◌, List, ap, subst, length, get_or}
+use Rattle.std.proofs.Common.{◌∙◌, ◌<◌, List, ap, subst, length, get_or}
 use Rattle.time_base.specs.declared.text_place.TextPlace.{TextPlace}
 use Rattle.version_store.specs.declared.change.Change.{Change}
 use Rattle.version_store.proofs.Comings.{latest-next}

@@ -1,4 +1,4 @@
-use Rattle.std.proofs.Common.{ap, sym, subst, ◌∙◌, ◌++◌, [], ◌∷◌, take, arith}
+use Rattle.std.proofs.Common.{sym, subst, take, arith}
 use Rattle.std.proofs.lemmas.List.{take_more, take_all}
 use Rattle.version_store.specs.Lives.{AreEventsOf}
 use Rattle.version_store.proofs.OfDocuments.{no-documents, one-more, sorted-of}

@@ -25,5 +25,5 @@ returns c =
     record {
       lives = laid-longest life_kind f from to lives laid;
       times = λ doc t x y. alive-said c.args.self.now.changes doc t (is_alive lives doc.0 t)
-      (sym (says-any life_kind doc.0 t lives) ∙ ap is_some (laid.same doc.0 t ∙ in-is life_kind f from to doc.0 t x y));
+          (sym (says-any life_kind doc.0 t lives) ∙ ap is_some (laid.same doc.0 t ∙ in-is life_kind f from to doc.0 t x y));
     }

@@ -1,5 +1,5 @@
-use Rattle.std.proofs.Common.{List, Contains, None, if◌then◌else◌, ap, sym, subst, ◌∙◌, is_some}
-use Rattle.stretches.specs.Events.{ChangesAt, inside}
+use Rattle.std.proofs.Common.{List, None, if◌then◌else◌, ap, sym, subst, ◌∙◌, is_some}
+use Rattle.stretches.specs.Events.{inside}
 use Rattle.stretches.specs.Kinds.{life_kind, is_alive}
 use Rattle.stretches.specs.Laid.{AreLaid}
 use Rattle.stretches.specs.declared.event.Event.{Event}
@@ -27,5 +27,5 @@ returns c =
     record {
       lives = laid-longest life_kind f from to lives laid;
       times = λ doc t x y. given-said changes from to docs doc t (is_alive lives doc.0 t)
-      (sym (says-any life_kind doc.0 t lives) ∙ ap is_some (laid.same doc.0 t ∙ in-is life_kind f from to doc.0 t x y));
+          (sym (says-any life_kind doc.0 t lives) ∙ ap is_some (laid.same doc.0 t ∙ in-is life_kind f from to doc.0 t x y));
     }
