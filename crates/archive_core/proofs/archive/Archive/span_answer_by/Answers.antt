@@ -26,12 +26,12 @@ returns-then-is_any_planned-clause-rows c = λ h pages stands chosen.
     let changes = c.args.self.now.changes in
     let docs : List DocId = c.in_ok-docs.docs.items in
     let D : List DocId → DocId → Type 0 = λ ds doc. (t : ℕ) → c.args.span.from ≤ t → t < c.args.span.to → IsTrue (is_alive c.in_ok-lives-2.lives.items doc.0 t) ↔ (Contains ds doc × IsSome (held_at doc t changes)) in
-    by_met c.args.self.now h c.args.span c.args.query.now c.args.parts.now docs c.deref-3.result.now _ stands
+    by_met c.args.self.now h c.args.span c.args.query.now c.args.parts.now docs c.deref-then-is_any_planned-2.result.now _ stands
     (sym c.matches_without_words.ensures ∙ c.if-matches_without_words.false) c.in_ok-docs.ensures.met
     (λ doc t from to.
     let L : List Life → Type 0 = λ lives. IsTrue (is_alive lives doc.0 t) ↔ (Contains docs doc × IsSome (held_at doc t changes)) in
-    let C : List (Change TextPlace) → Type 0 = λ cs. (t : ℕ) → c.args.span.from ≤ t → t < c.args.span.to → IsTrue (is_alive c.in_ok-lives-2.lives.items doc.0 t) ↔ (Contains c.deref-2.result.now doc × IsSome (held_at doc t cs)) in
-    subst L (sym c.deref-3.ensures.value) (subst (λ ds. D ds doc) c.deref-2.ensures.value (subst C c.directory-2.ensures.changes (c.in_ok-lives-2.ensures.times doc)) t from to))
+    let C : List (Change TextPlace) → Type 0 = λ cs. (t : ℕ) → c.args.span.from ≤ t → t < c.args.span.to → IsTrue (is_alive c.in_ok-lives-2.lives.items doc.0 t) ↔ (Contains c.deref-then-is_any_planned.result.now doc × IsSome (held_at doc t cs)) in
+    subst L (sym c.deref-then-is_any_planned-2.ensures.value) (subst (λ ds. D ds doc) c.deref-then-is_any_planned.ensures.value (subst C c.directory-then-is_any_planned.ensures.changes (c.in_ok-lives-2.ensures.times doc)) t from to))
     c.in_ok-answer-2.ensures.rows
 
 pub returns-clause-rows : goal.returns-clause-rows
