@@ -14,7 +14,7 @@ use Rattle.version_store.specs.Changes.{changes_of}
 use Rattle.version_store.specs.Index.{IsLatest}
 use Rattle.version_store.proofs.Listed.{some_of}
 use Rattle.version_store.proofs.Valid.{take-next}
-use Rattle.version_store.specs.Walks.{IsOf, IsReached}
+use Rattle.version_store.specs.Walks.{IsOf, IsReached, AreBehind}
 
 -- an event of the document at a time is among these
 abbrev pub IsThere : List Event → DocId → ℕ → Type 0
@@ -45,6 +45,9 @@ pub record AreNotedFrom (log : List (Change TextPlace)) (doc : DocId) (a b lates
   pub noted : (c : Change TextPlace) → Contains (take (latest + 1) log) c → c.doc ≡ doc → a < c.at.seconds → c.at.seconds < b → IsThere new doc c.at.seconds ⊎ (Contains (take (place + 1) log) c × (c.at.seconds < end))
 
 module _ (log : List (Change TextPlace)) (doc : DocId) (a b latest place end : ℕ) (old new : List Event) (up : IsNonDecreasingBy (λ y. y.at.seconds) log) (h : AreNotedFrom log doc a b latest place end old new) where
+  pub out : AreBehind doc (end - 1) log place → (c : Change TextPlace) → Contains (take (latest + 1) log) c → c.doc ≡ doc → a < c.at.seconds → c.at.seconds < b → IsThere new doc c.at.seconds
+  out g c k e x y = elim (h.noted c k e x y) [ inl t ↦ t | inr r ↦ absurd (g c r.0 e (omega (arith, r.1))) ]
+
   module _ (found : ℕ) (n : found < length log) (x : Change TextPlace) (r : IsReached doc (end - 1) log place found) where
     pub early : (get_or log found x).at.seconds ≤ a → (c : Change TextPlace) → Contains (take (latest + 1) log) c → c.doc ≡ doc → a < c.at.seconds → c.at.seconds < b → IsThere new doc c.at.seconds
     early l c k e lo hi = elim (h.noted c k e lo hi) [ inl t ↦ t | inr q ↦ absurd (omega (arith, l, lo, not-later log found x c up n (r.rest c q.0 e (omega (arith, q.1))))) ]

@@ -1,9 +1,9 @@
 -- The events of some documents, and when what is said of them changes.
-use Rattle.std.specs.Prelude.{◌≡◌, ◌⊎◌, ℕ, ◌<◌, ◌≤◌, ◌==◌, Bool, true, false, if◌then◌else◌, List, [], ◌∷◌, ◌++◌, length, get_or, Contains, None, IsPermutation, refl}
+use Rattle.std.specs.Prelude.{◌≡◌, ◌⊎◌, ℕ, ◌<◌, ◌≤◌, ◌==◌, Bool, true, false, if◌then◌else◌, List, [], ◌∷◌, ◌++◌, Contains, None, is_some, IsTrue, IsSome, IsPermutation, refl}
 use Rattle.std.specs.List.{list_any}
 use Rattle.std.proofs.Common.{arith, ap, sym, ◌∙◌, subst, inl, inr}
 use Rattle.std.proofs.lemmas.Bool.{eq-eqb}
-use Rattle.std.proofs.lemmas.List.Elements.{Contains-get_or, Contains-append_left, Contains-push, Contains-push_cases}
+use Rattle.std.proofs.lemmas.List.Elements.{Contains-append_left, Contains-push, Contains-push_cases}
 use Rattle.std.proofs.lemmas.List.Sorted.{Contains-permutation, IsPermutation-sym}
 use Rattle.std.proofs.lemmas.Map.Views.{Contains-from_any}
 use Rattle.time_base.specs.declared.ids.DocId.{DocId}
@@ -60,13 +60,6 @@ module _ {A : Type 0} (changes : List (Change A)) (a b : ℕ) where
     started = λ d c. let (x, k, l, r) = h.started d c in (x, Contains-permutation events sorted x p k, l, r);
     changed = λ c m k lo hi. let (x, i, l, r) = h.changed c m k lo hi in (x, Contains-permutation events sorted x p i, l, r);
   }
-
-  -- what is said at an event is said of its document
-  pub said : (docs : List DocId) (events read : List Event) → AreEventsOf changes docs a b events → read ≡ events → (i : ℕ) → i < length events → (e : Event) → e ≡ get_or read i e
-      → lived_of docs changes e.doc.0 e.at.seconds ≡ lived changes e.doc.0 e.at.seconds
-  said docs events read w r i n e is =
-      let there : Contains events e = subst (λ x. Contains events x) (sym (is ∙ ap (λ l. get_or l i e) r)) (Contains-get_or events i e n) in
-      ap (λ q. if q then lived changes e.doc.0 e.at.seconds else None) (is-given e.doc docs (w.inside e there).0)
 
   -- at these events what is said of the documents changes
   pub changes-of : (docs : List DocId) (events : List Event) → AreEventsOf changes docs a b events → ChangesAt events a b (lived_of docs changes)

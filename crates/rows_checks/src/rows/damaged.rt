@@ -236,7 +236,11 @@ fn a_document_that_is_not_alive_is_no_hit(rt: HostRuntime) {
 fn a_posting_past_a_life_is_cut_where_the_life_ends(rt: HostRuntime) {
     let alloc = rt.alloc();
     let [one, _, _] = first_segments();
-    let segments = [one, segment_at(20, 1, LATE_LIVES), segment_at(30, 2, LATE_LIVES)];
+    let segments = [
+        one,
+        segment_at(20, 1, LATE_LIVES),
+        segment_at(30, 2, LATE_LIVES),
+    ];
     let disk = disk_with(alloc, &plan_of_v(40, &segments)).expect(&rt, "a disk");
     let rows = [Row {
         script: b"find 35 v\nbetween 15 41 v\nbetween 15 41 w or v\nbetween 30 40 v\nbetween 15 41 v and not w\n",
