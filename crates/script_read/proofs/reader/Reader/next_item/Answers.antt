@@ -32,8 +32,8 @@ returns-then-is_some-clause-further g c =
     let later : c.args.self.now.passed < c.advance.new.self.passed = omega (arith, c.rounds.invariant.further, front.passed, within.0, ap (λ h. h.passed) c.advance.ensures) in
     λ some. later
 
-pub rounds-preserved-else-is_some-10 : goal.rounds-preserved-else-is_some-10
-rounds-preserved-else-is_some-10 g c =
+pub rounds-preserved-else-is_some-18 : goal.rounds-preserved-else-is_some-18
+rounds-preserved-else-is_some-18 g c =
     let run = c.rounds.invariant in
     let front = c.in_ok-piece.ensures in
     let within = rw c.in-Whole.is at front.within in
