@@ -36,8 +36,8 @@ returns-in-Approx-clause-outcome g c = λ tells h in_step. rw (c.in-Command.is, 
 pub returns-in-Rough-clause-outcome : goal.returns-in-Rough-clause-outcome
 returns-in-Rough-clause-outcome g c = λ tells h in_step. rw (c.in-Command.is, c.in-Rough.is) (refused_by Whole h (items.Command (plain.Rough _ _ _)) refusals.Line _ _ _ _ (refl, refl) in_step c.refuse-in-Rough.ensures.goes_on c.refuse-in-Rough.ensures.reply)
 
-pub returns-in-Share-clause-outcome : goal.returns-in-Share-clause-outcome
-returns-in-Share-clause-outcome g c = λ tells h in_step. rw (c.in-Command.is, c.in-Share.is) (refused_by Whole h (items.Command (plain.Share _ _)) refusals.Line _ _ _ _ (refl, refl) in_step c.refuse-in-Share.ensures.goes_on c.refuse-in-Share.ensures.reply)
+pub returns-clause-outcome : goal.returns-clause-outcome
+returns-clause-outcome g c = λ tells h in_step. rw (c.in-Command.is, c.in-Share.is) (refused_by Whole h (items.Command (plain.Share _ _)) refusals.Line _ _ _ _ (refl, refl) in_step c.refuse-in-Share.ensures.goes_on c.refuse-in-Share.ensures.reply)
 
 pub returns-in_default-clause-outcome : goal.returns-in_default-clause-outcome
 returns-in_default-clause-outcome g c = λ tells h in_step. rw c.in_default.is (refused_by Whole h items.Line refusals.Line _ _ _ _ (refl, refl) in_step c.refuse.ensures.goes_on c.refuse.ensures.reply)
@@ -112,8 +112,8 @@ returns-in-Approx-clause-entered g c = λ tells h was. rw (c.in-Command.is, c.in
 pub returns-in-Rough-clause-entered : goal.returns-in-Rough-clause-entered
 returns-in-Rough-clause-entered g c = λ tells h was. rw (c.in-Command.is, c.in-Rough.is) (refused_by Alone h (items.Command (plain.Rough _ _ _)) refusals.Line _ _ _ _ (refl, refl) was c.refuse-in-Rough.ensures.goes_on c.refuse-in-Rough.ensures.reply)
 
-pub returns-in-Share-clause-entered : goal.returns-in-Share-clause-entered
-returns-in-Share-clause-entered g c = λ tells h was. rw (c.in-Command.is, c.in-Share.is) (refused_by Alone h (items.Command (plain.Share _ _)) refusals.Line _ _ _ _ (refl, refl) was c.refuse-in-Share.ensures.goes_on c.refuse-in-Share.ensures.reply)
+pub returns-clause-entered : goal.returns-clause-entered
+returns-clause-entered g c = λ tells h was. rw (c.in-Command.is, c.in-Share.is) (refused_by Alone h (items.Command (plain.Share _ _)) refusals.Line _ _ _ _ (refl, refl) was c.refuse-in-Share.ensures.goes_on c.refuse-in-Share.ensures.reply)
 
 pub returns-in_default-clause-entered : goal.returns-in_default-clause-entered
 returns-in_default-clause-entered g c = λ tells h was. rw c.in_default.is (refused_by Alone h items.Line refusals.Line _ _ _ _ (refl, refl) was c.refuse.ensures.goes_on c.refuse.ensures.reply)
