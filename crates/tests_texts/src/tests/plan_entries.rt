@@ -45,23 +45,22 @@ fn named(read: Result<Entry, CodecError>) -> Option<u64> {
     }
 }
 
-/// The plan of an entry.
-fn planned(entry: Entry) -> Option<PlanEntry> {
-    match entry {
-        Entry::Planned(plan) => Some(plan),
-        _ => None,
-    }
-}
-
-/// The plan that bytes spell, which they also spell when it is written.
-fn plan_of(rt: &impl Abort, alloc: Global, body: &[u8]) -> PlanEntry {
+/// The entry that bytes spell is spelled by these bytes.
+fn expect_spelled(rt: &impl Abort, alloc: Global, body: &[u8]) {
     let entry = decode(alloc, body).expect(rt, "an entry");
     let spelled = encode(alloc, &entry).expect(rt, "memory");
     assert_eq!(rt; spelled.as_slice(), body);
-    let plan = planned(entry).expect(rt, "a plan");
+}
+
+/// The plan that bytes spell, which they also spell when it is written; None where they spell another entry.
+fn plan_of(rt: &impl Abort, alloc: Global, body: &[u8]) -> Option<PlanEntry> {
+    expect_spelled(rt, alloc, body);
+    let Entry::Planned(plan) = decode(alloc, body).expect(rt, "an entry") else {
+        return None;
+    };
     let spelled = encode_plan(alloc, &plan).expect(rt, "memory");
     assert_eq!(rt; spelled.as_slice(), body);
-    plan
+    Some(plan)
 }
 
 /// The first page, the length and the last byte of the digest of each place of a plan.
@@ -89,7 +88,7 @@ fn a_plan_in_blocks_has_a_hundred_and_eighty_one_bytes(rt: HostRuntime) {
     let alloc = rt.alloc();
     let body = joined(&rt, alloc, &IN_BLOCKS);
     assert_eq!(rt; body.len(), 181);
-    let plan = plan_of(&rt, alloc, &body);
+    let plan = plan_of(&rt, alloc, &body).expect(&rt, "a plan");
     assert_eq!(rt; plan.word.as_str(), "v");
     assert!(rt; plan.layout == Layout::Blocks && matches!(plan.kind, Kind::Guarantee));
     assert_eq!(rt; (plan.fraction.over(), plan.fraction.under()), (1, 1));
@@ -106,7 +105,7 @@ fn a_plan_in_blocks_has_a_hundred_and_eighty_one_bytes(rt: HostRuntime) {
 #[test]
 fn a_plan_of_an_archive_with_flat_lists_is_read(rt: HostRuntime) {
     let body = joined(&rt, rt.alloc(), &WITH_FLAT_LISTS);
-    let plan = plan_of(&rt, rt.alloc(), &body);
+    let plan = plan_of(&rt, rt.alloc(), &body).expect(&rt, "a plan");
     assert!(rt; plan.layout == Layout::Flat);
     let places = places_of(&rt, rt.alloc(), &plan);
     assert_eq!(rt;
@@ -119,7 +118,7 @@ fn a_plan_of_an_archive_with_flat_lists_is_read(rt: HostRuntime) {
 fn a_plan_since_a_time_has_eight_bytes_more(rt: HostRuntime) {
     let body = joined(&rt, rt.alloc(), &FROM_A_TIME_ON);
     assert_eq!(rt; body.len(), 85);
-    let plan = plan_of(&rt, rt.alloc(), &body);
+    let plan = plan_of(&rt, rt.alloc(), &body).expect(&rt, "a plan");
     let since = match plan.kind {
         Kind::Since { at } => Some(at.seconds()),
         _ => None,

@@ -92,28 +92,28 @@ returns-in-Verify-clause-by_reads g c = λ tells h stands cached. rw (c.in-Comma
 })
 
 pub returns-in-Format-clause-entered : goal.returns-in-Format-clause-entered
-returns-in-Format-clause-entered g c = λ tells h was. rw (c.in-Command.is, c.in-Format.is) (refused_by Alone h (items.Command plain.Format) refusals.Line _ _ _ _ (refl, refl) was c.refuse-in-Format.ensures.goes_on c.refuse-in-Format.ensures.reply)
+returns-in-Format-clause-entered g c = λ tells h was. rw (c.in-Command.is, c.in-Format.is) (refused_by Alone h (items.Command plain.Format) refusals.Line _ _ _ _ (refl, tt) was c.refuse-in-Format.ensures.goes_on c.refuse-in-Format.ensures.reply)
 
 pub returns-in-Batch-clause-entered : goal.returns-in-Batch-clause-entered
-returns-in-Batch-clause-entered g c = λ tells h was. rw (c.in-Command.is, c.in-Batch.is) (refused_by Alone h (items.Command (plain.Batch _)) refusals.Line _ _ _ _ (refl, refl) was c.refuse-in-Batch.ensures.goes_on c.refuse-in-Batch.ensures.reply)
+returns-in-Batch-clause-entered g c = λ tells h was. rw (c.in-Command.is, c.in-Batch.is) (refused_by Alone h (items.Command (plain.Batch _)) refusals.Line _ _ _ _ (refl, tt) was c.refuse-in-Batch.ensures.goes_on c.refuse-in-Batch.ensures.reply)
 
 pub returns-in-Begin-clause-entered : goal.returns-in-Begin-clause-entered
-returns-in-Begin-clause-entered g c = λ tells h was. rw (c.in-Command.is, c.in-Begin.is) (refused_by Alone h (items.Command (plain.Begin _ _)) refusals.Line _ _ _ _ (refl, refl) was c.refuse-in-Begin.ensures.goes_on c.refuse-in-Begin.ensures.reply)
+returns-in-Begin-clause-entered g c = λ tells h was. rw (c.in-Command.is, c.in-Begin.is) (refused_by Alone h (items.Command (plain.Begin _ _)) refusals.Line _ _ _ _ (refl, tt) was c.refuse-in-Begin.ensures.goes_on c.refuse-in-Begin.ensures.reply)
 
 pub returns-in-Top-clause-entered : goal.returns-in-Top-clause-entered
-returns-in-Top-clause-entered g c = λ tells h was. rw (c.in-Command.is, c.in-Top.is) (refused_by Alone h (items.Command (plain.Top _ _ _)) refusals.Line _ _ _ _ (refl, refl) was c.refuse-in-Top.ensures.goes_on c.refuse-in-Top.ensures.reply)
+returns-in-Top-clause-entered g c = λ tells h was. rw (c.in-Command.is, c.in-Top.is) (refused_by Alone h (items.Command (plain.Top _ _ _)) refusals.Line _ _ _ _ (refl, tt) was c.refuse-in-Top.ensures.goes_on c.refuse-in-Top.ensures.reply)
 
 pub returns-in-Best-clause-entered : goal.returns-in-Best-clause-entered
-returns-in-Best-clause-entered g c = λ tells h was. rw (c.in-Command.is, c.in-Best.is) (refused_by Alone h (items.Command (plain.Best _ _ _)) refusals.Line _ _ _ _ (refl, refl) was c.refuse-in-Best.ensures.goes_on c.refuse-in-Best.ensures.reply)
+returns-in-Best-clause-entered g c = λ tells h was. rw (c.in-Command.is, c.in-Best.is) (refused_by Alone h (items.Command (plain.Best _ _ _)) refusals.Line _ _ _ _ (refl, tt) was c.refuse-in-Best.ensures.goes_on c.refuse-in-Best.ensures.reply)
 
 pub returns-in-Approx-clause-entered : goal.returns-in-Approx-clause-entered
-returns-in-Approx-clause-entered g c = λ tells h was. rw (c.in-Command.is, c.in-Approx.is) (refused_by Alone h (items.Command (plain.Approx _ _)) refusals.Line _ _ _ _ (refl, refl) was c.refuse-in-Approx.ensures.goes_on c.refuse-in-Approx.ensures.reply)
+returns-in-Approx-clause-entered g c = λ tells h was. rw (c.in-Command.is, c.in-Approx.is) (refused_by Alone h (items.Command (plain.Approx _ _)) refusals.Line _ _ _ _ (refl, tt) was c.refuse-in-Approx.ensures.goes_on c.refuse-in-Approx.ensures.reply)
 
 pub returns-in-Rough-clause-entered : goal.returns-in-Rough-clause-entered
-returns-in-Rough-clause-entered g c = λ tells h was. rw (c.in-Command.is, c.in-Rough.is) (refused_by Alone h (items.Command (plain.Rough _ _ _)) refusals.Line _ _ _ _ (refl, refl) was c.refuse-in-Rough.ensures.goes_on c.refuse-in-Rough.ensures.reply)
+returns-in-Rough-clause-entered g c = λ tells h was. rw (c.in-Command.is, c.in-Rough.is) (refused_by Alone h (items.Command (plain.Rough _ _ _)) refusals.Line _ _ _ _ (refl, tt) was c.refuse-in-Rough.ensures.goes_on c.refuse-in-Rough.ensures.reply)
 
 pub returns-clause-entered : goal.returns-clause-entered
-returns-clause-entered g c = λ tells h was. rw (c.in-Command.is, c.in-Share.is) (refused_by Alone h (items.Command (plain.Share _ _)) refusals.Line _ _ _ _ (refl, refl) was c.refuse-in-Share.ensures.goes_on c.refuse-in-Share.ensures.reply)
+returns-clause-entered g c = λ tells h was. rw (c.in-Command.is, c.in-Share.is) (refused_by Alone h (items.Command (plain.Share _ _)) refusals.Line _ _ _ _ (refl, tt) was c.refuse-in-Share.ensures.goes_on c.refuse-in-Share.ensures.reply)
 
 pub returns-in_default-clause-entered : goal.returns-in_default-clause-entered
 returns-in_default-clause-entered g c = λ tells h was. rw c.in_default.is (refused_by Alone h items.Line refusals.Line _ _ _ _ (refl, refl) was c.refuse.ensures.goes_on c.refuse.ensures.reply)
