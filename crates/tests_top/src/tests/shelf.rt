@@ -48,14 +48,11 @@ impl Word {
     ) -> Result<Word, AllocError> {
         let mut heads = Vec::new(alloc);
         let mut blocks = Vec::new(alloc);
-        let mut rest = list;
-        while !rest.is_empty() {
-            let (block, behind) = rest.split_at(size.max(1).min(rest.len()));
+        for block in list.chunks(size.max(1)) {
             if let Some(head) = head_for(block) {
                 heads.push(head)?;
                 blocks.push(block.to_vec(alloc)?)?;
             }
-            rest = behind;
         }
         Ok(Word {
             heads,
