@@ -16,6 +16,8 @@ use Rattle.gate_journal.specs.Spelled.{Spells, EachSpells}
 use Rattle.gate_journal.specs.InStep.{IsInStep}
 use Rattle.gate_journal.specs.Crash.{Appends, KeepsPages, KeepsBodies}
 use Rattle.gate_journal.proofs.InStepLemmas.{step_spells}
+use Rattle.machine_model.specs.declared.range.Range.{Range}
+use Rattle.page_store.specs.Crash.{ChangesOnly}
 use Rattle.record_codec.specs.Spelling.{spelling}
 use Rattle.record_codec.specs.declared.entry.Entry.{Entry}
 use Rattle.record_codec.specs.declared.entry.Entry.TheVariants.{Arrive, Delete, Planned}
@@ -44,8 +46,7 @@ use Rattle.archive_core.specs.declared.error.ChangeError.TheVariants as errors
 use Rattle.archive_replay.specs.declared.error.Declined.{Declined}
 use Rattle.archive_replay.specs.declared.preparing.Prepared.{Prepared}
 use Rattle.archive_replay.specs.declared.error.Declined.TheVariants as declines
-use Rattle.archive_core.specs.Changing.{LeadsOn, LeadsTo, KeepsHistory}
-use Rattle.archive_core.specs.Footings.{Footing, Alone, Whole, AreInStepOn, EachStandsOn, IsRecorded, StandsOn}
+use Rattle.archive_core.specs.Changing.{LeadsTo, KeepsHistory}
 use Rattle.archive_replay.proofs.PlaceLemmas.{placed_more}
 use Rattle.page_store.specs.Taken.{HasTaken}
 use Rattle.gate_journal.specs.Records.{front}
@@ -186,59 +187,18 @@ leads_entry r a b old new h e x body words in_step next prepared more appends pa
     }
     go (Err error) more step cached = tt
 
--- ---- on any footing
-
--- where an archive is in step with its disk, each image stands for the history
-pub on_stands : (f : Footing) (d : DiskState) (a : ArchiveState) (h : History) → AreInStepOn f d a h → EachStandsOn f d h
-on_stands Alone d a h recorded = step_spells d a.end (bodies_of h) recorded.journal
-on_stands Whole d a h in_step = in_step_stands d a h in_step
-
--- and where no call is made, each still does
-pub on_nowhere : (f : Footing) (d : DiskState) (a : ArchiveState) (h after : History) → AreInStepOn f d a h → LeadsOn f h after d d
-on_nowhere f d a h after in_step = record {
-  goes_on = goes_on_same d;
-  images = left_now d (λ image beside. (StandsOn f h image ⊎ StandsOn f after image) × (beside ≡ d.now.beside)) (λ image allowed. (inl (on_stands f d a h in_step image allowed), refl));
+-- the journal stays in step over writes to pages
+pub step_stays : (ranges : List Range) (old new : DiskState) (end : ℕ) (bodies : List (List ℕ)) → ChangesOnly ranges old new → IsInStep old end bodies → IsInStep new end bodies
+step_stays ranges old new end bodies changes step = record {
+  gate = step.gate;
+  shut = step.shut;
+  fit = step.fit;
+  end_is = step.end_is;
+  images = λ image allowed.
+      let was = changes.images image new.now.beside (allowed_left new (moment old) image allowed) in
+      let is = step.images was.0 was.1 in
+      (is.0, was.2 ∙ is.1);
 }
-
--- what an archive stands for that is in step
-pub on_history : (f : Footing) (d : DiskState) (a : ArchiveState) (h : History) → AreInStepOn f d a h → StandsFor a h
-on_history Alone d a h recorded = recorded.stands
-on_history Whole d a h in_step = in_step.stands
-
--- and what it keeps
-pub on_cache : (f : Footing) (d : DiskState) (a : ArchiveState) (h : History) → AreInStepOn f d a h → CacheStands d a
-on_cache Alone d a h recorded = recorded.cached
-on_cache Whole d a h in_step = in_step.cached
-
--- an archive that is in step by pages too is so by its journal
-pub recorded : (d : DiskState) (a : ArchiveState) (h : History) → AreInStep d a h → IsRecorded d a h
-recorded d a h in_step = record { stands = in_step.stands; journal = in_step.journal; cached = in_step.cached }
-
--- ---- by the journal alone
-
--- where the journal has an entry more, each image stands for the history or for that with the entry, whatever lies in Pages
-pub enters_more : (h : History) (e : Entry) (body : List ℕ) (old new : DiskState) → body ≡ spelling e → Appends (bodies_of h) body old new → LeadsOn Alone h (h ++ e ∷ []) old new
-enters_more h e body old new same appends = record {
-  goes_on = appends.goes_on;
-  images = λ image beside left.
-      let was = appends.images image beside left in (
-        elim was.0 [
-          | inl spelled ↦ inl spelled
-          | inr spelled ↦ inr (rw (← bodies_more h e body same) spelled)
-        ],
-        was.1,
-      );
-}
-
--- an entry that was added
-pub enters_entry : (r : Result ℕ ChangeError) (a b : ArchiveState) (old new : DiskState) (h : History) (e : Entry) (x : Change ℕ) (body : List ℕ) (words : Words)
-    → IsRecorded old a h → IsNext h e x body → IsPreparedFor a.index (document_of e) (text_of e) words → IfOk r (λ n. IsMore a b x body words × (n ≡ b.length)) → Appends (bodies_of h) body old new
-    → OnOk r (IsInStep new b.end (bodies_of h ++ body ∷ [])) → (IsOk r → CacheStands new b) → LeadsOn Alone h (h ++ e ∷ []) old new × OnOk r (IsRecorded new b (h ++ e ∷ []))
-enters_entry r a b old new h e x body words was next prepared more appends step cached = (enters_more h e body old new next.spelled appends, go r more step cached)
-  where
-    go : (r : Result ℕ ChangeError) → IfOk r (λ n. IsMore a b x body words × (n ≡ b.length)) → OnOk r (IsInStep new b.end (bodies_of h ++ body ∷ [])) → (IsOk r → CacheStands new b) → OnOk r (IsRecorded new b (h ++ e ∷ []))
-    go (Ok n) more step cached = record { stands = stands_more a b h e x body words was.stands next prepared more.0; journal = rw (← bodies_more h e body next.spelled) step; cached = cached refl }
-    go (Err error) more step cached = tt
 
 -- ---- a change, or a plan, that was given up
 
@@ -330,7 +290,7 @@ pub pages_long : (image : Bytes) (old after : DiskState) (reach : ℕ) → reach
 pages_long image old after reach is same long = is ∙ ap (λ (d : DiskState). d.reach.pages) same ∙ sym long
 
 -- a journal of at most 17 bytes spells the bodies of the empty history alone
-none_spelled : (h : History) (bytes : List ℕ) → length bytes ≤ 17 → Spells bytes (bodies_of h) → h ≡ []
+pub none_spelled : (h : History) (bytes : List ℕ) → length bytes ≤ 17 → Spells bytes (bodies_of h) → h ≡ []
 none_spelled [] bytes short spelled = refl
 none_spelled (e ∷ h) bytes short (inl new) = absurd (omega (arith, ap length new.1))
 none_spelled (e ∷ h) bytes short (inr long) = absurd (omega (arith, short, ap length long.whole, length-append (front (bodies_of (e ∷ h))) (long.gate ∷ long.rest), end_of_is (e ∷ h), end_of-least (e ∷ h)))
@@ -365,21 +325,6 @@ in_step_loaded a mid new old end bodies g h stands empty end_is same spelled ste
       held = λ image allowed. held_loaded h image old mid new stood one pages (ap (λ (d : DiskState). d.now) reads) allowed;
       cached = none_cached new a empty;
     }
-
--- and by the journal alone it is for the history that was found
-pub recorded_loaded : (a : ArchiveState) (mid new : DiskState) (old : Bytes) (end : ℕ) (bodies : List (List ℕ)) (h : History)
-    → StandsFor a h → a.shelf.cache ≡ [] → a.end ≡ end → bodies_of h ≡ bodies → Spells old.journal bodies → IsInStep mid end bodies → OnlyReads mid new → (found : History) × (IsRecorded new a found × Spells old.journal (bodies_of found))
-recorded_loaded a mid new old end bodies h stands empty end_is same spelled step reads = (
-  h,
-  (
-    record {
-      stands = stands;
-      journal = subst (λ (l : List (List ℕ)). IsInStep new a.end l) (sym same) (subst (λ (n : ℕ). IsInStep new n bodies) (sym end_is) (step_reads mid new end bodies step reads));
-      cached = none_cached new a empty;
-    },
-    subst (λ (l : List (List ℕ)). Spells old.journal l) (sym same) spelled,
-  ),
-)
 
 -- what the journal's error is where a load hands it on
 pub journal_exit : {T U : Type 0} (r : Result T JournalError) (s : Result U LoadError) (e : JournalError) (y : LoadError) (at : ℕ) → r ≡ Err e → s ≡ Err y → y ≡ load_error_of e

@@ -1,6 +1,8 @@
 -- How a query ends: at a text that is none, at sublists that were not had, or with an answer; and errors that are handed on.
 use Rattle.std.proofs.Common.{◌≡◌, ℕ, ◌+◌, List, Result, Ok, Err, IfOk, OnOk, IsErrAnd, refl, ap, subst, sym, ◌∙◌}
+use Rattle.machine_model.specs.Areas.{Both}
 use Rattle.machine_model.specs.Images.{MayLeave}
+use Rattle.page_cache.specs.Caches.{Kept, after_asking_all, missed_by_all}
 use Rattle.machine_model.specs.States.{DiskState}
 use Rattle.time_base.specs.declared.time.Time.{Time}
 use Rattle.time_base.specs.declared.time.Span.{Span}
@@ -17,7 +19,7 @@ use Rattle.query_eval.specs.declared.spans.SpanAnswer.{SpanAnswer}
 use Rattle.sublist_store.specs.declared.why.Damage.{Damage}
 use Rattle.sublist_store.specs.declared.why.FetchError.{FetchError}
 use Rattle.sublist_store.specs.declared.why.FetchError.TheVariants as fetches
-use Rattle.archive_state.specs.Chosen.{IsMadeAt, IsMadeOver}
+use Rattle.archive_state.specs.Chosen.{IsMadeAt, IsMadeOver, SpoilsAnswer, pieces_for}
 use Rattle.archive_state.specs.declared.refusal.Refusal.{Refusal}
 use Rattle.archive_state.specs.declared.refusal.Refusal.TheVariants as refusals
 use Rattle.archive_state.specs.Histories.{History}
@@ -29,14 +31,15 @@ use Rattle.archive_state.proofs.OutcomeLemmas.{each_finds, each_spans}
 use Rattle.archive_replay.specs.declared.error.Declined.{Declined}
 use Rattle.archive_replay.specs.declared.error.Declined.TheVariants as declines
 use Rattle.archive_core.specs.After.{AfterFetching, AfterQuestion, Fetches}
-use Rattle.archive_core.specs.Answering.{IsAnswerTo, IsNoQuery}
+use Rattle.archive_core.specs.Answering.{HasAsked, IsAnswerTo, IsNoQuery}
 use Rattle.archive_core.specs.Causes.{ask_error_of_query, asked_of}
-use Rattle.archive_core.specs.States.{ArchiveState, AreInStep}
-use Rattle.archive_core.specs.Takes.{Takes, answered, found, spanned}
+use Rattle.archive_core.specs.States.{ArchiveState, AreInStep, AreInStepBy, with_reads}
+use Rattle.archive_core.specs.Stored.{Store, Answers, MakesAt, MakesOver, Spoils, StoreStep, asking}
+use Rattle.archive_core.specs.Takes.{Takes, TakesBy, answered, found, spanned}
 use Rattle.archive_core.specs.declared.error.AskError.{AskError}
 use Rattle.archive_core.specs.declared.error.AskError.TheVariants as asks
 use Rattle.archive_core.proofs.CacheLemmas.{takes_but_cache}
-use Rattle.archive_core.proofs.TakeLemmas.{IsAnswered, takes_question}
+use Rattle.archive_core.proofs.TakeLemmas.{IsAnswered, IsAnsweredBy, no_reads, question_by, takes_question}
 
 -- where there is no answer, and nothing was asked for
 unanswered_after : {T : Type 0} (tells : Type 0) (phrase : List ℕ) (from to : ℕ) (IsMade : History → Query → T → Type 0) (error : AskError) (d : DiskState) (a : ArchiveState) → (error ≡ asks.Failed → ⊥)
@@ -143,6 +146,57 @@ takes_between h span phrase r d e x y told allowed in_step after =
     (λ (answer : SpanAnswer). Spanned answer.rows.items answer.read) r d e x y told (λ one is. (refl, is)) (each_spans h span phrase in_step.legal)
     (λ query answer made. (let stands = made_over h d.holds.pages span.from span.to query answer.rows.items answer.read in_step.stands.loadable held span.in_time made in (answer.rows.items, answer.read, stands.0, stands.1, refl)))
     held in_step after
+
+-- ---- by what reads give
+
+-- what was asked for a query, as the store that it leaves
+asked_of_query : (s : Store) (d e : DiskState) (x y : ArchiveState) (pieces : List Kept) → AreInStepBy d x s → HasAsked pieces x.shelf.cache y.shelf.cache d e → with_reads s y e ≡ asking s pieces
+asked_of_query s d e x y pieces in_step has =
+    let count : e.bytes_read.pages ≡ d.bytes_read.pages + missed_by_all pieces x.shelf.cache = ap (λ (b : Both ℕ). b.pages) has.count in
+    let read : e.bytes_read.pages ≡ s.read + missed_by_all pieces s.kept = rw (in_step.kept_are, in_step.read_is) at count in
+    let kept : y.shelf.cache ≡ after_asking_all pieces s.kept = rw in_step.kept_are at has.cache in
+    ap (λ (ks : List Kept). record s { kept = ks; read = e.bytes_read.pages }) kept ∙ ap (λ (n : ℕ). record s { kept = after_asking_all pieces s.kept; read = n }) read
+
+-- a query is a step, with the cache that it leaves, or what of it is damaged is told
+query_by : {T tells : Type 0} (Makes : List ℕ → Query → Reply → Type 0) (s : Store) (item : Item) (phrase : List ℕ) (from to : ℕ) (IsMade : History → Query → T → Type 0) (reply : T → Reply) (r : Result T AskError) (d e : DiskState) (x y : ArchiveState)
+    → tells → ((one : Reply) (next : Store) → Answers (Makes s.pages) s from to phrase one next → StoreStep s item one next) → ((damage : Damage) → SpoilsAnswer s.history s.pages from to phrase damage → Spoils s item damage)
+    → ((query : Query) (answer : T) → IsMade s.history query answer → Makes d.holds.pages query (reply answer)) → AreInStepBy d x s → AfterQuestion tells phrase from to IsMade r d e x y → TakesBy s item (answered reply r) d e y
+query_by {T} {tells} Makes s item phrase from to IsMade reply r d e x y told step spoils made in_step after =
+    question_by (λ one. Answers (Makes s.pages) s from to phrase one (with_reads s y e)) s item (answered reply r) d e x y (λ one is. step one (with_reads s y e) is) after.same after.but_cache (after.cached told in_step.cached) in_step (go r after)
+  where
+    go : (q : Result T AskError) → AfterQuestion tells phrase from to IsMade q d e x y → IsAnsweredBy (λ one. Answers (Makes s.pages) s from to phrase one (with_reads s y e)) (Spoils s item) (answered reply q)
+    go (Ok answer) after =
+        let (query, read, is, has) = after.made told s.history in_step.stands in_step.cached in
+        let pieces = λ (pages : List ℕ). pieces_for s.history pages from to (words_of query) in (
+          Ok query,
+          read,
+          subst (λ (pages : List ℕ). Makes pages query (reply answer)) in_step.pages_are (made query answer is),
+          subst (λ (pages : List ℕ). with_reads s y e ≡ asking s (pieces pages)) in_step.pages_are (asked_of_query s d e x y (pieces d.holds.pages) in_step has),
+        )
+    go (Err (asks.Refused why)) after =
+        let (place, read, is) = after.refused why refl in
+        let (same, kept) = after.unasked why refl in
+        (Err place, read, ap Refused is, ap (λ (v : DiskState). with_reads s y v) same ∙ ap (λ (z : ArchiveState). with_reads s z d) kept ∙ no_reads s d x in_step)
+    go (Err (asks.Damaged damage)) after =
+        spoils damage (subst (λ (pages : List ℕ). SpoilsAnswer s.history pages from to phrase damage) in_step.pages_are (after.damaged told s.history in_step.stands in_step.cached damage refl))
+    go (Err asks.Failed) after = tt
+    go (Err asks.Memory) after = tt
+
+pub find_by : {tells : Type 0} (s : Store) (at : Time) (phrase : List ℕ) (r : Result Answer AskError) (d e : DiskState) (x y : ArchiveState) → tells → AreInStepBy d x s
+    → AfterQuestion tells phrase at.seconds (at.seconds + 1) (λ h query answer. IsMadeAt h d.holds.pages at.seconds query answer.rows.items answer.read) r d e x y
+    → TakesBy s (items.Command (commands.Find at phrase)) (found r) d e y
+find_by s at phrase r d e x y told in_step after =
+    query_by (λ pages. MakesAt (record s { pages = pages }) at) s (items.Command (commands.Find at phrase)) phrase at.seconds (at.seconds + 1)
+    (λ h query answer. IsMadeAt h d.holds.pages at.seconds query answer.rows.items answer.read) (λ (answer : Answer). Found answer.rows.items answer.read) r d e x y told (λ one next is. is) (λ damage is. is)
+    (λ query answer made. (answer.rows.items, answer.read, made, refl)) in_step after
+
+pub between_by : {tells : Type 0} (s : Store) (span : Span) (phrase : List ℕ) (r : Result SpanAnswer AskError) (d e : DiskState) (x y : ArchiveState) → tells → AreInStepBy d x s
+    → AfterQuestion tells phrase span.from span.to (λ h query answer. IsMadeOver h d.holds.pages span.from span.to query answer.rows.items answer.read) r d e x y
+    → TakesBy s (items.Command (commands.Between span phrase)) (spanned r) d e y
+between_by s span phrase r d e x y told in_step after =
+    query_by (λ pages. MakesOver (record s { pages = pages }) span) s (items.Command (commands.Between span phrase)) phrase span.from span.to
+    (λ h query answer. IsMadeOver h d.holds.pages span.from span.to query answer.rows.items answer.read) (λ (answer : SpanAnswer). Spanned answer.rows.items answer.read) r d e x y told (λ one next is. is) (λ damage is. is)
+    (λ query answer made. (answer.rows.items, answer.read, made, refl)) in_step after
 
 -- ---- errors that are handed on
 

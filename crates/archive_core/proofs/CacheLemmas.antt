@@ -23,7 +23,6 @@ use Rattle.archive_state.specs.Chosen.{pieces_chosen, pieces_for}
 use Rattle.archive_state.specs.Stands.{bodies_of}
 use Rattle.archive_core.specs.Answering.{HasAsked}
 use Rattle.archive_core.specs.States.{ArchiveState, StandsFor, CacheStands, IsSameButCache, AreInStep, Reaches}
-use Rattle.archive_core.specs.Footings.{Whole}
 use Rattle.archive_core.specs.Takes.{Ending, Replied, Starved, Faulted, Spoiled, EndsBy, Takes}
 
 -- ---- the cache alone changes
@@ -64,7 +63,7 @@ pub takes_but_cache : (h : History) (item : Item) (ending : Ending) (old new : D
 takes_but_cache h item ending old new a b same cached takes =
     record { outcome = takes.outcome; step = takes.step; leads = takes.leads; ends = go ending takes.ends }
   where
-    go : (x : Ending) → EndsBy Whole h takes.outcome new a x → EndsBy Whole h takes.outcome new b x
+    go : (x : Ending) → EndsBy h takes.outcome new a x → EndsBy h takes.outcome new b x
     go (Replied reply) (is, in_step) = (is, in_step_but_cache new a b takes.outcome.next.history same cached in_step)
     go Starved ends = ends
     go Faulted ends = ends

@@ -2,7 +2,8 @@ mod TextLemmas
 pub mod AddLemmas
 mod AskedLemmas
 mod TakeLemmas
-pub mod FootingLemmas
+pub mod ByReadsLemmas
+pub mod StandingLemmas
 mod AnswerLemmas
 mod SpanLemmas
 mod PlanLemmas

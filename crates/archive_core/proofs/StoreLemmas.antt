@@ -12,6 +12,7 @@ use Rattle.time_base.specs.declared.posting.Posting.{Posting}
 use Rattle.time_base.specs.declared.time.Time.{Time}
 use Rattle.time_base.specs.declared.which.Which.TheVariants.{Journal}
 use Rattle.commands.specs.declared.command.Command.TheVariants as commands
+use Rattle.commands.specs.declared.command.Item.{Item}
 use Rattle.commands.specs.declared.command.Item.TheVariants as items
 use Rattle.commands.specs.declared.command.Kind.{Kind}
 use Rattle.commands.specs.declared.command.Kind.TheVariants.{Guarantee, Uniform, Since}
@@ -42,13 +43,13 @@ use Rattle.archive_state.proofs.RefusalLemmas.{when_true, when_false}
 use Rattle.archive_state.proofs.StoringLemmas.{plan_legal}
 use Rattle.archive_state.proofs.OutcomeLemmas.{loaded_plans}
 use Rattle.archive_core.specs.Adding.{HasSameShelf}
-use Rattle.archive_core.specs.Changing.{LeadsOn, LeadsTo, KeepsHistory}
-use Rattle.archive_core.specs.Footings.{Footing, Alone, Whole, AreInStepOn, IsRecorded, StepOn}
-use Rattle.archive_core.specs.States.{ArchiveState, StandsFor, CacheStands, AreInStep}
+use Rattle.archive_core.specs.Changing.{KeepsBy, LeadsTo, KeepsHistory}
+use Rattle.archive_core.specs.Stored.{Store}
+use Rattle.archive_core.specs.States.{ArchiveState, StandsFor, CacheStands, AreInStep, AreInStepBy, with_reads}
 use Rattle.plan_shelf.specs.Shelves.{ShelfState, extents_all}
 use Rattle.plan_shelf.specs.Readying.{HasPlaces, IsFull, IsReady, plan_with, tells_of, summary_of}
-use Rattle.archive_core.specs.Storing.{IsDraft, IsStorable, IsStoredAs}
-use Rattle.archive_core.specs.Takes.{TakesOn, planned}
+use Rattle.archive_core.specs.Storing.{IsDraft, IsStorable, IsStoredAs, IsStoredBy}
+use Rattle.archive_core.specs.Takes.{Comes, Takes, TakesBy, planned}
 use Rattle.archive_core.specs.declared.error.ChangeError.{ChangeError}
 use Rattle.archive_core.specs.declared.error.ChangeError.TheVariants as changes
 use Rattle.plan_shelf.specs.declared.readying.Draft.{Draft}
@@ -69,8 +70,9 @@ use Rattle.archive_state.specs.Holding.{HoldsPlans}
 use Rattle.archive_state.specs.Stands.{bodies_of, Stands, EachStands}
 use Rattle.archive_state.proofs.HoldLemmas.{held_stays, held_more, piece_extents}
 use Rattle.gate_journal.proofs.InStepLemmas.{step_at, step_spells}
-use Rattle.archive_core.proofs.AddLemmas.{inside_on, EachHolds, bodies_more, still_holds, step_stands, leads_more}
-use Rattle.archive_core.proofs.TakeLemmas.{takes_unmade}
+use Rattle.archive_core.proofs.AddLemmas.{inside_on, EachHolds, bodies_more, still_holds, step_stands, step_stays, leads_more}
+use Rattle.archive_core.proofs.ByReadsLemmas.{stocks_same}
+use Rattle.archive_core.proofs.TakeLemmas.{takes_unmade, unmade_by}
 use Rattle.archive_core.proofs.PlanLemmas.{goes_on, map_phrase}
 use Rattle.archive_core.proofs.LiveLemmas.{all_inside_with}
 
@@ -217,38 +219,58 @@ plans_refused h phrase kind factor why of =
     (λ because e. (refl, ap Refused e)) (λ word list none. absurd none) of
 
 -- a plan was written, or a part of it: what it is, and what each image left stands for
-pub record IsWritten (f : Footing) (h : History) (phrase : List ℕ) (kind : Kind) (factor : Fraction) (r : Result PlanReport ChangeError) (old new : DiskState) (b : ArchiveState) : Type 0 where
+pub record IsWritten (h : History) (phrase : List ℕ) (kind : Kind) (factor : Fraction) (r : Result PlanReport ChangeError) (old new : DiskState) (b : ArchiveState) : Type 0 where
   pub told : Summary
   pub next : History
   pub plans : Plans h phrase kind factor (steps.Planned told) next
-  pub leads : LeadsOn f h next old new
-  pub in_step : IfOk r (λ report. (summary_of report ≡ told) × AreInStepOn f new b next)
+  pub leads : LeadsTo h next old new
+  pub in_step : IfOk r (λ report. (summary_of report ≡ told) × AreInStep new b next)
 
--- a plan is a step on each footing
-plan_step : (f : Footing) (h next : History) (phrase : List ℕ) (kind : Kind) (factor : Fraction) (reply : Reply) → Plans h phrase kind factor reply next → StepOn f (world_of h) (items.Command (commands.Plan phrase kind factor)) reply (world_of next)
-plan_step Alone h next phrase kind factor reply plans = plans
-plan_step Whole h next phrase kind factor reply plans = plans
-
--- an archive that goes on standing for a history is in step with the journal as it was
-pub still_recorded : (d : DiskState) (a b : ArchiveState) (h : History) → IsRecorded d a h → StandsFor b h → CacheStands d b → IsRecorded d b h
-still_recorded d a b h was stands cached = record { stands = stands; journal = step_at (stands.end_is ∙ sym was.stands.end_is) was.journal; cached = cached }
-
--- and with the pages, where those that it keeps are as reads give them
+-- an archive that goes on standing for a history is in step with the disk as it was, where the pages that it keeps are as reads give them
 pub still_in_step : (d : DiskState) (a b : ArchiveState) (h : History) → AreInStep d a h → StandsFor b h → CacheStands d b → AreInStep d b h
 still_in_step d a b h was stands cached = record { stands = stands; journal = step_at (stands.end_is ∙ sym was.stands.end_is) was.journal; legal = was.legal; held = was.held; cached = cached }
 
-pub takes_plan : (f : Footing) (h : History) (phrase : List ℕ) (kind : Kind) (factor : Fraction) (r : Result PlanReport ChangeError) (old new : DiskState) (a b : ArchiveState) → AreInStepOn f old a h → IsLoadable h
-    → ((why : Refusal) → r ≡ Err (changes.Refused why) → (new ≡ old) × Plans h phrase kind factor (Refused why) h × AreInStepOn f old b h) → (r ≡ Err changes.Memory → new ≡ old)
-    → (IsOk r ⊎ (r ≡ Err changes.Failed) → IsWritten f h phrase kind factor r old new b) → TakesOn f h (items.Command (commands.Plan phrase kind factor)) (planned r) old new b
-takes_plan f h phrase kind factor (Ok report) old new a b in_step loads refused memory written =
+pub takes_plan : (h : History) (phrase : List ℕ) (kind : Kind) (factor : Fraction) (r : Result PlanReport ChangeError) (old new : DiskState) (a b : ArchiveState) → AreInStep old a h → IsLoadable h
+    → ((why : Refusal) → r ≡ Err (changes.Refused why) → (new ≡ old) × Plans h phrase kind factor (Refused why) h × AreInStep old b h) → (r ≡ Err changes.Memory → new ≡ old)
+    → (IsOk r ⊎ (r ≡ Err changes.Failed) → IsWritten h phrase kind factor r old new b) → Takes h (items.Command (commands.Plan phrase kind factor)) (planned r) old new b
+takes_plan h phrase kind factor (Ok report) old new a b in_step loads refused memory written =
     let is = written (inl refl) in
-    record { outcome = record { reply = steps.Planned is.told; next = world_of is.next }; step = plan_step f h is.next phrase kind factor (steps.Planned is.told) is.plans; leads = is.leads; ends = (ap steps.Planned (sym is.in_step.0), is.in_step.1) }
-takes_plan f h phrase kind factor (Err error) old new a b in_step loads refused memory written =
+    record { outcome = record { reply = steps.Planned is.told; next = world_of is.next }; step = is.plans; leads = is.leads; ends = (ap steps.Planned (sym is.in_step.0), is.in_step.1) }
+takes_plan h phrase kind factor (Err error) old new a b in_step loads refused memory written =
     let (any, plans) = loaded_plans h phrase kind factor loads in
-    takes_unmade f h (items.Command (commands.Plan phrase kind factor)) error old new a b in_step
-    (λ why is. let (same, declines, still) = refused why (ap Err is) in (same, plan_step f h h phrase kind factor (Refused why) declines, still))
-    (λ is. let w = written (inr (ap Err is)) in (steps.Planned w.told, (w.next, (plan_step f h w.next phrase kind factor (steps.Planned w.told) w.plans, w.leads))))
-    (λ is. memory (ap Err is)) (any.reply, (any.next, plan_step f h any.next phrase kind factor any.reply plans))
+    takes_unmade h (items.Command (commands.Plan phrase kind factor)) error old new a b in_step
+    (λ why is. let (same, declines, still) = refused why (ap Err is) in (same, declines, still))
+    (λ is. let w = written (inr (ap Err is)) in (steps.Planned w.told, (w.next, (w.plans, w.leads))))
+    (λ is. memory (ap Err is)) (any.reply, (any.next, plans))
+
+-- the same by what reads give
+pub plan_by : (s : Store) (phrase : List ℕ) (kind : Kind) (factor : Fraction) (draft : Draft) (r : Result PlanReport ChangeError) (old new : DiskState) (a b : ArchiveState) → AreInStepBy old a s
+    → spelled_key (one_term phrase) ≡ Some draft.word → IsKnown s.history draft.word → draft.kind ≡ kind → draft.factor ≡ factor → IsDraft s.history draft
+    → ((why : Refusal) → r ≡ Err (changes.Refused why) → (new ≡ old) × Plans s.history phrase kind factor (Refused why) s.history × AreInStepBy old b (with_reads s b old)) → (r ≡ Err changes.Memory → new ≡ old)
+    → IfOk r (λ report. (next : Store) × (IsStoredBy s next draft old new × (summary_of report ≡ tells_of draft (length s.history + 1)) × AreInStepBy new b next))
+    → (r ≡ Err changes.Failed → KeepsBy s old new ⊎ ((next : Store) × IsStoredBy s next draft old new)) → TakesBy s (items.Command (commands.Plan phrase kind factor)) (planned r) old new b
+plan_by s phrase kind factor draft r old new a b in_step term known kind_is same is refused memory puts stops = go r refused memory puts stops
+  where
+    item : Item
+    item = items.Command (commands.Plan phrase kind factor)
+
+    comes : (next : Store) (told : Summary) → told ≡ tells_of draft (length s.history + 1) → IsStoredBy s next draft old new → Comes s item (steps.Planned told) next old new
+    comes next told told_is stored =
+        let P : History → Type 0 = λ n. Plans s.history phrase kind factor (steps.Planned told) n in
+        let plans = subst P (sym stored.next_is) (rw told_is (plans_stored s.history phrase kind factor draft stored.plan term known kind_is same is stored.stored)) in
+        record { step = (plans, stored.stocks); leads = stored.leads; still = λ none. absurd none }
+
+    go : (r : Result PlanReport ChangeError) → ((why : Refusal) → r ≡ Err (changes.Refused why) → (new ≡ old) × Plans s.history phrase kind factor (Refused why) s.history × AreInStepBy old b (with_reads s b old)) → (r ≡ Err changes.Memory → new ≡ old)
+        → IfOk r (λ report. (next : Store) × (IsStoredBy s next draft old new × (summary_of report ≡ tells_of draft (length s.history + 1)) × AreInStepBy new b next))
+        → (r ≡ Err changes.Failed → KeepsBy s old new ⊎ ((next : Store) × IsStoredBy s next draft old new)) → TakesBy s item (planned r) old new b
+    go (Ok report) refused memory (next, (stored, told, there)) stops = (next, comes next (summary_of report) told stored, there)
+    go (Err error) refused memory puts stops =
+        unmade_by s item error old new a b in_step (λ why is. let (still, declines, there) = refused why (ap Err is) in (still, (declines, stocks_same s b old in_step.live), there))
+        (λ is. elim (stops (ap Err is)) [
+          | inl keeps ↦ inl keeps
+          | inr stored ↦ inr (steps.Planned (tells_of draft (length s.history + 1)), stored.0, comes stored.0 (tells_of draft (length s.history + 1)) refl stored.1)
+        ])
+        (λ is. memory (ap Err is))
 
 -- ---- what each image left stands for
 
@@ -268,19 +290,6 @@ writes_keep h plan prepared frame old new ready each changes = record {
         },
         was.4,
       );
-}
-
--- the journal stays in step over writes to pages
-pub step_stays : (ranges : List Range) (old new : DiskState) (end : ℕ) (bodies : List (List ℕ)) → ChangesOnly ranges old new → IsInStep old end bodies → IsInStep new end bodies
-step_stays ranges old new end bodies changes step = record {
-  gate = step.gate;
-  shut = step.shut;
-  fit = step.fit;
-  end_is = step.end_is;
-  images = λ image allowed.
-      let was = changes.images image new.now.beside (allowed_left new (moment old) image allowed) in
-      let is = step.images was.0 was.1 in
-      (is.0, was.2 ∙ is.1);
 }
 
 -- where the sublists are stored, the pages hold what the live plans need, and the new one is among them
@@ -323,26 +332,3 @@ stored_in_step h plan prepared frame end old mid new ready legal held allowed st
   rw (← bodies_more h (Planned plan) frame ready.framed) step,
   still_holds (h ++ Planned plan ∷ []) mid new (stored_holds h plan prepared frame old mid ready legal (held old.holds allowed) stored) pages,
 )
-
--- ---- by the journal alone
-
--- writes to pages leave the journal of each image
-pub writes_enter : (ranges : List Range) (end : ℕ) (bodies : List (List ℕ)) (body : List ℕ) (old mid : DiskState) → IsInStep old end bodies → ChangesOnly ranges old mid → Appends bodies body old mid
-writes_enter ranges end bodies body old mid step changes = record {
-  goes_on = changes.goes_on;
-  images = λ image beside left.
-      let was = changes.images image beside left in
-      (inl (subst (λ (l : List ℕ). Spells l bodies) (sym was.2) (step_spells old end bodies step was.0 was.1)), was.4);
-}
-
--- and then a record is appended
-pub stored_enters : (ranges : List Range) (end : ℕ) (bodies : List (List ℕ)) (body : List ℕ) (old mid new : DiskState) → IsInStep old end bodies → ChangesOnly ranges old mid → mid.now.beside ≡ old.now.beside
-    → (IsInStep mid end bodies → Appends bodies body mid new) → Appends bodies body old new
-stored_enters ranges end bodies body old mid new step changes same appends =
-    let first = writes_enter ranges end bodies body old mid step changes in
-    let then = appends (step_stays ranges old mid end bodies changes step) in
-    record {
-      goes_on = goes_on_joins first.goes_on then.goes_on;
-      images = joined (λ image beside. (Spells image.journal bodies ⊎ Spells image.journal (bodies ++ body ∷ [])) × (beside ≡ old.now.beside)) first.goes_on first.images then.goes_on
-          (λ image beside left. let was = then.images image beside left in (was.0, was.1 ∙ same));
-    }

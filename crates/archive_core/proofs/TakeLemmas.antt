@@ -1,5 +1,5 @@
 -- A call that carries out an item is a step of the abstract machine.
-use Rattle.std.proofs.Common.{◌≡◌, ℕ, List, [], ◌∷◌, ◌++◌, length, Option, Result, Ok, Err, OnOk, IfOk, refl, inl, inr, ap, subst, sym, arith, length-append, append-nil}
+use Rattle.std.proofs.Common.{◌≡◌, ◌⊎◌, ℕ, List, [], ◌∷◌, ◌++◌, length, Option, Result, Ok, Err, OnOk, IfOk, refl, inl, inr, ap, subst, sym, ◌∙◌, arith, length-append, append-nil}
 use Rattle.std.specs.Option.{option_map}
 use Rattle.machine_model.specs.Areas.{Bytes}
 use Rattle.machine_model.specs.Images.{MayLeave}
@@ -17,6 +17,7 @@ use Rattle.archive_state.specs.declared.refusal.Refusal.{Refusal}
 use Rattle.archive_state.specs.Histories.{History, text_at}
 use Rattle.archive_state.specs.Steps as machine
 use Rattle.archive_state.specs.Steps.{Reply, Accepted, Refused, Proposed, Version, Step, Verified, sound_of}
+use Rattle.archive_state.specs.Plans.{IsChange}
 use Rattle.archive_state.specs.Stands.{bodies_of}
 use Rattle.archive_state.specs.Worlds.{world_of}
 use Rattle.archive_state.proofs.OutcomeLemmas.{adds_outcome}
@@ -26,41 +27,45 @@ use Rattle.archive_check.proofs.SoundLemmas.{stands_sound}
 use Rattle.archive_check.specs.declared.error.VerifyError.{VerifyError}
 use Rattle.archive_check.specs.declared.error.VerifyError.TheVariants as checks
 use Rattle.archive_core.specs.After.{IsDone}
-use Rattle.archive_core.specs.States.{ArchiveState, StandsFor, AreInStep}
+use Rattle.archive_core.specs.States.{ArchiveState, AreInStep, AreInStepBy, CacheStands, IsSameButCache, StandsFor, with_entry, with_reads}
 use Rattle.archive_core.specs.Adding.{Adds}
-use Rattle.archive_core.specs.Changing.{LeadsOn, LeadsTo}
-use Rattle.archive_core.specs.Footings.{Footing, AreInStepOn, StepOn}
-use Rattle.archive_core.specs.Takes.{Ending, Replied, Starved, Faulted, Spoiled, Takes, TakesOn, changed, proposed, unchanged, version_shown, verified}
+use Rattle.archive_core.specs.Changing.{KeepsBy, LeadsBy, LeadsTo}
+use Rattle.archive_core.specs.Stored.{Store, ReadsOn, Spoils, StoreStep, Stocks, TellsVerdict}
+use Rattle.archive_core.specs.Takes.{Ending, Replied, Starved, Faulted, Spoiled, Comes, Takes, TakesBy, changed, proposed, unchanged, version_shown, verified}
 use Rattle.archive_core.specs.declared.error.ChangeError.{ChangeError}
 use Rattle.archive_core.specs.declared.error.ChangeError.TheVariants as changes
 use Rattle.archive_replay.specs.declared.error.ReadError.{ReadError}
 use Rattle.archive_replay.specs.declared.error.ReadError.TheVariants as reads
 use Rattle.archive_replay.specs.declared.error.Declined.{Declined}
 use Rattle.archive_replay.specs.declared.error.Declined.TheVariants as declines
-use Rattle.archive_core.proofs.AddLemmas.{in_step_stands, leads_nowhere, on_nowhere, on_stands, step_reads}
+use Rattle.archive_core.proofs.AddLemmas.{in_step_stands, leads_nowhere, step_reads}
+use Rattle.archive_core.proofs.ByReadsLemmas.{keeps_leads, keeps_nowhere, keeps_reads, reads_by, still_by, stocks_change, stocks_same}
+use Rattle.page_cache.specs.Caches.{Kept}
 use Rattle.archive_core.proofs.CacheLemmas.{cache_reads}
+use Rattle.gate_journal.proofs.InStepLemmas.{step_spells}
+use Rattle.sublist_store.specs.declared.why.Damage.{Damage}
 
 -- a change that was not made: it is refused, or it failed and each image stands for the history before an outcome or after it, or there was no memory
-pub takes_unmade : (f : Footing) (h : History) (item : Item) (error : ChangeError) (old new : DiskState) (a b : ArchiveState) → AreInStepOn f old a h
-    → ((why : Refusal) → error ≡ changes.Refused why → (new ≡ old) × StepOn f (world_of h) item (Refused why) (world_of h) × AreInStepOn f old b h)
-    → (error ≡ changes.Failed → (reply : Reply) × ((next : History) × (StepOn f (world_of h) item reply (world_of next) × LeadsOn f h next old new)))
-    → (error ≡ changes.Memory → new ≡ old) → (reply : Reply) × ((next : History) × StepOn f (world_of h) item reply (world_of next)) → TakesOn f h item (unchanged error) old new b
-takes_unmade f h item (changes.Refused why) old new a b in_step refused failed memory any =
+pub takes_unmade : (h : History) (item : Item) (error : ChangeError) (old new : DiskState) (a b : ArchiveState) → AreInStep old a h
+    → ((why : Refusal) → error ≡ changes.Refused why → (new ≡ old) × Step (world_of h) item (Refused why) (world_of h) × AreInStep old b h)
+    → (error ≡ changes.Failed → (reply : Reply) × ((next : History) × (Step (world_of h) item reply (world_of next) × LeadsTo h next old new)))
+    → (error ≡ changes.Memory → new ≡ old) → (reply : Reply) × ((next : History) × Step (world_of h) item reply (world_of next)) → Takes h item (unchanged error) old new b
+takes_unmade h item (changes.Refused why) old new a b in_step refused failed memory any =
     let (still, step, same) = refused why refl in
-    record { outcome = record { reply = Refused why; next = world_of h }; step = step; leads = rw still (on_nowhere f old a h h in_step); ends = (refl, rw still same) }
-takes_unmade f h item changes.Failed old new a b in_step refused failed memory any =
+    record { outcome = record { reply = Refused why; next = world_of h }; step = step; leads = rw still (leads_nowhere old a h h in_step); ends = (refl, rw still same) }
+takes_unmade h item changes.Failed old new a b in_step refused failed memory any =
     let (reply, (next, (step, leads))) = failed refl in
     record { outcome = record { reply = reply; next = world_of next }; step = step; leads = leads; ends = tt }
-takes_unmade f h item changes.Memory old new a b in_step refused failed memory (reply, (next, step)) =
+takes_unmade h item changes.Memory old new a b in_step refused failed memory (reply, (next, step)) =
     let still = memory refl in
-    record { outcome = record { reply = reply; next = world_of next }; step = step; leads = rw still (on_nowhere f old a h next in_step); ends = rw still (on_stands f old a h in_step) }
+    record { outcome = record { reply = reply; next = world_of next }; step = step; leads = rw still (leads_nowhere old a h next in_step); ends = rw still (in_step_stands old a h in_step) }
 
 -- an item that adds an entry, or is refused
-pub takes_entry : (f : Footing) (h : History) (item : Item) (e : Entry) (refusal : Option Refusal) (r : Result ℕ ChangeError) (old new : DiskState) (a b : ArchiveState)
-    → ((reply : Reply) (next : History) → machine.Adds h e refusal reply next → StepOn f (world_of h) item reply (world_of next))
-    → AreInStepOn f old a h → Adds h e refusal r b → ((why : Refusal) → r ≡ Err (changes.Refused why) → (b ≡ a) × (new ≡ old)) → (r ≡ Err changes.Memory → new ≡ old)
-    → LeadsOn f h (h ++ e ∷ []) old new × OnOk r (AreInStepOn f new b (h ++ e ∷ [])) → TakesOn f h item (changed r) old new b
-takes_entry f h item e refusal (Ok n) old new a b step in_step adds same memory (leads, there) =
+pub takes_entry : (h : History) (item : Item) (e : Entry) (refusal : Option Refusal) (r : Result ℕ ChangeError) (old new : DiskState) (a b : ArchiveState)
+    → ((reply : Reply) (next : History) → machine.Adds h e refusal reply next → Step (world_of h) item reply (world_of next))
+    → AreInStep old a h → Adds h e refusal r b → ((why : Refusal) → r ≡ Err (changes.Refused why) → (b ≡ a) × (new ≡ old)) → (r ≡ Err changes.Memory → new ≡ old)
+    → LeadsTo h (h ++ e ∷ []) old new × OnOk r (AreInStep new b (h ++ e ∷ [])) → Takes h item (changed r) old new b
+takes_entry h item e refusal (Ok n) old new a b step in_step adds same memory (leads, there) =
     let next = h ++ e ∷ [] in
     let added = subst (λ (o : Option Refusal). machine.Adds h e o (Accepted (length next)) next) (sym (adds.allowed (inl refl))) (refl, refl) in
     record {
@@ -69,10 +74,10 @@ takes_entry f h item e refusal (Ok n) old new a b step in_step adds same memory 
       leads = leads;
       ends = (ap Accepted (omega (arith, adds.stands.1, length-append h (e ∷ []))), there);
     }
-takes_entry f h item e refusal (Err error) old new a b step in_step adds same memory (leads, there) =
+takes_entry h item e refusal (Err error) old new a b step in_step adds same memory (leads, there) =
     let next = h ++ e ∷ [] in
     let outcome = adds_outcome h e refusal in
-    takes_unmade f h item error old new a b in_step
+    takes_unmade h item error old new a b in_step
     (λ why is.
     let (was, still) = same why (ap Err is) in
     let refused = subst (λ (o : Option Refusal). machine.Adds h e o (Refused why) h) (sym (adds.refused why (ap Err is))) (refl, refl) in
@@ -146,6 +151,108 @@ takes_verify h r old new a allowed checked same in_step =
   where
     go : (r : Result Verdict VerifyError) → IfOk r (IsChecked h old.holds) → IsAnswered (λ reply. reply ≡ Verified (sound_of h)) (verified r)
     go (Ok verdict) checked = ap Verified (stands_sound h old.holds verdict (in_step_stands old a h in_step old.holds allowed) checked)
+    go (Err checks.Failed) checked = tt
+    go (Err checks.Memory) checked = tt
+
+-- ---- by what reads give
+
+-- a change that was not made: it is refused, or it failed and an outcome may have come of it, or there was no memory
+pub unmade_by : (s : Store) (item : Item) (error : ChangeError) (old new : DiskState) (a b : ArchiveState) → AreInStepBy old a s
+    → ((why : Refusal) → error ≡ changes.Refused why → (new ≡ old) × StoreStep s item (Refused why) (with_reads s b old) × AreInStepBy old b (with_reads s b old))
+    → (error ≡ changes.Failed → KeepsBy s old new ⊎ ((reply : Reply) × (next : Store) × Comes s item reply next old new)) → (error ≡ changes.Memory → new ≡ old) → TakesBy s item (unchanged error) old new b
+unmade_by s item (changes.Refused why) old new a b in_step refused failed memory =
+    let (still, step, same) = refused why refl in
+    let next = with_reads s b old in
+    (next, record { step = step; leads = rw still (keeps_leads s next old old (keeps_nowhere old a s in_step)); still = λ none. (refl, refl) }, rw still same)
+unmade_by s item changes.Failed old new a b in_step refused failed memory = failed refl
+unmade_by s item changes.Memory old new a b in_step refused failed memory = rw (memory refl) (keeps_nowhere old a s in_step)
+
+-- an item that adds an entry, or is refused
+pub entry_by : (s : Store) (item : Item) (e : Entry) (refusal : Option Refusal) (r : Result ℕ ChangeError) (old new : DiskState) (a b : ArchiveState) → IsChange e
+    → ((reply : Reply) (next : Store) → machine.Adds s.history e refusal reply next.history → Stocks s next → StoreStep s item reply next)
+    → AreInStepBy old a s → Adds s.history e refusal r b → ((why : Refusal) → r ≡ Err (changes.Refused why) → (b ≡ a) × (new ≡ old)) → (r ≡ Err changes.Memory → new ≡ old)
+    → LeadsBy s (with_entry s e s.pages b new) old new × OnOk r (AreInStepBy new b (with_entry s e s.pages b new)) → TakesBy s item (changed r) old new b
+entry_by s item e refusal (Ok n) old new a b change step in_step adds same memory (leads, there) =
+    let next = with_entry s e s.pages b new in
+    let long : n ≡ length next.history = omega (arith, adds.stands.1, length-append s.history (e ∷ [])) in
+    let added = subst (λ (o : Option Refusal). machine.Adds s.history e o (Accepted n) next.history) (sym (adds.allowed (inl refl))) (refl, ap Accepted long) in
+    (next, record { step = step (Accepted n) next added (stocks_change s e b new change in_step.live); leads = leads; still = λ none. absurd none }, there)
+entry_by s item e refusal (Err error) old new a b change step in_step adds same memory (leads, there) =
+    let next = with_entry s e s.pages b new in
+    unmade_by s item error old new a b in_step
+    (λ why is.
+    let (was, still) = same why (ap Err is) in
+    let refused = subst (λ (o : Option Refusal). machine.Adds s.history e o (Refused why) s.history) (sym (adds.refused why (ap Err is))) (refl, refl) in
+    (still, step (Refused why) (with_reads s b old) refused (stocks_same s b old in_step.live), still_by old a b s in_step (rw was in_step.stands) (rw was in_step.cached)))
+    (λ is.
+    let added = subst (λ (o : Option Refusal). machine.Adds s.history e o (Accepted (length next.history)) next.history) (sym (adds.allowed (inr (ap Err is)))) (refl, refl) in
+    inr (Accepted (length next.history), next, record { step = step (Accepted (length next.history)) next added (stocks_change s e b new change in_step.live); leads = leads; still = λ none. absurd none }))
+    (λ is. memory (ap Err is))
+
+-- what a question is answered, if it is; or what of it is damaged
+abbrev pub IsAnsweredBy : (Reply → Type 0) → (Damage → Type 0) → Ending → Type 0
+IsAnsweredBy Q Spoiling (Replied reply) = Q reply
+IsAnsweredBy Q Spoiling Starved = Unit {0}
+IsAnsweredBy Q Spoiling Faulted = Unit {0}
+IsAnsweredBy Q Spoiling (Spoiled damage) = Spoiling damage
+
+-- a question, which leaves the history and Pages as they are
+pub question_by : (Q : Reply → Type 0) (s : Store) (item : Item) (ending : Ending) (old new : DiskState) (a b : ArchiveState) → ((reply : Reply) → Q reply → StoreStep s item reply (with_reads s b new)) → OnlyReads old new → IsSameButCache a b
+    → CacheStands new b → AreInStepBy old a s → IsAnsweredBy Q (Spoils s item) ending → TakesBy s item ending old new b
+question_by Q s item (Replied reply) old new a b step same but cached in_step is =
+    let next = with_reads s b new in
+    (next, record { step = step reply is; leads = keeps_leads s next old new (keeps_reads old new a s in_step same); still = λ none. (refl, refl) }, reads_by s old new a b in_step same but cached)
+question_by Q s item Starved old new a b step same but cached in_step is = keeps_reads old new a s in_step same
+question_by Q s item Faulted old new a b step same but cached in_step is = inl (keeps_reads old new a s in_step same)
+question_by Q s item (Spoiled damage) old new a b step same but cached in_step is = (keeps_reads old new a s in_step same, is)
+
+-- an archive that keeps what it kept, on a disk that read on
+reads_on : (s : Store) (old new : DiskState) (a : ArchiveState) → AreInStepBy old a s → ReadsOn s (with_reads s a new)
+reads_on s old new a in_step = ap (λ (ks : List Kept). record s { kept = ks; read = new.bytes_read.pages }) in_step.kept_are
+
+-- and on one that didn't
+pub no_reads : (s : Store) (d : DiskState) (a : ArchiveState) → AreInStepBy d a s → with_reads s a d ≡ s
+no_reads s d a in_step = ap (λ (ks : List Kept). record s { kept = ks; read = d.bytes_read.pages }) in_step.kept_are ∙ ap (λ (n : ℕ). record s { read = n }) in_step.read_is
+
+-- a question that needs no disk
+pub proposal_by : (Q : Reply → Type 0) (s : Store) (item : Item) (r : Result Proposal Declined) (d : DiskState) (a : ArchiveState) → ((reply : Reply) (next : Store) → next ≡ s → Q reply → StoreStep s item reply next) → AreInStepBy d a s
+    → ((why : Refusal) → r ≡ Err (declines.Refused why) → Q (Refused why)) → IfOk r (λ p. Q (Proposed p.segments.items p.nodes.items p.space)) → TakesBy s item (proposed r) d d a
+proposal_by Q s item r d a step in_step refused told = go r refused told
+  where
+    by : (reply : Reply) → Q reply → StoreStep s item reply (with_reads s a d)
+    by reply is = step reply (with_reads s a d) (no_reads s d a in_step) is
+
+    go : (r : Result Proposal Declined) → ((why : Refusal) → r ≡ Err (declines.Refused why) → Q (Refused why)) → IfOk r (λ p. Q (Proposed p.segments.items p.nodes.items p.space)) → TakesBy s item (proposed r) d d a
+    go (Ok p) refused told = question_by Q s item (proposed (Ok p)) d d a a by refl refl in_step.cached in_step told
+    go (Err (declines.Refused why)) refused told = question_by Q s item (Replied (Refused why)) d d a a by refl refl in_step.cached in_step (refused why refl)
+    go (Err declines.Memory) refused told = question_by Q s item Starved d d a a by refl refl in_step.cached in_step tt
+
+-- a version that was asked for
+pub show_by : {T : Type 0} (bytes : T → List ℕ) (s : Store) (doc : DocId) (at : Time) (r : Result (Option T) ReadError) (old new : DiskState) (a : ArchiveState)
+    → IfOk r (λ text. option_map bytes text ≡ text_at s.history doc at.seconds) → OnlyReads old new → AreInStepBy old a s → TakesBy s (items.Command (commands.Show doc at)) (version_shown bytes r) old new a
+show_by {T} bytes s doc at r old new a is same in_step =
+    question_by (λ reply. reply ≡ Version (text_at s.history doc at.seconds)) s (items.Command (commands.Show doc at)) (version_shown bytes r) old new a a (λ reply shown. (reads_on s old new a in_step, shown)) same refl (cache_reads old new a same in_step.cached) in_step (go r is)
+  where
+    go : (r : Result (Option T) ReadError) → IfOk r (λ text. option_map bytes text ≡ text_at s.history doc at.seconds)
+        → IsAnsweredBy (λ reply. reply ≡ Version (text_at s.history doc at.seconds)) (Spoils s (items.Command (commands.Show doc at))) (version_shown bytes r)
+    go (Ok text) is = ap Version is
+    go (Err reads.Failed) is = tt
+    go (Err reads.Memory) is = tt
+
+-- a check
+pub verify_by : (s : Store) (r : Result Verdict VerifyError) (old new : DiskState) (a : ArchiveState) → MayLeave old.now old.holds → IfOk r (IsChecked s.history old.holds) → OnlyReads old new → AreInStepBy old a s
+    → TakesBy s (items.Command commands.Verify) (verified r) old new a
+verify_by s r old new a allowed checked same in_step =
+    question_by (TellsVerdict s) s (items.Command commands.Verify) (verified r) old new a a (λ reply is. (reads_on s old new a in_step, is)) same refl (cache_reads old new a same in_step.cached) in_step (go r checked)
+  where
+    go : (r : Result Verdict VerifyError) → IfOk r (IsChecked s.history old.holds) → IsAnsweredBy (TellsVerdict s) (Spoils s (items.Command commands.Verify)) (verified r)
+    go (Ok verdict) checked = (
+      old.holds.journal,
+      verdict,
+      step_spells old a.end (bodies_of s.history) in_step.journal old.holds allowed,
+      subst (λ (pages : List ℕ). IsChecked s.history (record { journal = old.holds.journal; pages = pages }) verdict) in_step.pages_are checked,
+      refl,
+    )
     go (Err checks.Failed) checked = tt
     go (Err checks.Memory) checked = tt
 

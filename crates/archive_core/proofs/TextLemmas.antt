@@ -16,18 +16,19 @@ use Rattle.record_codec.specs.declared.entry.Entry.{Entry}
 use Rattle.record_codec.specs.declared.entry.Entry.TheVariants.{Arrive, Delete, Planned}
 use Rattle.archive_state.specs.Histories.{History, text_at}
 use Rattle.archive_state.specs.Stands.{bodies_of}
-use Rattle.archive_core.specs.States.{ArchiveState, StandsFor, AreInStep}
+use Rattle.gate_journal.specs.InStep.{IsInStep}
+use Rattle.archive_core.specs.States.{ArchiveState, StandsFor}
 use Rattle.archive_replay.specs.Places.{pair_of, placed_by, places}
 use Rattle.archive_replay.specs.Texts.{text_in, LiesIn}
 use Rattle.archive_replay.proofs.PlaceLemmas.{texts_are}
 use Rattle.gate_journal.proofs.InStepLemmas.{step_spells}
 
 -- the text of a document that is alive at a time, by its place
-pub text_is : (d : DiskState) (a : ArchiveState) (h : History) (doc : DocId) (t : ℕ) → MayLeave d.now d.holds → AreInStep d a h
+pub text_is : (d : DiskState) (a : ArchiveState) (h : History) (doc : DocId) (t : ℕ) → MayLeave d.now d.holds → StandsFor a h → IsInStep d a.end (bodies_of h)
     → option_map (text_in d.holds.journal) (held_at doc t a.changes) ≡ text_at h doc t
-text_is d a h doc t allowed in_step =
+text_is d a h doc t allowed stands step =
     sym (held_at-mapped (text_in d.holds.journal) doc t a.changes)
-    ∙ ap (held_at doc t) (texts_are d.holds.journal h a.changes (step_spells d a.end (bodies_of h) in_step.journal d.holds allowed) in_step.stands.changes_are)
+    ∙ ap (held_at doc t) (texts_are d.holds.journal h a.changes (step_spells d a.end (bodies_of h) step d.holds allowed) stands.changes_are)
 
 -- each place lies in front of the end
 abbrev LiesBy : ℕ → Option (ℕ × ℕ) → Type 0

@@ -1,6 +1,6 @@
 pub mod Sealing
+pub mod Stored
 pub mod States
-pub mod Footings
 pub mod Changing
 pub mod Adding
 pub mod Causes

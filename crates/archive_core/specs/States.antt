@@ -1,5 +1,5 @@
 -- What an archive in hand is, and when it and its disk stand for a history.
-use Rattle.std.specs.Prelude.{◌≡◌, ℕ, ◌≤◌, Bool, List, length, All}
+use Rattle.std.specs.Prelude.{◌≡◌, ℕ, ◌≤◌, Bool, List, [], ◌∷◌, ◌++◌, length, All}
 use Rattle.machine_model.specs.Areas.{Both, Bytes}
 use Rattle.machine_model.specs.Images.{MayLeave}
 use Rattle.machine_model.specs.States.{DiskState}
@@ -7,16 +7,18 @@ use Rattle.gate_journal.specs.InStep.{IsInStep}
 use Rattle.time_base.specs.declared.text_place.TextPlace.{TextPlace}
 use Rattle.version_store.specs.declared.change.Change.{Change}
 use Rattle.page_cache.specs.Caches.{StandsFor as IsCacheOf}
-use Rattle.page_store.specs.Live.{IsInside}
+use Rattle.page_store.specs.Live.{AreLive, IsInside}
 use Rattle.page_store.specs.Taken.{HasTaken}
 use Rattle.archive_state.specs.Histories.{History, changes, end_of}
 use Rattle.archive_state.specs.Legal.{IsLegal, IsLoadable}
 use Rattle.archive_state.specs.Plans.{live_plans, live_extents}
 use Rattle.archive_state.specs.Holding.{HoldsPlans}
+use Rattle.record_codec.specs.declared.entry.Entry.{Entry}
 use Rattle.version_index.specs.Indexes.{IndexState, Indexes}
 use Rattle.archive_replay.specs.Places.{ArePlaced}
 use Rattle.plan_shelf.specs.Shelves.{ShelfState, extents_all}
 use Rattle.archive_state.specs.Stands.{bodies_of}
+use Rattle.archive_core.specs.Stored.{Store, HasSame}
 
 -- an archive in hand: where its journal ends, whether it may be changed, how many entries it has, the changes of documents with
 -- the places of the texts, the index of the texts, and the live plans with the free pages and the pages that are kept
@@ -58,3 +60,22 @@ pub record AreInStep (d : DiskState) (archive : ArchiveState) (history : History
   pub legal : IsLegal history
   pub held : (image : Bytes) → MayLeave d.now image → HoldsPlans history image.pages
   pub cached : CacheStands d archive
+
+-- the same by what reads give, whatever lies in Pages: all images have the history's journal, and in each live place the bytes that reads give
+pub record AreInStepBy (d : DiskState) (archive : ArchiveState) (store : Store) : Type 0 where
+  pub stands : StandsFor archive store.history
+  pub journal : IsInStep d archive.end (bodies_of store.history)
+  pub pages_are : d.holds.pages ≡ store.pages
+  pub kept_are : archive.shelf.cache ≡ store.kept
+  pub read_is : d.bytes_read.pages ≡ store.read
+  pub live : AreLive (live_extents store.history) (length store.pages)
+  pub same : (image : Bytes) → MayLeave d.now image → All (HasSame store.pages image.pages) (live_extents store.history)
+  pub cached : CacheStands d archive
+
+-- what is stored with an entry more, in these pages, by the archive and its disk then
+abbrev pub with_entry : Store → Entry → List ℕ → ArchiveState → DiskState → Store
+with_entry store entry pages archive d = record { history = store.history ++ entry ∷ []; pages = pages; kept = archive.shelf.cache; read = d.bytes_read.pages }
+
+-- the same history in the same pages
+abbrev pub with_reads : Store → ArchiveState → DiskState → Store
+with_reads store archive d = record store { kept = archive.shelf.cache; read = d.bytes_read.pages }

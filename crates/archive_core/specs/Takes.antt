@@ -1,5 +1,5 @@
 -- What a call of the archive does for an item of the input: a step of the abstract machine, and what it leaves.
-use Rattle.std.specs.Prelude.{◌≡◌, ℕ, List, Option, Result, Ok, Err}
+use Rattle.std.specs.Prelude.{◌≡◌, ◌⊎◌, ℕ, List, Option, Result, Ok, Err}
 use Rattle.std.specs.Option.{option_map}
 use Rattle.machine_model.specs.States.{DiskState}
 use Rattle.commands.specs.declared.command.Item.{Item}
@@ -9,12 +9,13 @@ use Rattle.query_eval.specs.declared.answer.Answer.{Answer}
 use Rattle.query_eval.specs.declared.spans.SpanAnswer.{SpanAnswer}
 use Rattle.archive_state.specs.Histories.{History}
 use Rattle.archive_state.specs.declared.verdict.Verdict.{Verdict}
-use Rattle.archive_state.specs.Steps.{Reply, Accepted, Refused, Found, Spanned, Version, Proposed, Planned, Verified}
+use Rattle.archive_state.specs.Steps.{Reply, Accepted, Refused, Found, Spanned, Version, Proposed, Planned, Step, Verified}
 use Rattle.archive_state.specs.Runs.{Outcome}
 use Rattle.archive_state.specs.Worlds.{World, world_of}
-use Rattle.archive_core.specs.States.{ArchiveState}
-use Rattle.archive_core.specs.Footings.{Footing, Whole, AreInStepOn, EachStandsOn, SpoiledOn, StepOn}
-use Rattle.archive_core.specs.Changing.{LeadsOn}
+use Rattle.archive_state.specs.Stands.{EachStands}
+use Rattle.archive_core.specs.States.{ArchiveState, AreInStep, AreInStepBy}
+use Rattle.archive_core.specs.Stored.{Store, IsSameStore, Spoils, StoreStep, TellsNoEntry}
+use Rattle.archive_core.specs.Changing.{KeepsBy, LeadsBy, LeadsTo}
 use Rattle.plan_shelf.specs.declared.readying.PlanReport.{PlanReport}
 use Rattle.plan_shelf.specs.Readying.{summary_of}
 use Rattle.archive_core.specs.declared.error.ChangeError.{ChangeError}
@@ -84,19 +85,33 @@ verified (Err checks.Memory) = Starved
 
 -- Where a reply was given it is that of the outcome, and the archive stands for the history after the outcome; where memory ran out, each image
 -- stands for the history before it.
-abbrev pub EndsBy : Footing → History → Outcome Reply World → DiskState → ArchiveState → Ending → Type 0
-EndsBy footing before outcome new archive_now (Replied reply) = (outcome.reply ≡ reply) × AreInStepOn footing new archive_now outcome.next.history
-EndsBy footing before outcome new archive_now Starved = EachStandsOn footing new before
-EndsBy footing before outcome new archive_now Faulted = Unit {0}
-EndsBy footing before outcome new archive_now (Spoiled damage) = SpoiledOn footing new before
+abbrev pub EndsBy : History → Outcome Reply World → DiskState → ArchiveState → Ending → Type 0
+EndsBy before outcome new archive_now (Replied reply) = (outcome.reply ≡ reply) × AreInStep new archive_now outcome.next.history
+EndsBy before outcome new archive_now Starved = EachStands new before
+EndsBy before outcome new archive_now Faulted = Unit {0}
+EndsBy before outcome new archive_now (Spoiled damage) = ⊥
 
 -- The item has an outcome of the abstract machine from this history. Each image left since the start of the call stands for the history before
 -- the outcome or after it.
-pub record TakesOn (footing : Footing) (history : History) (item : Item) (ending : Ending) (old new : DiskState) (archive_now : ArchiveState) : Type 0 where
+pub record Takes (history : History) (item : Item) (ending : Ending) (old new : DiskState) (archive_now : ArchiveState) : Type 0 where
   pub outcome : Outcome Reply World
-  pub step : StepOn footing (world_of history) item outcome.reply outcome.next
-  pub leads : LeadsOn footing history outcome.next.history old new
-  pub ends : EndsBy footing history outcome new archive_now ending
+  pub step : Step (world_of history) item outcome.reply outcome.next
+  pub leads : LeadsTo history outcome.next.history old new
+  pub ends : EndsBy history outcome new archive_now ending
 
-abbrev pub Takes : History → Item → Ending → DiskState → DiskState → ArchiveState → Type 0
-Takes = TakesOn Whole
+-- ---- by what reads give
+
+-- The item has this outcome. Each image left since the start of the call stands for what was before it or after it.
+pub record Comes (store : Store) (item : Item) (reply : Reply) (next : Store) (old new : DiskState) : Type 0 where
+  pub step : StoreStep store item reply next
+  pub leads : LeadsBy store next old new
+  -- a reply that tells of no entry leaves the history and Pages as they are
+  pub still : TellsNoEntry reply → IsSameStore store next
+
+-- What a call does for an item. Where it replies, that is an outcome, and the archive is in step with what came of it. Where memory ran out, or a
+-- sublist is damaged (the first of what is read for the item), all is as it was. Where the disk failed, it is so, or there is an outcome.
+abbrev pub TakesBy : Store → Item → Ending → DiskState → DiskState → ArchiveState → Type 0
+TakesBy store item (Replied reply) old new archive_now = (next : Store) × Comes store item reply next old new × AreInStepBy new archive_now next
+TakesBy store item Starved old new archive_now = KeepsBy store old new
+TakesBy store item Faulted old new archive_now = KeepsBy store old new ⊎ ((reply : Reply) × (next : Store) × Comes store item reply next old new)
+TakesBy store item (Spoiled damage) old new archive_now = KeepsBy store old new × Spoils store item damage

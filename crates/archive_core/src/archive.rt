@@ -12,13 +12,13 @@ ghost use Rattle.archive_state.specs.Histories.{History};
 ghost use Rattle.archive_state.specs.Steps.{Planned, Plans, Refused, arrival_refusal, deletion_refusal};
 ghost use Rattle.archive_state.specs.Plans.{live_extents};
 ghost use Rattle.record_codec.specs.declared.plan.PlanEntry.{PlanEntry};
-ghost use Rattle.archive_core.specs.Storing.{IsDraft, IsStoredAs};
+ghost use Rattle.archive_core.specs.Storing.{IsDraft, IsStoredAs, IsStoredBy};
 ghost use Rattle.plan_shelf.specs.Readying.{IsFull, tells_of};
 ghost use Rattle.archive_core.specs.Answering.{HasAsked};
-ghost use Rattle.archive_core.specs.States.{StandsFor, CacheStands, IsSameButCache, AreInStep, Reaches};
-ghost use Rattle.archive_core.specs.Changing.{LeadsOn, LeadsTo};
-ghost use Rattle.archive_core.specs.Footings.{Alone, IsRecorded};
-ghost use Rattle.archive_core.specs.Takes.{Takes, TakesOn, changed, planned};
+ghost use Rattle.archive_core.specs.States.{StandsFor, CacheStands, IsSameButCache, AreInStep, AreInStepBy, Reaches, with_entry};
+ghost use Rattle.archive_core.specs.Changing.{KeepsBy, LeadsBy, LeadsTo};
+ghost use Rattle.archive_core.specs.Stored.{Store};
+ghost use Rattle.archive_core.specs.Takes.{Takes, TakesBy, changed, planned};
 ghost use Rattle.plan_shelf.specs.Readying.{summary_of};
 ghost use Rattle.record_codec.specs.declared.entry.Entry.{Entry};
 ghost use Rattle.archive_core.specs.Adding.{Adds, GivesUp, IsMore, IsSpent};
@@ -194,8 +194,8 @@ impl Archive {
         ensures follows { (h : History) → StandsFor self.old h → IsDone result → (more : History) × StandsFor self.new (h ++ more) }
         // In step, it is a step of the abstract machine; each image left since stands for the history before it or after it.
         ensures takes { D.disk_tells → (h : History) → AreInStep (D.disk disk.old) self.old h → Takes h (items.Command (commands.Arrive doc at (texts.Bytes text.now))) (changed result) (D.disk disk.old) (D.disk disk.new) self.new }
-        // And so it is by the journal alone, whatever lies in Pages.
-        ensures enters { D.disk_tells → (h : History) → IsRecorded (D.disk disk.old) self.old h → TakesOn Alone h (items.Command (commands.Arrive doc at (texts.Bytes text.now))) (changed result) (D.disk disk.old) (D.disk disk.new) self.new }
+        // And by what reads give it is a step too, whatever lies in Pages.
+        ensures by_reads { D.disk_tells → (s : Store) → AreInStepBy (D.disk disk.old) self.old s → TakesBy s (items.Command (commands.Arrive doc at (texts.Bytes text.now))) (changed result) (D.disk disk.old) (D.disk disk.new) self.new }
         ensures pages { D.disk_tells → KeepsPages (D.disk disk.old) (D.disk disk.new) }
     {
         let prepared = self.arrival(alloc, doc, at, text);
@@ -230,8 +230,8 @@ impl Archive {
         ensures follows { (h : History) → StandsFor self.old h → IsDone result → (more : History) × StandsFor self.new (h ++ more) }
         // In step, it is a step of the abstract machine; each image left since stands for the history before it or after it.
         ensures takes { D.disk_tells → (h : History) → AreInStep (D.disk disk.old) self.old h → Takes h (items.Command (commands.Delete doc at)) (changed result) (D.disk disk.old) (D.disk disk.new) self.new }
-        // And so it is by the journal alone, whatever lies in Pages.
-        ensures enters { D.disk_tells → (h : History) → IsRecorded (D.disk disk.old) self.old h → TakesOn Alone h (items.Command (commands.Delete doc at)) (changed result) (D.disk disk.old) (D.disk disk.new) self.new }
+        // And by what reads give it is a step too, whatever lies in Pages.
+        ensures by_reads { D.disk_tells → (s : Store) → AreInStepBy (D.disk disk.old) self.old s → TakesBy s (items.Command (commands.Delete doc at)) (changed result) (D.disk disk.old) (D.disk disk.new) self.new }
         ensures pages { D.disk_tells → KeepsPages (D.disk disk.old) (D.disk disk.new) }
     {
         let prepared = self.deletion(alloc, doc, at);
@@ -270,8 +270,8 @@ impl Archive {
         ensures follows { (h : History) → StandsFor self.old h → IsDone result → (more : History) × StandsFor self.new (h ++ more) }
         // In step, it is a step of the abstract machine; each image left since stands for the history before it or after it.
         ensures takes { D.disk_tells → (h : History) → AreInStep (D.disk disk.old) self.old h → Takes h (items.Command (commands.Plan word.now kind factor)) (planned result) (D.disk disk.old) (D.disk disk.new) self.new }
-        // And so it is by the journal alone, whatever lies in Pages.
-        ensures enters { D.disk_tells → (h : History) → IsRecorded (D.disk disk.old) self.old h → TakesOn Alone h (items.Command (commands.Plan word.now kind factor)) (planned result) (D.disk disk.old) (D.disk disk.new) self.new }
+        // And by what reads give it is a step too, whatever lies in Pages.
+        ensures by_reads { D.disk_tells → (s : Store) → AreInStepBy (D.disk disk.old) self.old s → TakesBy s (items.Command (commands.Plan word.now kind factor)) (planned result) (D.disk disk.old) (D.disk disk.new) self.new }
     {
         match self.draft(alloc, word, kind, factor) {
             Ok(draft) => self.store(alloc, disk, draft),
@@ -302,9 +302,11 @@ impl Archive {
         ensures leads { D.disk_tells → (h : History) → AreInStep (D.disk disk.old) self.old h → IsOk result ⊎ IsErrOf result ChangeError.Failed →
             (plan : PlanEntry) × (IsStoredAs h draft plan × LeadsTo h (h ++ entries.Planned plan ∷ []) (D.disk disk.old) (D.disk disk.new)
             × IfOk result (λ r. (summary_of r ≡ tells_of draft (length h + 1)) × AreInStep (D.disk disk.new) self.new (h ++ entries.Planned plan ∷ []))) }
-        ensures enters { D.disk_tells → (h : History) → IsRecorded (D.disk disk.old) self.old h → IsOk result ⊎ IsErrOf result ChangeError.Failed →
-            (plan : PlanEntry) × (IsStoredAs h draft plan × LeadsOn Alone h (h ++ entries.Planned plan ∷ []) (D.disk disk.old) (D.disk disk.new)
-            × IfOk result (λ r. (summary_of r ≡ tells_of draft (length h + 1)) × IsRecorded (D.disk disk.new) self.new (h ++ entries.Planned plan ∷ []))) }
+        // By what reads give, whatever lies in Pages: at Ok the draft's plan comes behind the history; where the disk failed, all is as it was, or it does.
+        ensures puts { D.disk_tells → (s : Store) → AreInStepBy (D.disk disk.old) self.old s →
+            IfOk result (λ r. (next : Store) × (IsStoredBy s next draft (D.disk disk.old) (D.disk disk.new) × (summary_of r ≡ tells_of draft (length s.history + 1)) × AreInStepBy (D.disk disk.new) self.new next)) }
+        ensures stops { D.disk_tells → (s : Store) → AreInStepBy (D.disk disk.old) self.old s → IsErrOf result ChangeError.Failed →
+            KeepsBy s (D.disk disk.old) (D.disk disk.new) ⊎ ((next : Store) × IsStoredBy s next draft (D.disk disk.old) (D.disk disk.new)) }
         ensures stays { (h : History) → StandsFor self.old h → ((why : Refusal) × IsErrOf result (ChangeError.Refused why)) ⊎ IsErrOf result ChangeError.Memory → StandsFor self.new h }
     {
         let ready = match make_ready(
@@ -371,8 +373,9 @@ impl Archive {
         ensures adds { (h : History) (entry : Entry) (refusal : Option Refusal) → StandsFor self.old h → IsPrepared h self.old.index entry refusal prepared → Adds h entry refusal result self.new }
         ensures leads { D.disk_tells → (h : History) (entry : Entry) (refusal : Option Refusal) → AreInStep (D.disk disk.old) self.old h → IsPrepared h self.old.index entry refusal prepared →
             LeadsTo h (h ++ entry ∷ []) (D.disk disk.old) (D.disk disk.new) × OnOk result (AreInStep (D.disk disk.new) self.new (h ++ entry ∷ [])) }
-        ensures enters { D.disk_tells → (h : History) (entry : Entry) (refusal : Option Refusal) → IsRecorded (D.disk disk.old) self.old h → IsPrepared h self.old.index entry refusal prepared →
-            LeadsOn Alone h (h ++ entry ∷ []) (D.disk disk.old) (D.disk disk.new) × OnOk result (IsRecorded (D.disk disk.new) self.new (h ++ entry ∷ [])) }
+        ensures by_reads { D.disk_tells → (s : Store) (entry : Entry) (refusal : Option Refusal) → AreInStepBy (D.disk disk.old) self.old s → IsPrepared s.history self.old.index entry refusal prepared →
+            LeadsBy s (with_entry s entry s.pages self.new (D.disk disk.new)) (D.disk disk.old) (D.disk disk.new)
+            × OnOk result (AreInStepBy (D.disk disk.new) self.new (with_entry s entry s.pages self.new (D.disk disk.new))) }
         ensures pages { D.disk_tells → KeepsPages (D.disk disk.old) (D.disk disk.new) }
     {
         match prepared {
@@ -422,6 +425,7 @@ impl Archive {
         ensures crash { D.disk_tells → (bodies : List (List ℕ)) → IsInStep (D.disk disk.old) self.old.end bodies → Appends bodies prepared.body.items (D.disk disk.old) (D.disk disk.new) }
         ensures in_step { D.disk_tells → (bodies : List (List ℕ)) → IsInStep (D.disk disk.old) self.old.end bodies → OnOk result (IsInStep (D.disk disk.new) self.new.end (bodies ++ prepared.body.items ∷ [])) }
         ensures pages { D.disk_tells → KeepsPages (D.disk disk.old) (D.disk disk.new) }
+        ensures pages_hold { D.disk_tells → OnOk result ((D.disk disk.new).holds.pages ≡ (D.disk disk.old).holds.pages) }
     {
         let Prepared {
             change,

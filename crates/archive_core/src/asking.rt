@@ -10,8 +10,9 @@ ghost use Rattle.archive_state.specs.Histories.{History, text_at};
 ghost use Rattle.archive_state.specs.Plans.{is_another};
 ghost use Rattle.archive_state.specs.Chosen.{AreChosen, IsMadeAt};
 ghost use Rattle.archive_core.specs.After.{AfterFetching, AfterQuestion, Fetches};
-ghost use Rattle.archive_core.specs.States.{StandsFor, AreInStep, Reaches};
-ghost use Rattle.archive_core.specs.Takes.{Takes, found, version_shown};
+ghost use Rattle.archive_core.specs.States.{StandsFor, AreInStep, AreInStepBy, Reaches};
+ghost use Rattle.archive_core.specs.Stored.{Store};
+ghost use Rattle.archive_core.specs.Takes.{Takes, TakesBy, found, version_shown};
 ghost use Rattle.commands.specs.declared.command.Command.TheVariants as commands;
 ghost use Rattle.commands.specs.declared.command.Item.TheVariants as items;
 
@@ -52,6 +53,9 @@ impl Archive {
         // In step, it is a step of the abstract machine.
         ensures takes { D.disk_tells → (h : History) → AreInStep (D.disk disk.old) self.old h →
             Takes h (items.Command (commands.Find at expr.now)) (found result) (D.disk disk.old) (D.disk disk.new) self.new }
+        // And by what reads give it is a step too, whatever lies in Pages.
+        ensures by_reads { D.disk_tells → (s : Store) → AreInStepBy (D.disk disk.old) self.old s →
+            TakesBy s (items.Command (commands.Find at expr.now)) (found result) (D.disk disk.old) (D.disk disk.new) self.new }
     {
         match Query::read(alloc, expr.as_str()) {
             Ok(query) => asked(self.answer_of(alloc, disk, &query, at)),
@@ -138,6 +142,9 @@ impl Archive {
         // In step, it is a step of the abstract machine.
         ensures takes { D.disk_tells → (h : History) → AreInStep (D.disk disk.old) self.now h →
             Takes h (items.Command (commands.Show doc at)) (version_shown (λ v. v.items) result) (D.disk disk.old) (D.disk disk.new) self.now }
+        // And by what reads give it is a step too, whatever lies in Pages.
+        ensures by_reads { D.disk_tells → (s : Store) → AreInStepBy (D.disk disk.old) self.now s →
+            TakesBy s (items.Command (commands.Show doc at)) (version_shown (λ v. v.items) result) (D.disk disk.old) (D.disk disk.new) self.now }
     {
         let Some(place) = self.directory().place(doc, at) else {
             return Ok(None);

@@ -8,9 +8,9 @@ ghost use Rattle.gate_journal.specs.Spelled.{EachSpells, Spells};
 ghost use Rattle.gate_journal.specs.Crash.{KeepsBodies, KeepsPages};
 ghost use Rattle.archive_state.specs.Histories.{History};
 ghost use Rattle.archive_state.specs.Stands.{Stands, EachStands, IsNotArchive, bodies_of};
-ghost use Rattle.archive_core.specs.States.{StandsFor, AreInStep, Reaches};
+ghost use Rattle.archive_core.specs.States.{StandsFor, AreInStep, AreInStepBy, Reaches};
 ghost use Rattle.archive_core.specs.Changing.{KeepsHistory};
-ghost use Rattle.archive_core.specs.Footings.{IsRecorded};
+ghost use Rattle.archive_core.specs.Stored.{Store};
 
 use crate::archive::Archive;
 use archive_replay::{LoadError, Replayed, replay};
@@ -42,8 +42,8 @@ impl Archive {
         // What it answers of the bytes that reads gave at the start; where they stand for a history, it is the one loaded.
         ensures not_archive { D.disk_tells → (at : ℕ) → IsErrOf result (LoadError.NotArchive at) → IsNotArchive (D.disk disk.old).holds at }
         ensures found { D.disk_tells → IfOk result (λ a. (h : History) × (StandsFor a h × Spells (D.disk disk.old).holds.journal (bodies_of h))) }
-        // And the disk is in step with its journal then, whatever lies in Pages.
-        ensures recorded { D.disk_tells → IfOk result (λ a. (h : History) × (IsRecorded (D.disk disk.new) a h × Spells (D.disk disk.old).holds.journal (bodies_of h))) }
+        // And the disk is in step with it then, by what reads give, whatever lies in Pages.
+        ensures by_reads { D.disk_tells → IfOk result (λ a. (s : Store) × (AreInStepBy (D.disk disk.new) a s × Spells (D.disk disk.old).holds.journal (bodies_of s.history) × (s.pages ≡ (D.disk disk.old).holds.pages))) }
         ensures in_step { D.disk_tells → (h : History) → Stands h (D.disk disk.old).holds → IfOk result (λ a. AreInStep (D.disk disk.new) a h) }
         ensures exact { D.disk_tells → OnOk result ((at : ℕ) → IsNotArchive (D.disk disk.old).holds at → ⊥) }
         // Where each image stands for one history, each image left since stands for it.

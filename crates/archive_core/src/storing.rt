@@ -7,14 +7,13 @@ ghost use Rattle.std.specs.Prelude.{Some};
 ghost use Rattle.time_base.specs.declared.extent.Extent.{Extent as PlainExtent};
 ghost use Rattle.record_codec.specs.declared.place.Place.{Place as PlainPlace};
 ghost use Rattle.record_codec.specs.declared.plan.PlanEntry.{PlanEntry as PlainPlan};
-ghost use Rattle.gate_journal.specs.Crash.{Appends};
 ghost use Rattle.gate_journal.specs.InStep.{IsInStep};
 ghost use Rattle.page_cache.specs.Caches.{StandsFor as IsCacheOf};
 ghost use Rattle.page_store.specs.Live.{IsInside};
 ghost use Rattle.page_store.specs.Runs.{IsTaken};
 ghost use Rattle.page_store.specs.Taken.{HasTaken};
 ghost use Rattle.stored_plans.specs.Plans.{IsCostOf, IsGoodPlan, plan_space};
-ghost use Rattle.sublist_store.specs.Preparing.{extents};
+ghost use Rattle.sublist_store.specs.Preparing.{extents, pieces};
 ghost use Rattle.fold_tokens.specs.Terms.{one_term as term_of};
 ghost use Rattle.archive_state.specs.Histories.{History};
 ghost use Rattle.archive_state.specs.Legal.{IsLegal};
@@ -27,7 +26,7 @@ ghost use Rattle.record_codec.specs.declared.entry.Entry.TheVariants as entries;
 ghost use Rattle.archive_core.specs.States.{StandsFor};
 ghost use Rattle.plan_shelf.specs.Shelves.{extents_all};
 ghost use Rattle.archive_core.specs.Changing.{LeadsTo};
-ghost use Rattle.archive_core.specs.Storing.{IsDraft, IsStorable};
+ghost use Rattle.archive_core.specs.Storing.{HasPutDown, HasStopped, IsDraft, IsStorable};
 
 use crate::archive::Archive;
 use crate::planning::Sealed;
@@ -132,7 +131,9 @@ pub(crate) fn write_ready<D: Disk>(
     ensures in_step { D.disk_tells → (h : History) → IsInStep (D.disk disk.old) journal.old.end (bodies_of h) → ((image : Bytes) → MayLeave (D.disk disk.old).now image → HoldsPlans h image.pages) → IsLegal h →
         IsStorable h ready.stored.plan ready.prepared ready.frame → OnOk result (IsInStep (D.disk disk.new) journal.new.end (bodies_of (h ++ entries.Planned ready.stored.plan ∷ []))
         × ((image : Bytes) → MayLeave (D.disk disk.new).now image → HoldsPlans (h ++ entries.Planned ready.stored.plan ∷ []) image.pages)) }
-    ensures enters { D.disk_tells → (bodies : List (List ℕ)) → IsInStep (D.disk disk.old) journal.old.end bodies → Appends bodies ready.frame (D.disk disk.old) (D.disk disk.new) }
+    // Whatever lies in Pages: what each image left since has.
+    ensures puts { D.disk_tells → (bodies : List (List ℕ)) → IsInStep (D.disk disk.old) journal.old.end bodies → OnOk result (HasPutDown bodies ready.frame (pieces ready.prepared) (D.disk disk.old) (D.disk disk.new)) }
+    ensures stops { D.disk_tells → (bodies : List (List ℕ)) → IsInStep (D.disk disk.old) journal.old.end bodies → OnErr result (HasStopped bodies ready.frame (pieces ready.prepared) (D.disk disk.old) (D.disk disk.new)) }
     ensures entered { D.disk_tells → (bodies : List (List ℕ)) → IsInStep (D.disk disk.old) journal.old.end bodies → OnOk result (IsInStep (D.disk disk.new) journal.new.end (bodies ++ ready.frame ∷ [])) }
 {
     let Ready {
@@ -178,7 +179,9 @@ fn put_down<D: Disk>(
     ensures in_step { D.disk_tells → (h : History) (plan : PlainPlan) → IsInStep (D.disk disk.old) journal.old.end (bodies_of h) → ((image : Bytes) → MayLeave (D.disk disk.old).now image → HoldsPlans h image.pages) → IsLegal h →
         IsStorable h plan prepared.now frame.now → OnOk result (IsInStep (D.disk disk.new) journal.new.end (bodies_of (h ++ entries.Planned plan ∷ []))
         × ((image : Bytes) → MayLeave (D.disk disk.new).now image → HoldsPlans (h ++ entries.Planned plan ∷ []) image.pages)) }
-    ensures enters { D.disk_tells → (bodies : List (List ℕ)) → IsInStep (D.disk disk.old) journal.old.end bodies → Appends bodies frame.now (D.disk disk.old) (D.disk disk.new) }
+    // Whatever lies in Pages: what each image left since has.
+    ensures puts { D.disk_tells → (bodies : List (List ℕ)) → IsInStep (D.disk disk.old) journal.old.end bodies → OnOk result (HasPutDown bodies frame.now (pieces prepared.now) (D.disk disk.old) (D.disk disk.new)) }
+    ensures stops { D.disk_tells → (bodies : List (List ℕ)) → IsInStep (D.disk disk.old) journal.old.end bodies → OnErr result (HasStopped bodies frame.now (pieces prepared.now) (D.disk disk.old) (D.disk disk.new)) }
     ensures entered { D.disk_tells → (bodies : List (List ℕ)) → IsInStep (D.disk disk.old) journal.old.end bodies → OnOk result (IsInStep (D.disk disk.new) journal.new.end (bodies ++ frame.now ∷ [])) }
 {
     sublists.write(disk, prepared)?;

@@ -1,5 +1,5 @@
 mod OutcomeLemmas
 mod PullLemmas
-mod QuestionLemmas
 mod SampleLemmas
 mod ServeLemmas
+mod StandingLemmas

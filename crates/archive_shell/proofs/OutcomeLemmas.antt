@@ -1,5 +1,5 @@
 -- An item answered and its reply shown: what a call of the archive did, what is written of it, and what is shown of that.
-use Rattle.std.proofs.Common.{◌≡◌, ℕ, ◌+◌, ◌<◌, ◌≤◌, List, [], ◌++◌, length, None, Option, Result, Ok, Err, refl, inl, inr, ap, subst, sym, ◌∙◌, arith, append_assoc}
+use Rattle.std.proofs.Common.{◌≡◌, ◌⊎◌, ℕ, ◌+◌, ◌<◌, ◌≤◌, List, [], ◌∷◌, ◌++◌, length, All, None, Result, Ok, Err, refl, inl, inr, ap, subst, sym, ◌∙◌, arith, append_assoc}
 use Rattle.std.proofs.lemmas.List.{append-nil, append_cancel_left, length-append}
 use Rattle.machine_model.specs.Areas.{Bytes}
 use Rattle.machine_model.specs.Images.{MayLeave}
@@ -8,85 +8,53 @@ use Rattle.machine_model.specs.States.{DiskState}
 use Rattle.commands.specs.declared.command.Item.{Item}
 use Rattle.archive_state.specs.declared.refusal.Refusal.{Refusal}
 use Rattle.archive_state.specs.Histories.{History}
+use Rattle.archive_state.specs.Plans.{live_extents}
 use Rattle.archive_state.specs.Replies.{reply_text}
+use Rattle.archive_state.specs.Runs.{Outcome}
 use Rattle.archive_state.specs.Stands.{bodies_of}
 use Rattle.archive_state.specs.Steps.{Reply, Accepted, Refused, Version}
-use Rattle.archive_state.specs.Worlds.{world_of}
 use Rattle.archive_state.proofs.RunLemmas.{one_outcome}
 use Rattle.gate_journal.specs.InStep.{IsInStep}
-use Rattle.archive_core.specs.Footings.{Footing, Alone, Whole, AreInStepOn, EachStandsOn, IsRecorded, StandsInOn, StepOn}
-use Rattle.archive_core.specs.States.{ArchiveState, AreInStep, CacheStands}
-use Rattle.archive_core.specs.Footings.{TellsNoEntry}
-use Rattle.archive_core.specs.Takes.{Ending, EndsBy, Replied, Starved, Faulted, Spoiled, TakesOn, answered, proposed, version_shown, verified}
-use Rattle.archive_core.specs.declared.error.AskError.{AskError}
-use Rattle.archive_core.specs.declared.error.AskError.TheVariants as asks
-use Rattle.archive_check.specs.declared.error.VerifyError.{VerifyError}
-use Rattle.archive_check.specs.declared.error.VerifyError.TheVariants as checks
-use Rattle.archive_replay.specs.declared.error.Declined.{Declined}
-use Rattle.archive_replay.specs.declared.error.Declined.TheVariants as declines
-use Rattle.archive_replay.specs.declared.error.ReadError.{ReadError}
-use Rattle.archive_replay.specs.declared.error.ReadError.TheVariants as reads
-use Rattle.archive_state.specs.declared.verdict.Verdict.{Verdict}
-use Rattle.proposals.specs.declared.proposal.Proposal.{Proposal}
-use Rattle.archive_core.proofs.FootingLemmas.{TellsNone, step_none}
-use Rattle.archive_core.proofs.AddLemmas.{on_nowhere, on_stands}
-use Rattle.archive_shell.specs.Outcomes.{AnsweredBy, Answers, CarriesOut, EndsAt, StopsAt, Writes}
+use Rattle.gate_journal.specs.Spelled.{Spells}
+use Rattle.archive_core.specs.Changing.{KeepsBy, LeadsBy}
+use Rattle.archive_core.specs.States.{ArchiveState, AreInStepBy, CacheStands}
+use Rattle.archive_core.specs.Stored.{Store, EachStandsBy, HasSame, IsSameStore, StandsBy, StoreStep, TellsNoEntry}
+use Rattle.archive_core.specs.Takes.{Ending, Replied, Starved, Faulted, Spoiled, TakesBy}
+use Rattle.archive_core.proofs.ByReadsLemmas.{keeps_leads, keeps_nowhere, stands_by}
+use Rattle.archive_shell.specs.Outcomes.{AnswersTo, CarriesOut, FailsAt, IsShown, Writes}
 use Rattle.archive_shell.specs.Statuses.{stop_of_halt}
 use Rattle.archive_shell.specs.declared.stop.Halt.{Halt}
 use Rattle.archive_shell.specs.declared.stop.Halt.TheVariants as halts
 use Rattle.archive_shell.specs.declared.stop.Stop.{Stop}
 use Rattle.archive_shell.specs.declared.stop.Stop.TheVariants as stops
 
+-- where an outcome leaves the history and Pages as they are, each image stands for what was before it
+stands_back : (s next : Store) (image : Bytes) → IsSameStore s next → StandsBy next image → StandsBy s image
+stands_back s next image (history, pages) stands = record {
+  spelled = subst (λ (h : History). Spells image.journal (bodies_of h)) history stands.spelled;
+  same = subst (λ (h : History). All (HasSame s.pages image.pages) (live_extents h)) history (subst (λ (ps : List ℕ). All (HasSame ps image.pages) (live_extents next.history)) pages stands.same);
+}
+
+leads_back : (s next : Store) (old new : DiskState) → IsSameStore s next → LeadsBy s next old new → KeepsBy s old new
+leads_back s next old new same leads = record {
+  goes_on = leads.goes_on;
+  images = λ image beside left. let was = leads.images image beside left in (elim was.0 [ inl before ↦ before | inr after ↦ stands_back s next image same after ], was.1);
+}
+
 -- an item that a call took is answered by what is written of the call's end
-pub answers_by : (f : Footing) (h : History) (item : Item) (ending : Ending) (result : Result (Unit {0}) Halt) (old new : DiskState) (archive : ArchiveState) (page : List ℕ)
-    → TakesOn f h item ending old new archive → Writes ending result page → Answers f h item result old new archive page
-answers_by f h item ending result old new archive page takes writes = record { outcome = takes.outcome; step = takes.step; leads = takes.leads; ends = ends ending takes.ends writes }
-  where
-    ends : (e : Ending) → EndsBy f h takes.outcome new archive e → Writes e result page → AnsweredBy f h takes.outcome new archive page result
-    ends (Replied reply) (same, in_step) (inl is) = rw is.0 (in_step, is.1 ∙ sym (ap reply_text same))
-    ends (Replied reply) (same, in_step) (inr (none, tells)) =
-        let still = step_none f (world_of h) item takes.outcome.reply takes.outcome.next takes.step (subst TellsNoEntry (sym same) tells) in
-        rw none (subst (λ (x : History). EachStandsOn f new x) still (on_stands f new archive takes.outcome.next.history in_step))
-    ends Starved each is = rw is each
-    ends Faulted none is = rw is tt
-    ends (Spoiled damage) spoiled is = rw is spoiled
+pub answers_by : (s : Store) (item : Item) (ending : Ending) (result : Result (Unit {0}) Halt) (old new : DiskState) (archive : ArchiveState) (page : List ℕ)
+    → TakesBy s item ending old new archive → Writes ending result page → AnswersTo s item result old new archive page
+answers_by s item (Replied reply) result old new archive page (next, comes, in_step) (inl is) = rw is.0 (reply, next, comes.step, comes.leads, in_step, is.1)
+answers_by s item (Replied reply) result old new archive page (next, comes, in_step) (inr (none, tells)) = rw none (leads_back s next old new (comes.still tells) comes.leads)
+answers_by s item Starved result old new archive page keeps is = rw is keeps
+answers_by s item Faulted result old new archive page (inl keeps) is = rw is (inl keeps)
+answers_by s item Faulted result old new archive page (inr (reply, next, comes)) is = rw is (inr (reply, next, comes.step, comes.leads))
+answers_by s item (Spoiled damage) result old new archive page spoiled is = rw is spoiled
 
 -- an item that is refused without a call
-pub refused_by : (f : Footing) (h : History) (item : Item) (why : Refusal) (result : Result (Unit {0}) Halt) (d : DiskState) (archive : ArchiveState) (page : List ℕ)
-    → StepOn f (world_of h) item (Refused why) (world_of h) → AreInStepOn f d archive h → result ≡ Ok tt → page ≡ reply_text (Refused why) → Answers f h item result d d archive page
-refused_by f h item why result d archive page step in_step goes_on written =
-    record { outcome = record { reply = Refused why; next = world_of h }; step = step; leads = on_nowhere f d archive h h in_step; ends = rw goes_on (in_step, written) }
-
--- an item that is answered on each footing is so on any
-pub answers_on : (f : Footing) (h : History) (item : Item) (result : Result (Unit {0}) Halt) (old new : DiskState) (archive archive_now : ArchiveState) (page : List ℕ)
-    → (AreInStep old archive h → Answers Whole h item result old new archive_now page) → (IsRecorded old archive h → Answers Alone h item result old new archive_now page)
-    → AreInStepOn f old archive h → Answers f h item result old new archive_now page
-answers_on Whole h item result old new archive archive_now page whole alone in_step = whole in_step
-answers_on Alone h item result old new archive archive_now page whole alone in_step = alone in_step
-
--- ---- questions tell of no entry
-
-pub none_answered : {T : Type 0} (reply : T → Reply) → ((x : T) → TellsNoEntry (reply x)) → (r : Result T AskError) → TellsNone (answered reply r)
-none_answered reply none (Ok x) = none x
-none_answered reply none (Err (asks.Refused why)) = tt
-none_answered reply none (Err asks.Failed) = tt
-none_answered reply none (Err (asks.Damaged damage)) = tt
-none_answered reply none (Err asks.Memory) = tt
-
-pub none_proposed : (r : Result Proposal Declined) → TellsNone (proposed r)
-none_proposed (Ok proposal) = tt
-none_proposed (Err (declines.Refused why)) = tt
-none_proposed (Err declines.Memory) = tt
-
-pub none_shown : {T : Type 0} (bytes : T → List ℕ) (r : Result (Option T) ReadError) → TellsNone (version_shown bytes r)
-none_shown bytes (Ok text) = tt
-none_shown bytes (Err reads.Failed) = tt
-none_shown bytes (Err reads.Memory) = tt
-
-pub none_verified : (r : Result Verdict VerifyError) → TellsNone (verified r)
-none_verified (Ok verdict) = tt
-none_verified (Err checks.Failed) = tt
-none_verified (Err checks.Memory) = tt
+pub refused_by : (s : Store) (item : Item) (why : Refusal) (result : Result (Unit {0}) Halt) (d : DiskState) (archive : ArchiveState) (page : List ℕ)
+    → StoreStep s item (Refused why) s → AreInStepBy d archive s → result ≡ Ok tt → page ≡ reply_text (Refused why) → AnswersTo s item result d d archive page
+refused_by s item why result d archive page step in_step goes_on written = rw goes_on (Refused why, s, step, keeps_leads s s d d (keeps_nowhere d archive s in_step), in_step, written)
 
 -- no reply is empty
 pub some_bytes : (r : Reply) → 1 ≤ length (reply_text r)
@@ -111,44 +79,46 @@ journal_beside old new end bodies same step = record {
 }
 
 -- and so does an archive
-in_step_beside : (f : Footing) (old new : DiskState) (archive : ArchiveState) (history : History) → IsSameBeside old new → AreInStepOn f old archive history → AreInStepOn f new archive history
-in_step_beside Alone old new archive history same in_step = record {
-  stands = in_step.stands;
-  journal = journal_beside old new archive.end (bodies_of history) same in_step.journal;
-  cached = subst (λ (d : DiskState). CacheStands d archive) (sym same.same) in_step.cached;
-}
-in_step_beside Whole old new archive history same in_step = record {
-  stands = in_step.stands;
-  journal = journal_beside old new archive.end (bodies_of history) same in_step.journal;
-  legal = in_step.legal;
-  held = λ image allowed. in_step.held image (same_images old new same image allowed);
-  cached = subst (λ (d : DiskState). CacheStands d archive) (sym same.same) in_step.cached;
-}
+in_step_beside : (old new : DiskState) (archive : ArchiveState) (s : Store) → IsSameBeside old new → AreInStepBy old archive s → AreInStepBy new archive s
+in_step_beside old new archive s same in_step =
+    let was : AreInStepBy (record new { past = old.past; now = old.now }) archive s = subst (λ (d : DiskState). AreInStepBy d archive s) (sym same.same) in_step in
+    record {
+      stands = in_step.stands;
+      journal = journal_beside old new archive.end (bodies_of s.history) same in_step.journal;
+      pages_are = was.pages_are;
+      kept_are = in_step.kept_are;
+      read_is = was.read_is;
+      live = in_step.live;
+      same = λ image allowed. in_step.same image (same_images old new same image allowed);
+      cached = was.cached;
+    }
 
 -- ---- a reply shown
 
 -- the run was stopped before the reply
-pub cut_short : (f : Footing) (history : History) (item : Item) (halt : Halt) (stop : Stop) (before : List ℕ) (old new : DiskState) (archive_now : ArchiveState) (page : List ℕ)
-    → Answers f history item (Err halt) old new archive_now page → stop ≡ stop_of_halt halt → old.now.beside ≡ before → CarriesOut f history item (Err stop) before before old new archive_now
-cut_short f history item halt stop before old new archive_now page answered is beside =
-    let outcome = answered.outcome in
-    record {
-      outcome = outcome;
-      step = answered.step;
-      carried = record {
-        goes_on = answered.leads.goes_on;
-        images = λ image other left. let was = answered.leads.images image other left in
-            ([], was.1 ∙ beside ∙ sym (append-nil before), elim was.0 [ inl still ↦ inl (still, refl) | inr next ↦ inr (inl (next, (reply_text outcome.reply, refl))) ]);
-      };
-      shown = [];
-      shown_is = sym (append-nil before);
-      front = (reply_text outcome.reply, refl);
-      ends = (omega (arith, some_bytes outcome.reply), rw is (stops_at halt answered.ends));
-    }
+pub cut_short : (s : Store) (item : Item) (halt : Halt) (stop : Stop) (before : List ℕ) (old new : DiskState) (archive_now : ArchiveState) (page : List ℕ)
+    → AnswersTo s item (Err halt) old new archive_now page → stop ≡ stop_of_halt halt → old.now.beside ≡ before → CarriesOut s item (Err stop) before before old new archive_now
+cut_short s item halt stop before old new archive_now page answered is beside = rw is (go halt answered)
   where
-    stops_at : (h : Halt) → AnsweredBy f history answered.outcome new archive_now page (Err h) → StopsAt f history answered.outcome new (stop_of_halt h)
-    stops_at halts.Disk ends = ends
-    stops_at halt ends = ends
+    go : (h : Halt) → AnswersTo s item (Err h) old new archive_now page → CarriesOut s item (Err (stop_of_halt h)) before before old new archive_now
+    go halts.Disk (inl keeps) = inl (keeps, refl)
+    go halts.Disk (inr (reply, next, step, leads)) = inr (
+      [],
+        record {
+          outcome = record { reply = reply; next = next };
+          step = step;
+          carried = record {
+            goes_on = leads.goes_on;
+            images = λ image other left. let was = leads.images image other left in
+                ([], was.1 ∙ beside ∙ sym (append-nil before), elim was.0 [ inl still ↦ inl (still, refl) | inr after ↦ inr (inl (after, (reply_text reply, refl))) ]);
+          };
+          shown_is = sym (append-nil before);
+          front = (reply_text reply, refl);
+        },
+      omega (arith, some_bytes reply),
+    )
+    go (halts.Damaged damage) (keeps, spoils) = ((keeps, refl), spoils)
+    go halts.Memory keeps = (keeps, refl)
 
 -- what is known of the end of a show: all of the page was shown, or a part
 abbrev pub ShownTo : List ℕ → List ℕ → List ℕ → Result (Unit {0}) Stop → Type 0
@@ -157,31 +127,34 @@ ShownTo before after page (Err stops.Sink) = length after < length before + leng
 ShownTo before after page (Err stop) = ⊥
 
 -- the reply was shown, or a front of it
-pub carried_out : (f : Footing) (history : History) (item : Item) (result : Result (Unit {0}) Stop) (before after : List ℕ) (old mid new : DiskState) (archive_now : ArchiveState) (page : List ℕ)
-    → Answers f history item (Ok tt) old mid archive_now page → old.now.beside ≡ before → OnlyShows mid new before after → IsSameBeside mid new
-    → IsPrefix after (before ++ page) → ShownTo before after page result → CarriesOut f history item result before after old new archive_now
-carried_out f history item result before after old mid new archive_now page answered beside shows same front to =
-    let outcome = answered.outcome in
-    let in_step = answered.ends.0 in
-    let reply : IsPrefix after (before ++ reply_text outcome.reply) = rw answered.ends.1 at front in
-    record {
-      outcome = outcome;
-      step = answered.step;
-      carried = one_outcome reply_text (StandsInOn f) (world_of history) outcome before after old mid new answered.leads.goes_on
-          (λ image other left. let was = answered.leads.images image other left in (was.0, was.1 ∙ beside)) shows (on_stands f mid archive_now outcome.next.history in_step) reply;
-      shown = shows.grows.0;
-      shown_is = shows.grows.1;
-      front = (reply.0, append_cancel_left before (reply_text outcome.reply) (shows.grows.0 ++ reply.0) (reply.1 ∙ ap (λ (l : List ℕ). l ++ reply.0) shows.grows.1 ∙ append_assoc before shows.grows.0 reply.0));
-      ends = ends result to;
-    }
+pub carried_out : (s : Store) (item : Item) (result : Result (Unit {0}) Stop) (before after : List ℕ) (old mid new : DiskState) (archive_now : ArchiveState) (page : List ℕ)
+    → AnswersTo s item (Ok tt) old mid archive_now page → old.now.beside ≡ before → OnlyShows mid new before after → IsSameBeside mid new
+    → IsPrefix after (before ++ page) → ShownTo before after page result → CarriesOut s item result before after old new archive_now
+carried_out s item result before after old mid new archive_now page (reply, next, step, leads, in_step, page_is) beside shows same front to = go result to
   where
-    still : AreInStepOn f new archive_now answered.outcome.next.history
-    still = in_step_beside f mid new archive_now answered.outcome.next.history same answered.ends.0
+    outcome : Outcome Reply Store
+    outcome = record { reply = reply; next = next }
 
-    ends : (r : Result (Unit {0}) Stop) → ShownTo before after page r → EndsAt f history answered.outcome new archive_now shows.grows.0 r
-    ends (Ok done) all = (append_cancel_left before shows.grows.0 (reply_text answered.outcome.reply) (sym shows.grows.1 ∙ all ∙ ap (λ (t : List ℕ). before ++ t) answered.ends.1), still)
-    ends (Err stops.Sink) short = (
-      omega (arith, short, ap length answered.ends.1, ap length shows.grows.1, length-append before shows.grows.0),
-      on_stands f new archive_now answered.outcome.next.history still,
-    )
-    ends (Err stop) never = absurd never
+    grows : List ℕ
+    grows = shows.grows.0
+
+    grown : IsPrefix after (before ++ reply_text reply)
+    grown = rw page_is at front
+
+    still : AreInStepBy new archive_now next
+    still = in_step_beside mid new archive_now next same in_step
+
+    is : IsShown s item grows before after old new
+    is = record {
+      outcome = outcome;
+      step = step;
+      carried = one_outcome reply_text StandsBy s outcome before after old mid new leads.goes_on
+          (λ image other left. let was = leads.images image other left in (was.0, was.1 ∙ beside)) shows (stands_by mid archive_now next in_step) grown;
+      shown_is = shows.grows.1;
+      front = (grown.0, append_cancel_left before (reply_text reply) (grows ++ grown.0) (grown.1 ∙ ap (λ (l : List ℕ). l ++ grown.0) shows.grows.1 ∙ append_assoc before grows grown.0));
+    }
+
+    go : (r : Result (Unit {0}) Stop) → ShownTo before after page r → CarriesOut s item r before after old new archive_now
+    go (Ok done) all = (grows, is, append_cancel_left before grows (reply_text reply) (sym shows.grows.1 ∙ all ∙ ap (λ (t : List ℕ). before ++ t) page_is), still)
+    go (Err stops.Sink) short = ((grows, is, omega (arith, short, ap length page_is, ap length shows.grows.1, length-append before grows)), stands_by new archive_now next still)
+    go (Err stop) never = absurd never

@@ -1,9 +1,5 @@
-pub mod Damages
-pub mod Asking
 pub mod Causes
-pub mod Fetching
 pub mod Headline
-pub mod Questions
 pub mod Serving
 pub mod Statuses
 pub mod Outcomes

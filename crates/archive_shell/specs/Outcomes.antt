@@ -4,15 +4,13 @@ use Rattle.machine_model.specs.Areas.{Both}
 use Rattle.machine_model.specs.States.{DiskState}
 use Rattle.machine_model.specs.Pushes.{IsPrefix}
 use Rattle.commands.specs.declared.command.Item.{Item}
-use Rattle.archive_state.specs.Histories.{History}
 use Rattle.archive_state.specs.Steps.{Reply}
 use Rattle.archive_state.specs.Replies.{reply_text}
 use Rattle.archive_state.specs.Runs.{Outcome}
 use Rattle.archive_state.specs.Standing.{Carried}
-use Rattle.archive_state.specs.Worlds.{World, world_of}
-use Rattle.archive_core.specs.States.{ArchiveState, Reaches}
-use Rattle.archive_core.specs.Footings.{Footing, AreInStepOn, EachStandsOn, SpoiledOn, StandsInOn, StepOn, TellsNoEntry}
-use Rattle.archive_core.specs.Changing.{LeadsOn}
+use Rattle.archive_core.specs.Changing.{KeepsBy, LeadsBy}
+use Rattle.archive_core.specs.States.{ArchiveState, AreInStepBy, Reaches}
+use Rattle.archive_core.specs.Stored.{Store, EachStandsBy, Spoils, StandsBy, StoreStep, TellsNoEntry}
 use Rattle.archive_core.specs.Takes.{Ending, Replied, Starved, Faulted, Spoiled, answered}
 use Rattle.archive_core.specs.declared.error.AskError.{AskError}
 use Rattle.archive_core.specs.declared.error.AskError.TheVariants as asks
@@ -39,40 +37,41 @@ pub record WritesAnswer {T : Type 0} (reply : T → Reply) (answer : Result T As
   pub fault : result ≡ Err halts.Disk → answer ≡ Err asks.Failed
   pub damage : (d : Damage) → result ≡ Err (halts.Damaged d) → answer ≡ Err (asks.Damaged d)
 
--- where an item was answered the archive stands for the history after the outcome, and the page has the reply; where memory ran out, each
--- image stands for the history before the outcome
-abbrev pub AnsweredBy : Footing → History → Outcome Reply World → DiskState → ArchiveState → List ℕ → Result (Unit {0}) Halt → Type 0
-AnsweredBy footing before outcome new archive_now page (Ok done) = AreInStepOn footing new archive_now outcome.next.history × (page ≡ reply_text outcome.reply)
-AnsweredBy footing before outcome new archive_now page (Err halts.Disk) = Unit {0}
-AnsweredBy footing before outcome new archive_now page (Err (halts.Damaged damage)) = SpoiledOn footing new before
-AnsweredBy footing before outcome new archive_now page (Err halts.Memory) = EachStandsOn footing new before
+-- The disk failed during an item: nothing came of it, or there is an outcome, and each image left since stands for what was before it or after it.
+abbrev pub FailsAt : Store → Item → DiskState → DiskState → Type 0
+FailsAt store item old new = KeepsBy store old new ⊎ ((reply : Reply) × (next : Store) × StoreStep store item reply next × LeadsBy store next old new)
 
--- An item that was answered, or during which the run was halted: it has an outcome of the abstract machine. Each image left since the start
--- stands for the history before the outcome or after it.
-pub record Answers (footing : Footing) (history : History) (item : Item) (result : Result (Unit {0}) Halt) (old new : DiskState) (archive_now : ArchiveState) (page : List ℕ) : Type 0 where
-  pub outcome : Outcome Reply World
-  pub step : StepOn footing (world_of history) item outcome.reply outcome.next
-  pub leads : LeadsOn footing history outcome.next.history old new
-  pub ends : AnsweredBy footing history outcome new archive_now page result
+-- An item that was answered, or during which the run was halted. Where it was answered it has an outcome, the archive stands for what came of it, and
+-- the page has the reply. Where memory ran out or a sublist is damaged, nothing came of it.
+abbrev pub AnswersTo : Store → Item → Result (Unit {0}) Halt → DiskState → DiskState → ArchiveState → List ℕ → Type 0
+AnswersTo store item (Ok done) old new archive_now page =
+    (reply : Reply) × (next : Store) × StoreStep store item reply next × LeadsBy store next old new × AreInStepBy new archive_now next × (page ≡ reply_text reply)
+AnswersTo store item (Err halts.Disk) old new archive_now page = FailsAt store item old new
+AnswersTo store item (Err (halts.Damaged damage)) old new archive_now page = KeepsBy store old new × Spoils store item damage
+AnswersTo store item (Err halts.Memory) old new archive_now page = KeepsBy store old new
 
--- what is known of the images where the run is stopped
-abbrev pub StopsAt : Footing → History → Outcome Reply World → DiskState → Stop → Type 0
-StopsAt footing before outcome new stops.Disk = Unit {0}
-StopsAt footing before outcome new (stops.Damaged damage) = SpoiledOn footing new before
-StopsAt footing before outcome new stops.Sink = EachStandsOn footing new outcome.next.history
-StopsAt footing before outcome new stops.Memory = EachStandsOn footing new before
-
-abbrev pub EndsAt : Footing → History → Outcome Reply World → DiskState → ArchiveState → List ℕ → Result (Unit {0}) Stop → Type 0
-EndsAt footing before outcome new archive_now shown (Ok done) = (shown ≡ reply_text outcome.reply) × AreInStepOn footing new archive_now outcome.next.history
-EndsAt footing before outcome new archive_now shown (Err stop) = (length shown < length (reply_text outcome.reply)) × StopsAt footing before outcome new stop
-
--- An item that was carried out and its reply shown, or during which the run was stopped, and then the reply isn't shown whole. Each image
--- left since the start, with what was shown of the reply then, stands for the history before the outcome or after it.
-pub record CarriesOut (footing : Footing) (history : History) (item : Item) (result : Result (Unit {0}) Stop) (before after : List ℕ) (old new : DiskState) (archive_now : ArchiveState) : Type 0 where
-  pub outcome : Outcome Reply World
-  pub step : StepOn footing (world_of history) item outcome.reply outcome.next
-  pub carried : Carried reply_text (StandsInOn footing) (world_of history) (outcome ∷ []) before old new
-  pub shown : List ℕ
+-- An item has an outcome, and this was shown of its reply: each image left since, with what was shown of it then, stands for what was before it or
+-- after it.
+pub record IsShown (store : Store) (item : Item) (shown before after : List ℕ) (old new : DiskState) : Type 0 where
+  pub outcome : Outcome Reply Store
+  pub step : StoreStep store item outcome.reply outcome.next
+  pub carried : Carried reply_text StandsBy store (outcome ∷ []) before old new
   pub shown_is : after ≡ before ++ shown
   pub front : IsPrefix shown (reply_text outcome.reply)
-  pub ends : EndsAt footing history outcome new archive_now shown result
+
+-- the reply was cut short, or not shown at all
+abbrev pub IsCut : Store → Item → List ℕ → List ℕ → DiskState → DiskState → Type 0
+IsCut store item before after old new = (shown : List ℕ) × (is : IsShown store item shown before after old new) × (length shown < length (reply_text is.outcome.reply))
+
+-- nothing came of the item
+abbrev pub IsUndone : Store → List ℕ → List ℕ → DiskState → DiskState → Type 0
+IsUndone store before after old new = KeepsBy store old new × (after ≡ before)
+
+-- An item that was carried out and its reply shown, or during which the run was stopped.
+abbrev pub CarriesOut : Store → Item → Result (Unit {0}) Stop → List ℕ → List ℕ → DiskState → DiskState → ArchiveState → Type 0
+CarriesOut store item (Ok done) before after old new archive_now =
+    (shown : List ℕ) × (is : IsShown store item shown before after old new) × (shown ≡ reply_text is.outcome.reply) × AreInStepBy new archive_now is.outcome.next
+CarriesOut store item (Err stops.Sink) before after old new archive_now = (cut : IsCut store item before after old new) × EachStandsBy new cut.1.0.outcome.next
+CarriesOut store item (Err stops.Disk) before after old new archive_now = IsUndone store before after old new ⊎ IsCut store item before after old new
+CarriesOut store item (Err stops.Memory) before after old new archive_now = IsUndone store before after old new
+CarriesOut store item (Err (stops.Damaged damage)) before after old new archive_now = IsUndone store before after old new × Spoils store item damage

@@ -1,5 +1,5 @@
 -- A run while it goes on, and when it has ended: what it pulled, and what it did.
-use Rattle.std.specs.Prelude.{◌≡◌, ◌≤◌, ℕ, true, false, List, [], ◌++◌, length, map, All, Option, Some, None, Result, Ok, Err}
+use Rattle.std.specs.Prelude.{◌≡◌, ◌<◌, ◌≤◌, ℕ, true, false, List, [], ◌∷◌, ◌++◌, length, map, All, Option, Some, None, Result, Ok, Err}
 use Rattle.machine_model.specs.Pulls.{Pull}
 use Rattle.machine_model.specs.States.{SourceState, MachineState}
 use Rattle.commands.specs.declared.command.Item.{Item}
@@ -7,12 +7,11 @@ use Rattle.script_read.specs.Reading.{ReaderState, IsAwaited, IsCalm, Says, Read
 use Rattle.script_read.specs.declared.error.ScriptError.{ScriptError}
 use Rattle.archive_state.specs.Steps.{Reply}
 use Rattle.archive_state.specs.Replies.{reply_text}
-use Rattle.archive_state.specs.Runs.{Outcome, IsRun, IsAcknowledged, state_after, shown_by}
+use Rattle.archive_state.specs.Runs.{Outcome, IsRun, shown_by}
 use Rattle.archive_state.specs.Standing.{last_state, Carried}
-use Rattle.archive_state.specs.Worlds.{World}
-use Rattle.archive_core.specs.States.{ArchiveState}
-use Rattle.archive_core.specs.Footings.{Footing, AreInStepOn, EachStandsOn, IsSoundOn, StandsInOn, StepOn}
-use Rattle.archive_shell.specs.Headline.{CarriesOutAll, ComesAfterReplies, Ran, TellsOn}
+use Rattle.archive_core.specs.States.{ArchiveState, AreInStepBy}
+use Rattle.archive_core.specs.Stored.{Store, EachStandsBy, Spoils, StandsBy, StoreStep}
+use Rattle.archive_shell.specs.Headline.{CarriesOutAll, ComesAfterReplies, Ran}
 use Rattle.sublist_store.specs.declared.why.Damage.{Damage}
 use Rattle.archive_shell.specs.declared.status.Status.{Status}
 use Rattle.archive_shell.specs.declared.status.Status.TheVariants.{Damaged, Disk, Done, Memory}
@@ -51,24 +50,42 @@ AreAwaited held since all lefts = All (λ left. IsAwaited since all left × (hel
 abbrev pub pulls_beside : List ℕ → List (List ℕ) → List Pull
 pulls_beside shown lefts = map (λ left. record { left = left; shown = shown }) lefts
 
--- Since a run began from this state, each whole item of the bytes pulled was carried out and its reply shown, and the archive is in step
--- with its disk after the last of them.
-pub record Serving (footing : Footing) (world : World) (old now : MachineState) (archive : ArchiveState) (held : ReaderState) (pulls : List Pull) : Type 0 where
-  pub sound : IsSoundOn footing world.history
+-- the part of a reply that is shown of those that are left isn't a whole one
+abbrev pub IsShort : {S : Type 0} → List ℕ → List (Outcome Reply S) → Type 0
+IsShort part [] = part ≡ []
+IsShort part (outcome ∷ outcomes) = length part < length (reply_text outcome.reply)
+
+-- the statuses at which nothing came of the item behind those that are shown
+abbrev pub IsUndoneAt : Status → Type 0
+IsUndoneAt Memory = Unit {0}
+IsUndoneAt (Damaged damage) = Unit {0}
+IsUndoneAt status = ⊥
+
+-- Since a run began, each whole item of the bytes pulled was carried out and its reply shown, and the archive is in step with its disk after the last
+-- of them.
+pub record Serving (store : Store) (old now : MachineState) (archive : ArchiveState) (held : ReaderState) (pulls : List Pull) : Type 0 where
   pub pulling : Pulling old.source now.source held
-  pub outcomes : List (Outcome Reply World)
-  pub run : IsRun (StepOn footing) world pulling.items outcomes
+  pub outcomes : List (Outcome Reply Store)
+  pub run : IsRun StoreStep store pulling.items outcomes
   pub each : length outcomes ≡ length pulling.items
   pub shown : now.sink.shown ≡ old.sink.shown ++ shown_by reply_text outcomes
-  pub carried : Carried reply_text (StandsInOn footing) world outcomes old.sink.shown old.disk now.disk
-  pub in_step : AreInStepOn footing now.disk archive (last_state world outcomes).history
+  pub carried : Carried reply_text StandsBy store outcomes old.sink.shown old.disk now.disk
+  pub in_step : AreInStepBy now.disk archive (last_state store outcomes)
   pub after_replies : All (ComesAfterReplies old.source old.sink pulling.items outcomes) pulls
 
--- A run that began from this state has ended with this status.
-pub record Serves (footing : Footing) (world : World) (status : Status) (old new : MachineState) (pulls : List Pull) : Type 0 where
-  pub ran : Ran footing world status old.source new.source old.sink new.sink pulls
-  pub carried : Carried reply_text (StandsInOn footing) world ran.outcomes old.sink.shown old.disk new.disk
-  pub last : CarriesOutAll status → EachStandsOn footing new.disk (last_state world ran.outcomes).history
-  pub steady : (status ≡ Disk → ⊥) → (j : ℕ) × (j ≤ length ran.outcomes) × EachStandsOn footing new.disk (state_after world ran.outcomes j).history
-  pub starved : status ≡ Memory → (k : ℕ) × IsAcknowledged reply_text ran.outcomes ran.shown k × EachStandsOn footing new.disk (state_after world ran.outcomes k).history
-  pub damaged : (damage : Damage) → status ≡ Damaged damage → TellsOn footing world ran.items ran.outcomes new.disk.holds.pages damage
+-- A run that began from this state has ended with this status: what `ReadingRun` says of it, with what each image left since stands along.
+pub record Serves (store : Store) (status : Status) (old new : MachineState) (pulls : List Pull) : Type 0 where
+  pub ran : Ran StoreStep store status old.source new.source old.sink new.sink pulls
+  pub carried : Carried reply_text StandsBy store ran.outcomes old.sink.shown old.disk new.disk
+  -- the outcomes that are shown whole, and of those behind them a part of the first reply
+  pub whole : List (Outcome Reply Store)
+  pub others : List (Outcome Reply Store)
+  pub part : List ℕ
+  pub outcomes_are : ran.outcomes ≡ whole ++ others
+  pub shown_is : ran.shown ≡ shown_by reply_text whole ++ part
+  pub short : IsShort part others
+  -- where memory ran out or a sublist is damaged, all that were reached are shown, and each image stands for the last state
+  pub undone : IsUndoneAt status → (others ≡ []) × (part ≡ [])
+  pub steady : (status ≡ Disk → ⊥) → EachStandsBy new.disk (last_state store ran.outcomes)
+  pub damaged : (damage : Damage) → status ≡ Damaged damage → (item : Item) × (rest : List Item) × (ran.behind ≡ item ∷ rest) × Spoils (last_state store ran.outcomes) item damage
+  pub read : CarriesOutAll status → new.disk.bytes_read.pages ≡ (last_state store ran.outcomes).read

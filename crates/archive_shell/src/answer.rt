@@ -1,19 +1,15 @@
 //! Answering one item of the input.
 ghost use Rattle.std.specs.Prelude.{◌≡◌, ◌⊎◌, Ok, OnOk, IsOk, IsErrOf};
 ghost use Rattle.machine_model.specs.Causes.{Rose};
-ghost use Rattle.archive_state.specs.Histories.{History};
 ghost use Rattle.archive_state.specs.Replies.{reply_text};
 ghost use Rattle.archive_state.specs.Steps.{Found, Refused, Reply, Spanned};
-ghost use Rattle.archive_core.specs.Footings.{Alone, IsRecorded, TellsNoEntry, Whole};
-ghost use Rattle.archive_core.specs.States.{CacheStands, AreInStep, IsSameButCache, StandsFor};
+ghost use Rattle.archive_core.specs.States.{AreInStepBy};
+ghost use Rattle.archive_core.specs.Stored.{Store, TellsNoEntry};
 ghost use Rattle.archive_core.specs.Takes.{changed, planned, proposed, version_shown, unanswered, unchanged, verified};
 ghost use Rattle.commands.specs.declared.command.Item.TheVariants as items;
 ghost use Rattle.commands.specs.declared.command.Command.TheVariants as plain;
-ghost use Rattle.machine_model.specs.Calls.{OnlyReads};
-ghost use Rattle.archive_shell.specs.Asking.{IsByReads};
 ghost use Rattle.archive_shell.specs.Causes.{IsLeft};
-ghost use Rattle.archive_shell.specs.Questions.{IsQuestion};
-ghost use Rattle.archive_shell.specs.Outcomes.{Answers, CanGoOn, Writes, WritesAnswer};
+ghost use Rattle.archive_shell.specs.Outcomes.{AnswersTo, CanGoOn, Writes, WritesAnswer};
 
 use crate::stop::Halt;
 use archive_check::VerifyError;
@@ -41,15 +37,8 @@ pub(crate) fn answer<D: Disk>(
     ensures only { D.Disk.only disk.old disk.new }
     ensures disk_fault { IsErrOf result Halt.Disk → Rose (D.disk disk.old).faults (D.disk disk.new).faults }
     ensures left { OnOk result (IsLeft D.disk_tells (D.disk disk.old) (D.disk disk.new) archive.old archive.new) }
-    // Whatever the disk holds, a question leaves it and the archive but for its cache as they are, and what is told is so by what reads give.
-    ensures still { IsQuestion item → OnlyReads (D.disk disk.old) (D.disk disk.new) × IsSameButCache archive.old archive.new }
-    ensures by_reads { D.disk_tells → (h : History) → StandsFor archive.old h → CacheStands (D.disk disk.old) archive.old →
-        IsByReads h item result (D.disk disk.old) (D.disk disk.new) archive.old archive.new page.new.bytes }
-    ensures outcome { D.disk_tells → (h : History) → AreInStep (D.disk disk.old) archive.old h →
-        Answers Whole h item result (D.disk disk.old) (D.disk disk.new) archive.new page.new.bytes }
-    // And so it is by the journal alone, whatever lies in Pages.
-    ensures entered { D.disk_tells → (h : History) → IsRecorded (D.disk disk.old) archive.old h →
-        Answers Alone h item result (D.disk disk.old) (D.disk disk.new) archive.new page.new.bytes }
+    // What comes of it by what reads give, whatever lies in Pages.
+    ensures outcome { D.disk_tells → (s : Store) → AreInStepBy (D.disk disk.old) archive.old s → AnswersTo s item result (D.disk disk.old) (D.disk disk.new) archive.new page.new.bytes }
 {
     let Item::Command(command) = item else {
         return refuse(page, Refusal::Line);
@@ -118,10 +107,8 @@ fn arrive<D: Disk>(
     ensures disk_fault { IsErrOf result Halt.Disk → Rose (D.disk disk.old).faults (D.disk disk.new).faults }
     ensures left { OnOk result (IsLeft D.disk_tells (D.disk disk.old) (D.disk disk.new) archive.old archive.new) }
     ensures undamaged { (d : Damage) → IsErrOf result (Halt.Damaged d) → ⊥ }
-    ensures outcome { D.disk_tells → (h : History) → AreInStep (D.disk disk.old) archive.old h →
-        Answers Whole h (items.Command (plain.Arrive doc at text)) result (D.disk disk.old) (D.disk disk.new) archive.new page.new.bytes }
-    ensures entered { D.disk_tells → (h : History) → IsRecorded (D.disk disk.old) archive.old h →
-        Answers Alone h (items.Command (plain.Arrive doc at text)) result (D.disk disk.old) (D.disk disk.new) archive.new page.new.bytes }
+    ensures outcome { D.disk_tells → (s : Store) → AreInStepBy (D.disk disk.old) archive.old s →
+        AnswersTo s (items.Command (plain.Arrive doc at text)) result (D.disk disk.old) (D.disk disk.new) archive.new page.new.bytes }
 {
     match text {
         Text::Bytes(content) => {

@@ -1,13 +1,9 @@
 //! Carrying out one item and showing its reply.
 ghost use Rattle.std.specs.Prelude.{◌≡◌, ◌≤◌, [], OnOk, IsErrOf};
 ghost use Rattle.machine_model.specs.Causes.{Rose};
-ghost use Rattle.archive_state.specs.Histories.{History};
-ghost use Rattle.archive_core.specs.Footings.{AreInStepOn, Footing};
-ghost use Rattle.archive_core.specs.States.{CacheStands, StandsFor};
-ghost use Rattle.archive_shell.specs.Damages.{Spoils};
-ghost use Rattle.archive_shell.specs.Asking.{IsAsked};
+ghost use Rattle.archive_core.specs.States.{AreInStepBy};
+ghost use Rattle.archive_core.specs.Stored.{Store};
 ghost use Rattle.archive_shell.specs.Causes.{IsLeft};
-ghost use Rattle.archive_shell.specs.Questions.{IsQuestion};
 ghost use Rattle.archive_shell.specs.Outcomes.{CanGoOn, CarriesOut};
 
 use crate::answer::answer;
@@ -17,7 +13,6 @@ use archive_replies::{ReplyPage, show};
 use commands::Item;
 use machine_model::Machine;
 use std::alloc::Global;
-use sublist_store::Damage;
 
 /// Carries out an item, and then shows its reply whole.
 pub(crate) fn carry_out<M: Machine>(
@@ -35,12 +30,8 @@ pub(crate) fn carry_out<M: Machine>(
     ensures disk_fault { IsErrOf result Stop.Disk → Rose (M.disk machine.old).faults (M.disk machine.new).faults }
     ensures sink_fault { IsErrOf result Stop.Sink → Rose (M.sink machine.old).faults (M.sink machine.new).faults }
     ensures left { OnOk result (IsLeft M.disk_tells (M.disk machine.old) (M.disk machine.new) archive.old archive.new) }
-    ensures damaged { M.disk_tells → (h : History) → StandsFor archive.old h → CacheStands (M.disk machine.old) archive.old → (d : Damage) → IsErrOf result (Stop.Damaged d) →
-        Spoils h (M.disk machine.old).holds.pages item d × ((M.disk machine.new).holds.pages ≡ (M.disk machine.old).holds.pages) × (M.sink machine.new ≡ M.sink machine.old) }
-    ensures question { M.disk_tells → M.sink_tells → (h : History) → StandsFor archive.old h → CacheStands (M.disk machine.old) archive.old → IsQuestion item →
-        OnOk result (IsAsked h item (M.sink machine.old).shown (M.sink machine.new).shown (M.disk machine.old) (M.disk machine.new) archive.old archive.new) }
-    ensures outcome { M.disk_tells → M.sink_tells → (f : Footing) (h : History) → AreInStepOn f (M.disk machine.old) archive.old h →
-        CarriesOut f h item result (M.sink machine.old).shown (M.sink machine.new).shown (M.disk machine.old) (M.disk machine.new) archive.new }
+    ensures outcome { M.disk_tells → M.sink_tells → (s : Store) → AreInStepBy (M.disk machine.old) archive.old s →
+        CarriesOut s item result (M.sink machine.old).shown (M.sink machine.new).shown (M.disk machine.old) (M.disk machine.new) archive.new }
 {
     match answer(alloc, machine, archive, page, item) {
         Ok(()) => {}

@@ -1,25 +1,20 @@
 //! The program's run.
-ghost use Rattle.std.specs.Prelude.{◌≡◌, ◌⊎◌, ◌<◌, ◌≤◌, ℕ, true, List, [], length, All, IfSome, IfNone, IfOk, IfErr};
+ghost use Rattle.std.specs.Prelude.{◌≡◌, ◌⊎◌, ◌<◌, ◌≤◌, ℕ, List, [], length, IfSome, IfNone, IfOk, IfErr};
 ghost use Rattle.machine_model.specs.Calls.{Syncs};
 ghost use Rattle.machine_model.specs.Causes.{Rose};
 ghost use Rattle.machine_model.specs.Pulls.{Pull};
 ghost use Rattle.machine_model.specs.States.{state_by};
-ghost use Rattle.script_read.specs.Items.{Splits};
 ghost use Rattle.archive_state.specs.Histories.{History};
 ghost use Rattle.archive_state.specs.Legal.{IsLoadable};
 ghost use Rattle.archive_state.specs.Stands.{Stands, EachStands, IsNotArchive, bodies_of};
 ghost use Rattle.archive_core.specs.Changing.{KeepsHistory};
 ghost use Rattle.gate_journal.specs.Crash.{KeepsBodies};
 ghost use Rattle.gate_journal.specs.Spelled.{EachSpells, Spells};
-ghost use Rattle.archive_core.specs.Footings.{Alone, Whole};
-ghost use Rattle.commands.specs.declared.command.Item.{Item};
 ghost use Rattle.program_words.specs.Words.{AreNoWords, AreWords, texts};
 ghost use Rattle.program_words.specs.declared.task.Task.{Task as PlainTask};
 ghost use Rattle.program_words.specs.declared.task.Task.TheVariants as tasks;
 ghost use Rattle.program_words.specs.declared.task.SampleNumbers.{SampleNumbers as PlainNumbers};
-ghost use Rattle.archive_shell.specs.Fetching.{IsAsking, ReadsMissed};
-ghost use Rattle.archive_shell.specs.Questions.{AreMade, AreMadeUpTo, IsQuestion};
-ghost use Rattle.archive_shell.specs.Headline.{Ends, Headline, IsComplete, IsLoadedFrom, LoadsAs};
+ghost use Rattle.archive_shell.specs.Headline.{Ends, IsComplete, IsLoadedFrom, LoadsAs, ReadingRun, StandingRun, store_of};
 ghost use Rattle.archive_shell.specs.Sampling.{EndsSample, Sampled};
 
 use crate::sampling::run_sample;
@@ -28,7 +23,6 @@ use crate::status::Status;
 use machine_model::Machine;
 use program_words::{Task, WordsError, read_words};
 use std::alloc::Global;
-use sublist_store::Damage;
 
 /// Says how a run ends at once because of these words of the command line, given without the program's
 /// name: they ask for nothing, or there is no memory to read them. `None` where the run goes on. A
@@ -81,34 +75,19 @@ pub fn run<M: Machine>(alloc: Global, words: &[String], machine: &mut M) -> Stat
     ensures left_alone { M.disk_tells → (at : ℕ) → IsNotArchive (M.disk machine.old).holds at →
         (M.source machine.new ≡ M.source machine.old) × (M.sink machine.new ≡ M.sink machine.old)
         × Syncs (M.disk machine.old) (M.disk machine.new) }
-    // Where the script is questions alone, and whatever the disk holds: each reply shown at status 0 is by the history for which the journal stands
-    // and by what reads gave at entry. An answer is made from the lists that are chosen; a verdict is that of the texts and of the sublists' bytes.
-    ensures questions { M.source_tells → M.sink_tells → M.disk_tells → AreWords (texts words.now) tasks.Script → (asked : List Item) → Splits true (M.source machine.old).left asked [] →
-        All IsQuestion asked → result ≡ Status.Done → (loaded : History) × LoadsAs loaded (M.disk machine.old).holds
-        × AreMade loaded (M.disk machine.old).holds asked (M.sink machine.old).shown (M.sink machine.new).shown }
-    // And where such a script ends at a damaged sublist, the replies to the questions in front of one were shown, each made so, and the damage is
-    // the first of what is read for that one.
-    ensures stopped { M.source_tells → M.sink_tells → M.disk_tells → AreWords (texts words.now) tasks.Script → (asked : List Item) → Splits true (M.source machine.old).left asked [] →
-        All IsQuestion asked → (d : Damage) → result ≡ Status.Damaged d → (loaded : History) × LoadsAs loaded (M.disk machine.old).holds
-        × AreMadeUpTo loaded (M.disk machine.old).holds asked d (M.sink machine.old).shown (M.sink machine.new).shown }
-    // Where each item of such a script asks what is found, the bytes that were read of Pages by the end are those of the pieces that were missed:
-    // the items ask in their order for the pages of the lists that are chosen, and what was read of a page isn't read again while it is kept.
-    ensures reads { M.source_tells → M.sink_tells → M.disk_tells → AreWords (texts words.now) tasks.Script → (asked : List Item) → Splits true (M.source machine.old).left asked [] →
-        All IsAsking asked → result ≡ Status.Done → (loaded : History) × LoadsAs loaded (M.disk machine.old).holds
-        × ReadsMissed loaded (M.disk machine.old).holds.pages asked (M.disk machine.old).bytes_read.pages (M.disk machine.new).bytes_read.pages }
-    // From the history that the journal stands for: one run of the abstract machine over the items of the bytes pulled, what is shown of it
-    // and when, what each image left at any moment stands for, and where the input was.
+    // Where the bytes stand for a history: one run of the abstract machine over the items of the bytes pulled, what is shown of it and when, what each
+    // image left at any moment stands for, and where the input was.
     ensures headline { M.source_tells → M.sink_tells → M.disk_tells → AreWords (texts words.now) tasks.Script → (h : History) → Stands h (M.disk machine.old).holds →
         (pulls : List Pull) × M.asked machine.old pulls machine.new
-        × Headline Whole h result (state_by M.source M.sink M.disk machine.old)
-        (state_by M.source M.sink M.disk machine.new) pulls }
-    // The same by the journal alone, whatever lies in Pages: from the history for which a load takes the bytes, one run over the items of the bytes
-    // pulled, in which changes and plans are carried out as the machine says; what is shown of it and when, and for which history each image left at
-    // any moment has its journal. Where the run ends at a damaged sublist, which item came to it, by the history that it had come to.
-    ensures kept { M.source_tells → M.sink_tells → M.disk_tells → AreWords (texts words.now) tasks.Script → (h : History) → LoadsAs h (M.disk machine.old).holds →
+        × StandingRun h result (state_by M.source M.sink M.disk machine.old) (state_by M.source M.sink M.disk machine.new) pulls }
+    // The same by what reads give, whatever lies in Pages: from the history for which a load takes the bytes, one run in which changes and plans are
+    // the machine's, answers are made from the lists that are chosen, and verdicts from the bytes that are there. Each image left at any moment has the
+    // journal of its state, and in each live place the bytes that reads give; so a plan whose sublists are held keeps them while it is live, whatever
+    // became of the others. Where the run ends at a damaged sublist, it is the first damage of what is read for the next item. At the end just those
+    // bytes of Pages were read that its questions asked for.
+    ensures by_reads { M.source_tells → M.sink_tells → M.disk_tells → AreWords (texts words.now) tasks.Script → (h : History) → LoadsAs h (M.disk machine.old).holds →
         (pulls : List Pull) × M.asked machine.old pulls machine.new
-        × Headline Alone h result (state_by M.source M.sink M.disk machine.old)
-        (state_by M.source M.sink M.disk machine.new) pulls }
+        × ReadingRun (store_of h (M.disk machine.old)) result (state_by M.source M.sink M.disk machine.old) (state_by M.source M.sink M.disk machine.new) pulls }
     // Unless the bytes were refused, the disk failed or memory ran out, a load took them for a history's.
     ensures loaded { M.disk_tells → AreWords (texts words.now) tasks.Script → IsLoadedFrom (M.disk machine.old).holds result }
     // And whatever the disk holds, unless its bytes were refused: where the input was.

@@ -1,15 +1,9 @@
 //! Going over the items of the input.
-ghost use Rattle.std.specs.Prelude.{◌≡◌, ◌<◌, ◌≤◌, ◌^◌, ◌++◌, [], List, true, OnOk, IfErr, IsErrOf, MatchResult, ℕ};
-ghost use Rattle.machine_model.specs.Areas.{Bytes};
+ghost use Rattle.std.specs.Prelude.{◌≡◌, ◌<◌, ◌≤◌, ◌^◌, ◌++◌, [], List, OnOk, IfErr, IsErrOf, MatchResult, ℕ};
 ghost use Rattle.machine_model.specs.Pulls.{Pull};
 ghost use Rattle.machine_model.specs.States.{SourceState, MachineState, state_by};
-ghost use Rattle.commands.specs.declared.command.Item.{Item as PlainItem};
-ghost use Rattle.script_read.specs.Items.{Splits};
-ghost use Rattle.archive_state.specs.Histories.{History};
-ghost use Rattle.archive_state.specs.Worlds.{World};
-ghost use Rattle.archive_core.specs.Footings.{Footing};
+ghost use Rattle.archive_core.specs.Stored.{Store};
 ghost use Rattle.archive_shell.specs.Headline.{Ends};
-ghost use Rattle.archive_shell.specs.Asking.{Asking, HasEnded};
 ghost use Rattle.archive_shell.specs.Causes.{IsLater, IsLeft, MayEnd};
 ghost use Rattle.archive_shell.specs.Serving.{AreAwaited, Gives, Pulling, Serving, Serves, pulls_beside};
 ghost use Rattle.archive_shell.specs.Outcomes.{CanGoOn};
@@ -71,15 +65,11 @@ pub(crate) fn step<M: Machine>(
     ensures bound { reader.new.passed ≤ 2 ^ 40 }
     ensures pulls { M.source_tells → (began : SourceState) → Pulling began (M.source machine.old) reader.old →
         MatchResult result (λ _. Pulling began (M.source machine.new) reader.new) (λ status. Ends status began (M.source machine.new)) }
-    ensures goes_on { M.source_tells → M.sink_tells → M.disk_tells → (f : Footing) (w : World) (began : MachineState) (before : List Pull) →
-        Serving f w began (state_by M.source M.sink M.disk machine.old) archive.old reader.old before →
+    ensures goes_on { M.source_tells → M.sink_tells → M.disk_tells → (s : Store) (began : MachineState) (before : List Pull) →
+        Serving s began (state_by M.source M.sink M.disk machine.old) archive.old reader.old before →
         (pulls : List Pull) × M.asked machine.old pulls machine.new × MatchResult result
-        (λ _. Serving f w began (state_by M.source M.sink M.disk machine.new) archive.new reader.new (before ++ pulls))
-        (λ status. Serves f w status began (state_by M.source M.sink M.disk machine.new) (before ++ pulls)) }
-    ensures asks { M.source_tells → M.sink_tells → M.disk_tells → (h : History) (image : Bytes) (began : MachineState) →
-        Asking h image began (state_by M.source M.sink M.disk machine.old) archive.old reader.old → MatchResult result
-        (λ _. Asking h image began (state_by M.source M.sink M.disk machine.new) archive.new reader.new)
-        (λ status. (asked : List PlainItem) → Splits true began.source.left asked [] → HasEnded h image status began (state_by M.source M.sink M.disk machine.new) asked) }
+        (λ _. Serving s began (state_by M.source M.sink M.disk machine.new) archive.new reader.new (before ++ pulls))
+        (λ status. Serves s status began (state_by M.source M.sink M.disk machine.new) (before ++ pulls)) }
 {
     let item = match next_item(alloc, machine, reader) {
         Ok(item) => item,
@@ -105,15 +95,12 @@ pub(crate) fn serve<M: Machine>(
     ensures cause { MayEnd result (state_by M.source M.sink M.disk machine.old)
         (state_by M.source M.sink M.disk machine.new) }
     ensures ends { M.source_tells → (began : SourceState) → Pulling began (M.source machine.old) reader.old → Ends result began (M.source machine.new) }
-    ensures served { M.source_tells → M.sink_tells → M.disk_tells → (f : Footing) (w : World) →
-        Serving f w (state_by M.source M.sink M.disk machine.old)
+    ensures served { M.source_tells → M.sink_tells → M.disk_tells → (s : Store) →
+        Serving s (state_by M.source M.sink M.disk machine.old)
         (state_by M.source M.sink M.disk machine.old) archive.old reader.old [] →
         (pulls : List Pull) × M.asked machine.old pulls machine.new
-        × Serves f w result (state_by M.source M.sink M.disk machine.old)
+        × Serves s result (state_by M.source M.sink M.disk machine.old)
         (state_by M.source M.sink M.disk machine.new) pulls }
-    ensures asks { M.source_tells → M.sink_tells → M.disk_tells → (h : History) (image : Bytes) (began : MachineState) →
-        Asking h image began (state_by M.source M.sink M.disk machine.old) archive.old reader.old →
-        (asked : List PlainItem) → Splits true began.source.left asked [] → HasEnded h image result began (state_by M.source M.sink M.disk machine.new) asked }
 {
     'items: loop {
         match step(alloc, machine, reader, archive, page) {

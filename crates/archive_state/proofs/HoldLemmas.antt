@@ -1,5 +1,5 @@
 -- What the pages hold for live plans: over an entry more, over writes elsewhere, and with the places of a plan that is stored.
-use Rattle.std.proofs.Common.{◌≡◌, ◌⊎◌, ℕ, ◌≤◌, ◌-◌, Bool, true, false, cond, List, [], ◌∷◌, ◌++◌, map, filter, All, None, inl, inr, refl, ap, sym, subst, ◌∙◌, arith}
+use Rattle.std.proofs.Common.{◌≡◌, ◌⊎◌, ℕ, ◌≤◌, ◌-◌, Bool, true, false, cond, List, [], ◌∷◌, ◌++◌, length, map, filter, All, None, inl, inr, refl, ap, sym, subst, ◌∙◌, arith}
 use Rattle.std.specs.List.{flat_map, AllZip}
 use Rattle.std.proofs.lemmas.List.{append-nil}
 use Rattle.std.proofs.lemmas.List.Concat.{flat_map-append}
@@ -11,7 +11,8 @@ use Rattle.time_base.specs.declared.extent.Extent.{Extent}
 use Rattle.time_base.specs.declared.posting.Posting.{Posting}
 use Rattle.page_store.specs.Runs.{IsTaken}
 use Rattle.page_store.specs.Taken.{IsApartFrom, AreApart}
-use Rattle.page_store.specs.Ranges.{SameOutside, range_of}
+use Rattle.page_store.specs.Live.{IsInside}
+use Rattle.page_store.specs.Ranges.{SameOutside, bytes_in, range_of}
 use Rattle.page_store.specs.Wrote.{Wrote}
 use Rattle.page_store.specs.Wrote as wrote
 use Rattle.page_store.proofs.StayLemmas.{AreApartFrom, bytes_stay, taken_right, apart_parts, apart_left}
@@ -118,6 +119,43 @@ held_stays h others was pages apart same holds = record {
   each = plans_stay h (live_plans h) others was pages same (apart_parts others (live_extents h) apart).0 holds.each;
 }
 
+-- ---- the same bytes in live places
+
+-- of all extents of places one by one
+all_places : (P : Extent → Type 0) (places : List Place) (rest : List Extent) → All P (map (λ (q : Place). q.extent) places ++ rest) → All (λ (place : Place). P place.extent) places × All P rest
+all_places P [] rest all = (All-nil (λ (place : Place). P place.extent), all)
+all_places P (q ∷ places) rest all =
+    let es = map (λ (r : Place). r.extent) places ++ rest in
+    let more = all_places P places rest (All-tail P q.extent es all) in
+    (All-cons (λ (place : Place). P place.extent) q places (All-head P q.extent es all) more.0, more.1)
+
+-- an extent that lies inside these pages with the bytes that it has in those
+abbrev pub IsAlike : List ℕ → List ℕ → Extent → Type 0
+IsAlike was pages e = IsInside (length pages) e × (bytes_in e pages ≡ bytes_in e was)
+
+plans_alike : (h : History) (live : List StoredPlan) (was pages : List ℕ) → All (IsAlike was pages) (all_extents live) → All (λ stored. HoldsPlan h was stored.plan) live → All (λ stored. HoldsPlan h pages stored.plan) live
+plans_alike h [] was pages alike each = All-nil (λ (stored : StoredPlan). HoldsPlan h pages stored.plan)
+plans_alike h (s ∷ live) was pages alike each =
+    let P : StoredPlan → Type 0 = λ stored. HoldsPlan h was stored.plan in
+    let (own, rest) = all_places (IsAlike was pages) s.plan.places (all_extents live) alike in
+    let holds = All-head P s live each in
+    All-cons (λ (stored : StoredPlan). HoldsPlan h pages stored.plan) s live
+    (record {
+      list = holds.list;
+      list_is = holds.list_is;
+      each = each_follows (HoldsSublist s.plan.layout holds.list was) (HoldsSublist s.plan.layout holds.list pages) (λ (place : Place). IsAlike was pages place.extent)
+          (λ f g place is there. record {
+            inside = is.0;
+            bytes = is.1 ∙ there.bytes;
+            digest = (let D : List ℕ → Type 0 = λ l. place.digest ≡ sha256 l in subst D (sym is.1) there.digest);
+          }) (seconds s.plan.cuts) s.plan.horizon.seconds s.plan.places own holds.each;
+    })
+    (plans_alike h live was pages rest (All-tail P s live each))
+
+-- pages that have the same bytes in the live places hold what those held
+pub held_alike : (h : History) (was pages : List ℕ) → All (IsAlike was pages) (live_extents h) → HoldsPlans h was → HoldsPlans h pages
+held_alike h was pages alike holds = record { apart = holds.apart; each = plans_alike h (live_plans h) was pages alike holds.each }
+
 -- ---- a plan that is stored
 
 pub piece_extents : (places : List Place) (all : List (List ℕ)) → AllZip IsFor places all → wrote.extents_of (pieces_of places all) ≡ extents places
@@ -165,6 +203,37 @@ kept_apart keep (s ∷ live) apart = go (kept_apart keep live (apart_parts (exte
         rest (λ p mine other. (apart_parts (extents_of s.plan) (all_extents live) apart).0 p mine (kept_taken keep live p other))
     go rest false = rest
 
+-- no two live places share a page where a plan more has places apart from the live ones
+pub apart_more : (h : History) (plan : PlanEntry) → AreApart (extents plan.places ++ live_extents h) → AreApart (live_extents (h ++ Planned plan ∷ []))
+apart_more h plan apart =
+    let keep : StoredPlan → Bool = is_another plan.word in
+    let new : StoredPlan = record { gate = end_of h - 1; plan = plan } in
+    let kept = filter keep (live_plans h) in
+    let parts = apart_parts (extents plan.places) (live_extents h) apart in
+    let F : List Extent → Type 0 = λ es. AreApartFrom (all_extents kept) es in
+    let B : List Extent → Type 0 = λ es. AreApart es in
+    let one : all_extents (new ∷ []) ≡ extents plan.places = append-nil (extents plan.places) in
+    subst (λ (l : List StoredPlan). AreApart (all_extents l)) (sym (live_plans-push h (Planned plan))) (subst B (sym (flat_map-append (λ (stored : StoredPlan). extents_of stored.plan) kept (new ∷ [])))
+    (apart_join (all_extents kept) (all_extents (new ∷ [])) (kept_apart keep (live_plans h) parts.1)
+    (subst B (sym one) (apart_left (extents plan.places) (live_extents h) apart))
+    (subst F (sym one) (λ p other own. parts.0 p own (kept_taken keep (live_plans h) p other)))))
+
+-- pages that hold what the history needs, and the new plan's sublists, hold what the history with the plan needs
+pub held_with : (Good : Asks) (h : History) (plan : PlanEntry) (pages : List ℕ) → EachMayCome Good [] h → AreApart (live_extents (h ++ Planned plan ∷ [])) → HoldsPlans h pages → HoldsPlan (h ++ Planned plan ∷ []) pages plan
+    → HoldsPlans (h ++ Planned plan ∷ []) pages
+held_with Good h plan pages each apart holds own =
+    let next = h ++ Planned plan ∷ [] in
+    let keep : StoredPlan → Bool = is_another plan.word in
+    let new : StoredPlan = record { gate = end_of h - 1; plan = plan } in
+    let H : StoredPlan → Type 0 = λ stored. HoldsPlan next pages stored.plan in
+    let L : List StoredPlan → Type 0 = λ l. All H l in
+    record {
+      apart = apart;
+      each = subst L (sym (live_plans-push h (Planned plan))) (All-append H (filter keep (live_plans h)) (new ∷ [])
+          (All-filter keep H (live_plans h) (plans_later Good h next pages (live_plans h) (later_push h (Planned plan) refl) (live_planned Good h each) holds.each))
+          (All-cons H new [] own (All-nil H)));
+    }
+
 -- the pages hold what the history with the plan needs
 pub held_more : (Good : Asks) (h : History) (plan : PlanEntry) (list : List Posting) (was image : Bytes) → EachMayCome Good [] h
     → AreApart (extents plan.places ++ live_extents h) → AllZip IsFor plan.places (spellings plan.layout list (seconds plan.cuts) plan.horizon.seconds)
@@ -173,33 +242,11 @@ pub held_more : (Good : Asks) (h : History) (plan : PlanEntry) (list : List Post
 held_more Good h plan list was image each apart zip is past holds wrote =
     let all = spellings plan.layout list (seconds plan.cuts) plan.horizon.seconds in
     let next = h ++ Planned plan ∷ [] in
-    let later : IsLater h next = later_push h (Planned plan) refl in
-    let keep : StoredPlan → Bool = is_another plan.word in
-    let new : StoredPlan = record { gate = end_of h - 1; plan = plan } in
-    let kept = filter keep (live_plans h) in
-    let live : live_plans next ≡ kept ++ new ∷ [] = live_plans-push h (Planned plan) in
     let S : List Range → Type 0 = λ rs. SameOutside rs was.pages image.pages in
     let same = subst S (ap (map range_of) (piece_extents plan.places all zip)) wrote.elsewhere in
-    let stay = held_stays h (extents plan.places) was.pages image.pages apart same holds in
-    let parts = apart_parts (extents plan.places) (live_extents h) apart in
-    let H : StoredPlan → Type 0 = λ stored. HoldsPlan next image.pages stored.plan in
-    let L : List StoredPlan → Type 0 = λ l. All H l in
-    let A : List StoredPlan → Type 0 = λ l. AreApart (all_extents l) in
-    let B : List Extent → Type 0 = λ es. AreApart es in
-    let F : List Extent → Type 0 = λ es. AreApartFrom (all_extents kept) es in
-    let one : all_extents (new ∷ []) ≡ extents plan.places = append-nil (extents plan.places) in
-    record {
-      apart = subst A (sym live) (subst B (sym (flat_map-append (λ (stored : StoredPlan). extents_of stored.plan) kept (new ∷ [])))
-          (apart_join (all_extents kept) (all_extents (new ∷ [])) (kept_apart keep (live_plans h) holds.apart)
-          (subst B (sym one) (apart_left (extents plan.places) (live_extents h) apart))
-          (subst F (sym one) (λ p other own. parts.0 p own (kept_taken keep (live_plans h) p other)))));
-      each = subst L (sym live) (All-append H kept (new ∷ [])
-          (All-filter keep H (live_plans h) (plans_later Good h next image.pages (live_plans h) later (live_planned Good h each) stay.each))
-          (All-cons H new []
-          (record {
-            list = list;
-            list_is = list_later h next plan.word plan.horizon.seconds list later past is;
-            each = hold_sublists plan.layout list (seconds plan.cuts) plan.horizon.seconds plan.places image.pages zip wrote.each;
-          })
-          (All-nil H)));
-    }
+    held_with Good h plan image.pages each (apart_more h plan apart) (held_stays h (extents plan.places) was.pages image.pages apart same holds)
+    (record {
+      list = list;
+      list_is = list_later h next plan.word plan.horizon.seconds list (later_push h (Planned plan) refl) past is;
+      each = hold_sublists plan.layout list (seconds plan.cuts) plan.horizon.seconds plan.places image.pages zip wrote.each;
+    })

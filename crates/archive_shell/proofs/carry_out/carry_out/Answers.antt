@@ -1,13 +1,12 @@
-use Rattle.std.proofs.Common.{◌≡◌, [], Result, Ok, Err, ap, sym, ◌∙◌}
+use Rattle.std.proofs.Common.{[], Result, Ok, Err, ap, sym, ◌∙◌}
 use Rattle.machine_model.specs.States.{DiskState, SinkState}
-use Rattle.archive_state.specs.Histories.{History}
-use Rattle.archive_core.specs.Footings.{AreInStepOn, Footing}
+use Rattle.archive_core.specs.States.{AreInStepBy}
+use Rattle.archive_core.specs.Stored.{Store}
 use Rattle.archive_shell.specs.Outcomes.{CarriesOut}
 use Rattle.archive_shell.specs.declared.stop.Stop.{Stop}
-use Rattle.archive_shell.specs.declared.stop.Stop.TheVariants.{Damaged, Sink}
-use Rattle.archive_shell.proofs.OutcomeLemmas.{ShownTo, answers_on, cut_short, carried_out}
-use Rattle.archive_shell.proofs.PullLemmas.{halted_at, left_beside}
-use Rattle.archive_shell.proofs.QuestionLemmas.{is_question, shown_so}
+use Rattle.archive_shell.specs.declared.stop.Stop.TheVariants.{Sink}
+use Rattle.archive_shell.proofs.OutcomeLemmas.{ShownTo, cut_short, carried_out}
+use Rattle.archive_shell.proofs.PullLemmas.{left_beside}
 use Rattle.archive_shell.proofs.carry_out.carry_out.Given.{Over}
 use Rattle.archive_shell.proofs.carry_out.carry_out.Goals.{After-show}
 use Rattle.archive_shell.proofs.carry_out.carry_out.Goals as goal
@@ -16,10 +15,10 @@ pub returns-in-Err-clause-asked : goal.returns-in-Err-clause-asked
 returns-in-Err-clause-asked g c = g.met.M.Machine.asked_laws.of_disk c.args.machine.now c.answer.new.disk c.answer.ensures.only
 
 pub returns-in-Err-clause-outcome : goal.returns-in-Err-clause-outcome
-returns-in-Err-clause-outcome g c = λ disk_tells sink_tells f h in_step.
+returns-in-Err-clause-outcome g c = λ disk_tells sink_tells s in_step.
     let m = g.met.M.Machine in
-    rw (ap (λ (s : SinkState). s.shown) (m.disk_alone c.args.machine.now c.answer.new.disk c.answer.ensures.only).1)
-    (cut_short f h c.args.item c.in-Err.halt c.from.result _ _ _ _ _ (answers_on f h _ _ _ _ _ _ _ (c.in-Err.ensures.outcome disk_tells h) (c.in-Err.ensures.entered disk_tells h) in_step) c.from.ensures (m.beside_shown c.args.machine.now sink_tells disk_tells))
+    rw (ap (λ (t : SinkState). t.shown) (m.disk_alone c.args.machine.now c.answer.new.disk c.answer.ensures.only).1)
+    (cut_short s c.args.item c.in-Err.halt c.from.result _ _ _ _ _ (c.in-Err.ensures.outcome disk_tells s in_step) c.from.ensures (m.beside_shown c.args.machine.now sink_tells disk_tells))
 
 -- no pull was made
 asked : (g : Over) (c : After-show g) → g.M.Machine.asked c.args.machine.now [] c.show.new.sink
@@ -28,47 +27,29 @@ asked g c =
     (g.met.M.Machine.asked_laws.of_sink c.answer.new.disk c.show.new.sink c.show.ensures.only)
 
 -- the item has an outcome, and its reply was shown, or a front of it
-outcome : (g : Over) (c : After-show g) (result : Result (Unit {0}) Stop) → g.M.Disk.disk_tells → g.M.Sink.sink_tells → (f : Footing) (h : History) → AreInStepOn f (g.M.Disk.disk c.args.machine.now) c.args.archive.now h
+outcome : (g : Over) (c : After-show g) (result : Result (Unit {0}) Stop) → g.M.Disk.disk_tells → g.M.Sink.sink_tells → (s : Store) → AreInStepBy (g.M.Disk.disk c.args.machine.now) c.args.archive.now s
     → ShownTo (g.M.Sink.sink c.answer.new.disk).shown (g.M.Sink.sink c.show.new.sink).shown c.as_bytes.result.now result
-    → CarriesOut f h c.args.item result (g.M.Sink.sink c.args.machine.now).shown (g.M.Sink.sink c.show.new.sink).shown (g.M.Disk.disk c.args.machine.now) (g.M.Disk.disk c.show.new.sink) c.answer.new.archive
-outcome g c result disk_tells sink_tells f h in_step to =
+    → CarriesOut s c.args.item result (g.M.Sink.sink c.args.machine.now).shown (g.M.Sink.sink c.show.new.sink).shown (g.M.Disk.disk c.args.machine.now) (g.M.Disk.disk c.show.new.sink) c.answer.new.archive
+outcome g c result disk_tells sink_tells s in_step to =
     let m = g.met.M.Machine in
     let mid = c.answer.new.disk in
     let last = c.show.new.sink in
-    let shown = ap (λ (s : SinkState). s.shown) (m.disk_alone c.args.machine.now mid c.answer.ensures.only).1 in
-    rw shown at (carried_out f h c.args.item result (g.M.Sink.sink mid).shown (g.M.Sink.sink last).shown (g.M.Disk.disk c.args.machine.now) (g.M.Disk.disk mid) (g.M.Disk.disk last) c.answer.new.archive c.as_bytes.result.now
-    (rw (← c.as_bytes.ensures) at (answers_on f h _ _ _ _ _ _ _ (c.in-Ok.ensures.outcome disk_tells h) (c.in-Ok.ensures.entered disk_tells h) in_step)) (m.beside_shown c.args.machine.now sink_tells disk_tells ∙ sym shown)
+    let shown = ap (λ (t : SinkState). t.shown) (m.disk_alone c.args.machine.now mid c.answer.ensures.only).1 in
+    rw shown at (carried_out s c.args.item result (g.M.Sink.sink mid).shown (g.M.Sink.sink last).shown (g.M.Disk.disk c.args.machine.now) (g.M.Disk.disk mid) (g.M.Disk.disk last) c.answer.new.archive c.as_bytes.result.now
+    (rw (← c.as_bytes.ensures) at (c.in-Ok.ensures.outcome disk_tells s in_step)) (m.beside_shown c.args.machine.now sink_tells disk_tells ∙ sym shown)
     (m.shows mid last sink_tells disk_tells c.show.ensures.only) (m.sink_alone mid last c.show.ensures.only).1 (c.show.ensures.front sink_tells) to)
 
 pub returns-in-Ok-show-clause-asked : goal.returns-in-Ok-show-clause-asked
 returns-in-Ok-show-clause-asked g c = asked g (goal.at.returns-in-Ok-show-clause-asked g c).After-show
 
 pub returns-in-Ok-show-clause-outcome : goal.returns-in-Ok-show-clause-outcome
-returns-in-Ok-show-clause-outcome g c = λ disk_tells sink_tells f h in_step. outcome g (goal.at.returns-in-Ok-show-clause-outcome g c).After-show (Ok tt) disk_tells sink_tells f h in_step (c.in-Ok-show.ensures.whole sink_tells)
+returns-in-Ok-show-clause-outcome g c = λ disk_tells sink_tells s in_step. outcome g (goal.at.returns-in-Ok-show-clause-outcome g c).After-show (Ok tt) disk_tells sink_tells s in_step (c.in-Ok-show.ensures.whole sink_tells)
 
 pub returns-in-Err-show-clause-asked : goal.returns-in-Err-show-clause-asked
 returns-in-Err-show-clause-asked g c = asked g (goal.at.returns-in-Err-show-clause-asked g c).After-show
 
 pub returns-in-Err-show-clause-outcome : goal.returns-in-Err-show-clause-outcome
-returns-in-Err-show-clause-outcome g c = λ disk_tells sink_tells f h in_step. outcome g (goal.at.returns-in-Err-show-clause-outcome g c).After-show (Err Sink) disk_tells sink_tells f h in_step (c.in-Err-show.ensures.short sink_tells)
-
-pub returns-in-Ok-show-clause-question : goal.returns-in-Ok-show-clause-question
-returns-in-Ok-show-clause-question g c = λ disk_tells sink_tells h stands cached question.
-    let m = g.met.M.Machine in
-    let mid = c.answer.new.disk in
-    let still = c.in-Ok.ensures.still question in
-    let told = c.in-Ok.ensures.by_reads disk_tells h stands cached in
-    shown_so h c.args.item c.answer.new.page.bytes c.as_bytes.result.now _ (g.M.Sink.sink mid).shown _ _ (g.M.Disk.disk mid) _ _ _ still.0 still.1 (told.made question) told.fetched (m.sink_alone mid c.show.new.sink c.show.ensures.only).1
-    (ap (λ (s : SinkState). s.shown) (m.disk_alone c.args.machine.now mid c.answer.ensures.only).1) c.as_bytes.ensures (c.in-Ok-show.ensures.whole sink_tells)
-
-pub returns-in-Err-clause-damaged : goal.returns-in-Err-clause-damaged
-returns-in-Err-clause-damaged g c = λ tells h stands cached d is.
-    let m = c.args.machine.now in
-    let mid = c.answer.new.disk in
-    let same : c.from.result ≡ Damaged d = cc in
-    let spoiled = (c.in-Err.ensures.by_reads tells h stands cached).damaged d (ap Err (halted_at c.in-Err.halt d (sym c.from.ensures ∙ same))) in
-    let still = c.in-Err.ensures.still (is_question h (g.M.Disk.disk m).holds.pages c.args.item d spoiled) in
-    (spoiled, ap (λ (d : DiskState). d.holds.pages) still.0, (g.met.M.Machine.disk_alone m mid c.answer.ensures.only).1)
+returns-in-Err-show-clause-outcome g c = λ disk_tells sink_tells s in_step. outcome g (goal.at.returns-in-Err-show-clause-outcome g c).After-show (Err Sink) disk_tells sink_tells s in_step (c.in-Err-show.ensures.short sink_tells)
 
 pub returns-in-Ok-show-clause-left : goal.returns-in-Ok-show-clause-left
 returns-in-Ok-show-clause-left g c = left_beside _ _ _ _ _ _ (g.met.M.Machine.sink_alone c.answer.new.disk c.show.new.sink c.show.ensures.only).1 c.in-Ok.ensures.left

@@ -1,13 +1,18 @@
-use Rattle.std.proofs.Common.{◌≡◌, [], refl, inl, inr}
+use Rattle.std.proofs.Common.{◌≡◌, [], refl, inl, inr, sym, subst, ◌∙◌}
 use Rattle.machine_model.proofs.MomentLemmas.{goes_on_same}
 use Rattle.program_words.specs.Words.{AreWords, texts}
 use Rattle.program_words.specs.declared.task.Task.{Task}
 use Rattle.program_words.specs.declared.task.Task.TheVariants as tasks
-use Rattle.archive_core.specs.Footings.{Alone, Whole}
+use Rattle.archive_state.specs.Stands.{StandsIn}
+use Rattle.archive_state.specs.Steps.{Step}
+use Rattle.archive_state.specs.Worlds.{world_of}
+use Rattle.archive_core.specs.Stored.{StandsBy, StoreStep}
+use Rattle.archive_shell.specs.Headline.{CarriesOutAll, store_of}
 use Rattle.archive_shell.specs.declared.status.Status.TheVariants.{Memory}
 use Rattle.archive_shell.proofs.PullLemmas.{not_pulled}
 use Rattle.archive_shell.proofs.SampleLemmas.{not_loaded}
-use Rattle.archive_shell.proofs.ServeLemmas.{bodies_still, keeps_still, not_begun}
+use Rattle.archive_shell.proofs.ServeLemmas.{bodies_still, kept_by, keeps_still, keeps_still_by, not_begun}
+use Rattle.archive_shell.proofs.StandingLemmas.{kept_history}
 use Rattle.archive_shell.proofs.program.run.Given.{Over}
 use Rattle.archive_shell.proofs.program.run.Goals.{In-Err}
 use Rattle.archive_shell.proofs.program.run.Goals as goal
@@ -19,19 +24,30 @@ memory g c task are = elim c.in-Err.ensures.refused as (λ _. c.in-Err.status �
 pub returns-in-Err-clause-headline : goal.returns-in-Err-clause-headline
 returns-in-Err-clause-headline g c = λ source_tells sink_tells disk_tells are h stands.
     let m = c.args.machine.now in
+    let d = g.M.Disk.disk m in
     let none = memory g (goal.at.returns-in-Err-clause-headline g c).In-Err tasks.Script are in (
       [],
       g.met.M.Machine.asked_laws.of_disk m m (g.met.M.Disk.only_same m),
-      not_begun Whole h c.in-Err.status _ _ (inr (inr (inl none))) (rw none tt) (refl, refl) (g.met.M.Machine.beside_shown m sink_tells disk_tells) (keeps_still Whole h (g.M.Disk.disk m)),
+        record {
+          headline = not_begun Step StandsIn (world_of h) c.in-Err.status _ _ (inr (inr (inl none))) (refl, refl) (kept_history h d d _ (g.met.M.Machine.beside_shown m sink_tells disk_tells) (keeps_still h d));
+          over_all = refl;
+          undamaged = λ damage is. (let both = sym none ∙ is in absurd cc);
+        },
     )
 
-pub returns-in-Err-clause-kept : goal.returns-in-Err-clause-kept
-returns-in-Err-clause-kept g c = λ source_tells sink_tells disk_tells are h stands.
+pub returns-in-Err-clause-by_reads : goal.returns-in-Err-clause-by_reads
+returns-in-Err-clause-by_reads g c = λ source_tells sink_tells disk_tells are h begins.
     let m = c.args.machine.now in
-    let none = memory g (goal.at.returns-in-Err-clause-kept g c).In-Err tasks.Script are in (
+    let d = g.M.Disk.disk m in
+    let s = store_of h d in
+    let none = memory g (goal.at.returns-in-Err-clause-by_reads g c).In-Err tasks.Script are in (
       [],
       g.met.M.Machine.asked_laws.of_disk m m (g.met.M.Disk.only_same m),
-      not_begun Alone h c.in-Err.status _ _ (inr (inr (inl none))) (rw none tt) (refl, refl) (g.met.M.Machine.beside_shown m sink_tells disk_tells) (keeps_still Alone h (g.M.Disk.disk m)),
+        record {
+          headline = not_begun StoreStep StandsBy s c.in-Err.status _ _ (inr (inr (inl none))) (refl, refl) (kept_by s d d _ (g.met.M.Machine.beside_shown m sink_tells disk_tells) (keeps_still_by s d));
+          damaged = λ damage is. (let both = sym none ∙ is in absurd cc);
+          read = λ done. absurd (subst CarriesOutAll none done);
+        },
     )
 
 pub returns-in-Err-clause-complete : goal.returns-in-Err-clause-complete
@@ -50,13 +66,13 @@ pub returns-in-Err-clause-occupied : goal.returns-in-Err-clause-occupied
 returns-in-Err-clause-occupied g c = λ disk_tells numbers are h spelled loads some. inr (inr (inl (memory g (goal.at.returns-in-Err-clause-occupied g c).In-Err (tasks.Generate numbers) are)))
 
 pub returns-in-Err-clause-spared : goal.returns-in-Err-clause-spared
-returns-in-Err-clause-spared g c = λ disk_tells numbers are h each some. (refl, keeps_still Whole h (g.M.Disk.disk c.args.machine.now) each)
+returns-in-Err-clause-spared g c = λ disk_tells numbers are h each some. (refl, keeps_still h (g.M.Disk.disk c.args.machine.now) each)
 
 pub returns-in-Err-clause-sampled : goal.returns-in-Err-clause-sampled
 returns-in-Err-clause-sampled g c = λ sink_tells disk_tells numbers are stands.
     let m = c.args.machine.now in
     not_loaded numbers.seed numbers.count c.in-Err.status _ _ _ _ (rw (memory g (goal.at.returns-in-Err-clause-sampled g c).In-Err (tasks.Generate numbers) are) tt) (g.met.M.Machine.beside_shown m sink_tells disk_tells) refl
-    (goes_on_same (g.M.Disk.disk m)) (keeps_still Whole [] (g.M.Disk.disk m))
+    (goes_on_same (g.M.Disk.disk m)) (keeps_still [] (g.M.Disk.disk m))
 
 pub returns-in-Err-clause-filled : goal.returns-in-Err-clause-filled
 returns-in-Err-clause-filled g c = λ disk_tells numbers are stands disk sink. inr (memory g (goal.at.returns-in-Err-clause-filled g c).In-Err (tasks.Generate numbers) are)
@@ -76,10 +92,10 @@ returns-in-Generate-clause-not_empty g c = λ n is.
     (full.0, (c.in-Generate.numbers, rw c.in-Generate.is at c.in-Ok.ensures.read), full.1)
 
 pub returns-in-Script-clause-headline : goal.returns-in-Script-clause-headline
-returns-in-Script-clause-headline g c = λ source_tells sink_tells disk_tells are h stands. c.run_script.ensures.headline source_tells sink_tells disk_tells Whole h stands
+returns-in-Script-clause-headline g c = λ source_tells sink_tells disk_tells are h stands. c.run_script.ensures.headline source_tells sink_tells disk_tells h stands
 
-pub returns-in-Script-clause-kept : goal.returns-in-Script-clause-kept
-returns-in-Script-clause-kept g c = λ source_tells sink_tells disk_tells are h begins. c.run_script.ensures.headline source_tells sink_tells disk_tells Alone h begins
+pub returns-in-Script-clause-by_reads : goal.returns-in-Script-clause-by_reads
+returns-in-Script-clause-by_reads g c = λ source_tells sink_tells disk_tells are h begins. c.run_script.ensures.by_reads source_tells sink_tells disk_tells h begins
 
 pub returns-in-Err-clause-unwritten : goal.returns-in-Err-clause-unwritten
 returns-in-Err-clause-unwritten g c = λ disk_tells numbers are bodies each some. (refl, bodies_still bodies (g.M.Disk.disk c.args.machine.now) each)

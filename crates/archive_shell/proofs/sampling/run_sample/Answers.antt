@@ -12,7 +12,6 @@ use Rattle.archive_shell.specs.declared.status.Status.TheVariants.{Disk, Sink, M
 use Rattle.gate_journal.proofs.SpellingLemmas.{spells_once}
 use Rattle.record_codec.specs.Spelling.{spelling}
 use Rattle.std.proofs.lemmas.List.{length-map}
-use Rattle.archive_core.specs.Footings.{Whole}
 use Rattle.archive_shell.proofs.SampleLemmas.{empty_stands, not_loaded, sample_completes}
 use Rattle.archive_shell.proofs.ServeLemmas.{bodies_still, keeps_still, load_completes, load_refused, load_undone, synced_if_refused}
 use Rattle.archive_shell.proofs.sampling.run_sample.Given.{Over}
@@ -20,12 +19,12 @@ use Rattle.archive_shell.proofs.sampling.run_sample.Goals.{After-fill_and_show, 
 use Rattle.archive_shell.proofs.sampling.run_sample.Goals as goal
 
 pub returns-in-Err-clause-spared : goal.returns-in-Err-clause-spared
-returns-in-Err-clause-spared g c = λ disk_tells h each some. (refl, keeps_still Whole h (g.M.Disk.disk c.args.machine.now) each)
+returns-in-Err-clause-spared g c = λ disk_tells h each some. (refl, keeps_still h (g.M.Disk.disk c.args.machine.now) each)
 
 pub returns-in-Err-clause-sampled : goal.returns-in-Err-clause-sampled
 returns-in-Err-clause-sampled g c = λ sink_tells disk_tells stands.
     let m = c.args.machine.now in
-    not_loaded c.args.numbers.seed c.args.numbers.count Memory _ _ _ _ tt (g.met.M.Machine.beside_shown m sink_tells disk_tells) refl (goes_on_same (g.M.Disk.disk m)) (keeps_still Whole [] (g.M.Disk.disk m))
+    not_loaded c.args.numbers.seed c.args.numbers.count Memory _ _ _ _ tt (g.met.M.Machine.beside_shown m sink_tells disk_tells) refl (goes_on_same (g.M.Disk.disk m)) (keeps_still [] (g.M.Disk.disk m))
 
 pub returns-in-Err-load-clause-refused : goal.returns-in-Err-load-clause-refused
 returns-in-Err-load-clause-refused g c = λ disk_tells at refused.

@@ -1,39 +1,53 @@
-use Rattle.std.proofs.Common.{true, List, [], length, Err, refl, inl, inr, ap, subst}
-use Rattle.std.proofs.lemmas.List.Elements.{All-nil}
-use Rattle.machine_model.specs.Areas.{Bytes}
-use Rattle.machine_model.specs.declared.area.Area.TheVariants as areas
+use Rattle.std.proofs.Common.{ℕ, List, [], length, Err, refl, inl, inr, ap, subst}
+use Rattle.machine_model.specs.Pulls.{Pull}
 use Rattle.machine_model.specs.States.{SourceState, SinkState, state_by}
-use Rattle.commands.specs.declared.command.Item.{Item}
-use Rattle.page_store.specs.Live.{AreLive, IsInside}
-use Rattle.script_read.specs.Items.{Splits}
+use Rattle.page_store.specs.Live.{AreLive}
 use Rattle.archive_state.specs.Histories.{History}
 use Rattle.archive_state.specs.Plans.{live_extents}
+use Rattle.archive_state.specs.Stands.{StandsIn}
+use Rattle.archive_state.specs.Steps.{Step}
 use Rattle.archive_state.specs.Worlds.{world_of}
 use Rattle.archive_state.proofs.StandsLemmas.{not_archive_once}
-use Rattle.archive_core.proofs.AddLemmas.{lie_well}
-use Rattle.archive_shell.specs.Asking.{HasEnded}
+use Rattle.archive_core.specs.Stored.{StandsBy, StoreStep}
 use Rattle.archive_shell.specs.Causes.{MayEnd}
-use Rattle.archive_shell.specs.Fetching.{ReadsMissed}
-use Rattle.archive_shell.specs.Headline.{LoadsAs}
-use Rattle.archive_shell.specs.Questions.{AreMade, AreMadeUpTo}
+use Rattle.archive_shell.specs.Headline.{EndsEarly, LoadsAs, store_of}
 use Rattle.archive_shell.specs.Serving.{Serves}
 use Rattle.archive_shell.specs.declared.status.Status.TheVariants.{Memory}
-use Rattle.archive_shell.proofs.PullLemmas.{completes, ends_later, later_alone, not_pulled, pulling_start}
-use Rattle.archive_shell.proofs.QuestionLemmas.{asking_start, at_start, made_anywhere, reads_anywhere, stopped_anywhere}
-use Rattle.archive_shell.proofs.ServeLemmas.{begins_archive, begins_in_step, begins_sound, keeps_still, load_keeps, load_completes, load_early, load_ends, load_fails, load_refused, load_undone, not_begun, serving_start, synced_if_refused, syncs_still, whole_run}
+use Rattle.archive_shell.proofs.PullLemmas.{completes, ends_later, later_alone, not_early, not_pulled, pulling_start}
+use Rattle.archive_shell.proofs.ServeLemmas.{begins_in_step, kept_by, keeps_still, keeps_still_by, load_keeps, load_completes, load_early, load_ends, load_fails, load_refused, load_undamaged, loads_archive, not_begun, serving_start, stands_loads, synced_if_refused, syncs_still, whole_run}
+use Rattle.archive_shell.proofs.StandingLemmas.{kept_history, standing_run}
 use Rattle.archive_shell.proofs.script.run_script.Given.{Over}
-use Rattle.archive_shell.proofs.script.run_script.Goals.{After-serve}
+use Rattle.archive_shell.proofs.script.run_script.Goals.{After-serve, In-Err-load}
 use Rattle.archive_shell.proofs.script.run_script.Goals as goal
 
 pub returns-in-Err-clause-left_alone : goal.returns-in-Err-clause-left_alone
 returns-in-Err-clause-left_alone g c = λ disk_tells at refused. (refl, refl, syncs_still (g.M.Disk.disk c.args.machine.now))
 
 pub returns-in-Err-clause-headline : goal.returns-in-Err-clause-headline
-returns-in-Err-clause-headline g c = λ source_tells sink_tells disk_tells f h begins.
-    let m = c.args.machine.now in (
+returns-in-Err-clause-headline g c = λ source_tells sink_tells disk_tells h stands.
+    let m = c.args.machine.now in
+    let d = g.M.Disk.disk m in (
       [],
       g.met.M.Machine.asked_laws.of_disk m m (g.met.M.Disk.only_same m),
-      not_begun f h Memory _ _ (inr (inr (inl refl))) tt (refl, refl) (g.met.M.Machine.beside_shown m sink_tells disk_tells) (keeps_still f h (g.M.Disk.disk m)),
+        record {
+          headline = not_begun Step StandsIn (world_of h) Memory _ _ (inr (inr (inl refl))) (refl, refl) (kept_history h d d _ (g.met.M.Machine.beside_shown m sink_tells disk_tells) (keeps_still h d));
+          over_all = refl;
+          undamaged = λ damage is. cc;
+        },
+    )
+
+pub returns-in-Err-clause-by_reads : goal.returns-in-Err-clause-by_reads
+returns-in-Err-clause-by_reads g c = λ source_tells sink_tells disk_tells h begins.
+    let m = c.args.machine.now in
+    let d = g.M.Disk.disk m in
+    let s = store_of h d in (
+      [],
+      g.met.M.Machine.asked_laws.of_disk m m (g.met.M.Disk.only_same m),
+        record {
+          headline = not_begun StoreStep StandsBy s Memory _ _ (inr (inr (inl refl))) (refl, refl) (kept_by s d d _ (g.met.M.Machine.beside_shown m sink_tells disk_tells) (keeps_still_by s d));
+          damaged = λ damage is. cc;
+          read = λ done. absurd done;
+        },
     )
 
 pub returns-in-Err-clause-loaded : goal.returns-in-Err-clause-loaded
@@ -51,15 +65,40 @@ returns-in-Err-load-clause-left_alone g c = λ disk_tells at refused.
     let alone = g.met.M.Machine.disk_alone _ _ c.load.ensures.only in
     (alone.0, alone.1, synced_if_refused (g.M.Disk.disk c.args.machine.now) (g.M.Disk.disk c.load.new.disk) at refused (c.in-Err-load.ensures.longer disk_tells))
 
+-- a load that failed ends the run early
+early : (g : Over) (c : In-Err-load g) (tells : g.M.Disk.disk_tells) (h : History) → LoadsAs h (g.M.Disk.disk c.args.machine.now).holds → EndsEarly c.from.result
+early g c tells h begins = load_early c.from.result c.in-Err-load.error c.from.ensures (λ at is. loads_archive h (g.M.Disk.disk c.args.machine.now).holds at begins (c.in-Err-load.ensures.not_archive tells at (ap Err is)))
+
 pub returns-in-Err-load-clause-headline : goal.returns-in-Err-load-clause-headline
-returns-in-Err-load-clause-headline g c = λ source_tells sink_tells disk_tells f h begins.
+returns-in-Err-load-clause-headline g c = λ source_tells sink_tells disk_tells h stands.
     let m = c.args.machine.now in
     let n = c.load.new.disk in
-    let early = load_early c.from.result c.in-Err-load.error c.from.ensures (λ at is. begins_archive f h (g.M.Disk.disk m).holds at begins (c.in-Err-load.ensures.not_archive disk_tells at (ap Err is))) in (
+    let ends = early g (goal.at.returns-in-Err-load-clause-headline g c).In-Err-load disk_tells h (stands_loads h (g.M.Disk.disk m).holds stands) in (
       [],
       g.met.M.Machine.asked_laws.of_disk m n c.load.ensures.only,
-      not_begun f h c.from.result _ _ early (load_undone c.from.result c.in-Err-load.error c.from.ensures) (g.met.M.Machine.disk_alone m n c.load.ensures.only)
-          (g.met.M.Machine.beside_shown m sink_tells disk_tells) (load_keeps f h _ _ (c.load.ensures.crash disk_tells h) (c.load.ensures.kept disk_tells)),
+        record {
+          headline = not_begun Step StandsIn (world_of h) c.from.result _ _ ends (g.met.M.Machine.disk_alone m n c.load.ensures.only)
+              (kept_history h (g.M.Disk.disk m) (g.M.Disk.disk n) _ (g.met.M.Machine.beside_shown m sink_tells disk_tells) (c.load.ensures.crash disk_tells h));
+          over_all = refl;
+          undamaged = λ damage is. load_undamaged c.from.result c.in-Err-load.error damage c.from.ensures is;
+        },
+    )
+
+pub returns-in-Err-load-clause-by_reads : goal.returns-in-Err-load-clause-by_reads
+returns-in-Err-load-clause-by_reads g c = λ source_tells sink_tells disk_tells h begins.
+    let m = c.args.machine.now in
+    let n = c.load.new.disk in
+    let d = g.M.Disk.disk m in
+    let s = store_of h d in
+    let ends = early g (goal.at.returns-in-Err-load-clause-by_reads g c).In-Err-load disk_tells h begins in (
+      [],
+      g.met.M.Machine.asked_laws.of_disk m n c.load.ensures.only,
+        record {
+          headline = not_begun StoreStep StandsBy s c.from.result _ _ ends (g.met.M.Machine.disk_alone m n c.load.ensures.only)
+              (kept_by s d (g.M.Disk.disk n) _ (g.met.M.Machine.beside_shown m sink_tells disk_tells) (load_keeps s d (g.M.Disk.disk n) (c.load.ensures.kept disk_tells) (c.load.ensures.pages disk_tells)));
+          damaged = λ damage is. absurd (load_undamaged c.from.result c.in-Err-load.error damage c.from.ensures is);
+          read = λ done. absurd (not_early c.from.result ends done);
+        },
     )
 
 pub returns-in-Err-load-clause-loaded : goal.returns-in-Err-load-clause-loaded
@@ -97,21 +136,47 @@ returns-clause-refused g c = λ disk_tells at refused. absurd (c.in-Ok-load.ensu
 pub returns-clause-left_alone : goal.returns-clause-left_alone
 returns-clause-left_alone g c = λ disk_tells at refused. absurd (c.in-Ok-load.ensures.exact disk_tells at refused)
 
-pub returns-clause-headline : goal.returns-clause-headline
-returns-clause-headline g c = λ source_tells sink_tells disk_tells f h begins.
+-- the items, behind the load
+served : (g : Over) (c : After-serve g) → g.M.Source.source_tells → g.M.Sink.sink_tells → g.M.Disk.disk_tells → (h : History) → LoadsAs h (g.M.Disk.disk c.args.machine.now).holds
+    → (pulls : List Pull) × g.M.Machine.asked c.args.machine.now pulls c.serve.new.machine × Serves (store_of h (g.M.Disk.disk c.args.machine.now)) c.serve.result
+    (record { source = g.M.Source.source c.args.machine.now; sink = g.M.Sink.sink c.args.machine.now; disk = g.M.Disk.disk c.load.new.disk }) (state_by g.M.Source.source g.M.Sink.sink g.M.Disk.disk c.serve.new.machine) pulls
+served g c source_tells sink_tells disk_tells h begins =
     let m = c.args.machine.now in
     let n = c.load.new.disk in
+    let d = g.M.Disk.disk m in
+    let s = store_of h d in
     let last = c.serve.new.machine in
     let alone = g.met.M.Machine.disk_alone m n c.load.ensures.only in
-    let served = c.serve.ensures.served source_tells sink_tells disk_tells f (world_of h)
-    (serving_start f h (state_by g.M.Source.source g.M.Sink.sink g.M.Disk.disk n) c.in-Ok-load.archive c.in-Ok.desk.reader c.in-Ok.ensures (g.met.M.Machine.beside_shown n sink_tells disk_tells)
-    (begins_sound f h (g.M.Disk.disk m).holds begins) (begins_in_step f h (g.M.Disk.disk m).holds (g.M.Disk.disk n) c.in-Ok-load.archive (c.in-Ok-load.ensures.in_step disk_tells h) (c.in-Ok-load.ensures.recorded disk_tells) begins)) in
-    let S : SourceState → SinkState → Type 0 = λ s t. Serves f (world_of h) c.serve.result (record { source = s; sink = t; disk = g.M.Disk.disk n }) (state_by g.M.Source.source g.M.Sink.sink g.M.Disk.disk last) served.0 in (
+    let in_step = begins_in_step h d (g.M.Disk.disk n) c.in-Ok-load.archive c.in-Ok-load.ensures.empty (c.load.ensures.unread disk_tells) (c.in-Ok-load.ensures.by_reads disk_tells) begins in
+    let served = c.serve.ensures.served source_tells sink_tells disk_tells s
+    (serving_start s (state_by g.M.Source.source g.M.Sink.sink g.M.Disk.disk n) c.in-Ok-load.archive c.in-Ok.desk.reader c.in-Ok.ensures (g.met.M.Machine.beside_shown n sink_tells disk_tells) in_step) in
+    let S : SourceState → SinkState → Type 0 = λ x y. Serves s c.serve.result (record { source = x; sink = y; disk = g.M.Disk.disk n }) (state_by g.M.Source.source g.M.Sink.sink g.M.Disk.disk last) served.0 in (
       served.0,
       g.met.M.Machine.asked_laws.join m n last [] served.0 (g.met.M.Machine.asked_laws.of_disk m n c.load.ensures.only) served.1,
-      whole_run f h c.serve.result (state_by g.M.Source.source g.M.Sink.sink g.M.Disk.disk m) (g.M.Disk.disk n) (state_by g.M.Source.source g.M.Sink.sink g.M.Disk.disk last) served.0
-          (g.met.M.Machine.beside_shown m sink_tells disk_tells) (load_keeps f h _ _ (c.load.ensures.crash disk_tells h) (c.load.ensures.kept disk_tells))
-          (subst (λ (s : SourceState). S s (g.M.Sink.sink m)) alone.0 (subst (λ (t : SinkState). S (g.M.Source.source n) t) alone.1 served.2)),
+      subst (λ (x : SourceState). S x (g.M.Sink.sink m)) alone.0 (subst (λ (y : SinkState). S (g.M.Source.source n) y) alone.1 served.2),
+    )
+
+pub returns-clause-headline : goal.returns-clause-headline
+returns-clause-headline g c = λ source_tells sink_tells disk_tells h stands.
+    let m = c.args.machine.now in
+    let d = g.M.Disk.disk m in
+    let (pulls, asked, serves) = served g (goal.at.returns-clause-headline g c).After-serve source_tells sink_tells disk_tells h (stands_loads h d.holds stands) in (
+      pulls,
+      asked,
+        standing_run (store_of h d) c.serve.result (state_by g.M.Source.source g.M.Sink.sink g.M.Disk.disk m) (g.M.Disk.disk c.load.new.disk) (state_by g.M.Source.source g.M.Sink.sink g.M.Disk.disk c.serve.new.machine) pulls
+            (record { legal = stands.legal; held = stands.held }) (g.met.M.Machine.beside_shown m sink_tells disk_tells) (c.load.ensures.crash disk_tells h) serves,
+    )
+
+pub returns-clause-by_reads : goal.returns-clause-by_reads
+returns-clause-by_reads g c = λ source_tells sink_tells disk_tells h begins.
+    let m = c.args.machine.now in
+    let d = g.M.Disk.disk m in
+    let n = g.M.Disk.disk c.load.new.disk in
+    let (pulls, asked, serves) = served g (goal.at.returns-clause-by_reads g c).After-serve source_tells sink_tells disk_tells h begins in (
+      pulls,
+      asked,
+        whole_run (store_of h d) c.serve.result (state_by g.M.Source.source g.M.Sink.sink g.M.Disk.disk m) n (state_by g.M.Source.source g.M.Sink.sink g.M.Disk.disk c.serve.new.machine) pulls
+            (g.met.M.Machine.beside_shown m sink_tells disk_tells) (load_keeps (store_of h d) d n (c.load.ensures.kept disk_tells) (c.load.ensures.pages disk_tells)) serves,
     )
 
 pub returns-clause-input_at : goal.returns-clause-input_at
@@ -125,51 +190,7 @@ returns-clause-complete g c = λ source_tells sink_tells disk_tells archive scri
     let may = cause g (goal.at.returns-clause-complete g c).After-serve in
     completes c.serve.result _ _ (c.serve.ensures.ends source_tells _ (pulling_start _ _ c.in-Ok.desk.reader alone.0 c.in-Ok.ensures)) may script few (λ is. disk (may.disk is)) (λ is. source (may.source is)) (λ is. sink (may.sink is))
 
--- how the run of questions ended, by the bytes behind the load
-ended : (g : Over) (c : After-serve g) → g.M.Source.source_tells → g.M.Sink.sink_tells → (tells : g.M.Disk.disk_tells) (asked : List Item) → Splits true (g.M.Source.source c.args.machine.now).left asked []
-    → HasEnded (c.in-Ok-load.ensures.found tells).0 (g.M.Disk.disk c.load.new.disk).holds c.serve.result
-    (state_by g.M.Source.source g.M.Sink.sink g.M.Disk.disk c.args.machine.now) (state_by g.M.Source.source g.M.Sink.sink g.M.Disk.disk c.serve.new.machine) asked
-ended g c source_tells sink_tells tells =
-    let m = state_by g.M.Source.source g.M.Sink.sink g.M.Disk.disk c.args.machine.now in
-    let n = state_by g.M.Source.source g.M.Sink.sink g.M.Disk.disk c.load.new.disk in
-    let found = c.in-Ok-load.ensures.found tells in
-    c.serve.ensures.asks source_tells sink_tells tells found.0 n.disk.holds m (asking_start found.0 m n c.in-Ok-load.archive c.in-Ok.desk.reader
-    (g.met.M.Machine.disk_alone c.args.machine.now c.load.new.disk c.load.ensures.only) (c.load.ensures.unread tells) c.in-Ok.ensures found.1.0 c.in-Ok-load.ensures.empty)
-
--- what is told by these bytes, for the history that was found, is told by those at entry
-loaded : (g : Over) (c : After-serve g) (tells : g.M.Disk.disk_tells) (P : History → Bytes → Type 0) → ((p q : Bytes) → P [] p → P [] q) → P (c.in-Ok-load.ensures.found tells).0 (g.M.Disk.disk c.load.new.disk).holds
-    → (h : History) × LoadsAs h (g.M.Disk.disk c.args.machine.now).holds × P h (g.M.Disk.disk c.args.machine.now).holds
-loaded g c tells P anywhere told =
-    let found = c.in-Ok-load.ensures.found tells in
-    let first = λ (Q : History → Bytes → Type 0) (none : (p q : Bytes) → Q [] p → Q [] q). at_start Q none found.0 (g.M.Disk.disk c.args.machine.now) (g.M.Disk.disk c.load.new.disk) found.1.1 found.1.0.loadable (c.in-Ok-load.ensures.longer tells) in (
-      found.0,
-      record {
-        spelled = found.1.1;
-        loadable = found.1.0.loadable;
-        live = first (λ h b. AreLive (live_extents h) (length b.pages)) (λ p q live. (All-nil (IsInside (length q.pages)), tt)) (lie_well found.0 (g.M.Disk.disk c.load.new.disk) c.in-Ok-load.archive found.1.0 c.in-Ok-load.ensures.within (g.met.M.Disk.reach_holds c.load.new.disk areas.Pages tells));
-      },
-      first P anywhere told,
-    )
-
 pub returns-clause-loaded : goal.returns-clause-loaded
 returns-clause-loaded g c = λ disk_tells.
-    let found = loaded g (goal.at.returns-clause-loaded g c).After-serve disk_tells (λ h b. Unit {0}) (λ p q any. any) tt in
-    inl (found.0, found.1)
-
-pub returns-clause-questions : goal.returns-clause-questions
-returns-clause-questions g c = λ source_tells sink_tells disk_tells asked split all is.
-    let at = goal.at.returns-clause-questions g c in
-    loaded g at.After-serve disk_tells (λ h b. AreMade h b asked (g.M.Sink.sink c.args.machine.now).shown (g.M.Sink.sink c.serve.new.machine).shown) (λ p q. made_anywhere p q asked _ _)
-    ((ended g at.After-serve source_tells sink_tells disk_tells asked split).made is all)
-
-pub returns-clause-stopped : goal.returns-clause-stopped
-returns-clause-stopped g c = λ source_tells sink_tells disk_tells asked split all d is.
-    let at = goal.at.returns-clause-stopped g c in
-    loaded g at.After-serve disk_tells (λ h b. AreMadeUpTo h b asked d (g.M.Sink.sink c.args.machine.now).shown (g.M.Sink.sink c.serve.new.machine).shown) (λ p q. stopped_anywhere p q asked d _ _)
-    ((ended g at.After-serve source_tells sink_tells disk_tells asked split).stopped d is all)
-
-pub returns-clause-reads : goal.returns-clause-reads
-returns-clause-reads g c = λ source_tells sink_tells disk_tells asked split all is.
-    let at = goal.at.returns-clause-reads g c in
-    loaded g at.After-serve disk_tells (λ h b. ReadsMissed h b.pages asked (g.M.Disk.disk c.args.machine.now).bytes_read.pages (g.M.Disk.disk c.serve.new.machine).bytes_read.pages) (λ p q. reads_anywhere p q asked _ _)
-    ((ended g at.After-serve source_tells sink_tells disk_tells asked split).reads is all)
+    let (s, (in_step, spelled, pages)) = c.in-Ok-load.ensures.by_reads disk_tells in
+    inl (s.history, record { spelled = spelled; loadable = in_step.stands.loadable; live = subst (λ (ps : List ℕ). AreLive (live_extents s.history) (length ps)) pages in_step.live })

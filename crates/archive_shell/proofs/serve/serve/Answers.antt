@@ -9,11 +9,10 @@ items-preserved g c =
     record {
       later = later_joins _ _ _ was.later now.later;
       left = left_joins _ _ _ _ _ _ _ was.left now.left;
-      asking = λ source_tells sink_tells disk_tells h image began start. now.asks source_tells sink_tells disk_tells h image _ (was.asking source_tells sink_tells disk_tells h image began start);
       pulling = λ source_tells began start. now.pulls source_tells _ (was.pulling source_tells began start);
-      serving = λ source_tells sink_tells disk_tells f w start.
-          let so_far = was.serving source_tells sink_tells disk_tells f w start in
-          let next = now.goes_on source_tells sink_tells disk_tells f w _ so_far.0 so_far.2 in
+      serving = λ source_tells sink_tells disk_tells s start.
+          let so_far = was.serving source_tells sink_tells disk_tells s start in
+          let next = now.goes_on source_tells sink_tells disk_tells s _ so_far.0 so_far.2 in
           (so_far.0 ++ next.0, g.met.M.Machine.asked_laws.join _ _ _ so_far.0 next.0 so_far.1 next.1, next.2);
     }
 
@@ -21,14 +20,10 @@ pub returns-in-Err-clause-ends : goal.returns-in-Err-clause-ends
 returns-in-Err-clause-ends g c = λ source_tells began start. c.in-Err.ensures.pulls source_tells _ (c.items.invariant.pulling source_tells began start)
 
 pub returns-in-Err-clause-served : goal.returns-in-Err-clause-served
-returns-in-Err-clause-served g c = λ source_tells sink_tells disk_tells f w start.
-    let so_far = c.items.invariant.serving source_tells sink_tells disk_tells f w start in
-    let next = c.in-Err.ensures.goes_on source_tells sink_tells disk_tells f w _ so_far.0 so_far.2 in
+returns-in-Err-clause-served g c = λ source_tells sink_tells disk_tells s start.
+    let so_far = c.items.invariant.serving source_tells sink_tells disk_tells s start in
+    let next = c.in-Err.ensures.goes_on source_tells sink_tells disk_tells s _ so_far.0 so_far.2 in
     (so_far.0 ++ next.0, g.met.M.Machine.asked_laws.join _ _ _ so_far.0 next.0 so_far.1 next.1, next.2)
-
-pub returns-in-Err-clause-asks : goal.returns-in-Err-clause-asks
-returns-in-Err-clause-asks g c = λ source_tells sink_tells disk_tells h image began start.
-    c.in-Err.ensures.asks source_tells sink_tells disk_tells h image _ (c.items.invariant.asking source_tells sink_tells disk_tells h image began start)
 
 pub returns-in-Err-clause-later : goal.returns-in-Err-clause-later
 returns-in-Err-clause-later g c = later_joins _ _ _ c.items.invariant.later c.in-Err.ensures.later

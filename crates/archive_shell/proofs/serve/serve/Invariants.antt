@@ -1,11 +1,7 @@
 use Rattle.std.proofs.Common.{◌-◌, ◌^◌, List, []}
-use Rattle.machine_model.specs.Areas.{Bytes}
 use Rattle.machine_model.specs.Pulls.{Pull}
-use Rattle.machine_model.specs.States.{MachineState, SourceState, state_by}
-use Rattle.archive_state.specs.Histories.{History}
-use Rattle.archive_state.specs.Worlds.{World}
-use Rattle.archive_core.specs.Footings.{Footing}
-use Rattle.archive_shell.specs.Asking.{Asking}
+use Rattle.machine_model.specs.States.{SourceState, state_by}
+use Rattle.archive_core.specs.Stored.{Store}
 use Rattle.archive_shell.specs.Causes.{IsLater, IsLeft}
 use Rattle.archive_shell.specs.Serving.{Pulling, Serving}
 use Rattle.archive_shell.proofs.serve.serve.Given as goal
@@ -14,15 +10,12 @@ abbrev pub invariant-items : goal.invariant-items
 invariant-items g l = record {
   later : IsLater (state_by g.M.Source.source g.M.Sink.sink g.M.Disk.disk l.fn.machine) (state_by g.M.Source.source g.M.Sink.sink g.M.Disk.disk l.machine);
   left : IsLeft g.M.Disk.disk_tells (g.M.Disk.disk l.fn.machine) (g.M.Disk.disk l.machine) l.fn.archive l.archive;
-  asking : g.M.Source.source_tells → g.M.Sink.sink_tells → g.M.Disk.disk_tells → (h : History) (image : Bytes) (began : MachineState)
-      → Asking h image began (state_by g.M.Source.source g.M.Sink.sink g.M.Disk.disk l.fn.machine) l.fn.archive l.fn.reader
-      → Asking h image began (state_by g.M.Source.source g.M.Sink.sink g.M.Disk.disk l.machine) l.archive l.reader;
   pulling : g.M.Source.source_tells → (began : SourceState) → Pulling began (g.M.Source.source l.fn.machine) l.fn.reader → Pulling began (g.M.Source.source l.machine) l.reader;
-  serving : g.M.Source.source_tells → g.M.Sink.sink_tells → g.M.Disk.disk_tells → (f : Footing) (w : World)
-      → Serving f w (state_by g.M.Source.source g.M.Sink.sink g.M.Disk.disk l.fn.machine)
+  serving : g.M.Source.source_tells → g.M.Sink.sink_tells → g.M.Disk.disk_tells → (s : Store)
+      → Serving s (state_by g.M.Source.source g.M.Sink.sink g.M.Disk.disk l.fn.machine)
       (state_by g.M.Source.source g.M.Sink.sink g.M.Disk.disk l.fn.machine) l.fn.archive l.fn.reader []
       → (pulls : List Pull) × g.M.Machine.asked l.fn.machine pulls l.machine
-      × Serving f w (state_by g.M.Source.source g.M.Sink.sink g.M.Disk.disk l.fn.machine)
+      × Serving s (state_by g.M.Source.source g.M.Sink.sink g.M.Disk.disk l.fn.machine)
       (state_by g.M.Source.source g.M.Sink.sink g.M.Disk.disk l.machine) l.archive l.reader pulls;
 }
 

@@ -1,13 +1,10 @@
-use Rattle.std.proofs.Common.{List, [], Ok, Err, sym, ap, ◌∙◌}
+use Rattle.std.proofs.Common.{List, [], Ok, Err}
 use Rattle.std.proofs.lemmas.List.{append-nil}
 use Rattle.machine_model.specs.Pulls.{Pull}
 use Rattle.machine_model.specs.States.{MachineState, SourceState, state_by}
 use Rattle.archive_state.specs.Standing.{last_state}
-use Rattle.archive_core.proofs.AddLemmas.{on_cache, on_history}
-use Rattle.archive_shell.specs.Asking.{Asking}
 use Rattle.archive_shell.specs.Serving.{Gives, Pulling, Serving, pulls_beside}
-use Rattle.archive_shell.proofs.PullLemmas.{early_behind, ends_by, pulling_next, stopped_at, stops_early}
-use Rattle.archive_shell.proofs.QuestionLemmas.{asked_to_end, asking_next, asking_stops}
+use Rattle.archive_shell.proofs.PullLemmas.{early_behind, ends_by, pulling_next, stops_early}
 use Rattle.archive_shell.proofs.ServeLemmas.{ended_by, serving_next, stopped}
 use Rattle.archive_shell.proofs.serve.step.Given.{Over}
 use Rattle.archive_shell.proofs.serve.step.Goals.{After-carry_out, After-next_item}
@@ -39,60 +36,37 @@ returns-in-Err-carry_out-clause-pulls g c = λ tells began p.
     (pulling_next began _ _ _ c.next_item.new.reader c.in-Ok.item p (given g (goal.at.returns-in-Err-carry_out-clause-pulls g c).After-carry_out tells began p))).ends
 
 pub returns-in-Err-clause-goes_on : goal.returns-in-Err-clause-goes_on
-returns-in-Err-clause-goes_on g c = λ source_tells sink_tells disk_tells f w began before serving.
-    let here = still g (goal.at.returns-in-Err-clause-goes_on g c).After-next_item (λ m. Serving f w began m c.args.archive.now c.args.reader.now before) serving in
+returns-in-Err-clause-goes_on g c = λ source_tells sink_tells disk_tells s began before serving.
+    let here = still g (goal.at.returns-in-Err-clause-goes_on g c).After-next_item (λ m. Serving s began m c.args.archive.now c.args.reader.now before) serving in
     let made = c.next_item.ensures.asked source_tells began.source here.pulling in (
       pulls_beside (g.M.Sink.sink c.next_item.new.machine).shown made.0,
       made.1,
-      ended_by f w began _ c.args.archive.now _ c.next_item.new.reader before c.in-Err.status (g.M.Source.source c.next_item.new.machine) made.0 here made.2 (c.in-Err.ensures.gives source_tells began.source here.pulling),
+      ended_by s began _ c.args.archive.now _ c.next_item.new.reader before c.in-Err.status (g.M.Source.source c.next_item.new.machine) made.0 here made.2 (c.in-Err.ensures.gives source_tells began.source here.pulling),
     )
 
 pub returns-in-Ok-carry_out-clause-goes_on : goal.returns-in-Ok-carry_out-clause-goes_on
-returns-in-Ok-carry_out-clause-goes_on g c = λ source_tells sink_tells disk_tells f w began before serving.
+returns-in-Ok-carry_out-clause-goes_on g c = λ source_tells sink_tells disk_tells s began before serving.
     let at = goal.at.returns-in-Ok-carry_out-clause-goes_on g c in
     let last = c.carry_out.new.machine in
-    let here = still g at.After-next_item (λ m. Serving f w began m c.args.archive.now c.args.reader.now before) serving in
+    let here = still g at.After-next_item (λ m. Serving s began m c.args.archive.now c.args.reader.now before) serving in
     let made = c.next_item.ensures.asked source_tells began.source here.pulling in (
       pulls_beside (g.M.Sink.sink c.next_item.new.machine).shown made.0,
       pulled g at.After-carry_out _ made.1,
-      serving_next f w began _ (g.M.Sink.sink last) (g.M.Disk.disk last) c.args.archive.now c.carry_out.new.archive _ c.next_item.new.reader before c.in-Ok.item (g.M.Source.source last) made.0 here made.2
-          (given g at.After-carry_out source_tells began.source here.pulling) (c.in-Ok-carry_out.ensures.outcome disk_tells sink_tells f (last_state w here.outcomes).history here.in_step),
+      serving_next s began _ (g.M.Sink.sink last) (g.M.Disk.disk last) c.args.archive.now c.carry_out.new.archive _ c.next_item.new.reader before c.in-Ok.item (g.M.Source.source last) made.0 here made.2
+          (given g at.After-carry_out source_tells began.source here.pulling) (c.in-Ok-carry_out.ensures.outcome disk_tells sink_tells (last_state s here.outcomes) here.in_step),
     )
 
 pub returns-in-Err-carry_out-clause-goes_on : goal.returns-in-Err-carry_out-clause-goes_on
-returns-in-Err-carry_out-clause-goes_on g c = λ source_tells sink_tells disk_tells f w began before serving.
+returns-in-Err-carry_out-clause-goes_on g c = λ source_tells sink_tells disk_tells s began before serving.
     let at = goal.at.returns-in-Err-carry_out-clause-goes_on g c in
     let last = c.carry_out.new.machine in
-    let here = still g at.After-next_item (λ m. Serving f w began m c.args.archive.now c.args.reader.now before) serving in
+    let here = still g at.After-next_item (λ m. Serving s began m c.args.archive.now c.args.reader.now before) serving in
     let made = c.next_item.ensures.asked source_tells began.source here.pulling in (
       pulls_beside (g.M.Sink.sink c.next_item.new.machine).shown made.0,
       pulled g at.After-carry_out _ made.1,
-      stopped f w began _ (g.M.Sink.sink last) (g.M.Disk.disk last) c.args.archive.now c.carry_out.new.archive _ c.next_item.new.reader before c.in-Ok.item c.from.result c.in-Err-carry_out.stop (g.M.Source.source last) made.0 here made.2
-          (given g at.After-carry_out source_tells began.source here.pulling) c.from.ensures (c.in-Err-carry_out.ensures.outcome disk_tells sink_tells f (last_state w here.outcomes).history here.in_step)
-          (λ d is. let found = c.in-Err-carry_out.ensures.damaged disk_tells (last_state w here.outcomes).history (on_history f _ _ _ here.in_step) (on_cache f _ _ _ here.in_step) d (ap Err is) in rw found.1 found.0),
+      stopped s began _ (g.M.Sink.sink last) (g.M.Disk.disk last) c.args.archive.now c.carry_out.new.archive _ c.next_item.new.reader before c.in-Ok.item c.from.result c.in-Err-carry_out.stop (g.M.Source.source last) made.0 here made.2
+          (given g at.After-carry_out source_tells began.source here.pulling) c.from.ensures (g.met.M.Machine.beside_shown c.next_item.new.machine sink_tells disk_tells) (c.in-Err-carry_out.ensures.outcome disk_tells sink_tells (last_state s here.outcomes) here.in_step),
     )
-
-pub returns-in-Err-clause-asks : goal.returns-in-Err-clause-asks
-returns-in-Err-clause-asks g c = λ source_tells sink_tells disk_tells h image began asking.
-    let here = still g (goal.at.returns-in-Err-clause-asks g c).After-next_item (λ m. Asking h image began m c.args.archive.now c.args.reader.now) asking in
-    asked_to_end h image began _ (g.M.Source.source c.next_item.new.machine) c.args.archive.now _ c.next_item.new.reader c.in-Err.status here (c.in-Err.ensures.gives source_tells began.source here.pulling)
-
-pub returns-in-Ok-carry_out-clause-asks : goal.returns-in-Ok-carry_out-clause-asks
-returns-in-Ok-carry_out-clause-asks g c = λ source_tells sink_tells disk_tells h image began asking.
-    let at = goal.at.returns-in-Ok-carry_out-clause-asks g c in
-    let last = c.carry_out.new.machine in
-    let here = still g at.After-next_item (λ m. Asking h image began m c.args.archive.now c.args.reader.now) asking in
-    asking_next h image began _ (g.M.Source.source last) (g.M.Sink.sink last) (g.M.Disk.disk last) c.args.archive.now c.carry_out.new.archive _ c.next_item.new.reader c.in-Ok.item here (given g at.After-carry_out source_tells began.source here.pulling)
-    (c.in-Ok-carry_out.ensures.question disk_tells sink_tells h) (c.in-Ok-carry_out.ensures.left.cached disk_tells)
-
-pub returns-in-Err-carry_out-clause-asks : goal.returns-in-Err-carry_out-clause-asks
-returns-in-Err-carry_out-clause-asks g c = λ source_tells sink_tells disk_tells h image began asking.
-    let at = goal.at.returns-in-Err-carry_out-clause-asks g c in
-    let last = c.carry_out.new.machine in
-    let stop = c.in-Err-carry_out.stop in
-    let here = still g at.After-next_item (λ m. Asking h image began m c.args.archive.now c.args.reader.now) asking in
-    asking_stops h image began _ (g.M.Source.source last) (g.M.Sink.sink last) (g.M.Disk.disk last) c.args.archive.now _ c.next_item.new.reader c.in-Ok.item c.from.result (stops_early c.from.result stop c.from.ensures) here (given g at.After-carry_out source_tells began.source here.pulling)
-    (λ d is stands cached. let found = c.in-Err-carry_out.ensures.damaged disk_tells h stands cached d (ap Err (stopped_at stop d (sym c.from.ensures ∙ is))) in (found.0, ap (λ s. s.shown) found.2))
 
 pub returns-in-Ok-carry_out-clause-left : goal.returns-in-Ok-carry_out-clause-left
 returns-in-Ok-carry_out-clause-left g c = rw c.next_item.ensures.disk at c.in-Ok-carry_out.ensures.left

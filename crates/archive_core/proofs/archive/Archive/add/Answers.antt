@@ -2,8 +2,8 @@ use Rattle.std.proofs.Common.{Result, inl, subst}
 use Rattle.archive_replay.specs.Entries.{IsPrepared}
 use Rattle.archive_replay.specs.declared.preparing.Prepared.{Prepared}
 use Rattle.archive_replay.specs.declared.error.Declined.{Declined}
-use Rattle.archive_core.specs.Footings.{Alone}
-use Rattle.archive_core.proofs.AddLemmas.{adds_entry, enters_entry, leads_entry, adds_none, leads_nowhere, on_nowhere, pages_nowhere}
+use Rattle.archive_core.proofs.AddLemmas.{adds_entry, leads_entry, adds_none, leads_nowhere, pages_nowhere}
+use Rattle.archive_core.proofs.ByReadsLemmas.{adds_by, keeps_leads, keeps_nowhere}
 use Rattle.archive_core.proofs.archive.Archive.add.Goals as goal
 
 pub commit-requires-clause-next : goal.commit-requires-clause-next
@@ -34,10 +34,11 @@ returns-in-Err-clause-leads g c = λ tells h entry refusal in_step prepared. (le
 pub returns-in-Err-clause-pages : goal.returns-in-Err-clause-pages
 returns-in-Err-clause-pages g c = λ tells. pages_nowhere _
 
-pub returns-in-Ok-clause-enters : goal.returns-in-Ok-clause-enters
-returns-in-Ok-clause-enters g c = λ tells h entry refusal was prepared.
-    let is = subst (λ (p : Result Prepared Declined). IsPrepared h c.args.self.now.index entry refusal p) c.in-Ok.is prepared in
-    enters_entry c.commit.result c.args.self.now c.commit.new.self _ _ h entry c.in-Ok.prepared.change c.in-Ok.prepared.body.items c.in-Ok.prepared.words was is.0 is.1 c.commit.ensures.more (c.commit.ensures.crash tells _ was.journal) (c.commit.ensures.in_step tells _ was.journal) (λ ok. c.commit.ensures.cached tells was.cached (inl ok))
+pub returns-in-Ok-clause-by_reads : goal.returns-in-Ok-clause-by_reads
+returns-in-Ok-clause-by_reads g c = λ tells s entry refusal in_step prepared.
+    let is = subst (λ (p : Result Prepared Declined). IsPrepared s.history c.args.self.now.index entry refusal p) c.in-Ok.is prepared in
+    adds_by c.commit.result c.args.self.now c.commit.new.self _ _ s entry c.in-Ok.prepared.change c.in-Ok.prepared.body.items c.in-Ok.prepared.words in_step is.0 is.1 c.commit.ensures.more (c.commit.ensures.crash tells _ in_step.journal) (c.commit.ensures.pages tells)
+    (c.commit.ensures.pages_hold tells) (c.commit.ensures.in_step tells _ in_step.journal) (λ ok. c.commit.ensures.cached tells in_step.cached (inl ok))
 
-pub returns-in-Err-clause-enters : goal.returns-in-Err-clause-enters
-returns-in-Err-clause-enters g c = λ tells h entry refusal was prepared. (on_nowhere Alone _ c.args.self.now h _ was, tt)
+pub returns-in-Err-clause-by_reads : goal.returns-in-Err-clause-by_reads
+returns-in-Err-clause-by_reads g c = λ tells s entry refusal in_step prepared. (keeps_leads s _ _ _ (keeps_nowhere _ c.args.self.now s in_step), tt)

@@ -5,8 +5,7 @@ use Rattle.commands.specs.declared.command.Item.TheVariants as items
 use Rattle.commands.specs.declared.text.Text.TheVariants as texts
 use Rattle.record_codec.specs.declared.entry.Entry.TheVariants as entries
 use Rattle.archive_state.specs.Steps.{arrival_refusal}
-use Rattle.archive_core.specs.Footings.{Alone, Whole}
-use Rattle.archive_core.proofs.TakeLemmas.{follows_on, takes_entry}
+use Rattle.archive_core.proofs.TakeLemmas.{entry_by, follows_on, takes_entry}
 use Rattle.archive_core.proofs.archive.Archive.arrive.Goals as goal
 
 pub add-requires-clause-next : goal.add-requires-clause-next
@@ -31,14 +30,14 @@ pub returns-clause-takes : goal.returns-clause-takes
 returns-clause-takes g c = λ tells h in_step.
     let same = c.arrival-prepared.ensures.same in
     let after = returns-clause-after g c in
-    takes_entry Whole h (items.Command (commands.Arrive c.args.doc c.args.at (texts.Bytes c.args.text.now))) (entries.Arrive c.args.doc c.args.at c.args.text.now) (arrival_refusal h c.args.doc c.args.at c.args.text.now) c.add.result _ _ c.args.self.now c.add.new.self
+    takes_entry h (items.Command (commands.Arrive c.args.doc c.args.at (texts.Bytes c.args.text.now))) (entries.Arrive c.args.doc c.args.at c.args.text.now) (arrival_refusal h c.args.doc c.args.at c.args.text.now) c.add.result _ _ c.args.self.now c.add.new.self
     (λ reply next adds. adds) in_step (returns-clause-adds g c h in_step.stands) (λ why is. ((after.same why is).0, ap g.D.Disk.disk (after.same why is).1)) (λ is. ap g.D.Disk.disk (after.memory is))
     (c.add.ensures.leads tells h (entries.Arrive c.args.doc c.args.at c.args.text.now) (arrival_refusal h c.args.doc c.args.at c.args.text.now) (rw same in_step) (rw same (c.arrival-prepared.ensures.prepared h in_step.stands)))
 
-pub returns-clause-enters : goal.returns-clause-enters
-returns-clause-enters g c = λ tells h was.
+pub returns-clause-by_reads : goal.returns-clause-by_reads
+returns-clause-by_reads g c = λ tells s in_step.
     let same = c.arrival-prepared.ensures.same in
     let after = returns-clause-after g c in
-    takes_entry Alone h (items.Command (commands.Arrive c.args.doc c.args.at (texts.Bytes c.args.text.now))) (entries.Arrive c.args.doc c.args.at c.args.text.now) (arrival_refusal h c.args.doc c.args.at c.args.text.now) c.add.result _ _ c.args.self.now c.add.new.self
-    (λ reply next adds. adds) was (returns-clause-adds g c h was.stands) (λ why is. ((after.same why is).0, ap g.D.Disk.disk (after.same why is).1)) (λ is. ap g.D.Disk.disk (after.memory is))
-    (c.add.ensures.enters tells h (entries.Arrive c.args.doc c.args.at c.args.text.now) (arrival_refusal h c.args.doc c.args.at c.args.text.now) (rw same was) (rw same (c.arrival-prepared.ensures.prepared h was.stands)))
+    entry_by s (items.Command (commands.Arrive c.args.doc c.args.at (texts.Bytes c.args.text.now))) (entries.Arrive c.args.doc c.args.at c.args.text.now) (arrival_refusal s.history c.args.doc c.args.at c.args.text.now) c.add.result _ _ c.args.self.now c.add.new.self tt
+    (λ reply next adds stocks. (adds, stocks)) in_step (returns-clause-adds g c s.history in_step.stands) (λ why is. ((after.same why is).0, ap g.D.Disk.disk (after.same why is).1)) (λ is. ap g.D.Disk.disk (after.memory is))
+    (c.add.ensures.by_reads tells s (entries.Arrive c.args.doc c.args.at c.args.text.now) (arrival_refusal s.history c.args.doc c.args.at c.args.text.now) (rw same in_step) (rw same (c.arrival-prepared.ensures.prepared s.history in_step.stands)))

@@ -1,5 +1,5 @@
 use Rattle.std.proofs.Common.{Err}
-use Rattle.archive_core.proofs.AskedLemmas.{after_fetching, after_no_query, takes_find}
+use Rattle.archive_core.proofs.AskedLemmas.{after_fetching, after_no_query, find_by, takes_find}
 use Rattle.archive_core.proofs.archive.Archive.find.Goals as goal
 
 pub returns-in-Err-clause-after : goal.returns-in-Err-clause-after
@@ -17,3 +17,9 @@ returns-in-Ok-clause-after g c =
 pub returns-in-Ok-clause-takes : goal.returns-in-Ok-clause-takes
 returns-in-Ok-clause-takes g c = λ tells h in_step.
     takes_find h c.args.at c.args.expr.now c.asked.result _ _ c.args.self.now c.answer_of.new.self tells (g.met.D.Disk.holds_allowed c.args.disk.now tells) in_step (returns-in-Ok-clause-after g c)
+
+pub returns-in-Err-clause-by_reads : goal.returns-in-Err-clause-by_reads
+returns-in-Err-clause-by_reads g c = λ tells s in_step. find_by s c.args.at c.args.expr.now (Err c.from.result) _ _ c.args.self.now c.args.self.now tells in_step (returns-in-Err-clause-after g c)
+
+pub returns-in-Ok-clause-by_reads : goal.returns-in-Ok-clause-by_reads
+returns-in-Ok-clause-by_reads g c = λ tells s in_step. find_by s c.args.at c.args.expr.now c.asked.result _ _ c.args.self.now c.answer_of.new.self tells in_step (returns-in-Ok-clause-after g c)

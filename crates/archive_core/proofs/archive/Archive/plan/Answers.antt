@@ -1,13 +1,16 @@
 use Rattle.std.proofs.Common.{◌+◌, ◌∷◌, [], ◌++◌, length, Err, refl, ap, inr, sym, subst}
 use Rattle.std.proofs.lemmas.Result.{IfOk-weaker}
 use Rattle.record_codec.specs.declared.entry.Entry.TheVariants as entries
+use Rattle.commands.specs.declared.command.Command.TheVariants as commands
+use Rattle.commands.specs.declared.command.Item.TheVariants as items
 use Rattle.archive_state.specs.Steps.{Planned, Plans, Refused, Summary}
-use Rattle.archive_core.specs.Footings.{Alone, Whole}
 use Rattle.archive_core.specs.States.{CacheStands, StandsFor}
 use Rattle.plan_shelf.specs.Readying.{tells_of}
+use Rattle.plan_shelf.specs.declared.readying.PlanReport.{PlanReport}
 use Rattle.archive_core.proofs.AddLemmas.{given_up_cached, given_up_never, given_up_refused}
-use Rattle.archive_core.proofs.StoreLemmas.{plans_full, plans_stored, plans_refused, still_in_step, still_recorded, takes_plan}
-use Rattle.archive_core.proofs.TakeLemmas.{follows_on}
+use Rattle.archive_core.proofs.ByReadsLemmas.{still_by, stocks_same}
+use Rattle.archive_core.proofs.StoreLemmas.{plan_by, plans_full, plans_stored, plans_refused, still_in_step, takes_plan}
+use Rattle.archive_core.proofs.TakeLemmas.{follows_on, unmade_by}
 use Rattle.archive_core.proofs.archive.Archive.plan.Goals as goal
 
 pub returns-in-Ok-clause-refused : goal.returns-in-Ok-clause-refused
@@ -28,7 +31,7 @@ pub returns-in-Ok-clause-takes : goal.returns-in-Ok-clause-takes
 returns-in-Ok-clause-takes g c = λ tells h in_step.
     let ens = c.in-Ok.ensures in
     let stands = in_step.stands in
-    takes_plan Whole h c.args.word.now c.args.kind c.args.factor c.store.result _ _ c.args.self.now c.store.new.self in_step stands.loadable
+    takes_plan h c.args.word.now c.args.kind c.args.factor c.store.result _ _ c.args.self.now c.store.new.self in_step stands.loadable
     (λ why is.
     let full = returns-in-Ok-clause-refused g c h stands why is in
     let same = ap g.D.Disk.disk (c.store.ensures.same why is) in
@@ -44,25 +47,17 @@ returns-in-Ok-clause-takes g c = λ tells h in_step.
       in_step = then;
     })
 
-pub returns-in-Ok-clause-enters : goal.returns-in-Ok-clause-enters
-returns-in-Ok-clause-enters g c = λ tells h was.
+pub returns-in-Ok-clause-by_reads : goal.returns-in-Ok-clause-by_reads
+returns-in-Ok-clause-by_reads g c = λ tells s in_step.
+    let h = s.history in
     let ens = c.in-Ok.ensures in
-    let stands = was.stands in
-    takes_plan Alone h c.args.word.now c.args.kind c.args.factor c.store.result _ _ c.args.self.now c.store.new.self was stands.loadable
+    let stands = in_step.stands in
+    plan_by s c.args.word.now c.args.kind c.args.factor c.in-Ok.draft c.store.result _ _ c.args.self.now c.store.new.self in_step ens.term (ens.known h stands) ens.kind ens.factor (ens.drafted h stands)
     (λ why is.
     let full = returns-in-Ok-clause-refused g c h stands why is in
     let same = ap g.D.Disk.disk (c.store.ensures.same why is) in
-    (same, full.0, still_recorded _ c.args.self.now c.store.new.self h was full.1 (let kept : CacheStands (g.D.Disk.disk c.store.new.disk) c.store.new.self = c.store.ensures.cached tells was.cached (inr (why, is)) in rw same at kept)))
-    (λ is. ap g.D.Disk.disk (c.store.ensures.memory is))
-    (λ is.
-    let (plan, (stored, leads, then)) = c.store.ensures.enters tells h was is in
-    record {
-      told = tells_of c.in-Ok.draft (length h + 1);
-      next = h ++ entries.Planned plan ∷ [];
-      plans = plans_stored h c.args.word.now c.args.kind c.args.factor c.in-Ok.draft plan ens.term (ens.known h stands) ens.kind ens.factor (ens.drafted h stands) stored;
-      leads = leads;
-      in_step = then;
-    })
+    (same, full.0, still_by _ c.args.self.now c.store.new.self s in_step full.1 (let kept : CacheStands (g.D.Disk.disk c.store.new.disk) c.store.new.self = c.store.ensures.cached tells in_step.cached (inr (why, is)) in rw same at kept)))
+    (λ is. ap g.D.Disk.disk (c.store.ensures.memory is)) (c.store.ensures.puts tells s in_step) (c.store.ensures.stops tells s in_step)
 
 pub returns-in-Err-clause-refused : goal.returns-in-Err-clause-refused
 returns-in-Err-clause-refused g c = λ h stands why is.
@@ -71,15 +66,15 @@ returns-in-Err-clause-refused g c = λ h stands why is.
 
 pub returns-in-Err-clause-takes : goal.returns-in-Err-clause-takes
 returns-in-Err-clause-takes g c = λ tells h in_step.
-    takes_plan Whole h c.args.word.now c.args.kind c.args.factor (Err c.give_up.result) _ _ c.args.self.now c.give_up.new.self in_step in_step.stands.loadable
+    takes_plan h c.args.word.now c.args.kind c.args.factor (Err c.give_up.result) _ _ c.args.self.now c.give_up.new.self in_step in_step.stands.loadable
     (λ why is. let full = returns-in-Err-clause-refused g c h in_step.stands why is in (refl, full.0, still_in_step _ c.args.self.now c.give_up.new.self h in_step full.1 (given_up_cached c.in-Err.declined c.give_up.result c.args.self.now c.give_up.new.self (g.D.Disk.disk c.args.disk.now) c.give_up.ensures in_step.cached)))
     (λ is. refl) (given_up_never _ c.in-Err.declined c.give_up.result c.args.self.now c.give_up.new.self c.give_up.ensures)
 
-pub returns-in-Err-clause-enters : goal.returns-in-Err-clause-enters
-returns-in-Err-clause-enters g c = λ tells h was.
-    takes_plan Alone h c.args.word.now c.args.kind c.args.factor (Err c.give_up.result) _ _ c.args.self.now c.give_up.new.self was was.stands.loadable
-    (λ why is. let full = returns-in-Err-clause-refused g c h was.stands why is in (refl, full.0, still_recorded _ c.args.self.now c.give_up.new.self h was full.1 (given_up_cached c.in-Err.declined c.give_up.result c.args.self.now c.give_up.new.self (g.D.Disk.disk c.args.disk.now) c.give_up.ensures was.cached)))
-    (λ is. refl) (given_up_never _ c.in-Err.declined c.give_up.result c.args.self.now c.give_up.new.self c.give_up.ensures)
+pub returns-in-Err-clause-by_reads : goal.returns-in-Err-clause-by_reads
+returns-in-Err-clause-by_reads g c = λ tells s in_step.
+    unmade_by s (items.Command (commands.Plan c.args.word.now c.args.kind c.args.factor)) c.give_up.result _ _ c.args.self.now c.give_up.new.self in_step
+    (λ why is. let full = returns-in-Err-clause-refused g c s.history in_step.stands why (ap Err is) in (refl, (full.0, stocks_same s c.give_up.new.self (g.D.Disk.disk c.args.disk.now) in_step.live), still_by _ c.args.self.now c.give_up.new.self s in_step full.1 (given_up_cached c.in-Err.declined c.give_up.result c.args.self.now c.give_up.new.self (g.D.Disk.disk c.args.disk.now) c.give_up.ensures in_step.cached)))
+    (λ is. given_up_never {T = PlanReport} _ c.in-Err.declined c.give_up.result c.args.self.now c.give_up.new.self c.give_up.ensures (inr (ap Err is))) (λ is. refl)
 
 pub returns-in-Ok-clause-follows : goal.returns-in-Ok-clause-follows
 returns-in-Ok-clause-follows g c = λ h stands.

@@ -6,7 +6,7 @@ use Rattle.archive_state.specs.Steps.{Proposed, Proposes, Refused}
 use Rattle.archive_state.proofs.OutcomeLemmas.{each_proposes}
 use Rattle.archive_core.proofs.AskedLemmas.{error_told, none_answered}
 use Rattle.archive_core.proofs.PlanLemmas.{phrase_refused, told_of_boundaries}
-use Rattle.archive_core.proofs.TakeLemmas.{takes_proposal}
+use Rattle.archive_core.proofs.TakeLemmas.{proposal_by, takes_proposal}
 use Rattle.archive_core.proofs.archive.Archive.propose.Goals as goal
 
 pub returns-clause-refused : goal.returns-clause-refused
@@ -35,3 +35,12 @@ pub returns-in_err-sealed-clause-takes : goal.returns-in_err-sealed-clause-takes
 returns-in_err-sealed-clause-takes c = λ d h in_step.
     takes_proposal (Proposes h c.args.word.now c.args.factor) h _ c.from_residual.result d c.args.self.now (λ reply is. (refl, is)) (each_proposes h c.args.word.now c.args.factor in_step.legal) in_step
     (returns-in_err-sealed-clause-refused c h in_step.stands) (none_answered _ c.from_residual.result c.in_err-sealed.field-0.0 c.from_residual.ensures.1)
+
+pub returns-clause-by_reads : goal.returns-clause-by_reads
+returns-clause-by_reads c = λ d s in_step.
+    proposal_by (Proposes s.history c.args.word.now c.args.factor) s _ c.least_plan.result d c.args.self.now (λ reply next same is. (same, is)) in_step (returns-clause-refused c s.history in_step.stands) (returns-clause-proposes c s.history in_step.stands)
+
+pub returns-in_err-sealed-clause-by_reads : goal.returns-in_err-sealed-clause-by_reads
+returns-in_err-sealed-clause-by_reads c = λ d s in_step.
+    proposal_by (Proposes s.history c.args.word.now c.args.factor) s _ c.from_residual.result d c.args.self.now (λ reply next same is. (same, is)) in_step
+    (returns-in_err-sealed-clause-refused c s.history in_step.stands) (none_answered _ c.from_residual.result c.in_err-sealed.field-0.0 c.from_residual.ensures.1)

@@ -1,4 +1,4 @@
-use Rattle.std.proofs.Common.{ℕ, ◌+◌, List, ◌∷◌, [], ◌++◌, true, inl, refl, ap, sym, subst, ◌∙◌, arith, rules}
+use Rattle.std.proofs.Common.{ℕ, ◌+◌, List, ◌∷◌, [], ◌++◌, true, inl, inr, refl, ap, sym, subst, ◌∙◌, arith, rules}
 use Rattle.machine_model.specs.declared.area.Area.TheVariants.{Journal, Pages}
 use Rattle.record_codec.specs.declared.entry.Entry.TheVariants as entries
 use Rattle.version_index.specs.Indexes.{seen, state_of}
@@ -10,11 +10,11 @@ use Rattle.archive_state.specs.Plans.{with_plan, live_extents}
 use Rattle.archive_state.proofs.HistoryLemmas.{legal-push}
 use Rattle.archive_core.specs.Adding.{HasSameShelf}
 use Rattle.archive_state.specs.Stands.{bodies_of}
-use Rattle.archive_core.specs.Footings.{IsRecorded}
-use Rattle.archive_core.specs.States.{ArchiveState, StandsFor, AreInStep}
+use Rattle.archive_core.specs.States.{ArchiveState, StandsFor, AreInStep, AreInStepBy, with_entry}
 use Rattle.plan_shelf.specs.Shelves.{extents_all}
 use Rattle.plan_shelf.specs.Readying.{IsFull, summary_of, tells_of}
-use Rattle.archive_core.proofs.AddLemmas.{bodies_more, enters_more, given_up_cached, given_up_refused, inside_on}
+use Rattle.archive_core.proofs.AddLemmas.{bodies_more, given_up_cached, given_up_refused, inside_on}
+use Rattle.archive_core.proofs.ByReadsLemmas.{all_same, begun_keeps, put_there, same_as}
 use Rattle.archive_core.proofs.CacheLemmas.{cached_on}
 use Rattle.archive_core.proofs.StoreLemmas.{ready_storable, ready_stored, stands_planned, placed_inside, same_shelf, stands_still}
 use Rattle.archive_core.proofs.archive.Archive.store.Given.{Over}
@@ -33,10 +33,13 @@ returns-in-Err-clause-cached g c = λ tells cached is.
     given_up_cached c.in-Err.why c.give_up.result _ c.give_up.new.self disk c.give_up.ensures
     (cached_on c.args.self.now.shelf.cache c.make_ready.new.shelf.cache disk disk (c.in-Err.ensures.cache ∙ ap (λ (s : ArchiveState). s.shelf.cache) c.self.view_is) refl cached)
 
+-- the archive with the plan
+abbrev after : (g : Over) (c : goal.After-self-in-Ok-write_ready-2-1 g) → ArchiveState
+after g c = record { end = c.write_ready.new.journal.end; live = true; length = c.self.inside.entries + 1; changes = c.self.inside.directory.changes; index = state_of c.self.inside.index; shelf = c.write_ready.new.shelf }
+
 -- the archive with the plan stands for a history more
 planned : (g : Over) (c : goal.After-self-in-Ok-write_ready-2-1 g) (h : History) → StandsFor c.args.self.now h
-    → StandsFor (record { end = c.write_ready.new.journal.end; live = true; length = c.self.inside.entries + 1; changes = c.self.inside.directory.changes; index = state_of c.self.inside.index; shelf = c.write_ready.new.shelf })
-    (h ++ entries.Planned c.in-Ok.ready.stored.plan ∷ [])
+    → StandsFor (after g c) (h ++ entries.Planned c.in-Ok.ready.stored.plan ∷ [])
 planned g c h now =
     stands_planned _ h c.args.draft c.end.result c.self.inside.entries c.write_ready.new.journal.end c.in-Ok.ready c.write_ready.new.shelf (subst (λ (s : ArchiveState). StandsFor s h) (sym c.self.view_is) now) (c.requires.drafted h now)
     c.end.ensures.end c.in-Ok.ensures.ready c.in-Ok-write_ready.ensures.end (c.in-Ok-write_ready.ensures.plans ∙ ap (λ (l : List StoredPlan). with_plan l c.in-Ok.ready.stored) c.in-Ok.ensures.plans) c.in-Ok-write_ready.ensures.pages
@@ -136,35 +139,60 @@ returns-in-Err-write_ready-clause-leads g c = λ tells h now is.
       ),
     )
 
-pub returns-in-Ok-write_ready-clause-enters : goal.returns-in-Ok-write_ready-clause-enters
-returns-in-Ok-write_ready-clause-enters g c = λ tells h now is.
-    let was = subst (λ (s : ArchiveState). IsRecorded (g.D.Disk.disk c.args.disk.now) s h) (sym c.self.view_is) now in
+pub returns-in-Ok-write_ready-clause-puts : goal.returns-in-Ok-write_ready-clause-puts
+returns-in-Ok-write_ready-clause-puts g c = λ tells s now.
+    let in_step = subst (λ (a : ArchiveState). AreInStepBy (g.D.Disk.disk c.args.disk.now) a s) (sym c.self.view_is) now in
+    let h = s.history in
     let r = c.in-Ok.ready in
-    let ready = c.in-Ok.ensures.ready in (
-      r.stored.plan,
+    let ready = c.in-Ok.ensures.ready in
+    let plan = r.stored.plan in
+    let pages = (g.D.Disk.disk c.write_ready.new.disk).holds.pages in
+    let storable = ready_storable h c.args.draft c.end.result c.self.inside.entries r c.make_ready.new.shelf.pages (c.requires.drafted h now.stands) ready (c.in-Ok.ensures.taken _ in_step.stands.pages_are) in
+    let put = c.in-Ok-write_ready.ensures.puts tells (bodies_of h) in_step.journal in
+    let there = put_there s plan r.prepared r.frame pages _ _ _ (after g c) in_step storable put.0 in (
+      with_entry s (entries.Planned plan) pages (after g c) (g.D.Disk.disk c.write_ready.new.disk),
       (
-        ready_stored h c.args.draft c.end.result c.self.inside.entries r (c.end.ensures.end ∙ was.stands.end_is) ready (c.in-Ok.ensures.placed _ was.stands.pages_are),
-        enters_more h (entries.Planned r.stored.plan) r.frame _ _ ready.framed (c.in-Ok-write_ready.ensures.enters tells (bodies_of h) was.journal),
-        (
-          ap summary_of c.in-Ok-write_ready.ensures.report ∙ ready.told ∙ ap (λ (n : ℕ). tells_of c.args.draft (n + 1)) was.stands.length_is,
-          record {
-            stands = planned g c h now.stands;
-            journal = rw (← bodies_more h (entries.Planned r.stored.plan) r.frame ready.framed) (c.in-Ok-write_ready.ensures.entered tells (bodies_of h) was.journal);
-            cached = returns-in-Ok-write_ready-clause-cached g c tells now.cached (inl refl);
-          },
-        ),
+        record {
+          plan = plan;
+          stored = ready_stored h c.args.draft c.end.result c.self.inside.entries r (c.end.ensures.end ∙ in_step.stands.end_is) ready (c.in-Ok.ensures.placed _ in_step.stands.pages_are);
+          next_is = refl;
+          stocks = there.stocks;
+          leads = there.leads;
+        },
+        ap summary_of c.in-Ok-write_ready.ensures.report ∙ ready.told ∙ ap (λ (n : ℕ). tells_of c.args.draft (n + 1)) in_step.stands.length_is,
+        record {
+          stands = planned g c h now.stands;
+          journal = rw (← bodies_more h (entries.Planned plan) r.frame ready.framed) (c.in-Ok-write_ready.ensures.entered tells (bodies_of h) in_step.journal);
+          pages_are = refl;
+          kept_are = refl;
+          read_is = refl;
+          live = (there.inside, there.stocks.apart);
+          same = λ image allowed. same_as pages pages image.pages (live_extents (h ++ entries.Planned plan ∷ [])) (put.1 image allowed) (all_same pages (live_extents (h ++ entries.Planned plan ∷ [])) there.inside);
+          cached = returns-in-Ok-write_ready-clause-cached g c tells now.cached (inl refl);
+        },
       ),
     )
 
-pub returns-in-Err-write_ready-clause-enters : goal.returns-in-Err-write_ready-clause-enters
-returns-in-Err-write_ready-clause-enters g c = λ tells h now is.
-    let was = subst (λ (s : ArchiveState). IsRecorded (g.D.Disk.disk c.args.disk.now) s h) (sym c.self.view_is) now in
+pub returns-in-Err-write_ready-clause-stops : goal.returns-in-Err-write_ready-clause-stops
+returns-in-Err-write_ready-clause-stops g c = λ tells s now is.
+    let in_step = subst (λ (a : ArchiveState). AreInStepBy (g.D.Disk.disk c.args.disk.now) a s) (sym c.self.view_is) now in
+    let h = s.history in
     let r = c.in-Ok.ready in
-    let ready = c.in-Ok.ensures.ready in (
-      r.stored.plan,
-      (
-        ready_stored h c.args.draft c.end.result c.self.inside.entries r (c.end.ensures.end ∙ was.stands.end_is) ready (c.in-Ok.ensures.placed _ was.stands.pages_are),
-        enters_more h (entries.Planned r.stored.plan) r.frame _ _ ready.framed (c.in-Err-write_ready.ensures.enters tells (bodies_of h) was.journal),
-        tt,
-      ),
-    )
+    let ready = c.in-Ok.ensures.ready in
+    let plan = r.stored.plan in
+    let storable = ready_storable h c.args.draft c.end.result c.self.inside.entries r c.make_ready.new.shelf.pages (c.requires.drafted h now.stands) ready (c.in-Ok.ensures.taken _ in_step.stands.pages_are) in
+    elim (c.in-Err-write_ready.ensures.stops tells (bodies_of h) in_step.journal) [
+      | inl started ↦ inl (begun_keeps s plan r.prepared r.frame _ _ _ in_step storable started)
+      | inr put ↦
+          let there = put_there s plan r.prepared r.frame put.0 _ _ _ c.args.self.now in_step storable put.1 in
+          inr (
+            with_entry s (entries.Planned plan) put.0 c.args.self.now (g.D.Disk.disk c.write_ready.new.disk),
+            record {
+              plan = plan;
+              stored = ready_stored h c.args.draft c.end.result c.self.inside.entries r (c.end.ensures.end ∙ in_step.stands.end_is) ready (c.in-Ok.ensures.placed _ in_step.stands.pages_are);
+              next_is = refl;
+              stocks = there.stocks;
+              leads = there.leads;
+            },
+          )
+    ]

@@ -1,0 +1,135 @@
+-- An archive by what reads give: what an item of the input does to it, and what is replied. Nothing is asked of what lies in Pages: where it holds what
+-- the history's plans need, this is the machine's step over the history.
+use Rattle.std.specs.Prelude.{◌≡◌, ℕ, ◌+◌, List, [], ◌∷◌, ◌++◌, length, All, Result, Ok, Err}
+use Rattle.machine_model.specs.Areas.{Bytes}
+use Rattle.machine_model.specs.Images.{MayLeave}
+use Rattle.machine_model.specs.States.{DiskState}
+use Rattle.time_base.specs.declared.extent.Extent.{Extent}
+use Rattle.time_base.specs.declared.time.Span.{Span}
+use Rattle.time_base.specs.declared.time.Time.{Time}
+use Rattle.gate_journal.specs.Spelled.{Spells}
+use Rattle.page_cache.specs.Caches.{Kept, after_asking_all, missed_by_all}
+use Rattle.page_store.specs.Live.{IsInside}
+use Rattle.page_store.specs.Ranges.{bytes_in}
+use Rattle.page_store.specs.Taken.{AreApart}
+use Rattle.record_codec.specs.declared.entry.Entry.TheVariants as entries
+use Rattle.record_codec.specs.declared.plan.PlanEntry.{PlanEntry}
+use Rattle.commands.specs.declared.command.Command.{Command}
+use Rattle.commands.specs.declared.command.Command.TheVariants as commands
+use Rattle.commands.specs.declared.command.Item.{Item}
+use Rattle.commands.specs.declared.command.Item.TheVariants as items
+use Rattle.query_lang.specs.Grammar.{Query, IsRead}
+use Rattle.query_lang.specs.Meaning.{words_of}
+use Rattle.query_lang.specs.Tokens.{term_of}
+use Rattle.query_eval.specs.declared.answer.Row.{Row}
+use Rattle.query_eval.specs.declared.spans.SpanRow.{SpanRow}
+use Rattle.sublist_store.specs.declared.why.Damage.{Damage}
+use Rattle.archive_state.specs.declared.refusal.Refusal.TheVariants as refusals
+use Rattle.archive_state.specs.declared.verdict.Verdict.{Verdict}
+use Rattle.archive_state.specs.Chosen.{IsMadeAt, IsMadeOver, SpoilsAnswer, pieces_for}
+use Rattle.archive_state.specs.Histories.{History, text_at}
+use Rattle.archive_state.specs.Holding.{HoldsPlan}
+use Rattle.archive_state.specs.Legal.{IsLegal}
+use Rattle.archive_state.specs.Plans.{live_extents}
+use Rattle.archive_state.specs.Stands.{bodies_of}
+use Rattle.archive_state.specs.Steps.{Reply, Accepted, Found, Planned, Refused, Spanned, Verified, Version, CarriesOut, Certifies, IsRepliedBy, Proposes}
+use Rattle.archive_check.specs.Checked.{IsChecked}
+
+-- an archive by what reads give: its history, the bytes of Pages, the pieces of pages that it keeps, and how many bytes of Pages were read
+pub record Store : Type 0 where
+  pub history : History
+  pub pages : List ℕ
+  pub kept : List Kept
+  pub read : ℕ
+
+-- an extent lies inside these pages, and has the bytes there that it has in those
+abbrev pub HasSame : List ℕ → List ℕ → Extent → Type 0
+HasSame was pages e = IsInside (length pages) e × (bytes_in e pages ≡ bytes_in e was)
+
+-- An image stands for it: its journal spells the history's entries, and each live place has the bytes that reads give.
+pub record StandsBy (store : Store) (image : Bytes) : Type 0 where
+  pub spelled : Spells image.journal (bodies_of store.history)
+  pub same : All (HasSame store.pages image.pages) (live_extents store.history)
+
+-- each image that a stop may leave now stands for it
+abbrev pub EachStandsBy : DiskState → Store → Type 0
+EachStandsBy d store = (image : Bytes) → MayLeave d.now image → StandsBy store image
+
+-- What a change or a plan leaves in Pages: each live place has the bytes that it had, no two places share a page that are live then, and those of a
+-- plan that was stored hold its sublists.
+pub record Stocks (old new : Store) : Type 0 where
+  pub same : All (HasSame old.pages new.pages) (live_extents old.history)
+  pub apart : AreApart (live_extents new.history)
+  pub held : (plan : PlanEntry) → new.history ≡ old.history ++ entries.Planned plan ∷ [] → HoldsPlan new.history new.pages plan
+
+-- a change or a plan is carried out on the history as the machine says
+abbrev pub Changes : Store → Command → Reply → Store → Type 0
+Changes old command reply new = CarriesOut old.history command reply new.history × Stocks old new
+
+-- what is found by a query at a time, by the lists that are chosen
+abbrev pub MakesAt : Store → Time → Query → Reply → Type 0
+MakesAt store at query reply = (rows : List Row) × (read : ℕ) × IsMadeAt store.history store.pages at.seconds query rows read × (reply ≡ Found rows read)
+
+-- the same over a window
+abbrev pub MakesOver : Store → Span → Query → Reply → Type 0
+MakesOver store span query reply = (rows : List SpanRow) × (read : ℕ) × IsMadeOver store.history store.pages span.from span.to query rows read × (reply ≡ Spanned rows read)
+
+-- what is told of an archive that is checked: the verdict by its texts and the bytes of its places
+abbrev pub TellsVerdict : Store → Reply → Type 0
+TellsVerdict store reply = (journal : List ℕ) × (verdict : Verdict) × Spells journal (bodies_of store.history)
+    × IsChecked store.history (record { journal = journal; pages = store.pages }) verdict × (reply ≡ Verified verdict)
+
+-- the reply tells of no new entry
+abbrev pub TellsNoEntry : Reply → Type 0
+TellsNoEntry (Accepted length) = ⊥
+TellsNoEntry (Planned summary) = ⊥
+TellsNoEntry other = Unit {0}
+
+-- what is certified for a phrase: where its word's plan is what its kind promises, that it is
+abbrev pub CertifiesBy : Store → List ℕ → Reply → Type 0
+CertifiesBy store word reply = (IsLegal store.history → Certifies store.history word reply) × TellsNoEntry reply
+
+-- pages are asked for that give these pieces: those that are missed are read, and kept
+abbrev pub asking : Store → List Kept → Store
+asking store pieces = record store { kept = after_asking_all pieces store.kept; read = store.read + missed_by_all pieces store.kept }
+
+-- for a query over [a, b) exactly the pages are asked for of the lists that are chosen, in their order, and for a text that is none nothing
+abbrev pub AsksOf : Store → ℕ → ℕ → Result Query ℕ → Store → Type 0
+AsksOf old a b (Ok query) new = new ≡ asking old (pieces_for old.history old.pages a b (words_of query))
+AsksOf old a b (Err place) new = new ≡ old
+
+-- what a text is answered, as it is read, and what is asked for
+abbrev pub Answers : (Query → Reply → Type 0) → Store → ℕ → ℕ → List ℕ → Reply → Store → Type 0
+Answers Makes old a b text reply new = (query : Result Query ℕ) × IsRead term_of text query × IsRepliedBy Makes query reply × AsksOf old a b query new
+
+-- nothing changes but how many bytes were read
+abbrev pub ReadsOn : Store → Store → Type 0
+ReadsOn old new = new ≡ record old { read = new.read }
+
+-- The step by what reads give: a change or a plan is the history's; a question changes nothing, and its answer is made from the lists that are chosen,
+-- its verdict from the bytes that are there.
+abbrev pub StoreStep : Store → Item → Reply → Store → Type 0
+StoreStep old (items.Command (commands.Arrive doc at text)) reply new = Changes old (commands.Arrive doc at text) reply new
+StoreStep old (items.Command (commands.Delete doc at)) reply new = Changes old (commands.Delete doc at) reply new
+StoreStep old (items.Command (commands.Plan word kind fraction)) reply new = Changes old (commands.Plan word kind fraction) reply new
+StoreStep old (items.Command (commands.Find at expr)) reply new = Answers (MakesAt old at) old at.seconds (at.seconds + 1) expr reply new
+StoreStep old (items.Command (commands.Between span expr)) reply new = Answers (MakesOver old span) old span.from span.to expr reply new
+StoreStep old (items.Command (commands.Show doc at)) reply new = ReadsOn old new × (reply ≡ Version (text_at old.history doc at.seconds))
+StoreStep old (items.Command (commands.Propose word fraction)) reply new = (new ≡ old) × Proposes old.history word fraction reply
+StoreStep old (items.Command (commands.Certificate word)) reply new = (new ≡ old) × CertifiesBy old word reply
+StoreStep old (items.Command commands.Verify) reply new = ReadsOn old new × TellsVerdict old reply
+StoreStep old other reply new = (new ≡ old) × (reply ≡ Refused refusals.Line)
+
+-- the history and the bytes of Pages are the same
+abbrev pub IsSameStore : Store → Store → Type 0
+IsSameStore old new = (new.history ≡ old.history) × (new.pages ≡ old.pages)
+
+-- The item asks what is found, at a time, which is a window up to the next one, or over a window; and this is so of the window's bounds and the text.
+abbrev pub AsksOver : (ℕ → ℕ → List ℕ → Type 0) → Item → Type 0
+AsksOver P (items.Command (commands.Find at expr)) = P at.seconds (at.seconds + 1) expr
+AsksOver P (items.Command (commands.Between span expr)) = P span.from span.to expr
+AsksOver P other = ⊥
+
+-- the item asks what is found, and this is the first that is damaged of what is read for it
+abbrev pub Spoils : Store → Item → Damage → Type 0
+Spoils store item damage = AsksOver (λ a b text. SpoilsAnswer store.history store.pages a b text damage) item
