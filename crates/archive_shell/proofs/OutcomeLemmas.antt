@@ -5,8 +5,15 @@ use Rattle.machine_model.specs.Areas.{Bytes}
 use Rattle.machine_model.specs.Images.{MayLeave}
 use Rattle.machine_model.specs.Pushes.{IsPrefix, IsSameBeside, OnlyShows}
 use Rattle.machine_model.specs.States.{DiskState}
+use Rattle.time_base.specs.declared.ids.DocId.{DocId}
+use Rattle.time_base.specs.declared.time.Time.{Time}
+use Rattle.commands.specs.declared.command.Command.TheVariants as commands
 use Rattle.commands.specs.declared.command.Item.{Item}
+use Rattle.commands.specs.declared.command.Item.TheVariants as items
+use Rattle.commands.specs.declared.text.Text.TheVariants as texts
+use Rattle.record_codec.specs.Spelling.{most_text}
 use Rattle.archive_state.specs.declared.refusal.Refusal.{Refusal}
+use Rattle.archive_state.specs.declared.refusal.Refusal.TheVariants as refusals
 use Rattle.archive_state.specs.Histories.{History}
 use Rattle.archive_state.specs.Plans.{live_extents}
 use Rattle.archive_state.specs.Replies.{reply_text}
@@ -20,8 +27,8 @@ use Rattle.archive_core.specs.Changing.{KeepsBy, LeadsBy}
 use Rattle.archive_core.specs.States.{ArchiveState, AreInStepBy, CacheStands}
 use Rattle.archive_core.specs.Stored.{Store, EachStandsBy, HasSame, IsSameStore, StandsBy, StoreStep, TellsNoEntry}
 use Rattle.archive_core.specs.Takes.{Ending, Replied, Starved, Faulted, Spoiled, TakesBy}
-use Rattle.archive_core.proofs.ByReadsLemmas.{keeps_leads, keeps_nowhere, stands_by}
-use Rattle.archive_shell.specs.Outcomes.{AnswersTo, CarriesOut, FailsAt, IsShown, Writes}
+use Rattle.archive_core.proofs.ByReadsLemmas.{keeps_leads, keeps_nowhere, stands_by, stocks_none}
+use Rattle.archive_shell.specs.Outcomes.{AnswersTo, CarriesOut, IsAnswered, IsShown, Writes}
 use Rattle.archive_shell.specs.Statuses.{stop_of_halt}
 use Rattle.archive_shell.specs.declared.stop.Halt.{Halt}
 use Rattle.archive_shell.specs.declared.stop.Halt.TheVariants as halts
@@ -42,19 +49,29 @@ leads_back s next old new same leads = record {
 }
 
 -- an item that a call took is answered by what is written of the call's end
-pub answers_by : (s : Store) (item : Item) (ending : Ending) (result : Result (Unit {0}) Halt) (old new : DiskState) (archive : ArchiveState) (page : List ℕ)
+answers_so : (s : Store) (item : Item) (ending : Ending) (result : Result (Unit {0}) Halt) (old new : DiskState) (archive : ArchiveState) (page : List ℕ)
     → TakesBy s item ending old new archive → Writes ending result page → AnswersTo s item result old new archive page
-answers_by s item (Replied reply) result old new archive page (next, comes, in_step) (inl is) = rw is.0 (reply, next, comes.step, comes.leads, in_step, is.1)
-answers_by s item (Replied reply) result old new archive page (next, comes, in_step) (inr (none, tells)) = rw none (leads_back s next old new (comes.still tells) comes.leads)
-answers_by s item Starved result old new archive page keeps is = rw is keeps
-answers_by s item Faulted result old new archive page (inl keeps) is = rw is (inl keeps)
-answers_by s item Faulted result old new archive page (inr (reply, next, comes)) is = rw is (inr (reply, next, comes.step, comes.leads))
-answers_by s item (Spoiled damage) result old new archive page spoiled is = rw is spoiled
+answers_so s item (Replied reply) result old new archive page (next, comes, in_step) (inl is) = rw is.0 (reply, next, comes.step, comes.leads, in_step, is.1)
+answers_so s item (Replied reply) result old new archive page (next, comes, in_step) (inr (none, tells)) = rw none (leads_back s next old new (comes.still tells) comes.leads)
+answers_so s item Starved result old new archive page keeps is = rw is keeps
+answers_so s item Faulted result old new archive page (inl keeps) is = rw is (inl keeps)
+answers_so s item Faulted result old new archive page (inr (reply, next, comes)) is = rw is (inr (reply, next, comes.step, comes.leads))
+answers_so s item (Spoiled damage) result old new archive page spoiled is = rw is spoiled
+
+pub answers_by : (s : Store) (item : Item) (ending : Ending) (result : Result (Unit {0}) Halt) (old new : DiskState) (archive : ArchiveState) (page : List ℕ)
+    → TakesBy s item ending old new archive → Writes ending result page → IsAnswered s item result old new archive page
+answers_by s item ending result old new archive page takes writes = record { came = answers_so s item ending result old new archive page takes writes }
 
 -- an item that is refused without a call
 pub refused_by : (s : Store) (item : Item) (why : Refusal) (result : Result (Unit {0}) Halt) (d : DiskState) (archive : ArchiveState) (page : List ℕ)
-    → StoreStep s item (Refused why) s → AreInStepBy d archive s → result ≡ Ok tt → page ≡ reply_text (Refused why) → AnswersTo s item result d d archive page
-refused_by s item why result d archive page step in_step goes_on written = rw goes_on (Refused why, s, step, keeps_leads s s d d (keeps_nowhere d archive s in_step), in_step, written)
+    → StoreStep s item (Refused why) s → AreInStepBy d archive s → result ≡ Ok tt → page ≡ reply_text (Refused why) → IsAnswered s item result d d archive page
+refused_by s item why result d archive page step in_step goes_on written = record { came = rw goes_on (Refused why, s, step, keeps_leads s s d d (keeps_nowhere d archive s in_step), in_step, written) }
+
+-- an arrival whose text was too long to be held
+pub too_long_by : (s : Store) (doc : DocId) (at : Time) (bytes : ℕ) (result : Result (Unit {0}) Halt) (d : DiskState) (archive : ArchiveState) (page : List ℕ)
+    → AreInStepBy d archive s → result ≡ Ok tt → page ≡ reply_text (Refused (refusals.TooLong most_text)) → IsAnswered s (items.Command (commands.Arrive doc at (texts.TooLong bytes))) result d d archive page
+too_long_by s doc at bytes result d archive page in_step goes_on written =
+    refused_by s (items.Command (commands.Arrive doc at (texts.TooLong bytes))) (refusals.TooLong most_text) result d archive page ((refl, refl), stocks_none s in_step.live) in_step goes_on written
 
 -- no reply is empty
 pub some_bytes : (r : Reply) → 1 ≤ length (reply_text r)
@@ -97,8 +114,8 @@ in_step_beside old new archive s same in_step =
 
 -- the run was stopped before the reply
 pub cut_short : (s : Store) (item : Item) (halt : Halt) (stop : Stop) (before : List ℕ) (old new : DiskState) (archive_now : ArchiveState) (page : List ℕ)
-    → AnswersTo s item (Err halt) old new archive_now page → stop ≡ stop_of_halt halt → old.now.beside ≡ before → CarriesOut s item (Err stop) before before old new archive_now
-cut_short s item halt stop before old new archive_now page answered is beside = rw is (go halt answered)
+    → IsAnswered s item (Err halt) old new archive_now page → stop ≡ stop_of_halt halt → old.now.beside ≡ before → CarriesOut s item (Err stop) before before old new archive_now
+cut_short s item halt stop before old new archive_now page answered is beside = rw is (go halt answered.came)
   where
     go : (h : Halt) → AnswersTo s item (Err h) old new archive_now page → CarriesOut s item (Err (stop_of_halt h)) before before old new archive_now
     go halts.Disk (inl keeps) = inl (keeps, refl)
@@ -126,11 +143,10 @@ ShownTo before after page (Ok done) = after ≡ before ++ page
 ShownTo before after page (Err stops.Sink) = length after < length before + length page
 ShownTo before after page (Err stop) = ⊥
 
--- the reply was shown, or a front of it
-pub carried_out : (s : Store) (item : Item) (result : Result (Unit {0}) Stop) (before after : List ℕ) (old mid new : DiskState) (archive_now : ArchiveState) (page : List ℕ)
+shown_so : (s : Store) (item : Item) (result : Result (Unit {0}) Stop) (before after : List ℕ) (old mid new : DiskState) (archive_now : ArchiveState) (page : List ℕ)
     → AnswersTo s item (Ok tt) old mid archive_now page → old.now.beside ≡ before → OnlyShows mid new before after → IsSameBeside mid new
     → IsPrefix after (before ++ page) → ShownTo before after page result → CarriesOut s item result before after old new archive_now
-carried_out s item result before after old mid new archive_now page (reply, next, step, leads, in_step, page_is) beside shows same front to = go result to
+shown_so s item result before after old mid new archive_now page (reply, next, step, leads, in_step, page_is) beside shows same front to = go result to
   where
     outcome : Outcome Reply Store
     outcome = record { reply = reply; next = next }
@@ -158,3 +174,9 @@ carried_out s item result before after old mid new archive_now page (reply, next
     go (Ok done) all = (grows, is, append_cancel_left before grows (reply_text reply) (sym shows.grows.1 ∙ all ∙ ap (λ (t : List ℕ). before ++ t) page_is), still)
     go (Err stops.Sink) short = ((grows, is, omega (arith, short, ap length page_is, ap length shows.grows.1, length-append before grows)), stands_by new archive_now next still)
     go (Err stop) never = absurd never
+
+-- the reply was shown, or a front of it
+pub carried_out : (s : Store) (item : Item) (result : Result (Unit {0}) Stop) (before after : List ℕ) (old mid new : DiskState) (archive_now : ArchiveState) (page : List ℕ)
+    → IsAnswered s item (Ok tt) old mid archive_now page → old.now.beside ≡ before → OnlyShows mid new before after → IsSameBeside mid new
+    → IsPrefix after (before ++ page) → ShownTo before after page result → CarriesOut s item result before after old new archive_now
+carried_out s item result before after old mid new archive_now page answered beside shows same front to = shown_so s item result before after old mid new archive_now page answered.came beside shows same front to

@@ -244,6 +244,7 @@ stopped store old now sink disk archive archive_new held held_now before item st
     earlier : List ℕ
     earlier = shown_by reply_text serving.outcomes
 
+    reads : List Pull
     reads = before ++ pulls_beside now.sink.shown lefts
 
     early : EndsEarly status
@@ -359,11 +360,20 @@ synced_if_refused old new at refused longer = elim (cases_lt 17 (length old.hold
   | inr short ↦ absurd (stands_is_archive [] old.holds at (new_stands old.holds short) refused)
 ]
 
--- how a run ends where the archive isn't loaded: at no damage
+-- the statuses that tell neither the end of a run nor a damage
+abbrev pub IsUndone : Status → Type 0
+IsUndone Done = ⊥
+IsUndone (Damaged damage) = ⊥
+IsUndone status = Unit {0}
+
+-- how a run ends where the archive isn't loaded
+pub load_undone : (status : Status) (error : LoadError) → status ≡ status_of_load error → IsUndone status
+load_undone status loads.Failed is = rw is tt
+load_undone status error is = rw is tt
+
+-- and so at no damage
 pub load_undamaged : (status : Status) (error : LoadError) (damage : Damage) → status ≡ status_of_load error → status ≡ Damaged damage → ⊥
-load_undamaged status loads.Failed damage is same = let both = sym is ∙ same in absurd cc
-load_undamaged status (loads.NotArchive at) damage is same = let both = sym is ∙ same in absurd cc
-load_undamaged status loads.Memory damage is same = let both = sym is ∙ same in absurd cc
+load_undamaged status error damage is same = subst IsUndone same (load_undone status error is)
 
 pub load_early : (status : Status) (error : LoadError) → status ≡ status_of_load error → ((at : ℕ) → error ≡ loads.NotArchive at → ⊥) → EndsEarly status
 load_early status loads.Failed is never = inl is
@@ -391,7 +401,7 @@ load_completes status (loads.NotArchive at) is never archive = absurd (archive a
 load_completes status loads.Memory is never archive = is
 
 -- a run that ended before its input was begun
-pub not_begun : {S : Type 0} (step : S → Item → Reply → S → Type 0) (stands : S → Bytes → Type 0) (state : S) (status : Status) (old new : MachineState) → EndsEarly status → (new.source ≡ old.source) × (new.sink ≡ old.sink)
+abbrev pub not_begun : {S : Type 0} (step : S → Item → Reply → S → Type 0) (stands : S → Bytes → Type 0) (state : S) (status : Status) (old new : MachineState) → EndsEarly status → (new.source ≡ old.source) × (new.sink ≡ old.sink)
     → (((image : Bytes) → MayLeave old.disk.now image → stands state image) → Carried {R = Reply} reply_text stands state [] old.sink.shown old.disk new.disk × ((image : Bytes) → MayLeave new.disk.now image → stands state image)) → Headline step stands state status old new []
 not_begun step stands state status old new early alone keeps = record {
   ran = record {

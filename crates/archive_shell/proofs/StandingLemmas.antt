@@ -147,7 +147,7 @@ runs_on s status reached behind outcomes standing range run =
 history_event : (h : History) (before : List ℕ) (old new : DiskState) → old.now.beside ≡ before → KeepsHistory h old new → Carried {R = Reply} reply_text StandsIn (world_of h) [] before old new
 history_event h before old new beside keeps = record {
   goes_on = keeps.goes_on;
-  images = λ image other left. let was = keeps.images image other left in ([], was.1 ∙ beside ∙ sym (append-nil before), was.0, refl);
+  images = λ image other left. let was = keeps.images image other left in ([], was.1 ∙ beside ∙ sym (append-nil before), (was.0, refl));
 }
 
 pub standing_run : (s : Store) (status : Status) (old : MachineState) (mid : DiskState) (new : MachineState) (pulls : List Pull) → IsStanding s → old.disk.now.beside ≡ old.sink.shown

@@ -50,6 +50,10 @@ AnswersTo store item (Err halts.Disk) old new archive_now page = FailsAt store i
 AnswersTo store item (Err (halts.Damaged damage)) old new archive_now page = KeepsBy store old new × Spoils store item damage
 AnswersTo store item (Err halts.Memory) old new archive_now page = KeepsBy store old new
 
+-- an item was answered so
+pub record IsAnswered (store : Store) (item : Item) (result : Result (Unit {0}) Halt) (old new : DiskState) (archive_now : ArchiveState) (page : List ℕ) : Type 0 where
+  pub came : AnswersTo store item result old new archive_now page
+
 -- An item has an outcome, and this was shown of its reply: each image left since, with what was shown of it then, stands for what was before it or
 -- after it.
 pub record IsShown (store : Store) (item : Item) (shown before after : List ℕ) (old new : DiskState) : Type 0 where
@@ -71,7 +75,7 @@ IsUndone store before after old new = KeepsBy store old new × (after ≡ before
 abbrev pub CarriesOut : Store → Item → Result (Unit {0}) Stop → List ℕ → List ℕ → DiskState → DiskState → ArchiveState → Type 0
 CarriesOut store item (Ok done) before after old new archive_now =
     (shown : List ℕ) × (is : IsShown store item shown before after old new) × (shown ≡ reply_text is.outcome.reply) × AreInStepBy new archive_now is.outcome.next
-CarriesOut store item (Err stops.Sink) before after old new archive_now = (cut : IsCut store item before after old new) × EachStandsBy new cut.1.0.outcome.next
+CarriesOut store item (Err stops.Sink) before after old new archive_now = (cut : IsCut store item before after old new) × EachStandsBy new cut.1.outcome.next
 CarriesOut store item (Err stops.Disk) before after old new archive_now = IsUndone store before after old new ⊎ IsCut store item before after old new
 CarriesOut store item (Err stops.Memory) before after old new archive_now = IsUndone store before after old new
 CarriesOut store item (Err (stops.Damaged damage)) before after old new archive_now = IsUndone store before after old new × Spoils store item damage

@@ -9,7 +9,7 @@ ghost use Rattle.archive_core.specs.Takes.{changed, planned, proposed, version_s
 ghost use Rattle.commands.specs.declared.command.Item.TheVariants as items;
 ghost use Rattle.commands.specs.declared.command.Command.TheVariants as plain;
 ghost use Rattle.archive_shell.specs.Causes.{IsLeft};
-ghost use Rattle.archive_shell.specs.Outcomes.{AnswersTo, CanGoOn, Writes, WritesAnswer};
+ghost use Rattle.archive_shell.specs.Outcomes.{CanGoOn, IsAnswered, Writes, WritesAnswer};
 
 use crate::stop::Halt;
 use archive_check::VerifyError;
@@ -38,7 +38,7 @@ pub(crate) fn answer<D: Disk>(
     ensures disk_fault { IsErrOf result Halt.Disk → Rose (D.disk disk.old).faults (D.disk disk.new).faults }
     ensures left { OnOk result (IsLeft D.disk_tells (D.disk disk.old) (D.disk disk.new) archive.old archive.new) }
     // What comes of it by what reads give, whatever lies in Pages.
-    ensures outcome { D.disk_tells → (s : Store) → AreInStepBy (D.disk disk.old) archive.old s → AnswersTo s item result (D.disk disk.old) (D.disk disk.new) archive.new page.new.bytes }
+    ensures outcome { D.disk_tells → (s : Store) → AreInStepBy (D.disk disk.old) archive.old s → IsAnswered s item result (D.disk disk.old) (D.disk disk.new) archive.new page.new.bytes }
 {
     let Item::Command(command) = item else {
         return refuse(page, Refusal::Line);
@@ -108,7 +108,7 @@ fn arrive<D: Disk>(
     ensures left { OnOk result (IsLeft D.disk_tells (D.disk disk.old) (D.disk disk.new) archive.old archive.new) }
     ensures undamaged { (d : Damage) → IsErrOf result (Halt.Damaged d) → ⊥ }
     ensures outcome { D.disk_tells → (s : Store) → AreInStepBy (D.disk disk.old) archive.old s →
-        AnswersTo s (items.Command (plain.Arrive doc at text)) result (D.disk disk.old) (D.disk disk.new) archive.new page.new.bytes }
+        IsAnswered s (items.Command (plain.Arrive doc at text)) result (D.disk disk.old) (D.disk disk.new) archive.new page.new.bytes }
 {
     match text {
         Text::Bytes(content) => {

@@ -10,14 +10,14 @@ use Rattle.archive_state.specs.Worlds.{world_of}
 use Rattle.archive_state.proofs.StandsLemmas.{not_archive_once}
 use Rattle.archive_core.specs.Stored.{StandsBy, StoreStep}
 use Rattle.archive_shell.specs.Causes.{MayEnd}
-use Rattle.archive_shell.specs.Headline.{EndsEarly, LoadsAs, store_of}
+use Rattle.archive_shell.specs.Headline.{LoadsAs, store_of}
 use Rattle.archive_shell.specs.Serving.{Serves}
 use Rattle.archive_shell.specs.declared.status.Status.TheVariants.{Memory}
 use Rattle.archive_shell.proofs.PullLemmas.{completes, ends_later, later_alone, not_early, not_pulled, pulling_start}
 use Rattle.archive_shell.proofs.ServeLemmas.{begins_in_step, kept_by, keeps_still, keeps_still_by, load_keeps, load_completes, load_early, load_ends, load_fails, load_refused, load_undamaged, loads_archive, not_begun, serving_start, stands_loads, synced_if_refused, syncs_still, whole_run}
 use Rattle.archive_shell.proofs.StandingLemmas.{kept_history, standing_run}
 use Rattle.archive_shell.proofs.script.run_script.Given.{Over}
-use Rattle.archive_shell.proofs.script.run_script.Goals.{After-serve, In-Err-load}
+use Rattle.archive_shell.proofs.script.run_script.Goals.{After-serve}
 use Rattle.archive_shell.proofs.script.run_script.Goals as goal
 
 pub returns-in-Err-clause-left_alone : goal.returns-in-Err-clause-left_alone
@@ -65,15 +65,11 @@ returns-in-Err-load-clause-left_alone g c = λ disk_tells at refused.
     let alone = g.met.M.Machine.disk_alone _ _ c.load.ensures.only in
     (alone.0, alone.1, synced_if_refused (g.M.Disk.disk c.args.machine.now) (g.M.Disk.disk c.load.new.disk) at refused (c.in-Err-load.ensures.longer disk_tells))
 
--- a load that failed ends the run early
-early : (g : Over) (c : In-Err-load g) (tells : g.M.Disk.disk_tells) (h : History) → LoadsAs h (g.M.Disk.disk c.args.machine.now).holds → EndsEarly c.from.result
-early g c tells h begins = load_early c.from.result c.in-Err-load.error c.from.ensures (λ at is. loads_archive h (g.M.Disk.disk c.args.machine.now).holds at begins (c.in-Err-load.ensures.not_archive tells at (ap Err is)))
-
 pub returns-in-Err-load-clause-headline : goal.returns-in-Err-load-clause-headline
 returns-in-Err-load-clause-headline g c = λ source_tells sink_tells disk_tells h stands.
     let m = c.args.machine.now in
     let n = c.load.new.disk in
-    let ends = early g (goal.at.returns-in-Err-load-clause-headline g c).In-Err-load disk_tells h (stands_loads h (g.M.Disk.disk m).holds stands) in (
+    let ends = load_early c.from.result c.in-Err-load.error c.from.ensures (λ at is. loads_archive h (g.M.Disk.disk m).holds at (stands_loads h (g.M.Disk.disk m).holds stands) (c.in-Err-load.ensures.not_archive disk_tells at (ap Err is))) in (
       [],
       g.met.M.Machine.asked_laws.of_disk m n c.load.ensures.only,
         record {
@@ -90,7 +86,7 @@ returns-in-Err-load-clause-by_reads g c = λ source_tells sink_tells disk_tells 
     let n = c.load.new.disk in
     let d = g.M.Disk.disk m in
     let s = store_of h d in
-    let ends = early g (goal.at.returns-in-Err-load-clause-by_reads g c).In-Err-load disk_tells h begins in (
+    let ends = load_early c.from.result c.in-Err-load.error c.from.ensures (λ at is. loads_archive h d.holds at begins (c.in-Err-load.ensures.not_archive disk_tells at (ap Err is))) in (
       [],
       g.met.M.Machine.asked_laws.of_disk m n c.load.ensures.only,
         record {
