@@ -232,15 +232,15 @@ put_down bodies frame ps end old mid new step allowed changes same stored inside
       images = joined (λ image beside. ((Spells image.journal bodies × IsOutside old (ranges_of ps) image.pages) ⊎ (Spells image.journal (bodies ++ frame ∷ []) × (image.pages ≡ mid.holds.pages))) × (beside ≡ old.now.beside)) first.goes_on
           (λ image beside left. let was = first.images image beside left in (inl (was.0, was.1), was.2)) then.goes_on
           (λ image beside left.
-              let was = then.images image beside left in
-              let on = pages.images image beside left in
-              let is : image.pages ≡ mid.holds.pages = on.2 ∙ ap (λ (b : Bytes). b.pages) (stored.only on.0 on.1) in (
-                elim was.0 [
-                  | inl spelled ↦ inl (spelled, (old.holds, allowed, subst (λ (l : List ℕ). SameOutside (ranges_of ps) old.holds.pages l) (sym is) stored.wrote.elsewhere))
-                  | inr spelled ↦ inr (spelled, is)
-                ],
-                was.1 ∙ same,
-              ));
+          let was = then.images image beside left in
+          let on = pages.images image beside left in
+          let is : image.pages ≡ mid.holds.pages = on.2 ∙ ap (λ (b : Bytes). b.pages) (stored.only on.0 on.1) in (
+            elim was.0 [
+              | inl spelled ↦ inl (spelled, (old.holds, allowed, subst (λ (l : List ℕ). SameOutside (ranges_of ps) old.holds.pages l) (sym is) stored.wrote.elsewhere))
+              | inr spelled ↦ inr (spelled, is)
+            ],
+            was.1 ∙ same,
+          ));
     }
 
 -- and then each image has the pages that reads give

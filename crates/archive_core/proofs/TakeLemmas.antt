@@ -204,7 +204,7 @@ question_by Q s item (Replied reply) old new a b step same but cached in_step is
     (next, record { step = step reply is; leads = keeps_leads s next old new (keeps_reads old new a s in_step same); still = λ none. (refl, refl) }, reads_by s old new a b in_step same but cached)
 question_by Q s item Starved old new a b step same but cached in_step is = keeps_reads old new a s in_step same
 question_by Q s item Faulted old new a b step same but cached in_step is = inl (keeps_reads old new a s in_step same)
-question_by Q s item (Spoiled damage) old new a b step same but cached in_step is = (keeps_reads old new a s in_step same, is)
+question_by Q s item (Spoiled damage) old new a b step same but cached in_step is = (keeps_reads old new a s in_step same, is, ap (λ (d : DiskState). d.holds.pages) same ∙ in_step.pages_are)
 
 -- an archive that keeps what it kept, on a disk that read on
 reads_on : (s : Store) (old new : DiskState) (a : ArchiveState) → AreInStepBy old a s → ReadsOn s (with_reads s a new)

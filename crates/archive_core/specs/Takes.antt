@@ -114,4 +114,4 @@ abbrev pub TakesBy : Store → Item → Ending → DiskState → DiskState → A
 TakesBy store item (Replied reply) old new archive_now = (next : Store) × Comes store item reply next old new × AreInStepBy new archive_now next
 TakesBy store item Starved old new archive_now = KeepsBy store old new
 TakesBy store item Faulted old new archive_now = KeepsBy store old new ⊎ ((reply : Reply) × (next : Store) × Comes store item reply next old new)
-TakesBy store item (Spoiled damage) old new archive_now = KeepsBy store old new × Spoils store item damage
+TakesBy store item (Spoiled damage) old new archive_now = KeepsBy store old new × Spoils store item damage × (new.holds.pages ≡ store.pages)

@@ -28,7 +28,7 @@ use Rattle.archive_core.specs.States.{ArchiveState, AreInStepBy, CacheStands}
 use Rattle.archive_core.specs.Stored.{Store, EachStandsBy, HasSame, IsSameStore, StandsBy, StoreStep, TellsNoEntry}
 use Rattle.archive_core.specs.Takes.{Ending, Replied, Starved, Faulted, Spoiled, TakesBy}
 use Rattle.archive_core.proofs.ByReadsLemmas.{keeps_leads, keeps_nowhere, stands_by, stocks_none}
-use Rattle.archive_shell.specs.Outcomes.{AnswersTo, CarriesOut, IsAnswered, IsShown, Writes}
+use Rattle.archive_shell.specs.Outcomes.{AnswersTo, CarriesOut, IsAnswered, IsShown, Passes, Writes}
 use Rattle.archive_shell.specs.Statuses.{stop_of_halt}
 use Rattle.archive_shell.specs.declared.stop.Halt.{Halt}
 use Rattle.archive_shell.specs.declared.stop.Halt.TheVariants as halts
@@ -121,21 +121,34 @@ cut_short s item halt stop before old new archive_now page answered is beside = 
     go halts.Disk (inl keeps) = inl (keeps, refl)
     go halts.Disk (inr (reply, next, step, leads)) = inr (
       [],
-        record {
-          outcome = record { reply = reply; next = next };
-          step = step;
-          carried = record {
-            goes_on = leads.goes_on;
-            images = λ image other left. let was = leads.images image other left in
-                ([], was.1 ∙ beside ∙ sym (append-nil before), elim was.0 [ inl still ↦ inl (still, refl) | inr after ↦ inr (inl (after, (reply_text reply, refl))) ]);
-          };
-          shown_is = sym (append-nil before);
-          front = (reply_text reply, refl);
-        },
+      record {
+        outcome = record { reply = reply; next = next };
+        step = step;
+        carried = record {
+          goes_on = leads.goes_on;
+          images = λ image other left. let was = leads.images image other left in
+              ([], was.1 ∙ beside ∙ sym (append-nil before), elim was.0 [ inl still ↦ inl (still, refl) | inr after ↦ inr (inl (after, (reply_text reply, refl))) ]);
+        };
+        shown_is = sym (append-nil before);
+        front = (reply_text reply, refl);
+      },
       omega (arith, some_bytes reply),
     )
-    go (halts.Damaged damage) (keeps, spoils) = ((keeps, refl), spoils)
+    go (halts.Damaged damage) (keeps, spoils, pages) = ((keeps, refl), spoils)
     go halts.Memory keeps = (keeps, refl)
+
+-- by the disk alone
+pub halted_passes : (s : Store) (item : Item) (halt : Halt) (stop : Stop) (old new : DiskState) (archive_now : ArchiveState) (page : List ℕ) → IsAnswered s item (Err halt) old new archive_now page → stop ≡ stop_of_halt halt → Passes s item (Err stop) new archive_now
+halted_passes s item halt stop old new archive_now page answered is = rw is (go halt answered.came)
+  where
+    go : (h : Halt) → AnswersTo s item (Err h) old new archive_now page → Passes s item (Err (stop_of_halt h)) new archive_now
+    go halts.Disk came = tt
+    go (halts.Damaged damage) (keeps, spoils, pages) = (spoils, pages)
+    go halts.Memory came = tt
+
+pub answered_passes : (s : Store) (item : Item) (old mid new : DiskState) (archive_now : ArchiveState) (page : List ℕ) → IsAnswered s item (Ok tt) old mid archive_now page → IsSameBeside mid new → Passes s item (Ok tt) new archive_now
+answered_passes s item old mid new archive_now page answered same =
+    let (reply, next, step, leads, in_step, page_is) = answered.came in (reply, next, step, in_step_beside mid new archive_now next same in_step)
 
 -- what is known of the end of a show: all of the page was shown, or a part
 abbrev pub ShownTo : List ℕ → List ℕ → List ℕ → Result (Unit {0}) Stop → Type 0

@@ -13,10 +13,14 @@ use Rattle.script_read.proofs.Joins.{items-join}
 use Rattle.script_read.proofs.RunLemmas.{read_so_far, reads_start, reads_on, reads_end}
 use Rattle.script_read.proofs.Splitting.{broken_once, each_splits, end-is, more-open, not_broken, script_unbroken, script_whole}
 use Rattle.sublist_store.specs.declared.why.Damage.{Damage}
-use Rattle.archive_core.specs.States.{ArchiveState}
+use Rattle.archive_state.specs.Standing.{last_state}
+use Rattle.archive_state.proofs.RunLemmas.{last_state_joins, runs_join}
+use Rattle.archive_core.specs.States.{ArchiveState, AreInStepBy}
+use Rattle.archive_core.specs.Stored.{Store, StoreStep}
 use Rattle.archive_shell.specs.Causes.{IsLater, IsLeft, MayEnd}
-use Rattle.archive_shell.specs.Headline.{CarriesOutAll, Ends, EndsEarly, InputAt}
-use Rattle.archive_shell.specs.Serving.{Gives, Pulling, next_by}
+use Rattle.archive_shell.specs.Headline.{ArePulled, CarriesOutAll, Ends, EndsEarly, InputAt}
+use Rattle.archive_shell.specs.Outcomes.{Passes}
+use Rattle.archive_shell.specs.Serving.{Gives, HasPassed, HasSpoiled, Pulling, next_by}
 use Rattle.archive_shell.specs.Statuses.{status_of_stop, stop_of_halt}
 use Rattle.archive_shell.specs.declared.stop.Halt.{Halt}
 use Rattle.archive_shell.specs.declared.stop.Halt.TheVariants as halts
@@ -238,3 +242,88 @@ halted_at halt damage is = cc
 pub stopped_at : (stop : Stop) (damage : Damage) → status_of_stop stop ≡ Damaged damage → stop ≡ stops.Damaged damage
 stopped_at (stops.Damaged other) damage is = cc
 stopped_at stop damage is = cc
+
+-- ---- by the disk alone
+
+-- the item that was taken is the next of the bytes pulled
+pub pulled_one : (old now source : SourceState) (held held_now : ReaderState) (item : Item) (p : Pulling old now held) → Gives held held_now p.since (Ok item) now source → (q : Pulling old source held_now) × (q.items ≡ p.items ++ item ∷ [])
+pulled_one old now source held held_now item p gives = (pulling_next old now source held held_now item p gives, refl)
+
+-- items that were given out are the first of those of the bytes pulled
+pub are_pulled : (old new : SourceState) (held : ReaderState) (items : List Item) → (q : Pulling old new held) → q.items ≡ items → ArePulled old new items
+are_pulled old new held items q same =
+    let behind = each_splits held.ended q.since in
+    record {
+      pulled = q.pulled;
+      pulled_are = q.pulled_are;
+      ended = held.ended;
+      ended_is = q.told;
+      behind = behind.0;
+      rest = behind.1;
+      split = (let S : List Item → Type 0 = λ l. Splits held.ended q.pulled (l ++ behind.0) behind.1 in subst S same (items-join held.ended q.pulled q.since behind.1 q.items behind.0 (read_so_far q.reads) behind.2.0, behind.2.1));
+    }
+
+-- what an item that was taken came to
+pub passes_one : (tells : Type 0) (s : Store) (item : Item) (d : DiskState) (archive : ArchiveState) (source source_now : SourceState) (held held_now : ReaderState) → Passes s item (Ok tt) d archive
+    → (tells → (began : SourceState) → (p : Pulling began source held) → Gives held held_now p.since (Ok item) source source_now) → HasPassed tells s d archive source source_now held held_now
+passes_one tells s item d archive source source_now held held_now (reply, next, step, in_step) gives = record {
+  items = item ∷ [];
+  outcomes = record { reply = reply; next = next } ∷ [];
+  run = (step, tt);
+  in_step = in_step;
+  pulled = λ told began p. pulled_one began source source_now held held_now item p (gives told began p);
+}
+
+pub spoils_one : (tells : Type 0) (s : Store) (item : Item) (status : Status) (stop : Stop) (d : DiskState) (archive : ArchiveState) (source source_now : SourceState) (held held_now : ReaderState) → status ≡ status_of_stop stop → Passes s item (Err stop) d archive
+    → (tells → (began : SourceState) → (p : Pulling began source held) → Gives held held_now p.since (Ok item) source source_now) → (damage : Damage) → status ≡ Damaged damage → HasSpoiled tells s d source source_now held damage
+spoils_one tells s item status stop d archive source source_now held held_now is passes gives damage same =
+    let (spoils, pages) = subst (λ (x : Stop). Passes s item (Err x) d archive) (stopped_at stop damage (sym is ∙ same)) passes in
+    record {
+      before = [];
+      outcomes = [];
+      run = tt;
+      item = item;
+      spoiled = spoils;
+      pages_are = pages;
+      pulled = λ told began p. (let one = pulled_one began source source_now held held_now item p (gives told began p) in are_pulled began source_now held_now (p.items ++ item ∷ []) one.0 one.1);
+    }
+
+-- items in turn
+pub passed_joins : (tells : Type 0) (s : Store) (d e : DiskState) (a b : ArchiveState) (x y z : SourceState) (h i j : ReaderState) → (one : HasPassed tells s d a x y h i) → HasPassed tells (last_state s one.outcomes) e b y z i j → HasPassed tells s e b x z h j
+passed_joins tells s d e a b x y z h i j one more = record {
+  items = one.items ++ more.items;
+  outcomes = one.outcomes ++ more.outcomes;
+  run = runs_join StoreStep s one.items more.items one.outcomes more.outcomes one.run more.run;
+  in_step = rw (last_state_joins s one.outcomes more.outcomes) more.in_step;
+  pulled = λ told began p.
+      let first = one.pulled told began p in
+      let then = more.pulled told began first.0 in
+      (then.0, then.1 ∙ ap (λ (l : List Item). l ++ more.items) first.1 ∙ append_assoc p.items one.items more.items);
+}
+
+pub spoiled_joins : (tells : Type 0) (s : Store) (d e : DiskState) (a : ArchiveState) (x y z : SourceState) (h i : ReaderState) (damage : Damage) → (one : HasPassed tells s d a x y h i) → HasSpoiled tells (last_state s one.outcomes) e y z i damage → HasSpoiled tells s e x z h damage
+spoiled_joins tells s d e a x y z h i damage one more = record {
+  before = one.items ++ more.before;
+  outcomes = one.outcomes ++ more.outcomes;
+  run = runs_join StoreStep s one.items more.before one.outcomes more.outcomes one.run more.run;
+  item = more.item;
+  spoiled = rw (last_state_joins s one.outcomes more.outcomes) more.spoiled;
+  pages_are = rw (last_state_joins s one.outcomes more.outcomes) more.pages_are;
+  pulled = λ told began p.
+      let first = one.pulled told began p in
+      let all : first.0.items ++ (more.before ++ more.item ∷ []) ≡ p.items ++ ((one.items ++ more.before) ++ more.item ∷ []) =
+      ap (λ (l : List Item). l ++ (more.before ++ more.item ∷ [])) first.1 ∙ append_assoc p.items one.items (more.before ++ more.item ∷ []) ∙ ap (λ (l : List Item). p.items ++ l) (sym (append_assoc one.items more.before (more.item ∷ []))) in
+      let P : List Item → Type 0 = λ l. ArePulled began z l in
+      subst P all (more.pulled told began first.0);
+}
+
+-- since the input was begun
+pub spoiled_start : (tells : Type 0) (s : Store) (d : DiskState) (began source source_now : SourceState) (held : ReaderState) (damage : Damage) → source ≡ began → held ≡ fresh → (one : HasSpoiled tells s d source source_now held damage) → tells
+    → ArePulled began source_now (one.before ++ one.item ∷ [])
+spoiled_start tells s d began source source_now held damage same is one told =
+    let G : ReaderState → Type 0 = λ h. (p : Pulling began source h) → ArePulled began source_now (p.items ++ (one.before ++ one.item ∷ [])) in
+    subst G is (one.pulled told began) (pulling_first began source same)
+
+-- before any
+pub none_passed : (tells : Type 0) (s : Store) (d : DiskState) (a : ArchiveState) (x : SourceState) (h : ReaderState) → AreInStepBy d a s → HasPassed tells s d a x x h h
+none_passed tells s d a x h in_step = record { items = []; outcomes = []; run = tt; in_step = in_step; pulled = λ told began p. (p, sym (append-nil p.items)) }

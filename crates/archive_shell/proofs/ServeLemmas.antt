@@ -12,6 +12,7 @@ use Rattle.machine_model.specs.States.{SourceState, SinkState, DiskState, Machin
 use Rattle.machine_model.proofs.MomentLemmas.{allowed_left, goes_on_same, left_now}
 use Rattle.commands.specs.declared.command.Item.{Item}
 use Rattle.page_cache.specs.Caches.{Kept}
+use Rattle.page_store.specs.Live.{AreLive}
 use Rattle.script_read.specs.Items.{Splits, Waits}
 use Rattle.script_read.specs.Reading.{ReaderState, IsAwaited, fresh}
 use Rattle.script_read.proofs.RunLemmas.{pulled_by_then}
@@ -457,6 +458,10 @@ begins_in_step h d n a empty unread (s, (in_step, spelled, pages)) begins =
     ap (λ (x : History). record s { history = x }) one ∙ ap (λ (x : List ℕ). record { history = h; pages = x; kept = s.kept; read = s.read }) pages
     ∙ ap (λ (x : List Kept). record { history = h; pages = d.holds.pages; kept = x; read = s.read }) kept ∙ ap (λ (x : ℕ). record { history = h; pages = d.holds.pages; kept = []; read = x }) read in
     subst (AreInStepBy n a) same in_step
+
+-- what a load found it took the bytes for
+pub loads_found : {n : DiskState} {a : ArchiveState} (d : DiskState) → (found : (s : Store) × (AreInStepBy n a s × Spells d.holds.journal (bodies_of s.history) × (s.pages ≡ d.holds.pages))) → LoadsAs found.0.history d.holds
+loads_found d (s, (in_step, spelled, pages)) = record { spelled = spelled; loadable = in_step.stands.loadable; live = subst (λ (ps : List ℕ). AreLive (live_extents s.history) (length ps)) pages in_step.live }
 
 -- bytes that stand for a history are loaded for it
 pub stands_loads : (h : History) (image : Bytes) → Stands h image → LoadsAs h image

@@ -139,6 +139,27 @@ pub record ReadingRun (store : Store) (status : Status) (old new : MachineState)
       × (headline.ran.shown ≡ shown_by reply_text headline.ran.outcomes)
   pub read : CarriesOutAll status → new.disk.bytes_read.pages ≡ (last_state store headline.ran.outcomes).read
 
+-- These are the first of the items of the bytes that were pulled; that their end is the input's is known only where it was told.
+pub record ArePulled (old new : SourceState) (items : List Item) : Type 0 where
+  pub pulled : List ℕ
+  pub pulled_are : old.left ≡ pulled ++ new.left
+  pub ended : Bool
+  pub ended_is : ended ≡ true → new.left ≡ []
+  pub behind : List Item
+  pub rest : List ℕ
+  pub split : Splits ended pulled (items ++ behind) rest
+
+-- A run that ended at a damaged sublist, by the disk alone: items were carried out, and by what reads of Pages give now this is the first damage of what
+-- is read for the next one. Where the source tells, these are the items of the bytes pulled.
+pub record EndsSpoiled (tells : Type 0) (store : Store) (old new : SourceState) (disk : DiskState) (damage : Damage) : Type 0 where
+  pub before : List Item
+  pub outcomes : List (Outcome Reply Store)
+  pub run : IsRun StoreStep store before outcomes
+  pub item : Item
+  pub spoiled : Spoils (last_state store outcomes) item damage
+  pub pages_are : disk.holds.pages ≡ (last_state store outcomes).pages
+  pub pulled : tells → ArePulled old new (before ++ item ∷ [])
+
 -- A load takes an image for this history's: its journal spells the history's entries, which load, and the live places lie well. (What they hold isn't
 -- looked at.)
 pub record LoadsAs (history : History) (image : Bytes) : Type 0 where

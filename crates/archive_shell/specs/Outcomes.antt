@@ -47,7 +47,7 @@ abbrev pub AnswersTo : Store → Item → Result (Unit {0}) Halt → DiskState �
 AnswersTo store item (Ok done) old new archive_now page =
     (reply : Reply) × (next : Store) × StoreStep store item reply next × LeadsBy store next old new × AreInStepBy new archive_now next × (page ≡ reply_text reply)
 AnswersTo store item (Err halts.Disk) old new archive_now page = FailsAt store item old new
-AnswersTo store item (Err (halts.Damaged damage)) old new archive_now page = KeepsBy store old new × Spoils store item damage
+AnswersTo store item (Err (halts.Damaged damage)) old new archive_now page = KeepsBy store old new × Spoils store item damage × (new.holds.pages ≡ store.pages)
 AnswersTo store item (Err halts.Memory) old new archive_now page = KeepsBy store old new
 
 -- an item was answered so
@@ -79,3 +79,11 @@ CarriesOut store item (Err stops.Sink) before after old new archive_now = (cut :
 CarriesOut store item (Err stops.Disk) before after old new archive_now = IsUndone store before after old new ⊎ IsCut store item before after old new
 CarriesOut store item (Err stops.Memory) before after old new archive_now = IsUndone store before after old new
 CarriesOut store item (Err (stops.Damaged damage)) before after old new archive_now = IsUndone store before after old new × Spoils store item damage
+
+-- The same by the disk alone, whatever the sink tells: what came of an item that was carried out, and what is damaged where the run was stopped at that.
+abbrev pub Passes : Store → Item → Result (Unit {0}) Stop → DiskState → ArchiveState → Type 0
+Passes store item (Ok done) d archive_now = (reply : Reply) × (next : Store) × StoreStep store item reply next × AreInStepBy d archive_now next
+Passes store item (Err stops.Disk) d archive_now = Unit {0}
+Passes store item (Err stops.Sink) d archive_now = Unit {0}
+Passes store item (Err stops.Memory) d archive_now = Unit {0}
+Passes store item (Err (stops.Damaged damage)) d archive_now = Spoils store item damage × (d.holds.pages ≡ store.pages)

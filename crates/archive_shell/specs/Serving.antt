@@ -1,7 +1,7 @@
 -- A run while it goes on, and when it has ended: what it pulled, and what it did.
 use Rattle.std.specs.Prelude.{◌≡◌, ◌<◌, ◌≤◌, ℕ, true, false, List, [], ◌∷◌, ◌++◌, length, map, All, Option, Some, None, Result, Ok, Err}
 use Rattle.machine_model.specs.Pulls.{Pull}
-use Rattle.machine_model.specs.States.{SourceState, MachineState}
+use Rattle.machine_model.specs.States.{DiskState, SourceState, MachineState}
 use Rattle.commands.specs.declared.command.Item.{Item}
 use Rattle.script_read.specs.Reading.{ReaderState, IsAwaited, IsCalm, Says, Reads}
 use Rattle.script_read.specs.declared.error.ScriptError.{ScriptError}
@@ -11,7 +11,7 @@ use Rattle.archive_state.specs.Runs.{Outcome, IsRun, shown_by}
 use Rattle.archive_state.specs.Standing.{last_state, Carried}
 use Rattle.archive_core.specs.States.{ArchiveState, AreInStepBy}
 use Rattle.archive_core.specs.Stored.{Store, EachStandsBy, Spoils, StandsBy, StoreStep}
-use Rattle.archive_shell.specs.Headline.{CarriesOutAll, ComesAfterReplies, Ran}
+use Rattle.archive_shell.specs.Headline.{ArePulled, CarriesOutAll, ComesAfterReplies, Ran}
 use Rattle.sublist_store.specs.declared.why.Damage.{Damage}
 use Rattle.archive_shell.specs.declared.status.Status.{Status}
 use Rattle.archive_shell.specs.declared.status.Status.TheVariants.{Damaged, Disk, Done, Memory}
@@ -89,3 +89,24 @@ pub record Serves (store : Store) (status : Status) (old new : MachineState) (pu
   pub steady : (status ≡ Disk → ⊥) → EachStandsBy new.disk (last_state store ran.outcomes)
   pub damaged : (damage : Damage) → status ≡ Damaged damage → (item : Item) × (rest : List Item) × (ran.behind ≡ item ∷ rest) × Spoils (last_state store ran.outcomes) item damage
   pub read : CarriesOutAll status → new.disk.bytes_read.pages ≡ (last_state store ran.outcomes).read
+
+-- ---- by the disk alone
+
+-- Since a call or a loop began, these items were carried out, from what was stored. Where the source tells, they are the next of those of the bytes
+-- pulled.
+pub record HasPassed (tells : Type 0) (store : Store) (d : DiskState) (archive : ArchiveState) (source source_now : SourceState) (held held_now : ReaderState) : Type 0 where
+  pub items : List Item
+  pub outcomes : List (Outcome Reply Store)
+  pub run : IsRun StoreStep store items outcomes
+  pub in_step : AreInStepBy d archive (last_state store outcomes)
+  pub pulled : tells → (began : SourceState) → (p : Pulling began source held) → (q : Pulling began source_now held_now) × (q.items ≡ p.items ++ items)
+
+-- And then this is the first damage of what is read for the next item.
+pub record HasSpoiled (tells : Type 0) (store : Store) (d : DiskState) (source source_now : SourceState) (held : ReaderState) (damage : Damage) : Type 0 where
+  pub before : List Item
+  pub outcomes : List (Outcome Reply Store)
+  pub run : IsRun StoreStep store before outcomes
+  pub item : Item
+  pub spoiled : Spoils (last_state store outcomes) item damage
+  pub pages_are : d.holds.pages ≡ (last_state store outcomes).pages
+  pub pulled : tells → (began : SourceState) → (p : Pulling began source held) → ArePulled began source_now (p.items ++ (before ++ item ∷ []))

@@ -4,7 +4,7 @@ ghost use Rattle.machine_model.specs.Causes.{Rose};
 ghost use Rattle.archive_core.specs.States.{AreInStepBy};
 ghost use Rattle.archive_core.specs.Stored.{Store};
 ghost use Rattle.archive_shell.specs.Causes.{IsLeft};
-ghost use Rattle.archive_shell.specs.Outcomes.{CanGoOn, CarriesOut};
+ghost use Rattle.archive_shell.specs.Outcomes.{CanGoOn, CarriesOut, Passes};
 
 use crate::answer::answer;
 use crate::stop::Stop;
@@ -32,6 +32,8 @@ pub(crate) fn carry_out<M: Machine>(
     ensures left { OnOk result (IsLeft M.disk_tells (M.disk machine.old) (M.disk machine.new) archive.old archive.new) }
     ensures outcome { M.disk_tells → M.sink_tells → (s : Store) → AreInStepBy (M.disk machine.old) archive.old s →
         CarriesOut s item result (M.sink machine.old).shown (M.sink machine.new).shown (M.disk machine.old) (M.disk machine.new) archive.new }
+    // The same by the disk alone.
+    ensures passes { M.disk_tells → (s : Store) → AreInStepBy (M.disk machine.old) archive.old s → Passes s item result (M.disk machine.new) archive.new }
 {
     match answer(alloc, machine, archive, page, item) {
         Ok(()) => {}

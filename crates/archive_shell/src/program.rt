@@ -14,7 +14,7 @@ ghost use Rattle.program_words.specs.Words.{AreNoWords, AreWords, texts};
 ghost use Rattle.program_words.specs.declared.task.Task.{Task as PlainTask};
 ghost use Rattle.program_words.specs.declared.task.Task.TheVariants as tasks;
 ghost use Rattle.program_words.specs.declared.task.SampleNumbers.{SampleNumbers as PlainNumbers};
-ghost use Rattle.archive_shell.specs.Headline.{Ends, IsComplete, IsLoadedFrom, LoadsAs, ReadingRun, StandingRun, store_of};
+ghost use Rattle.archive_shell.specs.Headline.{Ends, EndsSpoiled, IsComplete, IsLoadedFrom, LoadsAs, ReadingRun, StandingRun, store_of};
 ghost use Rattle.archive_shell.specs.Sampling.{EndsSample, Sampled};
 
 use crate::sampling::run_sample;
@@ -23,6 +23,7 @@ use crate::status::Status;
 use machine_model::Machine;
 use program_words::{Task, WordsError, read_words};
 use std::alloc::Global;
+use sublist_store::Damage;
 
 /// Says how a run ends at once because of these words of the command line, given without the program's
 /// name: they ask for nothing, or there is no memory to read them. `None` where the run goes on. A
@@ -88,6 +89,10 @@ pub fn run<M: Machine>(alloc: Global, words: &[String], machine: &mut M) -> Stat
     ensures by_reads { M.source_tells → M.sink_tells → M.disk_tells → AreWords (texts words.now) tasks.Script → (h : History) → LoadsAs h (M.disk machine.old).holds →
         (pulls : List Pull) × M.asked machine.old pulls machine.new
         × ReadingRun (store_of h (M.disk machine.old)) result (state_by M.source M.sink M.disk machine.old) (state_by M.source M.sink M.disk machine.new) pulls }
+    // Whatever the source and the sink tell, a damaged sublist is told only of a question, and only where it is the first damage of what is read for
+    // that one, by the history to which the items in front of it led the one loaded.
+    ensures damaged { M.disk_tells → AreWords (texts words.now) tasks.Script → (d : Damage) → result ≡ Status.Damaged d →
+        (h : History) × LoadsAs h (M.disk machine.old).holds × EndsSpoiled M.source_tells (store_of h (M.disk machine.old)) (M.source machine.old) (M.source machine.new) (M.disk machine.new) d }
     // Unless the bytes were refused, the disk failed or memory ran out, a load took them for a history's.
     ensures loaded { M.disk_tells → AreWords (texts words.now) tasks.Script → IsLoadedFrom (M.disk machine.old).holds result }
     // And whatever the disk holds, unless its bytes were refused: where the input was.

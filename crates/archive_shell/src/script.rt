@@ -6,7 +6,7 @@ ghost use Rattle.machine_model.specs.Pulls.{Pull};
 ghost use Rattle.machine_model.specs.States.{state_by};
 ghost use Rattle.archive_state.specs.Histories.{History};
 ghost use Rattle.archive_state.specs.Stands.{IsNotArchive, Stands};
-ghost use Rattle.archive_shell.specs.Headline.{Ends, IsComplete, IsLoadedFrom, LoadsAs, ReadingRun, StandingRun, store_of};
+ghost use Rattle.archive_shell.specs.Headline.{Ends, EndsSpoiled, IsComplete, IsLoadedFrom, LoadsAs, ReadingRun, StandingRun, store_of};
 
 use crate::desk::Desk;
 use crate::serve::serve;
@@ -14,6 +14,7 @@ use crate::status::Status;
 use archive_core::Archive;
 use machine_model::Machine;
 use std::alloc::Global;
+use sublist_store::Damage;
 
 /// Loads the archive of the machine's disk, and carries out the items of its source one after another.
 pub(crate) fn run_script<M: Machine>(alloc: Global, machine: &mut M) -> Status
@@ -34,6 +35,8 @@ pub(crate) fn run_script<M: Machine>(alloc: Global, machine: &mut M) -> Status
     ensures by_reads { M.source_tells → M.sink_tells → M.disk_tells → (h : History) → LoadsAs h (M.disk machine.old).holds →
         (pulls : List Pull) × M.asked machine.old pulls machine.new
         × ReadingRun (store_of h (M.disk machine.old)) result (state_by M.source M.sink M.disk machine.old) (state_by M.source M.sink M.disk machine.new) pulls }
+    ensures damaged { M.disk_tells → (d : Damage) → result ≡ Status.Damaged d →
+        (h : History) × LoadsAs h (M.disk machine.old).holds × EndsSpoiled M.source_tells (store_of h (M.disk machine.old)) (M.source machine.old) (M.source machine.new) (M.disk machine.new) d }
     ensures loaded { M.disk_tells → IsLoadedFrom (M.disk machine.old).holds result }
     ensures input_at { M.source_tells → ((at : ℕ) × (result ≡ Status.NotArchive at)) ⊎ Ends result (M.source machine.old) (M.source machine.new) }
     ensures complete { M.source_tells → M.sink_tells → M.disk_tells →

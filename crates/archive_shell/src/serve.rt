@@ -2,10 +2,11 @@
 ghost use Rattle.std.specs.Prelude.{◌≡◌, ◌<◌, ◌≤◌, ◌^◌, ◌++◌, [], List, OnOk, IfErr, IsErrOf, MatchResult, ℕ};
 ghost use Rattle.machine_model.specs.Pulls.{Pull};
 ghost use Rattle.machine_model.specs.States.{SourceState, MachineState, state_by};
+ghost use Rattle.archive_core.specs.States.{AreInStepBy};
 ghost use Rattle.archive_core.specs.Stored.{Store};
 ghost use Rattle.archive_shell.specs.Headline.{Ends};
 ghost use Rattle.archive_shell.specs.Causes.{IsLater, IsLeft, MayEnd};
-ghost use Rattle.archive_shell.specs.Serving.{AreAwaited, Gives, Pulling, Serving, Serves, pulls_beside};
+ghost use Rattle.archive_shell.specs.Serving.{AreAwaited, Gives, HasPassed, HasSpoiled, Pulling, Serving, Serves, pulls_beside};
 ghost use Rattle.archive_shell.specs.Outcomes.{CanGoOn};
 
 use crate::carry_out::carry_out;
@@ -70,6 +71,10 @@ pub(crate) fn step<M: Machine>(
         (pulls : List Pull) × M.asked machine.old pulls machine.new × MatchResult result
         (λ _. Serving s began (state_by M.source M.sink M.disk machine.new) archive.new reader.new (before ++ pulls))
         (λ status. Serves s status began (state_by M.source M.sink M.disk machine.new) (before ++ pulls)) }
+    // By the disk alone: an item was carried out, or it came to a damage.
+    ensures passes { M.disk_tells → (s : Store) → AreInStepBy (M.disk machine.old) archive.old s → MatchResult result
+        (λ _. HasPassed M.source_tells s (M.disk machine.new) archive.new (M.source machine.old) (M.source machine.new) reader.old reader.new)
+        (λ status. (d : Damage) → status ≡ Status.Damaged d → HasSpoiled M.source_tells s (M.disk machine.new) (M.source machine.old) (M.source machine.new) reader.old d) }
 {
     let item = match next_item(alloc, machine, reader) {
         Ok(item) => item,
@@ -101,6 +106,8 @@ pub(crate) fn serve<M: Machine>(
         (pulls : List Pull) × M.asked machine.old pulls machine.new
         × Serves s result (state_by M.source M.sink M.disk machine.old)
         (state_by M.source M.sink M.disk machine.new) pulls }
+    ensures spoiled { M.disk_tells → (s : Store) → AreInStepBy (M.disk machine.old) archive.old s → (d : Damage) → result ≡ Status.Damaged d →
+        HasSpoiled M.source_tells s (M.disk machine.new) (M.source machine.old) (M.source machine.new) reader.old d }
 {
     'items: loop {
         match step(alloc, machine, reader, archive, page) {

@@ -5,7 +5,7 @@ use Rattle.archive_core.specs.Stored.{Store}
 use Rattle.archive_shell.specs.Outcomes.{CarriesOut}
 use Rattle.archive_shell.specs.declared.stop.Stop.{Stop}
 use Rattle.archive_shell.specs.declared.stop.Stop.TheVariants.{Sink}
-use Rattle.archive_shell.proofs.OutcomeLemmas.{ShownTo, cut_short, carried_out}
+use Rattle.archive_shell.proofs.OutcomeLemmas.{ShownTo, answered_passes, carried_out, cut_short, halted_passes}
 use Rattle.archive_shell.proofs.PullLemmas.{left_beside}
 use Rattle.archive_shell.proofs.carry_out.carry_out.Given.{Over}
 use Rattle.archive_shell.proofs.carry_out.carry_out.Goals.{After-show}
@@ -53,3 +53,9 @@ returns-in-Err-show-clause-outcome g c = λ disk_tells sink_tells s in_step. out
 
 pub returns-in-Ok-show-clause-left : goal.returns-in-Ok-show-clause-left
 returns-in-Ok-show-clause-left g c = left_beside _ _ _ _ _ _ (g.met.M.Machine.sink_alone c.answer.new.disk c.show.new.sink c.show.ensures.only).1 c.in-Ok.ensures.left
+
+pub returns-in-Err-clause-passes : goal.returns-in-Err-clause-passes
+returns-in-Err-clause-passes g c = λ disk_tells s in_step. halted_passes s c.args.item c.in-Err.halt c.from.result _ _ _ _ (c.in-Err.ensures.outcome disk_tells s in_step) c.from.ensures
+
+pub returns-in-Ok-show-clause-passes : goal.returns-in-Ok-show-clause-passes
+returns-in-Ok-show-clause-passes g c = λ disk_tells s in_step. answered_passes s c.args.item _ _ _ _ _ (c.in-Ok.ensures.outcome disk_tells s in_step) (g.met.M.Machine.sink_alone c.answer.new.disk c.show.new.sink c.show.ensures.only).1

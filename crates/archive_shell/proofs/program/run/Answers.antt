@@ -28,11 +28,11 @@ returns-in-Err-clause-headline g c = λ source_tells sink_tells disk_tells are h
     let none = memory g (goal.at.returns-in-Err-clause-headline g c).In-Err tasks.Script are in (
       [],
       g.met.M.Machine.asked_laws.of_disk m m (g.met.M.Disk.only_same m),
-        record {
-          headline = not_begun Step StandsIn (world_of h) c.in-Err.status _ _ (inr (inr (inl none))) (refl, refl) (kept_history h d d _ (g.met.M.Machine.beside_shown m sink_tells disk_tells) (keeps_still h d));
-          over_all = refl;
-          undamaged = λ damage is. (let both = sym none ∙ is in absurd cc);
-        },
+      record {
+        headline = not_begun Step StandsIn (world_of h) c.in-Err.status _ _ (inr (inr (inl none))) (refl, refl) (kept_history h d d _ (g.met.M.Machine.beside_shown m sink_tells disk_tells) (keeps_still h d));
+        over_all = refl;
+        undamaged = λ damage is. (let both = sym none ∙ is in absurd cc);
+      },
     )
 
 pub returns-in-Err-clause-by_reads : goal.returns-in-Err-clause-by_reads
@@ -43,11 +43,11 @@ returns-in-Err-clause-by_reads g c = λ source_tells sink_tells disk_tells are h
     let none = memory g (goal.at.returns-in-Err-clause-by_reads g c).In-Err tasks.Script are in (
       [],
       g.met.M.Machine.asked_laws.of_disk m m (g.met.M.Disk.only_same m),
-        record {
-          headline = not_begun StoreStep StandsBy s c.in-Err.status _ _ (inr (inr (inl none))) (refl, refl) (kept_by s d d _ (g.met.M.Machine.beside_shown m sink_tells disk_tells) (keeps_still_by s d));
-          damaged = λ damage is. (let both = sym none ∙ is in absurd cc);
-          read = λ done. absurd (subst CarriesOutAll none done);
-        },
+      record {
+        headline = not_begun StoreStep StandsBy s c.in-Err.status _ _ (inr (inr (inl none))) (refl, refl) (kept_by s d d _ (g.met.M.Machine.beside_shown m sink_tells disk_tells) (keeps_still_by s d));
+        damaged = λ damage is. (let both = sym none ∙ is in absurd cc);
+        read = λ done. absurd (subst CarriesOutAll none done);
+      },
     )
 
 pub returns-in-Err-clause-complete : goal.returns-in-Err-clause-complete

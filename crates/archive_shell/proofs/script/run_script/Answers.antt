@@ -1,9 +1,7 @@
-use Rattle.std.proofs.Common.{ℕ, List, [], length, Err, refl, inl, inr, ap, subst}
+use Rattle.std.proofs.Common.{List, [], Err, refl, inl, inr, ap, subst}
 use Rattle.machine_model.specs.Pulls.{Pull}
 use Rattle.machine_model.specs.States.{SourceState, SinkState, state_by}
-use Rattle.page_store.specs.Live.{AreLive}
 use Rattle.archive_state.specs.Histories.{History}
-use Rattle.archive_state.specs.Plans.{live_extents}
 use Rattle.archive_state.specs.Stands.{StandsIn}
 use Rattle.archive_state.specs.Steps.{Step}
 use Rattle.archive_state.specs.Worlds.{world_of}
@@ -13,8 +11,8 @@ use Rattle.archive_shell.specs.Causes.{MayEnd}
 use Rattle.archive_shell.specs.Headline.{LoadsAs, store_of}
 use Rattle.archive_shell.specs.Serving.{Serves}
 use Rattle.archive_shell.specs.declared.status.Status.TheVariants.{Memory}
-use Rattle.archive_shell.proofs.PullLemmas.{completes, ends_later, later_alone, not_early, not_pulled, pulling_start}
-use Rattle.archive_shell.proofs.ServeLemmas.{begins_in_step, kept_by, keeps_still, keeps_still_by, load_keeps, load_completes, load_early, load_ends, load_fails, load_refused, load_undamaged, loads_archive, not_begun, serving_start, stands_loads, synced_if_refused, syncs_still, whole_run}
+use Rattle.archive_shell.proofs.PullLemmas.{completes, ends_later, later_alone, not_early, not_pulled, pulling_start, spoiled_start}
+use Rattle.archive_shell.proofs.ServeLemmas.{begins_in_step, kept_by, keeps_still, keeps_still_by, load_keeps, load_completes, load_early, load_ends, load_fails, load_refused, load_undamaged, loads_archive, loads_found, not_begun, serving_start, stands_loads, synced_if_refused, syncs_still, whole_run}
 use Rattle.archive_shell.proofs.StandingLemmas.{kept_history, standing_run}
 use Rattle.archive_shell.proofs.script.run_script.Given.{Over}
 use Rattle.archive_shell.proofs.script.run_script.Goals.{After-serve}
@@ -29,11 +27,11 @@ returns-in-Err-clause-headline g c = λ source_tells sink_tells disk_tells h sta
     let d = g.M.Disk.disk m in (
       [],
       g.met.M.Machine.asked_laws.of_disk m m (g.met.M.Disk.only_same m),
-        record {
-          headline = not_begun Step StandsIn (world_of h) Memory _ _ (inr (inr (inl refl))) (refl, refl) (kept_history h d d _ (g.met.M.Machine.beside_shown m sink_tells disk_tells) (keeps_still h d));
-          over_all = refl;
-          undamaged = λ damage is. cc;
-        },
+      record {
+        headline = not_begun Step StandsIn (world_of h) Memory _ _ (inr (inr (inl refl))) (refl, refl) (kept_history h d d _ (g.met.M.Machine.beside_shown m sink_tells disk_tells) (keeps_still h d));
+        over_all = refl;
+        undamaged = λ damage is. cc;
+      },
     )
 
 pub returns-in-Err-clause-by_reads : goal.returns-in-Err-clause-by_reads
@@ -43,11 +41,11 @@ returns-in-Err-clause-by_reads g c = λ source_tells sink_tells disk_tells h beg
     let s = store_of h d in (
       [],
       g.met.M.Machine.asked_laws.of_disk m m (g.met.M.Disk.only_same m),
-        record {
-          headline = not_begun StoreStep StandsBy s Memory _ _ (inr (inr (inl refl))) (refl, refl) (kept_by s d d _ (g.met.M.Machine.beside_shown m sink_tells disk_tells) (keeps_still_by s d));
-          damaged = λ damage is. cc;
-          read = λ done. absurd done;
-        },
+      record {
+        headline = not_begun StoreStep StandsBy s Memory _ _ (inr (inr (inl refl))) (refl, refl) (kept_by s d d _ (g.met.M.Machine.beside_shown m sink_tells disk_tells) (keeps_still_by s d));
+        damaged = λ damage is. cc;
+        read = λ done. absurd done;
+      },
     )
 
 pub returns-in-Err-clause-loaded : goal.returns-in-Err-clause-loaded
@@ -72,12 +70,12 @@ returns-in-Err-load-clause-headline g c = λ source_tells sink_tells disk_tells 
     let ends = load_early c.from.result c.in-Err-load.error c.from.ensures (λ at is. loads_archive h (g.M.Disk.disk m).holds at (stands_loads h (g.M.Disk.disk m).holds stands) (c.in-Err-load.ensures.not_archive disk_tells at (ap Err is))) in (
       [],
       g.met.M.Machine.asked_laws.of_disk m n c.load.ensures.only,
-        record {
-          headline = not_begun Step StandsIn (world_of h) c.from.result _ _ ends (g.met.M.Machine.disk_alone m n c.load.ensures.only)
-              (kept_history h (g.M.Disk.disk m) (g.M.Disk.disk n) _ (g.met.M.Machine.beside_shown m sink_tells disk_tells) (c.load.ensures.crash disk_tells h));
-          over_all = refl;
-          undamaged = λ damage is. load_undamaged c.from.result c.in-Err-load.error damage c.from.ensures is;
-        },
+      record {
+        headline = not_begun Step StandsIn (world_of h) c.from.result _ _ ends (g.met.M.Machine.disk_alone m n c.load.ensures.only)
+            (kept_history h (g.M.Disk.disk m) (g.M.Disk.disk n) _ (g.met.M.Machine.beside_shown m sink_tells disk_tells) (c.load.ensures.crash disk_tells h));
+        over_all = refl;
+        undamaged = λ damage is. load_undamaged c.from.result c.in-Err-load.error damage c.from.ensures is;
+      },
     )
 
 pub returns-in-Err-load-clause-by_reads : goal.returns-in-Err-load-clause-by_reads
@@ -89,12 +87,12 @@ returns-in-Err-load-clause-by_reads g c = λ source_tells sink_tells disk_tells 
     let ends = load_early c.from.result c.in-Err-load.error c.from.ensures (λ at is. loads_archive h d.holds at begins (c.in-Err-load.ensures.not_archive disk_tells at (ap Err is))) in (
       [],
       g.met.M.Machine.asked_laws.of_disk m n c.load.ensures.only,
-        record {
-          headline = not_begun StoreStep StandsBy s c.from.result _ _ ends (g.met.M.Machine.disk_alone m n c.load.ensures.only)
-              (kept_by s d (g.M.Disk.disk n) _ (g.met.M.Machine.beside_shown m sink_tells disk_tells) (load_keeps s d (g.M.Disk.disk n) (c.load.ensures.kept disk_tells) (c.load.ensures.pages disk_tells)));
-          damaged = λ damage is. absurd (load_undamaged c.from.result c.in-Err-load.error damage c.from.ensures is);
-          read = λ done. absurd (not_early c.from.result ends done);
-        },
+      record {
+        headline = not_begun StoreStep StandsBy s c.from.result _ _ ends (g.met.M.Machine.disk_alone m n c.load.ensures.only)
+            (kept_by s d (g.M.Disk.disk n) _ (g.met.M.Machine.beside_shown m sink_tells disk_tells) (load_keeps s d (g.M.Disk.disk n) (c.load.ensures.kept disk_tells) (c.load.ensures.pages disk_tells)));
+        damaged = λ damage is. absurd (load_undamaged c.from.result c.in-Err-load.error damage c.from.ensures is);
+        read = λ done. absurd (not_early c.from.result ends done);
+      },
     )
 
 pub returns-in-Err-load-clause-loaded : goal.returns-in-Err-load-clause-loaded
@@ -159,8 +157,8 @@ returns-clause-headline g c = λ source_tells sink_tells disk_tells h stands.
     let (pulls, asked, serves) = served g (goal.at.returns-clause-headline g c).After-serve source_tells sink_tells disk_tells h (stands_loads h d.holds stands) in (
       pulls,
       asked,
-        standing_run (store_of h d) c.serve.result (state_by g.M.Source.source g.M.Sink.sink g.M.Disk.disk m) (g.M.Disk.disk c.load.new.disk) (state_by g.M.Source.source g.M.Sink.sink g.M.Disk.disk c.serve.new.machine) pulls
-            (record { legal = stands.legal; held = stands.held }) (g.met.M.Machine.beside_shown m sink_tells disk_tells) (c.load.ensures.crash disk_tells h) serves,
+      standing_run (store_of h d) c.serve.result (state_by g.M.Source.source g.M.Sink.sink g.M.Disk.disk m) (g.M.Disk.disk c.load.new.disk) (state_by g.M.Source.source g.M.Sink.sink g.M.Disk.disk c.serve.new.machine) pulls
+          (record { legal = stands.legal; held = stands.held }) (g.met.M.Machine.beside_shown m sink_tells disk_tells) (c.load.ensures.crash disk_tells h) serves,
     )
 
 pub returns-clause-by_reads : goal.returns-clause-by_reads
@@ -171,8 +169,8 @@ returns-clause-by_reads g c = λ source_tells sink_tells disk_tells h begins.
     let (pulls, asked, serves) = served g (goal.at.returns-clause-by_reads g c).After-serve source_tells sink_tells disk_tells h begins in (
       pulls,
       asked,
-        whole_run (store_of h d) c.serve.result (state_by g.M.Source.source g.M.Sink.sink g.M.Disk.disk m) n (state_by g.M.Source.source g.M.Sink.sink g.M.Disk.disk c.serve.new.machine) pulls
-            (g.met.M.Machine.beside_shown m sink_tells disk_tells) (load_keeps (store_of h d) d n (c.load.ensures.kept disk_tells) (c.load.ensures.pages disk_tells)) serves,
+      whole_run (store_of h d) c.serve.result (state_by g.M.Source.source g.M.Sink.sink g.M.Disk.disk m) n (state_by g.M.Source.source g.M.Sink.sink g.M.Disk.disk c.serve.new.machine) pulls
+          (g.met.M.Machine.beside_shown m sink_tells disk_tells) (load_keeps (store_of h d) d n (c.load.ensures.kept disk_tells) (c.load.ensures.pages disk_tells)) serves,
     )
 
 pub returns-clause-input_at : goal.returns-clause-input_at
@@ -186,7 +184,31 @@ returns-clause-complete g c = λ source_tells sink_tells disk_tells archive scri
     let may = cause g (goal.at.returns-clause-complete g c).After-serve in
     completes c.serve.result _ _ (c.serve.ensures.ends source_tells _ (pulling_start _ _ c.in-Ok.desk.reader alone.0 c.in-Ok.ensures)) may script few (λ is. disk (may.disk is)) (λ is. source (may.source is)) (λ is. sink (may.sink is))
 
+pub returns-in-Err-load-clause-damaged : goal.returns-in-Err-load-clause-damaged
+returns-in-Err-load-clause-damaged g c = λ disk_tells d is. absurd (load_undamaged c.from.result c.in-Err-load.error d c.from.ensures is)
+
+pub returns-clause-damaged : goal.returns-clause-damaged
+returns-clause-damaged g c = λ disk_tells d is.
+    let m = c.args.machine.now in
+    let n = c.load.new.disk in
+    let b = g.M.Disk.disk m in
+    let found = c.in-Ok-load.ensures.by_reads disk_tells in
+    let begins = loads_found b found in
+    let alone = g.met.M.Machine.disk_alone m n c.load.ensures.only in
+    let in_step = begins_in_step found.0.history b (g.M.Disk.disk n) c.in-Ok-load.archive c.in-Ok-load.ensures.empty (c.load.ensures.unread disk_tells) found begins in
+    let spoiled = c.serve.ensures.spoiled disk_tells (store_of found.0.history b) in_step d is in (
+      found.0.history,
+      begins,
+      record {
+        before = spoiled.before;
+        outcomes = spoiled.outcomes;
+        run = spoiled.run;
+        item = spoiled.item;
+        spoiled = spoiled.spoiled;
+        pages_are = spoiled.pages_are;
+        pulled = spoiled_start _ (store_of found.0.history b) _ (g.M.Source.source m) (g.M.Source.source n) _ c.in-Ok.desk.reader d alone.0 c.in-Ok.ensures spoiled;
+      },
+    )
+
 pub returns-clause-loaded : goal.returns-clause-loaded
-returns-clause-loaded g c = λ disk_tells.
-    let (s, (in_step, spelled, pages)) = c.in-Ok-load.ensures.by_reads disk_tells in
-    inl (s.history, record { spelled = spelled; loadable = in_step.stands.loadable; live = subst (λ (ps : List ℕ). AreLive (live_extents s.history) (length ps)) pages in_step.live })
+returns-clause-loaded g c = λ disk_tells. let found = c.in-Ok-load.ensures.by_reads disk_tells in inl (found.0.history, loads_found (g.M.Disk.disk c.args.machine.now) found)

@@ -1,10 +1,12 @@
-use Rattle.std.proofs.Common.{List, [], Ok, Err}
+use Rattle.std.proofs.Common.{List, [], Ok, Err, ap}
 use Rattle.std.proofs.lemmas.List.{append-nil}
 use Rattle.machine_model.specs.Pulls.{Pull}
 use Rattle.machine_model.specs.States.{MachineState, SourceState, state_by}
 use Rattle.archive_state.specs.Standing.{last_state}
+use Rattle.archive_core.specs.States.{AreInStepBy}
+use Rattle.archive_core.specs.Stored.{Store}
 use Rattle.archive_shell.specs.Serving.{Gives, Pulling, Serving, pulls_beside}
-use Rattle.archive_shell.proofs.PullLemmas.{early_behind, ends_by, pulling_next, stops_early}
+use Rattle.archive_shell.proofs.PullLemmas.{early_behind, ends_by, passes_one, pulling_next, spoils_one, stops_early}
 use Rattle.archive_shell.proofs.ServeLemmas.{ended_by, serving_next, stopped}
 use Rattle.archive_shell.proofs.serve.step.Given.{Over}
 use Rattle.archive_shell.proofs.serve.step.Goals.{After-carry_out, After-next_item}
@@ -70,3 +72,20 @@ returns-in-Err-carry_out-clause-goes_on g c = λ source_tells sink_tells disk_te
 
 pub returns-in-Ok-carry_out-clause-left : goal.returns-in-Ok-carry_out-clause-left
 returns-in-Ok-carry_out-clause-left g c = rw c.next_item.ensures.disk at c.in-Ok-carry_out.ensures.left
+
+-- what is stored where the item was taken
+taken : (g : Over) (c : After-next_item g) (s : Store) → AreInStepBy (g.M.Disk.disk c.args.machine.now) c.args.archive.now s → AreInStepBy (g.M.Disk.disk c.next_item.new.machine) c.args.archive.now s
+taken g c s in_step = rw c.next_item.ensures.disk in_step
+
+pub returns-in-Err-clause-passes : goal.returns-in-Err-clause-passes
+returns-in-Err-clause-passes g c = λ disk_tells s in_step d is. absurd (c.in-Err.ensures.undamaged d (ap Err is))
+
+pub returns-in-Ok-carry_out-clause-passes : goal.returns-in-Ok-carry_out-clause-passes
+returns-in-Ok-carry_out-clause-passes g c = λ disk_tells s in_step.
+    let at = goal.at.returns-in-Ok-carry_out-clause-passes g c in
+    passes_one _ s c.in-Ok.item _ _ _ _ _ c.next_item.new.reader (c.in-Ok-carry_out.ensures.passes disk_tells s (taken g at.After-next_item s in_step)) (given g at.After-carry_out)
+
+pub returns-in-Err-carry_out-clause-passes : goal.returns-in-Err-carry_out-clause-passes
+returns-in-Err-carry_out-clause-passes g c = λ disk_tells s in_step.
+    let at = goal.at.returns-in-Err-carry_out-clause-passes g c in
+    spoils_one _ s c.in-Ok.item c.from.result c.in-Err-carry_out.stop _ c.carry_out.new.archive _ _ _ c.next_item.new.reader c.from.ensures (c.in-Err-carry_out.ensures.passes disk_tells s (taken g at.After-next_item s in_step)) (given g at.After-carry_out)
