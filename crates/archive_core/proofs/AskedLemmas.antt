@@ -24,10 +24,10 @@ use Rattle.archive_state.specs.declared.refusal.Refusal.{Refusal}
 use Rattle.archive_state.specs.declared.refusal.Refusal.TheVariants as refusals
 use Rattle.archive_state.specs.Histories.{History}
 use Rattle.archive_state.specs.Holding.{HoldsPlans}
-use Rattle.archive_state.specs.Steps.{Reply, Refused, Found, Spanned, Step, IsReplied, FindsBy, SpansBy}
+use Rattle.archive_state.specs.Steps.{Reply, Refused, Found, Spanned, Step, IsReplied, FindsBy}
 use Rattle.archive_state.specs.Worlds.{world_of}
-use Rattle.archive_state.proofs.ChosenLemmas.{held_undamaged, made_at, made_over}
-use Rattle.archive_state.proofs.OutcomeLemmas.{each_finds, each_spans}
+use Rattle.archive_state.proofs.ChosenLemmas.{held_undamaged, made_at}
+use Rattle.archive_state.proofs.OutcomeLemmas.{each_finds}
 use Rattle.archive_replay.specs.declared.error.Declined.{Declined}
 use Rattle.archive_replay.specs.declared.error.Declined.TheVariants as declines
 use Rattle.archive_core.specs.After.{AfterFetching, AfterQuestion, Fetches}
@@ -135,16 +135,6 @@ takes_find h at phrase r d e x y told allowed in_step after =
     takes_query (FindsBy h at) h (items.Command (commands.Find at phrase)) phrase at.seconds (at.seconds + 1) (λ h query answer. IsMadeAt h d.holds.pages at.seconds query answer.rows.items answer.read)
     (λ (answer : Answer). Found answer.rows.items answer.read) r d e x y told (λ one is. (refl, is)) (each_finds h at phrase in_step.legal)
     (λ query answer made. (let stands = made_at h d.holds.pages at.seconds query answer.rows.items answer.read in_step.stands.loadable held at.before_now made in (answer.rows.items, answer.read, stands.0, stands.1, refl)))
-    held in_step after
-
-pub takes_between : {tells : Type 0} (h : History) (span : Span) (phrase : List ℕ) (r : Result SpanAnswer AskError) (d e : DiskState) (x y : ArchiveState) → tells → MayLeave d.now d.holds → AreInStep d x h
-    → AfterQuestion tells phrase span.from span.to (λ h query answer. IsMadeOver h d.holds.pages span.from span.to query answer.rows.items answer.read) r d e x y
-    → Takes h (items.Command (commands.Between span phrase)) (spanned r) d e y
-takes_between h span phrase r d e x y told allowed in_step after =
-    let held = in_step.held d.holds allowed in
-    takes_query (SpansBy h span) h (items.Command (commands.Between span phrase)) phrase span.from span.to (λ h query answer. IsMadeOver h d.holds.pages span.from span.to query answer.rows.items answer.read)
-    (λ (answer : SpanAnswer). Spanned answer.rows.items answer.read) r d e x y told (λ one is. (refl, is)) (each_spans h span phrase in_step.legal)
-    (λ query answer made. (let stands = made_over h d.holds.pages span.from span.to query answer.rows.items answer.read in_step.stands.loadable held span.in_time made in (answer.rows.items, answer.read, stands.0, stands.1, refl)))
     held in_step after
 
 -- ---- by what reads give

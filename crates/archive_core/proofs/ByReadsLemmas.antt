@@ -1,18 +1,16 @@
 -- What an archive stands for by what reads give, whatever lies in Pages: over reads, an entry more, a plan that is stored, and a load.
-use Rattle.std.proofs.Common.{◌≡◌, ◌⊎◌, ℕ, ◌+◌, ◌-◌, ◌*◌, ◌<◌, ◌≤◌, List, [], ◌∷◌, ◌++◌, length, map, All, Option, Some, Result, Ok, Err, IsOk, IfOk, OnOk, OnErr, IsErrAnd, inl, inr, refl, ap, sym, subst, ◌∙◌, arith}
+use Rattle.std.proofs.Common.{◌≡◌, ◌⊎◌, ℕ, ◌-◌, ◌<◌, List, [], ◌∷◌, ◌++◌, length, map, All, Result, Ok, Err, IsOk, IfOk, OnOk, OnErr, IsErrAnd, inl, inr, refl, ap, sym, subst, ◌∙◌, arith}
 use Rattle.std.specs.List.{AllZip}
 use Rattle.std.proofs.lemmas.Bool.{cases_lt}
-use Rattle.std.proofs.lemmas.List.{length_push, length-append}
-use Rattle.std.proofs.lemmas.List.Elements.{All-nil, All-cons, All-head, All-tail, All-map, All-weaker}
+use Rattle.std.proofs.lemmas.List.{length_push}
+use Rattle.std.proofs.lemmas.List.Elements.{All-nil, All-cons, All-head, All-tail, All-weaker}
 use Rattle.machine_model.specs.Areas.{Bytes}
 use Rattle.machine_model.specs.Calls.{OnlyReads}
 use Rattle.machine_model.specs.Images.{MayLeave, Only}
-use Rattle.machine_model.specs.Moments.{GoesOn, LeavesOnly}
 use Rattle.machine_model.specs.States.{DiskState, moment}
 use Rattle.machine_model.specs.declared.range.Range.{Range}
 use Rattle.machine_model.proofs.MomentLemmas.{goes_on_same, goes_on_joins, joined, left_now, allowed_left}
 use Rattle.time_base.specs.declared.extent.Extent.{Extent}
-use Rattle.time_base.specs.declared.posting.Posting.{Posting}
 use Rattle.version_store.specs.declared.change.Change.{Change}
 use Rattle.gate_journal.specs.Crash.{Appends, KeepsPages}
 use Rattle.gate_journal.specs.InStep.{IsInStep}
@@ -20,16 +18,16 @@ use Rattle.gate_journal.specs.Spelled.{Spells}
 use Rattle.gate_journal.proofs.InStepLemmas.{step_at, step_spells}
 use Rattle.page_store.specs.Crash.{ChangesOnly}
 use Rattle.page_store.specs.Live.{AreLive, IsInside}
-use Rattle.page_store.specs.Ranges.{SameOutside, bytes_in, range_of}
+use Rattle.page_store.specs.Ranges.{SameOutside, range_of}
 use Rattle.page_store.specs.Taken.{AreApart, IsApartFrom}
 use Rattle.page_store.specs.Wrote.{HoldsPiece, Piece, Stored, extents_of, ranges_of}
 use Rattle.page_store.proofs.StayLemmas.{AreApartFrom, apart_parts, bytes_stay}
 use Rattle.record_codec.specs.Spelling.{spelling}
 use Rattle.record_codec.specs.declared.entry.Entry.{Entry}
-use Rattle.record_codec.specs.declared.entry.Entry.TheVariants.{Arrive, Delete, Planned}
+use Rattle.record_codec.specs.declared.entry.Entry.TheVariants.{Planned}
 use Rattle.record_codec.specs.declared.place.Place.{Place}
 use Rattle.record_codec.specs.declared.plan.PlanEntry.{PlanEntry}
-use Rattle.sublist_store.specs.Preparing.{IsFor, PreparedState, extents, pieces, pieces_of, spellings}
+use Rattle.sublist_store.specs.Preparing.{IsFor, PreparedState, extents, pieces, pieces_of}
 use Rattle.sublist_store.specs.Segments.{seconds}
 use Rattle.sublist_store.proofs.HoldLemmas.{hold_sublists}
 use Rattle.archive_state.specs.Histories.{History, end_of}
@@ -37,7 +35,6 @@ use Rattle.archive_state.specs.Holding.{HoldsPlan}
 use Rattle.archive_state.specs.Plans.{IsChange, live_extents, live_plans}
 use Rattle.archive_state.specs.Stands.{bodies_of}
 use Rattle.archive_state.specs.declared.stored.StoredPlan.{StoredPlan}
-use Rattle.archive_state.proofs.HistoryLemmas.{bodies_of-push}
 use Rattle.archive_state.proofs.HoldLemmas.{apart_more, piece_extents, same_live}
 use Rattle.archive_state.proofs.LiveLemmas.{later_push, list_later, live_plans-push}
 use Rattle.archive_replay.proofs.IndexLemmas.{change_comes}
@@ -49,7 +46,7 @@ use Rattle.archive_core.specs.Adding.{IsMore}
 use Rattle.archive_core.specs.Changing.{KeepsBy, LeadsBy}
 use Rattle.archive_core.specs.States.{ArchiveState, AreInStepBy, CacheStands, IsSameButCache, Reaches, StandsFor, with_entry, with_reads}
 use Rattle.archive_core.specs.Stored.{Store, EachStandsBy, HasSame, StandsBy, Stocks}
-use Rattle.archive_core.specs.Storing.{HasPutDown, HasStopped, IsBegun, IsOutside, IsPutDown, IsStorable}
+use Rattle.archive_core.specs.Storing.{IsBegun, IsOutside, IsPutDown, IsStorable}
 use Rattle.archive_core.specs.declared.error.ChangeError.{ChangeError}
 use Rattle.archive_core.proofs.AddLemmas.{bodies_more, lie_well, none_spelled, stands_more, step_reads, step_stays}
 use Rattle.archive_core.proofs.CacheLemmas.{none_cached, stands_but_cache}

@@ -1,5 +1,5 @@
 -- Where the pages hold what the history's plans need, a step by what reads give is the machine's.
-use Rattle.std.proofs.Common.{◌≡◌, ◌⊎◌, ℕ, ◌+◌, List, [], ◌∷◌, ◌++◌, Option, Some, None, Result, Ok, Err, inl, inr, refl, ap, sym, subst, ◌∙◌}
+use Rattle.std.proofs.Common.{◌≡◌, ◌⊎◌, ℕ, ◌+◌, List, [], ◌∷◌, ◌++◌, Option, Some, None, Result, Ok, Err, inl, inr, ap, sym, subst, ◌∙◌}
 use Rattle.machine_model.specs.Areas.{Bytes}
 use Rattle.time_base.specs.declared.time.Span.{Span}
 use Rattle.time_base.specs.declared.time.Time.{Time}
@@ -27,7 +27,7 @@ use Rattle.archive_state.specs.Legal.{IsLegal}
 use Rattle.archive_state.specs.Planning.{OfBoundaries, OfList, OfPhrase, OfWidth, last_second}
 use Rattle.archive_state.specs.Plans.{live_extents}
 use Rattle.archive_state.specs.Stands.{Stands}
-use Rattle.archive_state.specs.Steps.{Reply, Verified, Adds, AddsPlan, CarriesOut, Declines, Step, StoresPlan, arrival_refusal, deletion_refusal, full_journal, in_blocks, sound_of, spelled_key}
+use Rattle.archive_state.specs.Steps.{Reply, Verified, Adds, AddsPlan, CarriesOut, Declines, Step, StoresPlan, arrival_refusal, deletion_refusal, full_journal, in_blocks, spelled_key}
 use Rattle.archive_state.specs.Worlds.{world_of}
 use Rattle.archive_state.proofs.ChosenLemmas.{held_undamaged, made_at, made_over}
 use Rattle.archive_state.proofs.HistoryLemmas.{legal-middle, legal_loads}

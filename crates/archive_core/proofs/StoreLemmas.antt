@@ -69,7 +69,7 @@ use Rattle.page_store.specs.Crash.{ChangesOnly}
 use Rattle.archive_state.specs.Holding.{HoldsPlans}
 use Rattle.archive_state.specs.Stands.{bodies_of, Stands, EachStands}
 use Rattle.archive_state.proofs.HoldLemmas.{held_stays, held_more, piece_extents}
-use Rattle.gate_journal.proofs.InStepLemmas.{step_at, step_spells}
+use Rattle.gate_journal.proofs.InStepLemmas.{step_at}
 use Rattle.archive_core.proofs.AddLemmas.{inside_on, EachHolds, bodies_more, still_holds, step_stands, step_stays, leads_more}
 use Rattle.archive_core.proofs.ByReadsLemmas.{stocks_same}
 use Rattle.archive_core.proofs.TakeLemmas.{takes_unmade, unmade_by}

@@ -1,5 +1,5 @@
 -- A call that carries out an item is a step of the abstract machine.
-use Rattle.std.proofs.Common.{◌≡◌, ◌⊎◌, ℕ, List, [], ◌∷◌, ◌++◌, length, Option, Result, Ok, Err, OnOk, IfOk, refl, inl, inr, ap, subst, sym, ◌∙◌, arith, length-append, append-nil}
+use Rattle.std.proofs.Common.{◌≡◌, ◌⊎◌, ℕ, List, [], ◌∷◌, ◌++◌, length, Option, Result, Ok, Err, OnOk, IfOk, refl, inl, inr, ap, subst, sym, ◌∙◌, arith, length-append}
 use Rattle.std.specs.Option.{option_map}
 use Rattle.machine_model.specs.Areas.{Bytes}
 use Rattle.machine_model.specs.Images.{MayLeave}
@@ -26,8 +26,7 @@ use Rattle.archive_check.specs.Checked.{IsChecked}
 use Rattle.archive_check.proofs.SoundLemmas.{stands_sound}
 use Rattle.archive_check.specs.declared.error.VerifyError.{VerifyError}
 use Rattle.archive_check.specs.declared.error.VerifyError.TheVariants as checks
-use Rattle.archive_core.specs.After.{IsDone}
-use Rattle.archive_core.specs.States.{ArchiveState, AreInStep, AreInStepBy, CacheStands, IsSameButCache, StandsFor, with_entry, with_reads}
+use Rattle.archive_core.specs.States.{ArchiveState, AreInStep, AreInStepBy, CacheStands, IsSameButCache, with_entry, with_reads}
 use Rattle.archive_core.specs.Adding.{Adds}
 use Rattle.archive_core.specs.Changing.{KeepsBy, LeadsBy, LeadsTo}
 use Rattle.archive_core.specs.Stored.{Store, ReadsOn, Spoils, StoreStep, Stocks, TellsVerdict}
@@ -122,26 +121,6 @@ takes_question Q h item Starved old new a step (reply, is) same in_step none =
 takes_question Q h item Faulted old new a step (reply, is) same in_step none =
     record { outcome = record { reply = reply; next = world_of h }; step = step reply is; leads = reads_lead h old new a in_step same; ends = tt }
 takes_question Q h item (Spoiled damage) old new a step any same in_step none = absurd none
-
--- a question that needs no disk
-pub takes_proposal : (Q : Reply → Type 0) (h : History) (item : Item) (r : Result Proposal Declined) (d : DiskState) (a : ArchiveState)
-    → ((reply : Reply) → Q reply → Step (world_of h) item reply (world_of h)) → (reply : Reply) × Q reply → AreInStep d a h
-    → ((why : Refusal) → r ≡ Err (declines.Refused why) → Q (Refused why)) → IfOk r (λ p. Q (Proposed p.segments.items p.nodes.items p.space)) → Takes h item (proposed r) d d a
-takes_proposal Q h item (Ok p) d a step any in_step refused told = takes_question Q h item (proposed (Ok p)) d d a step any refl in_step told
-takes_proposal Q h item (Err (declines.Refused why)) d a step any in_step refused told = takes_question Q h item (Replied (Refused why)) d d a step any refl in_step (refused why refl)
-takes_proposal Q h item (Err declines.Memory) d a step any in_step refused told = takes_question Q h item Starved d d a step any refl in_step tt
-
--- a version that was asked for
-pub takes_show : {T : Type 0} (bytes : T → List ℕ) (h : History) (doc : DocId) (at : Time) (r : Result (Option T) ReadError) (old new : DiskState) (a : ArchiveState)
-    → IfOk r (λ text. option_map bytes text ≡ text_at h doc at.seconds) → OnlyReads old new → AreInStep old a h → Takes h (items.Command (commands.Show doc at)) (version_shown bytes r) old new a
-takes_show {T} bytes h doc at r old new a is same in_step =
-    let text = text_at h doc at.seconds in
-    takes_question (λ reply. reply ≡ Version text) h (items.Command (commands.Show doc at)) (version_shown bytes r) old new a (λ reply shown. (refl, shown)) (Version text, refl) same in_step (go r is)
-  where
-    go : (r : Result (Option T) ReadError) → IfOk r (λ text. option_map bytes text ≡ text_at h doc at.seconds) → IsAnswered (λ reply. reply ≡ Version (text_at h doc at.seconds)) (version_shown bytes r)
-    go (Ok text) is = ap Version is
-    go (Err reads.Failed) is = tt
-    go (Err reads.Memory) is = tt
 
 -- a check of an archive that is in step with its disk
 pub takes_verify : (h : History) (r : Result Verdict VerifyError) (old new : DiskState) (a : ArchiveState) → MayLeave old.now old.holds → IfOk r (IsChecked h old.holds)
@@ -255,11 +234,3 @@ verify_by s r old new a allowed checked same in_step =
     )
     go (Err checks.Failed) checked = tt
     go (Err checks.Memory) checked = tt
-
--- ---- what an archive stands for begins with what it stood for
-
-pub follows_on : {T : Type 0} (h : History) (r : Result T ChangeError) (b : ArchiveState) → IfOk r (λ x. (more : History) × StandsFor b (h ++ more))
-    → ((why : Refusal) → r ≡ Err (changes.Refused why) → StandsFor b h) → IsDone r → (more : History) × StandsFor b (h ++ more)
-follows_on h (Ok x) b made refused is = made
-follows_on h (Err error) b made refused (inl ok) = absurd cc
-follows_on h (Err error) b made refused (inr (why, is)) = ([], rw append-nil (refused why is))

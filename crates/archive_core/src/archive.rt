@@ -190,8 +190,6 @@ impl Archive {
         // On any disk: a refusal is the first cause in order, comes wherever there is one (but for want of memory), and changes nothing; at Ok
         // the archive stands for the history with the new entry, and answers how many entries there are.
         ensures adds { (h : History) → StandsFor self.old h → Adds h (entries.Arrive doc at text.now) (arrival_refusal h doc at text.now) result self.new }
-        // What it stands for then begins with what it stood for.
-        ensures follows { (h : History) → StandsFor self.old h → IsDone result → (more : History) × StandsFor self.new (h ++ more) }
         // In step, it is a step of the abstract machine; each image left since stands for the history before it or after it.
         ensures takes { D.disk_tells → (h : History) → AreInStep (D.disk disk.old) self.old h → Takes h (items.Command (commands.Arrive doc at (texts.Bytes text.now))) (changed result) (D.disk disk.old) (D.disk disk.new) self.new }
         // And by what reads give it is a step too, whatever lies in Pages.
@@ -226,8 +224,6 @@ impl Archive {
         // On any disk: a refusal is the first cause in order, comes wherever there is one (but for want of memory), and changes nothing; at Ok
         // the archive stands for the history with the new entry, and answers how many entries there are.
         ensures adds { (h : History) → StandsFor self.old h → Adds h (entries.Delete doc at) (deletion_refusal h doc at) result self.new }
-        // What it stands for then begins with what it stood for.
-        ensures follows { (h : History) → StandsFor self.old h → IsDone result → (more : History) × StandsFor self.new (h ++ more) }
         // In step, it is a step of the abstract machine; each image left since stands for the history before it or after it.
         ensures takes { D.disk_tells → (h : History) → AreInStep (D.disk disk.old) self.old h → Takes h (items.Command (commands.Delete doc at)) (changed result) (D.disk disk.old) (D.disk disk.new) self.new }
         // And by what reads give it is a step too, whatever lies in Pages.
@@ -266,8 +262,6 @@ impl Archive {
         // the archive stands for a history with a plan that may be stored.
         ensures refused { (h : History) → StandsFor self.old h → (why : Refusal) → IsErrOf result (ChangeError.Refused why) → Plans h word.now kind factor (Refused why) h × StandsFor self.new h }
         ensures stores { (h : History) → StandsFor self.old h → IfOk result (λ r. (next : History) × (Plans h word.now kind factor (Planned (summary_of r)) next × StandsFor self.new next)) }
-        // What it stands for then begins with what it stood for.
-        ensures follows { (h : History) → StandsFor self.old h → IsDone result → (more : History) × StandsFor self.new (h ++ more) }
         // In step, it is a step of the abstract machine; each image left since stands for the history before it or after it.
         ensures takes { D.disk_tells → (h : History) → AreInStep (D.disk disk.old) self.old h → Takes h (items.Command (commands.Plan word.now kind factor)) (planned result) (D.disk disk.old) (D.disk disk.new) self.new }
         // And by what reads give it is a step too, whatever lies in Pages.

@@ -139,9 +139,6 @@ impl Archive {
         ensures only { D.Disk.only disk.old disk.new }
         ensures same { OnlyReads (D.disk disk.old) (D.disk disk.new) }
         ensures failed { IsErrOf result ReadError.Failed → Rose (D.disk disk.old).faults (D.disk disk.new).faults }
-        // In step, it is a step of the abstract machine.
-        ensures takes { D.disk_tells → (h : History) → AreInStep (D.disk disk.old) self.now h →
-            Takes h (items.Command (commands.Show doc at)) (version_shown (λ v. v.items) result) (D.disk disk.old) (D.disk disk.new) self.now }
         // And by what reads give it is a step too, whatever lies in Pages.
         ensures by_reads { D.disk_tells → (s : Store) → AreInStepBy (D.disk disk.old) self.now s →
             TakesBy s (items.Command (commands.Show doc at)) (version_shown (λ v. v.items) result) (D.disk disk.old) (D.disk disk.new) self.now }

@@ -6,9 +6,9 @@ ghost use Rattle.archive_state.specs.Histories.{History};
 ghost use Rattle.archive_state.specs.Legal.{IsLegal};
 ghost use Rattle.archive_state.specs.Plans.{plan_of};
 ghost use Rattle.archive_state.specs.Steps.{Certifies, IsCertificate, Proposed, Refused, CertifiesLive, CertifiesPlan};
-ghost use Rattle.archive_core.specs.States.{StandsFor, AreInStep, AreInStepBy};
+ghost use Rattle.archive_core.specs.States.{StandsFor, AreInStepBy};
 ghost use Rattle.archive_core.specs.Stored.{Store};
-ghost use Rattle.archive_core.specs.Takes.{Takes, TakesBy, proposed};
+ghost use Rattle.archive_core.specs.Takes.{TakesBy, proposed};
 ghost use Rattle.commands.specs.declared.command.Command.TheVariants as commands;
 ghost use Rattle.commands.specs.declared.command.Item.TheVariants as items;
 
@@ -38,8 +38,6 @@ impl Archive {
         // plan, where the history is legal.
         ensures refused { (h : History) → StandsFor self.now h → (why : Refusal) → IsErrOf result (Declined.Refused why) → Certifies h word.now (Refused why) }
         ensures certifies { (h : History) → StandsFor self.now h → IsLegal h → IfOk result (λ p. Certifies h word.now (Proposed p.segments.items p.nodes.items p.space)) }
-        // In step with a disk, it is a step of the abstract machine.
-        ensures takes { (d : DiskState) (h : History) → AreInStep d self.now h → Takes h (items.Command (commands.Certificate word.now)) (proposed result) d d self.now }
         // And by what reads give it is a step too, whatever lies in Pages.
         ensures by_reads { (d : DiskState) (s : Store) → AreInStepBy d self.now s → TakesBy s (items.Command (commands.Certificate word.now)) (proposed result) d d self.now }
     {

@@ -10,10 +10,10 @@ ghost use Rattle.record_codec.specs.PlanSpelling.{IsWord};
 ghost use Rattle.archive_state.specs.Histories.{History};
 ghost use Rattle.archive_state.specs.Planning.{IsKnown, IsListUpTo, OfBoundaries, OfPhrase, OfWord, last_second};
 ghost use Rattle.archive_state.specs.Steps.{Proposed, Proposes, Refused, spelled_key};
-ghost use Rattle.archive_core.specs.States.{StandsFor, AreInStep, AreInStepBy};
+ghost use Rattle.archive_core.specs.States.{StandsFor, AreInStepBy};
 ghost use Rattle.archive_core.specs.Sealing.{IsSealed};
 ghost use Rattle.archive_core.specs.Stored.{Store};
-ghost use Rattle.archive_core.specs.Takes.{Takes, TakesBy, proposed};
+ghost use Rattle.archive_core.specs.Takes.{TakesBy, proposed};
 ghost use Rattle.commands.specs.declared.command.Command.TheVariants as commands;
 ghost use Rattle.commands.specs.declared.command.Kind.{Kind};
 ghost use Rattle.commands.specs.declared.command.Item.TheVariants as items;
@@ -56,8 +56,6 @@ impl Archive {
         // of it.
         ensures refused { (h : History) → StandsFor self.now h → (why : Refusal) → IsErrOf result (Declined.Refused why) → Proposes h word.now factor (Refused why) }
         ensures proposes { (h : History) → StandsFor self.now h → IfOk result (λ p. Proposes h word.now factor (Proposed p.segments.items p.nodes.items p.space)) }
-        // In step with a disk, it is a step of the abstract machine.
-        ensures takes { (d : DiskState) (h : History) → AreInStep d self.now h → Takes h (items.Command (commands.Propose word.now factor)) (proposed result) d d self.now }
         // And by what reads give it is a step too, whatever lies in Pages.
         ensures by_reads { (d : DiskState) (s : Store) → AreInStepBy d self.now s → TakesBy s (items.Command (commands.Propose word.now factor)) (proposed result) d d self.now }
     {

@@ -7,9 +7,9 @@ ghost use Rattle.query_eval.specs.Spans.{IsSpanAnswer};
 ghost use Rattle.archive_state.specs.Histories.{History, text_at};
 ghost use Rattle.archive_state.specs.Chosen.{AreChosen, IsMadeOver};
 ghost use Rattle.archive_core.specs.After.{AfterFetching, AfterQuestion, Fetches};
-ghost use Rattle.archive_core.specs.States.{StandsFor, AreInStep, AreInStepBy, Reaches};
+ghost use Rattle.archive_core.specs.States.{StandsFor, AreInStepBy, Reaches};
 ghost use Rattle.archive_core.specs.Stored.{Store};
-ghost use Rattle.archive_core.specs.Takes.{Takes, TakesBy, spanned};
+ghost use Rattle.archive_core.specs.Takes.{TakesBy, spanned};
 ghost use Rattle.commands.specs.declared.command.Command.TheVariants as commands;
 ghost use Rattle.commands.specs.declared.command.Item.TheVariants as items;
 
@@ -49,9 +49,6 @@ impl Archive {
         ensures only { D.Disk.only disk.old disk.new }
         ensures after { AfterQuestion D.disk_tells expr.now span.from span.to (λ h query answer. IsMadeOver h (D.disk disk.old).holds.pages span.from span.to query answer.rows.items answer.read)
             result (D.disk disk.old) (D.disk disk.new) self.old self.new }
-        // In step, it is a step of the abstract machine.
-        ensures takes { D.disk_tells → (h : History) → AreInStep (D.disk disk.old) self.old h →
-            Takes h (items.Command (commands.Between span expr.now)) (spanned result) (D.disk disk.old) (D.disk disk.new) self.new }
         // And by what reads give it is a step too, whatever lies in Pages.
         ensures by_reads { D.disk_tells → (s : Store) → AreInStepBy (D.disk disk.old) self.old s →
             TakesBy s (items.Command (commands.Between span expr.now)) (spanned result) (D.disk disk.old) (D.disk disk.new) self.new }

@@ -1,5 +1,5 @@
 -- An item answered and its reply shown: what a call of the archive did, what is written of it, and what is shown of that.
-use Rattle.std.proofs.Common.{◌≡◌, ◌⊎◌, ℕ, ◌+◌, ◌<◌, ◌≤◌, List, [], ◌∷◌, ◌++◌, length, All, None, Result, Ok, Err, refl, inl, inr, ap, subst, sym, ◌∙◌, arith, append_assoc}
+use Rattle.std.proofs.Common.{◌≡◌, ℕ, ◌+◌, ◌<◌, ◌≤◌, List, [], ◌++◌, length, All, None, Result, Ok, Err, refl, inl, inr, ap, subst, sym, ◌∙◌, arith, append_assoc}
 use Rattle.std.proofs.lemmas.List.{append-nil, append_cancel_left, length-append}
 use Rattle.machine_model.specs.Areas.{Bytes}
 use Rattle.machine_model.specs.Images.{MayLeave}
@@ -24,8 +24,8 @@ use Rattle.archive_state.proofs.RunLemmas.{one_outcome}
 use Rattle.gate_journal.specs.InStep.{IsInStep}
 use Rattle.gate_journal.specs.Spelled.{Spells}
 use Rattle.archive_core.specs.Changing.{KeepsBy, LeadsBy}
-use Rattle.archive_core.specs.States.{ArchiveState, AreInStepBy, CacheStands}
-use Rattle.archive_core.specs.Stored.{Store, EachStandsBy, HasSame, IsSameStore, StandsBy, StoreStep, TellsNoEntry}
+use Rattle.archive_core.specs.States.{ArchiveState, AreInStepBy}
+use Rattle.archive_core.specs.Stored.{Store, HasSame, IsSameStore, StandsBy, StoreStep}
 use Rattle.archive_core.specs.Takes.{Ending, Replied, Starved, Faulted, Spoiled, TakesBy}
 use Rattle.archive_core.proofs.ByReadsLemmas.{keeps_leads, keeps_nowhere, stands_by, stocks_none}
 use Rattle.archive_shell.specs.Outcomes.{AnswersTo, CarriesOut, IsAnswered, IsShown, Passes, Writes}

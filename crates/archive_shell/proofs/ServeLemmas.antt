@@ -21,7 +21,7 @@ use Rattle.archive_state.specs.Histories.{History}
 use Rattle.archive_state.specs.Holding.{HoldsPlan}
 use Rattle.archive_state.specs.Plans.{live_extents}
 use Rattle.archive_state.specs.Replies.{reply_text}
-use Rattle.archive_state.specs.Runs.{Outcome, IsRun, IsAcknowledged, shown_by, state_after}
+use Rattle.archive_state.specs.Runs.{Outcome, IsAcknowledged, shown_by, state_after}
 use Rattle.archive_state.specs.Standing.{last_state, Carried}
 use Rattle.archive_state.specs.Stands.{Stands, EachStands, IsNotArchive, bodies_of}
 use Rattle.archive_state.specs.Steps.{Reply}
@@ -32,12 +32,12 @@ use Rattle.gate_journal.specs.Crash.{KeepsBodies, KeepsPages}
 use Rattle.gate_journal.specs.Spelled.{EachSpells, Spells}
 use Rattle.archive_core.specs.Changing.{KeepsBy, KeepsHistory}
 use Rattle.archive_core.specs.States.{ArchiveState, AreInStepBy}
-use Rattle.archive_core.specs.Stored.{Store, EachStandsBy, HasSame, Spoils, StandsBy, StoreStep}
+use Rattle.archive_core.specs.Stored.{Store, EachStandsBy, Spoils, StandsBy, StoreStep}
 use Rattle.archive_core.proofs.ByReadsLemmas.{keeps_nowhere, same_as, stands_by}
 use Rattle.archive_replay.specs.declared.error.LoadError.{LoadError}
 use Rattle.archive_replay.specs.declared.error.LoadError.TheVariants as loads
 use Rattle.sublist_store.specs.declared.why.Damage.{Damage}
-use Rattle.archive_shell.specs.Headline.{CarriesOutAll, ComesAfterReplies, Ends, EndsEarly, Headline, IsLoadedFrom, LoadsAs, ReadingRun, store_of}
+use Rattle.archive_shell.specs.Headline.{ComesAfterReplies, Ends, EndsEarly, Headline, IsLoadedFrom, LoadsAs, ReadingRun, store_of}
 use Rattle.archive_shell.specs.Outcomes.{CarriesOut, IsShown}
 use Rattle.archive_shell.specs.Serving.{AreAwaited, Gives, IsShort, IsUndoneAt, Serving, Serves, pulls_beside}
 use Rattle.archive_shell.specs.Statuses.{status_of_load, status_of_stop}

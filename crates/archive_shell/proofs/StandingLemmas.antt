@@ -1,9 +1,8 @@
 -- On a disk that stands for a history, a run by what reads give is the machine's, which goes on over the items that weren't reached.
-use Rattle.std.proofs.Common.{◌≡◌, ◌⊎◌, ℕ, ◌+◌, ◌<◌, ◌≤◌, List, [], ◌∷◌, ◌++◌, length, map, take, All, inl, inr, refl, ap, sym, subst, ◌∙◌, arith, append_assoc}
+use Rattle.std.proofs.Common.{◌≡◌, ◌⊎◌, ℕ, ◌<◌, ◌≤◌, List, [], ◌∷◌, ◌++◌, length, map, All, inl, inr, refl, ap, sym, subst, ◌∙◌, arith, append_assoc}
 use Rattle.std.proofs.lemmas.List.{append-nil, length-append, map-append}
 use Rattle.std.proofs.lemmas.List.Elements.{All-cons, All-head, All-nil, All-tail, All-weaker}
 use Rattle.machine_model.specs.Areas.{Bytes}
-use Rattle.machine_model.specs.Images.{MayLeave}
 use Rattle.machine_model.specs.Pulls.{Pull}
 use Rattle.machine_model.specs.Pushes.{IsPrefix}
 use Rattle.machine_model.specs.States.{DiskState, MachineState, SinkState, SourceState, moment}
@@ -21,17 +20,16 @@ use Rattle.archive_state.specs.Stands.{EachStands, StandsIn}
 use Rattle.archive_state.specs.Steps.{Reply, Step}
 use Rattle.archive_state.specs.Worlds.{World, world_of}
 use Rattle.archive_state.proofs.OutcomeLemmas.{run_on}
-use Rattle.archive_state.proofs.RunLemmas.{carried_joins, carried_on, last_state_joins, reopens, runs_join, shown_by_joins, state_after_all, state_after_front}
+use Rattle.archive_state.proofs.RunLemmas.{carried_joins, carried_on, reopens, runs_join, shown_by_joins, state_after_all, state_after_front}
 use Rattle.archive_core.specs.Changing.{KeepsHistory}
-use Rattle.archive_core.specs.Stored.{Store, EachStandsBy, StandsBy, StoreStep}
+use Rattle.archive_core.specs.Stored.{Store, StandsBy, StoreStep}
 use Rattle.archive_core.proofs.StandingLemmas.{IsStanding, spoiled_never, stands_standing, step_standing}
-use Rattle.sublist_store.specs.declared.why.Damage.{Damage}
 use Rattle.archive_shell.specs.Headline.{CarriesOutAll, ComesAfterReplies, EachOf, StandingRun}
 use Rattle.archive_shell.specs.Serving.{IsShort, Serves}
 use Rattle.archive_shell.specs.declared.status.Status.{Status}
-use Rattle.archive_shell.specs.declared.status.Status.TheVariants.{Damaged, Disk, Memory, Sink}
+use Rattle.archive_shell.specs.declared.status.Status.TheVariants.{Disk}
 use Rattle.archive_shell.proofs.OutcomeLemmas.{some_bytes}
-use Rattle.archive_shell.proofs.ServeLemmas.{acknowledged, all_after_replies, short_on}
+use Rattle.archive_shell.proofs.ServeLemmas.{acknowledged, all_after_replies}
 
 -- ---- outcomes by the history alone
 

@@ -1,6 +1,6 @@
 -- What is promised of a run over a script: one run of a machine over the items of the bytes pulled, what is shown of it and when, for what each image
 -- left at any moment stands, and where the input was.
-use Rattle.std.specs.Prelude.{◌≡◌, ◌⊎◌, ℕ, ◌+◌, ◌<◌, ◌≤◌, ◌^◌, Bool, true, false, List, [], ◌∷◌, ◌++◌, length, All}
+use Rattle.std.specs.Prelude.{◌≡◌, ◌⊎◌, ℕ, ◌<◌, ◌≤◌, ◌^◌, Bool, true, false, List, [], ◌∷◌, ◌++◌, length, All}
 use Rattle.machine_model.specs.Areas.{Bytes}
 use Rattle.machine_model.specs.Causes.{Rose}
 use Rattle.machine_model.specs.Images.{MayLeave}
@@ -21,7 +21,7 @@ use Rattle.archive_state.specs.Runs.{Outcome, IsRun, IsAcknowledged, state_after
 use Rattle.archive_state.specs.Standing.{last_state}
 use Rattle.archive_state.specs.Stands.{IsNotArchive, StandsIn, bodies_of}
 use Rattle.archive_state.specs.Steps.{Reply, Step}
-use Rattle.archive_state.specs.Worlds.{World, world_of}
+use Rattle.archive_state.specs.Worlds.{world_of}
 use Rattle.archive_core.specs.Stored.{Store, Spoils, StandsBy, StoreStep}
 use Rattle.sublist_store.specs.declared.why.Damage.{Damage}
 use Rattle.archive_shell.specs.declared.status.Status.{Status}

@@ -1,5 +1,5 @@
 -- A run while it goes on, and when it has ended: what it pulled, and what it did.
-use Rattle.std.specs.Prelude.{◌≡◌, ◌<◌, ◌≤◌, ℕ, true, false, List, [], ◌∷◌, ◌++◌, length, map, All, Option, Some, None, Result, Ok, Err}
+use Rattle.std.specs.Prelude.{◌≡◌, ◌<◌, ℕ, true, false, List, [], ◌∷◌, ◌++◌, length, map, All, Option, Some, None, Result, Ok, Err}
 use Rattle.machine_model.specs.Pulls.{Pull}
 use Rattle.machine_model.specs.States.{DiskState, SourceState, MachineState}
 use Rattle.commands.specs.declared.command.Item.{Item}

@@ -1,4 +1,4 @@
-use Rattle.std.proofs.Common.{ℕ, List, length, arith, sym, subst, subst₂}
+use Rattle.std.proofs.Common.{ℕ, List, arith, sym, subst, subst₂}
 use Rattle.std.proofs.lemmas.Result.{err_from_is_err_and}
 use Rattle.page_store.specs.Live.{AreLive}
 use Rattle.gate_journal.specs.Spelled.{Spells}

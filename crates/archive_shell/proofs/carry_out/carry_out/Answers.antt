@@ -1,5 +1,5 @@
 use Rattle.std.proofs.Common.{[], Result, Ok, Err, ap, sym, ◌∙◌}
-use Rattle.machine_model.specs.States.{DiskState, SinkState}
+use Rattle.machine_model.specs.States.{SinkState}
 use Rattle.archive_core.specs.States.{AreInStepBy}
 use Rattle.archive_core.specs.Stored.{Store}
 use Rattle.archive_shell.specs.Outcomes.{CarriesOut}

@@ -1,17 +1,11 @@
-use Rattle.std.proofs.Common.{ℕ, List, Result, Ok, Err, IfOk, refl}
+use Rattle.std.proofs.Common.{ℕ, List, Result, Ok, Err, IfOk}
 use Rattle.archive_state.specs.Steps.{Certifies, Proposed}
 use Rattle.proposals.specs.declared.proposal.Proposal.{Proposal}
 use Rattle.archive_replay.specs.declared.error.Declined.{Declined}
 use Rattle.archive_state.specs.Legal.{IsLegal}
 use Rattle.archive_core.specs.Stored.{Store, CertifiesBy}
-use Rattle.archive_state.proofs.CertifyingLemmas.{each_certifies}
-use Rattle.archive_core.proofs.TakeLemmas.{proposal_by, takes_proposal}
+use Rattle.archive_core.proofs.TakeLemmas.{proposal_by}
 use Rattle.archive_core.proofs.archive.Archive.certificate.Goals as goal
-
-pub returns-clause-takes : goal.returns-clause-takes
-returns-clause-takes c = λ d h in_step.
-    takes_proposal (Certifies h c.args.word.now) h _ c.certificate_of.result d c.args.self.now (λ reply is. (refl, is)) (each_certifies h c.args.word.now in_step.legal) in_step
-    (c.certificate_of.ensures.refused h in_step.stands) (c.certificate_of.ensures.certifies h in_step.stands in_step.legal)
 
 pub returns-clause-by_reads : goal.returns-clause-by_reads
 returns-clause-by_reads c = λ d s in_step.

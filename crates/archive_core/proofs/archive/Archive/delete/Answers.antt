@@ -1,10 +1,9 @@
-use Rattle.std.proofs.Common.{◌∷◌, [], ap}
-use Rattle.std.proofs.lemmas.Result.{IfOk-weaker}
+use Rattle.std.proofs.Common.{ap}
 use Rattle.commands.specs.declared.command.Command.TheVariants as commands
 use Rattle.commands.specs.declared.command.Item.TheVariants as items
 use Rattle.record_codec.specs.declared.entry.Entry.TheVariants as entries
 use Rattle.archive_state.specs.Steps.{deletion_refusal}
-use Rattle.archive_core.proofs.TakeLemmas.{entry_by, follows_on, takes_entry}
+use Rattle.archive_core.proofs.TakeLemmas.{entry_by, takes_entry}
 use Rattle.archive_core.proofs.archive.Archive.delete.Goals as goal
 
 pub add-requires-clause-next : goal.add-requires-clause-next
@@ -19,11 +18,6 @@ pub returns-clause-adds : goal.returns-clause-adds
 returns-clause-adds g c = λ h stands.
     let same = c.deletion-prepared.ensures.same in
     c.add.ensures.adds h _ _ (rw same stands) (rw same (c.deletion-prepared.ensures.prepared h stands))
-
-pub returns-clause-follows : goal.returns-clause-follows
-returns-clause-follows g c = λ h stands.
-    follows_on h c.add.result c.add.new.self (IfOk-weaker c.add.result _ _ (λ n is. (entries.Delete c.args.doc c.args.at ∷ [], is.0)) (returns-clause-adds g c h stands).stands)
-    (λ why is. let still = ((returns-clause-after g c).same why is).0 in rw still stands)
 
 pub returns-clause-takes : goal.returns-clause-takes
 returns-clause-takes g c = λ tells h in_step.

@@ -10,7 +10,7 @@ use Rattle.plan_shelf.specs.declared.readying.PlanReport.{PlanReport}
 use Rattle.archive_core.proofs.AddLemmas.{given_up_cached, given_up_never, given_up_refused}
 use Rattle.archive_core.proofs.ByReadsLemmas.{still_by, stocks_same}
 use Rattle.archive_core.proofs.StoreLemmas.{plan_by, plans_full, plans_stored, plans_refused, still_in_step, takes_plan}
-use Rattle.archive_core.proofs.TakeLemmas.{follows_on, unmade_by}
+use Rattle.archive_core.proofs.TakeLemmas.{unmade_by}
 use Rattle.archive_core.proofs.archive.Archive.plan.Goals as goal
 
 pub returns-in-Ok-clause-refused : goal.returns-in-Ok-clause-refused
@@ -75,11 +75,3 @@ returns-in-Err-clause-by_reads g c = λ tells s in_step.
     unmade_by s (items.Command (commands.Plan c.args.word.now c.args.kind c.args.factor)) c.give_up.result _ _ c.args.self.now c.give_up.new.self in_step
     (λ why is. let full = returns-in-Err-clause-refused g c s.history in_step.stands why (ap Err is) in (refl, (full.0, stocks_same s c.give_up.new.self (g.D.Disk.disk c.args.disk.now) in_step.live), still_by _ c.args.self.now c.give_up.new.self s in_step full.1 (given_up_cached c.in-Err.declined c.give_up.result c.args.self.now c.give_up.new.self (g.D.Disk.disk c.args.disk.now) c.give_up.ensures in_step.cached)))
     (λ is. given_up_never {T = PlanReport} _ c.in-Err.declined c.give_up.result c.args.self.now c.give_up.new.self c.give_up.ensures (inr (ap Err is))) (λ is. refl)
-
-pub returns-in-Ok-clause-follows : goal.returns-in-Ok-clause-follows
-returns-in-Ok-clause-follows g c = λ h stands.
-    follows_on h c.store.result c.store.new.self (IfOk-weaker c.store.result _ _ (λ report (plan, (stored, told, then)). (entries.Planned plan ∷ [], then)) (c.store.ensures.stores h stands))
-    (λ why is. (c.store.ensures.refused h stands why is).1)
-
-pub returns-in-Err-clause-follows : goal.returns-in-Err-clause-follows
-returns-in-Err-clause-follows g c = λ h stands. follows_on h (Err c.give_up.result) c.give_up.new.self tt (λ why is. (returns-in-Err-clause-refused g c h stands why is).1)

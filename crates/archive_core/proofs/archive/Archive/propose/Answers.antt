@@ -3,10 +3,9 @@ use Rattle.std.proofs.lemmas.Result.{IfOk-weaker}
 use Rattle.proposals.specs.Proposals.{IsProposal}
 use Rattle.commands.specs.declared.command.Kind.TheVariants.{Guarantee}
 use Rattle.archive_state.specs.Steps.{Proposed, Proposes, Refused}
-use Rattle.archive_state.proofs.OutcomeLemmas.{each_proposes}
 use Rattle.archive_core.proofs.AskedLemmas.{error_told, none_answered}
 use Rattle.archive_core.proofs.PlanLemmas.{phrase_refused, told_of_boundaries}
-use Rattle.archive_core.proofs.TakeLemmas.{proposal_by, takes_proposal}
+use Rattle.archive_core.proofs.TakeLemmas.{proposal_by}
 use Rattle.archive_core.proofs.archive.Archive.propose.Goals as goal
 
 pub returns-clause-refused : goal.returns-clause-refused
@@ -22,19 +21,9 @@ returns-clause-proposes c = λ h stands.
     (rw c.deref.ensures.value (c.in_ok-sealed.ensures.sealed h stands)) (rw c.deref.ensures.value c.in_ok-sealed.ensures.some) (λ because none. absurd none) (λ proposal. (p.segments.items, p.nodes.items, p.space, proposal, refl)) of)
     c.least_plan.ensures.least
 
-pub returns-clause-takes : goal.returns-clause-takes
-returns-clause-takes c = λ d h in_step.
-    takes_proposal (Proposes h c.args.word.now c.args.factor) h _ c.least_plan.result d c.args.self.now (λ reply is. (refl, is)) (each_proposes h c.args.word.now c.args.factor in_step.legal) in_step
-    (returns-clause-refused c h in_step.stands) (returns-clause-proposes c h in_step.stands)
-
 pub returns-in_err-sealed-clause-refused : goal.returns-in_err-sealed-clause-refused
 returns-in_err-sealed-clause-refused c = λ h stands why is.
     phrase_refused h c.args.word.now c.args.factor why (c.in_err-sealed.ensures.refused Guarantee h stands why (error_told c.from_residual.result c.in_err-sealed.field-0.0 why c.from_residual.ensures.1 is))
-
-pub returns-in_err-sealed-clause-takes : goal.returns-in_err-sealed-clause-takes
-returns-in_err-sealed-clause-takes c = λ d h in_step.
-    takes_proposal (Proposes h c.args.word.now c.args.factor) h _ c.from_residual.result d c.args.self.now (λ reply is. (refl, is)) (each_proposes h c.args.word.now c.args.factor in_step.legal) in_step
-    (returns-in_err-sealed-clause-refused c h in_step.stands) (none_answered _ c.from_residual.result c.in_err-sealed.field-0.0 c.from_residual.ensures.1)
 
 pub returns-clause-by_reads : goal.returns-clause-by_reads
 returns-clause-by_reads c = λ d s in_step.
