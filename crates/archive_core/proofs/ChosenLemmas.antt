@@ -1,14 +1,17 @@
 -- What is chosen of words' lists, by the plans in hand.
-use Rattle.std.proofs.Common.{◌≡◌, ℕ, zero, suc, ◌+◌, ◌*◌, ◌<◌, ◌≤◌, ◌^◌, Bool, true, false, nat_lt, List, [], ◌∷◌, ◌++◌, length, get_or, filter, map, cond, sum_by, All, Option, Some, None, Result, Ok, Err, refl, ap, sym, subst, ◌∙◌, lt-ltb, arith}
+use Rattle.std.proofs.Common.{◌≡◌, ℕ, zero, suc, ◌+◌, ◌*◌, ◌<◌, ◌≤◌, ◌^◌, Bool, true, false, List, [], ◌∷◌, ◌++◌, length, get_or, filter, map, cond, sum_by, All, Option, Some, None, Result, Ok, Err, refl, ap, sym, subst, ◌∙◌, inl, arith}
+use Rattle.std.specs.List.{AllZip}
 use Rattle.std.proofs.lemmas.List.Elements.{All-nil, All-cons, All-head, All-tail, All-append, All-filter}
 use Rattle.std.proofs.lemmas.List.Sums.{sum_by-cons}
 use Rattle.machine_model.specs.Areas.{Both}
 use Rattle.machine_model.specs.Calls.{OnlyReads}
 use Rattle.machine_model.specs.States.{DiskState}
-use Rattle.archive_state.specs.Answers.{IsWordList}
+use Rattle.archive_state.specs.Answers.{IsWordList, frequency_at}
 use Rattle.time_base.specs.declared.extent.Extent.{Extent}
 use Rattle.time_base.specs.declared.posting.Posting.{Posting}
-use Rattle.postings.specs.Lists.{sublist}
+use Rattle.postings.specs.Clips.{IsClip, IsCut}
+use Rattle.postings.specs.Lists.{meets, sublist}
+use Rattle.postings.proofs.Clipping.{clip_of_list_of}
 use Rattle.page_store.specs.Live.{IsInside}
 use Rattle.record_codec.specs.Spelling.{spelling}
 use Rattle.record_codec.specs.PlanSpelling.{IsPlanEntry}
@@ -21,7 +24,7 @@ use Rattle.archive_state.specs.declared.stored.StoredPlan.{StoredPlan}
 use Rattle.archive_state.specs.Histories.{History}
 use Rattle.archive_state.specs.Legal.{EachMayCome, IsLoadable}
 use Rattle.archive_state.specs.Plans.{is_another, live_after, live_plans, with_plan, plan_of}
-use Rattle.archive_state.specs.Chosen.{AreChosen, GathersOf, IsChosenOf, IsFirstDamage, tail_for}
+use Rattle.archive_state.specs.Chosen.{AreChosen, GathersOf, IsChosenOf, IsFirstDamage, IsTailFor}
 use Rattle.archive_core.specs.States.{ArchiveState, StandsFor, IsSameButCache, Reaches}
 use Rattle.plan_shelf.specs.Shelves.{extents_all}
 use Rattle.plan_shelf.specs.Shelves.{IsReadable}
@@ -92,17 +95,22 @@ chosen_more a b h pages [] (q ∷ parts) word part are is = absurd are
 chosen_more a b h pages (w ∷ words) [] word part are is = absurd are
 chosen_more a b h pages (w ∷ words) (q ∷ parts) word part are is = (are.0, chosen_more a b h pages words parts word part are.1 is)
 
--- no tail is needed where the window ends by the horizon
-pub no_tail : (b h : ℕ) (list : List Posting) → b ≤ h → tail_for b h list ≡ []
-no_tail b h list early = go (nat_lt h b) refl
+-- what was kept is kept again
+kept_twice : (keep : Posting → Bool) (list : List Posting) → filter keep (filter keep list) ≡ filter keep list
+kept_twice keep [] = refl
+kept_twice keep (p ∷ list) = go (keep p) refl (kept_twice keep list)
   where
-    go : (c : Bool) → nat_lt h b ≡ c → tail_for b h list ≡ []
-    go true e = absurd (grind (arith, e, early))
-    go false e = ap (λ (c : Bool). cond c (sublist h (2 ^ 40) list) []) e
+    go : (b : Bool) → keep p ≡ b → filter keep (filter keep list) ≡ filter keep list → filter keep (cond b (p ∷ filter keep list) (filter keep list)) ≡ cond b (p ∷ filter keep list) (filter keep list)
+    go true e rest = ap (λ (c : Bool). cond c (p ∷ filter keep (filter keep list)) (filter keep (filter keep list))) e ∙ ap (λ (l : List Posting). p ∷ l) rest
+    go false e rest = rest
 
--- and all from the horizon on is where it ends behind
-pub some_tail : (b h : ℕ) (list : List Posting) → h < b → tail_for b h list ≡ sublist h (2 ^ 40) list
-some_tail b h list late = ap (λ (c : Bool). cond c (sublist h (2 ^ 40) list) []) (lt-ltb h b late)
+-- what a word's list has from the horizon on, cut to begin there, is its tail
+pub cut_tail : (h : History) (word : List ℕ) (b horizon : ℕ) (whole rows tail : List Posting) → horizon < b → IsWordList h word whole → rows ≡ sublist horizon (2 ^ 40) whole → IsClip horizon (2 ^ 40) rows tail
+    → IsTailFor h word b horizon tail
+cut_tail h word b horizon whole rows tail past is rows_are clip =
+    let C : List Posting → Type 0 = λ l. AllZip (IsCut horizon (2 ^ 40)) l tail in
+    let cut = subst C (ap (sublist horizon (2 ^ 40)) rows_are ∙ kept_twice (meets horizon (2 ^ 40)) whole) clip in
+    inl (past, clip_of_list_of (λ d t. frequency_at h word (record { 0 = d }) t) 0 (2 ^ 40) horizon (2 ^ 40) whole tail (omega arith) (omega arith) is cut)
 
 -- the plan that stands there is the word's
 pub planned_is : (a : ArchiveState) (h : History) (word : List ℕ) (at : ℕ) (s : StoredPlan) → StandsFor a h → IsPlanAt a.shelf.plans word at → s ≡ get_or a.shelf.plans at s → plan_of h word ≡ Some s.plan
@@ -123,11 +131,11 @@ damage_of P fetches.Memory d holds is = absurd cc
 
 -- what was gathered of a plan, with its tail, is chosen of the word
 pub planned_chosen : (h : History) (pages : List ℕ) (word : List ℕ) (plan : PlanEntry) (a b : ℕ) (stored tail list : List Posting) (n read : ℕ) → plan_of h word ≡ Some plan → GathersOf pages plan a b (Ok (stored, n))
-    → ((whole : List Posting) × IsWordList h word whole × (tail ≡ tail_for b plan.horizon.seconds whole)) → list ≡ stored ++ tail → read ≡ n + length tail
+    → IsTailFor h word b plan.horizon.seconds tail → list ≡ stored ++ tail → read ≡ n + length tail
     → IsChosenOf h pages word (plan_of h word) a b list read
-planned_chosen h pages word plan a b stored tail list n read live gathers (whole, is, tail_is) list_is read_is =
+planned_chosen h pages word plan a b stored tail list n read live gathers is list_is read_is =
     let P : Option PlanEntry → Type 0 = λ o. IsChosenOf h pages word o a b list read in
-    subst P (sym live) (stored, whole, n, gathers, is, list_is ∙ ap (λ (l : List Posting). stored ++ l) tail_is, read_is ∙ ap (λ (l : List Posting). n + length l) tail_is)
+    subst P (sym live) (stored, tail, n, gathers, is, list_is, read_is)
 
 -- of a word without a plan it is the whole list
 pub whole_chosen : (h : History) (pages : List ℕ) (word : List ℕ) (a b : ℕ) (list whole : List Posting) (read : ℕ) → plan_of h word ≡ None → IsWordList h word whole → list ≡ sublist a b whole → read ≡ length whole

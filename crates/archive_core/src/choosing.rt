@@ -1,16 +1,15 @@
 //! Which postings are read for a query.
-ghost use Rattle.std.specs.Prelude.{◌≡◌, ◌+◌, ◌^◌, ◌++◌, ◌<◌, List, length, IfOk, OnOk, IsErrOf};
+ghost use Rattle.std.specs.Prelude.{◌≡◌, ◌+◌, ◌^◌, ◌++◌, length, IfOk, OnOk, IsErrOf};
 ghost use Rattle.archive_state.specs.Histories.{History};
-ghost use Rattle.archive_state.specs.Answers.{IsWordList};
 ghost use Rattle.archive_state.specs.Plans.{plan_of};
-ghost use Rattle.time_base.specs.declared.posting.Posting.{Posting as PlainPosting};
-ghost use Rattle.archive_state.specs.Chosen.{AreChosen, IsChosenOf, IsDamagedFor, pieces_chosen, tail_for};
+ghost use Rattle.archive_state.specs.Chosen.{AreChosen, IsChosenOf, IsDamagedFor, IsTailFor, pieces_chosen};
 ghost use Rattle.archive_core.specs.After.{AfterFetching, Fetches};
 ghost use Rattle.archive_core.specs.Answering.{HasAsked};
 ghost use Rattle.archive_core.specs.States.{StandsFor, CacheStands, Reaches};
 
 use crate::archive::Archive;
 use machine_model::Disk;
+use postings::clip;
 use query_eval::Part;
 use std::alloc::{AllocError, Global};
 use sublist_store::{Damage, FetchError, Gathered};
@@ -79,7 +78,8 @@ impl Archive {
         Ok(part)
     }
 
-    /// A word's list from a horizon on, where a window reaches past that.
+    /// A word's list from a horizon on, where a window reaches past that. A posting that began before
+    /// begins there: what was before is for the stored sublists to say.
     fn tail_of(
         &self,
         alloc: Global,
@@ -87,13 +87,15 @@ impl Archive {
         horizon: Time,
         span: Span,
     ) -> Result<Vec<Posting>, AllocError>
-        ensures { (h : History) → StandsFor self.now h → IfOk result (λ tail. (list : List PlainPosting) × IsWordList h word.now list × (tail.items ≡ tail_for span.to horizon.seconds list)) }
+        ensures { (h : History) → StandsFor self.now h → IfOk result (λ tail. IsTailFor h word.now span.to horizon.seconds tail.items) }
     {
         if span.to <= horizon.seconds {
             return Ok(Vec::new(alloc));
         }
-        let part = self.index().part_in(alloc, word, from_on(horizon))?;
-        Ok(part.rows)
+        let later = from_on(horizon);
+        let part = self.index().part_in(alloc, word, later)?;
+        let tail = clip(alloc, &part.rows, later)?;
+        Ok(tail)
     }
 }
 

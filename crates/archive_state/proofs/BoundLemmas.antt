@@ -33,7 +33,7 @@ use Rattle.archive_state.specs.declared.stored.StoredPlan.{StoredPlan}
 use Rattle.archive_state.specs.Histories.{History}
 use Rattle.archive_state.specs.Answers.{frequency_at, IsWordList}
 use Rattle.archive_state.specs.Bounds.{HoldersAreDocuments, PlannedReadsAreBounded, PlannedSpaceIsCapped}
-use Rattle.archive_state.specs.Chosen.{tail_for}
+use Rattle.archive_state.specs.Chosen.{IsTailFor}
 use Rattle.archive_state.specs.Legal.{MayBePlanned, IsLoadable}
 use Rattle.archive_state.specs.Planning.{IsListUpTo}
 use Rattle.archive_state.specs.Plans.{first_plan, live_plans, plan_of}
@@ -233,12 +233,9 @@ same_alive h word horizon t sealed list now early up_to whole =
 
 -- ---- the bound
 
-no_tail : (b h : ℕ) (list : List Posting) → b ≤ h → length (tail_for b h list) ≡ 0
-no_tail b h list within = go (nat_lt h b) refl
-  where
-    go : (c : Bool) → nat_lt h b ≡ c → length (if c then sublist h (2 ^ 40) list else []) ≡ 0
-    go true past = absurd (grind (arith, nat_tests))
-    go false past = refl
+no_tail : (h : History) (word : List ℕ) (b horizon : ℕ) (tail : List Posting) → b ≤ horizon → IsTailFor h word b horizon tail → length tail ≡ 0
+no_tail h word b horizon tail within (inl (past, list)) = absurd (omega (arith, past, within))
+no_tail h word b horizon tail within (inr (still, none)) = ap length none
 
 -- a plan of this kind keeps to a guarantee
 guaranteed : (list : List Posting) (factor : Fraction) (cuts : List Time) (h : ℕ) (kind : Kind) → kind ≡ Guarantee → IsFitFor kind list factor cuts h → IsFitPlan list factor cuts h
@@ -253,7 +250,7 @@ planned_bounded h word plan list t read loads live kind whole from to (sealed, t
     let planned = word_planned h word plan loads live in
     let same = one_list_of f 0 horizon planned.list sealed planned.list_is up_to in
     let one = read_is sealed plan.fraction plan.cuts horizon t (subst (λ (l : List Posting). IsFitPlan l plan.fraction plan.cuts horizon) same (guaranteed planned.list plan.fraction plan.cuts horizon plan.kind kind planned.fit)) from to in
-    let all : read ≡ size one.from one.to sealed = omega (arith, is, no_tail (t + 1) horizon those (omega (arith, to)), one.is) in
+    let all : read ≡ size one.from one.to sealed = omega (arith, is, no_tail h word (t + 1) horizon those (omega (arith, to)) them, one.is) in
     let now : horizon < 2 ^ 40 = plan.horizon.before_now in
     let B : ℕ → ℕ → Type 0 = λ n alive. n * plan.fraction.under ≤ plan.fraction.over * alive in
     subst (λ (alive : ℕ). B read alive) (same_alive h word horizon t sealed list (omega (arith, now)) to up_to whole)

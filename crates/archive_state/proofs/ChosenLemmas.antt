@@ -1,5 +1,5 @@
 -- What is chosen from pages that hold the live plans tells what the history's texts do, and so the answer that is made from it is the history's.
-use Rattle.std.proofs.Common.{◌≡◌, ℕ, zero, suc, ◌+◌, ◌-◌, ◌^◌, ◌<◌, ◌≤◌, ◌==◌, Bool, true, false, cond, ◌&&◌, if◌then◌else◌, nat_lt, bytes_eq, List, [], ◌∷◌, ◌++◌, length, filter, get_or, All, Option, Some, None, Ok, Err, IsSome, is_some, inl, inr, refl, ap, sym, subst, ◌∙◌, arith}
+use Rattle.std.proofs.Common.{◌≡◌, ℕ, zero, suc, ◌+◌, ◌-◌, ◌^◌, ◌<◌, ◌≤◌, ◌==◌, Bool, true, false, cond, ◌&&◌, if◌then◌else◌, bytes_eq, List, [], ◌∷◌, ◌++◌, length, get_or, All, Option, Some, None, Ok, Err, IsSome, is_some, inl, inr, refl, ap, sym, subst, ◌∙◌, arith}
 use Rattle.std.specs.Cmp.Lexicographic.{bytes_decides}
 use Rattle.std.proofs.lemmas.Bool.{cases_lt}
 use Rattle.std.proofs.lemmas.Bool.Decides.{nat_tests}
@@ -26,9 +26,9 @@ use Rattle.sublist_store.specs.Gathering.{ListOrDamage, stored_size}
 use Rattle.sublist_store.specs.Laws.{IsGathered}
 use Rattle.sublist_store.proofs.HeldLemmas.{held_gathered}
 use Rattle.archive_state.specs.Histories.{History, text_at}
-use Rattle.archive_state.specs.Answers.{frequency_at, IsWordList}
+use Rattle.archive_state.specs.Answers.{frequency_at}
 use Rattle.archive_state.specs.Bounds.{MadeAtStands, MadeOverStands, HeldIsUndamaged, UnplannedHitsAreAlive}
-use Rattle.archive_state.specs.Chosen.{tail_for, IsReadOf, IsReadFor, GathersOf, IsChosenOf, AreChosen}
+use Rattle.archive_state.specs.Chosen.{IsTailFor, IsReadOf, IsReadFor, GathersOf, IsChosenOf, AreChosen}
 use Rattle.archive_state.specs.Holding.{HoldsPlan, HoldsPlans}
 use Rattle.archive_state.specs.Legal.{IsLoadable}
 use Rattle.archive_state.specs.Planning.{IsListUpTo}
@@ -54,31 +54,6 @@ part_tells a b d t (p ∷ list) from to = go (meets a b p) refl (part_tells a b 
         → frequency d t (cond m (p ∷ sublist a b list) (sublist a b list)) ≡ (if (p.doc.0 == d && holds t p) then p.tf else frequency d t list)
     go true e rest = ap (λ (n : ℕ). if (p.doc.0 == d && holds t p) then p.tf else n) rest
     go false e rest = rest ∙ sym (ap (λ (h : Bool). if (p.doc.0 == d && h) then p.tf else frequency d t list) (missed a b t p e from to) ∙ neither (p.doc.0 == d))
-
--- where a list has nothing, no part of it has
-part_bare : (keep : Posting → Bool) (d t : ℕ) (list : List Posting) → frequency d t list ≡ 0 → frequency d t (filter keep list) ≡ 0
-part_bare keep d t [] bare = refl
-part_bare keep d t (p ∷ list) bare = go (p.doc.0 == d && holds t p) refl bare (part_bare keep d t list) (keep p)
-  where
-    go : (here : Bool) → (p.doc.0 == d && holds t p) ≡ here → cond here p.tf (frequency d t list) ≡ 0 → (frequency d t list ≡ 0 → frequency d t (filter keep list) ≡ 0)
-        → (m : Bool) → frequency d t (cond m (p ∷ filter keep list) (filter keep list)) ≡ 0
-    go true e bare rest m = absurd (omega (arith, bare, p.counted))
-    go false e bare rest true = ap {B = ℕ} (λ c. cond c p.tf (frequency d t (filter keep list))) e ∙ rest bare
-    go false e bare rest false = rest bare
-
-tail_bare : (b h d t : ℕ) (list : List Posting) → frequency d t list ≡ 0 → frequency d t (tail_for b h list) ≡ 0
-tail_bare b h d t list bare = go (nat_lt h b)
-  where
-    go : (c : Bool) → frequency d t (if c then sublist h (2 ^ 40) list else []) ≡ 0
-    go true = part_bare (meets h (2 ^ 40)) d t list bare
-    go false = refl
-
-tail_tells : (b h d t : ℕ) (list : List Posting) → h ≤ t → t < b → t < 2 ^ 40 → frequency d t (tail_for b h list) ≡ frequency d t list
-tail_tells b h d t list past to now = go (nat_lt h b) refl
-  where
-    go : (c : Bool) → nat_lt h b ≡ c → frequency d t (if c then sublist h (2 ^ 40) list else []) ≡ frequency d t list
-    go true e = part_tells h (2 ^ 40) d t list past now
-    go false e = absurd (grind (arith, nat_tests))
 
 -- ---- a word's list
 
@@ -120,21 +95,26 @@ held_undamaged h pages word a b damage loads held_all damaged =
     let is = gathered.is in
     cc
 
+-- the tail says nothing of times before the horizon
+tail_bare : (h : History) (word : List ℕ) (b horizon d t : ℕ) (tail : List Posting) → t < horizon → IsTailFor h word b horizon tail → frequency d t tail ≡ 0
+tail_bare h word b horizon d t tail early (inl (past, list)) = outside horizon (2 ^ 40) tail list.inside d t (inl early)
+tail_bare h word b horizon d t tail early (inr (within, none)) = ap (frequency d t) none
+
+-- and tells the others of a window
+tail_tells : (h : History) (word : List ℕ) (b horizon : ℕ) (doc : DocId) (t : ℕ) (tail : List Posting) → b ≤ 2 ^ 40 → horizon ≤ t → t < b → IsTailFor h word b horizon tail → frequency doc.0 t tail ≡ frequency_at h word doc t
+tail_tells h word b horizon doc t tail now late to (inl (past, list)) = list.same doc.0 t late (omega (arith, to, now))
+tail_tells h word b horizon doc t tail now late to (inr (within, none)) = absurd (omega (arith, late, to, within))
+
 -- what is stored tells the times before the horizon, and the tail the others
-joined_tell : (h : History) (word : List ℕ) (a b horizon : ℕ) (sealed stored whole : List Posting) → b ≤ 2 ^ 40 → IsListUpTo h word horizon sealed → IsWordList h word whole
-    → ((d t : ℕ) → a ≤ t → t < b → frequency d t stored ≡ frequency d t sealed) → Tells h word a b (stored ++ tail_for b horizon whole)
-joined_tell h word a b horizon sealed stored whole now up_to all tells doc t from to = elim (cases_lt t horizon) [
-  | inl early ↦ elim (cases_lt 0 (frequency doc.0 t stored)) [
-    | inl some ↦ append-some doc.0 t stored (tail_for b horizon whole) some ∙ tells doc.0 t from to ∙ up_to.same doc.0 t (omega arith) early
-    | inr none ↦
-        let bare : frequency doc.0 t stored ≡ 0 = omega (arith, none) in
-        let zero_at : frequency_at h word doc t ≡ 0 = sym (up_to.same doc.0 t (omega arith) early) ∙ sym (tells doc.0 t from to) ∙ bare in
-        append-none doc.0 t stored (tail_for b horizon whole) bare
-        ∙ tail_bare b horizon doc.0 t whole (all.same doc.0 t (omega arith) (omega (arith, to, now)) ∙ zero_at) ∙ sym zero_at
-  ]
-  | inr past ↦
-      let bare : frequency doc.0 t stored ≡ 0 = tells doc.0 t from to ∙ outside 0 horizon sealed up_to.inside doc.0 t (inr past) in
-      append-none doc.0 t stored (tail_for b horizon whole) bare ∙ tail_tells b horizon doc.0 t whole past to (omega (arith, to, now)) ∙ all.same doc.0 t (omega arith) (omega (arith, to, now))
+joined_tell : (h : History) (word : List ℕ) (a b horizon : ℕ) (sealed stored tail : List Posting) → b ≤ 2 ^ 40 → IsListUpTo h word horizon sealed → IsTailFor h word b horizon tail
+    → ((d t : ℕ) → a ≤ t → t < b → frequency d t stored ≡ frequency d t sealed) → Tells h word a b (stored ++ tail)
+joined_tell h word a b horizon sealed stored tail now up_to is tells doc t from to = elim (cases_lt t horizon) [
+  | inl early ↦
+      let told = tells doc.0 t from to ∙ up_to.same doc.0 t (omega arith) early in elim (cases_lt 0 (frequency doc.0 t stored)) [
+        | inl some ↦ append-some doc.0 t stored tail some ∙ told
+        | inr none ↦ (let bare : frequency doc.0 t stored ≡ 0 = omega (arith, none) in append-none doc.0 t stored tail bare ∙ tail_bare h word b horizon doc.0 t tail early is ∙ sym bare ∙ told)
+      ]
+  | inr late ↦ append-none doc.0 t stored tail (tells doc.0 t from to ∙ outside 0 horizon sealed up_to.inside doc.0 t (inr late)) ∙ tail_tells h word b horizon doc t tail now late to is
 ]
 
 -- the list that is chosen of a word tells it, and as much is read as should be
@@ -147,7 +127,7 @@ word_chosen h pages word a b list read now loads held_all = go (plan_of h word) 
       λ doc t from to. ap (frequency doc.0 t) is ∙ part_tells a b doc.0 t whole from to ∙ all.same doc.0 t (omega arith) (omega (arith, to, now)),
       (whole, all, size),
     )
-    go (Some plan) live (stored, whole, n, gathers, all, is, size) =
+    go (Some plan) live (stored, tail, n, gathers, is_tail, is, size) =
         let held = held_for h pages word plan loads held_all live in
         let gathered = held_gives h pages word plan a b (Ok (stored, n)) held gathers in
         let outcome = gathered.is in
@@ -158,8 +138,8 @@ word_chosen h pages word a b list read now loads held_all = go (plan_of h word) 
         let same : gathered.stored ≡ stored = sym (ap (λ (x : List Posting × ℕ). x.0) both) in
         let sizes : n ≡ size_is = ap (λ (x : List Posting × ℕ). x.1) both in
         let S : List Posting → Type 0 = λ l. (d t : ℕ) → a ≤ t → t < b → frequency d t l ≡ frequency d t held.list in (
-          subst (Tells h word a b) (sym is) (joined_tell h word a b plan.horizon.seconds held.list stored whole now held.list_is all (subst S same gathered.tells)),
-          (held.list, whole, held.list_is, all, omega (arith, size, sizes)),
+          subst (Tells h word a b) (sym is) (joined_tell h word a b plan.horizon.seconds held.list stored tail now held.list_is is_tail (subst S same gathered.tells)),
+          (held.list, tail, held.list_is, is_tail, omega (arith, size, sizes)),
         )
 
 -- ---- the words of a query

@@ -2,7 +2,7 @@
 use Rattle.std.proofs.Common.{subst, sym, ◌≡◌, ℕ, ◌+◌, ◌<◌, ◌≤◌, ◌^◌, Bool, true, false, not, nat_lt, List, [], ◌∷◌, ◌++◌, length, All, Contains, Option, Some, None, IsSome, is_some, Result, Ok, Err, refl, ap, arith, unwrap_or, ◌∙◌, inl, inr}
 use Rattle.std.specs.Str.{is_utf8}
 use Rattle.std.specs.Option.{option_map}
-use Rattle.std.proofs.lemmas.Bool.{ltb-false}
+use Rattle.std.proofs.lemmas.Bool.{cases_lt, ltb-false}
 use Rattle.std.proofs.lemmas.Str.{IsUtf8-from_is_utf8}
 use Rattle.std.proofs.lemmas.List.Elements.{All-nil, All-cons, All-head, All-tail, All-weaker}
 use Rattle.time_base.specs.declared.fraction.Fraction.{Fraction}
@@ -47,7 +47,7 @@ use Rattle.record_codec.specs.declared.plan.PlanEntry.{PlanEntry}
 use Rattle.sublist_store.specs.Segments.{seconds}
 use Rattle.sublist_store.specs.Gathering.{stored_size}
 use Rattle.archive_state.specs.Answers.{frequency_at, IsWordList}
-use Rattle.archive_state.specs.Chosen.{IsReadFor, IsReadOf, tail_for}
+use Rattle.archive_state.specs.Chosen.{IsReadFor, IsReadOf, IsTailFor}
 use Rattle.archive_state.specs.Plans.{plan_of}
 use Rattle.commands.specs.Documents.{HasDocument}
 use Rattle.commands.specs.declared.command.Command.{Command}
@@ -151,13 +151,22 @@ each_list_up_to : (h : History) (word : List ℕ) (last : ℕ) → last ≤ 2 ^ 
 each_list_up_to h word last in_time legal =
     each_has_a_list (λ d t. frequency_at h word (record { 0 = d }) t) 0 last in_time (λ d t. frequency_few h word (record { 0 = d }) t legal) (λ d t far. frequency_none h word d t legal far)
 
+-- and one from each time on
+each_tail : (h : History) (word : List ℕ) (b horizon : ℕ) → IsLoadable h → (tail : List Posting) × IsTailFor h word b horizon tail
+each_tail h word b horizon legal = elim (cases_lt horizon b) [
+  | inl past ↦
+      let tail = each_has_a_list (λ d t. frequency_at h word (record { 0 = d }) t) horizon (2 ^ 40) (omega arith) (λ d t. frequency_few h word (record { 0 = d }) t legal) (λ d t far. frequency_none h word d t legal far) in
+      (tail.0, inl (past, tail.1))
+  | inr within ↦ ([], inr (within, refl))
+]
+
 -- each query is answered at each time
 each_read_of : (h : History) (word : List ℕ) (a b : ℕ) (plan : Option PlanEntry) → IsLoadable h → (n : ℕ) × IsReadOf h word plan a b n
 each_read_of h word a b None legal = let list = each_word_list h word legal in (length list.0, (list.0, list.1, refl))
 each_read_of h word a b (Some plan) legal =
     let sealed = each_list_up_to h word plan.horizon.seconds (omega (arith, plan.horizon.before_now)) legal in
-    let list = each_word_list h word legal in
-    (stored_size a b plan.horizon.seconds sealed.0 (seconds plan.cuts) + length (tail_for b plan.horizon.seconds list.0), (sealed.0, list.0, sealed.1, list.1, refl))
+    let tail = each_tail h word b plan.horizon.seconds legal in
+    (stored_size a b plan.horizon.seconds sealed.0 (seconds plan.cuts) + length tail.0, (sealed.0, tail.0, sealed.1, tail.1, refl))
 
 each_read : (h : History) (a b : ℕ) (words : List (List ℕ)) → IsLoadable h → (n : ℕ) × IsReadFor h a b words n
 each_read h a b [] legal = (0, refl)
@@ -296,6 +305,12 @@ one_adds : (h : History) (e : Entry) (refusal : Option Refusal) (reply other : R
 one_adds h e None reply other next then a b = let same : next ≡ then = a.0 ∙ sym b.0 in (a.1 ∙ ap (λ (g : History). Accepted (length g)) same ∙ sym b.1, same)
 one_adds h e (Some why) reply other next then a b = (a.1 ∙ sym b.1, a.0 ∙ sym b.0)
 
+one_tail : (h : History) (word : List ℕ) (b horizon : ℕ) (one other : List Posting) → IsTailFor h word b horizon one → IsTailFor h word b horizon other → one ≡ other
+one_tail h word b horizon one other (inl (past, x)) (inl (again, y)) = one_list_of (λ d t. frequency_at h word (record { 0 = d }) t) horizon (2 ^ 40) one other x y
+one_tail h word b horizon one other (inl (past, x)) (inr (within, y)) = absurd (omega (arith, past, within))
+one_tail h word b horizon one other (inr (within, x)) (inl (past, y)) = absurd (omega (arith, past, within))
+one_tail h word b horizon one other (inr (within, x)) (inr (again, y)) = x ∙ sym y
+
 one_read_of : (h : History) (word : List ℕ) (a b : ℕ) (plan : Option PlanEntry) (one other : ℕ) → IsReadOf h word plan a b one → IsReadOf h word plan a b other → one ≡ other
 one_read_of h word a b None one other x y =
     let list = one_list_of (λ d t. frequency_at h word (record { 0 = d }) t) 0 (2 ^ 40) x.0 y.0 x.1 y.1 in
@@ -303,13 +318,12 @@ one_read_of h word a b None one other x y =
 one_read_of h word a b (Some plan) one other x y =
     let f = λ (d t : ℕ). frequency_at h word (record { 0 = d }) t in
     let sealed = one_list_of f 0 plan.horizon.seconds x.0 y.0 x.2 y.2 in
-    let list = one_list_of f 0 (2 ^ 40) x.1 y.1 x.3 y.3 in
     omega (
       arith,
       x.4,
       y.4,
       ap (λ (l : List Posting). stored_size a b plan.horizon.seconds l (seconds plan.cuts)) sealed,
-      ap (λ (l : List Posting). length (tail_for b plan.horizon.seconds l)) list,
+      ap length (one_tail h word b plan.horizon.seconds x.1 y.1 x.3 y.3),
     )
 
 one_read : (h : History) (a b : ℕ) (words : List (List ℕ)) (one other : ℕ) → IsReadFor h a b words one → IsReadFor h a b words other → one ≡ other

@@ -1,11 +1,12 @@
 -- Which postings are read for a query over a window of time, how many they are, and the answer that is made from them. Of a word without a
 -- plan it is its whole list. Of a word with one it is the sublists of the segments that overlap the window, and the word's list from the
 -- horizon on where the window reaches past it.
-use Rattle.std.specs.Prelude.{◌≡◌, ℕ, ◌+◌, ◌^◌, nat_lt, if◌then◌else◌, true, List, [], ◌∷◌, ◌++◌, length, Option, Some, None, Ok, Err, IsSome, is_some}
+use Rattle.std.specs.Prelude.{◌≡◌, ◌⊎◌, ℕ, ◌+◌, ◌^◌, ◌<◌, ◌≤◌, true, List, [], ◌∷◌, ◌++◌, length, Option, Some, None, Ok, Err, IsSome, is_some}
 use Rattle.std.specs.List.{flat_map}
 use Rattle.time_base.specs.declared.posting.Posting.{Posting}
 use Rattle.page_cache.specs.Caches.{Kept}
 use Rattle.postings.specs.Lists.{sublist}
+use Rattle.postings.specs.ListsOf.{IsListOf}
 use Rattle.record_codec.specs.declared.plan.PlanEntry.{PlanEntry}
 use Rattle.sublist_store.specs.Segments.{seconds}
 use Rattle.sublist_store.specs.Gathering.{ListOrDamage, Gathers, chosen, stored_size}
@@ -22,22 +23,23 @@ use Rattle.query_eval.specs.declared.answer.Row.{Row}
 use Rattle.query_eval.specs.declared.part.Part.{Part}
 use Rattle.query_eval.specs.declared.spans.SpanRow.{SpanRow}
 use Rattle.archive_state.specs.Histories.{History, text_at}
-use Rattle.archive_state.specs.Answers.{IsWordList}
+use Rattle.archive_state.specs.Answers.{IsWordList, frequency_at}
 use Rattle.archive_state.specs.Planning.{IsListUpTo}
 use Rattle.archive_state.specs.Plans.{plan_of}
 
 -- ---- how many postings are read, by the history alone
 
--- the list from the horizon h on, where the window that ends at b reaches past it
-abbrev pub tail_for : ℕ → ℕ → List Posting → List Posting
-tail_for b h list = if nat_lt h b then sublist h (2 ^ 40) list else []
+-- a word's list from the horizon h on, a posting for each of the longest spans of one frequency, where the window that ends at b reaches past it; and
+-- nothing elsewhere
+abbrev pub IsTailFor : History → List ℕ → ℕ → ℕ → List Posting → Type 0
+IsTailFor history word b h tail = ((h < b) × IsListOf (λ doc t. frequency_at history word (record { 0 = doc }) t) h (2 ^ 40) tail) ⊎ ((b ≤ h) × (tail ≡ []))
 
 -- how many postings are read of a word for [a, b), by its live plan if it has one
 abbrev pub IsReadOf : History → List ℕ → Option PlanEntry → ℕ → ℕ → ℕ → Type 0
 IsReadOf history word None a b read = (list : List Posting) × IsWordList history word list × (read ≡ length list)
 IsReadOf history word (Some plan) a b read = let h = plan.horizon.seconds in
-    (sealed list : List Posting) × IsListUpTo history word h sealed × IsWordList history word list
-    × (read ≡ stored_size a b h sealed (seconds plan.cuts) + length (tail_for b h list))
+    (sealed tail : List Posting) × IsListUpTo history word h sealed × IsTailFor history word b h tail
+    × (read ≡ stored_size a b h sealed (seconds plan.cuts) + length tail)
 
 -- how many postings are read for some words
 abbrev pub IsReadFor : History → ℕ → ℕ → List (List ℕ) → ℕ → Type 0
@@ -57,8 +59,8 @@ abbrev pub IsChosenOf : History → List ℕ → List ℕ → Option PlanEntry �
 IsChosenOf history pages word None a b list read =
     (whole : List Posting) × IsWordList history word whole × (list ≡ sublist a b whole) × (read ≡ length whole)
 IsChosenOf history pages word (Some plan) a b list read =
-    (stored whole : List Posting) × (n : ℕ) × GathersOf pages plan a b (Ok (stored, n)) × IsWordList history word whole
-    × (list ≡ stored ++ tail_for b plan.horizon.seconds whole) × (read ≡ n + length (tail_for b plan.horizon.seconds whole))
+    (stored tail : List Posting) × (n : ℕ) × GathersOf pages plan a b (Ok (stored, n)) × IsTailFor history word b plan.horizon.seconds tail
+    × (list ≡ stored ++ tail) × (read ≡ n + length tail)
 
 -- these parts are chosen for these words, one by one
 abbrev pub AreChosen : History → List ℕ → ℕ → ℕ → List (List ℕ) → List Part → Type 0

@@ -27,6 +27,13 @@ const LONGER: Sublist<'static> = Sublist {
         \xf8\x2a\xa4\x31\x2a\x85\xa2\x20\x09\x13\x00\x6a\xdf\xba\x8b\x79",
 };
 
+/// Document 1 has the word once in [10, 15).
+const SHORT: Sublist<'static> = Sublist {
+    bytes: b"\x01\x00\x03\x00\x00\x00\x01\x00\x00\x00\x01\x00\x00\x00\x01\x01\x0a\x05",
+    digest: b"\xfd\x48\xd5\xc4\xf7\x76\x88\x84\xde\x63\x7a\xc4\xee\x97\x57\x5e\
+        \xfd\xb4\x38\xcc\x6c\x18\x2a\x1f\x06\x3e\x47\xed\xf7\xf7\x3f\xe6",
+};
+
 // Questions are answered from the bytes, whose digest is right: only the check sees that they aren't those of the
 // texts. It leaves everything as it was.
 #[test]
@@ -42,6 +49,20 @@ fn bytes_whose_digest_was_made_anew_are_seen_by_the_check_alone(rt: HostRuntime)
     let left = disk_after(alloc, &disk, &row).expect(&rt, "the replies");
     assert_eq!(rt; left.journal.as_slice(), disk.journal.as_slice());
     assert_eq!(rt; left.pages.as_slice(), disk.pages.as_slice());
+}
+
+// Document 1 lives from 10 to 40, and the plan's horizon is 20. The list in memory begins there, so what is told of the
+// times before is what the sublist says, also over a window that reaches past the horizon.
+#[test]
+fn the_list_in_memory_tells_of_no_time_before_the_horizon(rt: HostRuntime) {
+    let alloc = rt.alloc();
+    let segments = [segment_at(10, 0, SHORT)];
+    let disk = disk_with(alloc, &plan_of_v(20, &segments)).expect(&rt, "a disk");
+    let row = Row {
+        script: b"between 10 40 v\nfind 15 v\nfind 20 v\nverify\n",
+        replies: b"span 1 10 15 1\nspan 1 20 40 1\nspan 2 20 30 1\nend 3 read 3\nend 0 read 1\nhit 1 1\nhit 2 1\nend 2 read 2\ndiffers v 0 17 05 0a\n",
+    };
+    expect_on(alloc, &disk, &[row]).expect(&rt, "the replies");
 }
 
 // Under the digest that the texts' sublist has, the same bytes end the run at the first question that reads

@@ -1,7 +1,8 @@
 use Rattle.std.proofs.Common.{◌≡◌, List, All, true, Err, None, get_or, ap, sym, subst, ◌∙◌}
+use Rattle.time_base.specs.declared.posting.Posting.{Posting}
 use Rattle.sublist_store.specs.declared.why.Damage.{Damage}
 use Rattle.archive_state.specs.declared.stored.StoredPlan.{StoredPlan}
-use Rattle.archive_state.specs.Chosen.{GathersOf, tail_for}
+use Rattle.archive_state.specs.Chosen.{GathersOf, IsTailFor}
 use Rattle.archive_state.specs.Histories.{changes}
 use Rattle.archive_state.specs.Plans.{is_another}
 use Rattle.plan_shelf.specs.Shelves.{ShelfState}
@@ -49,7 +50,8 @@ returns-clause-chosen g c = λ tells h stands cached.
     let tail = c.in_ok-tail.ensures h (stands_but_cache c.args.self.now c.gather.new.self h c.in_ok-stored.ensures.but_cache stands) in
     planned_chosen h (g.D.Disk.disk c.args.disk.now).holds.pages c.args.word.now s.plan c.args.span.from c.args.span.to c.in_ok-stored.stored.list.items c.deref.result.now c.in_ok-part-2.part.list.items c.in_ok-stored.stored.read c.in_ok-part-2.part.read
     (planned_is c.args.self.now h c.args.word.now c.in-Some.at s stands there same) (c.in_ok-stored.ensures.gathered tells cached s same)
-    (tail.0, tail.1, c.deref.ensures.value ∙ tail.2 ∙ ap (λ (x : StoredPlan). tail_for c.args.span.to x.plan.horizon.seconds tail.0) (sym c.index-plans-at.is)) c.in_ok-part-2.ensures.list c.in_ok-part-2.ensures.read
+    (subst (λ (l : List Posting). IsTailFor h c.args.word.now c.args.span.to s.plan.horizon.seconds l) (sym c.deref.ensures.value)
+    (subst (λ (x : StoredPlan). IsTailFor h c.args.word.now c.args.span.to x.plan.horizon.seconds c.in_ok-tail.tail.items) (sym c.index-plans-at.is) tail)) c.in_ok-part-2.ensures.list c.in_ok-part-2.ensures.read
 
 pub returns-clause-asked : goal.returns-clause-asked
 returns-clause-asked g c = λ tells h stands cached.
