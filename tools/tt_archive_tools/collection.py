@@ -13,9 +13,9 @@ from functools import partial
 from pathlib import Path
 from selectors import PollSelector
 from types import TracebackType
-from typing import Any, Iterable, Iterator, Sequence
+from typing import Any, Iterable, Sequence
 
-from .copying import JournalFile, bring_up
+from .copying import Gained, JournalFile, bring_up
 from .errors import BadQuery, InUse, NotBuilt, ProgramFailed, ToolError
 from .ledger import FILE as IMPORTS
 from .locks import CLUSTER, DOOR, Claim, Lock, Use, locked, patiently
@@ -248,37 +248,43 @@ class Collection:
     def _changes(self) -> bool:
         return self._lock is not None and self._claim.use is Use.CHANGES
 
-    def _fed_copies(self) -> Iterator[tuple[int, Fed, Link]]:
-        for number, side in enumerate(self._sides):
-            if isinstance(side, Fed):
-                for link in list(side.copies):
-                    yield number, side, link
+    def _fed(self) -> list[tuple[int, Fed]]:
+        return [(number, side) for number, side in enumerate(self._sides) if isinstance(side, Fed)]
 
     def _bring_up(self, level: set[tuple[int, Shard]]) -> None:
         """Brings up the copies that may lack something. From here on no copy is known to be level."""
-        for number, side, link in self._fed_copies():
-            try:
-                # One that was level may have been lost, and made anew.
-                is_level = (number, link.shard) in level and exchange(link, LAST_TIME, 1) == exchange(side.links[0], LAST_TIME, 1)
-                if not is_level:
-                    self._bring_up_one(number, side, link)
-            except (ToolError, OSError) as error:
-                side.strike(link, str(error))
+        for number, side in self._fed():
+            known = {shard for archive, shard in level if archive == number}
+            if self._pass(number, side, known):
+                self._pass(number, side, set())  # the others lack what the first place has now
         if level and self._changes:
             note_level(self.folder, ())
 
-    def _bring_up_one(self, number: int, side: Fed, link: Link) -> None:
-        def feed(script: bytes, count: int) -> None:
-            exchange(link, script, count)
+    def _pass(self, number: int, side: Fed, known: set[Shard]) -> bool:
+        """Makes each copy of an archive level that isn't known to be so, and answers whether the first place was behind."""
+        is_behind = False
+        for link in list(side.copies):
+            try:
+                # One that was level may have been lost, and made anew.
+                if link.shard in known and exchange(link, LAST_TIME, 1) == exchange(side.links[0], LAST_TIME, 1):
+                    continue
+                gained = self._levelled(number, side, link)
+            except (ToolError, OSError) as error:
+                side.strike(link, str(error))
+                continue
+            for place, count in zip((side.places[0], link.shard), gained):
+                if count:
+                    say(f"{place} was brought up by {counted(count, 'entry', 'entries')}")
+            is_behind |= gained.first > 0
+        return is_behind
 
+    def _levelled(self, number: int, side: Fed, copy: Link) -> Gained:
         if self._door:
             from .cluster.asking import request  # loaded where it is needed
 
-            count = request(self.folder, "level", number, side.places.index(link.shard))
-        else:
-            count = bring_up(JournalFile(side.places[0]), JournalFile(link.shard), feed)
-        if count:
-            say(f"the copy {link.shard} was brought up by {counted(count, 'entry', 'entries')}")
+            return Gained(*request(self.folder, "level", number, side.places.index(copy.shard)))
+        journals = JournalFile(side.places[0]), JournalFile(copy.shard)
+        return bring_up(*journals, partial(exchange, side.links[0]), partial(exchange, copy))
 
     def _end(self) -> list[End]:
         """Ends the programs, whose last replies nobody takes."""
@@ -291,7 +297,7 @@ class Collection:
 
     def _close(self, is_settled: bool = False) -> list[End]:
         """Ends the programs, and gives the folder up. Where all was answered, the copies that are still there are level."""
-        copies = [(number, link.shard) for number, _, link in self._fed_copies()]
+        copies = [(number, link.shard) for number, side in self._fed() for link in side.copies]
         try:
             ends = self._end()
             if is_settled and copies and all(end.status == 0 for end in ends):

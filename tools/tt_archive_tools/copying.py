@@ -22,6 +22,10 @@ from .program import JOURNAL, Shard
 _PIECE = 1 << 20
 
 
+#: Sends commands to a program, and returns when it has answered all of them; how many there are, it is told.
+Feed = Callable[[bytes, int], object]
+
+
 class Extent(NamedTuple):
     """How many entries a journal has, and where the gate behind them stands."""
 
@@ -108,18 +112,27 @@ class JournalFile:
             raise ToolError(f"{path}: {error.strerror}") from None
 
 
-def bring_up(first: Journal, copy: Journal, feed: Callable[[bytes, int], None]) -> int:
-    """Sends the copy's program what it lacks, by `feed`, and answers how many entries it was. An error where the copy
-    is none: its journal isn't how the first one's begins."""
-    have = copy.extent()
-    if first.digest(have.gate) != copy.digest(have.gate):
+class Gained(NamedTuple):
+    """How many entries the first place and the copy lacked, and have now. One of the two numbers is 0."""
+
+    first: int
+    copy: int
+
+
+def bring_up(first: Journal, copy: Journal, feed_first: Feed, feed_copy: Feed) -> Gained:
+    """Sends the program of the shorter journal what it lacks. A copy is ahead where the first place was lost while both
+    were fed: what it has more was sent, and not yet acknowledged. An error where neither is how the other begins."""
+    one, two = first.extent(), copy.extent()
+    common = min(one.gate, two.gate)
+    if first.digest(common) != copy.digest(common):
         raise ToolError("its journal has other entries than the first one's, so it is no copy: delete its two files, and it is made anew")
-    for piece in first.pieces(have.gate):
+    behind, ahead, feed = (copy, first, feed_copy) if two.gate <= one.gate else (first, copy, feed_first)
+    for piece in ahead.pieces(common):
         feed(piece.script, piece.count)
-    now, wanted = copy.extent(), first.extent()
+    now, wanted = behind.extent(), ahead.extent()
     if now != wanted or first.digest(now.gate) != copy.digest(now.gate):
         raise ToolError("its journal came out another than the first one's, as it does where their programs aren't the same")
-    return now.entries - have.entries
+    return Gained(now.entries - one.entries, now.entries - two.entries)
 
 
 def _command(entry: Entry) -> bytes:

@@ -216,9 +216,12 @@ class Fed(Side):
                     raise
                 self._strike(self.places[place], str(failed))
 
-    def strike(self, link: Link, why: str) -> None:
-        self._leave(link)
-        self._strike(link.shard, why)
+    def strike(self, copy: Link, why: str) -> None:
+        """Leaves out a copy that can't be made level, unless it was the first place that was lost meanwhile."""
+        if self.links[0].ended:
+            self._lost(self.links[0], ProgramFailed(why))
+        self._leave(copy)
+        self._strike(copy.shard, why)
 
     @property
     def copies(self) -> list[Link]:
@@ -252,7 +255,8 @@ class Fed(Side):
         if link is self.links[0]:
             more = "; its copies can be asked, and nothing is changed without it" if len(self.places) > 1 else ""
             raise ProgramFailed(f"{why}{more}")
-        self.strike(link, str(why))
+        self._leave(link)
+        self._strike(link.shard, str(why))
 
     def _strike(self, place: Shard, why: str) -> None:
         prefix = f"{place}: "

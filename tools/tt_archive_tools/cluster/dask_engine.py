@@ -48,7 +48,7 @@ class DaskEngine:
                 self._local = _local_cluster(local, security)
             self.address = scheduler or str(self._local.scheduler_address)  # type: ignore[union-attr]
             # Calls go to the workers themselves, so that the scheduler carries nothing of what is asked.
-            self._client = Client(self.address, security=security, timeout=_START, direct_to_workers=True, set_as_default=False)
+            self._client = Client(self.address, security=security, timeout=_START, direct_to_workers=True)
             self._client.get_versions(check=True)
         except (OSError, ValueError, TimeoutError) as error:
             self._end_local()

@@ -14,7 +14,7 @@ from threading import Event
 from typing import Any, Sequence
 
 from .. import commands
-from ..copying import bring_up
+from ..copying import Gained, bring_up
 from ..errors import ToolError
 from ..locks import turn_is_taken
 from ..names import FILE as NAMES
@@ -143,25 +143,20 @@ class Hall:
             raise ToolError(f"there is no shard {shard}; the first of {len(self.desks)} is 0")
         return self.desks[shard]
 
-    def _brought_up(self, shard: int, copy: Desk) -> int:
-        """How many entries the copy lacked, and has now."""
-
-        def feed(script: bytes, count: int) -> None:
-            copy.ask(script, count)
-
+    def _brought_up(self, shard: int, copy: Desk) -> Gained:
         first = self.desks[shard][0]
         first.open()
         copy.open(anew=True)
-        return bring_up(first, copy, feed)
+        return bring_up(first, copy, first.ask, copy.ask)
 
-    def _place(self, desks: list[Desk], shard: int, place: Shard) -> int:
+    def _place(self, desks: list[Desk], shard: int, place: Shard) -> Gained:
         if not place.folder.is_absolute():
             raise ToolError(f"{place.folder} isn't a whole path from / on, as the worker {place.worker} needs it")
         if any(desk.place == place for desks in self.desks for desk in desks):
             raise ToolError(f"{place} has a place already")
         copy = Desk(place, self._engine, self.is_old)
         try:
-            count = self._brought_up(shard, copy)
+            gained = self._brought_up(shard, copy)
         except BaseException:
             copy.close()
             raise
@@ -169,7 +164,7 @@ class Hall:
         table[shard] = (*table[shard], place)
         self._note(table, level_copies(self.folder) | {(shard, place)})
         desks.append(copy)
-        return count
+        return gained
 
     def _drop(self, desks: list[Desk], shard: int, worker: str) -> str:
         number = next((number for number, desk in enumerate(desks) if desk.place.worker == worker), None)

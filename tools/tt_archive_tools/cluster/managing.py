@@ -34,7 +34,7 @@ def stop(options: argparse.Namespace) -> None:
 
 def place(options: argparse.Namespace) -> None:
     with locked(options.archive, claim_of(options)):
-        count = request(options.archive, "place", options.shard, options.worker, str(options.folder))
+        _, count = request(options.archive, "place", options.shard, options.worker, str(options.folder))
     print(f"{options.worker}:{options.folder} is a copy of shard {options.shard}, with {counted(count, 'entry', 'entries')} sent to it now")
 
 
@@ -49,7 +49,7 @@ def _row(place: Mapping[str, Any], places: Sequence[Mapping[str, Any]]) -> tuple
     if "why" in place:
         return (*found, "-", "-", "-", "-", one_line(f"lost: {place['why']}"))
     until = "-" if place["last"] is None else show_time(place["last"])
-    return (*found, place["machine"], str(place["program"]), str(place["entries"]), until, _state(place, places[0]))
+    return (*found, place["machine"], str(place["process"]), str(place["entries"]), until, _state(place, places[0]))
 
 
 def _state(place: Mapping[str, Any], first: Mapping[str, Any]) -> str:

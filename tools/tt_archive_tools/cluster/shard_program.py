@@ -24,8 +24,9 @@ class Where(NamedTuple):
     """Where a program is and what its journal has."""
 
     machine: str
-    worker: int
-    program: int
+    #: The processes of the worker and of the program.
+    worker_process: int
+    process: int
     entries: int
     last: int | None
 

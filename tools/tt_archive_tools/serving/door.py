@@ -110,6 +110,11 @@ class Door:
                     self._attend(visitor)
                 except (ToolError, ValueError) as error:
                     say_to(visitor, b"failed", str(error).encode("utf-8", "surrogateescape"))
+                except OSError:
+                    raise
+                except Exception as error:  # a fault of the tools themselves, which is told in their own output, too
+                    say_to(visitor, b"failed", f"the tt that was asked failed: {error!r}".encode("utf-8", "replace"))
+                    raise
         except OSError:
             pass  # it went away
         finally:
