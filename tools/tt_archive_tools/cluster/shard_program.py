@@ -88,6 +88,12 @@ class ShardProgram:
         self._held.close()
         return end
 
+    def __del__(self) -> None:
+        """A worker forgets it where whoever asked is gone. The program ends when it sees the end of its input, and with
+        it the lock; without this it would be kept for as long as the worker."""
+        if hasattr(self, "_program"):
+            self._program.end_input()
+
     def _exchange(self, script: bytes, count: int) -> bytes:
         if self._why:
             raise ProgramFailed(self._why)
