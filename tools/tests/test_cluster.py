@@ -19,7 +19,7 @@ from unittest import mock
 from support import DAY, ArchiveCase, answers, find_program, sample
 from tt_archive_tools import commands
 from tt_archive_tools.cluster.asking import FEEDS
-from tt_archive_tools.cluster.desk import Desk
+from tt_archive_tools.cluster.desk import Desk, Silent
 from tt_archive_tools.cluster.hall import Cutter, Hall
 from tt_archive_tools.cluster.running import check_reach, placed
 from tt_archive_tools.cluster.shard_program import ShardProgram
@@ -450,22 +450,41 @@ class WhereDaskFails(unittest.TestCase):
 
 
 class Desks(unittest.TestCase):
+    def setUp(self) -> None:
+        self.engine = mock.Mock()
+        self.desk = Desk(Shard(Path("/srv"), worker="a"), self.engine, lambda: True)
+
+    def asked(self) -> list[int]:
+        """The numbers of the calls that were made."""
+        return [call.args[2] for call in self.engine.call.call_args_list if call.args[1] == "ask"]
+
     def test_a_lost_place_is_opened_anew(self) -> None:
-        engine = mock.Mock()
-        engine.call.side_effect = [b"ok 1\n", ProgramFailed("the worker was killed"), b"ok 2\n"]
-        desk = Desk(Shard(Path("/srv"), worker="a"), engine, lambda: True)
+        self.engine.call.side_effect = [b"ok 1\n", ProgramFailed("the worker was killed"), ProgramFailed("the worker was killed"), b"ok 2\n"]
         with self.assertRaisesRegex(ProgramFailed, "isn't open"):
-            desk.ask(b"", 1)
-        desk.open()
-        self.assertEqual(desk.ask(b"a", 1), b"ok 1\n")
+            self.desk.ask(b"", 1)
+        self.desk.open()
+        self.assertEqual(self.desk.ask(b"a", 1), b"ok 1\n")
         for _ in range(2):
             with self.assertRaisesRegex(ProgramFailed, "the worker was killed"):
-                desk.ask(b"b", 1)
-        desk.open()
-        desk.ask(b"c", 1)
-        numbers = [call.args[2] for call in engine.call.call_args_list]
-        self.assertEqual(numbers, [1, 2, 1])
-        self.assertEqual(engine.open.call_count, 2)
+                self.desk.ask(b"b", 1)
+        self.desk.open()
+        self.desk.ask(b"c", 1)
+        self.assertEqual((self.asked(), self.engine.open.call_count), ([1, 2, 1], 2))
+
+    def test_a_silent_place_goes_on(self) -> None:
+        """Whether it got what was under way, its own count tells."""
+        for carried_out in (1, 2):
+            self.setUp()
+            self.engine.call.side_effect = [b"ok 1\n", Silent("the worker is silent"), Silent("the worker is silent"), carried_out, b"ok 2\n"]
+            self.desk.open()
+            self.desk.ask(b"a", 1)
+            with self.assertRaises(Silent):
+                self.desk.ask(b"b", 1)
+            with self.assertRaises(Silent):
+                self.desk.open()
+            self.desk.open()
+            self.desk.ask(b"c", 1)
+            self.assertEqual((self.asked(), self.engine.open.call_count), ([1, 2, carried_out + 1], 1))
 
 
 if __name__ == "__main__":

@@ -4,7 +4,9 @@ from __future__ import annotations
 
 import logging
 import time
+from contextlib import ExitStack
 from pathlib import Path
+from tempfile import TemporaryDirectory
 from typing import Any, Callable, Mapping, Sequence
 
 import dask
@@ -14,6 +16,7 @@ from distributed.security import Security
 from ..errors import ProgramFailed, ToolError
 from ..program import Shard
 from ..wording import counted
+from .desk import Silent
 from .shard_program import ShardProgram
 
 #: So often it is looked whether the worker of a call is still there, and so long it may be silent, in seconds.
@@ -43,9 +46,10 @@ class DaskEngine:
         security = certificates(tls) if tls else None
         self._command = list(command)
         self._local: LocalCluster | None = None
+        self._ending = ExitStack()
         try:
             if not scheduler:
-                self._local = _local_cluster(local, security)
+                self._local = _local_cluster(local, security, self._ending.enter_context(TemporaryDirectory(prefix="tt-cluster-")))
             self.address = scheduler or str(self._local.scheduler_address)  # type: ignore[union-attr]
             # Calls go to the workers themselves, so that the scheduler carries nothing of what is asked.
             self._client = Client(self.address, security=security, timeout=_START, direct_to_workers=True)
@@ -95,7 +99,7 @@ class DaskEngine:
                 if worker["last_seen"] != seen:
                     seen, since = worker["last_seen"], time.monotonic()
                 elif time.monotonic() - since > _SILENT:
-                    raise ProgramFailed(f"the worker is silent since {_SILENT:.0f} seconds") from None
+                    raise Silent(f"the worker is silent since {_SILENT:.0f} seconds") from None
             except ToolError:
                 raise
             except Exception as error:
@@ -129,12 +133,13 @@ class DaskEngine:
     def _end_local(self) -> None:
         if self._local:
             self._local.close(timeout=10)
+        self._ending.close()
 
 
-def _local_cluster(count: int, security: Security | None) -> LocalCluster:
+def _local_cluster(count: int, security: Security | None, folder: str) -> LocalCluster:
     return LocalCluster(
         n_workers=count, threads_per_worker=1, processes=True, memory_limit=0, host="127.0.0.1",
-        dashboard_address=None, worker_dashboard_address=None,
+        dashboard_address=None, worker_dashboard_address=None, local_directory=folder,
         protocol="tls://" if security else "tcp://", security=security, silence_logs=logging.CRITICAL,
     )  # fmt: skip
 
@@ -143,4 +148,5 @@ def _be_silent() -> None:
     """What Dask logs, pages of tracebacks where a worker dies, is said in one line by whoever asked."""
     for name in ("distributed", "tornado", "asyncio", "bokeh"):
         logging.getLogger(name).setLevel(logging.CRITICAL)
-    dask.config.set({"distributed.admin.low-level-log-length": 0, "distributed.scheduler.allowed-failures": 0})
+    # What is set here comes to workers that are started here, too.
+    dask.config.set({"logging": {"distributed": "critical"}, "distributed.scheduler.allowed-failures": 0})

@@ -11,6 +11,10 @@ from ..program import Shard
 from .shard_program import Where
 
 
+class Silent(ProgramFailed):
+    """A worker that doesn't answer, and may do so later."""
+
+
 class Engine(Protocol):
     """Runs `ShardProgram` on workers."""
 
@@ -18,7 +22,7 @@ class Engine(Protocol):
         """A `ShardProgram` for the place's folder. A ToolError tells why there is none."""
 
     def call(self, held: Any, name: str, *words: object) -> Any:
-        """What a method of it answers. A ToolError tells why there is no answer."""
+        """What a method of it answers. A ToolError tells why there is no answer, `Silent` that there may be one later."""
 
 
 class Desk:
@@ -40,14 +44,28 @@ class Desk:
         """Opens it where it isn't open, or was lost. Only where it is to be brought up afterwards, `anew`, may its folder
         be without an archive that has been there."""
         with self._turn:
-            if self._held is not None:
+            if self._held is not None and not self.why:
                 return
             try:
-                self._held = self._engine.open(self.place, self._is_old() and not anew)
+                if not self._is_there_again():
+                    self._held = self._engine.open(self.place, self._is_old() and not anew)
+                    self._number = 0
             except ToolError as error:
                 self.why = str(error)
                 raise
-            self._number, self.why = 0, ""
+            self.why = ""
+
+    def _is_there_again(self) -> bool:
+        """What was lost may have been silent alone. It then has carried out what was under way, or never got it."""
+        if self._held is None:
+            return False
+        try:
+            self._number = int(self._engine.call(self._held, "calls"))
+        except Silent:
+            raise
+        except ToolError:
+            self._held = None
+        return self._held is not None
 
     def ask(self, script: bytes, count: int) -> bytes:
         with self._turn:
@@ -78,8 +96,6 @@ class Desk:
     def close(self) -> tuple[int, str]:
         """Ends the program in order. Nobody can ask it afterwards."""
         with self._turn:
-            if self._held is None:
-                return 1, self.why
             try:
                 status, said = self._call("close")
             except ToolError as error:
@@ -88,11 +104,10 @@ class Desk:
             return status, said
 
     def _call(self, name: str, *words: object) -> Any:
-        if self._held is None:
+        if self.why:
             raise ProgramFailed(self.why)
         try:
             return self._engine.call(self._held, name, *words)
         except ToolError as error:
-            # Nothing is known of what was under way. Whoever comes next has a new program, which tells what it has.
-            self._held, self.why = None, str(error)
+            self.why = str(error)  # nothing is known of what was under way
             raise

@@ -65,6 +65,12 @@ class ShardProgram:
         self._number = number
         return self._exchange(script, count)
 
+    def calls(self) -> int:
+        """The number of the last call, for whoever doesn't know whether that came."""
+        if self._why:
+            raise ProgramFailed(self._why)
+        return self._number
+
     def where(self) -> Where:
         reply = next(iter(ReplyReader().replies(self._exchange(LAST_TIME, 1))))
         last = int(reply.detail) if isinstance(reply, Refused) and reply.name == "TimeBack" else None
