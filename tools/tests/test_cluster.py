@@ -18,6 +18,7 @@ from unittest import mock
 
 from support import DAY, ArchiveCase, answers, find_program, sample
 from tt_archive_tools import commands
+from tt_archive_tools.cluster import running
 from tt_archive_tools.cluster.asking import FEEDS
 from tt_archive_tools.cluster.desk import Desk, Silent
 from tt_archive_tools.cluster.hall import Cutter, Hall
@@ -29,6 +30,7 @@ from tt_archive_tools.places import SHARDS, level_copies
 from tt_archive_tools.program import Shard
 from tt_archive_tools.serving.door import Door, address
 from tt_archive_tools.serving.standing import Standing
+from tt_archive_tools.sides import FIRST_QUESTION
 
 QUESTIONS = 200
 START = 13_717 * DAY
@@ -267,7 +269,9 @@ class Clustered(ArchiveCase):
         with locked(self.archive, Claim()):
             with socket.socket(socket.AF_UNIX) as killed, address(self.archive / CLUSTER) as path:
                 killed.connect(path)
-                killed.sendall(FEEDS % (1, 0) + b"".join(commands.arrive(5, START + n, b"sent before the kill") for n in range(20)))
+                killed.sendall(FEEDS % (1, 0) + FIRST_QUESTION)
+                self.assertEqual(killed.recv(99), b"reply 5\nnone\n")
+                killed.sendall(b"".join(commands.arrive(5, START + n, b"sent before the kill") for n in range(20)))
         # The first file lies before the last of what was sent, which so is known before anything more is.
         self.assertIn("refused, TimeBack: 1\n", self.tt("import", "folder", self.tree(20)).stdout)
 
@@ -348,6 +352,12 @@ class Reaching(unittest.TestCase):
                 check_reach(scheduler, tls, local)
         for scheduler, tls, local in (("tcp://127.0.0.1:8786", None, 0), ("tls://head.example:8786", folder, 0), (None, None, 4)):
             check_reach(scheduler, tls, local)
+
+
+    def test_where_dask_is_absent(self) -> None:
+        absent = {"_SYSTEM": "/none/python3", "_ASKS_FOR_DASK": "raise SystemExit(1)"}
+        with mock.patch.multiple(running, **absent), self.assertRaisesRegex(ToolError, "install the package python3-distributed"):
+            running._again()
 
 
 class FakeFuture:

@@ -222,6 +222,8 @@ class FourWorkers(Started):
         self.assertIn("a cluster is started in", self.refused("--local", 1))
         self.assertEqual(self.tt("cluster", "stop").stdout.count("ended in order\n"), 8)
         self.assertIn("no cluster is started", self.tt("find", "text", status=1).stderr)
+        self.start("--local", 4)
+        self.assertIn("40 documents", self.tt("find", "text").stdout)
 
     def refused(self, *words: object) -> str:
         run = [PYTHON, str(TOOLS / "tt"), "-C", str(self.archive), "cluster", "start", *map(str, words)]
@@ -287,7 +289,7 @@ class OverTls(Started):
         self.write_table(copies=True, worker="worker-")
         until = time.monotonic() + 60
         while True:
-            self.start("--scheduler", address, "--tls", self.folder / "tls")
+            started = self.start("--scheduler", address, "--tls", self.folder / "tls")
             if "8 of 8 places" in self.opened or time.monotonic() > until:
                 break
             self.tt("cluster", "stop")
@@ -296,6 +298,13 @@ class OverTls(Started):
         self.tt("import", "folder", tree)
         self.assertEqual(self.journals(), self.by_pipes(tree))
         self.assertEqual(self.copies(), self.journals())
+        # The process with the door is killed. The workers forget its programs, which end in order, and another one opens all.
+        wanted = self.tt("find", "w3").stdout
+        started.kill()
+        started.communicate()
+        self.assertIn("no cluster is started", self.tt("find", "w3", status=1).stderr)
+        self.start("--scheduler", address, "--tls", self.folder / "tls")
+        self.assertEqual((self.opened, self.tt("find", "w3").stdout), ("4 archives on 4 workers: 8 of 8 places open\n", wanted))
         # Whoever has no certificate isn't spoken to.
         client = "import sys; from distributed import Client; Client(sys.argv[1], timeout=3)"
         for there in (address, address.replace("tls", "tcp")):

@@ -89,6 +89,7 @@ class ShardProgram:
 
     def close(self) -> tuple[int, str]:
         """Ends the program in order, and gives its status and what it said."""
+        self._why = self._why or "it was closed"
         self._program.end_input()
         end = self._program.wait()
         self._held.close()
