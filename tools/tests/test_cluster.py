@@ -198,6 +198,15 @@ class Clustered(ArchiveCase):
         self.assertEqual(self.tt("find", "w3").stdout, wanted)
         self.assertEqual(self.tt("cluster", "status").stdout.count("level"), 4)
 
+    def test_a_long_text(self) -> None:
+        text = "the longest text " * 200_000
+        tree = self.tree(4)
+        (tree / "long.txt").write_text(text)
+        os.utime(tree / "long.txt", (START, START))
+        self.assertIn("5 versions", self.tt("import", "folder", tree).stdout)
+        self.assertEqual(self.tt("show", "long.txt").stdout, text + "\n")
+        self.assertEqual(self.journals("copy"), self.journals())
+
     def test_a_lost_place_and_its_copy(self) -> None:
         self.tt("import", "folder", self.tree(90))
         wanted = self.tt("find", "w3").stdout

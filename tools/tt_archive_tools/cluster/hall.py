@@ -9,9 +9,10 @@ from __future__ import annotations
 
 import json
 import socket
+from concurrent.futures import ThreadPoolExecutor
 from pathlib import Path
 from threading import Event
-from typing import Any, Sequence
+from typing import Any, Callable, Sequence
 
 from .. import commands
 from ..copying import Gained, bring_up
@@ -23,8 +24,8 @@ from ..program import Shard
 from ..serving.door import only_asks, say_to
 from .desk import Desk, Engine
 
-#: So much is received at once, and so many bytes of commands go to a program in one call, or one command more.
-_PIECE, _CALL = 1 << 16, 1 << 20
+#: So much is received before a program is called, which whoever asks meanwhile waits for; a command may be longer.
+_CALL = 1 << 16
 
 
 class Cutter:
@@ -77,7 +78,7 @@ class Hall:
     def attend(self, visitor: socket.socket) -> None:
         received = Cutter()
         while not (hello := received.line()):
-            if not (data := visitor.recv(_PIECE)):
+            if not (data := visitor.recv(_CALL)):
                 return
             received.add(data)
         match hello.split(maxsplit=1):
@@ -123,11 +124,11 @@ class Hall:
     def _done(self, what: str, *words: Any) -> Any:
         match what, words:
             case "status", ():
-                return [[_told(desk) for desk in desks] for desks in self.desks]
+                return self.each(_told)
             case "stop", ():
-                ends = [[str(desk.place), *desk.close()] for desks in self.desks for desk in desks]
+                ends = self.each(lambda desk: [str(desk.place), *desk.close()])
                 self.stopped.set()
-                return ends
+                return [end for places in ends for end in places]
         self._check_turn()
         match what, words:
             case "level", (int(shard), int(place)):
@@ -137,6 +138,12 @@ class Hall:
             case "drop", (int(shard), str(worker)):
                 return self._drop(self._archive(shard), shard, worker)
         raise ToolError(f"`tt cluster` doesn't know how to do {what}")
+
+    def each(self, what: Callable[[Desk], Any]) -> list[list[Any]]:
+        """What is done at each desk, at all of them side by side: a machine that is away is waited for once."""
+        with ThreadPoolExecutor(sum(map(len, self.desks))) as together:
+            under_way = [[together.submit(what, desk) for desk in desks] for desks in self.desks]
+            return [[done.result() for done in places] for places in under_way]
 
     def _archive(self, shard: int) -> list[Desk]:
         if not 0 <= shard < len(self.desks):
@@ -194,10 +201,10 @@ class Hall:
 
 def _receive(visitor: socket.socket, received: Cutter) -> bool:
     """Waits for more of a script, and takes what is there; False where nothing more comes."""
-    flags = 0
-    while len(received) < _CALL:
+    most, flags = len(received) + _CALL, 0
+    while len(received) < most:
         try:
-            data = visitor.recv(_PIECE, flags)
+            data = visitor.recv(_CALL, flags)
         except BlockingIOError:
             break
         if not data:

@@ -7,7 +7,6 @@ import ipaddress
 import os
 import subprocess
 import sys
-from concurrent.futures import ThreadPoolExecutor
 from importlib.util import find_spec
 from pathlib import Path
 from typing import NoReturn, Sequence
@@ -60,8 +59,7 @@ def start(options: argparse.Namespace) -> None:
         pass  # this is how it ends, too
     finally:
         door.close()
-        for desk in (desk for desks in hall.desks for desk in desks):
-            desk.close()
+        hall.each(Desk.close)
         engine.close()
 
 
@@ -113,9 +111,7 @@ def _open(hall: Hall) -> None:
         except ToolError as error:
             say(f"{desk.place}: {error}")
 
-    every = [desk for desks in hall.desks for desk in desks]
-    with ThreadPoolExecutor(len(every)) as together:
-        list(together.map(opened, every))
+    hall.each(opened)
 
 
 def _opened(hall: Hall, workers: Sequence[str]) -> str:
