@@ -170,7 +170,8 @@ class Copies(ArchiveCase):
 
     def test_copies_that_differ(self) -> None:
         self.tt("import", "folder", self.tree)
-        other = self.only("copy-0", f"sed -u 2q; echo delete 2 {START + DAY}")
+        # To the question for its last time the copy answers that there is no such document.
+        other = self.only("copy-0", "sed -u s/4294967295.0$/4294967295\\ 1099511627775/")
         self.assertIn("so they are no copies of one another", self.tt("import", "folder", self.tree, status=1, TT_ARCHIVE=other).stderr)
 
     def test_after_a_kill_nothing_acknowledged_is_missing(self) -> None:

@@ -10,7 +10,6 @@ import signal
 import socket
 import subprocess
 import sys
-import tempfile
 import threading
 import time
 import unittest
@@ -285,7 +284,8 @@ class OverTls(Started):
         address = f"tls://127.0.0.1:{port}"
         scheduler = self.member("distributed.cli.dask_scheduler", "--host", "127.0.0.1", "--port", str(port), "--protocol", "tls")
         for number in range(4):
-            self.member("distributed.cli.dask_worker", address, "--name", f"worker-{number}", "--nthreads", "1", "--host", "127.0.0.1", "--protocol", "tls", "--local-directory", tempfile.mkdtemp(dir=self.folder))
+            more = ["--nthreads", "1", "--host", "127.0.0.1", "--protocol", "tls", "--local-directory", str(self.folder / "space")]
+            self.member("distributed.cli.dask_worker", address, "--name", f"worker-{number}", *more)
         self.write_table(copies=True, worker="worker-")
         until = time.monotonic() + 60
         while True:
