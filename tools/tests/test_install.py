@@ -153,7 +153,7 @@ class Manuals(unittest.TestCase):
 
     def test_every_command_has_its_words(self) -> None:
         page = manuals()["tt.1"]
-        for words in ("find", "import mediawiki", "serve", "timeline"):
+        for words in ("find", "import mediawiki", "serve", "timeline", "cluster start", "cluster place"):
             self.assertIn(f'.SS "{words}"', page)
         self.assertEqual(inline(".a `-b` **c** [d](e) *f*"), ".a \\fB\\-b\\fR \\fBc\\fR d \\fIf\\fR")
         self.assertEqual(page.count("\n'"), 0)

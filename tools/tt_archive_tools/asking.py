@@ -7,13 +7,14 @@ import sys
 from typing import NamedTuple
 
 from . import commands
-from .collection import SHARDS, Collection, shards_of
+from .collection import Collection
 from .errors import BadQuery, ToolError
 from .found import Part, pieces
 from .locks import Use, locked
 from .names import FILE as NAMES
 from .names import NameTable
 from .opening import archive_of, claim_of
+from .places import SHARDS, shards_of
 from .program import find_program
 from .queries import fault_shown, hints, scoring_keys
 from .replies import Gone, Hit, Rows, Span, Text, merge_rows

@@ -72,6 +72,7 @@ def _parser() -> argparse.ArgumentParser:
     _add_documents(kinds)
     _add_pictures(kinds)
     _add_serving(kinds)
+    _add_cluster(kinds.add_parser("cluster", help="keep the archives of a split collection open on the workers of a Dask cluster"))
     return parser
 
 
@@ -172,3 +173,19 @@ def _add_serving(kinds: Kinds) -> None:
     serve.add_argument("--port", type=int, default=8080, metavar="N", help="the port (8080); 0 takes a free one")
     serve.add_argument("--bind", default="127.0.0.1", metavar="ADDRESS", help="the address (127.0.0.1, which only this machine reaches)")
     serve.add_argument("--name", action="append", default=[], metavar="HOST", help="a name under which browsers may ask")
+
+
+def _add_cluster(parser: argparse.ArgumentParser) -> None:
+    kinds = parser.add_subparsers(required=True, metavar="COMMAND")
+    start = _command(kinds, "start", "cluster.running.start", "open each archive on its worker, and stay until it is stopped")
+    start.add_argument("--local", type=int, default=0, metavar="N", help="start N workers on this machine")
+    start.add_argument("--scheduler", metavar="ADDRESS", help="join the scheduler at tls://HOST:PORT; tcp:// only on this machine")
+    start.add_argument("--tls", type=Path, metavar="FOLDER", help="the cluster's certificate: ca.pem, cert.pem and key.pem")
+    _command(kinds, "status", "cluster.managing.status", "tell of each place where it is, what it has, and why it is lost")
+    _command(kinds, "stop", "cluster.managing.stop", "end all programs in order, and the cluster")
+    place = _command(kinds, "place", "cluster.managing.place", "make a copy of a shard on a worker")
+    drop = _command(kinds, "drop", "cluster.managing.drop", "give up a shard's place on a worker")
+    for one in (place, drop):
+        one.add_argument("shard", type=int, metavar="SHARD", help="its number, from 0 on")
+        one.add_argument("worker", metavar="WORKER", help="the worker's name")
+    place.add_argument("folder", type=Path, metavar="FOLDER", help="a whole path on the worker's machine; made where it isn't there")

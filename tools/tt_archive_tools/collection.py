@@ -1,57 +1,34 @@
 """An archive in its folder, or N of them that share its documents: opened, asked and fed.
 
-A folder with a file `shards.tsv` is N archives, one to a line: its folder and, where it is on
-another machine, a tab and the login there. Document d stands in number d mod N. Any other folder
-is one archive. Names and what was imported stand in the folder itself.
+A folder with a file `shards.tsv` is N archives, one to a line, each with its copies (`places.py`). Document d stands
+in number d mod N. Any other folder is one archive. Names and what was imported stand in the folder itself.
 """
 
 from __future__ import annotations
 
 import os
-from collections import deque
 from contextlib import ExitStack
-from dataclasses import dataclass, replace
-from itertools import repeat
+from dataclasses import replace
+from functools import partial
 from pathlib import Path
-from selectors import EVENT_READ, PollSelector
+from selectors import PollSelector
 from types import TracebackType
-from typing import TYPE_CHECKING, Any, Callable, Iterable, Iterator, Sequence
+from typing import Any, Iterable, Sequence
 
-from . import commands
+from .copying import Gained, JournalFile, bring_up
 from .errors import BadQuery, InUse, NotBuilt, ProgramFailed, ToolError
 from .ledger import FILE as IMPORTS
-from .locks import DOOR, Claim, Lock, Use, locked, patiently
+from .locks import CLUSTER, DOOR, Claim, Lock, Use, locked, patiently
 from .names import FILE as NAMES
 from .names import NameTable
-from .program import AT_WORK, JOURNAL, Program, Shard
+from .places import Places, level_copies, note_level, shards_of, table_of
+from .program import JOURNAL, Program, Shard
 from .replies import Refused, Reply, Rows, merge_rows
+from .sides import FIRST_QUESTION, LAST_TIME, Asked, End, Fed, Handler, Link, Side, exchange, explained_end
+from .wording import counted, say
 
-if TYPE_CHECKING:
-    from .serving.visit import Visit
-
-SHARDS = "shards.tsv"
 #: So many commands may be under way in all; it bounds the memory for what isn't answered yet.
 _MOST_UNDER_WAY = 8_192
-
-#: What is done with a reply: the token given with the command, and the reply.
-Handler = Callable[[Any, Reply], None]
-
-
-def shards_of(folder: Path) -> list[Shard]:
-    """The archives of a collection."""
-    table = folder / SHARDS
-    if not table.exists():
-        return [Shard(folder)]
-    shards = []
-    for line in table.read_text().splitlines():
-        place, _, login = line.partition("\t")
-        shards.append(Shard(Path(place), login) if login else Shard(folder / place))
-    if not shards:
-        raise ToolError(f"{table}: there is no shard")
-    for shard in shards:
-        if not shard.login and not shard.folder.is_dir():
-            raise ToolError(f"{table}: there is no folder {shard.folder}")
-    return shards
 
 
 def archives_in(folder: Path) -> list[Shard]:
@@ -64,33 +41,26 @@ def archives_in(folder: Path) -> list[Shard]:
     return shards
 
 
-@dataclass
-class _Side:
-    """One archive's program, and what it has not yet answered."""
-
-    program: Program | Visit
-    under_way: deque[tuple[Any, Handler]]
-
-
 class Collection:
     """A context in which the archive is locked, and its programs run."""
 
     def __init__(self, folder: Path, command: Sequence[str], claim: Claim = Claim()) -> None:
         self.folder = folder
         self.shards = archives_in(folder)
+        self._table = table_of(folder)
         self._command = command
         self._claim = claim
         self._locked = ExitStack()
         self._printing = PollSelector()
-        self._sides: list[_Side] = []
-        self._count = 0
+        self._sides: list[Side] = []
         self._lock: Lock | None = None
+        #: The door of the process that has the programs, where it isn't this one.
+        self._door = ""
 
     def __enter__(self) -> Collection:
         try:
             patiently(self._come_in, self._claim)
             self.names = NameTable(self.folder / NAMES)
-            self._check_journals()
             if self._lock:
                 patiently(self._start, self._claim)
         except BaseException:
@@ -101,11 +71,12 @@ class Collection:
     def __exit__(
         self, kind: type[BaseException] | None, error: BaseException | None, trace: TracebackType | None
     ) -> None:
-        ends = self._close()
+        is_settled = not self._under_way()
+        ends = self._close(is_settled)
         if kind is None:
-            for shard, (status, said) in zip(self.shards, ends):
-                if status != 0:
-                    raise ProgramFailed(f"{shard}: {_explained(said, shard, status)}")
+            for end in ends:
+                if end.status != 0:
+                    raise ProgramFailed(f"{end.shard}: {explained_end(end)}")
 
     def side_of(self, doc: int) -> int:
         """Which of the archives has the document."""
@@ -114,20 +85,14 @@ class Collection:
     def send(self, side: int, script: bytes, tokens: Sequence[Any], handle: Handler) -> None:
         """Sends commands that have one reply each, to be handled with one token each; handles the
         replies that are there already."""
-        self._sides[side].under_way.extend(zip(tokens, repeat(handle)))
-        self._count += len(tokens)
-        program = self._sides[side].program
-        rest = memoryview(script)
-        while rest := program.write(rest):
-            self._take(0)
-            program.wait_for_room()
+        self._sides[side].send(script, tokens, handle, self._take_what_is_there)
         self._take(0)
-        while self._count > _MOST_UNDER_WAY:
+        while self._under_way() > _MOST_UNDER_WAY:
             self._take(None)
 
     def settle(self) -> None:
         """Handles the replies to everything sent."""
-        while self._count:
+        while self._under_way():
             self._take(None)
 
     def ask_side(self, side: int, question: bytes) -> Reply:
@@ -152,7 +117,7 @@ class Collection:
         last time, or because there is no document.
         """
         times: list[int | None] = []
-        for reply in self.ask_all(commands.delete(commands.NO_DOCUMENT, 0)):
+        for reply in self.ask_all(LAST_TIME):
             match reply:
                 case Refused(name="TimeBack", detail=last):
                     times.append(int(last))
@@ -188,96 +153,162 @@ class Collection:
             raise BadQuery(int(reply.detail))
         raise ToolError(f"the question was refused: {reply}")
 
+    def _under_way(self) -> int:
+        return sum(len(side.under_way) for side in self._sides)
+
     def _take(self, timeout: float | None) -> None:
         """Handles the replies that are there, or that come first."""
         for key, _ in self._printing.select(timeout):
-            side: _Side = key.data
-            for reply in _replies(side.program):
-                if not side.under_way:
-                    raise ProgramFailed(f"{side.program.shard}: a reply to nothing that was asked: {reply}")
-                token, handle = side.under_way.popleft()
-                self._count -= 1
-                handle(token, reply)
+            side, link = key.data
+            if link in side.links:  # what was handled before may have ended it
+                side.take(link)
 
-    def _check_journals(self) -> None:
+    def _take_what_is_there(self) -> None:
+        self._take(0)
+
+    def _check_journal(self, shard: Shard) -> None:
         """A program makes a new archive where there is none. Where documents have names, it was lost."""
-        for shard in self.shards:
-            if len(self.names) and not (shard.login or (shard.folder / JOURNAL).exists()):
-                raise ToolError(f"{shard.folder / JOURNAL} is gone, and {self.folder / NAMES} names documents of it")
+        if shard.is_here and not (shard.folder / JOURNAL).exists():
+            raise ToolError(f"{shard.folder / JOURNAL} is gone, and {self.folder / NAMES} names documents of it")
 
     def _come_in(self) -> None:
-        """Takes the folder; a tt that only asks is let in by a `tt serve` that has it."""
+        """Takes the folder; a tt that only asks is let in by a `tt cluster` or a `tt serve` that has it."""
         claim = self._claim
         if claim.use is Use.ASKS:
-            if (self.folder / DOOR).exists() and self._is_let_in():
+            if self._is_let_in(CLUSTER) or self._is_let_in(DOOR):
                 return
-            claim = replace(claim, wait=0)  # and tries both again
+            claim = replace(claim, wait=0)  # and tries all again
         self._lock = self._locked.enter_context(locked(self.folder, claim))
+        if (self.folder / CLUSTER).exists():
+            from .serving.door import is_open  # loaded where it is needed
 
-    def _is_let_in(self) -> bool:
+            self._door = CLUSTER if is_open(self.folder / CLUSTER) else ""
+
+    def _is_let_in(self, door: str) -> bool:
+        if not (self.folder / door).exists():
+            return False
+        self._door = door
         try:
             self._start()
         except ConnectionError:  # whoever opened that door is gone
             self._end()
-        return bool(self._sides)
+            self._door = ""
+        return bool(self._door)
 
-    def _program(self, side: int) -> Program | Visit:
-        if self._lock:
-            return Program(self._command, self.shards[side], self._lock)
-        from .serving.visit import Visit  # loaded where it is needed
+    def _reached(self, side: int, place: int) -> Link:
+        """Opens the link to a place: through the door of whoever has its program, or a program of this tt's own."""
+        shard = self._table[side][place]
+        if self._door:
+            return self._visit(shard, side, place)
+        if shard.worker:
+            raise ToolError(f"{shard} is on a worker, and no cluster is started: `tt -C {self.folder} cluster start` starts one")
+        is_old = bool(len(self.names)) and not (place and self._changes)
+        if is_old:
+            self._check_journal(shard)
+        return Program(self._command, shard, self._lock, is_old)
 
-        return Visit(self.folder, self.shards[side], side)
+    def _visit(self, shard: Shard, side: int, place: int) -> Link:
+        from .serving.visit import Visit  # loaded where they are needed
+
+        if self._door == DOOR:
+            from .serving.door import HELLO
+
+            return Visit(self.folder / DOOR, HELLO % side, shard)
+        from .cluster.asking import ASKS, FEEDS
+
+        return Visit(self.folder / CLUSTER, (FEEDS if self._changes else ASKS) % (side, place), shard)
 
     def _start(self) -> None:
         """Starts the programs, and returns when each has its archive, as it then answers a first question."""
         self._printing = PollSelector()
-        self._count = 0
-        for side in range(len(self.shards)):
-            self._sides.append(_Side(self._program(side), deque()))
-            self._printing.register(self._sides[-1].program, EVENT_READ, self._sides[-1])
+        level = level_copies(self.folder)
         try:
-            for side in range(len(self._sides)):
-                self.send(side, commands.show(commands.NO_DOCUMENT, 0), [side], lambda *answered: None)
+            for number, places in enumerate(self._table):
+                side = self._side(number, places, level)
+                self._sides.append(side)
+                side.open()
+            for side in self._sides:
+                side.send(FIRST_QUESTION, [None], _nothing, self._take_what_is_there)
             self.settle()
+            self._bring_up(level)
         except InUse:
             self._end()
             raise
 
-    def _end(self) -> list[tuple[int, str]]:
+    def _side(self, number: int, places: Places, level: set[tuple[int, Shard]]) -> Side:
+        reach = partial(self._reached, number)
+        if self._changes:
+            return Fed(places, reach, self._printing)
+        if self._door == DOOR:
+            places = places[:1]  # whoever is behind it chooses
+        known = [place == 0 or (number, it) in level for place, it in enumerate(places)]
+        return Asked(places, reach, self._printing, known, again=self._door == CLUSTER)
+
+    @property
+    def _changes(self) -> bool:
+        return self._lock is not None and self._claim.use is Use.CHANGES
+
+    def _fed(self) -> list[tuple[int, Fed]]:
+        return [(number, side) for number, side in enumerate(self._sides) if isinstance(side, Fed)]
+
+    def _bring_up(self, level: set[tuple[int, Shard]]) -> None:
+        """Brings up the copies that may lack something. From here on no copy is known to be level."""
+        for number, side in self._fed():
+            known = {shard for archive, shard in level if archive == number}
+            if self._pass(number, side, known):
+                self._pass(number, side, set())  # the others lack what the first place has now
+        if level and self._changes:
+            note_level(self.folder, ())
+
+    def _pass(self, number: int, side: Fed, known: set[Shard]) -> bool:
+        """Makes each copy of an archive level that isn't known to be so, and answers whether the first place was behind."""
+        is_behind = False
+        for link in list(side.copies):
+            try:
+                # One that was level may have been lost, and made anew.
+                if link.shard in known and exchange(link, LAST_TIME, 1) == exchange(side.links[0], LAST_TIME, 1):
+                    continue
+                gained = self._levelled(number, side, link)
+            except (ToolError, OSError) as error:
+                side.strike(link, str(error))
+                continue
+            for place, count in zip((side.places[0], link.shard), gained):
+                if count:
+                    say(f"{place} was brought up by {counted(count, 'entry', 'entries')}")
+            is_behind |= gained.first > 0
+        return is_behind
+
+    def _levelled(self, number: int, side: Fed, copy: Link) -> Gained:
+        if self._door:
+            from .cluster.asking import request  # loaded where it is needed
+
+            return Gained(*request(self.folder, "level", number, side.places.index(copy.shard)))
+        journals = JournalFile(side.places[0]), JournalFile(copy.shard)
+        return bring_up(*journals, partial(exchange, side.links[0]), partial(exchange, copy))
+
+    def _end(self) -> list[End]:
         """Ends the programs, whose last replies nobody takes."""
         try:
             for side in self._sides:
-                side.program.end_input()
-            return [side.program.wait() for side in self._sides]
+                side.end()
+            return [end for side in self._sides for end in side.ends()]
         finally:
             self._sides.clear()
 
-    def _close(self) -> list[tuple[int, str]]:
+    def _close(self, is_settled: bool = False) -> list[End]:
+        """Ends the programs, and gives the folder up. Where all was answered, the copies that are still there are level."""
+        copies = [(number, link.shard) for number, side in self._fed() for link in side.copies]
         try:
-            return self._end()
+            ends = self._end()
+            if is_settled and copies and all(end.status == 0 for end in ends):
+                note_level(self.folder, copies)
+            return ends
         finally:
             self._locked.close()
 
 
-def _replies(program: Program | Visit) -> Iterator[Reply]:
-    """The replies that are there. An error where the program ended, or what it prints is none."""
-    wrong = ""
-    try:
-        yield from program.replies()
-    except ProgramFailed as failed:
-        wrong = str(failed)
-    if wrong or program.ended:
-        program.end_input()
-        status, said = program.wait()
-        if status == AT_WORK:
-            raise InUse(f"another program is at work in {program.shard}, which no tt of this folder started")
-        raise ProgramFailed(f"{program.shard}: {_explained(said or wrong, program.shard, status)}")
-
-
-def _explained(said: str, shard: Shard, status: int) -> str:
-    from .damage import explained, killed  # loaded where something is wrong
-
-    return killed(status) or explained(said, shard) or f"tt_archive ended with status {status}"
+def _nothing(token: Any, reply: Reply) -> None:
+    """What is done with the reply to a first question."""
 
 
 def latest(times: Iterable[int | None]) -> int | None:

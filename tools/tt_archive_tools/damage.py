@@ -59,7 +59,7 @@ def explained(said: str, shard: Shard) -> str:
 
 def _plans(shard: Shard) -> list[StoredPlan]:
     """The plans that stand, where the journal is here and can be read."""
-    if shard.login:
+    if not shard.is_here:
         return []
     try:
         return list(live_plans(shard.folder).values())

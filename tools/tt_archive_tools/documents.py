@@ -36,7 +36,7 @@ class Document:
 
     def history(self) -> list[Entry]:
         """Its versions and ends."""
-        if self.shard.login:
+        if not self.shard.is_here:
             raise ToolError(f"{self.name} is in {self.shard}, and its versions can be read only there")
         found = history(self.shard.folder, self.number)
         if not found:
@@ -94,7 +94,7 @@ def names(options: argparse.Namespace) -> None:
 
 def why_gone(shard: Shard, doc: int, at: int) -> str:
     """Why a document has no text at a time, and which time has one; nothing where the archive isn't here."""
-    return "" if shard.login else _since(history(shard.folder, doc), at)
+    return "" if not shard.is_here else _since(history(shard.folder, doc), at)
 
 
 def _document(options: argparse.Namespace) -> Document:
@@ -138,7 +138,7 @@ def _held(shards: Sequence[Shard]) -> dict[int, tuple[str, str]]:
     versions: dict[int, int] = {}
     ends: dict[int, str] = {}
     for shard in shards:
-        for entry in entries(shard.folder, texts=False) if not shard.login else ():
+        for entry in entries(shard.folder, texts=False) if shard.is_here else ():
             if entry.plan is None:
                 versions[entry.doc] = versions.get(entry.doc, 0) + entry.arrives
                 ends[entry.doc] = "now" if entry.arrives else show_time(entry.time)

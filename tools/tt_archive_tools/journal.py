@@ -11,7 +11,7 @@ from typing import BinaryIO, Iterable, Iterator, NamedTuple
 from .errors import InputError
 from .program import JOURNAL, PAGES, Shard
 
-_HEADER = b"TIMETRAVELTEXT\x00\x01"
+HEADER = b"TIMETRAVELTEXT\x00\x01"
 _OPEN = b"\xa5"
 _PAGE = 4_096
 _ARRIVE, _DELETE, _PLAN = 1, 2, 3
@@ -44,9 +44,14 @@ class Entry(NamedTuple):
     time: int
     text: bytes
     plan: StoredPlan | None = None
-    #: Where the text stands in the journal, and how many bytes it has.
+    #: Where the text (or what a plan has behind its first 13 bytes) stands in the journal, and how many bytes it has.
     at: int = 0
     size: int = 0
+
+    @property
+    def after(self) -> int:
+        """Where the gate behind the entry stands."""
+        return self.at + self.size
 
     @property
     def arrives(self) -> bool:
@@ -62,7 +67,7 @@ def entries(folder: Path, texts: bool) -> Iterator[Entry]:
     path = folder / JOURNAL
     try:
         with open(path, "rb") as file:
-            if path.stat().st_size > len(_HEADER) + 1:
+            if path.stat().st_size > len(HEADER) + 1:
                 yield from _records(file, path, texts)
     except OSError as error:
         raise InputError(str(path), error.strerror or str(error)) from None
@@ -75,12 +80,12 @@ def heads(folder: Path) -> Iterator[tuple[int, int, bool]]:
     try:
         with open(path, "rb") as file:
             size = path.stat().st_size
-            if size <= len(_HEADER) + 1:
+            if size <= len(HEADER) + 1:
                 return
             with mmap.mmap(file.fileno(), size, access=mmap.ACCESS_READ) as data:
-                if data[: len(_HEADER)] != _HEADER:
+                if data[: len(HEADER)] != HEADER:
                     raise InputError(str(path), "no archive's journal")
-                gate = len(_HEADER)
+                gate = len(HEADER)
                 while data[gate] == _OPEN[0]:
                     length, tag, doc, time = _HEAD.unpack_from(data, gate + 1)
                     if tag != _PLAN:
@@ -107,9 +112,13 @@ def text_of(folder: Path, entry: Entry) -> bytes:
 
 
 def _records(file: BinaryIO, path: Path, texts: bool) -> Iterator[Entry]:
-    if file.read(len(_HEADER)) != _HEADER:
+    if file.read(len(HEADER)) != HEADER:
         raise InputError(str(path), "no archive's journal")
-    gate = len(_HEADER)
+    return entries_from(file, len(HEADER), str(path), texts)
+
+
+def entries_from(file: BinaryIO, gate: int, path: str, texts: bool) -> Iterator[Entry]:
+    """The entries from a gate on, at which the file stands. Each one's `after` is the next gate."""
     while file.read(1) == _OPEN:
         size = int.from_bytes(file.read(4), "big")
         body, gate = gate + 5, gate + 5 + size
@@ -117,7 +126,7 @@ def _records(file: BinaryIO, path: Path, texts: bool) -> Iterator[Entry]:
         tag = head[0] if head else 0
         rest = size - len(head)
         if tag == _PLAN:
-            yield Entry(tag, 0, 0, b"", _plan(head + file.read(rest), path))
+            yield Entry(tag, 0, 0, b"", _plan(head + file.read(rest), path), body + len(head), rest)
             continue
         text = file.read(rest) if texts else b""
         if not texts:
@@ -126,7 +135,7 @@ def _records(file: BinaryIO, path: Path, texts: bool) -> Iterator[Entry]:
         yield Entry(tag, doc, time, text, at=body + len(head), size=rest)
 
 
-def _plan(body: bytes, path: Path) -> StoredPlan:
+def _plan(body: bytes, path: str) -> StoredPlan:
     """What a plan's entry says, behind its tag and layout."""
     try:
         kind, at = body[2], 3
@@ -139,7 +148,7 @@ def _plan(body: bytes, path: Path) -> StoredPlan:
         reach = max((_PAGE * page + size for page, size in places.items()), default=0)
         return StoredPlan(body[at + 17 : end].decode(), form, horizon, len(segments), frozenset(places), reach)
     except (IndexError, KeyError, UnicodeDecodeError, struct.error):
-        raise InputError(str(path), "a plan's entry can't be read") from None
+        raise InputError(path, "a plan's entry can't be read") from None
 
 
 def _number(body: bytes, at: int, size: int) -> int:
@@ -190,7 +199,7 @@ def summary(shards: Iterable[Shard]) -> Summary:
     """What the archives hold that are on this machine."""
     held = Summary()
     for shard in shards:
-        if not shard.login:
+        if shard.is_here:
             held.add(_summary(shard.folder))
     return held
 

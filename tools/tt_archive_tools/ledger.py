@@ -119,6 +119,7 @@ class Ledger:
             *([escape(line.words)] if line.begins else []),
         )
         with open(self._path, "ab") as file:
+            file.truncate(_whole(self._path.read_bytes()))  # what stands behind whole lines was never used
             file.write("\t".join(fields).encode() + b"\n")
             file.flush()
             os.fsync(file.fileno())
@@ -127,20 +128,23 @@ class Ledger:
 
 def _read(path: Path) -> list[Line]:
     content = path.read_bytes()
-    whole = content.rfind(b"\n") + 1
-    if whole < len(content):
-        os.truncate(path, whole)
-    lines = []
-    for count, text in enumerate(content[:whole].decode("utf-8", "replace").split("\n")[:-1], 1):
-        match text.split("\t"):
-            case ["begin" | "with" | "end" | "refused" as kind, last, changes, source, *words] if len(words) <= 1:
-                try:
-                    lines.append(Line(kind, _number(last), _number(changes), *map(unescape, [source, *words])))
-                    continue
-                except ValueError:
-                    pass
-        raise ToolError(f"{path}:{count}: no line of a ledger of imports")
-    return lines
+    lines = content[: _whole(content)].decode("utf-8", "replace").split("\n")[:-1]
+    return [_line(text, f"{path}:{count}") for count, text in enumerate(lines, 1)]
+
+
+def _whole(content: bytes) -> int:
+    """How many bytes the whole lines have."""
+    return content.rfind(b"\n") + 1
+
+
+def _line(text: str, at: str) -> Line:
+    match text.split("\t"):
+        case ["begin" | "with" | "end" | "refused" as kind, last, changes, source, *words] if len(words) <= 1:
+            try:
+                return Line(kind, _number(last), _number(changes), *map(unescape, [source, *words]))
+            except ValueError:
+                pass
+    raise ToolError(f"{at}: no line of a ledger of imports")
 
 
 def _number(text: str) -> int | None:

@@ -30,8 +30,8 @@ from .wording import one_line
 FILE = ".tt.lock"
 #: Locked by a tt that changes the archive, or waits to.
 TURN = ".tt.turn"
-#: Where a `tt serve` answers the questions of others.
-DOOR = ".tt.socket"
+#: Where a `tt serve` answers the questions of others, and where a `tt cluster` carries out all.
+DOOR, CLUSTER = ".tt.socket", ".tt.cluster"
 #: A lock that another has is tried again after so many seconds.
 _PAUSE = 0.05
 

@@ -52,26 +52,36 @@ def find_program(named: str | None) -> list[str]:
 
 @dataclass(frozen=True)
 class Shard:
-    """Where an archive is: a folder, here or on the machine of a login."""
+    """Where an archive is, or a copy of one: a folder, here, on the machine of a login, or on that of a worker."""
 
     folder: Path
     login: str = ""
+    worker: str = ""
+
+    @property
+    def is_here(self) -> bool:
+        """Whether its files can be read from here."""
+        return not (self.login or self.worker)
 
     def __str__(self) -> str:
-        return f"{self.login}:{self.folder}" if self.login else str(self.folder)
+        return str(self.folder) if self.is_here else f"{self.login or self.worker}:{self.folder}"
 
 
 class Program:
     """A tt_archive in its folder, run through ssh where that is on another machine. Writing to it and
     reading from it don't wait, so that it works while the tool does. It holds the lock until it ends."""
 
-    def __init__(self, command: Sequence[str], shard: Shard, lock: Lock | None = None) -> None:
+    def __init__(self, command: Sequence[str], shard: Shard, lock: Lock | None = None, is_old: bool = False) -> None:
+        """Of an archive that `is_old` a journal has to be there, so that no new one is made in its place."""
         self.shard = shard
         self.ended = False
         self._reader = ReplyReader()
         self._end: tuple[int, str] | None = None
         if shard.login:
-            command = ["ssh", shard.login, f"cd {shlex.quote(str(shard.folder))} && exec {shlex.join(command)}"]
+            run = f"exec {shlex.join(command)}"
+            if is_old:
+                run = f"if [ -s {JOURNAL} ]; then {run}; else echo '{JOURNAL} is gone' >&2; exit 1; fi"
+            command = ["ssh", shard.login, f"cd {shlex.quote(str(shard.folder))} && {run}"]
         try:
             process = subprocess.Popen(
                 command,
@@ -95,6 +105,11 @@ class Program:
         self._room = select.poll()
         self._room.register(self._input, select.POLLOUT)
 
+    @property
+    def process(self) -> int:
+        """The number of its process."""
+        return self._process.pid
+
     def fileno(self) -> int:
         """Where replies can be waited for."""
         return self._output.fileno()
@@ -112,12 +127,15 @@ class Program:
 
     def replies(self) -> Iterator[Reply]:
         """The replies that are there; whether they were the last, `ended` tells."""
-        piece = self._output.read(_PIECE)
-        if piece:
-            yield from self._reader.replies(piece)
-        elif piece is not None:
-            self.ended = True
+        yield from self._reader.replies(self.printed())
+        if self.ended:
             self._reader.end()
+
+    def printed(self) -> bytes:
+        """What was printed and not yet read, as it is."""
+        piece = self._output.read(_PIECE)
+        self.ended = piece == b""
+        return piece or b""
 
     def end_input(self) -> None:
         self._input.close()

@@ -14,12 +14,13 @@ from pathlib import Path
 from typing import Any, Mapping, Sequence
 
 from . import commands
-from .collection import SHARDS, Collection
+from .collection import Collection
 from .damage import explained
 from .errors import ProgramFailed, ToolError
 from .journal import entries
 from .locks import Lock
 from .names import FILE as NAMES
+from .places import SHARDS
 from .program import JOURNAL, Shard
 from .replies import Ok, Reply, ReplyReader
 
@@ -85,6 +86,8 @@ def ask_with_parallel(
     table says, or all on the machines of `logins`, which then need the folders at the same paths."""
     if shutil.which("parallel") is None:
         raise ToolError("there is no GNU parallel: install the package parallel")
+    if any(shard.worker for shard in shards):
+        raise ToolError("GNU parallel reaches no workers: leave out --parallel")
     run = "cd {1} && printf '%s\\n' {2} | " + shlex.join(command) + " || { echo tt_archive: {1} >&2; exit 1; }"
     words = ["parallel", "--will-cite", "--keep-order", *_machines(shards, logins), run]
     words += [":::", *_places(shards, logins), ":::", question.decode().rstrip("\n")]

@@ -27,7 +27,7 @@ def status(options: argparse.Namespace) -> None:
         shards = collection.shards
         lines = Ledger(collection.folder / LEDGER).lines
     if len(shards) > 1:
-        away = sum(bool(shard.login) for shard in shards)
+        away = sum(not shard.is_here for shard in shards)
         apart = f", of which {away} on other machines aren't counted here" if away else ""
         print(f"shards     {len(shards)}{apart}")
     print(f"documents  {held.documents}, of which {held.alive} have a text now; {counted(names, 'name')}")

@@ -76,7 +76,7 @@ def _documents(collection: Collection) -> dict[str, _Latest]:
     """By name the newest entry of each document whose archive is here."""
     found: dict[str, _Latest] = {}
     for shard in collection.shards:
-        if shard.login:
+        if not shard.is_here:
             continue
         for entry in entries(shard.folder, texts=False):
             if entry.plan is None:

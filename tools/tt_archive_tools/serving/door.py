@@ -1,8 +1,8 @@
-"""The door of a folder that is served: a socket `.tt.socket`, through which other tt of the same user ask the program.
+"""The door of a folder: a socket, through which other tt of the same user ask the programs of the process that has it.
 
-A visitor says which archive it asks (`side 0`), and then sends questions as a script has them. The answer to each is
-`reply N` and N bytes, the reply as the program wrote it, or `failed N` and what a keeper reads, which ends the visit.
-Nothing that changes the archive is taken.
+Behind `.tt.socket` is a `tt serve`. A visitor says which archive it asks (`side 0`), and then sends questions as a script
+has them. The answer is `reply N` and N bytes, replies as the program writes them, or `failed N` and what a keeper reads,
+which ends the visit. Nothing that changes the archive is taken.
 """
 
 from __future__ import annotations
@@ -17,7 +17,6 @@ from typing import BinaryIO, Callable, Iterator
 
 from .. import commands
 from ..errors import ToolError
-from ..locks import DOOR
 
 HELLO = b"side %d\n"
 #: The commands that only ask. The deletion of no document is always refused, and tells the last time.
@@ -26,6 +25,9 @@ _LAST_TIME = commands.delete(commands.NO_DOCUMENT, 0)
 #: So many seconds visitors have to finish when the folder is given up.
 GRACE = 5.0
 _PAUSE = 0.2
+
+#: Attends to a visitor until it leaves; a ToolError is told to it.
+Attend = Callable[[socket.socket], None]
 
 
 @contextmanager
@@ -38,12 +40,24 @@ def address(path: Path) -> Iterator[str]:
         os.close(folder)
 
 
-class Door:
-    """Open from `open` to `close`. `ask` carries out one question of one archive."""
+def is_open(path: Path) -> bool:
+    """Whether somebody is behind a door."""
+    if not path.exists():
+        return False
+    with socket.socket(socket.AF_UNIX) as visitor, address(path) as short:
+        try:
+            visitor.connect(short)
+        except OSError:
+            return False
+    return True
 
-    def __init__(self, folder: Path, ask: Callable[[int, bytes], bytes]) -> None:
-        self._path = folder / DOOR
-        self._ask = ask
+
+class Door:
+    """Open from `open` to `close`. Each visitor is attended to by a thread of its own."""
+
+    def __init__(self, path: Path, attend: Attend) -> None:
+        self._path = path
+        self._attend = attend
         self._listener: socket.socket | None = None
         self._inside: set[socket.socket] = set()
 
@@ -87,31 +101,47 @@ class Door:
                 return
             visitor.settimeout(None)
             self._inside.add(visitor)
-            threading.Thread(target=self._attend, args=(visitor,), daemon=True).start()
+            threading.Thread(target=self._receive, args=(visitor,), daemon=True).start()
 
-    def _attend(self, visitor: socket.socket) -> None:
+    def _receive(self, visitor: socket.socket) -> None:
         try:
-            with visitor, visitor.makefile("rb") as script:
+            with visitor:
                 try:
-                    side = int(script.readline(commands.MOST_LINE).removeprefix(b"side "))
-                    for line in _questions(script):
-                        _send(visitor, b"reply", self._ask(side, line))
+                    self._attend(visitor)
                 except (ToolError, ValueError) as error:
-                    _send(visitor, b"failed", str(error).encode("utf-8", "surrogateescape"))
+                    say_to(visitor, b"failed", str(error).encode("utf-8", "surrogateescape"))
+                except OSError:
+                    raise
+                except Exception as error:  # a fault of the tools themselves, which is told in their own output, too
+                    say_to(visitor, b"failed", f"the tt that was asked failed: {error!r}".encode("utf-8", "replace"))
+                    raise
         except OSError:
             pass  # it went away
         finally:
             self._inside.discard(visitor)
 
 
+def answer(ask: Callable[[int, bytes], bytes], visitor: socket.socket) -> None:
+    """Answers the questions of one archive, by `ask`, one after another."""
+    with visitor.makefile("rb") as script:
+        side = int(script.readline(commands.MOST_LINE).removeprefix(b"side "))
+        for line in _questions(script):
+            say_to(visitor, b"reply", ask(side, line))
+
+
+def only_asks(line: bytes) -> bool:
+    """Whether a line of a script changes nothing."""
+    return line.split(b" ")[0].strip() in _QUESTIONS or line == _LAST_TIME
+
+
+def say_to(visitor: socket.socket, kind: bytes, body: bytes) -> None:
+    visitor.sendall(b"%b %d\n%b" % (kind, len(body), body))
+
+
 def _questions(script: BinaryIO) -> Iterator[bytes]:
     while line := script.readline(commands.MOST_LINE + 2):
         if not line.endswith(b"\n"):
             raise ToolError("a question isn't whole")
-        if line.split(b" ")[0].strip() not in _QUESTIONS and line != _LAST_TIME:
+        if not only_asks(line):
             raise ToolError("`tt serve` only carries out questions")
         yield line
-
-
-def _send(visitor: socket.socket, kind: bytes, body: bytes) -> None:
-    visitor.sendall(b"%b %d\n%b" % (kind, len(body), body))

@@ -10,7 +10,8 @@ from ..locks import Use
 from ..opening import claim_of
 from ..program import find_program
 from ..stops import Stopped
-from .standing import Standing, say
+from ..wording import say
+from .standing import Standing
 from .web import Server
 
 

@@ -2,26 +2,26 @@
 
 from __future__ import annotations
 
-import sys
 import threading
 import time
 from collections import OrderedDict
 from contextlib import contextmanager
 from dataclasses import replace
+from functools import partial
 from pathlib import Path
 from typing import Any, Iterator, Sequence
 
 from .. import commands
 from ..collection import Collection
 from ..errors import InUse, ProgramFailed, ToolError
-from ..locks import Claim, at_work, turn_is_taken
+from ..locks import DOOR, Claim, at_work, turn_is_taken
 from ..names import NameTable, unescape
 from ..replies import Reply, Rows, Text
 from ..times import LAST_TIME
-from ..wording import one_line
+from ..wording import say
 from ..words import folded
 from .curves import Curve, curve_of
-from .door import Door
+from .door import Door, answer
 from .versions import Versions
 from .written import written
 
@@ -51,7 +51,7 @@ class Standing:
         self._collection: Collection | None = None
         self._ending = threading.Event()
         self._given_up: float | None = None
-        self._door = Door(folder, self._visited)
+        self._door = Door(folder / DOOR, partial(answer, self._visited))
         self._curves: OrderedDict[str, Curve | None] = OrderedDict()
         self._folded: list[tuple[str, str]] = []
         self.versions: Versions
@@ -205,7 +205,3 @@ class Standing:
                     say(str(error))  # each question tries again, and is told
                     break
             self._given_up = None
-
-
-def say(line: str) -> None:
-    print(f"tt: {one_line(line)}", file=sys.stderr, flush=True)

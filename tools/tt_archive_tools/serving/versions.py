@@ -33,7 +33,7 @@ class Versions:
         self._of: dict[int, list[Version]] = {}
         self.changes: list[Change] = []
         for shard in shards:
-            if shard.login:
+            if not shard.is_here:
                 continue
             for doc, time, arrives in heads(shard.folder):
                 known = self._of.setdefault(doc, [])

@@ -1,4 +1,4 @@
-"""The side of a tt that is let in: the program of a `tt serve`, asked through the door of its folder.
+"""The side of a tt that is let in: a program of a `tt serve` or a `tt cluster`, reached through the door of its folder.
 
 A visit stands in a collection where otherwise a program of its own does, and behaves as one.
 """
@@ -10,20 +10,19 @@ import socket
 from pathlib import Path
 from typing import Iterator
 
-from ..locks import DOOR
 from ..program import Shard
 from ..replies import Reply, ReplyReader
-from .door import HELLO, address
+from .door import address
 
 _PIECE = 1 << 16
 _PATIENCE = 10
-_GONE = "the `tt serve` that was asked has ended, or gave the archive to another tt; ask again"
+_GONE = "the tt that was asked has ended, or gave the archive to another one; ask again"
 
 
 class Visit:
     """One archive's program, behind the door. A ConnectionError says that nobody is there."""
 
-    def __init__(self, folder: Path, shard: Shard, side: int) -> None:
+    def __init__(self, door: Path, hello: bytes, shard: Shard) -> None:
         self.shard = shard
         self.ended = False
         self._reader = ReplyReader()
@@ -31,9 +30,9 @@ class Visit:
         self._said = ""
         self._socket = socket.socket(socket.AF_UNIX)
         try:
-            with address(folder / DOOR) as path:
+            with address(door) as path:
                 self._socket.connect(path)
-            self._socket.sendall(HELLO % side)
+            self._socket.sendall(hello)
         except OSError as error:
             self._socket.close()
             raise ConnectionError(error.strerror) from None
