@@ -10,4 +10,4 @@ mod PlanLemmas
 mod LiveLemmas
 mod StoreLemmas
 mod ChosenLemmas
-pub mod CacheLemmas
+mod CacheLemmas

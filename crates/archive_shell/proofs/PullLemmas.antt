@@ -21,9 +21,7 @@ use Rattle.archive_shell.specs.Causes.{IsLater, IsLeft, MayEnd}
 use Rattle.archive_shell.specs.Headline.{ArePulled, CarriesOutAll, Ends, EndsEarly, InputAt}
 use Rattle.archive_shell.specs.Outcomes.{Passes}
 use Rattle.archive_shell.specs.Serving.{Gives, HasPassed, HasSpoiled, Pulling, next_by}
-use Rattle.archive_shell.specs.Statuses.{status_of_stop, stop_of_halt}
-use Rattle.archive_shell.specs.declared.stop.Halt.{Halt}
-use Rattle.archive_shell.specs.declared.stop.Halt.TheVariants as halts
+use Rattle.archive_shell.specs.Statuses.{status_of_stop}
 use Rattle.archive_shell.specs.declared.stop.Stop.{Stop}
 use Rattle.archive_shell.specs.declared.stop.Stop.TheVariants as stops
 use Rattle.archive_shell.specs.declared.status.Status.{Status}
@@ -232,11 +230,6 @@ left_beside tells old mid new archive archive_now same left =
     let L : DiskState → Type 0 = λ d. IsLeft tells old d archive archive_now in
     let is = subst L (sym same.same) left in
     record { ready = is.ready; cached = is.cached }
-
--- a run that is stopped at a damage was halted there
-pub halted_at : (halt : Halt) (damage : Damage) → stop_of_halt halt ≡ stops.Damaged damage → halt ≡ halts.Damaged damage
-halted_at (halts.Damaged other) damage is = cc
-halted_at halt damage is = cc
 
 -- a run that ends at a damage was stopped there
 pub stopped_at : (stop : Stop) (damage : Damage) → status_of_stop stop ≡ Damaged damage → stop ≡ stops.Damaged damage

@@ -73,12 +73,6 @@ pub all_after_replies : {S : Type 0} (input : SourceState) (output : SinkState) 
 all_after_replies input output items more outcomes further pulls all =
     All-weaker (ComesAfterReplies input output items outcomes) (ComesAfterReplies input output (items ++ more) (outcomes ++ further)) (λ pull was. after_replies_still input output items more outcomes further pull was) pulls all
 
--- the part of a reply that is shown of more outcomes isn't a whole one
-pub short_on : {S : Type 0} (part : List ℕ) (outcomes further : List (Outcome Reply S)) → IsShort part outcomes → IsShort part (outcomes ++ further)
-short_on part [] [] none = none
-short_on part [] (outcome ∷ further) none = rw none (omega (arith, some_bytes outcome.reply))
-short_on part (outcome ∷ outcomes) further short = short
-
 -- so the bytes shown acknowledge just those before
 pub acknowledged : {S : Type 0} (reached behind : List (Outcome Reply S)) (part : List ℕ) → IsShort part behind → IsAcknowledged reply_text (reached ++ behind) (shown_by reply_text reached ++ part) (length reached)
 acknowledged [] [] part short = record { within = omega arith; whole = (part, refl); greatest = λ m within front. within }

@@ -48,10 +48,6 @@ long_bare : (outcomes : List (Outcome Reply Store)) → length (map bare outcome
 long_bare [] = refl
 long_bare (outcome ∷ outcomes) = omega (arith, long_bare outcomes)
 
-short_bare : (part : List ℕ) (outcomes : List (Outcome Reply Store)) → IsShort part outcomes → IsShort part (map bare outcomes)
-short_bare part [] none = none
-short_bare part (outcome ∷ outcomes) short = short
-
 run_bare : (s : Store) (items : List Item) (outcomes : List (Outcome Reply Store)) → IsStanding s → All HasDocument items → IsRun StoreStep s items outcomes → IsRun Step (world_of s.history) items (map bare outcomes) × IsStanding (last_state s outcomes)
 run_bare s [] [] standing range run = (tt, standing)
 run_bare s (item ∷ items) (outcome ∷ outcomes) standing range (step, run) =
