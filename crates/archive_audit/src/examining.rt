@@ -42,11 +42,7 @@ pub(crate) fn finding_of<D: Disk>(alloc: Global, disk: &mut D) -> Result<Finding
 }
 
 /// Checks an archive that was opened.
-fn examined<D: Disk>(
-    alloc: Global,
-    disk: &mut D,
-    archive: &Opened,
-) -> Result<Finding, AuditStatus>
+fn examined<D: Disk>(alloc: Global, disk: &mut D, archive: &Opened) -> Result<Finding, AuditStatus>
     requires opened { (h : History) × IsOpened h (D.disk disk.old).reach archive.now }
     ensures only { D.Disk.only disk.old disk.new }
     ensures same { OnlyReads (D.disk disk.old) (D.disk disk.new) }

@@ -1,11 +1,9 @@
 -- The first digest that is wrong: in halves of a plan's segments, over plans one after another, and beside a verdict.
-use Rattle.std.proofs.Common.{◌≡◌, ℕ, suc, ◌+◌, ◌<◌, List, [], ◌∷◌, ◌++◌, length, take, drop, map, get_or, All, Option, Some, None, Result, Ok, Err, refl, ap, sym, subst, ◌∙◌, arith, append_assoc}
+use Rattle.std.proofs.Common.{◌≡◌, ℕ, ◌+◌, ◌<◌, List, [], ◌∷◌, ◌++◌, length, take, get_or, All, Option, Some, None, Result, Ok, Err, refl, ap, sym, subst, ◌∙◌, arith, append_assoc}
 use Rattle.std.specs.Prelude.{IfOk, MatchOption}
-use Rattle.std.proofs.Math.Seq.{drop-cons}
-use Rattle.std.proofs.lemmas.List.{take-append-drop, take_more, length-append}
-use Rattle.std.proofs.lemmas.List.Elements.{All-nil, All-cons, All-head, All-tail, All-append, All-push}
+use Rattle.std.proofs.lemmas.List.{take_more, length-append}
+use Rattle.std.proofs.lemmas.List.Elements.{All-append, All-push}
 use Rattle.std.proofs.lemmas.List.Sorted.{All-permutation, IsPermutation-sym}
-use Rattle.time_base.specs.declared.text_place.TextPlace.{TextPlace}
 use Rattle.record_codec.specs.declared.place.Place.{Place}
 use Rattle.record_codec.specs.declared.plan.PlanEntry.{PlanEntry}
 use Rattle.version_store.specs.declared.change.Change.{Change}
@@ -13,19 +11,16 @@ use Rattle.version_index.specs.Words.{words_in}
 use Rattle.archive_state.specs.declared.stored.StoredPlan.{StoredPlan}
 use Rattle.archive_state.specs.declared.verdict.Verdict.{Verdict}
 use Rattle.archive_state.specs.declared.verdict.Verdict.TheVariants.{Sound, Differs, NotLeast, BadText}
-use Rattle.archive_check.specs.declared.digests.Digests.{Digests}
 use Rattle.archive_check.specs.declared.digests.Digests.TheVariants.{Asked}
 use Rattle.archive_check.specs.declared.verifying.Altered.{Altered}
-use Rattle.archive_check.specs.declared.verifying.Checked.{Checked}
 use Rattle.archive_check.specs.declared.finding.Finding.{Finding}
 use Rattle.archive_check.specs.declared.finding.Finding.TheVariants.{Told, BadDigest}
-use Rattle.archive_check.specs.Orders.{AreByNumber}
-use Rattle.archive_check.specs.Verdicts.{with_texts, Says, IsVerdict}
-use Rattle.archive_check.specs.Digests.{HasDigest, HasDigests, IsAltered, IsFirstAltered, TellsSound, HasBadDigest, IsFinding}
-use Rattle.archive_check.specs.Checking.{IsFaultOf, AreAltered, AreFirstAltered, DigestsTold, TellsAll}
+use Rattle.archive_check.specs.Verdicts.{with_texts}
+use Rattle.archive_check.specs.Digests.{HasDigest, HasDigests, IsAltered, IsFirstAltered, TellsSound, Finds}
+use Rattle.archive_check.specs.Checking.{IsFaultOf, AreAltered, AreFirstAltered, TellsAll}
 use Rattle.archive_check.specs.Laws.{OneFinding}
 use Rattle.archive_check.proofs.OrderLemmas.{one_way, are_moved}
-use Rattle.archive_check.proofs.LawLemmas.{all_at, one_at, verdicts_are_one}
+use Rattle.archive_check.proofs.LawLemmas.{all_at, one_at, tells_one}
 
 -- ---- segments by halves
 
@@ -101,21 +96,21 @@ pub told_both : {T E : Type 0} (P Q R : T → Type 0) (A : Type 0) (r : Result T
 told_both P Q R A (Ok v) join one other = join v one other
 told_both P Q R A (Err e) join one other = tt
 
-pub finding_bad : (journal : List ℕ) (changes : List (Change TextPlace)) (pages : List ℕ) (plans : List StoredPlan) (verdict : Verdict) (a : Altered)
-    → TellsAll Asked (record { verdict = verdict; altered = Some a }) (with_texts journal changes) pages plans → IsFinding journal changes pages plans (BadDigest a.word a.segment)
-finding_bad journal changes pages plans (Sound words segments) a t =
+pub finding_bad : (texts : List (Change (List ℕ))) (pages : List ℕ) (plans : List StoredPlan) (verdict : Verdict) (a : Altered)
+    → TellsAll Asked (record { verdict = verdict; altered = Some a }) texts pages plans → Finds (BadDigest a.word a.segment) texts pages plans
+finding_bad texts pages plans (Sound words segments) a t =
     record { words = words; segments = segments; sound = (t.ordered, t.by_number, t.says); ordered = t.ordered; by_number = t.by_number; first = (t.digests_told refl).0 tt }
-finding_bad journal changes pages plans (Differs word segment place found wanted) a t = absurd ((t.digests_told refl).1)
-finding_bad journal changes pages plans (NotLeast word taken least) a t = absurd ((t.digests_told refl).1)
-finding_bad journal changes pages plans (BadText doc at) a t = absurd ((t.digests_told refl).1)
+finding_bad texts pages plans (Differs word segment place found wanted) a t = absurd ((t.digests_told refl).1)
+finding_bad texts pages plans (NotLeast word taken least) a t = absurd ((t.digests_told refl).1)
+finding_bad texts pages plans (BadText doc at) a t = absurd ((t.digests_told refl).1)
 
-pub finding_told : (journal : List ℕ) (changes : List (Change TextPlace)) (pages : List ℕ) (plans : List StoredPlan) (verdict : Verdict)
-    → TellsAll Asked (record { verdict = verdict; altered = None }) (with_texts journal changes) pages plans → IsFinding journal changes pages plans (Told verdict)
-finding_told journal changes pages plans verdict t = (
+pub finding_told : (texts : List (Change (List ℕ))) (pages : List ℕ) (plans : List StoredPlan) (verdict : Verdict)
+    → TellsAll Asked (record { verdict = verdict; altered = None }) texts pages plans → Finds (Told verdict) texts pages plans
+finding_told texts pages plans verdict t = (
   (t.ordered, t.by_number, t.says),
   λ sound.
-  let H : StoredPlan → Type 0 = λ s. HasDigests pages s.plan in
-  All-permutation H t.ordered plans (IsPermutation-sym plans t.ordered (are_moved (words_in (with_texts journal changes)) plans t.ordered t.by_number)) ((t.digests_told refl).0 sound),
+      let H : StoredPlan → Type 0 = λ s. HasDigests pages s.plan in
+      All-permutation H t.ordered plans (IsPermutation-sym plans t.ordered (are_moved (words_in texts) plans t.ordered t.by_number)) ((t.digests_told refl).0 sound),
 )
 
 -- ---- there is one finding
@@ -138,21 +133,23 @@ both_bad pages plans v u m n a b =
     cc
 
 -- where all digests are right, none is wrong
-told_or_bad : (journal : List ℕ) (changes : List (Change TextPlace)) (pages : List ℕ) (plans : List StoredPlan) (verdict : Verdict) (word : List ℕ) (segment : ℕ)
-    → IsFinding journal changes pages plans (Told verdict) → IsFinding journal changes pages plans (BadDigest word segment) → ⊥
-told_or_bad journal changes pages plans verdict word segment told bad =
+told_or_bad : (texts : List (Change (List ℕ))) (pages : List ℕ) (plans : List StoredPlan) (verdict : Verdict) (word : List ℕ) (segment : ℕ)
+    → Finds (Told verdict) texts pages plans → Finds (BadDigest word segment) texts pages plans → ⊥
+told_or_bad texts pages plans verdict word segment told bad =
     let H : StoredPlan → Type 0 = λ s. HasDigests pages s.plan in
-    let same : Sound bad.words bad.segments ≡ verdict = verdicts_are_one journal changes pages plans (Sound bad.words bad.segments) verdict bad.sound told.0 in
+    let same : Sound bad.words bad.segments ≡ verdict = tells_one texts pages plans (Sound bad.words bad.segments) verdict bad.sound told.0 in
     let all : All H plans = told.1 (subst TellsSound same tt) in
-    let there : All H bad.ordered = All-permutation H plans bad.ordered (are_moved (words_in (with_texts journal changes)) plans bad.ordered bad.by_number) all in
+    let there : All H bad.ordered = All-permutation H plans bad.ordered (are_moved (words_in texts) plans bad.ordered bad.by_number) all in
     let first = bad.first in
     not_digests pages first.stored.plan.places segment first.there (all_at H first.front first.back first.stored (subst (λ (l : List StoredPlan). All H l) first.plans_are there))
 
-pub findings_are_one : OneFinding
-findings_are_one journal changes pages plans (Told one) (Told other) x y = ap Told (verdicts_are_one journal changes pages plans one other x.0 y.0)
-findings_are_one journal changes pages plans (Told one) (BadDigest word segment) x y = absurd (told_or_bad journal changes pages plans one word segment x y)
-findings_are_one journal changes pages plans (BadDigest word segment) (Told other) x y = absurd (told_or_bad journal changes pages plans other word segment y x)
-findings_are_one journal changes pages plans (BadDigest v m) (BadDigest u n) x y =
-    let words = words_in (with_texts journal changes) in
+pub finds_one : (texts : List (Change (List ℕ))) (pages : List ℕ) (plans : List StoredPlan) (one other : Finding) → Finds one texts pages plans → Finds other texts pages plans → one ≡ other
+finds_one texts pages plans (Told one) (Told other) x y = ap Told (tells_one texts pages plans one other x.0 y.0)
+finds_one texts pages plans (Told one) (BadDigest word segment) x y = absurd (told_or_bad texts pages plans one word segment x y)
+finds_one texts pages plans (BadDigest word segment) (Told other) x y = absurd (told_or_bad texts pages plans other word segment y x)
+finds_one texts pages plans (BadDigest v m) (BadDigest u n) x y =
     let B : List StoredPlan → Type 0 = λ l. IsFirstAltered u n pages l in
-    both_bad pages x.ordered v u m n x.first (subst B (one_way words plans y.ordered x.ordered y.by_number x.by_number) y.first)
+    both_bad pages x.ordered v u m n x.first (subst B (one_way (words_in texts) plans y.ordered x.ordered y.by_number x.by_number) y.first)
+
+pub findings_are_one : OneFinding
+findings_are_one journal changes pages plans one other x y = finds_one (with_texts journal changes) pages plans one other x y

@@ -1,9 +1,8 @@
 -- What is checked with its digests is held, and what is held is checked so.
-use Rattle.std.proofs.Common.{◌≡◌, ℕ, ◌≤◌, List, [], ◌∷◌, ◌++◌, length, map, All, refl, ap, sym, subst, ◌∙◌}
+use Rattle.std.proofs.Common.{◌≡◌, ℕ, List, [], ◌∷◌, ◌++◌, length, map, All, subst}
 use Rattle.std.specs.List.{flat_map}
 use Rattle.std.proofs.lemmas.List.Elements.{All-nil, All-cons, All-head, All-tail}
 use Rattle.std.proofs.lemmas.List.Sorted.{All-permutation, IsPermutation-sym}
-use Rattle.machine_model.specs.Areas.{Bytes}
 use Rattle.time_base.specs.declared.extent.Extent.{Extent}
 use Rattle.time_base.specs.declared.posting.Posting.{Posting}
 use Rattle.page_store.specs.Live.{IsInside}
@@ -14,16 +13,17 @@ use Rattle.record_codec.specs.declared.place.Layout.{Layout}
 use Rattle.record_codec.specs.declared.place.Place.{Place}
 use Rattle.record_codec.specs.declared.plan.PlanEntry.{PlanEntry}
 use Rattle.sublist_store.specs.Preparing.{spellings}
-use Rattle.sublist_store.specs.Segments.{seconds, next_cut, EachSegment, HoldsSublist}
+use Rattle.sublist_store.specs.Segments.{seconds, EachSegment, HoldsSublist}
 use Rattle.archive_state.specs.declared.stored.StoredPlan.{StoredPlan}
 use Rattle.archive_state.specs.declared.verdict.Verdict.TheVariants.{Sound}
 use Rattle.archive_state.specs.Histories.{History, changes}
 use Rattle.archive_state.specs.Holding.{HoldsPlan}
 use Rattle.archive_state.specs.Plans.{live_plans, extents_of}
+use Rattle.archive_state.specs.Steps.{sound_of}
 use Rattle.archive_replay.proofs.PlaceLemmas.{texts_are}
 use Rattle.archive_check.specs.declared.finding.Finding.TheVariants.{Told}
-use Rattle.archive_check.specs.Verdicts.{with_texts, IsSound, Tells}
-use Rattle.archive_check.specs.Digests.{HasDigest, HasDigests, IsExamined}
+use Rattle.archive_check.specs.Verdicts.{IsSound, Tells}
+use Rattle.archive_check.specs.Digests.{HasDigest, HasDigests}
 use Rattle.archive_check.specs.Laws.{SoundWithDigestsIsHeld, WhatIsHeldHasItsDigests, WhatStandsIsFoundSound}
 use Rattle.archive_check.proofs.DigestLemmas.{findings_are_one}
 use Rattle.archive_check.proofs.OrderLemmas.{are_moved}
@@ -38,8 +38,7 @@ each_held layout list pages [] h (p ∷ places) same digests inside = absurd cc
 each_held layout list pages (f ∷ cuts) h [] same digests inside = absurd cc
 each_held layout list pages (f ∷ cuts) h (p ∷ places) same digests inside =
     let I : Place → Type 0 = λ place. IsInside (length pages) place.extent in
-    let rest : map (λ place. bytes_in place.extent pages) places ≡ spellings layout list cuts h = cc in
-    (
+    let rest : map (λ place. bytes_in place.extent pages) places ≡ spellings layout list cuts h = cc in (
       record { inside = All-head I p places inside; bytes = cc; digest = All-head (HasDigest pages) p places digests },
       each_held layout list pages cuts h places rest (All-tail (HasDigest pages) p places digests) (All-tail I p places inside),
     )
@@ -97,4 +96,4 @@ held_digests h pages held = all_digests h pages (live_plans h) held.each
 
 pub found_sound : WhatStandsIsFoundSound
 found_sound h image finding stands examined =
-    findings_are_one image.journal examined.0 image.pages (live_plans h) finding _ examined.2 (sound_verdict h image examined.0 stands examined.1, λ sound. held_digests h image.pages stands.held)
+    findings_are_one image.journal examined.0 image.pages (live_plans h) finding (Told (sound_of h)) examined.2 (sound_verdict h image examined.0 stands examined.1, λ sound. held_digests h image.pages stands.held)

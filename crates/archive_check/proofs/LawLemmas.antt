@@ -24,7 +24,7 @@ use Rattle.archive_replay.proofs.PlaceLemmas.{bare_changes}
 use Rattle.archive_replay.proofs.IndexLemmas.{loadable_rises}
 use Rattle.archive_state.specs.declared.verdict.Verdict.{Verdict}
 use Rattle.archive_state.specs.declared.verdict.Verdict.TheVariants.{Sound, Differs, NotLeast, BadText}
-use Rattle.archive_check.specs.Verdicts.{with_texts, IsText, IsUpTo, IsFirstBad, IsPlanned, found_in, wanted_of, DifferAt, SegmentDiffers, IsLeastSpace, IsSound, HasDifference, TakesMore, FirstFault, AllSound, Says}
+use Rattle.archive_check.specs.Verdicts.{with_texts, IsText, IsUpTo, IsFirstBad, IsPlanned, found_in, wanted_of, DifferAt, SegmentDiffers, IsLeastSpace, IsSound, HasDifference, TakesMore, FirstFault, AllSound, Says, Tells}
 use Rattle.archive_check.specs.Laws.{LoadedChangesAreInOrder, OneVerdict}
 use Rattle.archive_check.proofs.OrderLemmas.{one_way}
 
@@ -258,8 +258,10 @@ one_says texts pages plans (BadText c s) (BadText d t) x y =
     let f = both.1 in
     cc
 
-pub verdicts_are_one : OneVerdict
-verdicts_are_one journal changes pages plans one other x y =
-    let texts = with_texts journal changes in
+pub tells_one : (texts : List (Change (List ℕ))) (pages : List ℕ) (plans : List StoredPlan) (one other : Verdict) → Tells one texts pages plans → Tells other texts pages plans → one ≡ other
+tells_one texts pages plans one other x y =
     let P : List StoredPlan → Type 0 = λ l. Says other texts pages l in
     one_says texts pages x.0 one other x.2 (subst P (sym (one_way (words_in texts) plans x.0 y.0 x.1 y.1)) y.2)
+
+pub verdicts_are_one : OneVerdict
+verdicts_are_one journal changes pages plans one other x y = tells_one (with_texts journal changes) pages plans one other x y

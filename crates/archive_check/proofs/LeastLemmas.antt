@@ -1,6 +1,6 @@
 -- Plans that take more than they have to, and those that don't.
 use Rattle.std.proofs.Common.{◌≡◌, ◌⊎◌, inl, inr, ℕ, ◌-◌, ◌<◌, ◌≤◌, List, [], ◌∷◌, ◌++◌, length, map, drop, All, refl, ap, sym, subst, subst₂, ◌∙◌, arith}
-use Rattle.std.specs.Prelude.{slice_index, Option, Some, None, IfSome, MatchOption}
+use Rattle.std.specs.Prelude.{slice_index, Option, Some, None, Result, Ok, Err, IfOk, IfSome, MatchOption}
 use Rattle.std.proofs.lemmas.Bool.{cases_lt}
 use Rattle.std.proofs.lemmas.List.Elements.{All-drop}
 use Rattle.time_base.specs.declared.time.Time.{Time}
@@ -13,7 +13,7 @@ use Rattle.elementary.specs.Partitions.{Covers, IsBest, IsLeast, IsFitting, AreB
 use Rattle.elementary.proofs.Tables.{some_time, last_is_horizon}
 use Rattle.plan_certificate.specs.Certificates.{CertifiesCuts}
 use Rattle.plan_certificate.proofs.Proved.{best_numbers_certify, first_is}
-use Rattle.stored_plans.specs.Plans.{later, IsFitFor, IsFitPlan, IsLeastPlan}
+use Rattle.stored_plans.specs.Plans.{IsFitFor, IsLeastPlan}
 use Rattle.stored_plans.proofs.PlanLemmas.{seconds_are}
 use Rattle.archive_check.specs.declared.least.Excess.{Excess}
 use Rattle.archive_check.specs.Checking.{IsBeaten, IsExcess}
@@ -73,3 +73,13 @@ plan_told list factor (f ∷ cuts) horizon p (Some e) fit is least beaten =
     let B : List ℕ → Type 0 = λ l. Covers list factor (slice_index l 0) (drop 1 l) horizon.seconds → IsBeaten list factor horizon.seconds l e.taken e.least in
     let b = subst B (is ∙ sym (seconds_are f cuts horizon)) beaten fit.1.covers in
     record { fit = fit; taken_is = b.taken_is; least_is = b.least_is; more = b.more }
+
+-- so it is of what a call answers
+pub fit_told : {E : Type 0} (list : List Posting) (factor : Fraction) (cuts : List Time) (horizon : Time) (p : List ℕ) (table : Counts) (r : Result (Option Excess) E) → Tabulates list horizon.seconds table → IsFitFor Guarantee list factor cuts horizon.seconds
+    → p ≡ map (λ (t : Time). t.seconds) (cuts ++ horizon ∷ [])
+    → IfOk r (λ o. o ≡ None → (l : List Posting) (h : ℕ) → Tabulates l h table → IsLeast l factor (slice_index p 0) (drop 1 p) h)
+    → IfOk r (λ o. IfSome o (λ e. (l : List Posting) (h : ℕ) → Tabulates l h table → Covers l factor (slice_index p 0) (drop 1 p) h → IsBeaten l factor h p e.taken e.least))
+    → IfOk r (λ o. MatchOption o (IsLeastPlan list factor cuts horizon.seconds) (λ e. IsExcess list factor cuts horizon.seconds e.taken e.least))
+fit_told list factor cuts horizon p table (Err why) t fit is least beaten = tt
+fit_told list factor cuts horizon p table (Ok None) t fit is least beaten = plan_told list factor cuts horizon p None fit is (λ none. least none list horizon.seconds t) tt
+fit_told list factor cuts horizon p table (Ok (Some e)) t fit is least beaten = plan_told list factor cuts horizon p (Some e) fit is (λ none. absurd cc) (beaten list horizon.seconds t)

@@ -6,6 +6,6 @@ mod Sorting
 mod OrderLemmas
 pub mod LawLemmas
 pub mod SoundLemmas
-mod DigestLemmas
+pub mod DigestLemmas
 pub mod HeldLemmas
 pub mod OpenLemmas

@@ -12,7 +12,6 @@ use Rattle.record_codec.specs.Spelling.{spelling}
 use Rattle.record_codec.specs.PlanSpelling.{IsPlanEntry}
 use Rattle.record_codec.specs.declared.entry.Entry.{Entry}
 use Rattle.record_codec.specs.declared.entry.Entry.TheVariants.{Arrive, Delete, Planned}
-use Rattle.record_codec.specs.declared.place.Place.{Place}
 use Rattle.stored_plans.specs.Plans.{IsFitFor}
 use Rattle.archive_state.specs.declared.stored.StoredPlan.{StoredPlan}
 use Rattle.archive_state.specs.Histories.{History, end_of}

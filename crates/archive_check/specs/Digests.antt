@@ -17,7 +17,7 @@ use Rattle.archive_replay.specs.Places.{ArePlaced}
 use Rattle.archive_check.specs.declared.finding.Finding.{Finding}
 use Rattle.archive_check.specs.declared.finding.Finding.TheVariants.{Told, BadDigest}
 use Rattle.archive_check.specs.Orders.{AreByNumber}
-use Rattle.archive_check.specs.Verdicts.{with_texts, IsVerdict}
+use Rattle.archive_check.specs.Verdicts.{with_texts, Tells}
 
 -- the digest of a place is that of the bytes that stand there
 abbrev pub HasDigest : List ℕ → Place → Type 0
@@ -55,18 +55,22 @@ TellsSound (NotLeast word taken least) = ⊥
 TellsSound (BadText doc at) = ⊥
 
 -- the verdict is that all is sound, and of the plans by the numbers of their words in the texts this digest is the first that is wrong
-pub record HasBadDigest (word : List ℕ) (segment : ℕ) (journal : List ℕ) (changes : List (Change TextPlace)) (pages : List ℕ) (plans : List StoredPlan) : Type 0 where
+pub record HasBadDigest (word : List ℕ) (segment : ℕ) (texts : List (Change (List ℕ))) (pages : List ℕ) (plans : List StoredPlan) : Type 0 where
   pub words : ℕ
   pub segments : ℕ
-  pub sound : IsVerdict journal changes pages plans (Sound words segments)
+  pub sound : Tells (Sound words segments) texts pages plans
   pub ordered : List StoredPlan
-  pub by_number : AreByNumber (words_in (with_texts journal changes)) plans ordered
+  pub by_number : AreByNumber (words_in texts) plans ordered
   pub first : IsFirstAltered word segment pages ordered
 
--- what is found of these plans: the verdict, where one that all is sound stands only with right digests; or the first digest that is wrong
+-- what is found by texts and pages: the verdict, where one that all is sound stands only with right digests; or the first digest that is wrong
+abbrev pub Finds : Finding → List (Change (List ℕ)) → List ℕ → List StoredPlan → Type 0
+Finds (Told verdict) texts pages plans = Tells verdict texts pages plans × (TellsSound verdict → All (λ s. HasDigests pages s.plan) plans)
+Finds (BadDigest word segment) texts pages plans = HasBadDigest word segment texts pages plans
+
+-- what is found of these plans, by the bytes of the journal and of Pages
 abbrev pub IsFinding : (journal : List ℕ) → List (Change TextPlace) → (pages : List ℕ) → List StoredPlan → Finding → Type 0
-IsFinding journal changes pages plans (Told verdict) = IsVerdict journal changes pages plans verdict × (TellsSound verdict → All (λ s. HasDigests pages s.plan) plans)
-IsFinding journal changes pages plans (BadDigest word segment) = HasBadDigest word segment journal changes pages plans
+IsFinding journal changes pages plans finding = Finds finding (with_texts journal changes) pages plans
 
 -- what is found of a history's live plans by the bytes of an image: texts are read where the history's entries lie, and sublists where its plans say
 abbrev pub IsExamined : History → Bytes → Finding → Type 0

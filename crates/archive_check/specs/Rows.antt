@@ -1,10 +1,11 @@
 -- A worked row: an image that stands for a history with a live plan. It is shown by steps, for any digest of the sublist's bytes that is theirs.
-use Rattle.std.specs.Prelude.{◌≡◌, ◌≢◌, ◌⊎◌, ℕ, ◌+◌, ◌*◌, ◌<◌, ◌≤◌, ◌==◌, ◌&&◌, ◌^◌, ◌↔◌, nat_le, nat_lt, unwrap_or, option_map, Option, Bool, true, false, cond, List, [], ◌∷◌, ◌++◌, Some, None, Contains, All, length, codes, refl}
+use Rattle.std.specs.Prelude.{◌≡◌, ℕ, ◌<◌, ◌≤◌, ◌==◌, ◌&&◌, ◌^◌, nat_le, nat_lt, unwrap_or, option_map, Bool, true, false, cond, List, [], ◌∷◌, ◌++◌, Some, None, Contains, All, IsUtf8, length, count_by, codes, refl}
 use Rattle.std.specs.Str.{chars, is_utf8}
 use lib.Utf8.{encode}
 use Rattle.std.proofs.Common.{arith, lit<, lit≤, ap, subst, inl, inr, length-append, ◌∙◌}
 use Rattle.std.proofs.lemmas.Bool.{le-leb, lt-ltb}
 use Rattle.std.proofs.lemmas.List.Elements.{All-nil, All-cons}
+use Rattle.std.proofs.lemmas.List.Sums.{sum_by-cons}
 use Rattle.ucd_category.proofs.Computing.{ucd_category}
 use Rattle.unicode_normalization.proofs.Computing.{unicode_normalization}
 use Rattle.caseless.proofs.Computing.{caseless}
@@ -15,7 +16,7 @@ use Rattle.time_base.specs.declared.ids.DocId.{DocId}
 use Rattle.time_base.specs.declared.posting.Posting.{Posting}
 use Rattle.time_base.specs.declared.time.Time.{Time}
 use Rattle.commands.specs.declared.command.Kind.TheVariants.{Guarantee}
-use Rattle.postings.specs.Lists.{frequency}
+use Rattle.postings.specs.Lists.{frequency, holds, meets}
 use Rattle.postings.specs.Sizes.{size, alive_count}
 use Rattle.stretches.proofs.Elements.{here, later, here-or-later, none}
 use Rattle.gate_journal.specs.Records.{front}
@@ -23,7 +24,6 @@ use Rattle.elementary.specs.Boundaries.{IsBoundary, IsFirst, AreBoundaries}
 use Rattle.elementary.specs.Partitions.{Covers, IsAdmissible, IsLeast, space}
 use Rattle.elementary.proofs.Ordering.{increasing}
 use Rattle.fold_tokens.specs.Terms.{occurrences}
-use Rattle.version_store.specs.declared.change.Change.{Change}
 use Rattle.version_store.specs.Changes.{valid_at}
 use Rattle.record_codec.specs.Spelling.{spelling}
 use Rattle.record_codec.specs.PlanSpelling.{IsDigest, IsPlanEntry, plan_spelling}
@@ -116,13 +116,13 @@ ten_first : IsFirst list 40 10
 ten_first = record { is = later 40 10 (10 ∷ 40 ∷ []) (here 10 (40 ∷ [])); none_before = λ t there. first t there }
   where
     last : (t : ℕ) → Contains (40 ∷ []) t → 10 ≤ t
-    last t there = elim (here-or-later 40 t [] there) [ | inl is ↦ omega (arith, is) | inr more ↦ absurd (none t more) ]
+    last t there = elim (here-or-later 40 t [] there) [ inl is ↦ omega (arith, is) | inr more ↦ absurd (none t more) ]
 
     second : (t : ℕ) → Contains (10 ∷ 40 ∷ []) t → 10 ≤ t
-    second t there = elim (here-or-later 10 t (40 ∷ []) there) [ | inl is ↦ omega (arith, is) | inr more ↦ last t more ]
+    second t there = elim (here-or-later 10 t (40 ∷ []) there) [ inl is ↦ omega (arith, is) | inr more ↦ last t more ]
 
     first : (t : ℕ) → IsBoundary list 40 t → 10 ≤ t
-    first t there = elim (here-or-later 40 t (10 ∷ 40 ∷ []) there) [ | inl is ↦ omega (arith, is) | inr more ↦ second t more ]
+    first t there = elim (here-or-later 40 t (10 ∷ 40 ∷ []) there) [ inl is ↦ omega (arith, is) | inr more ↦ second t more ]
 
 boundaries : AreBoundaries list 40 (10 ∷ 40 ∷ [])
 boundaries = record { ascending = increasing 0 (10 ∷ 40 ∷ []) (omega arith, (omega arith, tt)); each = λ t. (later 40 t (10 ∷ 40 ∷ []), back t) }
@@ -133,11 +133,17 @@ boundaries = record { ascending = increasing 0 (10 ∷ 40 ∷ []) (omega arith, 
       | inr more ↦ more
     ]
 
+-- the posting is counted where a test holds
+one_counted : (p : Posting → Bool) → p posting ≡ true → count_by p list ≡ 1
+one_counted p passes =
+    let here : cond {A = ℕ} (p posting) 1 0 ≡ 1 = ap (λ (b : Bool). cond {A = ℕ} b 1 0) passes in
+    omega (arith, sum_by-cons (λ (x : Posting). cond {A = ℕ} (p x) 1 0) posting [], here)
+
 admissible : IsAdmissible list one_whole 10 40
 admissible t from to =
     let a : nat_le 10 t ≡ true = le-leb 10 t from in
     let b : nat_lt t 40 ≡ true = lt-ltb t 40 to in
-    let alive : alive_count t list ≡ 1 = ap (λ (x : Bool). cond (x && nat_lt t 40) 1 0) a ∙ ap (λ (x : Bool). cond x 1 0) b in
+    let alive : alive_count t list ≡ 1 = one_counted (holds t) (ap (λ (x : Bool). x && nat_lt t 40) a ∙ b) in
     let all : size 10 40 list ≡ 1 = refl in
     omega (arith, alive, all)
 
@@ -145,27 +151,31 @@ least : IsLeast list one_whole 10 (40 ∷ []) 40
 least = record {
   first = ten_first;
   at_boundaries = All-cons (IsBoundary list 40) 40 [] (here 40 (10 ∷ 40 ∷ [])) (All-nil (IsBoundary list 40));
-  covers = (omega arith, (admissible, refl));
+  covers = (omega arith, admissible, refl);
   least = λ other covers. no_less other covers;
 }
   where
     no_less : (other : List ℕ) → Covers list one_whole 10 other 40 → space list 10 (40 ∷ []) ≤ space list 10 other
     no_less [] covers = absurd (omega (arith, covers))
     no_less (g ∷ cuts) covers =
-        let one : size 10 g list ≡ 1 = ap (λ (x : Bool). cond (x && true) 1 0) (lt-ltb 10 g covers.0) in
+        let one : size 10 g list ≡ 1 = one_counted (meets 10 g) (ap (λ (x : Bool). x && true) (lt-ltb 10 g covers.0)) in
         let all : space list 10 (40 ∷ []) ≡ 1 = refl in
         omega (arith, one, all)
 
 narrow : IsNarrow list 40
-narrow = (10 ∷ 40 ∷ [], (boundaries, omega arith))
+narrow = (10 ∷ 40 ∷ [], boundaries, omega arith)
 
 -- ---- the history is legal
+
+v_text : IsUtf8 v
+unfolding encode
+v_text = (118 ∷ [], (refl, refl))
 
 is_plan : (digest : List ℕ) → IsDigest digest → IsPlanEntry (plan digest)
 unfolding is_utf8 chars encode
 is_plan digest fits = record {
   well_cut = record { some = omega arith; most = omega arith; places = refl; ascend = increasing 0 (10 ∷ 40 ∷ []) (omega arith, (omega arith, tt)) };
-  word = (omega arith, (omega arith, refl));
+  word = (omega arith, omega arith, v_text);
   digests = All-cons (λ (p : Place). IsDigest p.digest) (place digest) [] fits (All-nil (λ (p : Place). IsDigest p.digest));
 }
 
@@ -177,7 +187,7 @@ may_be_planned digest =
 legal : (digest : List ℕ) → IsDigest digest → IsLegal (planned digest)
 unfolding ucd_category caseless unicode_normalization chars encode is_utf8
 legal digest fits = (
-  record { ranges = (omega arith, (omega arith, (omega arith, refl))); allowed = refl; planned = tt },
+  record { ranges = (omega arith, omega arith, omega arith, v_text); allowed = refl; planned = tt },
   (
     record { ranges = (omega arith, omega arith); allowed = refl; planned = tt },
     (record { ranges = is_plan digest fits; allowed = refl; planned = may_be_planned digest }, tt),
@@ -186,11 +196,15 @@ legal digest fits = (
 
 -- ---- and the image stands for it
 
+-- the 45 bytes of the plan's entry in front of the digest
+abbrev before_digest : List ℕ
+before_digest = 3 ∷ 1 ∷ 1 ∷ 0 ∷ 0 ∷ 0 ∷ 1 ∷ 0 ∷ 0 ∷ 0 ∷ 1 ∷ 0 ∷ 0 ∷ 0 ∷ 0 ∷ 0 ∷ 0 ∷ 0 ∷ 40 ∷ 1 ∷ 118 ∷ 0 ∷ 0 ∷ 0 ∷ 1 ∷ 0 ∷ 0 ∷ 0 ∷ 0 ∷ 0 ∷ 0 ∷ 0 ∷ 10 ∷ 0 ∷ 0 ∷ 0 ∷ 0 ∷ 0 ∷ 0 ∷ 0 ∷ 0 ∷ 0 ∷ 0 ∷ 0 ∷ 24 ∷ []
+
 plan_long : (digest : List ℕ) → IsDigest digest → length (plan_spelling (plan digest)) ≡ 77
 unfolding plan_spelling
 plan_long digest fits =
-    let long : length (plan_spelling (plan digest)) ≡ 45 + length (digest ++ []) = refl in
-    omega (arith, long, length-append digest [], fits.0)
+    let split : plan_spelling (plan digest) ≡ before_digest ++ (digest ++ []) = refl in
+    omega (arith, ap length split, length-append before_digest (digest ++ []), length-append digest [], fits.0)
 
 spelled_long : (digest : List ℕ) → IsDigest digest → All (λ (body : List ℕ). length body < 2 ^ 32) (bodies_of (planned digest))
 spelled_long digest fits =

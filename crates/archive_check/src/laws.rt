@@ -24,26 +24,22 @@ pub fn a_new_archive_is_sound()
 {}
 
 /// Of some plans there is one finding at most, where digests are asked. Does nothing.
-#[tactic(auto, using(crate::proofs::DigestLemmas::findings_are_one))]
 pub fn one_finding()
     ensures { OneFinding }
 {}
 
 /// An image that stands for a history has one finding, that all is sound. Does nothing.
-#[tactic(auto, using(crate::proofs::HeldLemmas::found_sound))]
 pub fn what_stands_is_found_sound()
     ensures { WhatStandsIsFoundSound }
 {}
 
 /// What a check finds sound, with right digests, is held: the pages have each live plan's sublists with
 /// their digests. Does nothing.
-#[tactic(auto, using(crate::proofs::HeldLemmas::sound_is_held))]
 pub fn sound_with_digests_is_held()
     ensures { SoundWithDigestsIsHeld }
 {}
 
 /// Pages that hold the live plans' sublists have their digests. Does nothing.
-#[tactic(auto, using(crate::proofs::HeldLemmas::held_digests))]
 pub fn what_is_held_has_its_digests()
     ensures { WhatIsHeldHasItsDigests }
 {}

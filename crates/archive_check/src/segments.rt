@@ -125,12 +125,7 @@ fn moved(wrong: Option<Wrong>, before: usize, count: usize) -> Option<Wrong>
 }
 
 /// The first of two segments, of which the second is counted behind so many.
-fn first_of(
-    front: Option<usize>,
-    back: Option<usize>,
-    before: usize,
-    count: usize,
-) -> Option<usize>
+fn first_of(front: Option<usize>, back: Option<usize>, before: usize, count: usize) -> Option<usize>
     requires within { IfSome back (λ n. n < count) }
     requires few { before + count < 2 ^ 64 }
     ensures { MatchOption front (MatchOption back (result ≡ None) (λ n. result ≡ Some (before + n))) (λ n. result ≡ Some n) }
