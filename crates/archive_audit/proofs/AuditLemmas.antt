@@ -12,23 +12,26 @@ use Rattle.machine_model.proofs.MomentLemmas.{joined, left_now, goes_on_reads}
 use Rattle.archive_state.specs.Histories.{History}
 use Rattle.archive_state.specs.Stands.{Stands}
 use Rattle.archive_state.specs.Steps.{sound_of}
-use Rattle.archive_state.specs.declared.verdict.Verdict.{Verdict}
+use Rattle.archive_state.specs.Holding.{HoldsPlans}
+use Rattle.archive_state.specs.declared.verdict.Verdict.TheVariants as verdicts
 use Rattle.archive_state.proofs.HistoryLemmas.{legal_loads}
 use Rattle.archive_state.proofs.StandsLemmas.{spells_one_history}
-use Rattle.archive_check.specs.Checked.{IsChecked}
-use Rattle.archive_check.specs.Verdicts.{Tells, with_texts}
-use Rattle.archive_check.proofs.SoundLemmas.{stands_sound}
-use Rattle.archive_check.proofs.LawLemmas.{verdicts_are_one}
+use Rattle.archive_check.specs.declared.finding.Finding.{Finding}
+use Rattle.archive_check.specs.declared.finding.Finding.TheVariants.{Told, BadDigest}
+use Rattle.archive_check.specs.Digests.{Finds, IsExamined}
+use Rattle.archive_check.specs.Verdicts.{with_texts}
+use Rattle.archive_check.proofs.DigestLemmas.{finds_one}
+use Rattle.archive_check.proofs.HeldLemmas.{found_sound, sound_is_held}
 use Rattle.archive_replay.proofs.PlaceLemmas.{texts_are}
 use Rattle.version_store.specs.declared.change.Change.{Change}
 use Rattle.archive_state.specs.Plans.{live_plans}
-use Rattle.archive_audit.specs.Laws.{OneVerdictOnAnImage}
+use Rattle.archive_audit.specs.Laws.{OneFindingOnAnImage, SoundImagesAreWhole}
 use Rattle.archive_replay.specs.declared.error.LoadError.{LoadError}
 use Rattle.archive_replay.specs.declared.error.LoadError.TheVariants as loads
 use Rattle.archive_audit.specs.declared.status.AuditStatus.{AuditStatus}
 use Rattle.archive_audit.specs.declared.status.AuditStatus.TheVariants.{Sound, Faulty, Usage, NotArchive, Disk, Sink, Memory}
-use Rattle.archive_audit.specs.Audits.{IsVerdictOn}
-use Rattle.archive_audit.specs.Statuses.{EndsEarly, status_of_load, status_of_verdict}
+use Rattle.archive_audit.specs.Audits.{IsFindingOn}
+use Rattle.archive_audit.specs.Statuses.{EndsEarly, status_of_finding, status_of_load}
 
 -- ---- statuses
 
@@ -38,25 +41,25 @@ rose_earlier a b c later rose = omega (arith, later, rose)
 
 -- an audit whose archive isn't opened is refused at that place, or the disk failed, or there was no memory
 pub load_refused : (error : LoadError) (at : ℕ) → ((place : ℕ) → error ≡ loads.NotArchive place → place ≡ at)
-    → IsErrOf {T = Verdict} (Err (status_of_load error)) (NotArchive at) ⊎ (IsErrOf {T = Verdict} (Err (status_of_load error)) Disk ⊎ IsErrOf {T = Verdict} (Err (status_of_load error)) Memory)
+    → IsErrOf {T = Finding} (Err (status_of_load error)) (NotArchive at) ⊎ (IsErrOf {T = Finding} (Err (status_of_load error)) Disk ⊎ IsErrOf {T = Finding} (Err (status_of_load error)) Memory)
 load_refused loads.Failed at same = inr (inl refl)
 load_refused (loads.NotArchive place) at same = inl (ap (λ n. Err (NotArchive n)) (same place refl))
 load_refused loads.Memory at same = inr (inr refl)
 
 -- and so is one that ends with that
-pub refused_is : (status : AuditStatus) (at : ℕ) → IsErrOf {T = Verdict} (Err status) (NotArchive at) ⊎ (IsErrOf {T = Verdict} (Err status) Disk ⊎ IsErrOf {T = Verdict} (Err status) Memory)
+pub refused_is : (status : AuditStatus) (at : ℕ) → IsErrOf {T = Finding} (Err status) (NotArchive at) ⊎ (IsErrOf {T = Finding} (Err status) Disk ⊎ IsErrOf {T = Finding} (Err status) Memory)
     → (status ≡ NotArchive at) ⊎ ((status ≡ Disk) ⊎ (status ≡ Memory))
 refused_is status at (inl is) = inl cc
 refused_is status at (inr (inl is)) = inr (inl cc)
 refused_is status at (inr (inr is)) = inr (inr cc)
 
--- where there is a verdict, nothing was refused
-pub not_refused : (verdict : Verdict) (at : ℕ) → IsErrOf {E = AuditStatus} (Ok verdict) (NotArchive at) ⊎ (IsErrOf {E = AuditStatus} (Ok verdict) Disk ⊎ IsErrOf {E = AuditStatus} (Ok verdict) Memory) → ⊥
-not_refused verdict at (inl is) = absurd cc
-not_refused verdict at (inr (inl is)) = absurd cc
-not_refused verdict at (inr (inr is)) = absurd cc
+-- where something is found, nothing was refused
+pub not_refused : (finding : Finding) (at : ℕ) → IsErrOf {E = AuditStatus} (Ok finding) (NotArchive at) ⊎ (IsErrOf {E = AuditStatus} (Ok finding) Disk ⊎ IsErrOf {E = AuditStatus} (Ok finding) Memory) → ⊥
+not_refused finding at (inl is) = absurd cc
+not_refused finding at (inr (inl is)) = absurd cc
+not_refused finding at (inr (inr is)) = absurd cc
 
--- an audit of an archive that came to no verdict, and whose disk didn't fail, had no memory
+-- an audit of an archive that found nothing, and whose disk didn't fail, had no memory
 pub early_completes : (status : AuditStatus) → EndsEarly status → ((at : ℕ) → status ≡ NotArchive at → ⊥) → (status ≡ Disk → ⊥) → (status ≡ Sound) ⊎ ((status ≡ Faulty) ⊎ (status ≡ Memory))
 early_completes Sound early archive disk = absurd early
 early_completes Faulty early archive disk = absurd early
@@ -66,7 +69,7 @@ early_completes Disk early archive disk = absurd (disk refl)
 early_completes Sink early archive disk = absurd early
 early_completes Memory early archive disk = inr (inr refl)
 
--- an audit that ended well ends as its verdict tells
+-- an audit that ended well ends as what it found tells
 pub decided : (status told : AuditStatus) → (status ≡ told) ⊎ ((status ≡ Sink) ⊎ (status ≡ Memory)) → (status ≡ Sound) ⊎ (status ≡ Faulty) → status ≡ told
 decided status told (inl is) which = is
 decided status told (inr (inl is)) (inl sound) = absurd cc
@@ -74,26 +77,39 @@ decided status told (inr (inl is)) (inr faulty) = absurd cc
 decided status told (inr (inr is)) (inl sound) = absurd cc
 decided status told (inr (inr is)) (inr faulty) = absurd cc
 
--- ---- verdicts
+-- ---- what is found
 
--- what stands is sound
-pub stands_as_sound : (history : History) (image : Bytes) (verdict : Verdict) → Stands history image → IsVerdictOn image verdict → status_of_verdict verdict ≡ Sound
-stands_as_sound history image verdict stands is =
+-- of what stands all is sound
+pub stands_as_sound : (history : History) (image : Bytes) (finding : Finding) → Stands history image → IsFindingOn image finding → status_of_finding finding ≡ Sound
+stands_as_sound history image finding stands is =
     let one : is.loaded ≡ history = spells_one_history image.journal is.loaded history is.spelled is.loadable stands.spelled (legal_loads history stands.legal) in
-    let C : History → Type 0 = λ h. IsChecked h image verdict in
-    let sound : verdict ≡ sound_of history = stands_sound history image verdict stands (subst C one is.checked) in
-    ap status_of_verdict sound
+    let E : History → Type 0 = λ h. IsExamined h image finding in
+    let sound : finding ≡ Told (sound_of history) = found_sound history image finding stands (subst E one is.examined) in
+    ap status_of_finding sound
 
--- the history that an image spells is one, and its texts are those that stand there; so there is one verdict
-pub one_verdict_on : OneVerdictOnAnImage
-one_verdict_on image one other is also =
+-- the history that an image spells is one, and its texts are those that stand there; so one thing is found
+pub one_finding_on : OneFindingOnAnImage
+one_finding_on image one other is also =
     let same : also.loaded ≡ is.loaded = spells_one_history image.journal also.loaded is.loaded also.spelled also.loadable is.spelled is.loadable in
-    let C : History → Type 0 = λ h. IsChecked h image other in
-    let there : IsChecked is.loaded image other = subst C same also.checked in
-    let alike : with_texts image.journal there.0 ≡ with_texts image.journal is.checked.0
-    = texts_are image.journal is.loaded there.0 is.spelled there.1 ∙ sym (texts_are image.journal is.loaded is.checked.0 is.spelled is.checked.1) in
-    let T : List (Change (List ℕ)) → Type 0 = λ l. Tells other l image.pages (live_plans is.loaded) in
-    verdicts_are_one image.journal is.checked.0 image.pages (live_plans is.loaded) one other is.checked.2 (subst T alike there.2)
+    let E : History → Type 0 = λ h. IsExamined h image other in
+    let there : IsExamined is.loaded image other = subst E same also.examined in
+    let alike : with_texts image.journal there.0 ≡ with_texts image.journal is.examined.0
+    = texts_are image.journal is.loaded there.0 is.spelled there.1 ∙ sym (texts_are image.journal is.loaded is.examined.0 is.spelled is.examined.1) in
+    let F : List (Change (List ℕ)) → Type 0 = λ l. Finds other l image.pages (live_plans is.loaded) in
+    finds_one (with_texts image.journal is.examined.0) image.pages (live_plans is.loaded) one other is.examined.2 (subst F alike there.2)
+
+-- where all is found sound, the pages hold what the history needs
+sound_held : (image : Bytes) (finding : Finding) (is : IsFindingOn image finding) → status_of_finding finding ≡ Sound → HoldsPlans is.loaded image.pages
+sound_held image (Told (verdicts.Sound words segments)) is sound =
+    let examined = is.examined in
+    sound_is_held is.loaded image words segments is.spelled (examined.0, (examined.1, examined.2.0)) (examined.2.1 tt) is.live
+sound_held image (Told (verdicts.Differs word segment place found wanted)) is sound = absurd cc
+sound_held image (Told (verdicts.NotLeast word taken least)) is sound = absurd cc
+sound_held image (Told (verdicts.BadText doc at)) is sound = absurd cc
+sound_held image (BadDigest word segment) is sound = absurd cc
+
+pub sound_whole : SoundImagesAreWhole
+sound_whole image finding is sound = record { loaded = is.loaded; loadable = is.loadable; spelled = is.spelled; held = sound_held image finding is sound }
 
 -- so no audit ends with a fault that told that
 pub not_faulty : (status told : AuditStatus) → told ≡ Sound → status ≡ told → status ≡ Faulty → ⊥

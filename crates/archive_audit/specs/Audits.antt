@@ -4,36 +4,56 @@ use Rattle.machine_model.specs.Areas.{Bytes}
 use Rattle.machine_model.specs.States.{DiskState}
 use Rattle.machine_model.specs.Pushes.{IsPrefix}
 use Rattle.gate_journal.specs.Spelled.{Spells}
+use Rattle.page_store.specs.Live.{AreLive}
 use Rattle.archive_state.specs.Histories.{History}
+use Rattle.archive_state.specs.Holding.{HoldsPlans}
 use Rattle.archive_state.specs.Legal.{IsLoadable}
+use Rattle.archive_state.specs.Plans.{live_extents}
 use Rattle.archive_state.specs.Stands.{bodies_of}
 use Rattle.archive_state.specs.Steps.{Verified}
 use Rattle.archive_state.specs.Replies.{reply_text}
-use Rattle.archive_state.specs.declared.verdict.Verdict.{Verdict}
-use Rattle.archive_check.specs.Checked.{IsChecked}
+use Rattle.archive_check.specs.declared.finding.Finding.{Finding}
+use Rattle.archive_check.specs.declared.finding.Finding.TheVariants.{Told, BadDigest}
+use Rattle.archive_check.specs.Digests.{IsExamined}
+use Rattle.archive_replies.specs.Findings.{bad_digest_text}
 use Rattle.archive_audit.specs.declared.status.AuditStatus.{AuditStatus}
-use Rattle.archive_audit.specs.Statuses.{status_of_verdict}
+use Rattle.archive_audit.specs.Statuses.{status_of_finding}
 
--- The verdict on an image: of the history that its journal spells, by the texts and sublists that stand in the image.
-pub record IsVerdictOn (image : Bytes) (verdict : Verdict) : Type 0 where
+-- What is found of an image: of the history that its journal spells and a load accepts, by the texts, the sublists and the digests that stand in the
+-- image.
+pub record IsFindingOn (image : Bytes) (finding : Finding) : Type 0 where
   pub loaded : History
   pub loadable : IsLoadable loaded
   pub spelled : Spells image.journal (bodies_of loaded)
-  pub checked : IsChecked loaded image verdict
+  pub live : AreLive (live_extents loaded) (length image.pages)
+  pub examined : IsExamined loaded image finding
 
--- an audit came to a verdict on an image: it showed that one's line, and ends as it tells
+-- the line of what is found: that of the verdict, as `verify` has it; or that of a digest
+abbrev pub finding_text : Finding → List ℕ
+finding_text (Told verdict) = reply_text (Verified verdict)
+finding_text (BadDigest word segment) = bad_digest_text word segment
+
+-- an audit found something of an image: it showed its line, and ends as it tells
 pub record IsAudited (image : Bytes) (status : AuditStatus) (before after : List ℕ) : Type 0 where
-  pub verdict : Verdict
-  pub is : IsVerdictOn image verdict
-  pub shown : after ≡ before ++ reply_text (Verified verdict)
-  pub decides : status ≡ status_of_verdict verdict
+  pub finding : Finding
+  pub is : IsFindingOn image finding
+  pub shown : after ≡ before ++ finding_text finding
+  pub decides : status ≡ status_of_finding finding
 
--- an audit came to a verdict on an image, and of that one's line a part was shown, and not all
+-- an audit found something of an image, and of its line a part was shown, and not all
 pub record IsCutOff (image : Bytes) (before after : List ℕ) : Type 0 where
-  pub verdict : Verdict
-  pub is : IsVerdictOn image verdict
-  pub front : IsPrefix after (before ++ reply_text (Verified verdict))
-  pub short : length after < length before + length (reply_text (Verified verdict))
+  pub finding : Finding
+  pub is : IsFindingOn image finding
+  pub front : IsPrefix after (before ++ finding_text finding)
+  pub short : length after < length before + length (finding_text finding)
+
+-- an image has all that an archive answers from: its journal spells a history that loads, and its pages hold each live plan's sublists, with their
+-- digests
+pub record IsWhole (image : Bytes) : Type 0 where
+  pub loaded : History
+  pub loadable : IsLoadable loaded
+  pub spelled : Spells image.journal (bodies_of loaded)
+  pub held : HoldsPlans loaded image.pages
 
 -- a disk has the lengths, the bytes and the images that it had: nothing changed but its counts, and its moments by what was shown
 pub record IsLeftAlone (old new : DiskState) : Type 0 where

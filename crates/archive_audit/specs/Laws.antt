@@ -1,9 +1,15 @@
--- What holds of verdicts on an image.
-use Rattle.std.specs.Prelude.{◌≡◌}
+-- What holds of what is found of an image.
+use Rattle.std.specs.Prelude.{◌≡◌, ◌↔◌, ℕ}
 use Rattle.machine_model.specs.Areas.{Bytes}
-use Rattle.archive_state.specs.declared.verdict.Verdict.{Verdict}
-use Rattle.archive_audit.specs.Audits.{IsVerdictOn}
+use Rattle.archive_check.specs.declared.finding.Finding.{Finding}
+use Rattle.archive_audit.specs.declared.status.AuditStatus.TheVariants.{Sound}
+use Rattle.archive_audit.specs.Audits.{IsFindingOn, IsWhole}
+use Rattle.archive_audit.specs.Statuses.{status_of_finding}
 
--- An image has one verdict at most.
-abbrev pub OneVerdictOnAnImage : Type 0
-OneVerdictOnAnImage = (image : Bytes) (one other : Verdict) → IsVerdictOn image one → IsVerdictOn image other → one ≡ other
+-- Of an image one thing is found at most.
+abbrev pub OneFindingOnAnImage : Type 0
+OneFindingOnAnImage = (image : Bytes) (one other : Finding) → IsFindingOn image one → IsFindingOn image other → one ≡ other
+
+-- An image of which all is found sound has all that an archive answers from.
+abbrev pub SoundImagesAreWhole : Type 0
+SoundImagesAreWhole = (image : Bytes) (finding : Finding) → IsFindingOn image finding → status_of_finding finding ≡ Sound → IsWhole image

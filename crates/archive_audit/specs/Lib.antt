@@ -1,3 +1,4 @@
 pub mod Statuses
+pub mod Opened
 pub mod Audits
 pub mod Laws

@@ -3,6 +3,8 @@ use Rattle.std.specs.Prelude.{ℕ, List, ◌++◌, codes}
 use Rattle.std.specs.Fmt.{decimal}
 use Rattle.archive_state.specs.declared.verdict.Verdict.{Verdict}
 use Rattle.archive_state.specs.declared.verdict.Verdict.TheVariants as verdicts
+use Rattle.archive_check.specs.declared.finding.Finding.{Finding}
+use Rattle.archive_check.specs.declared.finding.Finding.TheVariants as findings
 use Rattle.archive_replay.specs.declared.error.LoadError.{LoadError}
 use Rattle.archive_replay.specs.declared.error.LoadError.TheVariants as loads
 use Rattle.archive_audit.specs.declared.status.AuditStatus.{AuditStatus}
@@ -35,6 +37,11 @@ status_of_verdict (verdicts.Differs word segment place found wanted) = Faulty
 status_of_verdict (verdicts.NotLeast word taken least) = Faulty
 status_of_verdict (verdicts.BadText doc at) = Faulty
 
+-- and one that found something: a digest that is wrong is a fault
+abbrev pub status_of_finding : Finding → AuditStatus
+status_of_finding (findings.Told verdict) = status_of_verdict verdict
+status_of_finding (findings.BadDigest word segment) = Faulty
+
 -- how an audit ends where there is no archive
 abbrev pub status_of_load : LoadError → AuditStatus
 status_of_load loads.Failed = Disk
@@ -51,7 +58,7 @@ ShowsNothing Disk = Unit {0}
 ShowsNothing Sink = ⊥
 ShowsNothing Memory = Unit {0}
 
--- the statuses of an audit that came to no verdict
+-- the statuses of an audit that found nothing to tell
 abbrev pub EndsEarly : AuditStatus → Type 0
 EndsEarly Sound = ⊥
 EndsEarly Faulty = ⊥

@@ -7,12 +7,12 @@ ghost use Rattle.machine_model.specs.Moments.{LeavesOnly};
 ghost use Rattle.machine_model.specs.Pushes.{IsPrefix};
 ghost use Rattle.archive_state.specs.Histories.{History};
 ghost use Rattle.archive_state.specs.Stands.{Stands, IsNotArchive};
-ghost use Rattle.archive_audit.specs.Audits.{IsAudited, IsCutOff, IsLeftAlone};
+ghost use Rattle.archive_audit.specs.Audits.{IsAudited, IsCutOff, IsLeftAlone, IsWhole};
 ghost use Rattle.archive_audit.specs.Statuses.{ShowsNothing};
 
+use crate::examining::finding_of;
 use crate::status::AuditStatus;
 use crate::telling::tell;
-use crate::verdict::verdict_of;
 use machine_model::Machine;
 use std::alloc::Global;
 
@@ -28,11 +28,12 @@ pub fn are_refused(words: &[String]) -> bool
 /// there may be none.
 ///
 /// `audit` opens the archive on the machine's disk for reading only, checks it against its own texts,
-/// and shows the verdict's line. A journal of at most 17 bytes is that of an archive without entries,
-/// which is sound. The first event that ends the audit decides the status. `docs/claims.md` says in
-/// words what each clause promises.
+/// and shows the verdict's line; where that would be that all is sound, and a digest in the journal isn't
+/// that of its sublist's bytes, it shows the first such. A journal of at most 17 bytes is that of an
+/// archive without entries, which is sound. The first event that ends the audit decides the status.
+/// `docs/claims.md` says in words what each clause promises.
 ///
-/// Costs what `Archive::open_to_read` and `Archive::verify` cost.
+/// Costs what a load costs, and `archive_check::verify_with_digests`: it reads each live sublist once.
 pub fn audit<M: Machine>(alloc: Global, words: &[String], machine: &mut M) -> AuditStatus
     // Any word is one too many, and then nothing is touched.
     ensures usage { (result ≡ AuditStatus.Usage) ↔ (1 ≤ length words.now) }
@@ -51,12 +52,14 @@ pub fn audit<M: Machine>(alloc: Global, words: &[String], machine: &mut M) -> Au
     ensures not_archive { M.disk_tells → (at : ℕ) → result ≡ AuditStatus.NotArchive at → IsNotArchive (M.disk machine.old).holds at }
     ensures refused { M.disk_tells → length words.now ≡ 0 → (at : ℕ) → IsNotArchive (M.disk machine.old).holds at →
         (result ≡ AuditStatus.NotArchive at) ⊎ ((result ≡ AuditStatus.Disk) ⊎ (result ≡ AuditStatus.Memory)) }
-    // Whatever the disk holds: at the statuses 0 and 1 what was shown is the line of the verdict on the bytes that reads gave, and the status is
-    // 0 where that is sound. Where the sink failed it was a part of the line; elsewhere nothing.
+    // Whatever the disk holds: at the statuses 0 and 1 what was shown is the line of what is found of the bytes that reads gave, the verdict or a
+    // digest, and the status is 0 where that is that all is sound. Where the sink failed it was a part of the line; elsewhere nothing.
     ensures audited { M.sink_tells → M.disk_tells → (result ≡ AuditStatus.Sound) ⊎ (result ≡ AuditStatus.Faulty) →
         IsAudited (M.disk machine.old).holds result (M.sink machine.old).shown (M.sink machine.new).shown }
     ensures cut_off { M.sink_tells → M.disk_tells → result ≡ AuditStatus.Sink → IsCutOff (M.disk machine.old).holds (M.sink machine.old).shown (M.sink machine.new).shown }
     ensures unshown { ShowsNothing result → M.sink machine.new ≡ M.sink machine.old }
+    // At status 0 the journal spells a history that loads, and the pages hold each live plan's sublists, with the digests that the journal has.
+    ensures whole { M.disk_tells → result ≡ AuditStatus.Sound → IsWhole (M.disk machine.old).holds }
     // Of bytes that stand for a history no fault is told.
     ensures no_false_alarm { M.disk_tells → (h : History) → Stands h (M.disk machine.old).holds → result ≡ AuditStatus.Faulty → ⊥ }
     // Where nothing is wrong with the machine, an archive has its verdict, unless memory runs out.
@@ -69,8 +72,8 @@ pub fn audit<M: Machine>(alloc: Global, words: &[String], machine: &mut M) -> Au
     if are_refused(words) {
         return AuditStatus::Usage;
     }
-    match verdict_of(alloc, machine) {
-        Ok(verdict) => tell(alloc, machine, &verdict),
+    match finding_of(alloc, machine) {
+        Ok(finding) => tell(alloc, machine, &finding),
         Err(status) => status,
     }
 }

@@ -1,8 +1,9 @@
 //! How an audit ends.
 ghost use Rattle.std.specs.Prelude.{◌≡◌};
-ghost use Rattle.archive_audit.specs.Statuses.{code_of, status_of_load, status_of_verdict};
+ghost use Rattle.archive_audit.specs.Statuses.{code_of, status_of_finding, status_of_load, status_of_verdict};
 
-use archive_core::LoadError;
+use archive_check::Finding;
+use archive_replay::LoadError;
 use archive_state::Verdict;
 use std::fmt;
 
@@ -44,8 +45,18 @@ impl AuditStatus {
         }
     }
 
-    /// How an audit ends that came to this verdict, and showed it. Constant cost.
-    pub(crate) fn of(verdict: &Verdict) -> AuditStatus
+    /// How an audit ends that found this, and showed it. Constant cost.
+    pub(crate) fn of(finding: &Finding) -> AuditStatus
+        ensures { result ≡ status_of_finding finding.now }
+    {
+        match finding {
+            Finding::Told(verdict) => AuditStatus::of_verdict(verdict),
+            Finding::BadDigest { .. } => AuditStatus::Faulty,
+        }
+    }
+
+    /// How an audit ends that came to this verdict, and to nothing else. Constant cost.
+    fn of_verdict(verdict: &Verdict) -> AuditStatus
         ensures { result ≡ status_of_verdict verdict.now }
     {
         match verdict {

@@ -24,7 +24,7 @@ use Rattle.archive_replay.proofs.PlaceLemmas.{bare_changes}
 use Rattle.archive_replay.proofs.IndexLemmas.{loadable_rises}
 use Rattle.archive_state.specs.declared.verdict.Verdict.{Verdict}
 use Rattle.archive_state.specs.declared.verdict.Verdict.TheVariants.{Sound, Differs, NotLeast, BadText}
-use Rattle.archive_check.specs.Verdicts.{with_texts, IsText, IsUpTo, IsFirstBad, IsPlanned, found_in, wanted_of, DifferAt, SegmentDiffers, IsLeastSpace, IsSound, HasDifference, TakesMore, FirstFault, AllSound, Says}
+use Rattle.archive_check.specs.Verdicts.{with_texts, IsText, IsUpTo, IsFirstBad, IsPlanned, found_in, wanted_of, DifferAt, SegmentDiffers, IsLeastSpace, IsSound, HasDifference, TakesMore, FirstFault, AllSound, Says, Tells}
 use Rattle.archive_check.specs.Laws.{LoadedChangesAreInOrder, OneVerdict}
 use Rattle.archive_check.proofs.OrderLemmas.{one_way}
 
@@ -143,17 +143,23 @@ one_least list factor [] h m n a b = absurd a
 one_least list factor (f ∷ cuts) h m n a b = omega (arith, a.least b.cuts b.covers, b.takes, b.least a.cuts a.covers, a.takes)
 
 -- the first plan that isn't sound
-all_at : {X : Type 0} (P : X → Type 0) (front back : List X) (x : X) → All P (front ++ x ∷ back) → P x
+pub all_at : {X : Type 0} (P : X → Type 0) (front back : List X) (x : X) → All P (front ++ x ∷ back) → P x
 all_at P [] back x all = All-head P x back all
 all_at P (y ∷ front) back x all = all_at P front back x (All-tail P y (front ++ x ∷ back) all)
 
-one_first : (P : StoredPlan → Type 0) (f g : List StoredPlan) (s t : StoredPlan) (b c : List StoredPlan) → f ++ s ∷ b ≡ g ++ t ∷ c → All P f → All P g → (P s → ⊥) → (P t → ⊥) → s ≡ t
-one_first P [] [] s t b c same early other bad ill = cc
-one_first P [] (x ∷ g) s t b c same early other bad ill = let here : s ≡ x = cc in absurd (bad (subst P (sym here) (All-head P x g other)))
-one_first P (x ∷ f) [] s t b c same early other bad ill = let here : x ≡ t = cc in absurd (ill (subst P here (All-head P x f early)))
-one_first P (x ∷ f) (y ∷ g) s t b c same early other bad ill =
+-- two lists with an item of which P doesn't hold, behind items of which it does: it is one item, at one place
+pub record IsOneAt {X : Type 0} (f g : List X) (s t : X) : Type 0 where
+  pub long : length f ≡ length g
+  pub same : s ≡ t
+
+pub one_at : {X : Type 0} (P : X → Type 0) (f g : List X) (s t : X) (b c : List X) → f ++ s ∷ b ≡ g ++ t ∷ c → All P f → All P g → (P s → ⊥) → (P t → ⊥) → IsOneAt f g s t
+one_at P [] [] s t b c same early other bad ill = record { long = refl; same = cc }
+one_at {X} P [] (x ∷ g) s t b c same early other bad ill = let here : s ≡ x = cc in absurd (bad (subst P (sym here) (All-head P x g other)))
+one_at {X} P (x ∷ f) [] s t b c same early other bad ill = let here : x ≡ t = cc in absurd (ill (subst P here (All-head P x f early)))
+one_at {X} P (x ∷ f) (y ∷ g) s t b c same early other bad ill =
     let rest : f ++ s ∷ b ≡ g ++ t ∷ c = cc in
-    one_first P f g s t b c rest (All-tail P x f early) (All-tail P y g other) bad ill
+    let more = one_at P f g s t b c rest (All-tail P x f early) (All-tail P y g other) bad ill in
+    record { long = omega (arith, more.long); same = more.same }
 
 fault_sound : (fault : List (Change (List ℕ)) → List ℕ → PlanEntry → Type 0) (words segments : ℕ) (texts : List (Change (List ℕ))) (pages : List ℕ) (plans : List StoredPlan)
     → ((plan : PlanEntry) → fault texts pages plan → IsSound texts pages plan → ⊥) → FirstFault fault texts pages plans → AllSound words segments texts pages plans → ⊥
@@ -167,7 +173,7 @@ one_plan : (fault other : List (Change (List ℕ)) → List ℕ → PlanEntry �
     → FirstFault fault texts pages plans → FirstFault other texts pages plans → (plan : PlanEntry) × (fault texts pages plan × other texts pages plan)
 one_plan fault other texts pages plans unsound ill a b =
     let S : StoredPlan → Type 0 = λ s. IsSound texts pages s.plan in
-    let same = one_first S a.front b.front a.stored b.stored a.back b.back (sym a.plans_are ∙ b.plans_are) a.sound b.sound (unsound a.stored.plan a.there) (ill b.stored.plan b.there) in
+    let same = (one_at S a.front b.front a.stored b.stored a.back b.back (sym a.plans_are ∙ b.plans_are) a.sound b.sound (unsound a.stored.plan a.there) (ill b.stored.plan b.there)).same in
     (a.stored.plan, (a.there, subst (λ (s : StoredPlan). other texts pages s.plan) (sym same) b.there))
 
 -- ---- verdicts
@@ -252,8 +258,10 @@ one_says texts pages plans (BadText c s) (BadText d t) x y =
     let f = both.1 in
     cc
 
-pub verdicts_are_one : OneVerdict
-verdicts_are_one journal changes pages plans one other x y =
-    let texts = with_texts journal changes in
+pub tells_one : (texts : List (Change (List ℕ))) (pages : List ℕ) (plans : List StoredPlan) (one other : Verdict) → Tells one texts pages plans → Tells other texts pages plans → one ≡ other
+tells_one texts pages plans one other x y =
     let P : List StoredPlan → Type 0 = λ l. Says other texts pages l in
     one_says texts pages x.0 one other x.2 (subst P (sym (one_way (words_in texts) plans x.0 y.0 x.1 y.1)) y.2)
+
+pub verdicts_are_one : OneVerdict
+verdicts_are_one journal changes pages plans one other x y = tells_one (with_texts journal changes) pages plans one other x y

@@ -6,3 +6,6 @@ mod Sorting
 mod OrderLemmas
 pub mod LawLemmas
 pub mod SoundLemmas
+pub mod DigestLemmas
+pub mod HeldLemmas
+pub mod OpenLemmas

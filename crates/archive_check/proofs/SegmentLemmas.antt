@@ -1,6 +1,7 @@
 -- The segments' bytes beside those that should stand there, half by half.
-use Rattle.std.proofs.Common.{◌≡◌, ℕ, ◌+◌, ◌<◌, List, ◌∷◌, ◌++◌, length, take, drop, map, get_or, Option, Some, None, ap, sym, subst, ◌∙◌, arith, append_assoc}
-use Rattle.std.specs.Prelude.{MatchOption}
+use Rattle.std.proofs.Common.{◌≡◌, ℕ, ◌+◌, ◌<◌, List, [], ◌∷◌, ◌++◌, length, take, drop, map, get_or, Option, Some, None, Result, Ok, Err, refl, ap, sym, subst, subst₂, ◌∙◌, arith, append_assoc}
+use Rattle.std.specs.Prelude.{IfOk, IfSome, MatchOption}
+use Rattle.std.proofs.lemmas.List.Elements.{All-nil, All-cons}
 use Rattle.std.proofs.lemmas.List.{map-append, take-append-drop, length-take-le, length-map, length-append}
 use Rattle.time_base.specs.declared.posting.Posting.{Posting}
 use Rattle.time_base.specs.declared.time.Time.{Time}
@@ -9,12 +10,15 @@ use Rattle.record_codec.specs.declared.place.Place.{Place}
 use Rattle.machine_model.specs.States.{DiskState}
 use Rattle.machine_model.specs.Calls.{OnlyReads}
 use Rattle.page_store.specs.Ranges.{bytes_in}
+use Rattle.postings.specs.Lists.{sublist}
+use Rattle.sublist_store.specs.Layouts.{spelling_in}
 use Rattle.sublist_store.specs.Segments.{seconds}
 use Rattle.sublist_store.specs.Preparing.{spellings, Serves}
 use Rattle.sublist_store.proofs.SpellLemmas.{both_halves}
 use Rattle.archive_check.specs.declared.segments.Wrong.{Wrong}
-use Rattle.archive_check.specs.Verdicts.{SegmentDiffers}
-use Rattle.archive_check.specs.Checking.{IsFirstWrong}
+use Rattle.archive_check.specs.Verdicts.{DifferAt, SegmentDiffers}
+use Rattle.archive_check.specs.Digests.{HasDigest}
+use Rattle.archive_check.specs.Checking.{AreAltered, IsFirstWrong}
 
 -- the bytes at places
 abbrev pub bytes_at : List ℕ → List Place → List (List ℕ)
@@ -54,13 +58,16 @@ pub record AreHalves (found wanted one other this that : List (List ℕ)) (k : �
   pub wanted_is : this ++ that ≡ wanted
   pub long : length one ≡ k
 
+pub whole_again : {A : Type 0} (k : ℕ) (all one other : List A) → one ≡ take k all → other ≡ drop k all → one ++ other ≡ all
+whole_again {A} k all one other front back = ap (λ (l : List A). l ++ other) front ∙ ap (λ (l : List A). take k all ++ l) back ∙ take-append-drop k all
+
 -- the places are divided with the cuts, and the list serves for all segments
 pub halves : (layout : Layout) (pages : List ℕ) (list given : List Posting) (cuts left right : List Time) (places one other : List Place) (k : ℕ) (middle : Time) (h : ℕ) → Serves (seconds cuts) h list given
     → k < length cuts → length places ≡ length cuts → middle ≡ get_or cuts k middle → left ≡ take k cuts → right ≡ drop k cuts → one ≡ take k places → other ≡ drop k places
     → AreHalves (bytes_at pages places) (spellings layout list (seconds cuts) h) (bytes_at pages one) (bytes_at pages other) (spellings layout given (seconds left) middle.seconds) (spellings layout given (seconds right) h) k
 halves layout pages list given cuts left right places one other k middle h serves inside many middle_is left_is right_is one_is other_is =
     let B : Place → List ℕ = λ p. bytes_in p.extent pages in
-    let whole : one ++ other ≡ places = ap (λ (l : List Place). l ++ other) one_is ∙ ap (λ (l : List Place). take k places ++ l) other_is ∙ take-append-drop k places in
+    let whole : one ++ other ≡ places = whole_again k places one other one_is other_is in
     record {
       found_is = sym (map-append B one other) ∙ ap (bytes_at pages) whole;
       wanted_is = both_halves layout list given cuts left right k middle h serves inside middle_is left_is right_is;
@@ -84,6 +91,46 @@ right_told found wanted one other this that k (Some w) m a same told moved =
     let whole : SegmentDiffers (one ++ other) (one ++ that) n w.spot.place w.spot.found w.spot.wanted = differs_right one other that w.segment w.spot.place n w.spot.found w.spot.wanted (omega (arith, a.long)) told in
     let all : one ++ that ≡ wanted = ap (λ (l : List (List ℕ)). l ++ that) same ∙ a.wanted_is in
     subst (λ (o : Option Wrong). IsFirstWrong found wanted o) (sym moved) (told_of (Some (record { segment = n; spot = w.spot })) a.found_is all whole)
+
+-- where all is right in the end, the right half is
+pub none_moved : (k : ℕ) (w m : Option Wrong) → MatchOption w (m ≡ None) (λ x. m ≡ Some (record { segment = k + x.segment; spot = x.spot })) → m ≡ None → w ≡ None
+none_moved k None m moved quiet = refl
+none_moved k (Some w) m moved quiet = absurd cc
+
+-- ---- one segment
+
+-- what a call gives holds both
+pub ok_both : {T E : Type 0} (P Q R : T → Type 0) (r : Result T E) → ((v : T) → P v → Q v → R v) → IfOk r P → IfOk r Q → IfOk r R
+ok_both P Q R (Ok v) join one other = join v one other
+ok_both P Q R (Err e) join one other = tt
+
+pub one_wrong : (layout : Layout) (pages : List ℕ) (list : List Posting) (cuts : List Time) (places : List Place) (h : ℕ) (first : Time) (place : Place) (o : Option Wrong) → length cuts ≡ 1 → length places ≡ 1
+    → first ≡ get_or cuts 0 first → place ≡ get_or places 0 place → IfSome o (λ w. w.segment ≡ 0)
+    → MatchOption o (bytes_in place.extent pages ≡ spelling_in layout (sublist first.seconds h list)) (λ w. DifferAt (bytes_in place.extent pages) (spelling_in layout (sublist first.seconds h list)) w.spot.place w.spot.found w.spot.wanted)
+    → IsFirstWrong (bytes_at pages places) (spellings layout list (seconds cuts) h) o
+one_wrong layout pages list [] places h first place o one other at there within told = absurd (omega (arith, one))
+one_wrong layout pages list (c ∷ d ∷ cuts) places h first place o one other at there within told = absurd (omega (arith, one))
+one_wrong layout pages list (c ∷ []) [] h first place o one other at there within told = absurd (omega (arith, other))
+one_wrong layout pages list (c ∷ []) (p ∷ q ∷ places) h first place o one other at there within told = absurd (omega (arith, other))
+one_wrong layout pages list (c ∷ []) (p ∷ []) h first place o one other at there within told =
+    let F : Time → Place → Type 0 = λ f q. IsFirstWrong (bytes_at pages (q ∷ [])) (spellings layout list (seconds (f ∷ [])) h) o in
+    subst₂ F at there (go o within told)
+  where
+    go : (o : Option Wrong) → IfSome o (λ w. w.segment ≡ 0)
+        → MatchOption o (bytes_in place.extent pages ≡ spelling_in layout (sublist first.seconds h list)) (λ w. DifferAt (bytes_in place.extent pages) (spelling_in layout (sublist first.seconds h list)) w.spot.place w.spot.found w.spot.wanted)
+        → IsFirstWrong (bytes_at pages (place ∷ [])) (spellings layout list (seconds (first ∷ [])) h) o
+    go None within same = ap (λ (b : List ℕ). b ∷ []) same
+    go (Some w) within differ = record { front = []; this = bytes_in place.extent pages; that = spelling_in layout (sublist first.seconds h list); behind = []; after = []; one_is = refl; other_is = refl; segment_is = within; differs = differ }
+
+pub one_digest : (pages : List ℕ) (places : List Place) (place : Place) (o : Option ℕ) → length places ≡ 1 → place ≡ get_or places 0 place → IfSome o (λ n. n ≡ 0) → MatchOption o (HasDigest pages place) (λ n. ¬ (HasDigest pages place))
+    → AreAltered pages places o
+one_digest pages [] place o other there within told = absurd (omega (arith, other))
+one_digest pages (p ∷ q ∷ places) place o other there within told = absurd (omega (arith, other))
+one_digest pages (p ∷ []) place o other there within told = subst (λ (q : Place). AreAltered pages (q ∷ []) o) there (go o within told)
+  where
+    go : (o : Option ℕ) → IfSome o (λ n. n ≡ 0) → MatchOption o (HasDigest pages place) (λ n. ¬ (HasDigest pages place)) → AreAltered pages (place ∷ []) o
+    go None within right = All-cons (HasDigest pages) place [] right (All-nil (HasDigest pages))
+    go (Some n) within wrong = record { front = []; place = place; back = []; places_are = refl; segment_is = within; right = All-nil (HasDigest pages); wrong = wrong }
 
 -- reads leave the pages
 pub pages_on : (old new : DiskState) → OnlyReads old new → new.holds.pages ≡ old.holds.pages

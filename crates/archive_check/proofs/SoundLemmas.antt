@@ -98,7 +98,7 @@ all_told h image stands =
       },
     )
 
-sound_verdict : (h : History) (image : Bytes) (cs : List (Change TextPlace)) → Stands h image → ArePlaced 16 h cs → IsVerdict image.journal cs image.pages (live_plans h) (sound_of h)
+pub sound_verdict : (h : History) (image : Bytes) (cs : List (Change TextPlace)) → Stands h image → ArePlaced 16 h cs → IsVerdict image.journal cs image.pages (live_plans h) (sound_of h)
 sound_verdict h image cs stands placed =
     let T : List (Change (List ℕ)) → Type 0 = λ texts. Tells (sound_of h) texts image.pages (live_plans h) in
     subst T (sym (texts_are image.journal h cs stands.spelled placed)) (all_told h image stands)

@@ -1,5 +1,5 @@
 -- What the parts of a check give.
-use Rattle.std.specs.Prelude.{◌≡◌, ℕ, ◌<◌, List, [], ◌∷◌, ◌++◌, length, take, get_or, map, All, Option, IfSome, MatchOption, IsUtf8}
+use Rattle.std.specs.Prelude.{◌≡◌, ℕ, ◌<◌, List, [], ◌∷◌, ◌++◌, length, take, drop, slice_index, get_or, map, All, Option, IfSome, MatchOption, IsUtf8}
 use Rattle.std.specs.Option.{option_map}
 use Rattle.time_base.specs.declared.text_place.TextPlace.{TextPlace}
 use Rattle.time_base.specs.declared.posting.Posting.{Posting}
@@ -10,15 +10,25 @@ use Rattle.version_store.specs.declared.change.Change.{Change}
 use Rattle.version_store.specs.Changes.{mapped}
 use Rattle.version_index.specs.Indexes.{state_of, Indexes}
 use Rattle.version_index.specs.Loads.{Loaded, AreLoaded}
+use Rattle.version_index.specs.Words.{words_in}
+use Rattle.record_codec.specs.declared.place.Place.{Place}
 use Rattle.record_codec.specs.declared.plan.PlanEntry.{PlanEntry}
+use Rattle.elementary.specs.Partitions.{IsBest, space}
 use Rattle.stored_plans.specs.Plans.{IsFitFor, plan_space}
 use Rattle.archive_replay.specs.Texts.{text_in, bare, nothing}
 use Rattle.archive_check.specs.declared.segments.Wrong.{Wrong}
 use Rattle.archive_check.specs.declared.texts.Texts.{Texts}
 use Rattle.archive_check.specs.declared.texts.Texts.TheVariants.{Good, Bad}
+use Rattle.archive_state.specs.declared.stored.StoredPlan.{StoredPlan}
 use Rattle.archive_state.specs.declared.verdict.Verdict.{Verdict}
 use Rattle.archive_state.specs.declared.verdict.Verdict.TheVariants.{Sound, Differs, NotLeast, BadText}
-use Rattle.archive_check.specs.Verdicts.{with_texts, IsText, IsFirstBad, IsLeastSpace, SegmentDiffers, HasDifference, TakesMore}
+use Rattle.archive_check.specs.declared.digests.Digests.{Digests}
+use Rattle.archive_check.specs.declared.digests.Digests.TheVariants.{Asked}
+use Rattle.archive_check.specs.declared.verifying.Altered.{Altered}
+use Rattle.archive_check.specs.declared.verifying.Checked.{Checked}
+use Rattle.archive_check.specs.Orders.{AreByNumber}
+use Rattle.archive_check.specs.Verdicts.{with_texts, IsText, IsFirstBad, IsLeastSpace, SegmentDiffers, HasDifference, TakesMore, Says}
+use Rattle.archive_check.specs.Digests.{HasDigest, HasDigests, IsAltered, IsFirstAltered, TellsSound}
 
 -- ---- texts; on a disk that tells they are those that stand in the journal
 
@@ -56,6 +66,12 @@ AreRead tells journal changes (Bad version) = tells → IsFirstBad (with_texts j
 abbrev pub IsFirstWrong : (found wanted : List (List ℕ)) → Option Wrong → Type 0
 IsFirstWrong found wanted o = MatchOption o (found ≡ wanted) (λ (w : Wrong). SegmentDiffers found wanted w.segment w.spot.place w.spot.found w.spot.wanted)
 
+-- a partition takes more than the least space of those that keep the factor, from its first cut to the horizon
+pub record IsBeaten (list : List Posting) (factor : Fraction) (h : ℕ) (cuts : List ℕ) (taken least : ℕ) : Type 0 where
+  pub taken_is : taken ≡ space list (slice_index cuts 0) (drop 1 cuts)
+  pub least_is : IsBest list factor h (slice_index cuts 0) h least
+  pub more : least < taken
+
 -- a plan of a list that takes more space than it has to
 pub record IsExcess (list : List Posting) (factor : Fraction) (cuts : List Time) (h taken least : ℕ) : Type 0 where
   pub fit : IsFitFor Guarantee list factor cuts h
@@ -69,3 +85,31 @@ IsFaultOf texts pages plan (Sound words segments) = ⊥
 IsFaultOf texts pages plan (Differs word segment place found wanted) = HasDifference word segment place found wanted texts pages plan
 IsFaultOf texts pages plan (NotLeast word taken least) = TakesMore word taken least texts pages plan
 IsFaultOf texts pages plan (BadText doc at) = ⊥
+
+-- the verdict tells that the plan of a list takes more than it has to
+abbrev pub IsExcessOf : PlanEntry → List Posting → Verdict → Type 0
+IsExcessOf plan list (Sound words segments) = ⊥
+IsExcessOf plan list (Differs word segment place found wanted) = ⊥
+IsExcessOf plan list (NotLeast word taken least) = (word ≡ plan.word) × (plan.kind ≡ Guarantee) × IsExcess list plan.fraction plan.cuts plan.horizon.seconds taken least
+IsExcessOf plan list (BadText doc at) = ⊥
+
+-- ---- digests
+
+-- all places have the digests of their bytes, or this segment's is the first that hasn't
+abbrev pub AreAltered : List ℕ → List Place → Option ℕ → Type 0
+AreAltered pages places o = MatchOption o (All (HasDigest pages) places) (λ segment. IsAltered pages places segment)
+
+-- all plans have the digests of their bytes, or of this word's plan this segment's is the first that is wrong
+abbrev pub AreFirstAltered : List ℕ → List StoredPlan → Option Altered → Type 0
+AreFirstAltered pages plans o = MatchOption o (All (λ s. HasDigests pages s.plan) plans) (λ (a : Altered). IsFirstAltered a.word a.segment pages plans)
+
+-- what a check of plans in this order tells of digests, where it asks them: one is wrong only where all else is sound
+abbrev pub DigestsTold : Checked → List ℕ → List StoredPlan → Type 0
+DigestsTold checked pages plans = (TellsSound checked.verdict → AreFirstAltered pages plans checked.altered) × IfSome checked.altered (λ _. TellsSound checked.verdict)
+
+-- what a check came to, with digests or without
+pub record TellsAll (digests : Digests) (checked : Checked) (texts : List (Change (List ℕ))) (pages : List ℕ) (plans : List StoredPlan) : Type 0 where
+  pub ordered : List StoredPlan
+  pub by_number : AreByNumber (words_in texts) plans ordered
+  pub says : Says checked.verdict texts pages ordered
+  pub digests_told : digests ≡ Asked → DigestsTold checked pages ordered

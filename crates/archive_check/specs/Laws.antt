@@ -1,11 +1,15 @@
 -- What holds of verdicts and of what a check asks for.
-use Rattle.std.specs.Prelude.{◌≡◌, ℕ, List, []}
+use Rattle.std.specs.Prelude.{◌≡◌, ℕ, List, [], length, All}
 use Rattle.machine_model.specs.Areas.{Bytes}
 use Rattle.time_base.specs.declared.text_place.TextPlace.{TextPlace}
 use Rattle.version_store.specs.declared.change.Change.{Change}
+use Rattle.gate_journal.specs.Spelled.{Spells}
+use Rattle.page_store.specs.Live.{AreLive}
 use Rattle.archive_state.specs.Histories.{History}
+use Rattle.archive_state.specs.Holding.{HoldsPlans}
 use Rattle.archive_state.specs.Legal.{IsLoadable}
-use Rattle.archive_state.specs.Stands.{Stands}
+use Rattle.archive_state.specs.Plans.{live_plans, live_extents}
+use Rattle.archive_state.specs.Stands.{Stands, bodies_of}
 use Rattle.archive_state.specs.Steps.{sound_of}
 use Rattle.archive_state.specs.declared.stored.StoredPlan.{StoredPlan}
 use Rattle.archive_replay.specs.Places.{ArePlaced}
@@ -13,6 +17,9 @@ use Rattle.archive_state.specs.declared.verdict.Verdict.{Verdict}
 use Rattle.archive_state.specs.declared.verdict.Verdict.TheVariants.{Sound}
 use Rattle.archive_check.specs.Verdicts.{AreInOrder, IsVerdict}
 use Rattle.archive_check.specs.Checked.{IsChecked}
+use Rattle.archive_check.specs.declared.finding.Finding.{Finding}
+use Rattle.archive_check.specs.declared.finding.Finding.TheVariants.{Told}
+use Rattle.archive_check.specs.Digests.{HasDigests, IsFinding, IsExamined}
 
 -- The changes of a history that loads come in the order that a check asks for.
 abbrev pub LoadedChangesAreInOrder : Type 0
@@ -30,3 +37,24 @@ WhatStandsIsSound = (history : History) (image : Bytes) (verdict : Verdict) → 
 -- Of a new archive all is sound, whatever an image holds, and nothing else is told.
 abbrev pub ANewArchiveIsSound : Type 0
 ANewArchiveIsSound = (image : Bytes) → IsChecked [] image (Sound 0 0) × ((verdict : Verdict) → IsChecked [] image verdict → verdict ≡ Sound 0 0)
+
+-- ---- digests
+
+-- Of some plans there is one finding at most.
+abbrev pub OneFinding : Type 0
+OneFinding = (journal : List ℕ) (changes : List (Change TextPlace)) (pages : List ℕ) (plans : List StoredPlan) (one other : Finding)
+    → IsFinding journal changes pages plans one → IsFinding journal changes pages plans other → one ≡ other
+
+-- An image that stands for a history has one finding, that all is sound.
+abbrev pub WhatStandsIsFoundSound : Type 0
+WhatStandsIsFoundSound = (history : History) (image : Bytes) (finding : Finding) → Stands history image → IsExamined history image finding → finding ≡ Told (sound_of history)
+
+-- Where the journal spells a history, its live extents lie inside Pages with no page of two, a check tells that all is sound, and all digests are
+-- right, the pages hold the live plans' sublists. With a history that loads, that is what an archive reads its answers from.
+abbrev pub SoundWithDigestsIsHeld : Type 0
+SoundWithDigestsIsHeld = (history : History) (image : Bytes) (words segments : ℕ) → Spells image.journal (bodies_of history) → IsChecked history image (Sound words segments)
+    → All (λ stored. HasDigests image.pages stored.plan) (live_plans history) → AreLive (live_extents history) (length image.pages) → HoldsPlans history image.pages
+
+-- Pages that hold the live plans' sublists have their digests.
+abbrev pub WhatIsHeldHasItsDigests : Type 0
+WhatIsHeldHasItsDigests = (history : History) (pages : List ℕ) → HoldsPlans history pages → All (λ stored. HasDigests pages stored.plan) (live_plans history)

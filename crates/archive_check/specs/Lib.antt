@@ -1,5 +1,7 @@
 pub mod Orders
 pub mod Verdicts
 pub mod Checked
+pub mod Digests
 pub mod Checking
 pub mod Laws
+pub mod Rows

@@ -1,17 +1,18 @@
 //! Whether a plan is a least one.
-ghost use Rattle.std.specs.Prelude.{◌≡◌, ◌<◌, ◌≤◌, ◌^◌, ℕ, List, length, All, IfOk, IsErrOf, MatchOption};
+ghost use Rattle.std.specs.Prelude.{◌≡◌, ◌+◌, ◌<◌, ◌≤◌, ◌^◌, ◌++◌, ◌∷◌, [], ℕ, List, None, drop, length, map, slice_index, All, IfOk, IfSome, IsErrOf, MatchOption};
 ghost use Rattle.time_base.specs.declared.posting.Posting.{Posting as PlainPosting};
 ghost use Rattle.time_base.specs.declared.time.Time.{Time as PlainTime};
 ghost use Rattle.elementary.specs.Counts.{Tabulates};
-ghost use Rattle.stored_plans.specs.Plans.{IsFitFor, IsFitPlan, IsLeastPlan, plan_space};
-ghost use Rattle.archive_check.specs.Checking.{IsExcess};
-ghost use Rattle.archive_check.specs.Verdicts.{IsLeastSpace};
+ghost use Rattle.elementary.specs.Partitions.{Covers, IsFitting, IsLeast};
+ghost use Rattle.stored_plans.specs.Plans.{IsFitFor, IsLeastPlan};
+ghost use Rattle.archive_check.specs.Checking.{IsBeaten, IsExcess};
 
 use crate::error::VerifyError;
 use archive_replay::MANY_POSTINGS;
 use commands::Kind;
-use elementary::Table;
+use elementary::{Partition, Table};
 use guarantee_planner::plan;
+use plan_certificate::check;
 use std::alloc::Global;
 use stored_plans::{is_fit, partition_of};
 use time_base::{Fraction, Posting, Time};
@@ -68,25 +69,21 @@ fn excess_of_fit(
         (λ e. IsExcess list.now factor cuts.now horizon.seconds e.taken e.least)) }
 {
     let table = Table::new(alloc, list, horizon)?;
-    let taken = taken_space(alloc, &table, cuts, horizon)?;
-    let least = least_space(alloc, &table, factor)?;
-    if least < taken {
-        return Ok(Some(Excess { taken, least }));
-    }
-    Ok(None)
+    let stored = partition_on(alloc, &table, cuts, horizon)?;
+    excess_by(alloc, &table, factor, &stored)
 }
 
-/// The space of a plan with these cuts, which is fit for the table's list; whatever else can't be, as
-/// that the cuts aren't boundaries, is answered as want of memory.
-fn taken_space(
+/// The partition of a plan's cuts, which are boundaries of the table; whatever else can't be is answered
+/// as want of memory.
+fn partition_on(
     alloc: Global,
     table: &Table,
     cuts: &[Time],
     horizon: Time,
-) -> Result<u64, VerifyError>
-    requires few { length cuts.now ≤ 1048575 }
+) -> Result<Partition, VerifyError>
     ensures fair { IsErrOf result VerifyError.Failed → ⊥ }
-    ensures space { IfOk result (λ n. (list : List PlainPosting) → Tabulates list horizon.seconds table.now → n ≡ plan_space list cuts.now horizon.seconds) }
+    ensures cuts { IfOk result (λ p. p ≡ map (λ (t : PlainTime). t.seconds) (cuts.now ++ horizon ∷ [])) }
+    ensures fits { IfOk result (λ p. IsFitting table.now.boundaries p) }
 {
     let Some(partition) = partition_of(alloc, cuts, horizon)? else {
         return Err(VerifyError::Memory);
@@ -94,15 +91,36 @@ fn taken_space(
     if !partition.fits(table) {
         return Err(VerifyError::Memory);
     }
-    Ok(partition.space(table))
+    Ok(partition)
 }
 
-/// The least space of a partition of the table's list that keeps the factor.
-fn least_space(alloc: Global, table: &Table, factor: Fraction) -> Result<u64, VerifyError>
+/// What the stored partition takes, where it isn't a least one: the planner gives the least space up to
+/// each boundary, and `check` judges the stored cuts by these numbers. Costs time in the boundaries, and
+/// what `plan` and `check` take of memory.
+fn excess_by(
+    alloc: Global,
+    table: &Table,
+    factor: Fraction,
+    stored: &Partition,
+) -> Result<Option<Excess>, VerifyError>
     requires some { (list : List PlainPosting) × (horizon : ℕ) × Tabulates list horizon table.now }
+    requires fits { IsFitting table.now.boundaries stored.now }
+    requires few { length stored.now ≤ 2 ^ 24 + 1 }
     ensures fair { IsErrOf result VerifyError.Failed → ⊥ }
-    ensures least { IfOk result (λ n. (list : List PlainPosting) (cuts : List PlainTime) (horizon : ℕ) → Tabulates list horizon table.now → IsFitPlan list factor cuts horizon → IsLeastSpace list factor cuts horizon n) }
+    // None exactly where `check` says yes, and so no partition that keeps the factor takes less.
+    ensures least { IfOk result (λ o. o ≡ None → (list : List PlainPosting) (horizon : ℕ) → Tabulates list horizon table.now
+        → IsLeast list factor (slice_index stored.now 0) (drop 1 stored.now) horizon) }
+    // Where it says no, one that keeps the factor takes more than the least, since the best numbers certify each least one.
+    ensures beaten { IfOk result (λ o. IfSome o (λ e. (list : List PlainPosting) (horizon : ℕ) → Tabulates list horizon table.now
+        → Covers list factor (slice_index stored.now 0) (drop 1 stored.now) horizon → IsBeaten list factor horizon stored.now e.taken e.least)) }
 {
-    let (partition, _) = plan(alloc, table, factor)?;
-    Ok(partition.space(table))
+    let (_, best) = plan(alloc, table, factor)?;
+    if check(alloc, table, factor, stored, &best)? {
+        return Ok(None);
+    }
+    let numbers = best.pi();
+    Ok(Some(Excess {
+        taken: stored.space(table),
+        least: numbers[numbers.len() - 1],
+    }))
 }

@@ -2,10 +2,12 @@
 ghost use Rattle.std.specs.Prelude.{◌≡◌, ◌+◌, ◌<◌, ◌≤◌, ◌++◌, codes, OnOk};
 ghost use Rattle.archive_state.specs.Replies.{byte_text, digit_text, reply_text, verdict_text};
 ghost use Rattle.archive_state.specs.Steps.{Verified};
+ghost use Rattle.archive_replies.specs.Findings.{bad_digest_text};
 
 use crate::page::ReplyPage;
 use archive_state::Verdict;
 use std::alloc::AllocError;
+use time_base::Key;
 
 /// The most bytes of the line with its end: that of a byte that differs, of a word of 255 bytes.
 const MOST_LINE_BYTES: usize = 312;
@@ -20,6 +22,20 @@ impl ReplyPage {
         self.clear();
         self.make_room(MOST_LINE_BYTES)?;
         self.put_verdict(verdict);
+        self.put(b"\n");
+        Ok(())
+    }
+
+    /// Writes that the digest of a segment of a word's plan isn't that of its bytes, in place of what the
+    /// page held. An error is that of `verified`, and the cost is linear in the word.
+    pub fn bad_digest(&mut self, word: &Key, segment: u64) -> Result<(), AllocError>
+        ensures { OnOk result (self.new.bytes ≡ bad_digest_text word.now segment) }
+    {
+        self.clear();
+        self.make_room(MOST_LINE_BYTES)?;
+        self.put(b"baddigest ");
+        self.put(word.as_str().as_bytes());
+        self.put_named(b" ", segment);
         self.put(b"\n");
         Ok(())
     }

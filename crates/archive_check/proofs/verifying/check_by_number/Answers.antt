@@ -1,11 +1,13 @@
-use Rattle.std.proofs.Common.{List, ℕ, map, All, sym, subst}
+use Rattle.std.proofs.Common.{◌≡◌, List, ℕ, map, All, sym, subst}
 use Rattle.std.proofs.lemmas.List.Sorted.{All-permutation}
-use Rattle.std.proofs.lemmas.Result.{IfOk-weaker}
 use Rattle.version_index.specs.Indexes.{state_of}
 use Rattle.archive_state.specs.declared.stored.StoredPlan.{StoredPlan}
 use Rattle.archive_check.specs.declared.ordering.Ranked.{Ranked}
 use Rattle.archive_check.specs.Orders.{AreByNumber}
-use Rattle.archive_check.specs.Verdicts.{LiesInside, Says, Tells}
+use Rattle.archive_check.specs.declared.digests.Digests.TheVariants.{Asked}
+use Rattle.archive_check.specs.Verdicts.{LiesInside, Says}
+use Rattle.archive_check.specs.Checking.{DigestsTold, TellsAll}
+use Rattle.archive_check.proofs.DigestLemmas.{told_both}
 use Rattle.archive_check.proofs.OrderLemmas.{are_moved, each_ranked}
 use Rattle.archive_check.proofs.verifying.check_by_number.Goals as goal
 
@@ -18,8 +20,8 @@ check_plans-requires-clause-places g c =
     let T : List Ranked → Type 0 = λ l. All (λ t. P t.stored.now) l in
     subst T (sym c.deref.ensures.value) (each_ranked P ranked (All-permutation P plans (map (λ t. t.stored.now) ranked) (are_moved words plans (map (λ t. t.stored.now) ranked) c.in_ok-ranked.ensures.ordered) c.requires.places))
 
-pub returns-clause-verdict : goal.returns-clause-verdict
-returns-clause-verdict g c = λ told texts indexes utf8.
+pub returns-clause-told : goal.returns-clause-told
+returns-clause-told g c = λ told texts indexes utf8.
     let pages = (g.D.Disk.disk c.args.disk.now).holds.pages in
     let plans = c.args.plans.now in
     let ranked = c.deref.result.now in
@@ -27,4 +29,5 @@ returns-clause-verdict g c = λ told texts indexes utf8.
     let W : List (List ℕ) → Type 0 = λ words. AreByNumber words plans ordered in
     let T : List Ranked → Type 0 = λ l. AreByNumber (state_of c.args.index.now).words plans (map (λ t. t.stored.now) l) in
     let by_number = subst W indexes.words_are (subst T (sym c.deref.ensures.value) c.in_ok-ranked.ensures.ordered) in
-    IfOk-weaker c.check_plans.result (λ v. Says v texts pages ordered) (λ v. Tells v texts pages plans) (λ v says. (ordered, by_number, says)) (c.check_plans.ensures.verdict told texts indexes utf8)
+    told_both (λ v. Says v.verdict texts pages ordered) (λ v. DigestsTold v pages ordered) (λ v. TellsAll c.args.digests v texts pages plans) (c.args.digests ≡ Asked) c.check_plans.result
+    (λ v says digests. record { ordered = ordered; by_number = by_number; says = says; digests_told = digests }) (c.check_plans.ensures.verdict told texts indexes utf8) (c.check_plans.ensures.altered told)
