@@ -2,7 +2,8 @@
 use record_codec::{
     CodecError, Entry, VersionText, decode, encode, encode_arrival, encode_deletion,
 };
-use std::alloc::{AllocError, Global};
+use std::alloc::Global;
+use std::process::Abort;
 use time_base::{DocId, Time};
 
 /// Document 7 arrives at time 10 with the text `red a`.
@@ -22,80 +23,107 @@ fn an_arrival_has_eighteen_bytes(rt: HostRuntime) {
     let text = VersionText::new(String::from_str(rt.alloc(), "red a").expect(&rt, "memory"));
     let spelled = encode(rt.alloc(), &Entry::Arrive { doc, at, text }).expect(&rt, "memory");
     assert_eq!(rt; spelled.as_slice(), ARRIVAL.as_slice());
-    match decode(rt.alloc(), &ARRIVAL).expect(&rt, "memory") {
-        Entry::Arrive { doc, at, text } => {
-            assert_eq!(rt; doc.0, 7);
-            assert_eq!(rt; at.seconds(), 10);
-            assert_eq!(rt; text.into_string().as_str(), "red a");
-        }
-        _ => assert!(rt; false, "no arrival was read"),
+}
+
+/// The document, the time and the text of an arrival.
+fn arrived(entry: &Entry) -> Option<(DocId, Time, &str)> {
+    match entry {
+        Entry::Arrive { doc, at, text } => Some((*doc, *at, text.as_str())),
+        _ => None,
     }
+}
+
+/// The document and the time of a deletion.
+fn deleted(entry: &Entry) -> Option<(DocId, Time)> {
+    match entry {
+        Entry::Delete { doc, at } => Some((*doc, *at)),
+        _ => None,
+    }
+}
+
+#[test]
+fn eighteen_bytes_spell_an_arrival(rt: HostRuntime) {
+    let entry = decode(rt.alloc(), &ARRIVAL).expect(&rt, "an entry");
+    let (doc, at, text) = arrived(&entry).expect(&rt, "an arrival");
+    assert_eq!(rt; doc.0, 7);
+    assert_eq!(rt; at.seconds(), 10);
+    assert_eq!(rt; text, "red a");
 }
 
 #[test]
 fn a_deletion_has_thirteen_bytes(rt: HostRuntime) {
-    match decode(rt.alloc(), &DELETION).expect(&rt, "memory") {
-        Entry::Delete { doc, at } => {
-            assert_eq!(rt; doc.0, 7);
-            assert_eq!(rt; at.seconds(), 1_099_511_627_775);
-            let spelled = encode_deletion(rt.alloc(), doc, at).expect(&rt, "memory");
-            assert_eq!(rt; spelled.as_slice(), DELETION.as_slice());
-        }
-        _ => assert!(rt; false, "no deletion was read"),
+    let entry = decode(rt.alloc(), &DELETION).expect(&rt, "an entry");
+    let (doc, at) = deleted(&entry).expect(&rt, "a deletion");
+    assert_eq!(rt; doc.0, 7);
+    assert_eq!(rt; at.seconds(), 1_099_511_627_775);
+    let spelled = encode_deletion(rt.alloc(), doc, at).expect(&rt, "memory");
+    assert_eq!(rt; spelled.as_slice(), DELETION.as_slice());
+}
+
+/// The place that bytes name which spell no entry.
+pub(super) fn named(alloc: Global, body: &[u8]) -> Option<u64> {
+    match decode(alloc, body).err() {
+        Some(CodecError::Form { at }) => Some(at),
+        _ => None,
     }
+}
+
+/// Places in the arrival, a byte put there, and the place that is named.
+const FAULTS: [(usize, u8, u64); 7] = [
+    (0, 2, 13),
+    (0, 3, 1),
+    (0, 9, 0),
+    (0, 0, 0),
+    (5, 255, 5),
+    (7, 1, 5),
+    (13, 255, 13),
+];
+
+/// The arrival with another byte at a place names this one.
+fn expect_fault(rt: &impl Abort, alloc: Global, (place, byte, at): (usize, u8, u64)) {
+    let mut body = ARRIVAL;
+    if let Some(old) = body.get_mut(place) {
+        *old = byte;
+    }
+    assert_eq!(rt; named(alloc, &body), Some(at), "byte {place} as {byte}");
 }
 
 #[test]
 fn the_first_wrong_field_is_named(rt: HostRuntime) {
-    for (place, byte, at) in [
-        (0, 2, 13),
-        (0, 3, 1),
-        (0, 9, 0),
-        (0, 0, 0),
-        (5, 255, 5),
-        (7, 1, 5),
-        (13, 255, 13),
-    ] {
-        let mut body = ARRIVAL;
-        body[place] = byte;
-        assert!(rt;
-            matches!(decode(rt.alloc(), &body), Err(CodecError::Form { at: named }) if named == at),
-            "byte {place} as {byte}"
-        );
+    for fault in &FAULTS {
+        expect_fault(&rt, rt.alloc(), *fault);
     }
 }
 
 #[test]
 fn a_field_cut_short_is_named(rt: HostRuntime) {
-    for (len, byte) in ARRIVAL[..13].iter().enumerate() {
+    for len in 0..13 {
         let at = match len {
             0 => 0,
             1..=4 => 1,
             _ => 5,
         };
-        assert!(rt;
-            matches!(decode(rt.alloc(), &ARRIVAL[..len]), Err(CodecError::Form { at: named }) if named == at),
-            "{len} bytes, before {byte}"
-        );
+        assert_eq!(rt; named(rt.alloc(), &ARRIVAL[..len]), Some(at), "{len} bytes");
     }
     assert!(rt; decode(rt.alloc(), &ARRIVAL[..13]).is_ok(), "an empty text");
 }
 
 /// An arrival with a text of so many letters.
-fn long_arrival(alloc: Global, text_bytes: u32) -> Result<Vec<u8>, AllocError> {
-    let mut body = Vec::from_slice(alloc, &ARRIVAL[..13])?;
-    body.resize(13 + text_bytes as usize, b'a')?;
-    Ok(body)
+fn long_arrival(rt: &impl Abort, alloc: Global, text_bytes: u32) -> Vec<u8> {
+    let mut body = Vec::from_slice(alloc, &ARRIVAL[..13]).expect(rt, "memory");
+    body.resize(13 + text_bytes as usize, b'a')
+        .expect(rt, "memory");
+    body
 }
 
 #[test]
 fn a_text_has_at_most_four_mebibytes(rt: HostRuntime) {
     for (text_bytes, at) in [(4_194_304, None), (4_194_305, Some(13))] {
-        let body = long_arrival(rt.alloc(), text_bytes).expect(&rt, "memory");
-        let named = match decode(rt.alloc(), &body) {
-            Err(CodecError::Form { at }) => Some(at),
-            _ => None,
-        };
-        assert_eq!(rt; named, at, "a text of {text_bytes} bytes");
+        let body = long_arrival(&rt, rt.alloc(), text_bytes);
+        assert_eq!(rt;
+            named(rt.alloc(), &body),
+            at,
+            "a text of {text_bytes} bytes"
+        );
     }
 }

@@ -1,43 +1,112 @@
 //! Commands in words.
-use commands::{BatchItems, Command, Kind, ShareFraction, ShareWords, Text};
+use commands::{BatchItems, Command, Kind, Phrase, ShareFraction, ShareWords, Text};
 use std::alloc::Global;
 use std::process::Abort;
+use std::str;
+use time_base::{DocId, Fraction, Span, Time};
 
-fn text_in_words(rt: &impl Abort, alloc: Global, text: Text) -> String {
+/// A word in a string of its own.
+pub(crate) fn owned(rt: &impl Abort, alloc: Global, word: &str) -> String {
+    String::from_str(alloc, word).expect(rt, "memory")
+}
+
+/// One word behind another.
+fn beside(rt: &impl Abort, alloc: Global, front: &str, back: &str) -> String {
+    format!(in alloc; "{front} {back}").expect(rt, "memory")
+}
+
+/// A number behind a word.
+fn counted(rt: &impl Abort, alloc: Global, front: &str, number: u64) -> String {
+    format!(in alloc; "{front} {number}").expect(rt, "memory")
+}
+
+/// A ratio behind a word.
+fn ratio(rt: &impl Abort, alloc: Global, front: &str, over: u32, under: u32) -> String {
+    format!(in alloc; "{front} {over}/{under}").expect(rt, "memory")
+}
+
+/// A command for a document at a time.
+fn at_document(rt: &impl Abort, alloc: Global, name: &str, doc: DocId, at: Time) -> String {
+    let front = counted(rt, alloc, name, u64::from(doc.0));
+    counted(rt, alloc, front.as_str(), at.seconds())
+}
+
+fn arrival(rt: &impl Abort, alloc: Global, doc: DocId, at: Time, text: &Text) -> String {
+    let front = at_document(rt, alloc, "arrive", doc, at);
     match text {
-        Text::Bytes(content) => String::from_utf8(content.into_vec()).expect(rt, "a text"),
-        Text::TooLong { bytes } => format!(in alloc; "too long {bytes}").expect(rt, "memory"),
-    }
-}
-
-fn kind_in_words(rt: &impl Abort, alloc: Global, kind: Kind) -> String {
-    match kind {
-        Kind::Guarantee => String::from_str(alloc, "guarantee").expect(rt, "memory"),
-        Kind::Uniform => String::from_str(alloc, "uniform").expect(rt, "memory"),
-        Kind::Since { at } => format!(in alloc; "since {}", at.seconds()).expect(rt, "memory"),
-    }
-}
-
-fn batch_in_words(rt: &impl Abort, alloc: Global, items: BatchItems) -> String {
-    match items {
-        BatchItems::Items(list) => {
-            format!(in alloc; "batch {}", list.as_slice().len()).expect(rt, "memory")
+        Text::Bytes(content) => {
+            let text = str::from_utf8(content.as_slice()).expect(rt, "a text");
+            beside(rt, alloc, front.as_str(), text)
         }
-        BatchItems::TooLong { bytes } => {
-            format!(in alloc; "batch too long {bytes}").expect(rt, "memory")
+        Text::TooLong { bytes } => {
+            let front = beside(rt, alloc, front.as_str(), "too long");
+            counted(rt, alloc, front.as_str(), *bytes)
         }
     }
 }
 
-fn share_in_words(
+/// A command for a word with a factor.
+fn of_factor(
     rt: &impl Abort,
     alloc: Global,
-    shared: ShareFraction,
-    words: &ShareWords,
+    name: &str,
+    word: &Phrase,
+    fraction: Fraction,
 ) -> String {
+    let front = beside(rt, alloc, name, word.as_str());
+    ratio(rt, alloc, front.as_str(), fraction.over(), fraction.under())
+}
+
+/// The kind of a plan.
+fn kind_in_words(rt: &impl Abort, alloc: Global, kind: Kind) -> String {
+    match kind {
+        Kind::Guarantee => owned(rt, alloc, "guarantee"),
+        Kind::Uniform => owned(rt, alloc, "uniform"),
+        Kind::Since { at } => counted(rt, alloc, "since", at.seconds()),
+    }
+}
+
+fn plan(rt: &impl Abort, alloc: Global, word: &Phrase, kind: Kind, fraction: Fraction) -> String {
+    let front = beside(rt, alloc, "plan", word.as_str());
+    let kind = kind_in_words(rt, alloc, kind);
+    let front = beside(rt, alloc, front.as_str(), kind.as_str());
+    ratio(rt, alloc, front.as_str(), fraction.over(), fraction.under())
+}
+
+/// A question at a time, and what stands in front of that.
+fn question(rt: &impl Abort, alloc: Global, front: &str, at: Time, expr: &Phrase) -> String {
+    let front = counted(rt, alloc, front, at.seconds());
+    beside(rt, alloc, front.as_str(), expr.as_str())
+}
+
+/// A question for so many rows.
+fn ranked(
+    rt: &impl Abort,
+    alloc: Global,
+    (name, count): (&str, u32),
+    at: Time,
+    expr: &Phrase,
+) -> String {
+    let front = counted(rt, alloc, name, u64::from(count));
+    question(rt, alloc, front.as_str(), at, expr)
+}
+
+fn between(rt: &impl Abort, alloc: Global, span: &Span, expr: &Phrase) -> String {
+    let front = counted(rt, alloc, "between", span.from);
+    let front = counted(rt, alloc, front.as_str(), span.to);
+    beside(rt, alloc, front.as_str(), expr.as_str())
+}
+
+fn batch(rt: &impl Abort, alloc: Global, items: &BatchItems) -> String {
+    match items {
+        BatchItems::Items(list) => counted(rt, alloc, "batch", list.as_slice().len() as u64),
+        BatchItems::TooLong { bytes } => counted(rt, alloc, "batch too long", *bytes),
+    }
+}
+
+fn share(rt: &impl Abort, alloc: Global, shared: ShareFraction, words: &ShareWords) -> String {
     let fraction = shared.fraction();
-    let (over, under) = (fraction.over(), fraction.under());
-    let mut line = format!(in alloc; "share {over}/{under}").expect(rt, "memory");
+    let mut line = ratio(rt, alloc, "share", fraction.over(), fraction.under());
     for word in words.as_slice() {
         line.push_str(" ").expect(rt, "memory");
         line.push_str(word.as_str()).expect(rt, "memory");
@@ -45,70 +114,51 @@ fn share_in_words(
     line
 }
 
-/// A command in words: its name, its numbers, and what it holds.
-pub(crate) fn command_in_words(rt: &impl Abort, alloc: Global, command: Command) -> String {
+/// A question in words.
+fn question_in_words(rt: &impl Abort, alloc: Global, command: &Command) -> String {
     match command {
-        Command::Arrive { doc, at, text } => {
-            let text = text_in_words(rt, alloc, text);
-            format!(in alloc; "arrive {} {} {text}", doc.0, at.seconds()).expect(rt, "memory")
-        }
-        Command::Delete { doc, at } => {
-            format!(in alloc; "delete {} {}", doc.0, at.seconds()).expect(rt, "memory")
-        }
-        Command::Plan {
-            word,
-            kind,
-            fraction,
-        } => {
-            let kind = kind_in_words(rt, alloc, kind);
-            let (over, under) = (fraction.over(), fraction.under());
-            format!(in alloc; "plan {} {kind} {over}/{under}", word.as_str()).expect(rt, "memory")
-        }
-        Command::Propose { word, fraction } => {
-            let (over, under) = (fraction.over(), fraction.under());
-            format!(in alloc; "propose {} {over}/{under}", word.as_str()).expect(rt, "memory")
-        }
-        Command::Find { at, expr } => {
-            format!(in alloc; "find {} {}", at.seconds(), expr.as_str()).expect(rt, "memory")
-        }
-        Command::Between { span, expr } => {
-            format!(in alloc; "between {} {} {}", span.from, span.to, expr.as_str()).expect(
-                rt, "memory",
-            )
-        }
-        Command::Show { doc, at } => format!(in alloc; "show {} {}", doc.0, at.seconds()).expect(
-            rt, "memory",
-        ),
-        Command::Certificate { word } => format!(in alloc; "certificate {}", word.as_str()).expect(
-            rt, "memory",
-        ),
-        Command::Verify => String::from_str(alloc, "verify").expect(rt, "memory"),
-        Command::Format => String::from_str(alloc, "format 2").expect(rt, "memory"),
-        Command::Batch(items) => batch_in_words(rt, alloc, items),
-        Command::Begin { word, fraction } => {
-            let (over, under) = (fraction.over(), fraction.under());
-            format!(in alloc; "begin {} {over}/{under}", word.as_str()).expect(rt, "memory")
-        }
+        Command::Find { at, expr } => question(rt, alloc, "find", *at, expr),
+        Command::Between { span, expr } => between(rt, alloc, span, expr),
+        Command::Show { doc, at } => at_document(rt, alloc, "show", *doc, *at),
         Command::Top { count, at, expr } => {
-            let (count, at) = (count.number(), at.seconds());
-            format!(in alloc; "top {count} {at} {}", expr.as_str()).expect(rt, "memory")
+            ranked(rt, alloc, ("top", count.number()), *at, expr)
         }
         Command::Best { count, at, expr } => {
-            let (count, at) = (count.number(), at.seconds());
-            format!(in alloc; "best {count} {at} {}", expr.as_str()).expect(rt, "memory")
-        }
-        Command::Approx { word, tolerance } => {
-            let (part, whole) = (tolerance.part, tolerance.whole);
-            format!(in alloc; "approx {} {part}/{whole}", word.as_str()).expect(rt, "memory")
+            ranked(rt, alloc, ("best", count.number()), *at, expr)
         }
         Command::Rough {
             tolerance,
             at,
             expr,
         } => {
-            let (part, whole, at) = (tolerance.part, tolerance.whole, at.seconds());
-            format!(in alloc; "rough {part}/{whole} {at} {}", expr.as_str()).expect(rt, "memory")
+            let front = ratio(rt, alloc, "rough", tolerance.part, tolerance.whole);
+            question(rt, alloc, front.as_str(), *at, expr)
         }
-        Command::Share { fraction, words } => share_in_words(rt, alloc, fraction, &words),
+        _ => owned(rt, alloc, "no question"),
+    }
+}
+
+/// A command in words: its name, its numbers, and what it holds.
+pub(crate) fn command_in_words(rt: &impl Abort, alloc: Global, command: &Command) -> String {
+    match command {
+        Command::Arrive { doc, at, text } => arrival(rt, alloc, *doc, *at, text),
+        Command::Delete { doc, at } => at_document(rt, alloc, "delete", *doc, *at),
+        Command::Plan {
+            word,
+            kind,
+            fraction,
+        } => plan(rt, alloc, word, *kind, *fraction),
+        Command::Propose { word, fraction } => of_factor(rt, alloc, "propose", word, *fraction),
+        Command::Begin { word, fraction } => of_factor(rt, alloc, "begin", word, *fraction),
+        Command::Approx { word, tolerance } => {
+            let front = beside(rt, alloc, "approx", word.as_str());
+            ratio(rt, alloc, front.as_str(), tolerance.part, tolerance.whole)
+        }
+        Command::Certificate { word } => beside(rt, alloc, "certificate", word.as_str()),
+        Command::Verify => owned(rt, alloc, "verify"),
+        Command::Format => owned(rt, alloc, "format 2"),
+        Command::Batch(items) => batch(rt, alloc, items),
+        Command::Share { fraction, words } => share(rt, alloc, *fraction, words),
+        _ => question_in_words(rt, alloc, command),
     }
 }

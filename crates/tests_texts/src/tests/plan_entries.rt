@@ -1,6 +1,7 @@
 //! Stored plans as bytes, and bytes that spell none.
+use super::entries::named;
 use commands::Kind;
-use record_codec::{CodecError, Entry, Layout, PlanEntry, decode, encode, encode_plan};
+use record_codec::{Entry, Layout, Place, PlanEntry, decode, encode, encode_plan};
 use std::alloc::Global;
 use std::process::Abort;
 
@@ -37,14 +38,6 @@ fn joined(rt: &impl Abort, alloc: Global, parts: &[&str]) -> Vec<u8> {
     bytes
 }
 
-/// The place that a reading names.
-fn named(read: Result<Entry, CodecError>) -> Option<u64> {
-    match read {
-        Err(CodecError::Form { at }) => Some(at),
-        _ => None,
-    }
-}
-
 /// The entry that bytes spell is spelled by these bytes.
 fn expect_spelled(rt: &impl Abort, alloc: Global, body: &[u8]) {
     let entry = decode(alloc, body).expect(rt, "an entry");
@@ -63,43 +56,42 @@ fn plan_of(rt: &impl Abort, alloc: Global, body: &[u8]) -> Option<PlanEntry> {
     Some(plan)
 }
 
-/// The first page, the length and the last byte of the digest of each place of a plan.
-fn places_of(rt: &impl Abort, alloc: Global, plan: &PlanEntry) -> Vec<(u32, u64, u8)> {
-    let mut places = Vec::new(alloc);
-    for place in plan.places.as_slice() {
-        places
-            .push((place.extent.first, place.extent.bytes, place.digest[31]))
-            .expect(rt, "memory");
-    }
-    places
+/// A place begins with this page, and has so many bytes and a digest with this last byte.
+fn expect_place(rt: &impl Abort, place: &Place, (first, bytes, last): (u32, u64, u8)) {
+    assert_eq!(rt; place.extent.first, first);
+    assert_eq!(rt; place.extent.bytes, bytes);
+    assert_eq!(rt; place.digest[31], last);
 }
 
-/// The seconds at which a plan is cut.
-fn cuts_of(rt: &impl Abort, alloc: Global, plan: &PlanEntry) -> Vec<u64> {
-    let mut cuts = Vec::new(alloc);
-    for cut in plan.cuts.as_slice() {
-        cuts.push(cut.seconds()).expect(rt, "memory");
+/// A plan has these places, and is cut at 10, 20 and 30.
+fn expect_segments(rt: &impl Abort, plan: &PlanEntry, places: &[(u32, u64, u8)]) {
+    assert_eq!(rt; plan.cuts.as_slice().len(), 3);
+    for (cut, second) in plan.cuts.as_slice().iter().zip(&[10, 20, 30]) {
+        assert_eq!(rt; cut.seconds(), *second);
     }
-    cuts
+    assert_eq!(rt; plan.places.as_slice().len(), places.len());
+    for (place, wanted) in plan.places.as_slice().iter().zip(places) {
+        expect_place(rt, place, *wanted);
+    }
+}
+
+/// The word `v` is planned with this factor up to 40.
+fn expect_head(rt: &impl Abort, plan: &PlanEntry, (over, under): (u32, u32)) {
+    assert_eq!(rt; plan.word.as_str(), "v");
+    assert_eq!(rt; plan.fraction.over(), over);
+    assert_eq!(rt; plan.fraction.under(), under);
+    assert_eq!(rt; plan.horizon.seconds(), 40);
 }
 
 #[test]
 fn a_plan_in_blocks_has_a_hundred_and_eighty_one_bytes(rt: HostRuntime) {
-    let alloc = rt.alloc();
-    let body = joined(&rt, alloc, &IN_BLOCKS);
+    let body = joined(&rt, rt.alloc(), &IN_BLOCKS);
     assert_eq!(rt; body.len(), 181);
-    let plan = plan_of(&rt, alloc, &body).expect(&rt, "a plan");
-    assert_eq!(rt; plan.word.as_str(), "v");
+    let plan = plan_of(&rt, rt.alloc(), &body).expect(&rt, "a plan");
     assert!(rt; plan.layout == Layout::Blocks && matches!(plan.kind, Kind::Guarantee));
-    assert_eq!(rt; (plan.fraction.over(), plan.fraction.under()), (1, 1));
-    assert_eq!(rt; plan.horizon.seconds(), 40);
-    let cuts = cuts_of(&rt, alloc, &plan);
-    assert_eq!(rt; cuts.as_slice(), [10, 20, 30].as_slice());
-    let places = places_of(&rt, alloc, &plan);
-    assert_eq!(rt;
-        places.as_slice(),
-        [(0, 18, 161), (1, 22, 178), (2, 18, 195)].as_slice()
-    );
+    expect_head(&rt, &plan, (1, 1));
+    let places = [(0, 18, 161), (1, 22, 178), (2, 18, 195)];
+    expect_segments(&rt, &plan, &places);
 }
 
 #[test]
@@ -107,11 +99,8 @@ fn a_plan_of_an_archive_with_flat_lists_is_read(rt: HostRuntime) {
     let body = joined(&rt, rt.alloc(), &WITH_FLAT_LISTS);
     let plan = plan_of(&rt, rt.alloc(), &body).expect(&rt, "a plan");
     assert!(rt; plan.layout == Layout::Flat);
-    let places = places_of(&rt, rt.alloc(), &plan);
-    assert_eq!(rt;
-        places.as_slice(),
-        [(0, 24, 0x49), (1, 48, 0x18), (2, 24, 0x49)].as_slice()
-    );
+    let places = [(0, 24, 0x49), (1, 48, 0x18), (2, 24, 0x49)];
+    expect_segments(&rt, &plan, &places);
 }
 
 #[test]
@@ -119,12 +108,8 @@ fn a_plan_since_a_time_has_eight_bytes_more(rt: HostRuntime) {
     let body = joined(&rt, rt.alloc(), &FROM_A_TIME_ON);
     assert_eq!(rt; body.len(), 85);
     let plan = plan_of(&rt, rt.alloc(), &body).expect(&rt, "a plan");
-    let since = match plan.kind {
-        Kind::Since { at } => Some(at.seconds()),
-        _ => None,
-    };
-    assert_eq!(rt; since, Some(5));
-    assert_eq!(rt; (plan.fraction.over(), plan.fraction.under()), (3, 2));
+    assert!(rt; matches!(plan.kind, Kind::Since { at } if at.seconds() == 5));
+    expect_head(&rt, &plan, (3, 2));
 }
 
 /// Places in the plan in blocks, a byte put there, and the place that is named.
@@ -170,19 +155,20 @@ const FAULTS: [(usize, u8, u64); 30] = [
     (141, 1, 141),
 ];
 
+/// The plan with another byte at a place names this one.
+fn expect_fault(rt: &impl Abort, alloc: Global, body: &[u8], (place, byte, at): (usize, u8, u64)) {
+    let mut changed = Vec::from_slice(alloc, body).expect(rt, "memory");
+    if let Some(old) = changed.get_mut(place) {
+        *old = byte;
+    }
+    assert_eq!(rt; named(alloc, &changed), Some(at), "byte {place} as {byte}");
+}
+
 #[test]
 fn the_first_wrong_field_of_a_plan_is_named(rt: HostRuntime) {
     let body = joined(&rt, rt.alloc(), &IN_BLOCKS);
-    for (place, byte, at) in FAULTS {
-        let mut changed = Vec::from_slice(rt.alloc(), &body).expect(&rt, "memory");
-        if let Some(old) = changed.get_mut(place) {
-            *old = byte;
-        }
-        assert_eq!(rt;
-            named(decode(rt.alloc(), &changed)),
-            Some(at),
-            "byte {place} as {byte}"
-        );
+    for fault in &FAULTS {
+        expect_fault(&rt, rt.alloc(), &body, *fault);
     }
 }
 
@@ -191,19 +177,29 @@ const FIELDS: [u64; 21] = [
     0, 1, 2, 3, 7, 11, 19, 20, 21, 25, 33, 37, 45, 77, 85, 89, 97, 129, 137, 141, 149,
 ];
 
+/// The last of these fields that begins within so many bytes.
+fn last_field(len: usize) -> u64 {
+    let mut at = 0;
+    for field in &FIELDS {
+        if *field <= len as u64 {
+            at = *field;
+        }
+    }
+    at
+}
+
+/// So many bytes of the plan name the field that is cut short.
+fn expect_cut_short(rt: &impl Abort, alloc: Global, body: &[u8], len: usize) {
+    let mut short = Vec::from_slice(alloc, body).expect(rt, "memory");
+    short.truncate(len);
+    assert_eq!(rt; named(alloc, &short), Some(last_field(len)), "{len} bytes");
+}
+
 #[test]
 fn a_field_of_a_plan_that_is_cut_short_is_named(rt: HostRuntime) {
     let body = joined(&rt, rt.alloc(), &IN_BLOCKS);
     for len in 0..body.len() {
-        let mut at = 0;
-        for field in FIELDS {
-            if field <= len as u64 {
-                at = field;
-            }
-        }
-        let mut short = Vec::from_slice(rt.alloc(), &body).expect(&rt, "memory");
-        short.truncate(len);
-        assert_eq!(rt; named(decode(rt.alloc(), &short)), Some(at), "{len} bytes");
+        expect_cut_short(&rt, rt.alloc(), &body, len);
     }
 }
 
@@ -211,5 +207,5 @@ fn a_field_of_a_plan_that_is_cut_short_is_named(rt: HostRuntime) {
 fn a_byte_behind_a_plan_is_named(rt: HostRuntime) {
     let mut body = joined(&rt, rt.alloc(), &IN_BLOCKS);
     body.push(0).expect(&rt, "memory");
-    assert_eq!(rt; named(decode(rt.alloc(), &body)), Some(181));
+    assert_eq!(rt; named(rt.alloc(), &body), Some(181));
 }

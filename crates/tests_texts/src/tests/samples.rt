@@ -1,6 +1,8 @@
 //! A whole sample against a table that another program made, and the ends of samples.
 use crate::tests::in_words::command_in_words;
 use sample_commands::{MOST_CHANGES, Sample};
+use std::alloc::Global;
+use std::process::Abort;
 
 /// The sample of 123456789 with 25 changes, as lines of a script, each text behind its arrival. This
 /// program in Python 3 prints them:
@@ -64,32 +66,37 @@ const LINES: [&str; 44] = [
     "verify",
 ];
 
+/// The next command of a sample is this line.
+fn expect_next(rt: &impl Abort, alloc: Global, sample: &mut Sample, line: &str) {
+    let command = sample.next_command(alloc).expect(rt, "memory");
+    let command = command.expect(rt, "one command more");
+    assert_eq!(rt; command_in_words(rt, alloc, &command).as_str(), line);
+}
+
+/// Whether a sample has one command more, which is taken.
+fn has_next(rt: &impl Abort, alloc: Global, sample: &mut Sample) -> bool {
+    sample.next_command(alloc).expect(rt, "memory").is_some()
+}
+
 #[test]
 fn a_sample_is_what_another_program_says(rt: HostRuntime) {
-    let alloc = rt.alloc();
     let mut sample = Sample::new(123_456_789, 25);
-    for want in LINES {
-        let command = sample
-            .next_command(alloc)
-            .expect(&rt, "memory")
-            .expect(&rt, "one command more");
-        let line = command_in_words(&rt, alloc, command);
-        assert_eq!(rt; line.as_str(), want);
+    for line in &LINES {
+        expect_next(&rt, rt.alloc(), &mut sample, line);
     }
-    assert!(rt; sample.next_command(alloc).expect(&rt, "memory").is_none());
-    assert!(rt; sample.next_command(alloc).expect(&rt, "memory").is_none());
+    assert!(rt; !has_next(&rt, rt.alloc(), &mut sample));
+    assert!(rt; !has_next(&rt, rt.alloc(), &mut sample));
 }
 
 #[test]
 fn the_longest_sample_ends(rt: HostRuntime) {
-    let alloc = rt.alloc();
     let mut sample = Sample::new(u64::MAX, MOST_CHANGES);
     let mut given = 0u32;
     for _ in 0..MOST_CHANGES + 19 {
-        if sample.next_command(alloc).expect(&rt, "memory").is_some() {
+        if has_next(&rt, rt.alloc(), &mut sample) {
             given = given.saturating_add(1);
         }
     }
     assert_eq!(rt; given, MOST_CHANGES + 19);
-    assert!(rt; sample.next_command(alloc).expect(&rt, "memory").is_none());
+    assert!(rt; !has_next(&rt, rt.alloc(), &mut sample));
 }

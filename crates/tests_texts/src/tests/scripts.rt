@@ -1,10 +1,10 @@
 //! A script in pieces of any size gives the same items.
 ghost use Rattle.std.specs.Prelude.{◌^◌, ◌<◌};
 
-use crate::tests::in_words::command_in_words;
+use crate::tests::in_words::{command_in_words, owned};
 use machine_model::{Failed, Source};
 use script_read::{Item, Reader, ScriptError};
-use std::alloc::{AllocError, Global};
+use std::alloc::Global;
 use std::process::Abort;
 
 /// A source that gives its bytes in pieces, after some pulls that fail.
@@ -46,24 +46,35 @@ impl Source for Pieces<'_> {
     }
 }
 
-fn item_in_words(rt: &impl Abort, alloc: Global, item: Option<Item>) -> String {
+/// What is read in words: a command, a line that is none, or nothing more.
+fn item_in_words(rt: &impl Abort, alloc: Global, item: &Option<Item>) -> String {
     match item {
         Some(Item::Command(command)) => command_in_words(rt, alloc, command),
-        Some(Item::Line) => String::from_str(alloc, "line").expect(rt, "memory"),
-        None => String::from_str(alloc, "finished").expect(rt, "memory"),
+        Some(Item::Line) => owned(rt, alloc, "line"),
+        None => owned(rt, alloc, "finished"),
     }
 }
 
-/// An answer in words: an item, or why there is none.
-fn in_words(rt: &impl Abort, alloc: Global, answer: Result<Option<Item>, ScriptError>) -> String {
-    match answer {
+/// Why nothing is read, in words.
+fn error_in_words(rt: &impl Abort, alloc: Global, error: &ScriptError) -> String {
+    match error {
+        ScriptError::Broken { at } => { format!(in alloc; "broken at {at}").expect(rt, "memory") }
+        ScriptError::Budget => owned(rt, alloc, "budget"),
+        ScriptError::Failed => owned(rt, alloc, "failed"),
+        ScriptError::Memory => owned(rt, alloc, "memory"),
+    }
+}
+
+/// The next answer of a reader in words.
+fn next_in_words(
+    rt: &impl Abort,
+    alloc: Global,
+    reader: &mut Reader,
+    source: &mut Pieces<'_>,
+) -> String {
+    match &reader.next_item(alloc, source) {
         Ok(item) => item_in_words(rt, alloc, item),
-        Err(ScriptError::Broken { at }) => {
-            format!(in alloc; "broken at {at}").expect(rt, "memory")
-        }
-        Err(ScriptError::Budget) => String::from_str(alloc, "budget").expect(rt, "memory"),
-        Err(ScriptError::Failed) => String::from_str(alloc, "failed").expect(rt, "memory"),
-        Err(ScriptError::Memory) => String::from_str(alloc, "memory").expect(rt, "memory"),
+        Err(error) => error_in_words(rt, alloc, error),
     }
 }
 
@@ -77,36 +88,47 @@ fn expect_answers(rt: &impl Abort, alloc: Global, script: &[u8], piece: usize, w
     };
     let mut reader = Reader::new(alloc).expect(rt, "memory");
     for words in want {
-        let answer = reader.next_item(alloc, &mut source);
-        let answer = in_words(rt, alloc, answer);
+        let answer = next_in_words(rt, alloc, &mut reader, &mut source);
         assert_eq!(rt; answer.as_str(), *words);
     }
 }
 
+/// How many bytes a pull gives.
+const PIECES: [usize; 5] = [1, 2, 3, 7, 4096];
+
+/// A script with each command, and what is read of it.
+const EVERY_COMMAND: &str =
+    "# note\n\narrive 7 2007-07-23 5\r\nred a\r\n  delete 7  020 \n   \nplan Straße guarantee 3/2\nplan v space 3/2 uniform\nplan v space 5/1 since 30\npropose v guarantee 3/2\nfind 1969-12-31 red\nfind 2007-07-23  red  blue \nbetween 15 35 v\nbetween 35 35 v\nshow 4294967295 0\nhello\ncertificate v\n#\nverify";
+
+const EVERY_ANSWER: [&str; 16] = [
+    "failed",
+    "arrive 7 1185148800 red a",
+    "delete 7 20",
+    "plan Straße guarantee 3/2",
+    "plan v uniform 3/2",
+    "plan v since 30 5/1",
+    "propose v 3/2",
+    "line",
+    "find 1185148800 red  blue",
+    "between 15 35 v",
+    "line",
+    "show 4294967295 0",
+    "line",
+    "certificate v",
+    "verify",
+    "finished",
+];
+
 #[test]
 fn reads_every_command_in_any_pieces(rt: HostRuntime) {
-    let script =
-        "# note\n\narrive 7 2007-07-23 5\r\nred a\r\n  delete 7  020 \n   \nplan Straße guarantee 3/2\nplan v space 3/2 uniform\nplan v space 5/1 since 30\npropose v guarantee 3/2\nfind 1969-12-31 red\nfind 2007-07-23  red  blue \nbetween 15 35 v\nbetween 35 35 v\nshow 4294967295 0\nhello\ncertificate v\n#\nverify";
-    let want = [
-        "failed",
-        "arrive 7 1185148800 red a",
-        "delete 7 20",
-        "plan Straße guarantee 3/2",
-        "plan v uniform 3/2",
-        "plan v since 30 5/1",
-        "propose v 3/2",
-        "line",
-        "find 1185148800 red  blue",
-        "between 15 35 v",
-        "line",
-        "show 4294967295 0",
-        "line",
-        "certificate v",
-        "verify",
-        "finished",
-    ];
-    for piece in [1, 2, 3, 7, 4096] {
-        expect_answers(&rt, rt.alloc(), script.as_bytes(), piece, &want);
+    for piece in &PIECES {
+        expect_answers(
+            &rt,
+            rt.alloc(),
+            EVERY_COMMAND.as_bytes(),
+            *piece,
+            &EVERY_ANSWER,
+        );
     }
 }
 
@@ -181,78 +203,94 @@ const LINES_TO_COME: [(&str, &str); 58] = [
     ("shares 1/1 a", "line"),
 ];
 
+/// A line is read so, and is all of its script.
+fn expect_line(rt: &impl Abort, alloc: Global, (line, words): (&str, &str)) {
+    let want = ["failed", words, "finished"];
+    expect_answers(rt, alloc, line.as_bytes(), 3, &want);
+}
+
 #[test]
 fn reads_each_line_to_come_whole(rt: HostRuntime) {
-    for (line, words) in LINES_TO_COME {
-        expect_answers(
-            &rt,
-            rt.alloc(),
-            line.as_bytes(),
-            3,
-            &["failed", words, "finished"],
-        );
+    for row in &LINES_TO_COME {
+        expect_line(&rt, rt.alloc(), *row);
     }
+}
+
+/// What may stand behind an arrival of 20 bytes, with the place at which it breaks the script.
+const FAULTY: [(&str, &str); 7] = [
+    ("arrive 7 70 9\nblue", "broken at 38"),
+    ("arrive 7 70 3\nred a\n", "broken at 37"),
+    ("arrive 7 70 3\nred\ra\n", "broken at 37"),
+    ("arrive 7 70 3\nred\r", "broken at 38"),
+    ("arrive 7 70", "broken at 20"),
+    ("arrive 7 70 x\n", "broken at 20"),
+    (" arrive\n", "broken at 20"),
+];
+
+/// In pieces of that size the arrival is read, and then what stands behind it is broken at that place.
+fn expect_broken(rt: &impl Abort, alloc: Global, piece: usize, (line, place): (&str, &str)) {
+    let mut script = Vec::from_slice(alloc, b"arrive 7 10 5\nred a\n").expect(rt, "memory");
+    script
+        .extend_from_slice(line.as_bytes())
+        .expect(rt, "memory");
+    let want = ["failed", "arrive 7 10 red a", place];
+    expect_answers(rt, alloc, script.as_slice(), piece, &want);
 }
 
 #[test]
 fn names_the_place_of_what_is_broken(rt: HostRuntime) {
-    let faulty = [
-        (b"arrive 7 70 9\nblue".as_slice(), "broken at 38"),
-        (b"arrive 7 70 3\nred a\n".as_slice(), "broken at 37"),
-        (b"arrive 7 70 3\nred\ra\n".as_slice(), "broken at 37"),
-        (b"arrive 7 70 3\nred\r".as_slice(), "broken at 38"),
-        (b"arrive 7 70".as_slice(), "broken at 20"),
-        (b"arrive 7 70 x\n".as_slice(), "broken at 20"),
-        (b" arrive\n".as_slice(), "broken at 20"),
-    ];
-    for piece in [1, 2, 3, 7, 4096] {
-        for (line, place) in faulty {
-            let mut script = Vec::from_slice(rt.alloc(), b"arrive 7 10 5\nred a\n").expect(
-                &rt, "memory",
-            );
-            script.extend_from_slice(line).expect(&rt, "memory");
-            let want = ["failed", "arrive 7 10 red a", place];
-            expect_answers(&rt, rt.alloc(), script.as_slice(), piece, &want);
+    for piece in &PIECES {
+        for row in &FAULTY {
+            expect_broken(&rt, rt.alloc(), *piece, *row);
         }
     }
 }
 
 /// A script whose first item is `front`, so many bytes and `back`, and whose second is `verify`.
-fn around(alloc: Global, front: &[u8], n: usize, back: &[u8]) -> Result<Vec<u8>, AllocError> {
-    let mut script = Vec::from_slice(alloc, front)?;
-    for _ in 0..n {
-        script.push(b'a')?;
-    }
-    script.extend_from_slice(back)?;
-    script.extend_from_slice(b"verify\n")?;
-    Ok(script)
+fn around(rt: &impl Abort, alloc: Global, front: &str, n: usize, back: &str) -> Vec<u8> {
+    let mut script = Vec::from_slice(alloc, front.as_bytes()).expect(rt, "memory");
+    script
+        .resize(front.len().saturating_add(n), b'a')
+        .expect(rt, "memory");
+    script
+        .extend_from_slice(back.as_bytes())
+        .expect(rt, "memory");
+    script.extend_from_slice(b"verify\n").expect(rt, "memory");
+    script
+}
+
+/// How many bytes a line has, its end, and what is read.
+const LONG_LINES: [(usize, &str, &str); 4] = [
+    (4095, "\n", "line"),
+    (4096, "\r\n", "line"),
+    (4097, "\n", "broken at 0"),
+    (4096, "\r\r\n", "broken at 0"),
+];
+
+/// A line of so many bytes and this end is read so.
+fn expect_long_line(rt: &impl Abort, alloc: Global, (n, end, words): (usize, &str, &str)) {
+    let script = around(rt, alloc, "", n, end);
+    expect_answers(rt, alloc, script.as_slice(), 7, &["failed", words]);
 }
 
 #[test]
 fn a_line_has_at_most_4096_bytes(rt: HostRuntime) {
-    for (n, end, words) in [
-        (4095, b"\n".as_slice(), "line"),
-        (4096, b"\r\n".as_slice(), "line"),
-        (4097, b"\n".as_slice(), "broken at 0"),
-        (4096, b"\r\r\n".as_slice(), "broken at 0"),
-    ] {
-        let script = around(rt.alloc(), b"", n, end).expect(&rt, "memory");
-        let want = ["failed", words];
-        expect_answers(&rt, rt.alloc(), script.as_slice(), 7, &want);
+    for row in &LONG_LINES {
+        expect_long_line(&rt, rt.alloc(), *row);
     }
 }
 
+/// What is read where a text has a byte more than it may.
+const TOO_LONG: [&str; 4] = [
+    "failed",
+    "arrive 7 10 too long 4194305",
+    "verify",
+    "finished",
+];
+
 #[test]
 fn a_text_above_the_limit_is_passed_over(rt: HostRuntime) {
-    let limit = commands::MOST_TEXT_BYTES;
-    let script = around(rt.alloc(), b"arrive 7 10 4194305\n", limit + 1, b"\r\n").expect(
-        &rt, "memory",
-    );
-    let want = [
-        "failed",
-        "arrive 7 10 too long 4194305",
-        "verify",
-        "finished",
-    ];
-    expect_answers(&rt, rt.alloc(), script.as_slice(), 65536, &want);
+    let bytes = commands::MOST_TEXT_BYTES + 1;
+    let script = around(&rt, rt.alloc(), "arrive 7 10 4194305\n", bytes, "\r\n");
+    expect_answers(&rt, rt.alloc(), script.as_slice(), 65536, &TOO_LONG);
 }

@@ -6,13 +6,18 @@ use std::alloc::{AllocError, Global};
 use std::process::Abort;
 use time_base::{Key, WordId};
 
+/// Shows a term with its count behind those that are shown.
+fn show(rt: &impl Abort, alloc: Global, out: &mut String, term: &str, count: u32) {
+    let shown = format!(in alloc; "{term} {count}, ").expect(rt, "memory");
+    out.push_str(shown.as_str()).expect(rt, "memory");
+}
+
 /// The terms of a text as a text, each with its count behind it.
 fn shown(rt: &impl Abort, alloc: Global, text: &str) -> String {
     assert!(rt; text.len() < 4294967296);
     let mut out = String::new(alloc);
     for (key, count) in &terms(alloc, text).expect(rt, "memory") {
-        let term = format!(in alloc; "{} {}, ", key.as_str(), *count).expect(rt, "memory");
-        out.push_str(term.as_str()).expect(rt, "memory");
+        show(rt, alloc, &mut out, key.as_str(), *count);
     }
     out
 }
@@ -26,71 +31,77 @@ fn assert_terms(rt: &impl Abort, alloc: Global, rows: &[(&str, &str)]) {
 }
 
 /// A text so many times over.
-fn repeated(alloc: Global, text: &str, times: usize) -> Result<String, AllocError> {
+fn repeated(rt: &impl Abort, alloc: Global, text: &str, times: usize) -> String {
     let mut out = String::new(alloc);
     for _ in 0..times {
-        out.push_str(text)?;
+        out.push_str(text).expect(rt, "memory");
     }
-    Ok(out)
+    out
 }
 
-// What is wanted is from Python 3.11: `unicodedata.normalize('NFD', ..)` and `str.casefold`, over
-// the runs by `unicodedata.category`.
+/// Texts and their terms.
+///
+/// What is wanted is from Python 3.11: `unicodedata.normalize('NFD', ..)` and `str.casefold`, over
+/// the runs by `unicodedata.category`.
+const TERMS: [(&str, &str); 21] = [
+    ("", ""),
+    ("e-mail", "e 1, mail 1, "),
+    ("snake_case don't", "snake 1, case 1, don 1, t 1, "),
+    ("To be, or not to be", "to 2, be 2, or 1, not 1, "),
+    ("Straße STRASSE Strasse", "strasse 3, "),
+    ("ẞ ß", "ss 2, "),
+    ("\u{e9} e\u{301} \u{c9}", "e\u{301} 3, "),
+    ("A\u{30a} \u{c5} \u{212b}", "a\u{30a} 3, "),
+    ("ΣΊΣΥΦΟΣ Σίσυφος ς σ", "σι\u{301}συφοσ 2, σ 2, "),
+    ("\u{390} \u{1fd3}", "\u{3b9}\u{308}\u{301} 2, "),
+    ("ı i I İ", "ı 1, i 2, i\u{307} 1, "),
+    ("\u{212a} k K", "k 3, "),
+    (
+        "\u{ac01} \u{1100}\u{1161}\u{11a8}",
+        "\u{1100}\u{1161}\u{11a8} 2, ",
+    ),
+    ("q\u{307}\u{323} q\u{323}\u{307}", "q\u{323}\u{307} 2, "),
+    ("\u{663} 3 \u{969}", "\u{663} 1, 3 1, \u{969} 1, "),
+    ("Ⅷ ⅷ ½", "ⅷ 2, ½ 1, "),
+    ("ﬁne FINE", "fine 2, "),
+    ("\u{1c6} \u{1c4} \u{1c5}", "\u{1c6} 3, "),
+    ("\u{e000} \u{378} x\u{e000}y", "x 1, y 1, "),
+    ("\u{1f469}\u{1f3fd}\u{200d}\u{1f680}", ""),
+    ("\u{2764}\u{fe0f}", "\u{fe0f} 1, "),
+];
+
 #[test]
 fn terms_are_those_of_unicode(rt: HostRuntime) {
-    let rows = [
-        ("", ""),
-        ("e-mail", "e 1, mail 1, "),
-        ("snake_case don't", "snake 1, case 1, don 1, t 1, "),
-        ("To be, or not to be", "to 2, be 2, or 1, not 1, "),
-        ("Straße STRASSE Strasse", "strasse 3, "),
-        ("ẞ ß", "ss 2, "),
-        ("\u{e9} e\u{301} \u{c9}", "e\u{301} 3, "),
-        ("A\u{30a} \u{c5} \u{212b}", "a\u{30a} 3, "),
-        ("ΣΊΣΥΦΟΣ Σίσυφος ς σ", "σι\u{301}συφοσ 2, σ 2, "),
-        ("\u{390} \u{1fd3}", "\u{3b9}\u{308}\u{301} 2, "),
-        ("ı i I İ", "ı 1, i 2, i\u{307} 1, "),
-        ("\u{212a} k K", "k 3, "),
-        (
-            "\u{ac01} \u{1100}\u{1161}\u{11a8}",
-            "\u{1100}\u{1161}\u{11a8} 2, ",
-        ),
-        ("q\u{307}\u{323} q\u{323}\u{307}", "q\u{323}\u{307} 2, "),
-        ("\u{663} 3 \u{969}", "\u{663} 1, 3 1, \u{969} 1, "),
-        ("Ⅷ ⅷ ½", "ⅷ 2, ½ 1, "),
-        ("ﬁne FINE", "fine 2, "),
-        ("\u{1c6} \u{1c4} \u{1c5}", "\u{1c6} 3, "),
-        ("\u{e000} \u{378} x\u{e000}y", "x 1, y 1, "),
-        ("\u{1f469}\u{1f3fd}\u{200d}\u{1f680}", ""),
-        ("\u{2764}\u{fe0f}", "\u{fe0f} 1, "),
-    ];
-    assert_terms(&rt, rt.alloc(), &rows);
+    assert_terms(&rt, rt.alloc(), &TERMS);
 }
 
-// What is wanted is written down from the Unicode Character Database: categories, canonical
-// decompositions and combining classes from UnicodeData.txt, folds from the lines C and F of
-// CaseFolding.txt, and Hangul syllables by section 3.12 of The Unicode Standard.
+/// Texts in eight scripts and their terms.
+///
+/// What is wanted is written down from the Unicode Character Database: categories, canonical
+/// decompositions and combining classes from UnicodeData.txt, folds from the lines C and F of
+/// CaseFolding.txt, and Hangul syllables by section 3.12 of The Unicode Standard.
+const TERMS_OF_SCRIPTS: [(&str, &str); 10] = [
+    ("Straße İSTANBUL", "strasse 1, i\u{307}stanbul 1, "),
+    ("\u{1e9b}\u{323} \u{1c5}", "s\u{323}\u{307} 1, \u{1c6} 1, "),
+    ("ΌΔΟΣ, όδος", "ο\u{301}δοσ 2, "),
+    ("ЁЖ Ёж; Йод", "е\u{308}ж 2, и\u{306}од 1, "),
+    ("\u{622}\u{628}", "\u{627}\u{653}\u{628} 1, "),
+    (
+        "\u{628}\u{651}\u{64e} \u{628}\u{64e}\u{651}",
+        "\u{628}\u{64e}\u{651} 2, ",
+    ),
+    ("\u{958}लम हिन्दी", "\u{915}\u{93c}लम 1, हिन्दी 1, "),
+    (
+        "\u{d55c}\u{ae00}",
+        "\u{1112}\u{1161}\u{11ab}\u{1100}\u{1173}\u{11af} 1, ",
+    ),
+    ("漢字、\u{f900}", "漢字 1, \u{8c48} 1, "),
+    ("1\u{fe0f}\u{20e3} \u{1f600}", "1\u{fe0f}\u{20e3} 1, "),
+];
+
 #[test]
 fn terms_of_eight_scripts(rt: HostRuntime) {
-    let rows = [
-        ("Straße İSTANBUL", "strasse 1, i\u{307}stanbul 1, "),
-        ("\u{1e9b}\u{323} \u{1c5}", "s\u{323}\u{307} 1, \u{1c6} 1, "),
-        ("ΌΔΟΣ, όδος", "ο\u{301}δοσ 2, "),
-        ("ЁЖ Ёж; Йод", "е\u{308}ж 2, и\u{306}од 1, "),
-        ("\u{622}\u{628}", "\u{627}\u{653}\u{628} 1, "),
-        (
-            "\u{628}\u{651}\u{64e} \u{628}\u{64e}\u{651}",
-            "\u{628}\u{64e}\u{651} 2, ",
-        ),
-        ("\u{958}लम हिन्दी", "\u{915}\u{93c}लम 1, हिन्दी 1, "),
-        (
-            "\u{d55c}\u{ae00}",
-            "\u{1112}\u{1161}\u{11ab}\u{1100}\u{1173}\u{11af} 1, ",
-        ),
-        ("漢字、\u{f900}", "漢字 1, \u{8c48} 1, "),
-        ("1\u{fe0f}\u{20e3} \u{1f600}", "1\u{fe0f}\u{20e3} 1, "),
-    ];
-    assert_terms(&rt, rt.alloc(), &rows);
+    assert_terms(&rt, rt.alloc(), &TERMS_OF_SCRIPTS);
 }
 
 /// How often the word occurs in the text.
@@ -102,74 +113,99 @@ fn times(rt: &impl Abort, alloc: Global, word: &str, text: &str) -> u32 {
     occurrences(alloc, &key, text).expect(rt, "memory")
 }
 
-// What is wanted is from Python 3.11, as above.
-#[test]
-fn occurrences_are_runs_of_the_same_key(rt: HostRuntime) {
-    let alloc = rt.alloc();
-    for (word, text, wanted) in [
-        ("red", "Red, red; RED reddish", 3),
-        ("red", "", 0),
-        ("red", "infrared", 0),
-        ("red", "blue red", 1),
-        ("straße", "Straße STRASSE Strasse ss", 3),
-        ("ς", "ΣΊΣΥΦΟΣ Σίσυφος ς σ", 2),
-        ("\u{e9}", "\u{e9} e\u{301} \u{c9} e", 3),
-        ("k", "\u{212a} k K kk", 3),
-        ("t", "e-mail snake_case don't T", 2),
-    ] {
-        let found = times(&rt, alloc, word, text);
-        assert_eq!(rt; found, wanted, "{word} in {text}");
-    }
-    let mut text = repeated(alloc, "a", 256).expect(&rt, "memory");
-    text.push_str(" a").expect(&rt, "memory");
-    let found = times(&rt, alloc, "a", text.as_str());
-    assert_eq!(rt; found, 1, "beside a run that is no term");
+/// A word, a text, and how often the word occurs in it: from Python 3.11, as above.
+const OCCURRENCES: [(&str, &str, u32); 9] = [
+    ("red", "Red, red; RED reddish", 3),
+    ("red", "", 0),
+    ("red", "infrared", 0),
+    ("red", "blue red", 1),
+    ("straße", "Straße STRASSE Strasse ss", 3),
+    ("ς", "ΣΊΣΥΦΟΣ Σίσυφος ς σ", 2),
+    ("\u{e9}", "\u{e9} e\u{301} \u{c9} e", 3),
+    ("k", "\u{212a} k K kk", 3),
+    ("t", "e-mail snake_case don't T", 2),
+];
+
+/// The word occurs so often in the text.
+fn expect_times(rt: &impl Abort, alloc: Global, (word, text, wanted): (&str, &str, u32)) {
+    let found = times(rt, alloc, word, text);
+    assert_eq!(rt; found, wanted, "{word} in {text}");
 }
 
-// By UnicodeData.txt U+0390 decomposes into three characters of two bytes each.
+#[test]
+fn occurrences_are_runs_of_the_same_key(rt: HostRuntime) {
+    for row in &OCCURRENCES {
+        expect_times(&rt, rt.alloc(), *row);
+    }
+    // beside a run that is no term
+    let mut text = repeated(&rt, rt.alloc(), "a", 256);
+    text.push_str(" a").expect(&rt, "memory");
+    expect_times(&rt, rt.alloc(), ("a", text.as_str(), 1));
+}
+
+/// What is repeated and how often, and whether that is a term. By UnicodeData.txt U+0390 decomposes into
+/// three characters of two bytes each.
+const LONG_RUNS: [(&str, usize, bool); 7] = [
+    ("a", 255, true),
+    ("a", 256, false),
+    ("あ", 85, true),
+    ("あ", 86, false),
+    ("\u{390}", 42, true),
+    ("\u{390}", 43, false),
+    ("a", 1 << 20, false),
+];
+
+/// Whether a text is one term alone.
+fn is_term(rt: &impl Abort, alloc: Global, text: &str) -> bool {
+    one_term(alloc, text).expect(rt, "memory").is_some()
+}
+
+/// So long a run is a term, or none.
+fn expect_run(rt: &impl Abort, alloc: Global, (unit, times, found): (&str, usize, bool)) {
+    let text = repeated(rt, alloc, unit, times);
+    let alone = is_term(rt, alloc, text.as_str());
+    assert_eq!(rt; alone, found, "{unit} times {times}");
+    let shown = shown(rt, alloc, text.as_str());
+    assert_eq!(rt; !shown.is_empty(), found, "{unit} times {times}");
+}
+
 #[test]
 fn long_runs_are_no_terms(rt: HostRuntime) {
-    let alloc = rt.alloc();
-    for (unit, times, found) in [
-        ("a", 255, true),
-        ("a", 256, false),
-        ("あ", 85, true),
-        ("あ", 86, false),
-        ("\u{390}", 42, true),
-        ("\u{390}", 43, false),
-        ("a", 1 << 20, false),
-    ] {
-        let text = repeated(alloc, unit, times).expect(&rt, "memory");
-        let term = one_term(alloc, text.as_str()).expect(&rt, "memory");
-        assert_eq!(rt; term.is_some(), found, "{unit} times {times}");
-        let all = shown(&rt, alloc, text.as_str());
-        assert_eq!(rt; !all.is_empty(), found, "{unit} times {times}");
+    for row in &LONG_RUNS {
+        expect_run(&rt, rt.alloc(), *row);
     }
-    let text = repeated(alloc, "a ", 1 << 19).expect(&rt, "memory");
-    let found = shown(&rt, alloc, text.as_str());
-    assert_eq!(rt; found.as_str(), "a 524288, ");
+    let text = repeated(&rt, rt.alloc(), "a ", 1 << 19);
+    assert_terms(&rt, rt.alloc(), &[(text.as_str(), "a 524288, ")]);
+}
+
+/// Texts and the only term of each; nothing where there is none, or more.
+const ONE_TERM: [(&str, &str); 5] = [
+    ("", ""),
+    ("e-mail", ""),
+    (" Straße! ", "strasse"),
+    ("...", ""),
+    ("word", "word"),
+];
+
+/// The text has this one term alone, or else nothing is wanted.
+fn expect_one_term(rt: &impl Abort, alloc: Global, (text, wanted): (&str, &str)) {
+    let term = one_term(alloc, text).expect(rt, "memory");
+    let found = match &term {
+        Some(key) => key.as_str(),
+        None => "",
+    };
+    assert_eq!(rt; found, wanted, "in {text}");
 }
 
 #[test]
 fn one_term_is_the_only_run(rt: HostRuntime) {
-    let alloc = rt.alloc();
-    for (text, wanted) in [
-        ("", ""),
-        ("e-mail", ""),
-        (" Straße! ", "strasse"),
-        ("...", ""),
-        ("word", "word"),
-    ] {
-        let found = match one_term(alloc, text).expect(&rt, "memory") {
-            Some(key) => String::from_str(alloc, key.as_str()).expect(&rt, "memory"),
-            None => String::new(alloc),
-        };
-        assert_eq!(rt; found.as_str(), wanted, "in {text}");
+    for row in &ONE_TERM {
+        expect_one_term(&rt, rt.alloc(), *row);
     }
-    let mut text = repeated(alloc, "a", 256).expect(&rt, "memory");
+    // two runs, of which one is no term
+    let mut text = repeated(&rt, rt.alloc(), "a", 256);
     text.push_str(" word").expect(&rt, "memory");
-    let found = one_term(alloc, text.as_str()).expect(&rt, "memory");
-    assert!(rt; found.is_none(), "two runs, of which one is no term");
+    expect_one_term(&rt, rt.alloc(), (text.as_str(), ""));
 }
 
 /// A list of the key alone.
@@ -195,33 +231,53 @@ fn number(
     Ok(Some(vocabulary.number(key)))
 }
 
+/// Texts in turn, and the number of the only term of each.
+const NUMBERS: [(&str, Option<u32>); 6] = [
+    ("To", Some(0)),
+    ("be", Some(1)),
+    ("TO", Some(0)),
+    ("or not", None),
+    ("or", Some(2)),
+    ("Be", Some(1)),
+];
+
+/// The text's only term has this number, made where it has none.
+fn expect_number(
+    rt: &impl Abort,
+    alloc: Global,
+    vocabulary: &mut Vocabulary,
+    (text, wanted): (&str, Option<u32>),
+) {
+    let found = number(alloc, vocabulary, text).expect(rt, "room");
+    assert_eq!(rt; found.map(|id| id.number()), wanted, "{text}");
+}
+
+/// The number of a word, where it has one.
+fn expect_found(
+    rt: &impl Abort,
+    alloc: Global,
+    vocabulary: &Vocabulary,
+    word: &str,
+    wanted: Option<WordId>,
+) {
+    let key = one_term(alloc, word).expect(rt, "memory");
+    let key = key.expect(rt, "a term");
+    assert_eq!(rt; vocabulary.find(&key), wanted, "{word}");
+}
+
 #[test]
 fn words_are_numbered_in_the_order_in_which_they_come(rt: HostRuntime) {
     let alloc = rt.alloc();
     let mut vocabulary = Vocabulary::new(alloc).expect(&rt, "memory");
-    for (text, wanted) in [
-        ("To", Some(0)),
-        ("be", Some(1)),
-        ("TO", Some(0)),
-        ("or not", None),
-        ("or", Some(2)),
-        ("Be", Some(1)),
-    ] {
-        let found = number(alloc, &mut vocabulary, text).expect(&rt, "room");
-        assert_eq!(rt; found.map(|id| id.number()), wanted, "{text}");
+    for row in &NUMBERS {
+        expect_number(&rt, alloc, &mut vocabulary, *row);
     }
     assert_eq!(rt; vocabulary.len(), 3);
     let id = WordId::new(2).expect(&rt, "a number");
     assert!(rt; id.number() < vocabulary.len());
     assert_eq!(rt; vocabulary.word(id).as_str(), "or");
-    let key = one_term(alloc, "OR")
-        .expect(&rt, "memory")
-        .expect(&rt, "a term");
-    assert_eq!(rt; vocabulary.find(&key), Some(id));
-    let key = one_term(alloc, "not")
-        .expect(&rt, "memory")
-        .expect(&rt, "a term");
-    assert_eq!(rt; vocabulary.find(&key), None);
+    expect_found(&rt, alloc, &vocabulary, "OR", Some(id));
+    expect_found(&rt, alloc, &vocabulary, "not", None);
 }
 
 /// A vocabulary of these terms, in order.
@@ -233,18 +289,23 @@ fn numbered(rt: &impl Abort, alloc: Global, terms: &[&str]) -> Vocabulary {
     vocabulary
 }
 
-/// What is weighed as a text: the words that have a number by it, and then the others.
-fn shown_weights(alloc: Global, found: &Weighed) -> Result<String, AllocError> {
+/// Shows a word that has a number by it, with its count.
+fn show_number(rt: &impl Abort, alloc: Global, out: &mut String, number: u32, count: u32) {
+    let number = format!(in alloc; "{number}").expect(rt, "memory");
+    show(rt, alloc, out, number.as_str(), count);
+}
+
+/// Asserts that what is weighed is shown as a text: the words that have a number by it, and then the
+/// others.
+fn expect_weighed(rt: &impl Abort, alloc: Global, found: &Weighed, text: &str, wanted: &str) {
     let mut out = String::new(alloc);
     for (number, count) in &found.known {
-        let term = format!(in alloc; "{} {}, ", *number, *count)?;
-        out.push_str(term.as_str())?;
+        show_number(rt, alloc, &mut out, *number, *count);
     }
     for (key, count) in &found.fresh {
-        let term = format!(in alloc; "{} {}, ", key.as_str(), *count)?;
-        out.push_str(term.as_str())?;
+        show(rt, alloc, &mut out, key.as_str(), *count);
     }
-    Ok(out)
+    assert_eq!(rt; out.as_str(), wanted, "in {text}");
 }
 
 /// Asserts of each row that its first text is weighed as the second.
@@ -258,8 +319,7 @@ fn assert_weights(
     for (text, wanted) in rows {
         assert!(rt; text.len() < 4294967296);
         let found = vocabulary.weigh(alloc, places, text).expect(rt, "memory");
-        let out = shown_weights(alloc, &found).expect(rt, "memory");
-        assert_eq!(rt; out.as_str(), *wanted, "in {text}");
+        expect_weighed(rt, alloc, &found, text, wanted);
     }
 }
 
@@ -277,16 +337,38 @@ fn words_are_weighed_by_number_or_by_key(rt: HostRuntime) {
     assert_weights(&rt, alloc, &vocabulary, &mut places, &rows);
 }
 
+/// Adds the word `w` with a number behind it to a vocabulary and to a text.
+fn add_word(
+    rt: &impl Abort,
+    alloc: Global,
+    vocabulary: &mut Vocabulary,
+    text: &mut String,
+    at: u32,
+) {
+    let word = format!(in alloc; "w{at} ").expect(rt, "memory");
+    let _ = number(alloc, vocabulary, word.as_str()).expect(rt, "room");
+    text.push_str(word.as_str()).expect(rt, "memory");
+}
+
+/// Adds the words `w0`, `w1` and so on to a vocabulary, so many, and gives the text of them.
+fn numbered_text(
+    rt: &impl Abort,
+    alloc: Global,
+    vocabulary: &mut Vocabulary,
+    words: u32,
+) -> String {
+    let mut text = String::new(alloc);
+    for at in 0..words {
+        add_word(rt, alloc, vocabulary, &mut text, at);
+    }
+    text
+}
+
 /// Asserts that so many words that stand twice in a text are weighed each by its own number.
 fn assert_own_numbers(rt: &impl Abort, alloc: Global, words: u32) {
     let mut vocabulary = Vocabulary::new(alloc).expect(rt, "memory");
-    let mut text = String::new(alloc);
-    for at in 0..words {
-        let word = format!(in alloc; "w{at} ").expect(rt, "memory");
-        let _ = number(alloc, &mut vocabulary, word.as_str()).expect(rt, "room");
-        text.push_str(word.as_str()).expect(rt, "memory");
-    }
-    let text = repeated(alloc, text.as_str(), 2).expect(rt, "memory");
+    let text = numbered_text(rt, alloc, &mut vocabulary, words);
+    let text = repeated(rt, alloc, text.as_str(), 2);
     assert!(rt; text.len() < 4294967296);
     let mut places = Places::new(alloc);
     let found = vocabulary
@@ -317,37 +399,52 @@ fn a_guess_is_believed_where_it_is_right(rt: HostRuntime) {
     assert_own_numbers(&rt, alloc, 2049);
 }
 
+/// Asserts that a vocabulary of ferry and toll weighs a text, and another one once it has a bridge too.
+fn assert_grown(rt: &impl Abort, alloc: Global, places: &mut Places) {
+    let mut vocabulary = numbered(rt, alloc, &["ferry", "toll"]);
+    let before = ("toll ferry Toll bridge", "1 2, 0 1, bridge 1, ");
+    assert_weights(rt, alloc, &vocabulary, places, &[before]);
+    let _ = number(alloc, &mut vocabulary, "bridge").expect(rt, "room");
+    let after = ("bridge Toll bridge ferry", "2 2, 1 1, 0 1, ");
+    assert_weights(rt, alloc, &vocabulary, places, &[after]);
+}
+
+/// Asserts that a new vocabulary of these terms weighs the row's text.
+fn assert_weighed_by(
+    rt: &impl Abort,
+    alloc: Global,
+    terms: &[&str],
+    places: &mut Places,
+    row: (&str, &str),
+) {
+    let vocabulary = numbered(rt, alloc, terms);
+    assert_weights(rt, alloc, &vocabulary, places, &[row]);
+}
+
 #[test]
 fn guesses_outlive_their_vocabulary(rt: HostRuntime) {
     let alloc = rt.alloc();
     let mut places = Places::new(alloc);
-    let mut vocabulary = numbered(&rt, alloc, &["ferry", "toll"]);
-    let rows = [("toll ferry Toll bridge", "1 2, 0 1, bridge 1, ")];
-    assert_weights(&rt, alloc, &vocabulary, &mut places, &rows);
-    let _ = number(alloc, &mut vocabulary, "bridge").expect(&rt, "room");
-    let rows = [("bridge Toll bridge ferry", "2 2, 1 1, 0 1, ")];
-    assert_weights(&rt, alloc, &vocabulary, &mut places, &rows);
-    let fewer = numbered(&rt, alloc, &["toll"]);
-    let rows = [("toll ferry toll bridge", "0 2, ferry 1, bridge 1, ")];
-    assert_weights(&rt, alloc, &fewer, &mut places, &rows);
-    let others = numbered(&rt, alloc, &["bridge", "ferry", "toll"]);
-    let rows = [("toll ferry bridge", "2 1, 1 1, 0 1, ")];
-    assert_weights(&rt, alloc, &others, &mut places, &rows);
+    assert_grown(&rt, alloc, &mut places);
+    let fewer = ("toll ferry toll bridge", "0 2, ferry 1, bridge 1, ");
+    assert_weighed_by(&rt, alloc, &["toll"], &mut places, fewer);
+    let others = ("toll ferry bridge", "2 1, 1 1, 0 1, ");
+    let terms = ["bridge", "ferry", "toll"];
+    assert_weighed_by(&rt, alloc, &terms, &mut places, others);
+}
+
+/// A run, one that is a letter longer, and the first one again.
+fn with_longer(rt: &impl Abort, alloc: Global, run: &str) -> String {
+    format!(in alloc; "{run} {run}a {run}").expect(rt, "memory")
 }
 
 #[test]
 fn long_runs_are_weighed_as_none(rt: HostRuntime) {
     let alloc = rt.alloc();
-    let longest = repeated(alloc, "a", 255).expect(&rt, "memory");
+    let longest = repeated(&rt, alloc, "a", 255);
     let vocabulary = numbered(&rt, alloc, &[longest.as_str()]);
     let mut places = Places::new(alloc);
-    let text = format!(in alloc;
-        "{} {}a {}",
-        longest.as_str(),
-        longest.as_str(),
-        longest.as_str()
-    )
-    .expect(&rt, "memory");
-    let rows = [(text.as_str(), "0 2, "), (text.as_str(), "0 2, ")];
-    assert_weights(&rt, alloc, &vocabulary, &mut places, &rows);
+    let text = with_longer(&rt, alloc, longest.as_str());
+    let row = (text.as_str(), "0 2, ");
+    assert_weights(&rt, alloc, &vocabulary, &mut places, &[row, row]);
 }
