@@ -255,8 +255,8 @@ class OverTls(Started):
 
     def member(self, *words: str) -> subprocess.Popen[bytes]:
         tls = [f"--tls-{what}={self.folder}/tls/{file}" for what, file in (("ca-file", "ca.pem"), ("cert", "cert.pem"), ("key", "key.pem"))]
-        environment = {**os.environ, "PYTHONPATH": str(TOOLS)}
-        run = [PYTHON, "-m", *words, *tls, "--no-dashboard"]
+        environment = {**os.environ, "PYTHONPATH": str(TOOLS), **{f"DASK_DISTRIBUTED__{it}__HTTP__ROUTES": "[]" for it in ("SCHEDULER", "WORKER")}}
+        run = [PYTHON, "-m", *words, *tls, "--no-dashboard", "--dashboard-address", "127.0.0.1:0"]
         member = subprocess.Popen(run, env=environment, stdout=subprocess.DEVNULL, stderr=subprocess.DEVNULL, start_new_session=True)
 
         def end() -> None:
