@@ -3,6 +3,7 @@
 from __future__ import annotations
 
 import logging
+import signal
 import time
 from contextlib import ExitStack
 from pathlib import Path
@@ -23,6 +24,8 @@ from .shard_program import ShardProgram
 _LOOK, _SILENT = 1.0, 15.0
 #: So long a cluster has to answer at first.
 _START = 60.0
+#: Where Dask serves pages about itself, which has to be somewhere: for this machine alone, and without any page.
+_NO_PAGES = "127.0.0.1:0"
 _FILES = {"ca_file": "ca.pem", "cert": "cert.pem", "key": "key.pem"}
 
 
@@ -137,11 +140,16 @@ class DaskEngine:
 
 
 def _local_cluster(count: int, security: Security | None, folder: str) -> LocalCluster:
-    return LocalCluster(
-        n_workers=count, threads_per_worker=1, processes=True, memory_limit=0, host="127.0.0.1",
-        dashboard_address=None, worker_dashboard_address=None, local_directory=folder,
-        protocol="tls://" if security else "tcp://", security=security, silence_logs=logging.CRITICAL,
-    )  # fmt: skip
+    before = signal.signal(signal.SIGINT, signal.SIG_IGN)  # Ctrl-C is for tt, which ends the programs in order first
+    try:
+        return LocalCluster(
+            n_workers=count, threads_per_worker=1, processes=True, memory_limit=0, host="127.0.0.1",
+            dashboard_address=None, scheduler_kwargs={"dashboard_address": _NO_PAGES}, worker_dashboard_address=_NO_PAGES,
+            local_directory=folder,
+            protocol="tls://" if security else "tcp://", security=security, silence_logs=logging.CRITICAL,
+        )  # fmt: skip
+    finally:
+        signal.signal(signal.SIGINT, before)
 
 
 def _be_silent() -> None:
@@ -149,4 +157,5 @@ def _be_silent() -> None:
     for name in ("distributed", "tornado", "asyncio", "bokeh"):
         logging.getLogger(name).setLevel(logging.CRITICAL)
     # What is set here comes to workers that are started here, too.
-    dask.config.set({"logging": {"distributed": "critical"}, "distributed.scheduler.allowed-failures": 0})
+    no_pages = {f"distributed.{member}.http.routes": [] for member in ("scheduler", "worker")}
+    dask.config.set({"logging": {"distributed": "critical"}, "distributed.scheduler.allowed-failures": 0, **no_pages})
