@@ -222,12 +222,17 @@ fn batch_of_texts(rt: &impl Abort, alloc: Global, texts: &[usize]) -> Vec<u8> {
     script
 }
 
+/// What texts are made of.
+const BLOCK: [u8; 65536] = [b'a'; 65536];
+
 fn push_text(rt: &impl Abort, alloc: Global, script: &mut Vec<u8>, text: usize) {
     let line = format!(in alloc; "arrive 7 10 {text}\n").expect(rt, "memory");
     script.extend_from_slice(line.as_bytes()).expect(rt, "memory");
-    for _ in 0..text {
-        script.push(b'a').expect(rt, "memory");
+    for _ in 0..text / BLOCK.len() {
+        script.extend_from_slice(&BLOCK).expect(rt, "memory");
     }
+    let tail = &BLOCK[..text % BLOCK.len()];
+    script.extend_from_slice(tail).expect(rt, "memory");
     script.push(b'\n').expect(rt, "memory");
 }
 
