@@ -164,8 +164,8 @@ each_splits e bytes =
       (makes None has.0).items,
       c.mid,
       (
-          record { parts = d.whole; in_turn = c.front; are = d.are },
-          (found_behind (makes None d.behind).begun (length c.mid - length has.1) (length c.mid) (first e has.1), begins_by e c.mid d.behind has.1 c.behind c.in_front (ap (λ (m : Made). m.items) d.under_way) has.2.1),
+        record { parts = d.whole; in_turn = c.front; are = d.are },
+        (found_behind (makes None d.behind).begun (length c.mid - length has.1) (length c.mid) (first e has.1), begins_by e c.mid d.behind has.1 c.behind c.in_front (ap (λ (m : Made). m.items) d.under_way) has.2.1),
       ),
     )
 

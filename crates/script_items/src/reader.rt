@@ -25,7 +25,8 @@ pub struct Reader {
 }
 
 impl Model for Reader {
-    ghost use Rattle.std.specs.Prelude.{Option};
+    ghost use Rattle.std.specs.Prelude.{Option, ◌≤◌, ◌^◌};
+    ghost use Rattle.script_read.specs.Reading.{taken};
     ghost use Rattle.script_items.specs.Groups.{Begun};
     ghost use Rattle.script_items.specs.Putting.{Holds};
     ghost use Rattle.script_items.specs.Reading.{ReaderState};
@@ -34,7 +35,7 @@ impl Model for Reader {
 
     ghost view = { λ r. record { parts = r.parts; batch = r.batch } };
 
-    ghost invariant = { λ r. (begun : Option Begun) × Holds r.batch begun };
+    ghost invariant = { λ r. (taken r.parts ≤ 2 ^ 40) × ((begun : Option Begun) × Holds r.batch begun) };
 }
 
 impl Reader {
@@ -99,6 +100,7 @@ impl Reader {
         ensures room { OnOk result (HasRoom self.new.batch) }
         ensures parts { self.new.parts ≡ self.old.parts }
         ensures same { (begun : Option Begun) → Holds self.old.batch begun → Holds self.new.batch begun }
+        ensures bound { taken self.new ≤ 2 ^ 40 }
     {
         reserve(&mut self.batch)
     }
