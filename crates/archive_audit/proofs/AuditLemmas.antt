@@ -102,7 +102,7 @@ one_finding_on image one other is also =
 sound_held : (image : Bytes) (finding : Finding) (is : IsFindingOn image finding) → status_of_finding finding ≡ Sound → HoldsPlans is.loaded image.pages
 sound_held image (Told (verdicts.Sound words segments)) is sound =
     let examined = is.examined in
-    sound_is_held is.loaded image words segments is.spelled (examined.0, (examined.1, examined.2.0)) (examined.2.1 tt) is.live
+    sound_is_held is.loaded image words segments is.spelled (examined.0, examined.1, examined.2.0) (examined.2.1 tt) is.live
 sound_held image (Told (verdicts.Differs word segment place found wanted)) is sound = absurd cc
 sound_held image (Told (verdicts.NotLeast word taken least)) is sound = absurd cc
 sound_held image (Told (verdicts.BadText doc at)) is sound = absurd cc

@@ -1,5 +1,5 @@
 -- What holds of what is found of an image.
-use Rattle.std.specs.Prelude.{◌≡◌, ◌↔◌, ℕ}
+use Rattle.std.specs.Prelude.{◌≡◌}
 use Rattle.machine_model.specs.Areas.{Bytes}
 use Rattle.archive_check.specs.declared.finding.Finding.{Finding}
 use Rattle.archive_audit.specs.declared.status.AuditStatus.TheVariants.{Sound}

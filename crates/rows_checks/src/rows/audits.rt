@@ -155,7 +155,7 @@ fn a_digest_is_told_after_all_else(rt: HostRuntime) {
     expect_audit(&rt, alloc, &disk, &[], AuditStatus::Faulty, told);
 }
 
-// `v` comes before `w` in the texts. The plans' gates lie at 55 and 137, and each has 45 bytes up to its digest.
+// `v` comes before `w` in the texts. The plans' gates lie at 55 and 137, and a digest lies 50 bytes behind its gate.
 #[test]
 fn digests_are_told_in_the_order_of_the_words(rt: HostRuntime) {
     let alloc = rt.alloc();

@@ -28,4 +28,4 @@ returns-in-Ok-clause-examined g c = λ tells h is.
     let holds = (g.D.Disk.disk c.args.disk.now).holds in
     let changes = c.args.archive.now.directory.changes in
     let F : List StoredPlan → Type 0 = λ l. IsFinding holds.journal changes holds.pages l c.in-Ok.finding in
-    (changes, (is.placed, subst F (c.plans-plans.ensures ∙ is.plans_are) (c.in-Ok.ensures.finding tells)))
+    (changes, is.placed, subst F (c.plans-plans.ensures ∙ is.plans_are) (c.in-Ok.ensures.finding tells))

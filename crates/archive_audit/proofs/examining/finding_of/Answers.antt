@@ -55,5 +55,5 @@ returns-in-None-clause-found g c = λ tells.
       loadable = tt;
       spelled = MatchOption-at_none _ _ c.in-None.is (c.in-Ok.ensures.found tells);
       live = (All-nil (IsInside (length holds.pages)), tt);
-      examined = (checked.0, (checked.1, (checked.2, λ sound. All-nil (λ (s : StoredPlan). HasDigests holds.pages s.plan))));
+      examined = (checked.0, checked.1, (checked.2, λ sound. All-nil (λ (s : StoredPlan). HasDigests holds.pages s.plan)));
     }

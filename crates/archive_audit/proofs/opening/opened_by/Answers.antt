@@ -1,4 +1,4 @@
-use Rattle.std.proofs.Common.{ℕ, List, length, arith, ap, sym, subst, subst₂}
+use Rattle.std.proofs.Common.{◌≤◌, ℕ, List, arith, ap, sym, subst, subst₂, ◌∙◌}
 use Rattle.std.proofs.lemmas.Result.{err_from_is_err_and}
 use Rattle.page_store.specs.Live.{AreLive}
 use Rattle.machine_model.specs.States.{DiskState}
@@ -7,6 +7,7 @@ use Rattle.gate_journal.proofs.LoadLemmas.{exit_is}
 use Rattle.archive_state.specs.declared.stored.StoredPlan.{StoredPlan}
 use Rattle.archive_state.proofs.StandsLemmas.{loaded_is_archive}
 use Rattle.plan_shelf.specs.Shelves.{extents_all}
+use Rattle.archive_audit.specs.declared.opening.Opened.{Opened}
 use Rattle.archive_audit.proofs.OpenLemmas.{bad_archive, bad_shelf, pages_long, is_opened}
 use Rattle.archive_audit.proofs.opening.opened_by.Goals as goal
 
@@ -33,3 +34,23 @@ returns-clause-exact g c = λ tells bodies laid_out spelled image spells long at
     loaded_is_archive image all.0 at (subst (Spells image.journal) (sym all.3) spells) all.1.loadable
     (subst₂ (λ (l : List StoredPlan) (n : ℕ). AreLive (extents_all l) n) all.1.plans_are
     (pages_long image (g.D.Disk.disk c.args.disk.now) (g.D.Disk.disk c.replay.new.disk) c.in_ok-reach.reach c.in_ok-reach.ensures.length c.replay.ensures.same long) c.in_ok-shelf.ensures.live) refused
+
+pub returns-clause-opened : goal.returns-clause-opened
+returns-clause-opened g c =
+    let all = c.in_ok-replayed.ensures.stands in
+    let counted = c.in_ok-replayed.ensures.counted all.0 all.1 in
+    let same = c.length.ensures.same in
+    let within : c.args.journal.end ≤ (g.D.Disk.disk c.length.new.self).reach.journal = omega (arith, c.requires.reached, ap (λ (d : DiskState). d.reach.journal) same, ap (λ (d : DiskState). d.reach.journal) c.replay.ensures.same) in
+    let long = c.in_ok-reach.ensures.length ∙ sym (ap (λ (d : DiskState). d.reach.pages) same) in
+    let opened : Opened = record { journal = c.args.journal; directory = c.in_ok-replayed.replayed.directory; shelf = c.in_ok-shelf.shelf } in
+    (all.0, is_opened all.0 c.args.heads.now c.in_ok-replayed.replayed.plans.items (g.D.Disk.disk c.length.new.self).reach c.in_ok-reach.reach opened all.1 counted.0 within c.in_ok-shelf.ensures.plans c.in_ok-shelf.ensures.live long)
+
+pub returns-clause-found : goal.returns-clause-found
+returns-clause-found g c = λ tells bodies laid_out spelled.
+    let all = c.in_ok-replayed.ensures.found tells bodies laid_out spelled in
+    let counted = c.in_ok-replayed.ensures.counted all.0 all.1 in
+    let same = c.length.ensures.same in
+    let within : c.args.journal.end ≤ (g.D.Disk.disk c.length.new.self).reach.journal = omega (arith, c.requires.reached, ap (λ (d : DiskState). d.reach.journal) same, ap (λ (d : DiskState). d.reach.journal) c.replay.ensures.same) in
+    let long = c.in_ok-reach.ensures.length ∙ sym (ap (λ (d : DiskState). d.reach.pages) same) in
+    let opened : Opened = record { journal = c.args.journal; directory = c.in_ok-replayed.replayed.directory; shelf = c.in_ok-shelf.shelf } in
+    (all.0, (is_opened all.0 c.args.heads.now c.in_ok-replayed.replayed.plans.items (g.D.Disk.disk c.length.new.self).reach c.in_ok-reach.reach opened all.1 counted.0 within c.in_ok-shelf.ensures.plans c.in_ok-shelf.ensures.live long, all.3))
