@@ -1,5 +1,5 @@
 -- Runs of items join.
-use Rattle.std.specs.Prelude.{◌≡◌, ℕ, Bool, List, ◌++◌, None}
+use Rattle.std.specs.Prelude.{ℕ, Bool, List, ◌++◌, None}
 use Rattle.std.proofs.Common.{ap, ◌∙◌}
 use Rattle.commands.specs.declared.command.Item.{Item}
 use Rattle.script_read.specs.Reading.{MayFollow}

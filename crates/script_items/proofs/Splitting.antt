@@ -11,7 +11,7 @@ use Rattle.script_read.proofs.Joins as joins
 use Rattle.script_read.proofs.Splitting as below
 use Rattle.script_items.specs.Groups.{Begun, Made, makes}
 use Rattle.script_items.specs.Items.{Items, IsNoSkip, Begins, Splits, IsBrokenAt, IsScript, Waits, found_behind}
-use Rattle.script_items.proofs.GroupLemmas.{Divided, divide, joined-none, nothing_made, one_front}
+use Rattle.script_items.proofs.GroupLemmas.{divide, nothing_made, one_front}
 
 -- ---- what is found
 

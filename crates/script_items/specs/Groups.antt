@@ -1,5 +1,5 @@
 -- The items of a script by its parts: the line of a batch and the next parts, so many, are one item.
-use Rattle.std.specs.Prelude.{◌≡◌, ℕ, zero, suc, ◌+◌, nat_lt, nat_le, ◌-◌, if◌then◌else◌, List, [], ◌∷◌, ◌++◌, length, Option, Some, None}
+use Rattle.std.specs.Prelude.{◌≡◌, ℕ, nat_lt, nat_le, ◌-◌, if◌then◌else◌, List, [], ◌∷◌, ◌++◌, Option, Some, None}
 use Rattle.commands.specs.Batches.{texts_bytes}
 use Rattle.commands.specs.declared.batch.BatchItem.{BatchItem}
 use Rattle.commands.specs.declared.batch.BatchItem.TheVariants as members
