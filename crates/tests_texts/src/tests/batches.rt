@@ -145,12 +145,20 @@ fn expect_answers(rt: &impl Abort, alloc: Global, script: &[u8], piece: usize, w
 const SCRIPTS: [(&str, &[&str]); 16] = [
     (
         "batch 3\narrive 7 10 5\r\nred a\r\ndelete 7 20\nverify\nfind 20 red\n",
-        &["batch 3; arrive 7 10 red a; delete 7 20; other", "find 20 red", "finished"],
+        &[
+            "batch 3; arrive 7 10 red a; delete 7 20; other",
+            "find 20 red",
+            "finished",
+        ],
     ),
     // the line of a batch within a batch is one item, and the batch ends without a line end
     (
         "batch 2\nbatch 2\ndelete 1 5\nbatch 1\ndelete 2 6",
-        &["batch 2; other; delete 1 5", "batch 1; delete 2 6", "finished"],
+        &[
+            "batch 2; other; delete 1 5",
+            "batch 1; delete 2 6",
+            "finished",
+        ],
     ),
     // lines that are skipped
     (
@@ -160,10 +168,25 @@ const SCRIPTS: [(&str, &[&str]); 16] = [
     // lines that begin no batch
     (
         "batch 0\nbatch 1001\nbatch 1 1\nbatch\nbatch x\nbatch 4294967297\ndelete 1 5",
-        &["line", "line", "line", "line", "line", "line", "delete 1 5", "finished"],
+        &[
+            "line",
+            "line",
+            "line",
+            "line",
+            "line",
+            "line",
+            "delete 1 5",
+            "finished",
+        ],
     ),
-    ("batch 2\nhello\nfind 20 red\n", &["batch 2; other; other", "finished"]),
-    ("batch 1\narrive 7 10 0\n\nverify", &["batch 1; arrive 7 10 ", "verify", "finished"]),
+    (
+        "batch 2\nhello\nfind 20 red\n",
+        &["batch 2; other; other", "finished"],
+    ),
+    (
+        "batch 1\narrive 7 10 0\n\nverify",
+        &["batch 1; arrive 7 10 ", "verify", "finished"],
+    ),
     // the bytes of a text aren't looked at
     (
         "batch 1\narrive 7 10 8\nbatch 2\n\nverify",
@@ -179,7 +202,10 @@ const SCRIPTS: [(&str, &[&str]); 16] = [
     ("batch 2\narrive 7 70 9\nblue", &["broken at 26"]),
     ("batch 2\narrive 7 70 3\nred", &["broken at 25"]),
     // an item that is broken
-    ("batch 2\ndelete 1 5\narrive 7 70 3\nred a\n", &["broken at 36"]),
+    (
+        "batch 2\ndelete 1 5\narrive 7 70 3\nred a\n",
+        &["broken at 36"],
+    ),
     ("batch 2\ndelete 1 5\narrive 7 70 x\n", &["broken at 19"]),
 ];
 
@@ -227,7 +253,9 @@ const BLOCK: [u8; 65536] = [b'a'; 65536];
 
 fn push_text(rt: &impl Abort, alloc: Global, script: &mut Vec<u8>, text: usize) {
     let line = format!(in alloc; "arrive 7 10 {text}\n").expect(rt, "memory");
-    script.extend_from_slice(line.as_bytes()).expect(rt, "memory");
+    script
+        .extend_from_slice(line.as_bytes())
+        .expect(rt, "memory");
     for _ in 0..text / BLOCK.len() {
         script.extend_from_slice(&BLOCK).expect(rt, "memory");
     }
@@ -242,8 +270,14 @@ const TEXTS: [(&[usize], &str); 6] = [
         &[4194304, 4194304, 4194304, 4194304],
         "batch 4; arrive 7 10 4194304 bytes; arrive 7 10 4194304 bytes; arrive 7 10 4194304 bytes",
     ),
-    (&[4194304, 4194304, 4194304, 4194304, 1], "batch too long 16777217"),
-    (&[1, 4194304, 4194304, 4194304, 4194304, 9], "batch too long 16777226"),
+    (
+        &[4194304, 4194304, 4194304, 4194304, 1],
+        "batch too long 16777217",
+    ),
+    (
+        &[1, 4194304, 4194304, 4194304, 4194304, 9],
+        "batch too long 16777226",
+    ),
     (&[4194305], "batch 1; arrive 7 10 too long 4194305"),
     (&[16777216], "batch 1; arrive 7 10 too long 16777216"),
     (&[16777217, 1], "batch too long 16777218"),
@@ -263,7 +297,9 @@ fn batch_of_deletions(rt: &impl Abort, alloc: Global, count: usize, there: usize
     let line = format!(in alloc; "batch {count}\n").expect(rt, "memory");
     let mut script = line.into_bytes();
     for _ in 0..there {
-        script.extend_from_slice(b"delete 7 20\n").expect(rt, "memory");
+        script
+            .extend_from_slice(b"delete 7 20\n")
+            .expect(rt, "memory");
     }
     script.extend_from_slice(b"verify\n").expect(rt, "memory");
     script
@@ -280,7 +316,13 @@ fn a_batch_has_at_most_1000_items(rt: HostRuntime) {
     let want = [whole.as_str(), "finished"];
     expect_answers(&rt, rt.alloc(), script.as_slice(), 4096, &want);
     let script = batch_of_deletions(&rt, rt.alloc(), 1000, 998);
-    expect_answers(&rt, rt.alloc(), script.as_slice(), 4096, &["broken at 11994"]);
+    expect_answers(
+        &rt,
+        rt.alloc(),
+        script.as_slice(),
+        4096,
+        &["broken at 11994"],
+    );
     let script = batch_of_deletions(&rt, rt.alloc(), 1001, 1);
     let want = ["line", "delete 7 20", "verify", "finished"];
     expect_answers(&rt, rt.alloc(), script.as_slice(), 4096, &want);
