@@ -1,4 +1,7 @@
 //! Choices that were worked out by hand, or by a look at all choices of small offers.
+ghost use Rattle.std.specs.Prelude.{◌≡◌, ◌≤◌, true, length};
+ghost use Rattle.shared_budget.specs.Steps.{AreCheap};
+
 use shared_budget::{Choice, Offer, combine};
 use space_planner::Point;
 use std::alloc::Global;
@@ -139,13 +142,20 @@ fn offers_of(rt: &impl Abort, alloc: Global, table: &[Plain]) -> Vec<Offer> {
     offers
 }
 
+/// Whether a choice can be made of such an offer.
+fn is_small(offer: &Offer) -> bool
+    ensures few { result ≡ true → length offer.now.front.items ≤ 4097 }
+    ensures cheap { result ≡ true → AreCheap offer.now }
+{
+    offer.front.len() <= 4097
+        && offer.whole.cost < 1 << 100
+        && offer.front.iter().all(|p| p.cost < 1 << 100)
+}
+
 /// What is chosen.
 fn chosen(rt: &impl Abort, alloc: Global, offers: &[Offer], budget: u64) -> Choice {
     assert!(rt; offers.len() <= 16 && budget <= 4096);
-    assert!(rt; offers.iter().all(|o| o.front.len() <= 4097));
-    assert!(rt;
-        offers.iter().all(|o| o.whole.cost < 1 << 100 && o.front.iter().all(|p| p.cost < 1 << 100))
-    );
+    assert!(rt; offers.iter().all(|o| is_small(o)));
     combine(alloc, offers, budget).expect(rt, "memory")
 }
 
@@ -246,6 +256,12 @@ fn sixteen_words(rt: HostRuntime) {
     let dear = offers_of(&rt, alloc, &[dear; 16]);
     for (budget, cheaper) in [(0, 0), (16, 16), (4096, 16)] {
         let choice = chosen(&rt, alloc, &dear, budget);
-        assert_costs(&rt, &dear, budget, &choice, most * 16 - cheaper);
+        assert_costs(
+            &rt,
+            &dear,
+            budget,
+            &choice,
+            most.saturating_mul(16).saturating_sub(cheaper),
+        );
     }
 }

@@ -35,6 +35,7 @@ fn packets_of_entries_that_are_kept(rt: HostRuntime) {
     ] {
         let packet = packet(&rt, alloc, 1, got);
         for have in [1, 2, u64::MAX] {
+            assert!(rt; packet.number <= have);
             let case = sort_out(have, Some(kept), &packet);
             let answer = match wanted {
                 Some((place, kept, got)) => Case::Conflict { place, kept, got },
@@ -58,8 +59,8 @@ fn packets_of_entries_to_come(rt: HostRuntime) {
         (u64::MAX - 1, u64::MAX, Case::Next),
         (u64::MAX - 2, u64::MAX, Case::Gap),
     ] {
-        assert!(rt; have < number);
         let packet = packet(&rt, alloc, number, b"");
+        assert!(rt; have < packet.number);
         assert_eq!(rt;
             sort_out(have, None, &packet),
             case,
