@@ -30,15 +30,6 @@ pub record Goes (Tells : Type 0) (before after : List ℕ) (old new : ReaderStat
   pub taken_is : taken new ≡ taken old + length pulled
   pub calm : IsCalm since old pulled new
 
-pub goes-start : (Tells : Type 0) (left : List ℕ) (old : ReaderState) (since : List ℕ) → StandsFor old since → Goes Tells left left old old since
-goes-start Tells left old since stands = record {
-  pulled = [];
-  gave = λ tells. refl;
-  stands = subst (StandsFor old) (sym (append-nil since)) stands;
-  taken_is = omega arith;
-  calm = λ quiet. (refl, refl);
-}
-
 -- room is made for a part
 pub goes-room : (Tells : Type 0) (before after : List ℕ) (old new next : ReaderState) (since : List ℕ) → Goes Tells before after old new since → next.parts ≡ new.parts
     → ((begun : Option Begun) → Holds new.batch begun → Holds next.batch begun) → Goes Tells before after old next since

@@ -17,7 +17,6 @@ use Rattle.script_read.specs.declared.part.Part.TheVariants as parts
 use Rattle.script_read.proofs.Ranges as parted
 use Rattle.script_items.specs.Groups.{Begun, Made, batch_of, makes, member, member_by, with_item}
 use Rattle.script_items.specs.Items.{Items}
-use Rattle.script_items.specs.Putting.{IsCounted}
 use Rattle.script_items.proofs.GroupLemmas.{more_with, whole_with}
 
 -- a command as an item of a batch
@@ -30,10 +29,6 @@ pub member-fits : (part : Part) → IsPartInRange part → MemberHasDocument (me
 member-fits (parts.Item (items.Command c)) fits = by_command c fits
 member-fits (parts.Item items.Line) fits = (tt, omega arith)
 member-fits (parts.Batch count) fits = (tt, omega arith)
-
-pub is_counted : (part : Part) → IsPartInRange part → IsCounted part
-is_counted (parts.Item item) fits = tt
-is_counted (parts.Batch count) fits = fits
 
 -- a batch under way has documents in range, and will have no more items than a batch may have
 abbrev IsFit : Option Begun → Type 0

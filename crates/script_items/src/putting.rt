@@ -1,5 +1,5 @@
 //! One part more of a script.
-ghost use Rattle.std.specs.Prelude.{◌≡◌, ◌≤◌, ◌<◌, ◌^◌, Option, Some, None, OnOk};
+ghost use Rattle.std.specs.Prelude.{◌≡◌, ◌<◌, ◌^◌, Option, Some, None, OnOk};
 ghost use Rattle.commands.specs.Batches.{item_bytes};
 ghost use Rattle.script_items.specs.Groups.{Begun, member};
 ghost use Rattle.script_items.specs.Putting.{Holds, HasRoom, IsPut, IsCounted};

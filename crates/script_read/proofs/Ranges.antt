@@ -1,7 +1,7 @@
 -- What lines name is in range.
 use Rattle.std.specs.Prelude.{◌≡◌, ℕ, ◌+◌, ◌<◌, ◌^◌, Bool, true, false, nat_lt, ◌&&◌, ◌==◌, not, if◌then◌else◌, List, [], ◌∷◌, length, take, drop, filter_map, Option, Some, None, IfSome, option_map, bytes_eq, codes, All, refl}
 use Rattle.std.specs.List.{position_or_len}
-use Rattle.std.proofs.Common.{◌≤◌, ◌-◌, ◌∙◌, arith, length-take, ltb-true, subst, sym}
+use Rattle.std.proofs.Common.{◌≤◌, ◌-◌, arith, length-take, ltb-true, subst, sym}
 use Rattle.std.proofs.lemmas.Bool.Decides.{nat_tests}
 use Rattle.std.proofs.lemmas.List.Elements.{All-nil, All-cons}
 use Rattle.time_base.specs.declared.ids.DocId.{DocId}
