@@ -19,10 +19,11 @@ use Rattle.gate_journal.specs.Spelled.{Spells}
 use Rattle.query_lang.specs.Grammar.{Query}
 use Rattle.query_lang.specs.Meaning.{words_of}
 use Rattle.query_eval.specs.declared.part.Part.{Part}
-use Rattle.script_read.specs.Items.{Items, Splits}
-use Rattle.script_read.specs.Reading.{ReaderState, MayFollow, fresh}
-use Rattle.script_read.proofs.Joins.{items-join}
-use Rattle.script_read.proofs.Splitting.{each_splits, one_split}
+use Rattle.script_items.specs.Items.{Items, Splits}
+use Rattle.script_read.specs.Reading.{MayFollow}
+use Rattle.script_items.specs.Reading.{ReaderState, fresh}
+use Rattle.script_items.proofs.Joins.{items-join}
+use Rattle.script_items.proofs.Splitting.{each_splits, one_split}
 use Rattle.page_cache.specs.Caches.{Kept, after_asking_all, missed_by_all}
 use Rattle.page_cache.proofs.LawLemmas.{askings-join, misses-join}
 use Rattle.sublist_store.specs.declared.why.Damage.{Damage}
@@ -232,7 +233,7 @@ asking_stops h image old now source sink disk archive held held_now item status 
     let up_to = items ++ item ∷ [] in
     let next = pulling_next old.source now.source source held held_now item asking.pulling gives in
     let rest = next.since ++ source.left in
-    let read : Items true old.source.left up_to rest = rw next.pulled_are (next.reads.split true source.left (ends_told held_now.ended source.left next.told)) in
+    let read : Items true old.source.left up_to rest = rw next.pulled_are (next.reads.split true source.left (ends_told held_now.parts.ended source.left next.told)) in
     let behind = each_splits true rest in
     let joined : Splits true old.source.left (up_to ++ behind.0) behind.1 = (items-join true old.source.left rest behind.1 up_to behind.0 read behind.2.0, behind.2.1) in
     let are : asked ≡ items ++ item ∷ behind.0 = (one_split true old.source.left asked (up_to ++ behind.0) [] behind.1 split joined).0 ∙ append_assoc items (item ∷ []) behind.0 in

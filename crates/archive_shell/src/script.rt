@@ -7,7 +7,7 @@ ghost use Rattle.machine_model.specs.States.{state_by};
 ghost use Rattle.archive_state.specs.Histories.{History};
 ghost use Rattle.archive_state.specs.Stands.{IsNotArchive};
 ghost use Rattle.archive_core.specs.Footings.{Footing};
-ghost use Rattle.script_read.specs.Items.{Splits};
+ghost use Rattle.script_items.specs.Items.{Splits};
 ghost use Rattle.commands.specs.declared.command.Item.{Item};
 ghost use Rattle.archive_shell.specs.Fetching.{IsAsking, ReadsMissed};
 ghost use Rattle.archive_shell.specs.Questions.{AreMade, AreMadeUpTo, IsQuestion};

@@ -5,7 +5,7 @@ use Rattle.machine_model.specs.declared.area.Area.TheVariants as areas
 use Rattle.machine_model.specs.States.{SourceState, SinkState, state_by}
 use Rattle.commands.specs.declared.command.Item.{Item}
 use Rattle.page_store.specs.Live.{AreLive, IsInside}
-use Rattle.script_read.specs.Items.{Splits}
+use Rattle.script_items.specs.Items.{Splits}
 use Rattle.archive_state.specs.Histories.{History}
 use Rattle.archive_state.specs.Plans.{live_extents}
 use Rattle.archive_state.specs.Worlds.{world_of}
