@@ -99,8 +99,9 @@ class Started(ArchiveCase):
         return tree
 
     def journal(self, folder: Path) -> bytes:
-        """A journal up to its closed gate: behind it lies what a kill left."""
-        return (folder / "archive.journal").read_bytes()[: JournalFile(Shard(folder)).extent().gate]
+        """A journal up to its closed gate, which is looked up first: behind it a program may be at work, or lies what a kill left."""
+        gate = JournalFile(Shard(folder)).extent().gate
+        return (folder / "archive.journal").read_bytes()[:gate]
 
     def journals(self) -> list[bytes]:
         return [self.journal(self.archive / f"shard-{number}") for number in range(4)]
