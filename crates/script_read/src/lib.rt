@@ -16,6 +16,7 @@ mod error;
 mod first;
 mod laws;
 mod line;
+mod part;
 mod passing;
 mod reader;
 mod reporting;
@@ -25,5 +26,6 @@ mod words;
 
 pub use commands::{Command, Content, Item, Kind, Phrase, Text};
 pub use error::ScriptError;
-pub use laws::items_have_documents_in_range;
+pub use laws::parts_are_in_range;
+pub use part::Part;
 pub use reader::{BLOCK_BYTES, MOST_INPUT_BYTES, Reader};
