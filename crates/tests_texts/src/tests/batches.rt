@@ -248,24 +248,20 @@ fn batch_of_texts(rt: &impl Abort, alloc: Global, texts: &[usize]) -> Vec<u8> {
     script
 }
 
-/// What texts are made of.
-const BLOCK: [u8; 65536] = [b'a'; 65536];
-
 fn push_text(rt: &impl Abort, alloc: Global, script: &mut Vec<u8>, text: usize) {
     let line = format!(in alloc; "arrive 7 10 {text}\n").expect(rt, "memory");
     script
         .extend_from_slice(line.as_bytes())
         .expect(rt, "memory");
-    for _ in 0..text / BLOCK.len() {
-        script.extend_from_slice(&BLOCK).expect(rt, "memory");
-    }
-    let tail = &BLOCK[..text % BLOCK.len()];
-    script.extend_from_slice(tail).expect(rt, "memory");
+    let bytes = vec![in alloc; b'a'; text].expect(rt, "memory");
+    script
+        .extend_from_slice(bytes.as_slice())
+        .expect(rt, "memory");
     script.push(b'\n').expect(rt, "memory");
 }
 
 /// Texts by their lengths, and what their batch is.
-const TEXTS: [(&[usize], &str); 6] = [
+const TEXTS: [(&[usize], &str); 4] = [
     (
         &[4194304, 4194304, 4194304, 4194304],
         "batch 4; arrive 7 10 4194304 bytes; arrive 7 10 4194304 bytes; arrive 7 10 4194304 bytes",
@@ -274,12 +270,7 @@ const TEXTS: [(&[usize], &str); 6] = [
         &[4194304, 4194304, 4194304, 4194304, 1],
         "batch too long 16777217",
     ),
-    (
-        &[1, 4194304, 4194304, 4194304, 4194304, 9],
-        "batch too long 16777226",
-    ),
     (&[4194305], "batch 1; arrive 7 10 too long 4194305"),
-    (&[16777216], "batch 1; arrive 7 10 too long 16777216"),
     (&[16777217, 1], "batch too long 16777218"),
 ];
 
