@@ -1,13 +1,12 @@
 -- What an archive stands for, and each image left: with an entry more, and after a load.
-use Rattle.std.proofs.Common.{◌≡◌, ◌⊎◌, ℕ, ◌+◌, ◌-◌, ◌<◌, ◌≤◌, List, [], ◌∷◌, ◌++◌, length, All, Option, Some, None, Result, Ok, Err, IfOk, OnOk, IsOk, inl, inr, refl, ap, subst, sym, ◌∙◌, arith, Bool, length-append}
+use Rattle.std.proofs.Common.{◌≡◌, ◌⊎◌, ℕ, ◌+◌, ◌-◌, ◌<◌, ◌≤◌, List, [], ◌∷◌, ◌++◌, length, All, Option, Some, None, Result, Ok, Err, IfOk, IsOk, inl, inr, refl, ap, subst, sym, ◌∙◌, arith, Bool, length-append}
 use Rattle.std.proofs.lemmas.List.{length_push}
-use Rattle.std.proofs.lemmas.List.Elements.{All-weaker, All-nil}
-use Rattle.std.proofs.lemmas.Bool.{cases_lt}
+use Rattle.std.proofs.lemmas.List.Elements.{All-weaker}
 use Rattle.machine_model.specs.Areas.{Bytes}
 use Rattle.time_base.specs.declared.extent.Extent.{Extent}
 use Rattle.page_store.specs.Live.{AreLive, IsInside}
 use Rattle.machine_model.specs.States.{DiskState, moment}
-use Rattle.machine_model.specs.Images.{MayLeave, Only}
+use Rattle.machine_model.specs.Images.{MayLeave}
 use Rattle.machine_model.proofs.MomentLemmas.{goes_on_same, left_now, allowed_left}
 use Rattle.time_base.specs.Limits.{limit_of}
 use Rattle.time_base.specs.declared.which.Which.TheVariants.{Journal}
@@ -21,20 +20,18 @@ use Rattle.page_store.specs.Crash.{ChangesOnly}
 use Rattle.record_codec.specs.Spelling.{spelling}
 use Rattle.record_codec.specs.declared.entry.Entry.{Entry}
 use Rattle.record_codec.specs.declared.entry.Entry.TheVariants.{Arrive, Delete, Planned}
-use Rattle.stored_plans.specs.Plans.{IsGoodPlan}
 use Rattle.archive_state.specs.Histories.{History, changes, end_of}
-use Rattle.archive_state.specs.Legal.{IsLegal, IsLegalEntry, IsLoadable}
+use Rattle.archive_state.specs.Legal.{IsLoadable}
 use Rattle.archive_state.specs.Plans.{live_extents, live_plans}
-use Rattle.archive_state.specs.Holding.{HoldsPlans, HoldsPlan}
-use Rattle.archive_state.proofs.HoldLemmas.{held_push, same_live}
-use Rattle.archive_state.specs.Stands.{bodies_of, Stands, EachStands, IsNotArchive}
-use Rattle.archive_state.proofs.HistoryLemmas.{bodies_of-push, end_of-push, end_of-least, legal-push, loadable-push, entry_loads, end_of_is, legal_loads}
+use Rattle.archive_state.proofs.HoldLemmas.{same_live}
+use Rattle.archive_state.specs.Stands.{bodies_of, EachStands, IsNotArchive}
+use Rattle.archive_state.proofs.HistoryLemmas.{bodies_of-push, end_of-push, end_of-least, loadable-push, entry_loads, end_of_is}
 use Rattle.archive_state.specs.declared.refusal.Refusal.{Refusal}
 use Rattle.archive_state.specs.declared.refusal.Refusal.TheVariants.{Full}
 use Rattle.version_store.specs.Tests.{first_of}
 use Rattle.archive_state.specs.Steps.{full_journal}
 use Rattle.archive_state.proofs.RefusalLemmas.{cause, cause-allowed, cause-full, cause-none}
-use Rattle.archive_core.specs.States.{ArchiveState, StandsFor, CacheStands, AreInStep, Reaches}
+use Rattle.archive_core.specs.States.{ArchiveState, StandsFor, CacheStands, Reaches}
 use Rattle.plan_shelf.specs.Shelves.{ShelfState, IsBadShelf, extents_all}
 use Rattle.version_index.specs.Indexes.{IsPreparedFor, IndexState, Indexes}
 use Rattle.version_index.specs.declared.prepared.Prepared.{Prepared as Words}
@@ -46,7 +43,7 @@ use Rattle.archive_core.specs.declared.error.ChangeError.TheVariants as errors
 use Rattle.archive_replay.specs.declared.error.Declined.{Declined}
 use Rattle.archive_replay.specs.declared.preparing.Prepared.{Prepared}
 use Rattle.archive_replay.specs.declared.error.Declined.TheVariants as declines
-use Rattle.archive_core.specs.Changing.{LeadsTo, KeepsHistory}
+use Rattle.archive_core.specs.Changing.{KeepsHistory}
 use Rattle.archive_replay.proofs.PlaceLemmas.{placed_more}
 use Rattle.page_store.specs.Taken.{HasTaken}
 use Rattle.gate_journal.specs.Records.{front}
@@ -55,14 +52,12 @@ use Rattle.gate_journal.specs.declared.head.Head.{Head}
 use Rattle.time_base.specs.declared.text_place.TextPlace.{TextPlace}
 use Rattle.archive_state.specs.Histories as histories
 use Rattle.archive_state.specs.declared.stored.StoredPlan.{StoredPlan}
-use Rattle.archive_state.proofs.StandsLemmas.{spells_one_history}
 use Rattle.gate_journal.specs.declared.error.JournalError.{JournalError}
 use Rattle.gate_journal.specs.declared.error.JournalError.TheVariants.{Failed, NotJournal, Memory}
 use Rattle.archive_replay.specs.declared.error.LoadError.{LoadError}
 use Rattle.archive_replay.specs.declared.error.LoadError.TheVariants.{NotArchive}
 use Rattle.archive_replay.specs.Causes.{load_error_of}
 use Rattle.archive_replay.specs.Replaying.{IsReplayed, IsBadAmong}
-use Rattle.archive_core.proofs.CacheLemmas.{none_cached}
 
 -- ---- an entry more
 
@@ -90,49 +85,9 @@ stands_more a b h e x body words stands next prepared more =
       pages_are = rw (more.shelf_is, live) stands.pages_are;
     }
 
--- what each image holds in its pages
-abbrev pub EachHolds : DiskState → History → Type 0
-EachHolds d h = (image : Bytes) → MayLeave d.now image → HoldsPlans h image.pages
-
--- where pages stay, they hold what they held
-pub still_holds : (h : History) (old new : DiskState) → EachHolds old h → KeepsPages old new → EachHolds new h
-still_holds h old new held pages = λ image allowed.
-    let was = pages.images image new.now.beside (allowed_left new (moment old) image allowed) in
-    rw was.2 (held was.0 was.1)
-
 -- the bodies of a history with an entry more
 pub bodies_more : (h : History) (e : Entry) (body : List ℕ) → body ≡ spelling e → bodies_of h ++ body ∷ [] ≡ bodies_of (h ++ e ∷ [])
 bodies_more h e body same = ap (λ (l : List ℕ). bodies_of h ++ l ∷ []) same ∙ sym (bodies_of-push h e)
-
--- where the journal has an entry more, for which the pages hold already what they must, each image stands for the history or for that with the entry
-pub leads_more : (h : History) (e : Entry) (body : List ℕ) (old new : DiskState) → IsLegal h → IsLegalEntry h e → body ≡ spelling e → EachHolds old h → EachHolds old (h ++ e ∷ [])
-    → Appends (bodies_of h) body old new → KeepsPages old new → LeadsTo h (h ++ e ∷ []) old new
-leads_more h e body old new legal next same held more appends pages = record {
-  goes_on = appends.goes_on;
-  images = λ image beside left.
-      let was = appends.images image beside left in
-      let on = pages.images image beside left in (
-        elim was.0 [
-          | inl spelled ↦ inl (record { spelled = spelled; legal = legal; held = rw on.2 (held on.0 on.1) })
-          | inr spelled ↦ inr (record { spelled = rw (← bodies_more h e body same) spelled; legal = legal-push h e legal next; held = rw on.2 (more on.0 on.1) })
-        ],
-        was.1,
-      );
-}
-
--- where the journal is in step and the pages hold what they must, each image stands for the history
-pub step_stands : (d : DiskState) (end : ℕ) (h : History) → IsInStep d end (bodies_of h) → IsLegal h → EachHolds d h → EachStands d h
-step_stands d end h step legal held = λ image allowed. record { spelled = step_spells d end (bodies_of h) step image allowed; legal = legal; held = held image allowed }
-
-pub in_step_stands : (d : DiskState) (a : ArchiveState) (h : History) → AreInStep d a h → EachStands d h
-in_step_stands d a h in_step = step_stands d a.end h in_step.journal in_step.legal in_step.held
-
--- where no call is made, each image still stands for the history before
-pub leads_nowhere : (d : DiskState) (a : ArchiveState) (h after : History) → AreInStep d a h → LeadsTo h after d d
-leads_nowhere d a h after in_step = record {
-  goes_on = goes_on_same d;
-  images = left_now d (λ image beside. (Stands h image ⊎ Stands after image) × (beside ≡ d.now.beside)) (λ image allowed. (inl (in_step_stands d a h in_step image allowed), refl));
-}
 
 pub pages_nowhere : (d : DiskState) → KeepsPages d d
 pages_nowhere d = record {
@@ -165,27 +120,6 @@ adds_entry r a b h e refusal x body words stands next prepared cause_is full roo
     go : (r : Result ℕ ChangeError) → IfOk r (λ n. IsMore a b x body words × (n ≡ b.length)) → IfOk r (λ n. StandsFor b (h ++ e ∷ []) × (n ≡ length h + 1))
     go (Ok n) more = (stands_more a b h e x body words stands next prepared more.0, omega (arith, more.1, more.0.length_is, stands.length_is))
     go (Err error) more = tt
-
--- and of its images
-pub leads_entry : (r : Result ℕ ChangeError) (a b : ArchiveState) (old new : DiskState) (h : History) (e : Entry) (x : Change ℕ) (body : List ℕ) (words : Words)
-    → AreInStep old a h → IsNext h e x body → IsPreparedFor a.index (document_of e) (text_of e) words → IfOk r (λ n. IsMore a b x body words × (n ≡ b.length)) → Appends (bodies_of h) body old new
-    → KeepsPages old new → OnOk r (IsInStep new b.end (bodies_of h ++ body ∷ [])) → (IsOk r → CacheStands new b) → LeadsTo h (h ++ e ∷ []) old new × OnOk r (AreInStep new b (h ++ e ∷ []))
-leads_entry r a b old new h e x body words in_step next prepared more appends pages step cached =
-    (leads_more h e body old new in_step.legal next.legal next.spelled in_step.held held appends pages, go r more step cached)
-  where
-    held : EachHolds old (h ++ e ∷ [])
-    held = λ image allowed.
-        held_push IsGoodPlan h e image.pages (change_comes h e x in_step.stands.loadable next.legal.allowed next.makes).0 in_step.legal next.legal.allowed (in_step.held image allowed)
-
-    go : (r : Result ℕ ChangeError) → IfOk r (λ n. IsMore a b x body words × (n ≡ b.length)) → OnOk r (IsInStep new b.end (bodies_of h ++ body ∷ [])) → (IsOk r → CacheStands new b) → OnOk r (AreInStep new b (h ++ e ∷ []))
-    go (Ok n) more step cached = record {
-      stands = stands_more a b h e x body words in_step.stands next prepared more.0;
-      journal = rw (← bodies_more h e body next.spelled) step;
-      legal = legal-push h e in_step.legal next.legal;
-      held = still_holds (h ++ e ∷ []) old new held pages;
-      cached = cached refl;
-    }
-    go (Err error) more step cached = tt
 
 -- the journal stays in step over writes to pages
 pub step_stays : (ranges : List Range) (old new : DiskState) (end : ℕ) (bodies : List (List ℕ)) → ChangesOnly ranges old new → IsInStep old end bodies → IsInStep new end bodies
@@ -294,37 +228,6 @@ pub none_spelled : (h : History) (bytes : List ℕ) → length bytes ≤ 17 → 
 none_spelled [] bytes short spelled = refl
 none_spelled (e ∷ h) bytes short (inl new) = absurd (omega (arith, ap length new.1))
 none_spelled (e ∷ h) bytes short (inr long) = absurd (omega (arith, short, ap length long.whole, length-append (front (bodies_of (e ∷ h))) (long.gate ∷ long.rest), end_of_is (e ∷ h), end_of-least (e ∷ h)))
-
--- an archive without entries needs nothing of Pages
-none_held : (pages : List ℕ) → HoldsPlans [] pages
-none_held pages = record { apart = tt; each = All-nil (λ (stored : StoredPlan). HoldsPlan [] pages stored.plan) }
-
--- and a journal of at most 17 bytes is that of one
-pub new_stands : (image : Bytes) → length image.journal ≤ 17 → Stands [] image
-new_stands image few = record { spelled = inl (few, refl); legal = tt; held = none_held image.pages }
-
--- after a load each image has in its pages what the history needs, for which the bytes stood that reads gave
-pub held_loaded : (h : History) (image : Bytes) (old : Bytes) (mid new : DiskState) → Stands h old → (17 < length old.journal → Only mid.holds mid) → mid.holds.pages ≡ old.pages → new.now ≡ mid.now
-    → MayLeave new.now image → HoldsPlans h image.pages
-held_loaded h image old mid new stands one same now allowed =
-    elim (cases_lt 17 (length old.journal)) as (λ _. HoldsPlans h image.pages) [
-      | inl long ↦ subst (λ (l : List ℕ). HoldsPlans h l) (sym (ap (λ (b : Bytes). b.pages) (one long image (rw now at allowed)) ∙ same)) stands.held
-      | inr short ↦ rw (none_spelled h old.journal short stands.spelled) (none_held image.pages)
-    ]
-
--- the archive is in step with the disk for the history for which the bytes stood
-pub in_step_loaded : (a : ArchiveState) (mid new : DiskState) (old : Bytes) (end : ℕ) (bodies : List (List ℕ)) (g h : History)
-    → StandsFor a g → a.shelf.cache ≡ [] → a.end ≡ end → bodies_of g ≡ bodies → Spells old.journal bodies → IsInStep mid end bodies → OnlyReads mid new
-    → (17 < length old.journal → Only mid.holds mid) → mid.holds.pages ≡ old.pages → Stands h old → AreInStep new a h
-in_step_loaded a mid new old end bodies g h stands empty end_is same spelled step reads one pages stood =
-    let one_history : g ≡ h = spells_one_history old.journal g h (subst (λ (l : List (List ℕ)). Spells old.journal l) (sym same) spelled) stands.loadable stood.spelled (legal_loads h stood.legal) in
-    record {
-      stands = subst (λ (x : History). StandsFor a x) one_history stands;
-      journal = subst (λ (l : List (List ℕ)). IsInStep new a.end l) (sym same ∙ ap bodies_of one_history) (subst (λ (n : ℕ). IsInStep new n bodies) (sym end_is) (step_reads mid new end bodies step reads));
-      legal = stood.legal;
-      held = λ image allowed. held_loaded h image old mid new stood one pages (ap (λ (d : DiskState). d.now) reads) allowed;
-      cached = none_cached new a empty;
-    }
 
 -- what the journal's error is where a load hands it on
 pub journal_exit : {T U : Type 0} (r : Result T JournalError) (s : Result U LoadError) (e : JournalError) (y : LoadError) (at : ℕ) → r ≡ Err e → s ≡ Err y → y ≡ load_error_of e

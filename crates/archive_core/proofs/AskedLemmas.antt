@@ -1,7 +1,6 @@
 -- How a query ends: at a text that is none, at sublists that were not had, or with an answer; and errors that are handed on.
 use Rattle.std.proofs.Common.{◌≡◌, ℕ, ◌+◌, List, Result, Ok, Err, IfOk, OnOk, IsErrAnd, refl, ap, subst, sym, ◌∙◌}
 use Rattle.machine_model.specs.Areas.{Both}
-use Rattle.machine_model.specs.Images.{MayLeave}
 use Rattle.page_cache.specs.Caches.{Kept, after_asking_all, missed_by_all}
 use Rattle.machine_model.specs.States.{DiskState}
 use Rattle.time_base.specs.declared.time.Time.{Time}
@@ -23,23 +22,18 @@ use Rattle.archive_state.specs.Chosen.{IsMadeAt, IsMadeOver, SpoilsAnswer, piece
 use Rattle.archive_state.specs.declared.refusal.Refusal.{Refusal}
 use Rattle.archive_state.specs.declared.refusal.Refusal.TheVariants as refusals
 use Rattle.archive_state.specs.Histories.{History}
-use Rattle.archive_state.specs.Holding.{HoldsPlans}
-use Rattle.archive_state.specs.Steps.{Reply, Refused, Found, Spanned, Step, IsReplied, FindsBy}
-use Rattle.archive_state.specs.Worlds.{world_of}
-use Rattle.archive_state.proofs.ChosenLemmas.{held_undamaged, made_at}
-use Rattle.archive_state.proofs.OutcomeLemmas.{each_finds}
+use Rattle.archive_state.specs.Steps.{Reply, Refused, Found, Spanned}
 use Rattle.archive_replay.specs.declared.error.Declined.{Declined}
 use Rattle.archive_replay.specs.declared.error.Declined.TheVariants as declines
 use Rattle.archive_core.specs.After.{AfterFetching, AfterQuestion, Fetches}
 use Rattle.archive_core.specs.Answering.{HasAsked, IsAnswerTo, IsNoQuery}
 use Rattle.archive_core.specs.Causes.{ask_error_of_query, asked_of}
-use Rattle.archive_core.specs.States.{ArchiveState, AreInStep, AreInStepBy, with_reads}
+use Rattle.archive_core.specs.States.{ArchiveState, AreInStepBy, with_reads}
 use Rattle.archive_core.specs.Stored.{Store, Answers, MakesAt, MakesOver, Spoils, StoreStep, asking}
-use Rattle.archive_core.specs.Takes.{Takes, TakesBy, answered, found, spanned}
+use Rattle.archive_core.specs.Takes.{TakesBy, answered, found, spanned}
 use Rattle.archive_core.specs.declared.error.AskError.{AskError}
 use Rattle.archive_core.specs.declared.error.AskError.TheVariants as asks
-use Rattle.archive_core.proofs.CacheLemmas.{takes_but_cache}
-use Rattle.archive_core.proofs.TakeLemmas.{IsAnswered, IsAnsweredBy, no_reads, question_by, takes_question}
+use Rattle.archive_core.proofs.TakeLemmas.{IsAnsweredBy, no_reads, question_by}
 
 -- where there is no answer, and nothing was asked for
 unanswered_after : {T : Type 0} (tells : Type 0) (phrase : List ℕ) (from to : ℕ) (IsMade : History → Query → T → Type 0) (error : AskError) (d : DiskState) (a : ArchiveState) → (error ≡ asks.Failed → ⊥)
@@ -109,33 +103,6 @@ after_fetching {T} tells text phrase from to IsMade query r fetched d e x y same
     told_so (Err error) then made asked = tt
 
 -- ---- a query is a step of the abstract machine, with the cache that it leaves
-
--- its reply is made of its text, and pages that hold the live plans spoil none
-takes_query : {T tells : Type 0} (By : Query → Reply → Type 0) (h : History) (item : Item) (phrase : List ℕ) (from to : ℕ) (IsMade : History → Query → T → Type 0) (reply : T → Reply) (r : Result T AskError) (d e : DiskState) (x y : ArchiveState)
-    → tells → ((one : Reply) → IsReplied By phrase one → Step (world_of h) item one (world_of h)) → (one : Reply) × IsReplied By phrase one → ((query : Query) (answer : T) → IsMade h query answer → By query (reply answer))
-    → HoldsPlans h d.holds.pages → AreInStep d x h → AfterQuestion tells phrase from to IsMade r d e x y → Takes h item (answered reply r) d e y
-takes_query {T} {tells} By h item phrase from to IsMade reply r d e x y told step any made held in_step after =
-    takes_but_cache h item (answered reply r) d e x y after.but_cache (after.cached told in_step.cached)
-    (takes_question (IsReplied By phrase) h item (answered reply r) d e x step any after.same in_step (go r after))
-  where
-    go : (s : Result T AskError) → AfterQuestion tells phrase from to IsMade s d e x y → IsAnswered (IsReplied By phrase) (answered reply s)
-    go (Ok answer) after = let (query, read, is, has) = after.made told h in_step.stands in_step.cached in (Ok query, read, made query answer is)
-    go (Err (asks.Refused why)) after = let (place, read, is) = after.refused why refl in (Err place, read, ap Refused is)
-    go (Err (asks.Damaged damage)) after =
-        let first = (after.damaged told h in_step.stands in_step.cached damage refl).first in
-        held_undamaged h d.holds.pages first.word from to damage in_step.stands.loadable held first.damaged
-    go (Err asks.Failed) after = tt
-    go (Err asks.Memory) after = tt
-
-pub takes_find : {tells : Type 0} (h : History) (at : Time) (phrase : List ℕ) (r : Result Answer AskError) (d e : DiskState) (x y : ArchiveState) → tells → MayLeave d.now d.holds → AreInStep d x h
-    → AfterQuestion tells phrase at.seconds (at.seconds + 1) (λ h query answer. IsMadeAt h d.holds.pages at.seconds query answer.rows.items answer.read) r d e x y
-    → Takes h (items.Command (commands.Find at phrase)) (found r) d e y
-takes_find h at phrase r d e x y told allowed in_step after =
-    let held = in_step.held d.holds allowed in
-    takes_query (FindsBy h at) h (items.Command (commands.Find at phrase)) phrase at.seconds (at.seconds + 1) (λ h query answer. IsMadeAt h d.holds.pages at.seconds query answer.rows.items answer.read)
-    (λ (answer : Answer). Found answer.rows.items answer.read) r d e x y told (λ one is. (refl, is)) (each_finds h at phrase in_step.legal)
-    (λ query answer made. (let stands = made_at h d.holds.pages at.seconds query answer.rows.items answer.read in_step.stands.loadable held at.before_now made in (answer.rows.items, answer.read, stands.0, stands.1, refl)))
-    held in_step after
 
 -- ---- by what reads give
 

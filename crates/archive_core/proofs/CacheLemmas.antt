@@ -7,7 +7,6 @@ use Rattle.machine_model.specs.Areas.{Both, replaced}
 use Rattle.machine_model.specs.Calls.{OnlyReads}
 use Rattle.machine_model.specs.States.{DiskState}
 use Rattle.machine_model.specs.declared.area.Area.TheVariants.{Pages}
-use Rattle.gate_journal.specs.InStep.{IsInStep}
 use Rattle.page_cache.specs.Caches.{Kept, IsHeld, after_asking_all, missed_by_all, StandsFor as IsCacheOf}
 use Rattle.page_cache.specs.Laws.{LieIn}
 use Rattle.page_cache.proofs.LawLemmas.{askings-join, misses-join}
@@ -15,15 +14,12 @@ use Rattle.page_store.specs.Runs.{IsTaken}
 use Rattle.page_store.specs.Taken.{PagesState, HasTaken}
 use Rattle.page_store.proofs.StayLemmas.{apart_parts}
 use Rattle.time_base.specs.declared.extent.Extent.{Extent}
-use Rattle.commands.specs.declared.command.Item.{Item}
 use Rattle.record_codec.specs.declared.plan.PlanEntry.{PlanEntry}
 use Rattle.archive_state.specs.Histories.{History}
 use Rattle.archive_state.specs.Plans.{plan_of}
 use Rattle.archive_state.specs.Chosen.{pieces_chosen, pieces_for}
-use Rattle.archive_state.specs.Stands.{bodies_of}
 use Rattle.archive_core.specs.Answering.{HasAsked}
-use Rattle.archive_core.specs.States.{ArchiveState, StandsFor, CacheStands, IsSameButCache, AreInStep, Reaches}
-use Rattle.archive_core.specs.Takes.{Ending, Replied, Starved, Faulted, Spoiled, EndsBy, Takes}
+use Rattle.archive_core.specs.States.{ArchiveState, StandsFor, CacheStands, IsSameButCache, Reaches}
 
 -- ---- the cache alone changes
 
@@ -44,30 +40,8 @@ stands_but_cache a b h same stands =
 pub reaches_but_cache : (reach : Both ℕ) (a b : ArchiveState) → IsSameButCache a b → Reaches reach a → Reaches reach b
 reaches_but_cache reach a b same within = let R : ArchiveState → Type 0 = λ x. Reaches reach x in subst R (sym same) within
 
--- a disk that it may change stays one, where what it keeps now is what reads give
-pub in_step_but_cache : (d : DiskState) (a b : ArchiveState) (h : History) → IsSameButCache a b → CacheStands d b → AreInStep d a h → AreInStep d b h
-in_step_but_cache d a b h same cached in_step = record {
-  stands = stands_but_cache a b h same in_step.stands;
-  journal = (let P : ArchiveState → Type 0 = λ x. IsInStep d x.end (bodies_of h) in subst P (sym same) in_step.journal);
-  legal = in_step.legal;
-  held = in_step.held;
-  cached = cached;
-}
-
 pub but_cache_joins : (a b c : ArchiveState) → IsSameButCache a b → IsSameButCache b c → IsSameButCache a c
 but_cache_joins a b c x y = y ∙ ap (λ (s : ArchiveState). record s { shelf = record (s.shelf) { cache = c.shelf.cache } }) x
-
--- and a question is the step that it is without a change of the cache
-pub takes_but_cache : (h : History) (item : Item) (ending : Ending) (old new : DiskState) (a b : ArchiveState) → IsSameButCache a b → CacheStands new b → Takes h item ending old new a
-    → Takes h item ending old new b
-takes_but_cache h item ending old new a b same cached takes =
-    record { outcome = takes.outcome; step = takes.step; leads = takes.leads; ends = go ending takes.ends }
-  where
-    go : (x : Ending) → EndsBy h takes.outcome new a x → EndsBy h takes.outcome new b x
-    go (Replied reply) (is, in_step) = (is, in_step_but_cache new a b takes.outcome.next.history same cached in_step)
-    go Starved ends = ends
-    go Faulted ends = ends
-    go (Spoiled damage) ends = ends
 
 -- ---- what is kept is what reads give
 

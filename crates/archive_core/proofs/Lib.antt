@@ -1,5 +1,5 @@
 mod TextLemmas
-pub mod AddLemmas
+mod AddLemmas
 mod AskedLemmas
 mod TakeLemmas
 pub mod ByReadsLemmas

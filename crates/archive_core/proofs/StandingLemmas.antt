@@ -1,6 +1,8 @@
 -- Where the pages hold what the history's plans need, a step by what reads give is the machine's.
-use Rattle.std.proofs.Common.{◌≡◌, ◌⊎◌, ℕ, ◌+◌, List, [], ◌∷◌, ◌++◌, Option, Some, None, Result, Ok, Err, inl, inr, ap, sym, subst, ◌∙◌}
+use Rattle.std.proofs.Common.{◌≡◌, ◌⊎◌, ℕ, ◌+◌, List, [], ◌∷◌, ◌++◌, Option, Some, None, Result, Ok, Err, inl, inr, refl, ap, sym, subst, ◌∙◌}
 use Rattle.machine_model.specs.Areas.{Bytes}
+use Rattle.machine_model.specs.States.{DiskState}
+use Rattle.gate_journal.specs.Spelled.{Spells}
 use Rattle.time_base.specs.declared.time.Span.{Span}
 use Rattle.time_base.specs.declared.time.Time.{Time}
 use Rattle.time_base.specs.declared.fraction.Fraction.{Fraction}
@@ -26,7 +28,7 @@ use Rattle.archive_state.specs.Holding.{HoldsPlan, HoldsPlans}
 use Rattle.archive_state.specs.Legal.{IsLegal}
 use Rattle.archive_state.specs.Planning.{OfBoundaries, OfList, OfPhrase, OfWidth, last_second}
 use Rattle.archive_state.specs.Plans.{live_extents}
-use Rattle.archive_state.specs.Stands.{Stands}
+use Rattle.archive_state.specs.Stands.{EachStands, Stands, bodies_of}
 use Rattle.archive_state.specs.Steps.{Reply, Verified, Adds, AddsPlan, CarriesOut, Declines, Step, StoresPlan, arrival_refusal, deletion_refusal, full_journal, in_blocks, spelled_key}
 use Rattle.archive_state.specs.Worlds.{world_of}
 use Rattle.archive_state.proofs.ChosenLemmas.{held_undamaged, made_at, made_over}
@@ -35,7 +37,10 @@ use Rattle.archive_state.proofs.HoldLemmas.{held_alike, held_push, held_with}
 use Rattle.archive_state.proofs.OutcomeLemmas.{step_legal}
 use Rattle.sublist_store.specs.declared.why.Damage.{Damage}
 use Rattle.archive_check.proofs.SoundLemmas.{stands_sound}
+use Rattle.archive_state.proofs.StandsLemmas.{spells_one_history}
+use Rattle.archive_core.specs.States.{ArchiveState, AreInStep, AreInStepBy}
 use Rattle.archive_core.specs.Stored.{Store, AsksOf, Spoils, StandsBy, Stocks, StoreStep}
+use Rattle.archive_core.proofs.ByReadsLemmas.{stands_by}
 use Rattle.archive_core.proofs.PlanLemmas.{map_phrase}
 
 -- what is stored stands for its history: that is legal, and the pages hold what its live plans need
@@ -46,6 +51,32 @@ pub record IsStanding (s : Store) : Type 0 where
 -- so each image that stands for it stands for the history
 pub stands_standing : (s : Store) (image : Bytes) → IsStanding s → StandsBy s image → Stands s.history image
 stands_standing s image standing stands = record { spelled = stands.spelled; legal = standing.legal; held = held_alike s.history s.pages image.pages stands.same standing.held }
+
+-- ---- an archive and its disk that are in step with a history
+
+pub in_step_standing : (d : DiskState) (a : ArchiveState) (h : History) → (in_step : AreInStep d a h) → IsStanding in_step.store
+in_step_standing d a h in_step = record {
+  legal = subst IsLegal (sym in_step.history_is) in_step.legal;
+  held = subst (λ (x : History). HoldsPlans x in_step.store.pages) (sym in_step.history_is) in_step.held;
+}
+
+pub in_step_by : (d : DiskState) (a : ArchiveState) (s : Store) → AreInStepBy d a s → IsStanding s → AreInStep d a s.history
+in_step_by d a s in_step standing = record { store = s; history_is = refl; by_reads = in_step; legal = standing.legal; held = standing.held }
+
+-- each image stands for the history
+pub in_step_stands : (d : DiskState) (a : ArchiveState) (h : History) → AreInStep d a h → EachStands d h
+in_step_stands d a h in_step = λ image allowed.
+    subst (λ (x : History). Stands x image) in_step.history_is (stands_standing in_step.store image (in_step_standing d a h in_step) (stands_by d a in_step.store in_step.by_reads image allowed))
+
+-- after a load of bytes that stand for the history
+pub loaded_in_step : (d : DiskState) (a : ArchiveState) (h : History) (old : Bytes) → (s : Store) × (AreInStepBy d a s × Spells old.journal (bodies_of s.history) × (s.pages ≡ old.pages)) → Stands h old → AreInStep d a h
+loaded_in_step d a h old (s, (in_step, spelled, pages)) stands = record {
+  store = s;
+  history_is = spells_one_history old.journal s.history h spelled in_step.stands.loadable stands.spelled (legal_loads h stands.legal);
+  by_reads = in_step;
+  legal = stands.legal;
+  held = subst (λ (ps : List ℕ). HoldsPlans h ps) (sym pages) stands.held;
+}
 
 -- ---- an item adds one entry at most
 

@@ -1,10 +1,10 @@
 -- A plan is stored: its sublists are written apart from the live places, and then its entry. What the archive and each image left stand for.
-use Rattle.std.proofs.Common.{◌≡◌, ◌⊎◌, ℕ, ◌+◌, ◌-◌, ◌<◌, ◌≤◌, List, [], ◌∷◌, ◌++◌, length, All, Option, Some, None, Result, Ok, Err, IsOk, IfOk, true, inl, inr, refl, ap, sym, subst, ◌∙◌, arith, map}
+use Rattle.std.proofs.Common.{◌≡◌, ◌⊎◌, ℕ, ◌+◌, ◌-◌, ◌<◌, ◌≤◌, List, [], ◌∷◌, ◌++◌, length, All, Option, Some, None, Result, Ok, Err, IfOk, true, inl, inr, refl, ap, sym, subst, ◌∙◌, arith}
 use Rattle.std.specs.List.{AllZip}
 use Rattle.std.proofs.lemmas.List.{length_push}
 use Rattle.std.proofs.lemmas.List.Elements.{All-map}
 use Rattle.std.proofs.lemmas.Bool.{lt-ltb, le-ltb}
-use Rattle.machine_model.specs.States.{DiskState, moment}
+use Rattle.machine_model.specs.States.{DiskState}
 use Rattle.time_base.specs.Limits.{limit_of}
 use Rattle.time_base.specs.declared.extent.Extent.{Extent}
 use Rattle.time_base.specs.declared.fraction.Fraction.{Fraction}
@@ -25,31 +25,29 @@ use Rattle.page_store.specs.Taken.{PagesState, HasTaken}
 use Rattle.record_codec.specs.declared.entry.Entry.TheVariants.{Planned}
 use Rattle.record_codec.specs.declared.place.Place.{Place}
 use Rattle.record_codec.specs.declared.plan.PlanEntry.{PlanEntry}
-use Rattle.sublist_store.specs.Preparing.{IsFor, extents, spellings, PreparedState, pieces}
+use Rattle.sublist_store.specs.Preparing.{IsFor, extents, spellings}
 use Rattle.sublist_store.specs.Segments.{seconds}
 use Rattle.archive_state.specs.declared.refusal.Refusal.{Refusal}
 use Rattle.archive_state.specs.declared.refusal.Refusal.TheVariants as refusals
 use Rattle.archive_state.specs.declared.stored.StoredPlan.{StoredPlan}
 use Rattle.archive_state.specs.Histories.{History, end_of}
-use Rattle.archive_state.specs.Legal.{IsLegalEntry, IsLegal, IsLoadable}
+use Rattle.archive_state.specs.Legal.{IsLegalEntry}
 use Rattle.archive_state.specs.Planning.{IsKnown, IsListUpTo, OfWidth, OfPhrase, last_second}
 use Rattle.archive_state.specs.Plans.{with_plan, live_plans, live_extents}
-use Rattle.archive_state.specs.Worlds.{world_of}
 use Rattle.archive_state.specs.Steps as steps
 use Rattle.archive_state.specs.Steps.{Reply, Refused, Summary, Declines, AddsPlan, StoresCuts, StoresPlan, Plans, full_journal, spelled_key}
 use Rattle.archive_state.proofs.HistoryLemmas.{end_of-push, loadable-push, entry_loads}
 use Rattle.archive_state.proofs.LiveLemmas.{live_plans-push}
 use Rattle.archive_state.proofs.RefusalLemmas.{when_true, when_false}
 use Rattle.archive_state.proofs.StoringLemmas.{plan_legal}
-use Rattle.archive_state.proofs.OutcomeLemmas.{loaded_plans}
 use Rattle.archive_core.specs.Adding.{HasSameShelf}
-use Rattle.archive_core.specs.Changing.{KeepsBy, LeadsTo, KeepsHistory}
+use Rattle.archive_core.specs.Changing.{KeepsBy}
 use Rattle.archive_core.specs.Stored.{Store}
-use Rattle.archive_core.specs.States.{ArchiveState, StandsFor, CacheStands, AreInStep, AreInStepBy, with_reads}
+use Rattle.archive_core.specs.States.{ArchiveState, StandsFor, AreInStepBy, with_reads}
 use Rattle.plan_shelf.specs.Shelves.{ShelfState, extents_all}
 use Rattle.plan_shelf.specs.Readying.{HasPlaces, IsFull, IsReady, plan_with, tells_of, summary_of}
 use Rattle.archive_core.specs.Storing.{IsDraft, IsStorable, IsStoredAs, IsStoredBy}
-use Rattle.archive_core.specs.Takes.{Comes, Takes, TakesBy, planned}
+use Rattle.archive_core.specs.Takes.{Comes, TakesBy, planned}
 use Rattle.archive_core.specs.declared.error.ChangeError.{ChangeError}
 use Rattle.archive_core.specs.declared.error.ChangeError.TheVariants as changes
 use Rattle.plan_shelf.specs.declared.readying.Draft.{Draft}
@@ -57,22 +55,9 @@ use Rattle.plan_shelf.specs.declared.readying.PlanReport.{PlanReport}
 use Rattle.plan_shelf.specs.declared.readying.Ready.{Ready}
 use Rattle.archive_replay.proofs.IndexLemmas.{changes_still}
 use Rattle.archive_replay.proofs.PlaceLemmas.{placed_plan}
-use Rattle.machine_model.specs.Images.{MayLeave}
-use Rattle.machine_model.specs.declared.range.Range.{Range}
-use Rattle.machine_model.proofs.MomentLemmas.{joined, goes_on_joins, allowed_left}
-use Rattle.gate_journal.specs.Spelled.{Spells}
-use Rattle.gate_journal.specs.InStep.{IsInStep}
-use Rattle.gate_journal.specs.Crash.{Appends, KeepsPages}
-use Rattle.page_store.specs.Ranges.{SameOutside, range_of}
-use Rattle.page_store.specs.Wrote.{Stored, ranges_of}
-use Rattle.page_store.specs.Crash.{ChangesOnly}
-use Rattle.archive_state.specs.Holding.{HoldsPlans}
-use Rattle.archive_state.specs.Stands.{bodies_of, Stands, EachStands}
-use Rattle.archive_state.proofs.HoldLemmas.{held_stays, held_more, piece_extents}
-use Rattle.gate_journal.proofs.InStepLemmas.{step_at}
-use Rattle.archive_core.proofs.AddLemmas.{inside_on, EachHolds, bodies_more, still_holds, step_stands, step_stays, leads_more}
+use Rattle.archive_core.proofs.AddLemmas.{inside_on}
 use Rattle.archive_core.proofs.ByReadsLemmas.{stocks_same}
-use Rattle.archive_core.proofs.TakeLemmas.{takes_unmade, unmade_by}
+use Rattle.archive_core.proofs.TakeLemmas.{unmade_by}
 use Rattle.archive_core.proofs.PlanLemmas.{goes_on, map_phrase}
 use Rattle.archive_core.proofs.LiveLemmas.{all_inside_with}
 
@@ -218,31 +203,6 @@ plans_refused h phrase kind factor why of =
     map_phrase kind h (spelled_key (one_term phrase)) (λ because. why ≡ because) (λ because. Declines h because (Refused why) h) (λ word list. ⊥) (λ word list. StoresPlan h kind factor word list (Refused why) h)
     (λ because e. (refl, ap Refused e)) (λ word list none. absurd none) of
 
--- a plan was written, or a part of it: what it is, and what each image left stands for
-pub record IsWritten (h : History) (phrase : List ℕ) (kind : Kind) (factor : Fraction) (r : Result PlanReport ChangeError) (old new : DiskState) (b : ArchiveState) : Type 0 where
-  pub told : Summary
-  pub next : History
-  pub plans : Plans h phrase kind factor (steps.Planned told) next
-  pub leads : LeadsTo h next old new
-  pub in_step : IfOk r (λ report. (summary_of report ≡ told) × AreInStep new b next)
-
--- an archive that goes on standing for a history is in step with the disk as it was, where the pages that it keeps are as reads give them
-pub still_in_step : (d : DiskState) (a b : ArchiveState) (h : History) → AreInStep d a h → StandsFor b h → CacheStands d b → AreInStep d b h
-still_in_step d a b h was stands cached = record { stands = stands; journal = step_at (stands.end_is ∙ sym was.stands.end_is) was.journal; legal = was.legal; held = was.held; cached = cached }
-
-pub takes_plan : (h : History) (phrase : List ℕ) (kind : Kind) (factor : Fraction) (r : Result PlanReport ChangeError) (old new : DiskState) (a b : ArchiveState) → AreInStep old a h → IsLoadable h
-    → ((why : Refusal) → r ≡ Err (changes.Refused why) → (new ≡ old) × Plans h phrase kind factor (Refused why) h × AreInStep old b h) → (r ≡ Err changes.Memory → new ≡ old)
-    → (IsOk r ⊎ (r ≡ Err changes.Failed) → IsWritten h phrase kind factor r old new b) → Takes h (items.Command (commands.Plan phrase kind factor)) (planned r) old new b
-takes_plan h phrase kind factor (Ok report) old new a b in_step loads refused memory written =
-    let is = written (inl refl) in
-    record { outcome = record { reply = steps.Planned is.told; next = world_of is.next }; step = is.plans; leads = is.leads; ends = (ap steps.Planned (sym is.in_step.0), is.in_step.1) }
-takes_plan h phrase kind factor (Err error) old new a b in_step loads refused memory written =
-    let (any, plans) = loaded_plans h phrase kind factor loads in
-    takes_unmade h (items.Command (commands.Plan phrase kind factor)) error old new a b in_step
-    (λ why is. let (same, declines, still) = refused why (ap Err is) in (same, declines, still))
-    (λ is. let w = written (inr (ap Err is)) in (steps.Planned w.told, (w.next, (w.plans, w.leads))))
-    (λ is. memory (ap Err is)) (any.reply, (any.next, plans))
-
 -- the same by what reads give
 pub plan_by : (s : Store) (phrase : List ℕ) (kind : Kind) (factor : Fraction) (draft : Draft) (r : Result PlanReport ChangeError) (old new : DiskState) (a b : ArchiveState) → AreInStepBy old a s
     → spelled_key (one_term phrase) ≡ Some draft.word → IsKnown s.history draft.word → draft.kind ≡ kind → draft.factor ≡ factor → IsDraft s.history draft
@@ -273,62 +233,3 @@ plan_by s phrase kind factor draft r old new a b in_step term known kind_is same
         (λ is. memory (ap Err is))
 
 -- ---- what each image left stands for
-
--- writes to places that are apart from the live ones: each image stands for the history as before
-pub writes_keep : (h : History) (plan : PlanEntry) (prepared : PreparedState) (frame : List ℕ) (old new : DiskState) → IsStorable h plan prepared frame → EachStands old h
-    → ChangesOnly (ranges_of (pieces prepared)) old new → KeepsHistory h old new
-writes_keep h plan prepared frame old new ready each changes = record {
-  goes_on = changes.goes_on;
-  images = λ image beside left.
-      let was = changes.images image beside left in
-      let stood = each was.0 was.1 in
-      let same = subst (λ (rs : List Range). SameOutside rs was.0.pages image.pages) (ap (map range_of) (piece_extents prepared.places prepared.spellings ready.each)) was.3 in (
-        record {
-          spelled = subst (λ (l : List ℕ). Spells l (bodies_of h)) (sym was.2) stood.spelled;
-          legal = stood.legal;
-          held = held_stays h (extents prepared.places) was.0.pages image.pages ready.apart same stood.held;
-        },
-        was.4,
-      );
-}
-
--- where the sublists are stored, the pages hold what the live plans need, and the new one is among them
-pub stored_holds : (h : History) (plan : PlanEntry) (prepared : PreparedState) (frame : List ℕ) (old mid : DiskState) → IsStorable h plan prepared frame → IsLegal h
-    → HoldsPlans h old.holds.pages → Stored (pieces prepared) old mid → EachHolds mid (h ++ Planned plan ∷ [])
-stored_holds h plan prepared frame old mid ready legal held stored = λ image allowed.
-    rw (stored.only image allowed) (held_more IsGoodPlan h plan ready.list old.holds mid.holds legal (rw ready.places ready.apart) (rw (ready.places, ← ready.spelled) ready.each)
-    ready.list_is ready.entry.planned.past held (rw (ready.places, ← ready.spelled) stored.wrote))
-
--- the writes alone
-pub written_leads : (h : History) (plan : PlanEntry) (prepared : PreparedState) (frame : List ℕ) (end : ℕ) (old mid : DiskState) → IsStorable h plan prepared frame → IsLegal h
-    → IsInStep old end (bodies_of h) → EachHolds old h → ChangesOnly (ranges_of (pieces prepared)) old mid → LeadsTo h (h ++ Planned plan ∷ []) old mid
-written_leads h plan prepared frame end old mid ready legal step held changes =
-    let keeps = writes_keep h plan prepared frame old mid ready (step_stands old end h step legal held) changes in
-    record { goes_on = keeps.goes_on; images = λ image beside left. let was = keeps.images image beside left in (inl was.0, was.1) }
-
--- the writes, made durable, and the entry
-pub stored_leads : (h : History) (plan : PlanEntry) (prepared : PreparedState) (frame : List ℕ) (end : ℕ) (old mid new : DiskState) → IsStorable h plan prepared frame → IsLegal h
-    → IsInStep old end (bodies_of h) → EachHolds old h → MayLeave old.now old.holds → ChangesOnly (ranges_of (pieces prepared)) old mid → mid.now.beside ≡ old.now.beside
-    → Stored (pieces prepared) old mid → ((bodies : List (List ℕ)) → IsInStep mid end bodies → Appends bodies frame mid new) → KeepsPages mid new
-    → LeadsTo h (h ++ Planned plan ∷ []) old new
-stored_leads h plan prepared frame end old mid new ready legal step held allowed changes same stored appends pages =
-    let next = h ++ Planned plan ∷ [] in
-    let keeps = writes_keep h plan prepared frame old mid ready (step_stands old end h step legal held) changes in
-    let still : EachHolds mid h = λ image left. (keeps.images image mid.now.beside (allowed_left mid (moment old) image left)).0.held in
-    let leads = leads_more h (Planned plan) frame mid new legal ready.entry ready.framed still (stored_holds h plan prepared frame old mid ready legal (held old.holds allowed) stored)
-    (appends (bodies_of h) (step_stays (ranges_of (pieces prepared)) old mid end (bodies_of h) changes step)) pages in
-    record {
-      goes_on = goes_on_joins keeps.goes_on leads.goes_on;
-      images = joined (λ image beside. (Stands h image ⊎ Stands next image) × (beside ≡ old.now.beside)) keeps.goes_on
-          (λ image beside left. let was = keeps.images image beside left in (inl was.0, was.1)) leads.goes_on
-          (λ image beside left. let was = leads.images image beside left in (was.0, was.1 ∙ same));
-    }
-
--- after Ok the journal has the entry and each image holds what it needs
-pub stored_in_step : (h : History) (plan : PlanEntry) (prepared : PreparedState) (frame : List ℕ) (end : ℕ) (old mid new : DiskState) → IsStorable h plan prepared frame → IsLegal h
-    → EachHolds old h → MayLeave old.now old.holds → Stored (pieces prepared) old mid → IsInStep new end (bodies_of h ++ frame ∷ []) → KeepsPages mid new
-    → IsInStep new end (bodies_of (h ++ Planned plan ∷ [])) × EachHolds new (h ++ Planned plan ∷ [])
-stored_in_step h plan prepared frame end old mid new ready legal held allowed stored step pages = (
-  rw (← bodies_more h (Planned plan) frame ready.framed) step,
-  still_holds (h ++ Planned plan ∷ []) mid new (stored_holds h plan prepared frame old mid ready legal (held old.holds allowed) stored) pages,
-)

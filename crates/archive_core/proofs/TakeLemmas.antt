@@ -1,10 +1,8 @@
 -- A call that carries out an item is a step of the abstract machine.
-use Rattle.std.proofs.Common.{◌≡◌, ◌⊎◌, ℕ, List, [], ◌∷◌, ◌++◌, length, Option, Result, Ok, Err, OnOk, IfOk, refl, inl, inr, ap, subst, sym, ◌∙◌, arith, length-append}
+use Rattle.std.proofs.Common.{◌≡◌, ◌⊎◌, ℕ, List, [], ◌∷◌, length, Option, Result, Ok, Err, OnOk, IfOk, refl, inl, inr, ap, subst, sym, ◌∙◌, arith, length-append}
 use Rattle.std.specs.Option.{option_map}
-use Rattle.machine_model.specs.Areas.{Bytes}
 use Rattle.machine_model.specs.Images.{MayLeave}
 use Rattle.machine_model.specs.States.{DiskState}
-use Rattle.archive_state.specs.Holding.{HoldsPlans}
 use Rattle.machine_model.specs.Calls.{OnlyReads}
 use Rattle.time_base.specs.declared.ids.DocId.{DocId}
 use Rattle.time_base.specs.declared.time.Time.{Time}
@@ -14,124 +12,31 @@ use Rattle.commands.specs.declared.command.Item.TheVariants as items
 use Rattle.record_codec.specs.declared.entry.Entry.{Entry}
 use Rattle.proposals.specs.declared.proposal.Proposal.{Proposal}
 use Rattle.archive_state.specs.declared.refusal.Refusal.{Refusal}
-use Rattle.archive_state.specs.Histories.{History, text_at}
+use Rattle.archive_state.specs.Histories.{text_at}
 use Rattle.archive_state.specs.Steps as machine
-use Rattle.archive_state.specs.Steps.{Reply, Accepted, Refused, Proposed, Version, Step, Verified, sound_of}
+use Rattle.archive_state.specs.Steps.{Reply, Accepted, Refused, Proposed, Version}
 use Rattle.archive_state.specs.Plans.{IsChange}
 use Rattle.archive_state.specs.Stands.{bodies_of}
-use Rattle.archive_state.specs.Worlds.{world_of}
-use Rattle.archive_state.proofs.OutcomeLemmas.{adds_outcome}
 use Rattle.archive_state.specs.declared.verdict.Verdict.{Verdict}
 use Rattle.archive_check.specs.Checked.{IsChecked}
-use Rattle.archive_check.proofs.SoundLemmas.{stands_sound}
 use Rattle.archive_check.specs.declared.error.VerifyError.{VerifyError}
 use Rattle.archive_check.specs.declared.error.VerifyError.TheVariants as checks
-use Rattle.archive_core.specs.States.{ArchiveState, AreInStep, AreInStepBy, CacheStands, IsSameButCache, with_entry, with_reads}
+use Rattle.archive_core.specs.States.{ArchiveState, AreInStepBy, CacheStands, IsSameButCache, with_entry, with_reads}
 use Rattle.archive_core.specs.Adding.{Adds}
-use Rattle.archive_core.specs.Changing.{KeepsBy, LeadsBy, LeadsTo}
+use Rattle.archive_core.specs.Changing.{KeepsBy, LeadsBy}
 use Rattle.archive_core.specs.Stored.{Store, ReadsOn, Spoils, StoreStep, Stocks, TellsVerdict}
-use Rattle.archive_core.specs.Takes.{Ending, Replied, Starved, Faulted, Spoiled, Comes, Takes, TakesBy, changed, proposed, unchanged, version_shown, verified}
+use Rattle.archive_core.specs.Takes.{Ending, Replied, Starved, Faulted, Spoiled, Comes, TakesBy, changed, proposed, unchanged, version_shown, verified}
 use Rattle.archive_core.specs.declared.error.ChangeError.{ChangeError}
 use Rattle.archive_core.specs.declared.error.ChangeError.TheVariants as changes
 use Rattle.archive_replay.specs.declared.error.ReadError.{ReadError}
 use Rattle.archive_replay.specs.declared.error.ReadError.TheVariants as reads
 use Rattle.archive_replay.specs.declared.error.Declined.{Declined}
 use Rattle.archive_replay.specs.declared.error.Declined.TheVariants as declines
-use Rattle.archive_core.proofs.AddLemmas.{in_step_stands, leads_nowhere, step_reads}
 use Rattle.archive_core.proofs.ByReadsLemmas.{keeps_leads, keeps_nowhere, keeps_reads, reads_by, still_by, stocks_change, stocks_same}
 use Rattle.page_cache.specs.Caches.{Kept}
 use Rattle.archive_core.proofs.CacheLemmas.{cache_reads}
 use Rattle.gate_journal.proofs.InStepLemmas.{step_spells}
 use Rattle.sublist_store.specs.declared.why.Damage.{Damage}
-
--- a change that was not made: it is refused, or it failed and each image stands for the history before an outcome or after it, or there was no memory
-pub takes_unmade : (h : History) (item : Item) (error : ChangeError) (old new : DiskState) (a b : ArchiveState) → AreInStep old a h
-    → ((why : Refusal) → error ≡ changes.Refused why → (new ≡ old) × Step (world_of h) item (Refused why) (world_of h) × AreInStep old b h)
-    → (error ≡ changes.Failed → (reply : Reply) × ((next : History) × (Step (world_of h) item reply (world_of next) × LeadsTo h next old new)))
-    → (error ≡ changes.Memory → new ≡ old) → (reply : Reply) × ((next : History) × Step (world_of h) item reply (world_of next)) → Takes h item (unchanged error) old new b
-takes_unmade h item (changes.Refused why) old new a b in_step refused failed memory any =
-    let (still, step, same) = refused why refl in
-    record { outcome = record { reply = Refused why; next = world_of h }; step = step; leads = rw still (leads_nowhere old a h h in_step); ends = (refl, rw still same) }
-takes_unmade h item changes.Failed old new a b in_step refused failed memory any =
-    let (reply, (next, (step, leads))) = failed refl in
-    record { outcome = record { reply = reply; next = world_of next }; step = step; leads = leads; ends = tt }
-takes_unmade h item changes.Memory old new a b in_step refused failed memory (reply, (next, step)) =
-    let still = memory refl in
-    record { outcome = record { reply = reply; next = world_of next }; step = step; leads = rw still (leads_nowhere old a h next in_step); ends = rw still (in_step_stands old a h in_step) }
-
--- an item that adds an entry, or is refused
-pub takes_entry : (h : History) (item : Item) (e : Entry) (refusal : Option Refusal) (r : Result ℕ ChangeError) (old new : DiskState) (a b : ArchiveState)
-    → ((reply : Reply) (next : History) → machine.Adds h e refusal reply next → Step (world_of h) item reply (world_of next))
-    → AreInStep old a h → Adds h e refusal r b → ((why : Refusal) → r ≡ Err (changes.Refused why) → (b ≡ a) × (new ≡ old)) → (r ≡ Err changes.Memory → new ≡ old)
-    → LeadsTo h (h ++ e ∷ []) old new × OnOk r (AreInStep new b (h ++ e ∷ [])) → Takes h item (changed r) old new b
-takes_entry h item e refusal (Ok n) old new a b step in_step adds same memory (leads, there) =
-    let next = h ++ e ∷ [] in
-    let added = subst (λ (o : Option Refusal). machine.Adds h e o (Accepted (length next)) next) (sym (adds.allowed (inl refl))) (refl, refl) in
-    record {
-      outcome = record { reply = Accepted (length next); next = world_of next };
-      step = step (Accepted (length next)) next added;
-      leads = leads;
-      ends = (ap Accepted (omega (arith, adds.stands.1, length-append h (e ∷ []))), there);
-    }
-takes_entry h item e refusal (Err error) old new a b step in_step adds same memory (leads, there) =
-    let next = h ++ e ∷ [] in
-    let outcome = adds_outcome h e refusal in
-    takes_unmade h item error old new a b in_step
-    (λ why is.
-    let (was, still) = same why (ap Err is) in
-    let refused = subst (λ (o : Option Refusal). machine.Adds h e o (Refused why) h) (sym (adds.refused why (ap Err is))) (refl, refl) in
-    (still, step (Refused why) h refused, rw was in_step))
-    (λ is.
-    let added = subst (λ (o : Option Refusal). machine.Adds h e o (Accepted (length next)) next) (sym (adds.allowed (inr (ap Err is)))) (refl, refl) in
-    (Accepted (length next), (next, (step (Accepted (length next)) next added, leads))))
-    (λ is. memory (ap Err is)) (outcome.0.reply, (outcome.0.next, step outcome.0.reply outcome.0.next outcome.1))
-
--- reads leave what they find
-reads_lead : (h : History) (old new : DiskState) (a : ArchiveState) → AreInStep old a h → OnlyReads old new → LeadsTo h h old new
-reads_lead h old new a in_step same =
-    let still = leads_nowhere old a h h in_step in
-    subst (λ (d : DiskState). LeadsTo h h old d) (sym same) (record {
-      goes_on = let g = still.goes_on in record { later = g.later; nothing_else = g.nothing_else; keeps = g.keeps };
-      images = still.images;
-    })
-
-pub reads_keep : (h : History) (old new : DiskState) (a : ArchiveState) → AreInStep old a h → OnlyReads old new → AreInStep new a h
-reads_keep h old new a in_step same = record {
-  stands = in_step.stands;
-  journal = step_reads old new a.end (bodies_of h) in_step.journal same;
-  legal = in_step.legal;
-  held = (let P : DiskState → Type 0 = λ d. (image : Bytes) → MayLeave d.now image → HoldsPlans h image.pages in subst P (sym same) in_step.held);
-  cached = cache_reads old new a same in_step.cached;
-}
-
--- what a question is answered, if it is
-abbrev pub IsAnswered : (Reply → Type 0) → Ending → Type 0
-IsAnswered Q (Replied reply) = Q reply
-IsAnswered Q Starved = Unit {0}
-IsAnswered Q Faulted = Unit {0}
-IsAnswered Q (Spoiled damage) = ⊥
-
--- a question, which leaves the history as it is; it has a reply, if one is given or not
-pub takes_question : (Q : Reply → Type 0) (h : History) (item : Item) (ending : Ending) (old new : DiskState) (a : ArchiveState)
-    → ((reply : Reply) → Q reply → Step (world_of h) item reply (world_of h)) → (reply : Reply) × Q reply → OnlyReads old new → AreInStep old a h → IsAnswered Q ending → Takes h item ending old new a
-takes_question Q h item (Replied reply) old new a step any same in_step is =
-    record { outcome = record { reply = reply; next = world_of h }; step = step reply is; leads = reads_lead h old new a in_step same; ends = (refl, reads_keep h old new a in_step same) }
-takes_question Q h item Starved old new a step (reply, is) same in_step none =
-    record { outcome = record { reply = reply; next = world_of h }; step = step reply is; leads = reads_lead h old new a in_step same; ends = in_step_stands new a h (reads_keep h old new a in_step same) }
-takes_question Q h item Faulted old new a step (reply, is) same in_step none =
-    record { outcome = record { reply = reply; next = world_of h }; step = step reply is; leads = reads_lead h old new a in_step same; ends = tt }
-takes_question Q h item (Spoiled damage) old new a step any same in_step none = absurd none
-
--- a check of an archive that is in step with its disk
-pub takes_verify : (h : History) (r : Result Verdict VerifyError) (old new : DiskState) (a : ArchiveState) → MayLeave old.now old.holds → IfOk r (IsChecked h old.holds)
-    → OnlyReads old new → AreInStep old a h → Takes h (items.Command commands.Verify) (verified r) old new a
-takes_verify h r old new a allowed checked same in_step =
-    takes_question (λ reply. reply ≡ Verified (sound_of h)) h (items.Command commands.Verify) (verified r) old new a (λ reply is. (refl, is)) (Verified (sound_of h), refl) same in_step (go r checked)
-  where
-    go : (r : Result Verdict VerifyError) → IfOk r (IsChecked h old.holds) → IsAnswered (λ reply. reply ≡ Verified (sound_of h)) (verified r)
-    go (Ok verdict) checked = ap Verified (stands_sound h old.holds verdict (in_step_stands old a h in_step old.holds allowed) checked)
-    go (Err checks.Failed) checked = tt
-    go (Err checks.Memory) checked = tt
 
 -- ---- by what reads give
 

@@ -6,11 +6,6 @@ use Rattle.archive_state.specs.Histories.{History}
 use Rattle.archive_state.specs.Stands.{Stands}
 use Rattle.archive_core.specs.Stored.{Store, StandsBy}
 
--- each image left since stands for the history before or the one after; what stands beside it is as it was
-pub record LeadsTo (before after : History) (old new : DiskState) : Type 0 where
-  pub goes_on : GoesOn old new
-  pub images : LeavesOnly old new (λ image beside. (Stands before image ⊎ Stands after image) × (beside ≡ old.now.beside))
-
 -- each image left since stands for this history; what stands beside it is as it was
 pub record KeepsHistory (history : History) (old new : DiskState) : Type 0 where
   pub goes_on : GoesOn old new

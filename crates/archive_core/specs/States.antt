@@ -52,16 +52,7 @@ CacheStands d archive = IsCacheOf archive.shelf.cache d.holds.pages
 abbrev pub IsSameButCache : ArchiveState → ArchiveState → Type 0
 IsSameButCache old new = new ≡ record old { shelf = record (old.shelf) { cache = new.shelf.cache } }
 
--- what a disk is that an archive in hand may change: all its images have the history's journal, and the history is legal, and in all images
--- the pages hold what its live plans need; the pages that it keeps are as reads give them
-pub record AreInStep (d : DiskState) (archive : ArchiveState) (history : History) : Type 0 where
-  pub stands : StandsFor archive history
-  pub journal : IsInStep d archive.end (bodies_of history)
-  pub legal : IsLegal history
-  pub held : (image : Bytes) → MayLeave d.now image → HoldsPlans history image.pages
-  pub cached : CacheStands d archive
-
--- the same by what reads give, whatever lies in Pages: all images have the history's journal, and in each live place the bytes that reads give
+-- what a disk is that an archive in hand may change, by what reads give, whatever lies in Pages: all images have the history's journal, and in each live place the bytes that reads give
 pub record AreInStepBy (d : DiskState) (archive : ArchiveState) (store : Store) : Type 0 where
   pub stands : StandsFor archive store.history
   pub journal : IsInStep d archive.end (bodies_of store.history)
@@ -71,6 +62,14 @@ pub record AreInStepBy (d : DiskState) (archive : ArchiveState) (store : Store) 
   pub live : AreLive (live_extents store.history) (length store.pages)
   pub same : (image : Bytes) → MayLeave d.now image → All (HasSame store.pages image.pages) (live_extents store.history)
   pub cached : CacheStands d archive
+
+-- and an archive in hand and its disk are in step with a history: it is legal, and the pages hold what its live plans need
+pub record AreInStep (d : DiskState) (archive : ArchiveState) (history : History) : Type 0 where
+  pub store : Store
+  pub history_is : store.history ≡ history
+  pub by_reads : AreInStepBy d archive store
+  pub legal : IsLegal history
+  pub held : HoldsPlans history store.pages
 
 -- what is stored with an entry more, in these pages, by the archive and its disk then
 abbrev pub with_entry : Store → Entry → List ℕ → ArchiveState → DiskState → Store

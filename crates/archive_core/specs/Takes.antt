@@ -7,15 +7,11 @@ use Rattle.proposals.specs.declared.proposal.Proposal.{Proposal}
 use Rattle.sublist_store.specs.declared.why.Damage.{Damage}
 use Rattle.query_eval.specs.declared.answer.Answer.{Answer}
 use Rattle.query_eval.specs.declared.spans.SpanAnswer.{SpanAnswer}
-use Rattle.archive_state.specs.Histories.{History}
 use Rattle.archive_state.specs.declared.verdict.Verdict.{Verdict}
-use Rattle.archive_state.specs.Steps.{Reply, Accepted, Refused, Found, Spanned, Version, Proposed, Planned, Step, Verified}
-use Rattle.archive_state.specs.Runs.{Outcome}
-use Rattle.archive_state.specs.Worlds.{World, world_of}
-use Rattle.archive_state.specs.Stands.{EachStands}
-use Rattle.archive_core.specs.States.{ArchiveState, AreInStep, AreInStepBy}
+use Rattle.archive_state.specs.Steps.{Reply, Accepted, Refused, Found, Spanned, Version, Proposed, Planned, Verified}
+use Rattle.archive_core.specs.States.{ArchiveState, AreInStepBy}
 use Rattle.archive_core.specs.Stored.{Store, IsSameStore, Spoils, StoreStep, TellsNoEntry}
-use Rattle.archive_core.specs.Changing.{KeepsBy, LeadsBy, LeadsTo}
+use Rattle.archive_core.specs.Changing.{KeepsBy, LeadsBy}
 use Rattle.plan_shelf.specs.declared.readying.PlanReport.{PlanReport}
 use Rattle.plan_shelf.specs.Readying.{summary_of}
 use Rattle.archive_core.specs.declared.error.ChangeError.{ChangeError}
@@ -82,24 +78,6 @@ abbrev pub verified : Result Verdict VerifyError → Ending
 verified (Ok verdict) = Replied (Verified verdict)
 verified (Err checks.Failed) = Faulted
 verified (Err checks.Memory) = Starved
-
--- Where a reply was given it is that of the outcome, and the archive stands for the history after the outcome; where memory ran out, each image
--- stands for the history before it.
-abbrev pub EndsBy : History → Outcome Reply World → DiskState → ArchiveState → Ending → Type 0
-EndsBy before outcome new archive_now (Replied reply) = (outcome.reply ≡ reply) × AreInStep new archive_now outcome.next.history
-EndsBy before outcome new archive_now Starved = EachStands new before
-EndsBy before outcome new archive_now Faulted = Unit {0}
-EndsBy before outcome new archive_now (Spoiled damage) = ⊥
-
--- The item has an outcome of the abstract machine from this history. Each image left since the start of the call stands for the history before
--- the outcome or after it.
-pub record Takes (history : History) (item : Item) (ending : Ending) (old new : DiskState) (archive_now : ArchiveState) : Type 0 where
-  pub outcome : Outcome Reply World
-  pub step : Step (world_of history) item outcome.reply outcome.next
-  pub leads : LeadsTo history outcome.next.history old new
-  pub ends : EndsBy history outcome new archive_now ending
-
--- ---- by what reads give
 
 -- The item has this outcome. Each image left since the start of the call stands for what was before it or after it.
 pub record Comes (store : Store) (item : Item) (reply : Reply) (next : Store) (old new : DiskState) : Type 0 where

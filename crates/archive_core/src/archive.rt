@@ -15,10 +15,10 @@ ghost use Rattle.record_codec.specs.declared.plan.PlanEntry.{PlanEntry};
 ghost use Rattle.archive_core.specs.Storing.{IsDraft, IsStoredAs, IsStoredBy};
 ghost use Rattle.plan_shelf.specs.Readying.{IsFull, tells_of};
 ghost use Rattle.archive_core.specs.Answering.{HasAsked};
-ghost use Rattle.archive_core.specs.States.{StandsFor, CacheStands, IsSameButCache, AreInStep, AreInStepBy, Reaches, with_entry};
-ghost use Rattle.archive_core.specs.Changing.{KeepsBy, LeadsBy, LeadsTo};
+ghost use Rattle.archive_core.specs.States.{StandsFor, CacheStands, IsSameButCache, AreInStepBy, Reaches, with_entry};
+ghost use Rattle.archive_core.specs.Changing.{KeepsBy, LeadsBy};
 ghost use Rattle.archive_core.specs.Stored.{Store};
-ghost use Rattle.archive_core.specs.Takes.{Takes, TakesBy, changed, planned};
+ghost use Rattle.archive_core.specs.Takes.{TakesBy, changed, planned};
 ghost use Rattle.plan_shelf.specs.Readying.{summary_of};
 ghost use Rattle.record_codec.specs.declared.entry.Entry.{Entry};
 ghost use Rattle.archive_core.specs.Adding.{Adds, GivesUp, IsMore, IsSpent};
@@ -190,9 +190,7 @@ impl Archive {
         // On any disk: a refusal is the first cause in order, comes wherever there is one (but for want of memory), and changes nothing; at Ok
         // the archive stands for the history with the new entry, and answers how many entries there are.
         ensures adds { (h : History) → StandsFor self.old h → Adds h (entries.Arrive doc at text.now) (arrival_refusal h doc at text.now) result self.new }
-        // In step, it is a step of the abstract machine; each image left since stands for the history before it or after it.
-        ensures takes { D.disk_tells → (h : History) → AreInStep (D.disk disk.old) self.old h → Takes h (items.Command (commands.Arrive doc at (texts.Bytes text.now))) (changed result) (D.disk disk.old) (D.disk disk.new) self.new }
-        // And by what reads give it is a step too, whatever lies in Pages.
+        // In step by what reads give, whatever lies in Pages, it is a step; each image left since stands for what was before it or after it.
         ensures by_reads { D.disk_tells → (s : Store) → AreInStepBy (D.disk disk.old) self.old s → TakesBy s (items.Command (commands.Arrive doc at (texts.Bytes text.now))) (changed result) (D.disk disk.old) (D.disk disk.new) self.new }
         ensures pages { D.disk_tells → KeepsPages (D.disk disk.old) (D.disk disk.new) }
     {
@@ -224,9 +222,7 @@ impl Archive {
         // On any disk: a refusal is the first cause in order, comes wherever there is one (but for want of memory), and changes nothing; at Ok
         // the archive stands for the history with the new entry, and answers how many entries there are.
         ensures adds { (h : History) → StandsFor self.old h → Adds h (entries.Delete doc at) (deletion_refusal h doc at) result self.new }
-        // In step, it is a step of the abstract machine; each image left since stands for the history before it or after it.
-        ensures takes { D.disk_tells → (h : History) → AreInStep (D.disk disk.old) self.old h → Takes h (items.Command (commands.Delete doc at)) (changed result) (D.disk disk.old) (D.disk disk.new) self.new }
-        // And by what reads give it is a step too, whatever lies in Pages.
+        // In step by what reads give, whatever lies in Pages, it is a step; each image left since stands for what was before it or after it.
         ensures by_reads { D.disk_tells → (s : Store) → AreInStepBy (D.disk disk.old) self.old s → TakesBy s (items.Command (commands.Delete doc at)) (changed result) (D.disk disk.old) (D.disk disk.new) self.new }
         ensures pages { D.disk_tells → KeepsPages (D.disk disk.old) (D.disk disk.new) }
     {
@@ -262,9 +258,7 @@ impl Archive {
         // the archive stands for a history with a plan that may be stored.
         ensures refused { (h : History) → StandsFor self.old h → (why : Refusal) → IsErrOf result (ChangeError.Refused why) → Plans h word.now kind factor (Refused why) h × StandsFor self.new h }
         ensures stores { (h : History) → StandsFor self.old h → IfOk result (λ r. (next : History) × (Plans h word.now kind factor (Planned (summary_of r)) next × StandsFor self.new next)) }
-        // In step, it is a step of the abstract machine; each image left since stands for the history before it or after it.
-        ensures takes { D.disk_tells → (h : History) → AreInStep (D.disk disk.old) self.old h → Takes h (items.Command (commands.Plan word.now kind factor)) (planned result) (D.disk disk.old) (D.disk disk.new) self.new }
-        // And by what reads give it is a step too, whatever lies in Pages.
+        // In step by what reads give, whatever lies in Pages, it is a step; each image left since stands for what was before it or after it.
         ensures by_reads { D.disk_tells → (s : Store) → AreInStepBy (D.disk disk.old) self.old s → TakesBy s (items.Command (commands.Plan word.now kind factor)) (planned result) (D.disk disk.old) (D.disk disk.new) self.new }
     {
         match self.draft(alloc, word, kind, factor) {
@@ -293,9 +287,6 @@ impl Archive {
         ensures spent { (IsErrOf result ChangeError.Memory ⊎ IsErrOf result ChangeError.Failed) → IsSpent self.old self.new }
         ensures refused { (h : History) → StandsFor self.old h → (why : Refusal) → IsErrOf result (ChangeError.Refused why) → IsFull draft (live_extents h) self.old.end why × StandsFor self.new h }
         ensures stores { (h : History) → StandsFor self.old h → IfOk result (λ r. (plan : PlanEntry) × (IsStoredAs h draft plan × (summary_of r ≡ tells_of draft (length h + 1)) × StandsFor self.new (h ++ entries.Planned plan ∷ []))) }
-        ensures leads { D.disk_tells → (h : History) → AreInStep (D.disk disk.old) self.old h → IsOk result ⊎ IsErrOf result ChangeError.Failed →
-            (plan : PlanEntry) × (IsStoredAs h draft plan × LeadsTo h (h ++ entries.Planned plan ∷ []) (D.disk disk.old) (D.disk disk.new)
-            × IfOk result (λ r. (summary_of r ≡ tells_of draft (length h + 1)) × AreInStep (D.disk disk.new) self.new (h ++ entries.Planned plan ∷ []))) }
         // By what reads give, whatever lies in Pages: at Ok the draft's plan comes behind the history; where the disk failed, all is as it was, or it does.
         ensures puts { D.disk_tells → (s : Store) → AreInStepBy (D.disk disk.old) self.old s →
             IfOk result (λ r. (next : Store) × (IsStoredBy s next draft (D.disk disk.old) (D.disk disk.new) × (summary_of r ≡ tells_of draft (length s.history + 1)) × AreInStepBy (D.disk disk.new) self.new next)) }
@@ -365,8 +356,6 @@ impl Archive {
         ensures only { D.Disk.only disk.old disk.new }
         ensures after { AfterChange D.disk_tells ((self.new ≡ self.old) × (disk.new ≡ disk.old)) (disk.new ≡ disk.old) result (D.disk disk.old) (D.disk disk.new) self.old self.new }
         ensures adds { (h : History) (entry : Entry) (refusal : Option Refusal) → StandsFor self.old h → IsPrepared h self.old.index entry refusal prepared → Adds h entry refusal result self.new }
-        ensures leads { D.disk_tells → (h : History) (entry : Entry) (refusal : Option Refusal) → AreInStep (D.disk disk.old) self.old h → IsPrepared h self.old.index entry refusal prepared →
-            LeadsTo h (h ++ entry ∷ []) (D.disk disk.old) (D.disk disk.new) × OnOk result (AreInStep (D.disk disk.new) self.new (h ++ entry ∷ [])) }
         ensures by_reads { D.disk_tells → (s : Store) (entry : Entry) (refusal : Option Refusal) → AreInStepBy (D.disk disk.old) self.old s → IsPrepared s.history self.old.index entry refusal prepared →
             LeadsBy s (with_entry s entry s.pages self.new (D.disk disk.new)) (D.disk disk.old) (D.disk disk.new)
             × OnOk result (AreInStepBy (D.disk disk.new) self.new (with_entry s entry s.pages self.new (D.disk disk.new))) }

@@ -10,9 +10,9 @@ ghost use Rattle.archive_state.specs.Histories.{History, text_at};
 ghost use Rattle.archive_state.specs.Plans.{is_another};
 ghost use Rattle.archive_state.specs.Chosen.{AreChosen, IsMadeAt};
 ghost use Rattle.archive_core.specs.After.{AfterFetching, AfterQuestion, Fetches};
-ghost use Rattle.archive_core.specs.States.{StandsFor, AreInStep, AreInStepBy, Reaches};
+ghost use Rattle.archive_core.specs.States.{StandsFor, AreInStepBy, Reaches};
 ghost use Rattle.archive_core.specs.Stored.{Store};
-ghost use Rattle.archive_core.specs.Takes.{Takes, TakesBy, found, version_shown};
+ghost use Rattle.archive_core.specs.Takes.{TakesBy, found, version_shown};
 ghost use Rattle.commands.specs.declared.command.Command.TheVariants as commands;
 ghost use Rattle.commands.specs.declared.command.Item.TheVariants as items;
 
@@ -50,10 +50,7 @@ impl Archive {
         ensures only { D.Disk.only disk.old disk.new }
         ensures after { AfterQuestion D.disk_tells expr.now at.seconds (at.seconds + 1) (λ h query answer. IsMadeAt h (D.disk disk.old).holds.pages at.seconds query answer.rows.items answer.read)
             result (D.disk disk.old) (D.disk disk.new) self.old self.new }
-        // In step, it is a step of the abstract machine.
-        ensures takes { D.disk_tells → (h : History) → AreInStep (D.disk disk.old) self.old h →
-            Takes h (items.Command (commands.Find at expr.now)) (found result) (D.disk disk.old) (D.disk disk.new) self.new }
-        // And by what reads give it is a step too, whatever lies in Pages.
+        // In step by what reads give, whatever lies in Pages, it is a step.
         ensures by_reads { D.disk_tells → (s : Store) → AreInStepBy (D.disk disk.old) self.old s →
             TakesBy s (items.Command (commands.Find at expr.now)) (found result) (D.disk disk.old) (D.disk disk.new) self.new }
     {
@@ -139,7 +136,7 @@ impl Archive {
         ensures only { D.Disk.only disk.old disk.new }
         ensures same { OnlyReads (D.disk disk.old) (D.disk disk.new) }
         ensures failed { IsErrOf result ReadError.Failed → Rose (D.disk disk.old).faults (D.disk disk.new).faults }
-        // And by what reads give it is a step too, whatever lies in Pages.
+        // In step by what reads give, whatever lies in Pages, it is a step.
         ensures by_reads { D.disk_tells → (s : Store) → AreInStepBy (D.disk disk.old) self.now s →
             TakesBy s (items.Command (commands.Show doc at)) (version_shown (λ v. v.items) result) (D.disk disk.old) (D.disk disk.new) self.now }
     {

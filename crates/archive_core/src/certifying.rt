@@ -38,7 +38,7 @@ impl Archive {
         // plan, where the history is legal.
         ensures refused { (h : History) → StandsFor self.now h → (why : Refusal) → IsErrOf result (Declined.Refused why) → Certifies h word.now (Refused why) }
         ensures certifies { (h : History) → StandsFor self.now h → IsLegal h → IfOk result (λ p. Certifies h word.now (Proposed p.segments.items p.nodes.items p.space)) }
-        // And by what reads give it is a step too, whatever lies in Pages.
+        // In step by what reads give, whatever lies in Pages, it is a step.
         ensures by_reads { (d : DiskState) (s : Store) → AreInStepBy d self.now s → TakesBy s (items.Command (commands.Certificate word.now)) (proposed result) d d self.now }
     {
         self.certificate_of(alloc, word)

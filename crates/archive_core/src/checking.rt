@@ -4,9 +4,9 @@ ghost use Rattle.machine_model.specs.Causes.{Rose};
 ghost use Rattle.machine_model.specs.Calls.{OnlyReads};
 ghost use Rattle.archive_state.specs.Histories.{History};
 ghost use Rattle.archive_check.specs.Checked.{IsChecked};
-ghost use Rattle.archive_core.specs.States.{StandsFor, AreInStep, AreInStepBy, Reaches};
+ghost use Rattle.archive_core.specs.States.{StandsFor, AreInStepBy, Reaches};
 ghost use Rattle.archive_core.specs.Stored.{Store};
-ghost use Rattle.archive_core.specs.Takes.{Takes, TakesBy, verified};
+ghost use Rattle.archive_core.specs.Takes.{TakesBy, verified};
 ghost use Rattle.commands.specs.declared.command.Command.TheVariants as commands;
 ghost use Rattle.commands.specs.declared.command.Item.TheVariants as items;
 
@@ -32,9 +32,7 @@ impl Archive {
         ensures failed { IsErrOf result VerifyError.Failed → Rose (D.disk disk.old).faults (D.disk disk.new).faults }
         // Whatever the disk holds, if it tells: the verdict is by what reads give, and by where the entries say that texts and sublists lie.
         ensures checked { D.disk_tells → (h : History) → StandsFor self.now h → IfOk result (IsChecked h (D.disk disk.old).holds) }
-        // In step, it is a step of the abstract machine: all is sound.
-        ensures takes { D.disk_tells → (h : History) → AreInStep (D.disk disk.old) self.now h → Takes h (items.Command commands.Verify) (verified result) (D.disk disk.old) (D.disk disk.new) self.now }
-        // And by what reads give it is a step too, whatever lies in Pages.
+        // In step by what reads give, whatever lies in Pages, it is a step.
         ensures by_reads { D.disk_tells → (s : Store) → AreInStepBy (D.disk disk.old) self.now s → TakesBy s (items.Command commands.Verify) (verified result) (D.disk disk.old) (D.disk disk.new) self.now }
     {
         let plans = self.shelf().plans();

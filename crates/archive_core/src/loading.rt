@@ -1,5 +1,5 @@
 //! Loading an archive.
-ghost use Rattle.std.specs.Prelude.{◌≡◌, ◌<◌, ◌≤◌, [], ℕ, List, length, All, IsTrue, IfOk, IfSome, OnOk, IsErrOf, MatchOption};
+ghost use Rattle.std.specs.Prelude.{◌≡◌, ◌<◌, ◌≤◌, [], ℕ, List, length, All, IsTrue, IfOk, OnOk, IsErrOf};
 ghost use Rattle.machine_model.specs.Areas.{Bytes};
 ghost use Rattle.machine_model.specs.Causes.{Rose};
 ghost use Rattle.machine_model.specs.Calls.{OnlyReads, Syncs};
@@ -59,38 +59,6 @@ impl Archive {
     {
         let (journal, heads) = Journal::load(alloc, disk)?;
         archive_of(alloc, disk, journal, &heads)
-    }
-
-    /// Opens the archive of a disk to read it alone. None where the journal has at most 17 bytes: then
-    /// it is new, whatever they are, and the archive has no entries.
-    ///
-    /// It reads as `load` does, and neither writes nor syncs: so a stop may leave another archive than
-    /// the one that it read. No change may be made to the archive that it gives.
-    /// `NotArchive`, `Failed`, `Memory` and the cost are those of `load`.
-    pub fn open_to_read<D: Disk>(alloc: Global, disk: &mut D) -> Result<Option<Archive>, LoadError>
-        ensures only { D.Disk.only disk.old disk.new }
-        // No image changes, and no length.
-        ensures same { OnlyReads (D.disk disk.old) (D.disk disk.new) }
-        ensures failed { IsErrOf result LoadError.Failed → Rose (D.disk disk.old).faults (D.disk disk.new).faults }
-        // On any disk: it isn't live, keeps no page yet, the disk reaches as far as its journal, and it stands for a history.
-        ensures not_live { IfOk result (λ o. IfSome o (λ a. ¬ (IsTrue a.live))) }
-        ensures empty { IfOk result (λ o. IfSome o (λ a. a.shelf.cache ≡ [])) }
-        ensures new { IfOk result (λ o. MatchOption o ((D.disk disk.old).reach.journal ≤ 17) (λ a. 17 < (D.disk disk.old).reach.journal)) }
-        ensures within { IfOk result (λ o. IfSome o (λ a. Reaches (D.disk disk.new).reach a)) }
-        ensures stands { IfOk result (λ o. IfSome o (λ a. (h : History) × StandsFor a h)) }
-        // What it answers of the bytes that reads give.
-        ensures not_archive { D.disk_tells → (at : ℕ) → IsErrOf result (LoadError.NotArchive at) → IsNotArchive (D.disk disk.old).holds at }
-        ensures found { D.disk_tells → IfOk result (λ o. MatchOption o (Spells (D.disk disk.old).holds.journal [])
-            (λ a. (h : History) × (StandsFor a h × Spells (D.disk disk.old).holds.journal (bodies_of h)))) }
-        ensures exact { D.disk_tells → OnOk result ((at : ℕ) → IsNotArchive (D.disk disk.old).holds at → ⊥) }
-    {
-        match Journal::open_to_read(alloc, disk)? {
-            Some((journal, heads)) => {
-                let archive = archive_of(alloc, disk, journal, &heads)?;
-                Ok(Some(archive))
-            }
-            None => Ok(None),
-        }
     }
 }
 

@@ -56,7 +56,7 @@ impl Archive {
         // of it.
         ensures refused { (h : History) → StandsFor self.now h → (why : Refusal) → IsErrOf result (Declined.Refused why) → Proposes h word.now factor (Refused why) }
         ensures proposes { (h : History) → StandsFor self.now h → IfOk result (λ p. Proposes h word.now factor (Proposed p.segments.items p.nodes.items p.space)) }
-        // And by what reads give it is a step too, whatever lies in Pages.
+        // In step by what reads give, whatever lies in Pages, it is a step.
         ensures by_reads { (d : DiskState) (s : Store) → AreInStepBy d self.now s → TakesBy s (items.Command (commands.Propose word.now factor)) (proposed result) d d self.now }
     {
         let sealed = self.sealed(alloc, word)?;

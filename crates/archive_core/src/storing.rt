@@ -1,12 +1,9 @@
 //! Plans that are stored.
 ghost use Rattle.std.specs.Prelude.{ℕ, ◌≡◌, ◌+◌, ◌-◌, ◌<◌, ◌≤◌, ◌^◌, ◌++◌, ◌∷◌, [], List, length, All, IsTrue, IfOk, OnOk, OnErr, IsErrOf};
 ghost use Rattle.machine_model.specs.Causes.{Rose};
-ghost use Rattle.machine_model.specs.Areas.{Bytes};
-ghost use Rattle.machine_model.specs.Images.{MayLeave};
 ghost use Rattle.std.specs.Prelude.{Some};
 ghost use Rattle.time_base.specs.declared.extent.Extent.{Extent as PlainExtent};
 ghost use Rattle.record_codec.specs.declared.place.Place.{Place as PlainPlace};
-ghost use Rattle.record_codec.specs.declared.plan.PlanEntry.{PlanEntry as PlainPlan};
 ghost use Rattle.gate_journal.specs.InStep.{IsInStep};
 ghost use Rattle.page_cache.specs.Caches.{StandsFor as IsCacheOf};
 ghost use Rattle.page_store.specs.Live.{IsInside};
@@ -16,17 +13,13 @@ ghost use Rattle.stored_plans.specs.Plans.{IsCostOf, IsGoodPlan, plan_space};
 ghost use Rattle.sublist_store.specs.Preparing.{extents, pieces};
 ghost use Rattle.fold_tokens.specs.Terms.{one_term as term_of};
 ghost use Rattle.archive_state.specs.Histories.{History};
-ghost use Rattle.archive_state.specs.Legal.{IsLegal};
-ghost use Rattle.archive_state.specs.Holding.{HoldsPlans};
 ghost use Rattle.archive_state.specs.Planning.{OfPhrase, OfWidth, IsKnown};
 ghost use Rattle.archive_state.specs.Plans.{with_plan};
-ghost use Rattle.archive_state.specs.Stands.{bodies_of};
 ghost use Rattle.archive_state.specs.Steps.{spelled_key};
 ghost use Rattle.record_codec.specs.declared.entry.Entry.TheVariants as entries;
 ghost use Rattle.archive_core.specs.States.{StandsFor};
 ghost use Rattle.plan_shelf.specs.Shelves.{extents_all};
-ghost use Rattle.archive_core.specs.Changing.{LeadsTo};
-ghost use Rattle.archive_core.specs.Storing.{HasPutDown, HasStopped, IsDraft, IsStorable};
+ghost use Rattle.archive_core.specs.Storing.{HasPutDown, HasStopped, IsDraft};
 
 use crate::archive::Archive;
 use crate::planning::Sealed;
@@ -126,11 +119,6 @@ pub(crate) fn write_ready<D: Disk>(
     ensures pages { OnOk result (HasTaken shelf.new.pages (extents_all shelf.new.plans)) }
     ensures cached { D.disk_tells → IsCacheOf shelf.old.cache (D.disk disk.old).holds.pages → OnOk result (IsCacheOf shelf.new.cache (D.disk disk.new).holds.pages) }
     ensures spent { OnErr result ((journal.new.end ≡ journal.old.end) × (shelf.new.plans ≡ shelf.old.plans) × HasTaken shelf.new.pages (extents_all shelf.old.plans) × (shelf.new.cache ≡ shelf.old.cache)) }
-    ensures crash { D.disk_tells → (h : History) → IsInStep (D.disk disk.old) journal.old.end (bodies_of h) → ((image : Bytes) → MayLeave (D.disk disk.old).now image → HoldsPlans h image.pages) → IsLegal h →
-        IsStorable h ready.stored.plan ready.prepared ready.frame → LeadsTo h (h ++ entries.Planned ready.stored.plan ∷ []) (D.disk disk.old) (D.disk disk.new) }
-    ensures in_step { D.disk_tells → (h : History) → IsInStep (D.disk disk.old) journal.old.end (bodies_of h) → ((image : Bytes) → MayLeave (D.disk disk.old).now image → HoldsPlans h image.pages) → IsLegal h →
-        IsStorable h ready.stored.plan ready.prepared ready.frame → OnOk result (IsInStep (D.disk disk.new) journal.new.end (bodies_of (h ++ entries.Planned ready.stored.plan ∷ []))
-        × ((image : Bytes) → MayLeave (D.disk disk.new).now image → HoldsPlans (h ++ entries.Planned ready.stored.plan ∷ []) image.pages)) }
     // Whatever lies in Pages: what each image left since has.
     ensures puts { D.disk_tells → (bodies : List (List ℕ)) → IsInStep (D.disk disk.old) journal.old.end bodies → OnOk result (HasPutDown bodies ready.frame (pieces ready.prepared) (D.disk disk.old) (D.disk disk.new)) }
     ensures stops { D.disk_tells → (bodies : List (List ℕ)) → IsInStep (D.disk disk.old) journal.old.end bodies → OnErr result (HasStopped bodies ready.frame (pieces ready.prepared) (D.disk disk.old) (D.disk disk.new)) }
@@ -174,11 +162,6 @@ fn put_down<D: Disk>(
     ensures inside { OnOk result (All (λ (p : PlainPlace). IsInside (D.disk disk.new).reach.pages p.extent) prepared.now.places) }
     ensures spent { OnErr result (journal.new.end ≡ journal.old.end) }
     ensures cached { D.disk_tells → IsCacheOf sublists.now.cache (D.disk disk.old).holds.pages → OnOk result (IsCacheOf sublists.now.cache (D.disk disk.new).holds.pages) }
-    ensures crash { D.disk_tells → (h : History) (plan : PlainPlan) → IsInStep (D.disk disk.old) journal.old.end (bodies_of h) → ((image : Bytes) → MayLeave (D.disk disk.old).now image → HoldsPlans h image.pages) → IsLegal h →
-        IsStorable h plan prepared.now frame.now → LeadsTo h (h ++ entries.Planned plan ∷ []) (D.disk disk.old) (D.disk disk.new) }
-    ensures in_step { D.disk_tells → (h : History) (plan : PlainPlan) → IsInStep (D.disk disk.old) journal.old.end (bodies_of h) → ((image : Bytes) → MayLeave (D.disk disk.old).now image → HoldsPlans h image.pages) → IsLegal h →
-        IsStorable h plan prepared.now frame.now → OnOk result (IsInStep (D.disk disk.new) journal.new.end (bodies_of (h ++ entries.Planned plan ∷ []))
-        × ((image : Bytes) → MayLeave (D.disk disk.new).now image → HoldsPlans (h ++ entries.Planned plan ∷ []) image.pages)) }
     // Whatever lies in Pages: what each image left since has.
     ensures puts { D.disk_tells → (bodies : List (List ℕ)) → IsInStep (D.disk disk.old) journal.old.end bodies → OnOk result (HasPutDown bodies frame.now (pieces prepared.now) (D.disk disk.old) (D.disk disk.new)) }
     ensures stops { D.disk_tells → (bodies : List (List ℕ)) → IsInStep (D.disk disk.old) journal.old.end bodies → OnErr result (HasStopped bodies frame.now (pieces prepared.now) (D.disk disk.old) (D.disk disk.new)) }

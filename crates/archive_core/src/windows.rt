@@ -49,7 +49,7 @@ impl Archive {
         ensures only { D.Disk.only disk.old disk.new }
         ensures after { AfterQuestion D.disk_tells expr.now span.from span.to (λ h query answer. IsMadeOver h (D.disk disk.old).holds.pages span.from span.to query answer.rows.items answer.read)
             result (D.disk disk.old) (D.disk disk.new) self.old self.new }
-        // And by what reads give it is a step too, whatever lies in Pages.
+        // In step by what reads give, whatever lies in Pages, it is a step.
         ensures by_reads { D.disk_tells → (s : Store) → AreInStepBy (D.disk disk.old) self.old s →
             TakesBy s (items.Command (commands.Between span expr.now)) (spanned result) (D.disk disk.old) (D.disk disk.new) self.new }
     {

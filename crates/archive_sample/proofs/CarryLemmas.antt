@@ -1,16 +1,25 @@
 -- One command carried out: what its call did, and what is counted of it.
-use Rattle.std.proofs.Common.{◌≡◌, length, Result, Ok, sym, subst}
-use Rattle.machine_model.specs.States.{DiskState}
+use Rattle.std.proofs.Common.{◌≡◌, length, Result, Ok, inl, inr, sym, subst}
+use Rattle.machine_model.specs.States.{DiskState, moment}
+use Rattle.machine_model.proofs.MomentLemmas.{allowed_left}
+use Rattle.commands.specs.Documents.{HasDocument}
 use Rattle.commands.specs.declared.command.Command.{Command}
 use Rattle.commands.specs.declared.command.Item.TheVariants as items
 use Rattle.archive_state.specs.Histories.{History}
 use Rattle.archive_state.specs.Steps.{Reply, Accepted, Refused, Found, Spanned, Version, Proposed, Planned, Verified}
-use Rattle.archive_core.specs.States.{ArchiveState}
-use Rattle.archive_core.specs.Takes.{Ending, Replied, Starved, Faulted, Spoiled, Takes}
+use Rattle.archive_state.specs.Runs.{Outcome}
+use Rattle.archive_state.specs.Stands.{EachStands}
+use Rattle.archive_state.specs.Worlds.{World, world_of}
+use Rattle.archive_state.proofs.OutcomeLemmas.{each_outcome}
+use Rattle.archive_core.specs.Changing.{KeepsBy, LeadsBy}
+use Rattle.archive_core.specs.States.{ArchiveState, AreInStep}
+use Rattle.archive_core.specs.Stored.{Store}
+use Rattle.archive_core.specs.Takes.{Ending, Replied, Starved, Faulted, Spoiled, TakesBy}
+use Rattle.archive_core.proofs.StandingLemmas.{IsStanding, in_step_by, in_step_standing, spoiled_never, stands_standing, step_standing}
 use Rattle.archive_sample.specs.declared.error.FillError.{FillError}
 use Rattle.archive_sample.specs.declared.note.Note.{Note}
 use Rattle.archive_sample.specs.declared.note.Note.TheVariants as notes
-use Rattle.archive_sample.specs.Carrying.{CarriesOut, EndsIn, IsTold, Tells}
+use Rattle.archive_sample.specs.Carrying.{CarriesOut, EndsIn, IsTold, LeadsTo, Tells}
 
 -- where a reply is counted there is a note
 told_ok : (reply : Reply) (result : Result Note FillError) → IsTold reply result → (note : Note) × (result ≡ Ok note)
@@ -23,19 +32,56 @@ told_ok (Spanned rows read) result told = absurd told
 told_ok (Version text) result told = absurd told
 told_ok (Proposed segments nodes total) result told = absurd told
 
--- a command that a call took is carried out by what is told of the call's end
-pub carries_out : (h : History) (command : Command) (ending : Ending) (result : Result Note FillError) (old new : DiskState) (archive : ArchiveState)
-    → Takes h (items.Command command) ending old new archive → Tells ending result → CarriesOut h command result old new archive
-carries_out h command (Replied reply) result old new archive takes told =
+-- ---- what each image left stands for, where it stands for what is stored
+
+leads_standing : (s next : Store) (old new : DiskState) → IsStanding s → IsStanding next → LeadsBy s next old new → LeadsTo s.history next.history old new
+leads_standing s next old new standing then leads = record {
+  goes_on = leads.goes_on;
+  images = λ image beside left.
+      let was = leads.images image beside left in (
+        elim was.0 [
+          | inl before ↦ inl (stands_standing s image standing before)
+          | inr after ↦ inr (stands_standing next image then after)
+        ],
+        was.1,
+      );
+}
+
+keeps_standing : (s : Store) (after : History) (old new : DiskState) → IsStanding s → KeepsBy s old new → LeadsTo s.history after old new
+keeps_standing s after old new standing keeps = record {
+  goes_on = keeps.goes_on;
+  images = λ image beside left. let was = keeps.images image beside left in (inl (stands_standing s image standing was.0), was.1);
+}
+
+each_kept : (s : Store) (old new : DiskState) → IsStanding s → KeepsBy s old new → EachStands new s.history
+each_kept s old new standing keeps = λ image allowed. stands_standing s image standing (keeps.images image new.now.beside (allowed_left new (moment old) image allowed)).0
+
+-- ---- a command that a call took is carried out by what is told of the call's end
+
+carried : (s : Store) (command : Command) (ending : Ending) (result : Result Note FillError) (old new : DiskState) (archive : ArchiveState) → IsStanding s → HasDocument (items.Command command)
+    → TakesBy s (items.Command command) ending old new archive → Tells ending result → CarriesOut s.history command result old new archive
+carried s command (Replied reply) result old new archive standing range (next, comes, there) told =
     let is = told_ok reply result told in
-    let E : Result Note FillError → Type 0 = λ r. EndsIn h takes.outcome new archive r in
-    let R : Result Note FillError → Type 0 = λ r. IsTold reply r in
-    let T : Reply → Type 0 = λ r. IsTold r (Ok is.0) in
-    record { outcome = takes.outcome; step = takes.step; leads = takes.leads; ends = subst E (sym is.1) (subst T (sym takes.ends.0) (subst R is.1 told), takes.ends.1) }
-carries_out h command Starved result old new archive takes told =
-    let E : Result Note FillError → Type 0 = λ r. EndsIn h takes.outcome new archive r in
-    record { outcome = takes.outcome; step = takes.step; leads = takes.leads; ends = subst E (sym told) takes.ends }
-carries_out h command Faulted result old new archive takes told =
-    let E : Result Note FillError → Type 0 = λ r. EndsIn h takes.outcome new archive r in
-    record { outcome = takes.outcome; step = takes.step; leads = takes.leads; ends = subst E (sym told) tt }
-carries_out h command (Spoiled damage) result old new archive takes told = absurd takes.ends
+    let went = step_standing s (items.Command command) reply next standing range comes.step in
+    let outcome : Outcome Reply World = record { reply = reply; next = world_of next.history } in
+    let E : Result Note FillError → Type 0 = λ r. EndsIn s.history outcome new archive r in
+    record { outcome = outcome; step = went.0; leads = leads_standing s next old new standing went.1 comes.leads; ends = subst E (sym is.1) (subst (IsTold reply) is.1 told, in_step_by new archive next there went.1) }
+carried s command Starved result old new archive standing range keeps told =
+    let (outcome, step) = each_outcome (world_of s.history) (items.Command command) standing.legal in
+    let E : Result Note FillError → Type 0 = λ r. EndsIn s.history outcome new archive r in
+    record { outcome = outcome; step = step; leads = keeps_standing s outcome.next.history old new standing keeps; ends = subst E (sym told) (each_kept s old new standing keeps) }
+carried s command Faulted result old new archive standing range (inl keeps) told =
+    let (outcome, step) = each_outcome (world_of s.history) (items.Command command) standing.legal in
+    let E : Result Note FillError → Type 0 = λ r. EndsIn s.history outcome new archive r in
+    record { outcome = outcome; step = step; leads = keeps_standing s outcome.next.history old new standing keeps; ends = subst E (sym told) tt }
+carried s command Faulted result old new archive standing range (inr (reply, next, comes)) told =
+    let went = step_standing s (items.Command command) reply next standing range comes.step in
+    let outcome : Outcome Reply World = record { reply = reply; next = world_of next.history } in
+    let E : Result Note FillError → Type 0 = λ r. EndsIn s.history outcome new archive r in
+    record { outcome = outcome; step = went.0; leads = leads_standing s next old new standing went.1 comes.leads; ends = subst E (sym told) tt }
+carried s command (Spoiled damage) result old new archive standing range (keeps, spoils, pages) told = absurd (spoiled_never s (items.Command command) damage standing spoils)
+
+pub carries_out : (h : History) (command : Command) (ending : Ending) (result : Result Note FillError) (old new : DiskState) (before after : ArchiveState) → (in_step : AreInStep old before h)
+    → HasDocument (items.Command command) → TakesBy in_step.store (items.Command command) ending old new after → Tells ending result → CarriesOut h command result old new after
+carries_out h command ending result old new before after in_step range takes told =
+    subst (λ (x : History). CarriesOut x command result old new after) in_step.history_is (carried in_step.store command ending result old new after (in_step_standing old before h in_step) range takes told)

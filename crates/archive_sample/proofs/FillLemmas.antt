@@ -23,14 +23,13 @@ use Rattle.archive_state.proofs.OutcomeLemmas.{run_on, step_legal}
 use Rattle.archive_replies.specs.Tallies.{tally_of}
 use Rattle.archive_replies.specs.declared.tally.Tally.{Tally}
 use Rattle.archive_core.specs.States.{ArchiveState, AreInStep}
-use Rattle.archive_core.specs.Changing.{LeadsTo}
-use Rattle.archive_core.proofs.AddLemmas.{in_step_stands}
+use Rattle.archive_core.proofs.StandingLemmas.{in_step_stands}
 use Rattle.archive_sample.specs.declared.error.FillError.{FillError}
 use Rattle.archive_sample.specs.declared.error.FillError.TheVariants as errors
 use Rattle.archive_sample.specs.declared.note.Note.{Note}
 use Rattle.archive_sample.specs.declared.note.Note.TheVariants as notes
 use Rattle.archive_sample.specs.Filling.{EndsFilled, Fills, IsFilled, StandsAmong, replies_of}
-use Rattle.archive_sample.specs.Carrying.{CarriesOut, ComesToCheck, Counts, EndsIn, Goes, IsLast, IsTold, verdict_of}
+use Rattle.archive_sample.specs.Carrying.{CarriesOut, ComesToCheck, Counts, EndsIn, Goes, IsLast, IsTold, LeadsTo, verdict_of}
 
 -- what holds of the last state holds of one of the run's
 at_last : (P : World → Type 0) (w : World) (outcomes : List (Outcome Reply World)) → P (last_state w outcomes) → (j : ℕ) × (j ≤ length outcomes) × P (state_after w outcomes j)

@@ -1,5 +1,6 @@
 -- A sample while it is carried out: one command, and those so far.
 use Rattle.std.specs.Prelude.{◌≡◌, ◌⊎◌, List, [], ◌∷◌, ◌++◌, length, map, Option, Some, None, Result, Ok, Err, IsSome}
+use Rattle.machine_model.specs.Moments.{GoesOn, LeavesOnly}
 use Rattle.machine_model.specs.States.{DiskState}
 use Rattle.commands.specs.declared.command.Command.{Command}
 use Rattle.commands.specs.declared.command.Command.TheVariants as plain
@@ -9,12 +10,11 @@ use Rattle.archive_state.specs.Histories.{History}
 use Rattle.archive_state.specs.Steps.{Reply, Accepted, Refused, Found, Spanned, Version, Proposed, Planned, Verified, Step}
 use Rattle.archive_state.specs.Runs.{Outcome, IsRun}
 use Rattle.archive_state.specs.Standing.{last_state}
-use Rattle.archive_state.specs.Stands.{EachStands}
+use Rattle.archive_state.specs.Stands.{EachStands, Stands}
 use Rattle.archive_state.specs.Worlds.{World, world_of}
 use Rattle.archive_replies.specs.Tallies.{tally_of}
 use Rattle.archive_replies.specs.declared.tally.Tally.{Tally}
 use Rattle.archive_core.specs.States.{ArchiveState, AreInStep}
-use Rattle.archive_core.specs.Changing.{LeadsTo}
 use Rattle.archive_core.specs.Takes.{Ending, Replied, Starved, Faulted, Spoiled}
 use Rattle.archive_sample.specs.declared.error.FillError.{FillError}
 use Rattle.archive_sample.specs.declared.error.FillError.TheVariants as errors
@@ -46,6 +46,11 @@ Tells (Replied reply) result = IsTold reply result
 Tells Starved result = result ≡ Err errors.Memory
 Tells Faulted result = result ≡ Err errors.Failed
 Tells (Spoiled damage) result = result ≡ Err (errors.Damaged damage)
+
+-- each image left since stands for the history before or the one after; what stands beside it is as it was
+pub record LeadsTo (before after : History) (old new : DiskState) : Type 0 where
+  pub goes_on : GoesOn old new
+  pub images : LeavesOnly old new (λ image beside. (Stands before image ⊎ Stands after image) × (beside ≡ old.now.beside))
 
 -- Where there is a note it is that of the outcome's reply, and the archive stands for the history after the outcome; where memory ran out, each
 -- image stands for the history before it. Nothing is damaged.

@@ -1,7 +1,9 @@
 //! Carrying out one command of a sample.
 ghost use Rattle.std.specs.Prelude.{◌≡◌, IfOk, OnOk, IsErrOf, IsSome, IsTrue};
 ghost use Rattle.machine_model.specs.Causes.{Rose};
+ghost use Rattle.commands.specs.Documents.{HasDocument};
 ghost use Rattle.commands.specs.declared.command.Command.TheVariants as plain;
+ghost use Rattle.commands.specs.declared.command.Item.TheVariants as items;
 ghost use Rattle.sample_commands.specs.Laws.{MayBeSampled};
 ghost use Rattle.archive_state.specs.Histories.{History};
 ghost use Rattle.archive_core.specs.States.{AreInStep, Reaches};
@@ -29,7 +31,7 @@ pub(crate) fn carry_out<D: Disk>(
     ensures live { OnOk result (IsTrue archive.new.live) }
     ensures within { OnOk result (Reaches (D.disk disk.new).reach archive.new) }
     ensures checked { command ≡ plain.Verify → IfOk result (λ note. IsSome (verdict_of note)) }
-    ensures outcome { D.disk_tells → (h : History) → AreInStep (D.disk disk.old) archive.old h →
+    ensures outcome { D.disk_tells → (h : History) → AreInStep (D.disk disk.old) archive.old h → HasDocument (items.Command command) →
         CarriesOut h command result (D.disk disk.old) (D.disk disk.new) archive.new }
 {
     match command {

@@ -4,14 +4,14 @@ use Rattle.std.proofs.lemmas.List.{append-nil, length-append}
 use Rattle.machine_model.specs.Pushes.{IsSameBeside}
 use Rattle.machine_model.specs.States.{SourceState, SinkState, DiskState, MachineState}
 use Rattle.commands.specs.declared.command.Item.{Item}
-use Rattle.script_read.specs.Items.{first, IsBrokenAt, IsNoPiece, IsScript, Splits}
-use Rattle.script_read.specs.Reading.{ReaderState, Finds, Reads, fresh, given}
-use Rattle.script_read.specs.declared.first.First.TheVariants.{More}
+use Rattle.script_items.specs.Items.{Begins, IsBrokenAt, IsScript, Splits}
+use Rattle.script_items.specs.Reading.{ReaderState, Finds, Reads, fresh, given, taken}
+use Rattle.script_read.specs.declared.first.First.TheVariants.{End, More}
 use Rattle.script_read.specs.declared.error.ScriptError.{ScriptError}
 use Rattle.script_read.specs.declared.error.ScriptError.TheVariants as errors
-use Rattle.script_read.proofs.Joins.{items-join}
-use Rattle.script_read.proofs.RunLemmas.{read_so_far, reads_start, reads_on, reads_end}
-use Rattle.script_read.proofs.Splitting.{broken_once, each_splits, end-is, more-open, not_broken, script_unbroken, script_whole}
+use Rattle.script_items.proofs.Joins.{items-join}
+use Rattle.script_items.proofs.RunLemmas.{read_so_far, reads_start, reads_on, reads_end}
+use Rattle.script_items.proofs.Splitting.{broken_once, each_splits, end-is, more-open, not_broken, script_unbroken, script_whole}
 use Rattle.sublist_store.specs.declared.why.Damage.{Damage}
 use Rattle.archive_state.specs.Standing.{last_state}
 use Rattle.archive_state.proofs.RunLemmas.{last_state_joins, runs_join}
@@ -30,7 +30,7 @@ use Rattle.archive_shell.specs.declared.status.Status.TheVariants.{Done, Usage, 
 -- ---- calls of the reader
 
 -- nothing was pulled by a reader that has taken nothing
-pub first_reads : fresh.ended ≡ true → ⊥
+pub first_reads : fresh.parts.ended ≡ true → ⊥
 first_reads is = cc
 
 abbrev pub pulling_first : (began now : SourceState) → now ≡ began → Pulling began now fresh
@@ -90,8 +90,8 @@ stops_early status (stops.Damaged damage) is = inr (inr (inr (damage, is)))
 -- what a status says of the input
 abbrev Tells : Status → Bool → List ℕ → List ℕ → Type 0
 Tells Done ended pulled rest = (ended ≡ true) × (rest ≡ [])
-Tells Source ended pulled rest = (first ended rest ≡ More) × (ended ≡ false) × (length pulled < 2 ^ 40)
-Tells Budget ended pulled rest = (first ended rest ≡ More) × (ended ≡ false) × (length pulled ≡ 2 ^ 40)
+Tells Source ended pulled rest = Begins ended rest More × (ended ≡ false) × (length pulled < 2 ^ 40)
+Tells Budget ended pulled rest = Begins ended rest More × (ended ≡ false) × (length pulled ≡ 2 ^ 40)
 Tells (Script at) ended pulled rest = IsBrokenAt ended pulled at
 Tells status ended pulled rest = Unit {0}
 
@@ -125,17 +125,17 @@ pub record EndsBehind (status : Status) (old new : SourceState) (items : List It
 
 pub early_behind : (status : Status) (old new : SourceState) (held : ReaderState) → EndsEarly status → (p : Pulling old new held) → EndsBehind status old new p.items
 early_behind status old new held early p =
-    let behind = each_splits held.ended p.since in
+    let behind = each_splits held.parts.ended p.since in
     record {
-      ends = record { pulled = p.pulled; pulled_are = p.pulled_are; ended = held.ended; ended_is = p.told; rest = behind.1; input_at = input_early status held.ended p.pulled behind.1 early };
+      ends = record { pulled = p.pulled; pulled_are = p.pulled_are; ended = held.parts.ended; ended_is = p.told; rest = behind.1; input_at = input_early status held.parts.ended p.pulled behind.1 early };
       behind = behind.0;
-      split = (items-join held.ended p.pulled p.since behind.1 p.items behind.0 (read_so_far p.reads) behind.2.0, behind.2.1);
+      split = (items-join held.parts.ended p.pulled p.since behind.1 p.items behind.0 (read_so_far p.reads) behind.2.0, behind.2.1);
       none = λ all. absurd (not_early status early all);
     }
 
-whole_behind : (status : Status) (old new : SourceState) (held : ReaderState) (p : Pulling old new held) → Splits held.ended p.pulled p.items p.since → InputAt status held.ended p.pulled p.since → EndsBehind status old new p.items
+whole_behind : (status : Status) (old new : SourceState) (held : ReaderState) (p : Pulling old new held) → Splits held.parts.ended p.pulled p.items p.since → InputAt status held.parts.ended p.pulled p.since → EndsBehind status old new p.items
 whole_behind status old new held p split input_at = record {
-  ends = record { pulled = p.pulled; pulled_are = p.pulled_are; ended = held.ended; ended_is = p.told; rest = p.since; input_at = input_at };
+  ends = record { pulled = p.pulled; pulled_are = p.pulled_are; ended = held.parts.ended; ended_is = p.told; rest = p.since; input_at = input_at };
   behind = [];
   split = rw append-nil split;
   none = λ all. refl;
@@ -145,23 +145,23 @@ whole_behind status old new held p split input_at = record {
 abbrev pub EndsHere : Status → SourceState → SourceState → List Item → Type 0
 EndsHere status old new items = (CarriesOutAll status ⊎ (status ≡ Memory)) × EndsBehind status old new items
 
-ends_here : (old source : SourceState) (held : ReaderState) (p : Pulling old source held) (answer : Result (Option Item) ScriptError) → Finds answer held.passed (length p.since) (first held.ended p.since)
+ends_here : (old source : SourceState) (held : ReaderState) (p : Pulling old source held) (answer : Result (Option Item) ScriptError) → Finds answer held.parts.ended (taken held) p.since
     → IfErr (next_by answer) (λ status. EndsHere status old source p.items)
 ends_here old source held p (Ok (Some item)) finds = tt
 ends_here old source held p (Ok None) finds =
-    let none = end-is held.ended p.since finds in
+    let none = end-is held.parts.ended p.since finds in
     let script = reads_end p.pulled p.items p.since held (Ok None) p.reads finds in
-    (inl tt, whole_behind Done old source held p (read_so_far p.reads, subst IsNoPiece (sym finds) tt) (input_by Done held.ended p.pulled p.since none (λ at broken. absurd (script_unbroken p.pulled at (p.items, script.1) (rw none.0 at broken)))))
+    (inl tt, whole_behind Done old source held p (read_so_far p.reads, End, finds) (input_by Done held.parts.ended p.pulled p.since none (λ at broken. absurd (script_unbroken p.pulled at (p.items, script.1) (rw none.0 at broken)))))
 ends_here old source held p (Err (errors.Broken at)) finds =
     let ends = reads_end p.pulled p.items p.since held (Err (errors.Broken at)) p.reads finds in
-    (inl tt, whole_behind (Script at) old source held p ends.0 (input_by (Script at) held.ended p.pulled p.since ends.1 (λ place other. inl (ap Script (broken_once held.ended p.pulled at place ends.1 other)))))
+    (inl tt, whole_behind (Script at) old source held p ends.0 (input_by (Script at) held.parts.ended p.pulled p.since ends.1 (λ place other. inl (ap Script (broken_once held.parts.ended p.pulled at place ends.1 other)))))
 ends_here old source held p (Err errors.Budget) finds =
     let ends = reads_end p.pulled p.items p.since held (Err errors.Budget) p.reads finds in
-    (inl tt, whole_behind Budget old source held p ends.0 (input_by Budget held.ended p.pulled p.since (ends.1, more-open held.ended p.since ends.1, ends.2) (λ at broken. absurd (not_broken held.ended p.pulled p.items p.since ends.0 ends.1 at broken))))
+    (inl tt, whole_behind Budget old source held p ends.0 (input_by Budget held.parts.ended p.pulled p.since (ends.1, more-open held.parts.ended p.since ends.1, ends.2) (λ at broken. absurd (not_broken held.parts.ended p.pulled p.items p.since ends.0 ends.1 at broken))))
 ends_here old source held p (Err errors.Failed) finds =
     let ends = reads_end p.pulled p.items p.since held (Err errors.Failed) p.reads finds in
     let few : length p.pulled < 2 ^ 40 = omega (arith, p.reads.before, finds.1) in
-    (inl tt, whole_behind Source old source held p ends.0 (input_by Source held.ended p.pulled p.since (ends.1, more-open held.ended p.since ends.1, few) (λ at broken. absurd (not_broken held.ended p.pulled p.items p.since ends.0 ends.1 at broken))))
+    (inl tt, whole_behind Source old source held p ends.0 (input_by Source held.parts.ended p.pulled p.since (ends.1, more-open held.parts.ended p.since ends.1, few) (λ at broken. absurd (not_broken held.parts.ended p.pulled p.items p.since ends.0 ends.1 at broken))))
 ends_here old source held p (Err errors.Memory) finds = (inr refl, early_behind Memory old source held (inr (inr (inl refl))) p)
 
 pub ends_by : (old now source : SourceState) (held held_now : ReaderState) (status : Status) (pulling : Pulling old now held) → Gives held held_now pulling.since (Err status) now source → EndsHere status old source pulling.items
@@ -245,15 +245,15 @@ pulled_one old now source held held_now item p gives = (pulling_next old now sou
 -- items that were given out are the first of those of the bytes pulled
 pub are_pulled : (old new : SourceState) (held : ReaderState) (items : List Item) → (q : Pulling old new held) → q.items ≡ items → ArePulled old new items
 are_pulled old new held items q same =
-    let behind = each_splits held.ended q.since in
+    let behind = each_splits held.parts.ended q.since in
     record {
       pulled = q.pulled;
       pulled_are = q.pulled_are;
-      ended = held.ended;
+      ended = held.parts.ended;
       ended_is = q.told;
       behind = behind.0;
       rest = behind.1;
-      split = (let S : List Item → Type 0 = λ l. Splits held.ended q.pulled (l ++ behind.0) behind.1 in subst S same (items-join held.ended q.pulled q.since behind.1 q.items behind.0 (read_so_far q.reads) behind.2.0, behind.2.1));
+      split = (let S : List Item → Type 0 = λ l. Splits held.parts.ended q.pulled (l ++ behind.0) behind.1 in subst S same (items-join held.parts.ended q.pulled q.since behind.1 q.items behind.0 (read_so_far q.reads) behind.2.0, behind.2.1));
     }
 
 -- what an item that was taken came to

@@ -13,10 +13,10 @@ use Rattle.machine_model.proofs.MomentLemmas.{allowed_left, goes_on_same, left_n
 use Rattle.commands.specs.declared.command.Item.{Item}
 use Rattle.page_cache.specs.Caches.{Kept}
 use Rattle.page_store.specs.Live.{AreLive}
-use Rattle.script_read.specs.Items.{Splits, Waits}
-use Rattle.script_read.specs.Reading.{ReaderState, IsAwaited, fresh}
-use Rattle.script_read.proofs.RunLemmas.{pulled_by_then}
-use Rattle.script_read.proofs.Splitting.{never-more}
+use Rattle.script_items.specs.Items.{Splits, Waits}
+use Rattle.script_items.specs.Reading.{ReaderState, IsAwaited, fresh}
+use Rattle.script_items.proofs.RunLemmas.{pulled_by_then}
+use Rattle.script_items.proofs.Splitting.{never-more}
 use Rattle.archive_state.specs.Histories.{History}
 use Rattle.archive_state.specs.Holding.{HoldsPlan}
 use Rattle.archive_state.specs.Plans.{live_extents}
@@ -107,19 +107,19 @@ acknowledged {S} (outcome ∷ reached) behind part short =
 -- ---- pulls
 
 -- pulls of a call: none once the end was told
-pub pulls_in : (held : ReaderState) (since all : List ℕ) (P : List (List ℕ) → Type 0) → ((Waits held.ended since → ⊥) → P [])
+pub pulls_in : (held : ReaderState) (since all : List ℕ) (P : List (List ℕ) → Type 0) → ((Waits held.parts.ended since → ⊥) → P [])
     → ((lefts : List (List ℕ)) × P lefts × All (IsAwaited since all) lefts) → (lefts : List (List ℕ)) × P lefts × AreAwaited held since all lefts
-pulls_in held since all P calm made = go held.ended refl
+pulls_in held since all P calm made = go held.parts.ended refl
   where
-    go : (e : Bool) → held.ended ≡ e → (lefts : List (List ℕ)) × P lefts × AreAwaited held since all lefts
+    go : (e : Bool) → held.parts.ended ≡ e → (lefts : List (List ℕ)) × P lefts × AreAwaited held since all lefts
     go true is =
-        let never : Waits held.ended since → ⊥ = λ waits. (let there = rw is at waits in never-more there.0 there.2) in
-        ([], calm never, All-nil (λ left. IsAwaited since all left × (held.ended ≡ false)))
-    go false is = (made.0, made.1, All-weaker (IsAwaited since all) (λ left. IsAwaited since all left × (held.ended ≡ false)) (λ left one. (one, is)) made.0 made.2)
+        let never : Waits held.parts.ended since → ⊥ = λ waits. (let there = rw is at waits in never-more there.0 there.2) in
+        ([], calm never, All-nil (λ left. IsAwaited since all left × (held.parts.ended ≡ false)))
+    go false is = (made.0, made.1, All-weaker (IsAwaited since all) (λ left. IsAwaited since all left × (held.parts.ended ≡ false)) (λ left one. (one, is)) made.0 made.2)
 
 -- a pull in which nothing waited comes after the replies
 awaited_after_replies : (store : Store) (old now : MachineState) (archive : ArchiveState) (held : ReaderState) (pulls : List Pull) (serving : Serving store old now archive held pulls) (left : List ℕ)
-    → IsAwaited serving.pulling.since now.source.left left × (held.ended ≡ false) → ComesAfterReplies old.source old.sink serving.pulling.items serving.outcomes (record { left = left; shown = now.sink.shown })
+    → IsAwaited serving.pulling.since now.source.left left × (held.parts.ended ≡ false) → ComesAfterReplies old.source old.sink serving.pulling.items serving.outcomes (record { left = left; shown = now.sink.shown })
 awaited_after_replies store old now archive held pulls serving left awaited =
     let p = serving.pulling in
     let there = pulled_by_then p.pulled p.items p.since held now.source.left left p.reads awaited.0 awaited.1 in
@@ -144,7 +144,7 @@ all_pulls store old now archive held before lefts serving awaited =
     let P : Pull → Type 0 = ComesAfterReplies old.source old.sink serving.pulling.items serving.outcomes in
     All-append P before (pulls_beside now.sink.shown lefts) serving.after_replies
     (All-map P (λ left. record { left = left; shown = now.sink.shown }) lefts
-    (All-weaker (λ left. IsAwaited serving.pulling.since now.source.left left × (held.ended ≡ false)) (λ left. P (record { left = left; shown = now.sink.shown }))
+    (All-weaker (λ left. IsAwaited serving.pulling.since now.source.left left × (held.parts.ended ≡ false)) (λ left. P (record { left = left; shown = now.sink.shown }))
     (λ left one. awaited_after_replies store old now archive held before serving left one) lefts awaited))
 
 -- ---- a call of the run

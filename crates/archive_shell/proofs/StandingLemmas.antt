@@ -9,8 +9,8 @@ use Rattle.machine_model.specs.States.{DiskState, MachineState, SinkState, Sourc
 use Rattle.machine_model.proofs.MomentLemmas.{allowed_left}
 use Rattle.commands.specs.Documents.{HasDocument}
 use Rattle.commands.specs.declared.command.Item.{Item}
-use Rattle.script_read.proofs.Ranges.{Items-documents}
-use Rattle.script_read.specs.Items.{Splits}
+use Rattle.script_items.proofs.Ranges.{Items-documents}
+use Rattle.script_items.specs.Items.{Splits}
 use Rattle.archive_state.specs.Histories.{History}
 use Rattle.archive_state.specs.Legal.{IsLegal}
 use Rattle.archive_state.specs.Replies.{reply_text}

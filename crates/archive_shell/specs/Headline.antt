@@ -10,7 +10,7 @@ use Rattle.machine_model.specs.Pushes.{IsPrefix}
 use Rattle.machine_model.specs.States.{DiskState, MachineState, SinkState, SourceState}
 use Rattle.page_store.specs.Live.{AreLive}
 use Rattle.commands.specs.declared.command.Item.{Item}
-use Rattle.script_read.specs.Items.{first, IsScript, Splits, IsBrokenAt}
+use Rattle.script_items.specs.Items.{Begins, IsScript, Splits, IsBrokenAt}
 use Rattle.script_read.specs.declared.first.First.TheVariants.{More}
 use Rattle.gate_journal.specs.Spelled.{Spells}
 use Rattle.archive_state.specs.Histories.{History}
@@ -50,8 +50,8 @@ pub record InputAt (status : Status) (ended : Bool) (pulled rest : List ℕ) : T
   -- the end was told, and nothing is left
   pub done : status ≡ Done → (ended ≡ true) × (rest ≡ [])
   -- no item is whole in what is left, and it isn't broken so far
-  pub source : status ≡ Source → (first ended rest ≡ More) × (ended ≡ false) × (length pulled < 2 ^ 40)
-  pub budget : status ≡ Budget → (first ended rest ≡ More) × (ended ≡ false) × (length pulled ≡ 2 ^ 40)
+  pub source : status ≡ Source → Begins ended rest More × (ended ≡ false) × (length pulled < 2 ^ 40)
+  pub budget : status ≡ Budget → Begins ended rest More × (ended ≡ false) × (length pulled ≡ 2 ^ 40)
   -- the script is broken there; and where it is broken, this is the status unless another event came first
   pub script : (at : ℕ) → status ≡ Script at → IsBrokenAt ended pulled at
   pub broken : (at : ℕ) → IsBrokenAt ended pulled at → (status ≡ Script at) ⊎ EndsEarly status

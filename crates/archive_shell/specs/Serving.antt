@@ -3,7 +3,7 @@ use Rattle.std.specs.Prelude.{◌≡◌, ◌<◌, ℕ, true, false, List, [], �
 use Rattle.machine_model.specs.Pulls.{Pull}
 use Rattle.machine_model.specs.States.{DiskState, SourceState, MachineState}
 use Rattle.commands.specs.declared.command.Item.{Item}
-use Rattle.script_read.specs.Reading.{ReaderState, IsAwaited, IsCalm, Says, Reads}
+use Rattle.script_items.specs.Reading.{ReaderState, IsAwaited, IsCalm, Says, Reads}
 use Rattle.script_read.specs.declared.error.ScriptError.{ScriptError}
 use Rattle.archive_state.specs.Steps.{Reply}
 use Rattle.archive_state.specs.Replies.{reply_text}
@@ -21,7 +21,7 @@ use Rattle.archive_shell.specs.Statuses.{status_of_script}
 pub record Pulling (old now : SourceState) (held : ReaderState) : Type 0 where
   pub pulled : List ℕ
   pub pulled_are : old.left ≡ pulled ++ now.left
-  pub told : held.ended ≡ true → now.left ≡ []
+  pub told : held.parts.ended ≡ true → now.left ≡ []
   pub items : List Item
   pub since : List ℕ
   pub reads : Reads pulled items since held
@@ -39,12 +39,12 @@ pub record Gives (held held_now : ReaderState) (since : List ℕ) (next : Result
   pub more : List ℕ
   pub gave : before.left ≡ more ++ after.left
   pub calm : IsCalm since held more held_now
-  pub says : Says held.passed (since ++ more) answer held_now
-  pub told : held_now.ended ≡ true → after.left ≡ []
+  pub says : Says held since more answer held_now
+  pub told : held_now.parts.ended ≡ true → after.left ≡ []
 
 -- What was left before each pull of a call: nothing waited, and the end was not told.
 abbrev pub AreAwaited : ReaderState → List ℕ → List ℕ → List (List ℕ) → Type 0
-AreAwaited held since all lefts = All (λ left. IsAwaited since all left × (held.ended ≡ false)) lefts
+AreAwaited held since all lefts = All (λ left. IsAwaited since all left × (held.parts.ended ≡ false)) lefts
 
 -- The pulls of a machine that shows this, where this was left before each.
 abbrev pub pulls_beside : List ℕ → List (List ℕ) → List Pull

@@ -1,9 +1,9 @@
 //! What a run works with.
 ghost use Rattle.std.specs.Prelude.{◌≡◌, IfOk};
-ghost use Rattle.script_read.specs.Reading.{fresh};
+ghost use Rattle.script_items.specs.Reading.{fresh};
 
 use archive_replies::ReplyPage;
-use script_read::Reader;
+use script_items::Reader;
 use std::alloc::{AllocError, Global};
 
 /// The reader of the script and the page for the replies, whose memory is taken before anything else.

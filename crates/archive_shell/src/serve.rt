@@ -15,7 +15,7 @@ use archive_core::Archive;
 use archive_replies::ReplyPage;
 use commands::Item;
 use machine_model::Machine;
-use script_read::Reader;
+use script_items::Reader;
 use std::alloc::Global;
 use sublist_store::Damage;
 
@@ -31,8 +31,8 @@ fn next_item<M: Machine>(
     ensures cause { IfErr result (λ status. MayEnd status (state_by M.source M.sink M.disk machine.old)
         (state_by M.source M.sink M.disk machine.new)) }
     ensures undamaged { (d : Damage) → IsErrOf result (Status.Damaged d) → ⊥ }
-    ensures nearer { OnOk result (reader.old.passed < reader.new.passed) }
-    ensures bound { reader.new.passed ≤ 2 ^ 40 }
+    ensures nearer { OnOk result (reader.old.parts.passed < reader.new.parts.passed) }
+    ensures bound { reader.new.parts.passed ≤ 2 ^ 40 }
     ensures asked { M.source_tells → (began : SourceState) → (p : Pulling began (M.source machine.old) reader.old) → (lefts : List (List ℕ)) ×
         M.asked machine.old (pulls_beside (M.sink machine.new).shown lefts) machine.new × AreAwaited reader.old p.since (M.source machine.old).left lefts }
     ensures gives { M.source_tells → (began : SourceState) → (p : Pulling began (M.source machine.old) reader.old) →
@@ -62,8 +62,8 @@ pub(crate) fn step<M: Machine>(
     ensures cause { IfErr result (λ status. MayEnd status (state_by M.source M.sink M.disk machine.old)
         (state_by M.source M.sink M.disk machine.new)) }
     ensures left { OnOk result (IsLeft M.disk_tells (M.disk machine.old) (M.disk machine.new) archive.old archive.new) }
-    ensures nearer { OnOk result (reader.old.passed < reader.new.passed) }
-    ensures bound { reader.new.passed ≤ 2 ^ 40 }
+    ensures nearer { OnOk result (reader.old.parts.passed < reader.new.parts.passed) }
+    ensures bound { reader.new.parts.passed ≤ 2 ^ 40 }
     ensures pulls { M.source_tells → (began : SourceState) → Pulling began (M.source machine.old) reader.old →
         MatchResult result (λ _. Pulling began (M.source machine.new) reader.new) (λ status. Ends status began (M.source machine.new)) }
     ensures goes_on { M.source_tells → M.sink_tells → M.disk_tells → (s : Store) (began : MachineState) (before : List Pull) →

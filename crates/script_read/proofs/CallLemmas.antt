@@ -2,7 +2,7 @@
 use Rattle.std.specs.Prelude.{◌≡◌, ℕ, ◌+◌, ◌-◌, ◌<◌, ◌≤◌, ◌^◌, Bool, true, false, List, [], ◌∷◌, ◌++◌, length, drop, All, Option, Some, None, Result, Ok, Err, IfErr, option_to_list, is_some, refl}
 use Rattle.std.proofs.Common.{arith, ap, sym, ◌∙◌, subst, append_assoc, append-nil, length-append, length-drop}
 use Rattle.std.proofs.lemmas.List.Elements.{All-append, All-weaker}
-use Rattle.commands.specs.declared.command.Item.{Item}
+use Rattle.script_read.specs.declared.part.Part.{Part}
 use Rattle.script_read.specs.declared.first.First.TheVariants.{Whole, Broken, More, End}
 use Rattle.script_read.specs.declared.error.ScriptError.{ScriptError}
 use Rattle.script_read.specs.declared.error.ScriptError.TheVariants as errors
@@ -12,7 +12,7 @@ use Rattle.script_read.proofs.Joins.{items-join, items-append}
 use Rattle.script_read.proofs.ReaderLemmas.{found-is, length-since, stands-more, stands-drop}
 
 -- Of the bytes since the last item and those pulled since, these items were taken, with lines that are skipped.
-pub record Goes (Tells : Type 0) (before after : List ℕ) (old new : ReaderState) (since : List ℕ) (items : List Item) : Type 0 where
+pub record Goes (Tells : Type 0) (before after : List ℕ) (old new : ReaderState) (since : List ℕ) (items : List Part) : Type 0 where
   pub pulled : List ℕ
   pub gave : Tells → before ≡ pulled ++ after
   pub rest : List ℕ
@@ -33,7 +33,7 @@ goes-start Tells left old since stands = record {
 }
 
 -- what is held is seen in another way, as where a part of a text is let go
-pub goes-front : (Tells : Type 0) (before after : List ℕ) (old new next : ReaderState) (since : List ℕ) (items : List Item) → Goes Tells before after old new since items
+pub goes-front : (Tells : Type 0) (before after : List ℕ) (old new next : ReaderState) (since : List ℕ) (items : List Part) → Goes Tells before after old new since items
     → ((since : List ℕ) → StandsFor new since → StandsFor next since) → next.passed ≡ new.passed → next.ended ≡ new.ended → Goes Tells before after old next since items
 goes-front Tells before after old new next since items g stands passed ended = record {
   pulled = g.pulled;
@@ -46,7 +46,7 @@ goes-front Tells before after old new next since items g stands passed ended = r
 }
 
 -- a piece is taken
-pub goes-piece : (Tells : Type 0) (before after : List ℕ) (old new next : ReaderState) (since : List ℕ) (p : Option Item) (n : ℕ) → Goes Tells before after old new since []
+pub goes-piece : (Tells : Type 0) (before after : List ℕ) (old new next : ReaderState) (since : List ℕ) (p : Option Part) (n : ℕ) → Goes Tells before after old new since []
     → Whole p n ≡ found new → gone new.over < n → n ≤ gone new.over + length new.bytes
     → next ≡ record { bytes = drop (n - gone new.over) new.bytes; passed = new.passed + n; ended = new.ended; over = None }
     → Goes Tells before after old next since (option_to_list p)
@@ -61,7 +61,7 @@ goes-piece Tells before after old new next since p n g whole some within is =
       calm = g.calm;
     })
   where
-    one : (p : Option Item) → first new.ended g.rest ≡ Whole p n → Items new.ended g.rest (option_to_list p) (drop n g.rest)
+    one : (p : Option Part) → first new.ended g.rest ≡ Whole p n → Items new.ended g.rest (option_to_list p) (drop n g.rest)
     one None e = record { pieces = None ∷ []; items_are = refl; in_turn = (n, e, refl) }
     one (Some i) e = record { pieces = Some i ∷ []; items_are = refl; in_turn = (n, e, refl) }
 
@@ -104,10 +104,10 @@ awaited-more Tells before after old new since g more going a b earlier now tells
     (All-weaker (λ left. left ≡ after) (IsAwaited since before) (λ left is. awaited-one Tells before after old new since g more going tells left is) b now)
 
 -- What the call says in the end.
-abbrev pub Ends : Type 0 → List ℕ → List ℕ → ReaderState → ReaderState → List ℕ → Result (Option Item) ScriptError → Type 0
+abbrev pub Ends : Type 0 → List ℕ → List ℕ → ReaderState → ReaderState → List ℕ → Result (Option Part) ScriptError → Type 0
 Ends Tells before after old new since result = (pulled : List ℕ) × (Tells → before ≡ pulled ++ after) × IsCalm since old pulled new × Says old.passed (since ++ pulled) result new
 
-pub says-of : (Tells : Type 0) (before after : List ℕ) (old new : ReaderState) (since : List ℕ) (r : Result (Option Item) ScriptError)
+pub says-of : (Tells : Type 0) (before after : List ℕ) (old new : ReaderState) (since : List ℕ) (r : Result (Option Part) ScriptError)
     → (g : Goes Tells before after old new since (given r)) → Finds r new.passed (length g.rest) (first new.ended g.rest) → Ends Tells before after old new since r
 says-of Tells before after old new since r g finds =
     (g.pulled, g.gave, g.calm, record { rest = g.rest; items = g.taken_are; stands = g.stands; place = g.place; finds = finds })
@@ -122,12 +122,12 @@ pub says-broken : (Tells : Type 0) (before after : List ℕ) (old new : ReaderSt
 says-broken Tells before after old new since n at g e place = says-of Tells before after old new since (Err (errors.Broken at)) g (n, found-is new g.rest g.stands ∙ sym e, place)
 
 -- an item is taken, or a line is skipped
-pub says-piece : (Tells : Type 0) (before after : List ℕ) (old new : ReaderState) (since : List ℕ) (p : Option Item) → is_some p ≡ true
+pub says-piece : (Tells : Type 0) (before after : List ℕ) (old new : ReaderState) (since : List ℕ) (p : Option Part) → is_some p ≡ true
     → Goes Tells before after old new since (option_to_list p) → Ends Tells before after old new since (Ok p)
 says-piece Tells before after old new since (Some i) e g = says-of Tells before after old new since (Ok (Some i)) g tt
 says-piece Tells before after old new since None e g = cc
 
-pub goes-skipped : (Tells : Type 0) (before after : List ℕ) (old new : ReaderState) (since : List ℕ) (p : Option Item) → is_some p ≡ false
+pub goes-skipped : (Tells : Type 0) (before after : List ℕ) (old new : ReaderState) (since : List ℕ) (p : Option Part) → is_some p ≡ false
     → Goes Tells before after old new since (option_to_list p) → Goes Tells before after old new since []
 goes-skipped Tells before after old new since None e g = g
 goes-skipped Tells before after old new since (Some i) e g = cc

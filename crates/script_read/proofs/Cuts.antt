@@ -8,8 +8,8 @@ use Rattle.std.proofs.lemmas.List.Folds.{prefix_len-append}
 use Rattle.std.proofs.lemmas.List.Sums.{prefix_len-le-length}
 use Rattle.commands.specs.declared.text.Text.TheVariants.{Bytes, TooLong}
 use Rattle.commands.specs.declared.command.Command.TheVariants.{Arrive}
-use Rattle.commands.specs.declared.command.Item.{Item}
-use Rattle.commands.specs.declared.command.Item.TheVariants.{Command}
+use Rattle.script_read.specs.declared.part.Part.{Part}
+use Rattle.script_read.specs.Parts.{told}
 use Rattle.script_read.specs.declared.line.Meaning.{Meaning}
 use Rattle.script_read.specs.declared.line.Meaning.TheVariants.{Skipped, Alone, Arrival, Faulty}
 use Rattle.script_read.specs.declared.first.First.TheVariants.{Whole, Broken, More}
@@ -18,7 +18,7 @@ use Rattle.script_read.specs.Lines.{meaning}
 use Rattle.script_read.specs.Items.{without_cr, text_at, short, text_end, piece_of, last_piece, open_line, closed_line, from_line, first_by, first, Pieces}
 
 -- a line end that stands stays where it is
-text_end-append : (len len' used : ℕ) (item : Item) (bs x : List ℕ) (e : Bool) → text_end false len used item bs ≢ More
+text_end-append : (len len' used : ℕ) (item : Part) (bs x : List ℕ) (e : Bool) → text_end false len used item bs ≢ More
     → text_end e len' used item (bs ++ x) ≡ text_end false len used item bs
 text_end-append len len' used item [] x e settled = absurd (settled refl)
 text_end-append len len' used item (b ∷ []) x e settled = go x (b == 10) (b == 13) refl refl settled
@@ -41,8 +41,8 @@ piece_of-append (Alone item) used bs x e h settled = refl
 piece_of-append Faulty used bs x e h settled = refl
 piece_of-append (Arrival doc at n) used bs x e h settled = go (nat_lt (length bs) (used + n)) refl settled
   where
-    text : List ℕ → Item
-    text bytes = Command (Arrive doc at (text_at n (drop used bytes)))
+    text : List ℕ → Part
+    text bytes = told (Arrive doc at (text_at n (drop used bytes)))
 
     go : (b : Bool) → nat_lt (length bs) (used + n) ≡ b
         → (if b then More else text_end false (length bs) (used + n) (text bs) (drop (used + n) bs)) ≢ More
@@ -53,7 +53,7 @@ piece_of-append (Arrival doc at n) used bs x e h settled = go (nat_lt (length bs
         let longer : used + n ≤ length (bs ++ x) = omega (arith, length-append bs x) in
         let inside : n ≤ length (drop used bs) = omega (arith, length-drop used bs) in
         let front : take n (drop used (bs ++ x)) ≡ take n (drop used bs) = ap (take n) (drop-append-le used bs x h) ∙ take-append-le n (drop used bs) x inside in
-        let same : text (bs ++ x) ≡ text bs = ap (λ t. Command (Arrive doc at (if nat_lt 4194304 n then TooLong n else Bytes t))) front in
+        let same : text (bs ++ x) ≡ text bs = ap (λ t. told (Arrive doc at (if nat_lt 4194304 n then TooLong n else Bytes t))) front in
         rw (le-ltb (length (bs ++ x)) (used + n) longer, drop-append-le (used + n) bs x enough, same)
         (text_end-append (length bs) (length (bs ++ x)) (used + n) (text bs) (drop (used + n) bs) x e s)
 
@@ -160,7 +160,7 @@ first_by-append say e bs x settled = go (nat_lt n (length bs)) refl
         ∙ sym is
     go false h = long (nat_lt 4096 (length (without_cr bs))) refl (ltb-false _ _ h)
 
-pub text_end-within : (least : ℕ) (e : Bool) (len used : ℕ) (item : Item) (bs : List ℕ) → least ≤ used → used + length bs ≡ len
+pub text_end-within : (least : ℕ) (e : Bool) (len used : ℕ) (item : Part) (bs : List ℕ) → least ≤ used → used + length bs ≡ len
     → IsWithin least len (text_end e len used item bs)
 text_end-within least true len used item [] l h = omega arith
 text_end-within least false len used item [] l h = tt
@@ -184,8 +184,8 @@ piece_of-within e (Alone item) used bs o h = (o, h)
 piece_of-within e Faulty used bs o h = omega arith
 piece_of-within e (Arrival doc at n) used bs o h = go e (nat_lt (length bs) (used + n)) refl
   where
-    item : Item
-    item = Command (Arrive doc at (text_at n (drop used bs)))
+    item : Part
+    item = told (Arrive doc at (text_at n (drop used bs)))
 
     go : (e b : Bool) → nat_lt (length bs) (used + n) ≡ b → IsWithin 0 (length bs) (if b then short e (length bs) else text_end e (length bs) (used + n) item (drop (used + n) bs))
     go true true k = omega arith
@@ -227,7 +227,7 @@ first_by-within say e bs = go (nat_lt n (length bs)) refl
     go false h = unended e bs
 
 -- the pieces of bytes are pieces of any longer ones
-pub pieces-append : (e : Bool) (bs x rest : List ℕ) (pieces : List (Option Item)) → Pieces false bs pieces rest → Pieces e (bs ++ x) pieces (rest ++ x)
+pub pieces-append : (e : Bool) (bs x rest : List ℕ) (pieces : List (Option Part)) → Pieces false bs pieces rest → Pieces e (bs ++ x) pieces (rest ++ x)
 pieces-append e bs x rest [] p = ap (λ l. l ++ x) p
 pieces-append e bs x rest (piece ∷ pieces) (n, whole, p) = (
   n,

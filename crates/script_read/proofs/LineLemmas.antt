@@ -89,4 +89,4 @@ asks_small n bytes m None place lt short says is = tt
 asks_small n bytes m (Some over) place lt short says is =
     let near : n < 4098 = omega (arith, length-take n bytes, (without_cr-length (take n bytes)).0) in
     let fits = subst IsFit (sym says ∙ is.0) (meaning-fits (without_cr (take n bytes))) in
-    (omega (arith, is.3), fits.1, omega (arith, is.2, near))
+    (omega (arith, is.3), fits.1, omega (arith, is.2, near), fits.0)

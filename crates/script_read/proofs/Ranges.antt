@@ -1,15 +1,20 @@
 -- What lines name is in range.
 use Rattle.std.specs.Prelude.{◌≡◌, ℕ, ◌+◌, ◌<◌, ◌^◌, Bool, true, false, nat_lt, ◌&&◌, ◌==◌, not, if◌then◌else◌, List, [], ◌∷◌, length, take, drop, filter_map, Option, Some, None, IfSome, option_map, bytes_eq, codes, All, refl}
 use Rattle.std.specs.List.{position_or_len}
-use Rattle.std.proofs.Common.{subst, ltb-true}
+use Rattle.std.proofs.Common.{◌≤◌, ◌-◌, arith, length-take, ltb-true, subst, sym}
+use Rattle.std.proofs.lemmas.Bool.Decides.{nat_tests}
 use Rattle.std.proofs.lemmas.List.Elements.{All-nil, All-cons}
 use Rattle.time_base.specs.declared.ids.DocId.{DocId}
 use Rattle.time_base.specs.declared.time.Time.{Time}
 use Rattle.commands.specs.declared.command.Command.{Command}
 use Rattle.commands.specs.declared.command.Command.TheVariants.{Arrive, Delete, Plan, Begin, Format, Propose, Find, Between, Show, Certificate, Verify, Top, Best, Approx, Rough, Share}
-use Rattle.commands.specs.declared.command.Item.{Item}
-use Rattle.commands.specs.declared.command.Item.TheVariants as item
-use Rattle.commands.specs.Documents.{HasDocument}
+use Rattle.commands.specs.declared.command.Item.TheVariants as items
+use Rattle.commands.specs.declared.text.Text.TheVariants.{Bytes, TooLong}
+use Rattle.commands.specs.Batches.{text_bytes}
+use Rattle.script_read.specs.declared.part.Part.{Part}
+use Rattle.script_read.specs.declared.part.Part.TheVariants as parts
+use Rattle.script_read.specs.declared.passing.Over.{Over}
+use Rattle.script_read.specs.Parts.{told, no_command, IsPartInRange}
 use Rattle.script_read.specs.declared.line.Meaning.{Meaning}
 use Rattle.script_read.specs.declared.line.Meaning.TheVariants.{Skipped, Alone, Arrival, Faulty}
 use Rattle.script_read.specs.declared.first.First.{First}
@@ -18,7 +23,8 @@ use Rattle.script_read.specs.Words.{word, after_word, is_blank, phrase}
 use Rattle.script_read.specs.Numbers.{value_of, are_digits, number}
 use Rattle.script_read.specs.Values.{document, time, text, fraction, tolerance, top_count, best_count, share_fraction, share_words, or_else, both, all_three, only_if}
 use Rattle.script_read.specs.Items.{text_at, without_cr, short, text_end, piece_of, last_piece, open_line, closed_line, first, Pieces, Items}
-use Rattle.script_read.specs.Lines.{kind, window, version, planning, beginning, formatting, proposing, finding, spanning, certifying, verifying, top_rows, best_rows, approximating, rough_rows, sharing, change, question, report, command, arrival_by, arrival, alone, is_skipped, meaning}
+use Rattle.script_read.specs.Reading.{ReaderState, IsSmall, passed_item, long_piece, found_by, found}
+use Rattle.script_read.specs.Lines.{kind, window, version, planning, beginning, formatting, proposing, finding, spanning, certifying, verifying, top_rows, best_rows, approximating, rough_rows, sharing, change, question, report, command, arrival_by, arrival, alone, batch_of, batch_by, batch, is_skipped, meaning}
 
 number-below : (limit : ℕ) (word : List ℕ) → IfSome (number limit word) (λ n. n < limit)
 number-below limit word = go (are_digits word) (nat_lt (value_of word) limit) refl
@@ -41,7 +47,7 @@ document-below word = go (number (2 ^ 32) word) (number-below (2 ^ 32) word)
 -- what a line says names a document below 2^32 and a text of fewer than 2^40 bytes
 abbrev pub IsFit : Meaning → Type 0
 IsFit Skipped = Unit {0}
-IsFit (Alone item) = HasDocument item
+IsFit (Alone item) = IsPartInRange item
 IsFit (Arrival doc at n) = (doc.0 < 2 ^ 32) × (n < 2 ^ 40)
 IsFit Faulty = Unit {0}
 
@@ -62,12 +68,12 @@ arrival-fits words = go (document (word words)) (time (word more)) (number (2 ^ 
     go None t s b h k = tt
 
 -- the meaning of any line fits: arrivals by their own lemma, the others where their commands do
-commands-fit : (o : Option Command) → IfSome o (λ c. HasDocument (item.Command c)) → IsFit (alone o)
-commands-fit (Some c) h = h
-commands-fit None h = tt
-
 abbrev Fits : Command → Type 0
-Fits c = HasDocument (item.Command c)
+Fits c = IsPartInRange (told c)
+
+commands-fit : (o : Option Command) → IfSome o Fits → IsFit (alone o)
+commands-fit (Some c) h = h
+commands-fit None h = (tt, tt)
 
 or-fits : (a b : Option Command) → IfSome a Fits → IfSome b Fits → IfSome (or_else a b) Fits
 or-fits (Some a) b h k = h
@@ -110,73 +116,73 @@ version-fits f holds words = go (is_blank (after_word (after_word words))) (docu
 finding-fits : (words : List ℕ) → IfSome (finding words) Fits
 finding-fits words =
     only-fits (not (is_blank (after_word words))) (both Find (time (word words)) (text (phrase (after_word words))))
-    (both-fit Find (time (word words)) (text (phrase (after_word words))) (λ t e. tt))
+    (both-fit Find (time (word words)) (text (phrase (after_word words))) (λ t e. (tt, tt)))
 
 spanning-fits : (words : List ℕ) → IfSome (spanning words) Fits
 spanning-fits words =
     let span = window (word words) (word (after_word words)) in
     let expr = text (phrase (after_word (after_word words))) in
-    only-fits (not (is_blank (after_word (after_word words)))) (both Between span expr) (both-fit Between span expr (λ s e. tt))
+    only-fits (not (is_blank (after_word (after_word words)))) (both Between span expr) (both-fit Between span expr (λ s e. (tt, tt)))
 
 beginning-fits : (words : List ℕ) → IfSome (beginning words) Fits
 beginning-fits words =
     let bound = after_word (after_word words) in
     let goes = bytes_eq (word (after_word words)) (codes "guarantee") && is_blank (after_word bound) in
-    only-fits goes (both Begin (text (word words)) (fraction (word bound))) (both-fit Begin (text (word words)) (fraction (word bound)) (λ w f. tt))
+    only-fits goes (both Begin (text (word words)) (fraction (word bound))) (both-fit Begin (text (word words)) (fraction (word bound)) (λ w f. (tt, tt)))
 
 formatting-fits : (words : List ℕ) → IfSome (formatting words) Fits
-formatting-fits words = let fits : Fits Format = tt in only-fits (bytes_eq (word words) (codes "2") && is_blank (after_word words)) (Some Format) fits
+formatting-fits words = let fits : Fits Format = (tt, tt) in only-fits (bytes_eq (word words) (codes "2") && is_blank (after_word words)) (Some Format) fits
 
 proposing-fits : (words : List ℕ) → IfSome (proposing words) Fits
 proposing-fits words =
     let bound = after_word (after_word words) in
     let goes = bytes_eq (word (after_word words)) (codes "guarantee") && is_blank (after_word bound) in
-    only-fits goes (both Propose (text (word words)) (fraction (word bound))) (both-fit Propose (text (word words)) (fraction (word bound)) (λ w f. tt))
+    only-fits goes (both Propose (text (word words)) (fraction (word bound))) (both-fit Propose (text (word words)) (fraction (word bound)) (λ w f. (tt, tt)))
 
 certifying-fits : (words : List ℕ) → IfSome (certifying words) Fits
 certifying-fits words =
-    only-fits (not (is_blank words) && is_blank (after_word words)) (option_map Certificate (text (word words))) (map-fits Certificate (text (word words)) (λ w. tt))
+    only-fits (not (is_blank words) && is_blank (after_word words)) (option_map Certificate (text (word words))) (map-fits Certificate (text (word words)) (λ w. (tt, tt)))
 
 planning-fits : (words : List ℕ) → IfSome (planning words) Fits
 planning-fits words =
     let bound = after_word (after_word words) in
-    three-fit Plan (text (word words)) (kind (word (after_word words)) (after_word bound)) (fraction (word bound)) (λ w k f. tt)
+    three-fit Plan (text (word words)) (kind (word (after_word words)) (after_word bound)) (fraction (word bound)) (λ w k f. (tt, tt))
 
 verifying-fits : (words : List ℕ) → IfSome (verifying words) Fits
-verifying-fits words = let fits : Fits Verify = tt in only-fits (is_blank words) (Some Verify) fits
+verifying-fits words = let fits : Fits Verify = (tt, tt) in only-fits (is_blank words) (Some Verify) fits
 
 top_rows-fits : (words : List ℕ) → IfSome (top_rows words) Fits
 top_rows-fits words =
     let second = after_word words in
     let more = after_word second in
     only-fits (not (is_blank more)) (all_three Top (top_count (word words)) (time (word second)) (text (phrase more)))
-    (three-fit Top (top_count (word words)) (time (word second)) (text (phrase more)) (λ k t e. tt))
+    (three-fit Top (top_count (word words)) (time (word second)) (text (phrase more)) (λ k t e. (tt, tt)))
 
 best_rows-fits : (words : List ℕ) → IfSome (best_rows words) Fits
 best_rows-fits words =
     let second = after_word words in
     let more = after_word second in
     only-fits (not (is_blank more)) (all_three Best (best_count (word words)) (time (word second)) (text (phrase more)))
-    (three-fit Best (best_count (word words)) (time (word second)) (text (phrase more)) (λ k t e. tt))
+    (three-fit Best (best_count (word words)) (time (word second)) (text (phrase more)) (λ k t e. (tt, tt)))
 
 approximating-fits : (words : List ℕ) → IfSome (approximating words) Fits
 approximating-fits words =
     let bound = after_word words in
-    only-fits (is_blank (after_word bound)) (both Approx (text (word words)) (tolerance (word bound))) (both-fit Approx (text (word words)) (tolerance (word bound)) (λ w t. tt))
+    only-fits (is_blank (after_word bound)) (both Approx (text (word words)) (tolerance (word bound))) (both-fit Approx (text (word words)) (tolerance (word bound)) (λ w t. (tt, tt)))
 
 rough_rows-fits : (words : List ℕ) → IfSome (rough_rows words) Fits
 rough_rows-fits words =
     let second = after_word words in
     let more = after_word second in
     only-fits (not (is_blank more)) (all_three Rough (tolerance (word words)) (time (word second)) (text (phrase more)))
-    (three-fit Rough (tolerance (word words)) (time (word second)) (text (phrase more)) (λ p t e. tt))
+    (three-fit Rough (tolerance (word words)) (time (word second)) (text (phrase more)) (λ p t e. (tt, tt)))
 
 sharing-fits : (words : List ℕ) → IfSome (sharing words) Fits
-sharing-fits words = both-fit Share (share_fraction (word words)) (share_words (after_word words)) (λ f ws. tt)
+sharing-fits words = both-fit Share (share_fraction (word words)) (share_words (after_word words)) (λ f ws. (tt, tt))
 
 change-fits : (name words : List ℕ) → IfSome (change name words) Fits
 change-fits name words =
-    by-name (bytes_eq name (codes "delete")) _ _ (version-fits Delete (λ d t h. h) words)
+    by-name (bytes_eq name (codes "delete")) _ _ (version-fits Delete (λ d t h. (h, tt)) words)
     (by-name (bytes_eq name (codes "plan")) _ _ (planning-fits words)
     (by-name (bytes_eq name (codes "begin")) _ _ (beginning-fits words)
     (by-name (bytes_eq name (codes "format")) _ _ (formatting-fits words) tt)))
@@ -185,7 +191,7 @@ question-fits : (name words : List ℕ) → IfSome (question name words) Fits
 question-fits name words =
     by-name (bytes_eq name (codes "find")) _ _ (finding-fits words)
     (by-name (bytes_eq name (codes "between")) _ _ (spanning-fits words)
-    (by-name (bytes_eq name (codes "show")) _ _ (version-fits Show (λ d t h. h) words)
+    (by-name (bytes_eq name (codes "show")) _ _ (version-fits Show (λ d t h. (h, tt)) words)
     (by-name (bytes_eq name (codes "propose")) _ _ (proposing-fits words)
     (by-name (bytes_eq name (codes "certificate")) _ _ (certifying-fits words)
     (by-name (bytes_eq name (codes "verify")) _ _ (verifying-fits words) tt)))))
@@ -198,9 +204,24 @@ report-fits name words =
     (by-name (bytes_eq name (codes "rough")) _ _ (rough_rows-fits words)
     (by-name (bytes_eq name (codes "share")) _ _ (sharing-fits words) tt))))
 
+batch_of-fits : (count : ℕ) → count < 1001 → IsFit (batch_of count)
+batch_of-fits count few = go (count == 0) refl
+  where
+    go : (b : Bool) → count == 0 ≡ b → IsFit (if b then Alone no_command else Alone (parts.Batch count))
+    go true e = (tt, tt)
+    go false e = let some : 1 ≤ count = grind (arith, nat_tests) in (some, omega (arith, few))
+
+batch-fits : (words : List ℕ) → IsFit (batch words)
+batch-fits words = go (number 1001 (word words)) (is_blank (after_word words)) (number-below 1001 (word words))
+  where
+    go : (n : Option ℕ) (b : Bool) → IfSome n (λ n. n < 1001) → IsFit (batch_by n b)
+    go (Some n) true h = batch_of-fits n h
+    go (Some n) false h = (tt, tt)
+    go None b h = (tt, tt)
+
 pub meaning-fits : (line : List ℕ) → IsFit (meaning line)
 unfolding meaning
-meaning-fits line = go (is_skipped line) (bytes_eq (word line) (codes "arrive"))
+meaning-fits line = go (is_skipped line) (bytes_eq (word line) (codes "arrive")) (bytes_eq (word line) (codes "batch"))
   where
     behind : List ℕ
     behind = after_word line
@@ -210,14 +231,15 @@ meaning-fits line = go (is_skipped line) (bytes_eq (word line) (codes "arrive"))
         or-fits (change name behind) (or_else (question name behind) (report name behind)) (change-fits name behind)
         (or-fits (question name behind) (report name behind) (question-fits name behind) (report-fits name behind))
 
-    go : (s a : Bool) → IsFit (if s then Skipped else (if a then arrival behind else alone (command (word line) behind)))
-    go true a = tt
-    go false true = arrival-fits behind
-    go false false = commands-fit (command (word line) behind) all
+    go : (s a b : Bool) → IsFit (if s then Skipped else (if a then arrival behind else (if b then batch behind else alone (command (word line) behind))))
+    go true a b = tt
+    go false true b = arrival-fits behind
+    go false false true = batch-fits behind
+    go false false false = commands-fit (command (word line) behind) all
 
--- the item that bytes begin with names a document below 2^32
+-- the part that bytes begin with is in range
 abbrev IsFitting : First → Type 0
-IsFitting (Whole (Some item) n) = HasDocument item
+IsFitting (Whole (Some part) n) = IsPartInRange part
 IsFitting (Whole None n) = Unit {0}
 IsFitting (Broken n) = Unit {0}
 IsFitting More = Unit {0}
@@ -227,7 +249,7 @@ short-fits : (e : Bool) (len : ℕ) → IsFitting (short e len)
 short-fits true len = tt
 short-fits false len = tt
 
-text_end-fits : (e : Bool) (len used : ℕ) (item : Item) (bs : List ℕ) → HasDocument item → IsFitting (text_end e len used item bs)
+text_end-fits : (e : Bool) (len used : ℕ) (item : Part) (bs : List ℕ) → IsPartInRange item → IsFitting (text_end e len used item bs)
 text_end-fits e len used item [] h = short-fits e len
 text_end-fits e len used item (b ∷ []) h = go (b == 10) (b == 13)
   where
@@ -242,18 +264,25 @@ text_end-fits e len used item (b ∷ c ∷ bs) h = go (b == 10) ((b == 13) && (c
     go false true = h
     go false false = tt
 
+text_at-bytes : (n : ℕ) (bs : List ℕ) → n < 2 ^ 40 → text_bytes (text_at n bs) < 2 ^ 40
+text_at-bytes n bs few = go (nat_lt 4194304 n)
+  where
+    go : (b : Bool) → text_bytes (if b then TooLong n else Bytes (take n bs)) < 2 ^ 40
+    go true = few
+    go false = omega (arith, few, length-take n bs)
+
 piece_of-fits : (e : Bool) (m : Meaning) (used : ℕ) (bs : List ℕ) → IsFit m → IsFitting (piece_of e m used bs)
 piece_of-fits e Skipped used bs h = tt
 piece_of-fits e (Alone item) used bs h = h
 piece_of-fits e Faulty used bs h = tt
 piece_of-fits e (Arrival doc at n) used bs h = go (nat_lt (length bs) (used + n))
   where
-    arrival_item : Item
-    arrival_item = item.Command (Arrive doc at (text_at n (drop used bs)))
+    part : Part
+    part = told (Arrive doc at (text_at n (drop used bs)))
 
-    go : (b : Bool) → IsFitting (if b then short e (length bs) else text_end e (length bs) (used + n) arrival_item (drop (used + n) bs))
+    go : (b : Bool) → IsFitting (if b then short e (length bs) else text_end e (length bs) (used + n) part (drop (used + n) bs))
     go true = short-fits e (length bs)
-    go false = text_end-fits e (length bs) (used + n) arrival_item (drop (used + n) bs) h.0
+    go false = text_end-fits e (length bs) (used + n) part (drop (used + n) bs) (h.0, text_at-bytes n (drop used bs) h.1)
 
 last_piece-fits : (m : Meaning) (n : ℕ) → IsFit m → IsFitting (last_piece m n)
 last_piece-fits Skipped n h = tt
@@ -291,12 +320,38 @@ first-fits e bs = go (nat_lt n (length bs))
     go true = closed (nat_lt 4096 (length line))
     go false = unended e bs
 
-pieces-documents : (e : Bool) (bs rest : List ℕ) (pieces : List (Option Item)) → Pieces e bs pieces rest → All HasDocument (filter_map (λ p. p) pieces)
-pieces-documents e bs rest [] p = All-nil HasDocument
+pieces-documents : (e : Bool) (bs rest : List ℕ) (pieces : List (Option Part)) → Pieces e bs pieces rest → All IsPartInRange (filter_map (λ p. p) pieces)
+pieces-documents e bs rest [] p = All-nil IsPartInRange
 pieces-documents e bs rest (None ∷ pieces) (n, whole, p) = pieces-documents e (drop n bs) rest pieces p
 pieces-documents e bs rest (Some i ∷ pieces) (n, whole, p) =
-    All-cons HasDocument i (filter_map (λ p. p) pieces) (subst IsFitting whole (first-fits e bs)) (pieces-documents e (drop n bs) rest pieces p)
+    All-cons IsPartInRange i (filter_map (λ p. p) pieces) (subst IsFitting whole (first-fits e bs)) (pieces-documents e (drop n bs) rest pieces p)
 
--- The documents that the items of any bytes name are numbers below 2^32.
-pub Items-documents : (e : Bool) (bs : List ℕ) (items : List Item) (rest : List ℕ) → Items e bs items rest → All HasDocument items
-Items-documents e bs items rest i = subst (All HasDocument) i.items_are (pieces-documents e bs rest i.pieces i.in_turn)
+-- What the parts of any bytes name is in range.
+pub Items-documents : (e : Bool) (bs : List ℕ) (items : List Part) (rest : List ℕ) → Items e bs items rest → All IsPartInRange items
+Items-documents e bs items rest i = subst (All IsPartInRange) i.items_are (pieces-documents e bs rest i.pieces i.in_turn)
+
+-- and so is what is found in what a reader holds
+long-fits : (e : Bool) (over : Over) (bs : List ℕ) → IsSmall (Some over) → IsFitting (long_piece e over bs)
+long-fits e over bs small = go (nat_lt (over.gone + length bs) over.size)
+  where
+    len : ℕ
+    len = over.line + over.gone + length bs
+
+    behind : List ℕ
+    behind = drop (over.size - over.gone) bs
+
+    go : (b : Bool) → IsFitting (if b then short e len else text_end e len (over.line + over.size) (passed_item over) behind)
+    go true = short-fits e len
+    go false = text_end-fits e len (over.line + over.size) (passed_item over) behind (small.3, small.1)
+
+found-fits : (e : Bool) (over : Option Over) (bs : List ℕ) → IsSmall over → IsFitting (found_by e over bs)
+found-fits e None bs small = first-fits e bs
+found-fits e (Some over) bs small = long-fits e over bs small
+
+-- so a part is that is taken
+pub taken-fits : (h : ReaderState) (p : Option Part) (n : ℕ) → IsSmall h.over → Whole p n ≡ found h → IfSome p IsPartInRange
+taken-fits h p n small value = go p (subst IsFitting (sym value) (found-fits h.ended h.over h.bytes small))
+  where
+    go : (p : Option Part) → IsFitting (Whole p n) → IfSome p IsPartInRange
+    go (Some part) fits = fits
+    go None fits = tt

@@ -9,8 +9,8 @@ use Rattle.script_read.specs.declared.first.First.TheVariants.{Whole, Broken, Mo
 use Rattle.script_read.specs.declared.line.Meaning.{Meaning}
 use Rattle.script_read.specs.declared.line.Meaning.TheVariants.{Skipped, Alone, Arrival, Faulty}
 use Rattle.commands.specs.declared.command.Command.TheVariants.{Arrive}
-use Rattle.commands.specs.declared.command.Item.{Item}
-use Rattle.commands.specs.declared.command.Item.TheVariants.{Command}
+use Rattle.script_read.specs.declared.part.Part.{Part}
+use Rattle.script_read.specs.Parts.{told}
 use Rattle.std.specs.List.{position_or_len}
 use Rattle.script_read.specs.Items.{first, short, text_end, text_at, piece_of, last_piece, open_line, closed_line, without_cr}
 use Rattle.script_read.specs.Lines.{meaning}
@@ -121,7 +121,7 @@ within-of h f small value = let P : First → Type 0 = λ f. IsWithin (gone h.ov
 short-told : (len : ℕ) → short true len ≢ More
 short-told len = λ e. cc
 
-text_end-told : (len used : ℕ) (item : Item) (bs : List ℕ) → text_end true len used item bs ≢ More
+text_end-told : (len used : ℕ) (item : Part) (bs : List ℕ) → text_end true len used item bs ≢ More
 text_end-told len used item [] = λ e. cc
 text_end-told len used item (b ∷ []) = go (b == 10) (b == 13)
   where
@@ -142,8 +142,8 @@ piece_of-told (Alone item) used bs = λ e. cc
 piece_of-told Faulty used bs = λ e. cc
 piece_of-told (Arrival doc at n) used bs = go (nat_lt (length bs) (used + n))
   where
-    item : Item
-    item = Command (Arrive doc at (text_at n (drop used bs)))
+    item : Part
+    item = told (Arrive doc at (text_at n (drop used bs)))
 
     go : (b : Bool) → (if b then short true (length bs) else text_end true (length bs) (used + n) item (drop (used + n) bs)) ≢ More
     go true = short-told (length bs)

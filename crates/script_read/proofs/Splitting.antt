@@ -1,19 +1,18 @@
--- Bytes split into items in one way, and a script is broken at one place at most.
+-- Bytes split into parts in one way.
 use Rattle.std.specs.Prelude.{◌≡◌, ◌≢◌, ℕ, zero, suc, ◌+◌, ◌<◌, ◌≤◌, Bool, true, false, nat_lt, if◌then◌else◌, ◌==◌, ◌&&◌, List, [], ◌∷◌, ◌++◌, length, drop, take, filter_map, Option, Some, refl}
 use Rattle.std.specs.List.{position_or_len}
 use Rattle.std.proofs.Common.{arith, ap, sym, ◌∙◌, subst, length-drop}
 use Rattle.commands.specs.declared.command.Command.TheVariants.{Arrive}
-use Rattle.commands.specs.declared.command.Item.{Item}
-use Rattle.commands.specs.declared.command.Item.TheVariants.{Command}
+use Rattle.script_read.specs.declared.part.Part.{Part}
+use Rattle.script_read.specs.Parts.{told}
 use Rattle.script_read.specs.declared.line.Meaning.{Meaning}
 use Rattle.script_read.specs.declared.line.Meaning.TheVariants.{Skipped, Alone, Arrival, Faulty}
 use Rattle.script_read.specs.declared.first.First.{First}
 use Rattle.script_read.specs.declared.first.First.TheVariants.{Whole, Broken, More, End}
 use Rattle.script_read.specs.Lines.{meaning}
-use Rattle.script_read.specs.Items.{without_cr, text_at, short, text_end, piece_of, last_piece, open_line, closed_line, first, Pieces, IsNoPiece, Splits, IsBrokenAt, IsScript}
+use Rattle.script_read.specs.Items.{without_cr, text_at, short, text_end, piece_of, last_piece, open_line, closed_line, first, Pieces, IsNoPiece, Splits}
 use Rattle.script_read.specs.Reading.{IsWithin}
 use Rattle.script_read.proofs.Cuts.{first_by-append, first_by-within}
-use Rattle.script_read.proofs.Joins.{items-append}
 
 -- a piece that is whole or broken, or an end
 abbrev IsSettled : First → Type 0
@@ -29,7 +28,7 @@ IsNoEnd (Broken n) = Unit {0}
 IsNoEnd More = Unit {0}
 IsNoEnd End = ⊥
 
-text_end-settled : (len used : ℕ) (item : Item) (bs : List ℕ) → IsSettled (text_end true len used item bs)
+text_end-settled : (len used : ℕ) (item : Part) (bs : List ℕ) → IsSettled (text_end true len used item bs)
 text_end-settled len used item [] = tt
 text_end-settled len used item (b ∷ []) = go (b == 10) (b == 13)
   where
@@ -48,7 +47,7 @@ short-no-end : (e : Bool) (len : ℕ) → IsNoEnd (short e len)
 short-no-end true len = tt
 short-no-end false len = tt
 
-text_end-no-end : (e : Bool) (len used : ℕ) (item : Item) (bs : List ℕ) → IsNoEnd (text_end e len used item bs)
+text_end-no-end : (e : Bool) (len used : ℕ) (item : Part) (bs : List ℕ) → IsNoEnd (text_end e len used item bs)
 text_end-no-end e len used item [] = short-no-end e len
 text_end-no-end e len used item (b ∷ []) = go (b == 10) (b == 13)
   where
@@ -69,9 +68,9 @@ piece_of-settled (Alone item) used bs = tt
 piece_of-settled Faulty used bs = tt
 piece_of-settled (Arrival doc at n) used bs = go (nat_lt (length bs) (used + n))
   where
-    go : (b : Bool) → IsSettled (if b then Broken (length bs) else text_end true (length bs) (used + n) (Command (Arrive doc at (text_at n (drop used bs)))) (drop (used + n) bs))
+    go : (b : Bool) → IsSettled (if b then Broken (length bs) else text_end true (length bs) (used + n) (told (Arrive doc at (text_at n (drop used bs)))) (drop (used + n) bs))
     go true = tt
-    go false = text_end-settled (length bs) (used + n) (Command (Arrive doc at (text_at n (drop used bs)))) (drop (used + n) bs)
+    go false = text_end-settled (length bs) (used + n) (told (Arrive doc at (text_at n (drop used bs)))) (drop (used + n) bs)
 
 last_piece-settled : (m : Meaning) (n : ℕ) → IsSettled (last_piece m n)
 last_piece-settled Skipped n = tt
@@ -127,9 +126,9 @@ piece_of-no-end e (Alone item) used bs = tt
 piece_of-no-end e Faulty used bs = tt
 piece_of-no-end e (Arrival doc at n) used bs = go (nat_lt (length bs) (used + n))
   where
-    go : (b : Bool) → IsNoEnd (if b then short e (length bs) else text_end e (length bs) (used + n) (Command (Arrive doc at (text_at n (drop used bs)))) (drop (used + n) bs))
+    go : (b : Bool) → IsNoEnd (if b then short e (length bs) else text_end e (length bs) (used + n) (told (Arrive doc at (text_at n (drop used bs)))) (drop (used + n) bs))
     go true = short-no-end e (length bs)
-    go false = text_end-no-end e (length bs) (used + n) (Command (Arrive doc at (text_at n (drop used bs)))) (drop (used + n) bs)
+    go false = text_end-no-end e (length bs) (used + n) (told (Arrive doc at (text_at n (drop used bs)))) (drop (used + n) bs)
 
 first-end : (e : Bool) (bs : List ℕ) → EndsWithNothing e bs (first e bs)
 first-end e bs = go (nat_lt n (length bs))
@@ -170,12 +169,12 @@ more-open false bs is = refl
 more-open true bs is = absurd (never-more bs is)
 
 -- a whole piece takes one to all of the bytes
-whole-within : (e : Bool) (bs : List ℕ) (p : Option Item) (n : ℕ) → first e bs ≡ Whole p n → (0 < n) × (n ≤ length bs)
+whole-within : (e : Bool) (bs : List ℕ) (p : Option Part) (n : ℕ) → first e bs ≡ Whole p n → (0 < n) × (n ≤ length bs)
 whole-within e bs p n whole = subst (IsWithin 0 (length bs)) whole (first_by-within meaning e bs)
 
 -- bytes are split into items and a rest
 abbrev HasPieces : Bool → List ℕ → Type 0
-HasPieces e bs = (pieces : List (Option Item)) × (rest : List ℕ) × Pieces e bs pieces rest × IsNoPiece (first e rest)
+HasPieces e bs = (pieces : List (Option Part)) × (rest : List ℕ) × Pieces e bs pieces rest × IsNoPiece (first e rest)
 
 pieces_from : (e : Bool) (bs : List ℕ) → ((k : ℕ) → 0 < k → k ≤ length bs → HasPieces e (drop k bs)) → (f : First) → first e bs ≡ f → HasPieces e bs
 pieces_from e bs behind (Whole p k) is =
@@ -190,13 +189,13 @@ pieces_within : (n : ℕ) (e : Bool) (bs : List ℕ) → length bs ≤ n → Has
 pieces_within zero e bs short = pieces_from e bs (λ k some within. absurd (omega (arith, some, within, short))) (first e bs) refl
 pieces_within (suc n) e bs short = pieces_from e bs (λ k some within. pieces_within n e (drop k bs) (omega (arith, length-drop k bs, some, within, short))) (first e bs) refl
 
-pub each_splits : (e : Bool) (bs : List ℕ) → (items : List Item) × (rest : List ℕ) × Splits e bs items rest
+pub each_splits : (e : Bool) (bs : List ℕ) → (items : List Part) × (rest : List ℕ) × Splits e bs items rest
 each_splits e bs =
     let has = pieces_within (length bs) e bs (omega arith) in
     (filter_map (λ p. p) has.0, has.1, (record { pieces = has.0; items_are = refl; in_turn = has.2 }, has.3))
 
 -- and in one way
-pieces_one : (e : Bool) (bs : List ℕ) (xs ys : List (Option Item)) (r s : List ℕ) → Pieces e bs xs r → IsNoPiece (first e r) → Pieces e bs ys s → IsNoPiece (first e s) → (xs ≡ ys) × (r ≡ s)
+pieces_one : (e : Bool) (bs : List ℕ) (xs ys : List (Option Part)) (r s : List ℕ) → Pieces e bs xs r → IsNoPiece (first e r) → Pieces e bs ys s → IsNoPiece (first e s) → (xs ≡ ys) × (r ≡ s)
 pieces_one e bs [] [] r s a p b q = (refl, a ∙ sym b)
 pieces_one e bs [] (y ∷ ys) r s a p (m, whole, b) q = absurd (subst IsNoPiece (ap (first e) a ∙ whole) p)
 pieces_one e bs (x ∷ xs) [] r s (n, whole, a) p b q = absurd (subst IsNoPiece (ap (first e) b ∙ whole) q)
@@ -208,39 +207,11 @@ pieces_one e bs (x ∷ xs) (y ∷ ys) r s (n, whole, a) p (m, other, b) q =
     let tails = pieces_one e (drop n bs) xs ys r s a p (subst P (sym same) b) q in
     (let rest = tails.0 in cc, tails.1)
 
-pub one_split : (e : Bool) (bs : List ℕ) (xs ys : List Item) (r s : List ℕ) → Splits e bs xs r → Splits e bs ys s → (xs ≡ ys) × (r ≡ s)
+pub one_split : (e : Bool) (bs : List ℕ) (xs ys : List Part) (r s : List ℕ) → Splits e bs xs r → Splits e bs ys s → (xs ≡ ys) × (r ≡ s)
 one_split e bs xs ys r s a b =
     let same = pieces_one e bs a.0.pieces b.0.pieces r s a.0.in_turn a.1 b.0.in_turn b.1 in
     (sym a.0.items_are ∙ ap (filter_map (λ p. p)) same.0 ∙ b.0.items_are, same.1)
 
-broken_split : (e : Bool) (bs : List ℕ) (at : ℕ) → (b : IsBrokenAt e bs at) → Splits e bs b.items b.rest
-broken_split e bs at b = (b.before, subst IsNoPiece (sym b.broken) tt)
-
--- the script is broken at one place at most
-pub broken_once : (e : Bool) (bs : List ℕ) (one other : ℕ) → IsBrokenAt e bs one → IsBrokenAt e bs other → one ≡ other
-broken_once e bs one other a b =
-    let same = one_split e bs a.items b.items a.rest b.rest (broken_split e bs one a) (broken_split e bs other b) in
-    let told : Broken a.within ≡ Broken b.within = sym a.broken ∙ ap (first e) same.1 ∙ b.broken in
-    let within : a.within ≡ b.within = cc in
-    omega (arith, a.place, b.place, within, ap length same.1)
-
--- where more is wanted the script isn't broken
-pub not_broken : (e : Bool) (bs : List ℕ) (items : List Item) (rest : List ℕ) → Splits e bs items rest → first e rest ≡ More → (at : ℕ) → IsBrokenAt e bs at → ⊥
-not_broken e bs items rest split more at b =
-    let same = one_split e bs items b.items rest b.rest split (broken_split e bs at b) in
-    let told : More ≡ Broken b.within = sym more ∙ ap (first e) same.1 ∙ b.broken in
-    cc
-
--- A script is broken nowhere: neither the front of it while more may come, nor the whole at its end.
-pub script_unbroken : (bs : List ℕ) (at : ℕ) → IsScript bs → IsBrokenAt true bs at → ⊥
-script_unbroken bs at script b =
-    let same = one_split true bs script.0 b.items [] b.rest (script.1, tt) (broken_split true bs at b) in
-    let told : End ≡ Broken b.within = ap (first true) same.1 ∙ b.broken in
-    cc
-
-pub script_whole : (front more : List ℕ) (at : ℕ) → IsScript (front ++ more) → IsBrokenAt false front at → ⊥
-script_whole front more at script b =
-    let broken : first true (b.rest ++ more) ≡ Broken b.within = first_by-append meaning true b.rest more (λ e. (let one = b.broken in cc)) ∙ b.broken in
-    let same = one_split true (front ++ more) script.0 b.items [] (b.rest ++ more) (script.1, tt) (items-append true front more b.rest b.items b.before, subst IsNoPiece (sym broken) tt) in
-    let told : End ≡ Broken b.within = ap (first true) same.1 ∙ broken in
-    cc
+-- what is broken stays so
+pub broken-append : (bs x : List ℕ) (n : ℕ) → first false bs ≡ Broken n → first true (bs ++ x) ≡ Broken n
+broken-append bs x n broken = first_by-append meaning true bs x (λ e. cc) ∙ broken

@@ -5,8 +5,8 @@ use Rattle.std.specs.List.{position_or_len}
 use Rattle.commands.specs.declared.text.Text.{Text}
 use Rattle.commands.specs.declared.text.Text.TheVariants.{Bytes, TooLong}
 use Rattle.commands.specs.declared.command.Command.TheVariants.{Arrive}
-use Rattle.commands.specs.declared.command.Item.{Item}
-use Rattle.commands.specs.declared.command.Item.TheVariants.{Command}
+use Rattle.script_read.specs.declared.part.Part.{Part}
+use Rattle.script_read.specs.Parts.{told}
 use Rattle.script_read.specs.declared.line.Meaning.{Meaning}
 use Rattle.script_read.specs.declared.line.Meaning.TheVariants.{Skipped, Alone, Arrival, Faulty}
 use Rattle.script_read.specs.declared.first.First.{First}
@@ -34,7 +34,7 @@ short false len = More
 short true len = Broken len
 
 -- Behind the text of an arrival, at this place of so many bytes, stands its line end: LF, or CR and LF.
-abbrev pub text_end : Bool → ℕ → ℕ → Item → List ℕ → First
+abbrev pub text_end : Bool → ℕ → ℕ → Part → List ℕ → First
 text_end ended len used item [] = short ended len
 text_end ended len used item (b ∷ []) = if b == 10 then Whole (Some item) (used + 1) else (if b == 13 then short ended len else Broken used)
 text_end ended len used item (b ∷ c ∷ bs) = if b == 10 then Whole (Some item) (used + 1) else (if (b == 13) && (c == 10) then Whole (Some item) (used + 2) else Broken used)
@@ -46,7 +46,7 @@ piece_of ended (Alone item) used bytes = Whole (Some item) used
 piece_of ended Faulty used bytes = Broken 0
 piece_of ended (Arrival doc at n) used bytes =
     if nat_lt (length bytes) (used + n) then short ended (length bytes)
-    else text_end ended (length bytes) (used + n) (Command (Arrive doc at (text_at n (drop used bytes)))) (drop (used + n) bytes)
+    else text_end ended (length bytes) (used + n) (told (Arrive doc at (text_at n (drop used bytes)))) (drop (used + n) bytes)
 
 -- What the last line of the input is, of n bytes, where it has no LF: it is no arrival.
 abbrev pub last_piece : Meaning → ℕ → First
@@ -77,13 +77,13 @@ abbrev pub first : Bool → List ℕ → First
 first ended bytes = first_by meaning ended bytes
 
 -- The bytes are these pieces, one after another, and then the rest. A piece is an item, or a line that is skipped.
-abbrev pub Pieces : Bool → List ℕ → List (Option Item) → List ℕ → Type 0
+abbrev pub Pieces : Bool → List ℕ → List (Option Part) → List ℕ → Type 0
 Pieces ended bytes [] rest = rest ≡ bytes
 Pieces ended bytes (p ∷ pieces) rest = (n : ℕ) × (first ended bytes ≡ Whole p n) × Pieces ended (drop n bytes) pieces rest
 
 -- The bytes are these items, with skipped lines among them, and then the rest.
-pub record Items (ended : Bool) (bytes : List ℕ) (items : List Item) (rest : List ℕ) : Type 0 where
-  pub pieces : List (Option Item)
+pub record Items (ended : Bool) (bytes : List ℕ) (items : List Part) (rest : List ℕ) : Type 0 where
+  pub pieces : List (Option Part)
   pub items_are : filter_map (λ p. p) pieces ≡ items
   pub in_turn : Pieces ended bytes pieces rest
 
@@ -95,21 +95,8 @@ IsNoPiece More = Unit {0}
 IsNoPiece End = Unit {0}
 
 -- The bytes are these items, and then a rest that begins with no whole piece, not even a line that is skipped.
-abbrev pub Splits : Bool → List ℕ → List Item → List ℕ → Type 0
+abbrev pub Splits : Bool → List ℕ → List Part → List ℕ → Type 0
 Splits ended bytes items rest = Items ended bytes items rest × IsNoPiece (first ended rest)
-
--- Behind their items the bytes are broken, at this place.
-pub record IsBrokenAt (ended : Bool) (bytes : List ℕ) (at : ℕ) : Type 0 where
-  pub items : List Item
-  pub rest : List ℕ
-  pub within : ℕ
-  pub before : Items ended bytes items rest
-  pub broken : first ended rest ≡ Broken within
-  pub place : at + length rest ≡ length bytes + within
-
--- The bytes are items to their end.
-abbrev pub IsScript : List ℕ → Type 0
-IsScript bytes = (items : List Item) × Items true bytes items []
 
 -- Behind lines that are skipped the bytes begin an item that isn't whole, and nothing is wrong so far.
 abbrev pub Waits : Bool → List ℕ → Type 0

@@ -7,7 +7,8 @@ use Rattle.commands.specs.declared.command.Command.{Command}
 use Rattle.commands.specs.declared.command.Command.TheVariants.{Delete, Plan, Begin, Format, Propose, Find, Between, Show, Certificate, Verify, Top, Best, Approx, Rough, Share}
 use Rattle.commands.specs.declared.command.Kind.{Kind}
 use Rattle.commands.specs.declared.command.Kind.TheVariants.{Guarantee, Uniform, Since}
-use Rattle.commands.specs.declared.command.Item.TheVariants as item
+use Rattle.script_read.specs.declared.part.Part.TheVariants as parts
+use Rattle.script_read.specs.Parts.{told, no_command}
 use Rattle.script_read.specs.Words.{word, after_word, is_blank, phrase}
 use Rattle.script_read.specs.Numbers.{number}
 use Rattle.script_read.specs.Values.{or_else, both, all_three, only_if, joined, document, time, text, fraction, tolerance, top_count, best_count, share_fraction, share_words, span_of}
@@ -173,8 +174,21 @@ arrival words =
 
 -- A line that is no command is answered too.
 abbrev pub alone : Option Command → Meaning
-alone (Some c) = Alone (item.Command c)
-alone None = Alone item.Line
+alone (Some c) = Alone (told c)
+alone None = Alone no_command
+
+-- The line of a batch of so many items is a part by itself; of none it is no command.
+abbrev pub batch_of : ℕ → Meaning
+batch_of count = if count == 0 then Alone no_command else Alone (parts.Batch count)
+
+abbrev pub batch_by : Option ℕ → Bool → Meaning
+batch_by (Some count) true = batch_of count
+batch_by (Some count) false = Alone no_command
+batch_by None b = Alone no_command
+
+-- `batch` N, N from 1 to 1,000
+abbrev pub batch : List ℕ → Meaning
+batch words = batch_by (number 1001 (word words)) (is_blank (after_word words))
 
 -- A line without a word, and one that begins with #, is skipped.
 abbrev pub is_skipped : List ℕ → Bool
@@ -185,4 +199,5 @@ unfoldable pub meaning : List ℕ → Meaning
 meaning line =
     if is_skipped line then Skipped
     else (if bytes_eq (word line) (codes "arrive") then arrival (after_word line)
-    else alone (command (word line) (after_word line)))
+    else (if bytes_eq (word line) (codes "batch") then batch (after_word line)
+    else alone (command (word line) (after_word line))))

@@ -3,8 +3,8 @@ use Rattle.std.specs.Prelude.{◌≡◌, ℕ, ◌+◌, ◌-◌, ◌*◌, ◌<◌
 use Rattle.std.specs.List.{position_or_len}
 use Rattle.commands.specs.declared.text.Text.TheVariants.{TooLong}
 use Rattle.commands.specs.declared.command.Command.TheVariants.{Arrive}
-use Rattle.commands.specs.declared.command.Item.{Item}
-use Rattle.commands.specs.declared.command.Item.TheVariants.{Command}
+use Rattle.script_read.specs.declared.part.Part.{Part}
+use Rattle.script_read.specs.Parts.{told}
 use Rattle.script_read.specs.declared.line.Meaning.TheVariants.{Arrival}
 use Rattle.script_read.specs.declared.first.First.{First}
 use Rattle.script_read.specs.declared.first.First.TheVariants.{Whole, Broken, More, End}
@@ -12,7 +12,7 @@ use Rattle.script_read.specs.declared.passing.Over.{Over}
 use Rattle.script_read.specs.declared.error.ScriptError.{ScriptError}
 use Rattle.script_read.specs.declared.error.ScriptError.TheVariants as errors
 use Rattle.script_read.specs.Lines.{meaning}
-use Rattle.script_read.specs.Items.{first, Items, Splits, IsBrokenAt, Waits, without_cr, short, text_end, most_text}
+use Rattle.script_read.specs.Items.{first, Items, Waits, without_cr, short, text_end, most_text}
 
 -- The bytes at hand, how many came before the item that they belong to, whether the end of the input was told, and a text above the limit
 -- that is being passed over: its line and the part of it that is gone belong to the item too.
@@ -63,8 +63,8 @@ abbrev pub StandsFor : ReaderState → List ℕ → Type 0
 StandsFor held since = StandsBy held.over held.bytes since
 
 -- The arrival of a text that is passed over.
-abbrev pub passed_item : Over → Item
-passed_item over = Command (Arrive over.doc over.at (TooLong over.size))
+abbrev pub passed_item : Over → Part
+passed_item over = told (Arrive over.doc over.at (TooLong over.size))
 
 -- What the bytes since the last item begin with, where such a text is passed over and these bytes are at hand.
 abbrev pub long_piece : Bool → Over → List ℕ → First
@@ -80,19 +80,20 @@ found_by ended (Some over) bytes = long_piece ended over bytes
 abbrev pub found : ReaderState → First
 found held = found_by held.ended held.over held.bytes
 
--- Such a text has a number of bytes that a line may name, of which no more are gone, behind a line within the limit and its end.
+-- Such a text has a number of bytes that a line may name, of which no more are gone, behind a line within the limit and its end; its document is
+-- one that a line may name.
 abbrev pub IsSmall : Option Over → Type 0
 IsSmall None = Unit {0}
-IsSmall (Some over) = (over.gone ≤ over.size) × (over.size < 2 ^ 40) × (over.line ≤ 4098)
+IsSmall (Some over) = (over.gone ≤ over.size) × (over.size < 2 ^ 40) × (over.line ≤ 4098) × (over.doc.0 < 2 ^ 32)
 
 -- The item that an answer gives out, as a list.
-abbrev pub given : Result (Option Item) ScriptError → List Item
+abbrev pub given : Result (Option Part) ScriptError → List Part
 given (Ok (Some item)) = item ∷ []
 given (Ok None) = []
 given (Err e) = []
 
 -- What the bytes behind it begin with, so many of which were taken, where the answer is no item.
-abbrev pub Finds : Result (Option Item) ScriptError → ℕ → ℕ → First → Type 0
+abbrev pub Finds : Result (Option Part) ScriptError → ℕ → ℕ → First → Type 0
 Finds (Ok (Some item)) passed len found = Unit {0}
 Finds (Ok None) passed len found = found ≡ End
 Finds (Err (errors.Broken at)) passed len found = (n : ℕ) × (found ≡ Broken n) × (at ≡ passed + n)
@@ -102,7 +103,7 @@ Finds (Err errors.Memory) passed len found = Unit {0}
 
 -- What an answer says of the bytes since the last item, those pulled in the call among them, with so many before them: lines that are
 -- skipped and the item that is given out, if one is, and then the rest, for which the reader stands from now on.
-pub record Says (passed : ℕ) (bytes : List ℕ) (result : Result (Option Item) ScriptError) (new : ReaderState) : Type 0 where
+pub record Says (passed : ℕ) (bytes : List ℕ) (result : Result (Option Part) ScriptError) (new : ReaderState) : Type 0 where
   pub rest : List ℕ
   pub items : Items new.ended bytes (given result) rest
   pub stands : StandsFor new rest
@@ -149,16 +150,6 @@ MayFollow false ended more = Unit {0}
 MayFollow true ended more = (ended ≡ true) × (more ≡ [])
 
 -- A run of calls so far: whatever comes behind the bytes pulled, they are these items and then what is held.
-pub record Reads (pulled : List ℕ) (items : List Item) (since : List ℕ) (held : ReaderState) : Type 0 where
+pub record Reads (pulled : List ℕ) (items : List Part) (since : List ℕ) (held : ReaderState) : Type 0 where
   pub stands : StandsFor held since
   pub split : (ended : Bool) (more : List ℕ) → MayFollow held.ended ended more → Items ended (pulled ++ more) items (since ++ more)
-  pub before : held.passed + length since ≡ length pulled
-
--- What the last answer of a run says of all bytes pulled and of the items given out.
-abbrev pub EndsWith : Result (Option Item) ScriptError → Bool → List ℕ → List Item → List ℕ → Type 0
-EndsWith (Ok (Some item)) ended bytes items rest = Unit {0}
-EndsWith (Ok None) ended bytes items rest = (ended ≡ true) × Items true bytes items []
-EndsWith (Err (errors.Broken at)) ended bytes items rest = Splits ended bytes items rest × IsBrokenAt ended bytes at
-EndsWith (Err errors.Budget) ended bytes items rest = Splits ended bytes items rest × (first ended rest ≡ More) × (length bytes ≡ 2 ^ 40)
-EndsWith (Err errors.Failed) ended bytes items rest = Splits ended bytes items rest × (first ended rest ≡ More)
-EndsWith (Err errors.Memory) ended bytes items rest = Items ended bytes items rest

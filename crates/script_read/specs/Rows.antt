@@ -13,7 +13,8 @@ use Rattle.commands.specs.declared.count.TopCount.{TopCount}
 use Rattle.commands.specs.declared.share.ShareFraction.{ShareFraction}
 use Rattle.commands.specs.declared.text.Text.TheVariants.{Bytes}
 use Rattle.commands.specs.declared.command.Command.TheVariants.{Arrive, Find, Verify, Begin, Format, Top, Best, Approx, Rough, Share}
-use Rattle.commands.specs.declared.command.Item.TheVariants.{Command, Line}
+use Rattle.script_read.specs.declared.part.Part.TheVariants as parts
+use Rattle.script_read.specs.Parts.{told, no_command}
 use Rattle.commands.specs.declared.command.Kind.TheVariants.{Guarantee, Uniform, Since}
 use Rattle.script_read.specs.declared.first.First.TheVariants.{Whole, Broken, More, End}
 use Rattle.script_read.specs.Dates.{date, day_number}
@@ -64,7 +65,7 @@ kinds = (refl, refl, refl, refl, refl)
 abbrev arrival : List ℕ
 arrival = codes "arrive 7 10 5" ++ 10 ∷ codes "red a" ++ 10 ∷ []
 
-pub whole : first false arrival ≡ Whole (Some (Command (Arrive (doc 7) (at 10 refl) (Bytes (codes "red a"))))) 20
+pub whole : first false arrival ≡ Whole (Some (told (Arrive (doc 7) (at 10 refl) (Bytes (codes "red a"))))) 20
 unfolding meaning
 whole = refl
 
@@ -92,12 +93,12 @@ not_yet = (refl, refl, refl)
 
 -- CR LF behind a line and behind a text
 pub crlf : first false (codes "arrive 7 10 3" ++ 13 ∷ 10 ∷ codes "red" ++ 13 ∷ 10 ∷ [])
-    ≡ Whole (Some (Command (Arrive (doc 7) (at 10 refl) (Bytes (codes "red"))))) 20
+    ≡ Whole (Some (told (Arrive (doc 7) (at 10 refl) (Bytes (codes "red"))))) 20
 unfolding meaning
 crlf = refl
 
 -- a text of bytes that are no UTF-8
-pub any_bytes : first false (codes "arrive 9 5 2" ++ 10 ∷ 195 ∷ 40 ∷ 10 ∷ []) ≡ Whole (Some (Command (Arrive (doc 9) (at 5 refl) (Bytes (195 ∷ 40 ∷ []))))) 16
+pub any_bytes : first false (codes "arrive 9 5 2" ++ 10 ∷ 195 ∷ 40 ∷ 10 ∷ []) ≡ Whole (Some (told (Arrive (doc 9) (at 5 refl) (Bytes (195 ∷ 40 ∷ []))))) 16
 unfolding meaning
 any_bytes = refl
 
@@ -106,18 +107,18 @@ unfolding meaning
 skipped = (refl, refl, refl)
 
 -- lines that are answered, also one that isn't UTF-8
-pub lines : (first false (codes "hello" ++ 10 ∷ []) ≡ Whole (Some Line) 6) × (first false (codes " # no note" ++ 10 ∷ []) ≡ Whole (Some Line) 11)
-    × (first true (codes "verify") ≡ Whole (Some (Command Verify)) 6) × (first true (codes "find 10 " ++ 255 ∷ []) ≡ Whole (Some Line) 9)
-    × (first true (codes "arrived 1 2 3") ≡ Whole (Some Line) 13)
+pub lines : (first false (codes "hello" ++ 10 ∷ []) ≡ Whole (Some no_command) 6) × (first false (codes " # no note" ++ 10 ∷ []) ≡ Whole (Some no_command) 11)
+    × (first true (codes "verify") ≡ Whole (Some (told Verify)) 6) × (first true (codes "find 10 " ++ 255 ∷ []) ≡ Whole (Some no_command) 9)
+    × (first true (codes "arrived 1 2 3") ≡ Whole (Some no_command) 13)
 unfolding meaning is_utf8 chars encode
 lines = (refl, refl, refl, refl, refl)
 
 -- spaces at the ends don't count, those within a question do
-pub finds : first true (codes "  find   2007-07-23  red  a ") ≡ Whole (Some (Command (Find (at 1185148800 refl) (codes "red  a")))) 28
+pub finds : first true (codes "  find   2007-07-23  red  a ") ≡ Whole (Some (told (Find (at 1185148800 refl) (codes "red  a")))) 28
 unfolding meaning is_utf8 chars encode
 finds = refl
 
-pub no_such_day : (first true (codes "find 1969-12-31 red") ≡ Whole (Some Line) 19) × (first true (codes "find 2007-02-30 red") ≡ Whole (Some Line) 19)
+pub no_such_day : (first true (codes "find 1969-12-31 red") ≡ Whole (Some no_command) 19) × (first true (codes "find 2007-02-30 red") ≡ Whole (Some no_command) 19)
 unfolding meaning is_utf8 chars encode
 no_such_day = (refl, refl)
 
@@ -151,20 +152,31 @@ pub bounds :
 bounds = (refl, refl, refl, refl, refl, refl, refl, refl, refl, refl)
 
 pub reports :
-    (first true (codes "top 3 10 red") ≡ Whole (Some (Command (Top (rows 3 refl refl) (at 10 refl) (codes "red")))) 12)
-    × (first true (codes "best 2 10 a or b") ≡ Whole (Some (Command (Best (best 2 refl refl) (at 10 refl) (codes "a or b")))) 16)
-    × (first true (codes "approx v 1/4") ≡ Whole (Some (Command (Approx (codes "v") (part 1 4 refl refl)))) 12)
-    × (first true (codes "rough 1/4 15 v") ≡ Whole (Some (Command (Rough (part 1 4 refl refl) (at 15 refl) (codes "v")))) 14)
-    × (first true (codes "share 2/1 v moon") ≡ Whole (Some (Command (Share (shared (factor 2 1 refl refl refl) refl) (codes "v" ∷ codes "moon" ∷ [])))) 16)
+    (first true (codes "top 3 10 red") ≡ Whole (Some (told (Top (rows 3 refl refl) (at 10 refl) (codes "red")))) 12)
+    × (first true (codes "best 2 10 a or b") ≡ Whole (Some (told (Best (best 2 refl refl) (at 10 refl) (codes "a or b")))) 16)
+    × (first true (codes "approx v 1/4") ≡ Whole (Some (told (Approx (codes "v") (part 1 4 refl refl)))) 12)
+    × (first true (codes "rough 1/4 15 v") ≡ Whole (Some (told (Rough (part 1 4 refl refl) (at 15 refl) (codes "v")))) 14)
+    × (first true (codes "share 2/1 v moon") ≡ Whole (Some (told (Share (shared (factor 2 1 refl refl refl) refl) (codes "v" ∷ codes "moon" ∷ [])))) 16)
 unfolding meaning is_utf8 chars encode texts
 reports = (refl, refl, refl, refl, refl)
 
 pub changes_to_come :
-    (first true (codes "begin v guarantee 2/1") ≡ Whole (Some (Command (Begin (codes "v") (factor 2 1 refl refl refl)))) 21)
-    × (first true (codes "format 2") ≡ Whole (Some (Command Format)) 8)
-    × (first true (codes "begin v space 2/1") ≡ Whole (Some Line) 17)
-    × (first true (codes "format 3") ≡ Whole (Some Line) 8)
-    × (first true (codes "approx v 1/1") ≡ Whole (Some Line) 12)
-    × (first true (codes "share 2/1") ≡ Whole (Some Line) 9)
+    (first true (codes "begin v guarantee 2/1") ≡ Whole (Some (told (Begin (codes "v") (factor 2 1 refl refl refl)))) 21)
+    × (first true (codes "format 2") ≡ Whole (Some (told Format)) 8)
+    × (first true (codes "begin v space 2/1") ≡ Whole (Some no_command) 17)
+    × (first true (codes "format 3") ≡ Whole (Some no_command) 8)
+    × (first true (codes "approx v 1/1") ≡ Whole (Some no_command) 12)
+    × (first true (codes "share 2/1") ≡ Whole (Some no_command) 9)
 unfolding meaning is_utf8 chars encode texts
 changes_to_come = (refl, refl, refl, refl, refl, refl)
+
+-- a batch has 1 to 1,000 items; other lines of its name are no commands
+pub batches :
+    (first false (codes "batch 2" ++ 10 ∷ []) ≡ Whole (Some (parts.Batch 2)) 8)
+    × (first true (codes " batch  01000 ") ≡ Whole (Some (parts.Batch 1000)) 14)
+    × (first true (codes "batch 0") ≡ Whole (Some no_command) 7)
+    × (first true (codes "batch 1001") ≡ Whole (Some no_command) 10)
+    × (first true (codes "batch 2 2") ≡ Whole (Some no_command) 9)
+    × (first true (codes "batch") ≡ Whole (Some no_command) 5)
+unfolding meaning
+batches = (refl, refl, refl, refl, refl, refl)

@@ -5,6 +5,7 @@ ghost use Rattle.script_read.specs.Lines.{meaning};
 ghost use Rattle.script_read.specs.Items.{without_cr, text_at, short, text_end, piece_of, last_piece, open_line, closed_line, first};
 
 use crate::line::{Meaning, meaning_of};
+use crate::part::Part;
 use commands::{Command, Content, Item, MOST_TEXT_BYTES, Text};
 use std::alloc::{AllocError, Global};
 use time_base::{DocId, Time};
@@ -16,7 +17,7 @@ pub(crate) const MOST_LINE_BYTES: usize = 4096;
 #[derive(Debug, Drop)]
 pub enum First {
     /// A whole piece that takes so many bytes: an item, or a line that is skipped.
-    Whole(Option<Item>, usize),
+    Whole(Option<Part>, usize),
     /// No script, as the byte so far from the first shows.
     Broken(usize),
     /// No whole piece yet.
@@ -49,7 +50,7 @@ pub(crate) fn short(ended: bool, len: usize) -> First
 
 /// What comes of an item whose text ends at this place of so many bytes, with the bytes behind it.
 /// Constant cost.
-pub(crate) fn text_end(ended: bool, len: usize, used: usize, item: Item, behind: &[u8]) -> First
+pub(crate) fn text_end(ended: bool, len: usize, used: usize, item: Part, behind: &[u8]) -> First
     requires { used + length behind.now < 2 ^ 63 }
     ensures { result ≡ text_end ended len used item behind.now }
 {
@@ -101,7 +102,7 @@ fn arrival_behind(
     }
     let size = size as usize;
     let text = text_at(alloc, size, &bytes[used..])?;
-    let arrival = Item::Command(Command::Arrive { doc, at, text });
+    let arrival = Part::Item(Item::Command(Command::Arrive { doc, at, text }));
     let end = used + size;
     Ok(text_end(ended, bytes.len(), end, arrival, &bytes[end..]))
 }

@@ -1,9 +1,10 @@
 //! What a line says.
-ghost use Rattle.std.specs.Prelude.{◌≡◌, ◌≤◌, length, IfOk};
-ghost use Rattle.script_read.specs.Lines.{arrival, command, is_skipped, meaning};
+ghost use Rattle.std.specs.Prelude.{◌≡◌, ◌<◌, ◌≤◌, length, IfOk};
+ghost use Rattle.script_read.specs.Lines.{arrival, batch, batch_of, command, is_skipped, meaning};
 
 use crate::asking::question;
 use crate::changing::change;
+use crate::part::Part;
 use crate::reporting::report;
 use crate::values::{document, time};
 use crate::words::{is_blank, is_named, next_word, number_below};
@@ -16,8 +17,8 @@ use time_base::{DocId, Time};
 pub enum Meaning {
     /// Nothing, and nothing is answered.
     Skipped,
-    /// An item by itself.
-    Alone(Item),
+    /// A part by itself.
+    Alone(Part),
     /// A version arrives; its text comes behind the line.
     Arrival {
         /// The document.
@@ -54,6 +55,30 @@ fn arrival(words: &[u8]) -> Meaning
     }
 }
 
+/// What a line says that begins a batch, or would.
+fn batch(words: &[u8]) -> Meaning
+    ensures { result ≡ batch words.now }
+{
+    let (count, rest) = next_word(words);
+    match (number_below(1001, count), is_blank(rest)) {
+        (Some(count), true) => batch_of(count),
+        _ => Meaning::Alone(Part::Item(Item::Line)),
+    }
+}
+
+/// What a line says that would begin a batch of so many items.
+fn batch_of(count: u64) -> Meaning
+    requires { count < 1001 }
+    ensures { result ≡ batch_of count }
+{
+    if count == 0 {
+        return Meaning::Alone(Part::Item(Item::Line));
+    }
+    Meaning::Alone(Part::Batch {
+        count: count as u32,
+    })
+}
+
 /// The command of this name, but an arrival, with the words behind it. Costs their length.
 fn command(alloc: Global, name: &[u8], words: &[u8]) -> Result<Option<Command>, AllocError>
     requires { length words.now ≤ 4096 }
@@ -81,8 +106,11 @@ pub(crate) fn meaning_of(alloc: Global, line: &[u8]) -> Result<Meaning, AllocErr
     if is_named(name, b"arrive") {
         return Ok(arrival(words));
     }
+    if is_named(name, b"batch") {
+        return Ok(batch(words));
+    }
     match command(alloc, name, words)? {
-        Some(command) => Ok(Meaning::Alone(Item::Command(command))),
-        None => Ok(Meaning::Alone(Item::Line)),
+        Some(command) => Ok(Meaning::Alone(Part::Item(Item::Command(command)))),
+        None => Ok(Meaning::Alone(Part::Item(Item::Line))),
     }
 }

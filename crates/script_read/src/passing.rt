@@ -4,6 +4,7 @@ ghost use Rattle.script_read.specs.Reading.{AsksFor, IsSmall, long_piece};
 
 use crate::first::{First, MOST_LINE_BYTES, line_length, short, text_end, without_cr};
 use crate::line::{Meaning, meaning_of};
+use crate::part::Part;
 use commands::{Command, Item, MOST_TEXT_BYTES, Text};
 use std::alloc::{AllocError, Global};
 use time_base::{DocId, Time};
@@ -72,11 +73,11 @@ pub(crate) fn long_piece(ended: bool, over: Over, bytes: &[u8]) -> First
     if (bytes.len() as u64) < left {
         return short(ended, len);
     }
-    let arrival = Item::Command(Command::Arrive {
+    let arrival = Part::Item(Item::Command(Command::Arrive {
         doc: over.doc,
         at: over.at,
         text: Text::TooLong { bytes: over.size },
-    });
+    }));
     let end = (over.line + over.size) as usize;
     text_end(ended, len, end, arrival, &bytes[left as usize..])
 }

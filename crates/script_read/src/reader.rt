@@ -1,13 +1,14 @@
 //! The reader of a script.
-ghost use Rattle.std.specs.Prelude.{◌≡◌, ◌≤◌, ◌+◌, ◌-◌, ◌<◌, ◌^◌, ◌++◌, List, [], ℕ, true, false, length, vec_len, vec_capacity, drop, All, None, Some, IsSome, IfOk, IfErr, OnOk, OnErr, IsErrOf};
+ghost use Rattle.std.specs.Prelude.{◌≡◌, ◌≤◌, ◌+◌, ◌-◌, ◌<◌, ◌^◌, ◌++◌, List, [], ℕ, true, false, length, vec_len, vec_capacity, drop, All, None, Some, IsSome, IfOk, IfErr, IfSome, OnOk, OnErr, IsErrOf};
 ghost use Rattle.machine_model.specs.Causes.{Rose};
 ghost use Rattle.script_read.specs.Items.{first, Waits};
+ghost use Rattle.script_read.specs.Parts.{IsPartInRange};
 ghost use Rattle.script_read.specs.Reading.{ReaderState, fresh, gone, taken, found, StandsFor, Says, IsCalm, IsAwaited, IsSmall, IsWithin, IsPullError, IsMissing, rounds};
 
 use crate::error::ScriptError;
 use crate::first::{First, first_of};
+use crate::part::Part;
 use crate::passing::{Over, long_piece, long_text};
-use commands::Item;
 use machine_model::Source;
 use std::alloc::{AllocError, Global};
 use std::marker::Model;
@@ -74,7 +75,7 @@ impl Reader {
         &mut self,
         alloc: Global,
         source: &mut S,
-    ) -> Result<Option<Item>, ScriptError>
+    ) -> Result<Option<Part>, ScriptError>
         ensures only { S.only source.old source.new }
         ensures later { (S.source source.old).faults ≤ (S.source source.new).faults }
         ensures rose { IsErrOf result ScriptError.Failed → Rose (S.source source.old).faults (S.source source.new).faults }
@@ -89,6 +90,8 @@ impl Reader {
         ensures awaited { (since : List ℕ) → StandsFor self.old since → ((lefts : List (List ℕ)) × S.pulled source.old lefts source.new
             × (S.source_tells → All (IsAwaited since (S.source source.old).left) lefts)) }
         ensures bound { taken self.new ≤ 2 ^ 40 }
+        // What it gives is in range, for whatever bytes the reader stands.
+        ensures fits { IfOk result (λ part. IfSome part IsPartInRange) }
         // An item lets bytes go.
         ensures further { IfOk result (λ item. IsSome item → self.old.passed < self.new.passed) }
         // The end, once told, is the source's.
@@ -119,6 +122,7 @@ impl Reader {
         ensures stands { (since : List ℕ) → StandsFor self.old since → StandsFor self.new since }
         ensures value { IfOk result (λ f. f ≡ found self.new) }
         ensures within { IfOk result (λ f. IsWithin (gone self.new.over) (gone self.new.over + length self.new.bytes) f) }
+        ensures small { IsSmall self.new.over }
         ensures passed { self.new.passed ≡ self.old.passed }
         ensures ended { self.new.ended ≡ self.old.ended }
         ensures taken { taken self.new ≡ taken self.old }
@@ -228,6 +232,14 @@ impl Reader {
         &self.buffer[self.start..]
     }
 
+    /// How many bytes were taken of the source. Constant cost.
+    pub fn taken(&self) -> u64
+        ensures value { result ≡ taken self.now }
+        ensures bound { result ≤ 2 ^ 40 }
+    {
+        self.passed + self.gone() + self.at_hand().len() as u64
+    }
+
     /// How many bytes of the item at hand are gone. Constant cost.
     fn gone(&self) -> u64
         ensures { result ≡ gone self.now.over }
@@ -257,7 +269,7 @@ impl Reader {
         ensures spent { IsErrOf result ScriptError.Budget → taken self.new ≡ 2 ^ 40 }
         ensures why { IfErr result (λ e. IsPullError e) }
     {
-        let taken = self.passed + self.gone() + self.at_hand().len() as u64;
+        let taken = self.taken();
         if taken == MOST_INPUT_BYTES {
             return Err(ScriptError::Budget);
         }

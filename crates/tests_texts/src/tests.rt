@@ -1,4 +1,5 @@
 //! The tests, by what they try.
+mod batches;
 mod command_lines;
 mod entries;
 mod in_words;

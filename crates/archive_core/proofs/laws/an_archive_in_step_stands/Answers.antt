@@ -1,4 +1,4 @@
-use Rattle.archive_core.proofs.AddLemmas.{in_step_stands}
+use Rattle.archive_core.proofs.StandingLemmas.{in_step_stands}
 use Rattle.archive_core.proofs.laws.an_archive_in_step_stands.Goals as goal
 
 pub returns : goal.returns

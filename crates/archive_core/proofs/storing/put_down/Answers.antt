@@ -6,36 +6,12 @@ use Rattle.record_codec.specs.declared.place.Place.{Place}
 use Rattle.page_cache.specs.Caches.{StandsFor as IsCacheOf}
 use Rattle.page_store.specs.Wrote.{ranges_of}
 use Rattle.sublist_store.specs.Preparing.{pieces}
-use Rattle.archive_state.specs.Stands.{bodies_of}
 use Rattle.archive_core.proofs.AddLemmas.{step_stays}
 use Rattle.archive_core.proofs.ByReadsLemmas.{begun, on_err, one_pages, pieces_inside, put_down}
-use Rattle.archive_core.proofs.StoreLemmas.{written_leads, stored_leads, stored_in_step}
 use Rattle.archive_core.specs.Storing.{IsPutDown}
 use Rattle.archive_core.proofs.storing.put_down.Given.{Over}
 use Rattle.archive_core.proofs.storing.put_down.Goals.{After-append}
 use Rattle.archive_core.proofs.storing.put_down.Goals as goal
-
-pub returns-in_err-write-clause-crash : goal.returns-in_err-write-clause-crash
-returns-in_err-write-clause-crash g c = λ tells h plan step held legal ready.
-    written_leads h plan c.args.prepared.now c.args.frame.now _ _ _ ready legal step held (c.write.ensures.images tells)
-
-pub returns-in-Ok-clause-crash : goal.returns-in-Ok-clause-crash
-returns-in-Ok-clause-crash g c = λ tells h plan step held legal ready.
-    stored_leads h plan c.args.prepared.now c.args.frame.now _ _ _ _ ready legal step held (g.met.D.Disk.holds_allowed c.args.disk.now tells)
-    (c.write.ensures.images tells) (g.met.D.Disk.only_beside _ _ tells c.write.ensures.only) (c.in_ok-write.ensures.stored tells)
-    (λ bodies in_step. c.append.ensures.crash tells bodies in_step) (c.append.ensures.pages tells)
-
-pub returns-in-Ok-clause-in_step : goal.returns-in-Ok-clause-in_step
-returns-in-Ok-clause-in_step g c = λ tells h plan step held legal ready.
-    stored_in_step h plan c.args.prepared.now c.args.frame.now _ _ _ _ ready legal held (g.met.D.Disk.holds_allowed c.args.disk.now tells) (c.in_ok-write.ensures.stored tells)
-    (c.in-Ok.ensures.in_step tells (bodies_of h) (step_stays (ranges_of (pieces c.args.prepared.now)) _ _ _ (bodies_of h) (c.write.ensures.images tells) step))
-    (c.append.ensures.pages tells)
-
-pub returns-in-Err-Failed-clause-crash : goal.returns-in-Err-Failed-clause-crash
-returns-in-Err-Failed-clause-crash g c = λ tells h plan step held legal ready.
-    stored_leads h plan c.args.prepared.now c.args.frame.now _ _ _ _ ready legal step held (g.met.D.Disk.holds_allowed c.args.disk.now tells)
-    (c.write.ensures.images tells) (g.met.D.Disk.only_beside _ _ tells c.write.ensures.only) (c.in_ok-write.ensures.stored tells)
-    (λ bodies in_step. c.append.ensures.crash tells bodies in_step) (c.append.ensures.pages tells)
 
 pub returns-in-Ok-clause-cached : goal.returns-in-Ok-clause-cached
 returns-in-Ok-clause-cached g c = λ tells cached.

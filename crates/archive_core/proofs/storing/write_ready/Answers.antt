@@ -15,14 +15,8 @@ put_down-requires-clause-unkept g c =
     let U : SublistsState → Type 0 = λ s. All (λ k. IsTaken (extents places) k.page → ⊥) s.cache in
     subst U (sym c.sublists.ensures.value) (kept_apart shelf.pages (extents places) (extents_all shelf.plans) shelf.cache c.requires.taken c.sublists.ensures.lie)
 
-pub returns-in-Ok-clause-in_step : goal.returns-in-Ok-clause-in_step
-returns-in-Ok-clause-in_step g c = λ tells h step held legal ready. c.in-Ok.ensures.in_step tells h c.args.ready.stored.plan step held legal ready
-
 pub returns-in-Ok-clause-cached : goal.returns-in-Ok-clause-cached
 returns-in-Ok-clause-cached g c = λ tells cached.
     let S : SublistsState → Type 0 = λ s. IsCacheOf s.cache (g.D.Disk.disk c.args.disk.now).holds.pages in
     let N : SublistsState → Type 0 = λ s. IsCacheOf s.cache (g.D.Disk.disk c.put_down.new.disk).holds.pages in
     c.put.ensures.stays (g.D.Disk.disk c.put_down.new.disk).holds.pages (subst N c.sublists.ensures.value (c.in-Ok.ensures.cached tells (subst S (sym c.sublists.ensures.value) cached)))
-
-pub returns-in-Err-clause-crash : goal.returns-in-Err-clause-crash
-returns-in-Err-clause-crash g c = λ tells h step held legal ready. c.put_down.ensures.crash tells h c.args.ready.stored.plan step held legal ready

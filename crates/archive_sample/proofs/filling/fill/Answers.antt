@@ -43,9 +43,11 @@ pub returns-in_err-note-clause-filled : goal.returns-in_err-note-clause-filled
 returns-in_err-note-clause-filled g c = λ tells h in_step.
     let was = c.commands.invariant in
     let counts = was.counts tells h in_step in
+    let next = rw c.in-Some.is at c.in_ok-command.ensures.given in
+    let D : List Command → Type 0 = λ l. All HasDocument (map items.Command l) in
     let p = err_from_is_err_and c.from_residual-in_err-note.result c.from_residual-in_err-note.ensures.1 in
     rw (p.1, p.2) (filled_at (world_of h) c.args.sample c.commands.rest c.next_command.new.self c.in-Some.command c.in_err-note.field-0.0 counts.outcomes _ _ _ c.commands.archive c.carry_out.new.archive counts.goes
-    (rw c.in-Some.is at c.in_ok-command.ensures.given) (c.in_err-note.ensures.outcome tells _ counts.goes.in_step) (g.met.D.Disk.only_beside _ _ tells was.only) was.documents)
+    next (c.in_err-note.ensures.outcome tells _ counts.goes.in_step (All-head HasDocument (items.Command c.in-Some.command) (map items.Command c.next_command.new.self) (subst D next was.documents))) (g.met.D.Disk.only_beside _ _ tells was.only) was.documents)
 
 pub returns-in_err-tally-clause-filled : goal.returns-in_err-tally-clause-filled
 returns-in_err-tally-clause-filled g c = λ tells h in_step.
@@ -56,7 +58,7 @@ returns-in_err-tally-clause-filled g c = λ tells h in_step.
     let p = err_from_is_err_and c.from_residual-in_err-tally.result c.from_residual-in_err-tally.ensures.1 in
     rw (p.1, p.2, c.in_err-tally.ensures.full) (filled_between (world_of h) c.args.sample c.next_command.new.self _ _ _ c.carry_out.new.archive
     (goes_next (world_of h) c.args.sample c.commands.rest c.next_command.new.self c.in-Some.command c.in_ok-note.note counts.outcomes _ _ _ c.commands.archive c.carry_out.new.archive counts.goes
-    next (c.in_ok-note.ensures.outcome tells _ counts.goes.in_step) (g.met.D.Disk.only_beside _ _ tells was.only))
+    next (c.in_ok-note.ensures.outcome tells _ counts.goes.in_step (All-head HasDocument (items.Command c.in-Some.command) (map items.Command c.next_command.new.self) (subst D next was.documents))) (g.met.D.Disk.only_beside _ _ tells was.only))
     (All-tail HasDocument (items.Command c.in-Some.command) (map items.Command c.next_command.new.self) (subst D next was.documents)))
 
 pub commands-preserved : goal.commands-preserved
@@ -76,6 +78,6 @@ commands-preserved g c =
           (λ is. (let V : Option Verdict → Type 0 = λ v. IsSome v in subst V (sym c.verdict-last.ensures) (out.checked is)));
       counts = λ tells h in_step. (let counts = was.counts tells h in_step in
           counts_next (world_of h) c.args.sample c.commands.rest c.next_command.new.self c.in-Some.command c.in_ok-note.note c.commands.tally c.in_ok-tally.tally c.commands.last c.verdict-last.result
-          _ _ _ c.commands.archive c.carry_out.new.archive counts next (out.outcome tells _ counts.goes.in_step) (g.met.D.Disk.only_beside _ _ tells was.only)
+          _ _ _ c.commands.archive c.carry_out.new.archive counts next (out.outcome tells _ counts.goes.in_step (All-head HasDocument (items.Command c.in-Some.command) (map items.Command c.next_command.new.self) (subst D next was.documents))) (g.met.D.Disk.only_beside _ _ tells was.only)
           (λ replies reply is told. c.in_ok-tally.ensures.counts replies reply is told) c.verdict-last.ensures);
     }

@@ -23,4 +23,4 @@ invariant-items g l = record {
 }
 
 abbrev pub decreases-items : goal.decreases-items
-decreases-items g l = 2 ^ 40 - l.reader.passed
+decreases-items g l = 2 ^ 40 - l.reader.parts.passed

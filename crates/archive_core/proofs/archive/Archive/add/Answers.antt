@@ -2,7 +2,7 @@ use Rattle.std.proofs.Common.{Result, inl, subst}
 use Rattle.archive_replay.specs.Entries.{IsPrepared}
 use Rattle.archive_replay.specs.declared.preparing.Prepared.{Prepared}
 use Rattle.archive_replay.specs.declared.error.Declined.{Declined}
-use Rattle.archive_core.proofs.AddLemmas.{adds_entry, leads_entry, adds_none, leads_nowhere, pages_nowhere}
+use Rattle.archive_core.proofs.AddLemmas.{adds_entry, adds_none, pages_nowhere}
 use Rattle.archive_core.proofs.ByReadsLemmas.{adds_by, keeps_leads, keeps_nowhere}
 use Rattle.archive_core.proofs.archive.Archive.add.Goals as goal
 
@@ -17,19 +17,10 @@ returns-in-Ok-clause-adds g c = λ h entry refusal stands prepared.
     let is = subst (λ (p : Result Prepared Declined). IsPrepared h c.args.self.now.index entry refusal p) c.in-Ok.is prepared in
     adds_entry c.commit.result c.args.self.now c.commit.new.self h entry refusal c.in-Ok.prepared.change c.in-Ok.prepared.body.items c.in-Ok.prepared.words stands is.0 is.1 is.2 c.commit.ensures.refused c.commit.ensures.allowed c.commit.ensures.more
 
-pub returns-in-Ok-clause-leads : goal.returns-in-Ok-clause-leads
-returns-in-Ok-clause-leads g c = λ tells h entry refusal in_step prepared.
-    let is = subst (λ (p : Result Prepared Declined). IsPrepared h c.args.self.now.index entry refusal p) c.in-Ok.is prepared in
-    leads_entry c.commit.result c.args.self.now c.commit.new.self _ _ h entry c.in-Ok.prepared.change c.in-Ok.prepared.body.items c.in-Ok.prepared.words in_step is.0 is.1 c.commit.ensures.more (c.commit.ensures.crash tells _ in_step.journal) (c.commit.ensures.pages tells) (c.commit.ensures.in_step tells _ in_step.journal)
-    (λ ok. c.commit.ensures.cached tells in_step.cached (inl ok))
-
 pub returns-in-Err-clause-adds : goal.returns-in-Err-clause-adds
 returns-in-Err-clause-adds g c = λ h entry refusal stands prepared.
     let P : Result Prepared Declined → Type 0 = λ p. IsPrepared h c.args.self.now.index entry refusal p in
     adds_none c.in-Err.why c.give_up.result c.args.self.now c.give_up.new.self h entry refusal (subst P c.in-Err.is prepared) c.give_up.ensures
-
-pub returns-in-Err-clause-leads : goal.returns-in-Err-clause-leads
-returns-in-Err-clause-leads g c = λ tells h entry refusal in_step prepared. (leads_nowhere _ c.args.self.now h _ in_step, tt)
 
 pub returns-in-Err-clause-pages : goal.returns-in-Err-clause-pages
 returns-in-Err-clause-pages g c = λ tells. pages_nowhere _

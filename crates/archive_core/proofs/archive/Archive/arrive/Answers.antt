@@ -4,7 +4,7 @@ use Rattle.commands.specs.declared.command.Item.TheVariants as items
 use Rattle.commands.specs.declared.text.Text.TheVariants as texts
 use Rattle.record_codec.specs.declared.entry.Entry.TheVariants as entries
 use Rattle.archive_state.specs.Steps.{arrival_refusal}
-use Rattle.archive_core.proofs.TakeLemmas.{entry_by, takes_entry}
+use Rattle.archive_core.proofs.TakeLemmas.{entry_by}
 use Rattle.archive_core.proofs.archive.Archive.arrive.Goals as goal
 
 pub add-requires-clause-next : goal.add-requires-clause-next
@@ -19,14 +19,6 @@ pub returns-clause-adds : goal.returns-clause-adds
 returns-clause-adds g c = λ h stands.
     let same = c.arrival-prepared.ensures.same in
     c.add.ensures.adds h _ _ (rw same stands) (rw same (c.arrival-prepared.ensures.prepared h stands))
-
-pub returns-clause-takes : goal.returns-clause-takes
-returns-clause-takes g c = λ tells h in_step.
-    let same = c.arrival-prepared.ensures.same in
-    let after = returns-clause-after g c in
-    takes_entry h (items.Command (commands.Arrive c.args.doc c.args.at (texts.Bytes c.args.text.now))) (entries.Arrive c.args.doc c.args.at c.args.text.now) (arrival_refusal h c.args.doc c.args.at c.args.text.now) c.add.result _ _ c.args.self.now c.add.new.self
-    (λ reply next adds. adds) in_step (returns-clause-adds g c h in_step.stands) (λ why is. ((after.same why is).0, ap g.D.Disk.disk (after.same why is).1)) (λ is. ap g.D.Disk.disk (after.memory is))
-    (c.add.ensures.leads tells h (entries.Arrive c.args.doc c.args.at c.args.text.now) (arrival_refusal h c.args.doc c.args.at c.args.text.now) (rw same in_step) (rw same (c.arrival-prepared.ensures.prepared h in_step.stands)))
 
 pub returns-clause-by_reads : goal.returns-clause-by_reads
 returns-clause-by_reads g c = λ tells s in_step.

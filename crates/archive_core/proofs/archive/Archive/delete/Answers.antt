@@ -3,7 +3,7 @@ use Rattle.commands.specs.declared.command.Command.TheVariants as commands
 use Rattle.commands.specs.declared.command.Item.TheVariants as items
 use Rattle.record_codec.specs.declared.entry.Entry.TheVariants as entries
 use Rattle.archive_state.specs.Steps.{deletion_refusal}
-use Rattle.archive_core.proofs.TakeLemmas.{entry_by, takes_entry}
+use Rattle.archive_core.proofs.TakeLemmas.{entry_by}
 use Rattle.archive_core.proofs.archive.Archive.delete.Goals as goal
 
 pub add-requires-clause-next : goal.add-requires-clause-next
@@ -18,14 +18,6 @@ pub returns-clause-adds : goal.returns-clause-adds
 returns-clause-adds g c = λ h stands.
     let same = c.deletion-prepared.ensures.same in
     c.add.ensures.adds h _ _ (rw same stands) (rw same (c.deletion-prepared.ensures.prepared h stands))
-
-pub returns-clause-takes : goal.returns-clause-takes
-returns-clause-takes g c = λ tells h in_step.
-    let same = c.deletion-prepared.ensures.same in
-    let after = returns-clause-after g c in
-    takes_entry h (items.Command (commands.Delete c.args.doc c.args.at)) (entries.Delete c.args.doc c.args.at) (deletion_refusal h c.args.doc c.args.at) c.add.result _ _ c.args.self.now c.add.new.self
-    (λ reply next adds. adds) in_step (returns-clause-adds g c h in_step.stands) (λ why is. ((after.same why is).0, ap g.D.Disk.disk (after.same why is).1)) (λ is. ap g.D.Disk.disk (after.memory is))
-    (c.add.ensures.leads tells h (entries.Delete c.args.doc c.args.at) (deletion_refusal h c.args.doc c.args.at) (rw same in_step) (rw same (c.deletion-prepared.ensures.prepared h in_step.stands)))
 
 pub returns-clause-by_reads : goal.returns-clause-by_reads
 returns-clause-by_reads g c = λ tells s in_step.

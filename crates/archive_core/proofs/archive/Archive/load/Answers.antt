@@ -5,9 +5,10 @@ use Rattle.gate_journal.specs.Spelled.{Spells}
 use Rattle.gate_journal.proofs.LoadLemmas.{kept_reads, sync_reads}
 use Rattle.archive_state.specs.Stands.{bodies_of}
 use Rattle.archive_state.proofs.StandsLemmas.{stands_is_archive}
-use Rattle.archive_core.proofs.AddLemmas.{history_loaded, pages_reads, in_step_loaded, journal_exit, IfOk-both}
+use Rattle.archive_core.proofs.AddLemmas.{history_loaded, pages_reads, journal_exit, IfOk-both}
 use Rattle.archive_core.specs.States.{Reaches}
 use Rattle.archive_core.proofs.ByReadsLemmas.{loaded_by}
+use Rattle.archive_core.proofs.StandingLemmas.{loaded_in_step}
 use Rattle.archive_core.proofs.archive.Archive.load.Given.{Over}
 use Rattle.archive_core.proofs.archive.Archive.load.Goals as goal
 
@@ -42,15 +43,6 @@ returns-clause-found g c = λ tells.
     IfOk-weaker c.archive_of.result _ _ (λ a all. (all.0, (all.1.0, subst S (sym all.1.1) found.spelled)))
     (c.archive_of.ensures.found tells found.bodies (c.deref.ensures.value ∙ found.laid_out.heads_are) step.2)
 
-pub returns-clause-in_step : goal.returns-clause-in_step
-returns-clause-in_step g c = λ tells h stood.
-    let found = c.in_ok-journal.ensures.found tells in
-    let step = c.in_ok-journal.ensures.in_step tells found.bodies found.spelled in
-    IfOk-both c.archive_of.result _ _ _ (λ a (end, empty) all. in_step_loaded a (g.D.Disk.disk c.load.new.disk) (g.D.Disk.disk c.archive_of.new.disk) (g.D.Disk.disk c.args.disk.now).holds c.in_ok-journal.journal.end found.bodies all.0 h
-    all.1.0 empty end all.1.1 found.spelled step.1 c.archive_of.ensures.same
-    (c.in_ok-journal.ensures.one tells) (c.in_ok-journal.ensures.pages_hold tells) stood)
-    (IfOk-both c.archive_of.result _ _ (λ a. (a.end ≡ c.in_ok-journal.journal.end) × (a.shelf.cache ≡ [])) (λ a end empty. (end, empty)) c.archive_of.ensures.end c.archive_of.ensures.empty) (c.archive_of.ensures.found tells found.bodies (c.deref.ensures.value ∙ found.laid_out.heads_are) step.2)
-
 pub returns-clause-exact : goal.returns-clause-exact
 returns-clause-exact g c = λ tells.
     let found = c.in_ok-journal.ensures.found tells in
@@ -81,6 +73,9 @@ returns-clause-by_reads g c = λ tells.
     IfOk-both c.archive_of.result (λ a. ((a.end ≡ c.in_ok-journal.journal.end) × (a.shelf.cache ≡ [])) × Reaches (g.D.Disk.disk c.archive_of.new.disk).reach a) _ _ (λ a ((end, empty), within) all. loaded_by a (g.D.Disk.disk c.load.new.disk) (g.D.Disk.disk c.archive_of.new.disk) (g.D.Disk.disk c.args.disk.now).holds c.in_ok-journal.journal.end found.bodies all.0
     all.1.0 empty end all.1.1 found.spelled step.1 c.archive_of.ensures.same (c.in_ok-journal.ensures.one tells) (c.in_ok-journal.ensures.pages_hold tells) within (g.met.D.Disk.reach_holds c.archive_of.new.disk Pages tells))
     (IfOk-both c.archive_of.result _ _ _ (λ a one two. (one, two)) known c.archive_of.ensures.within) (c.archive_of.ensures.found tells found.bodies (c.deref.ensures.value ∙ found.laid_out.heads_are) step.2)
+
+pub returns-clause-in_step : goal.returns-clause-in_step
+returns-clause-in_step g c = λ tells h stood. IfOk-weaker c.archive_of.result _ _ (λ a is. loaded_in_step (g.D.Disk.disk c.archive_of.new.disk) a h (g.D.Disk.disk c.args.disk.now).holds is stood) (returns-clause-by_reads g c tells)
 
 pub returns-clause-kept : goal.returns-clause-kept
 returns-clause-kept g c = λ tells bodies each. kept_reads bodies (g.D.Disk.disk c.args.disk.now) (g.D.Disk.disk c.load.new.disk) (g.D.Disk.disk c.archive_of.new.disk) (c.load.ensures.crash tells bodies each) c.archive_of.ensures.same

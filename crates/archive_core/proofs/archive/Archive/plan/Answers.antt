@@ -1,15 +1,14 @@
-use Rattle.std.proofs.Common.{◌+◌, ◌∷◌, [], ◌++◌, length, Err, refl, ap, inr, sym, subst}
+use Rattle.std.proofs.Common.{◌+◌, ◌∷◌, [], ◌++◌, Err, refl, ap, inr, sym, subst}
 use Rattle.std.proofs.lemmas.Result.{IfOk-weaker}
 use Rattle.record_codec.specs.declared.entry.Entry.TheVariants as entries
 use Rattle.commands.specs.declared.command.Command.TheVariants as commands
 use Rattle.commands.specs.declared.command.Item.TheVariants as items
 use Rattle.archive_state.specs.Steps.{Planned, Plans, Refused, Summary}
 use Rattle.archive_core.specs.States.{CacheStands, StandsFor}
-use Rattle.plan_shelf.specs.Readying.{tells_of}
 use Rattle.plan_shelf.specs.declared.readying.PlanReport.{PlanReport}
 use Rattle.archive_core.proofs.AddLemmas.{given_up_cached, given_up_never, given_up_refused}
 use Rattle.archive_core.proofs.ByReadsLemmas.{still_by, stocks_same}
-use Rattle.archive_core.proofs.StoreLemmas.{plan_by, plans_full, plans_stored, plans_refused, still_in_step, takes_plan}
+use Rattle.archive_core.proofs.StoreLemmas.{plan_by, plans_full, plans_stored, plans_refused}
 use Rattle.archive_core.proofs.TakeLemmas.{unmade_by}
 use Rattle.archive_core.proofs.archive.Archive.plan.Goals as goal
 
@@ -27,26 +26,6 @@ returns-in-Ok-clause-stores g c = λ h stands.
     (h ++ entries.Planned plan ∷ [], (subst P (sym told) (plans_stored h c.args.word.now c.args.kind c.args.factor c.in-Ok.draft plan ens.term (ens.known h stands) ens.kind ens.factor (ens.drafted h stands) stored), then)))
     (c.store.ensures.stores h stands)
 
-pub returns-in-Ok-clause-takes : goal.returns-in-Ok-clause-takes
-returns-in-Ok-clause-takes g c = λ tells h in_step.
-    let ens = c.in-Ok.ensures in
-    let stands = in_step.stands in
-    takes_plan h c.args.word.now c.args.kind c.args.factor c.store.result _ _ c.args.self.now c.store.new.self in_step stands.loadable
-    (λ why is.
-    let full = returns-in-Ok-clause-refused g c h stands why is in
-    let same = ap g.D.Disk.disk (c.store.ensures.same why is) in
-    (same, full.0, still_in_step _ c.args.self.now c.store.new.self h in_step full.1 (let kept : CacheStands (g.D.Disk.disk c.store.new.disk) c.store.new.self = c.store.ensures.cached tells in_step.cached (inr (why, is)) in rw same at kept)))
-    (λ is. ap g.D.Disk.disk (c.store.ensures.memory is))
-    (λ is.
-    let (plan, (stored, leads, then)) = c.store.ensures.leads tells h in_step is in
-    record {
-      told = tells_of c.in-Ok.draft (length h + 1);
-      next = h ++ entries.Planned plan ∷ [];
-      plans = plans_stored h c.args.word.now c.args.kind c.args.factor c.in-Ok.draft plan ens.term (ens.known h stands) ens.kind ens.factor (ens.drafted h stands) stored;
-      leads = leads;
-      in_step = then;
-    })
-
 pub returns-in-Ok-clause-by_reads : goal.returns-in-Ok-clause-by_reads
 returns-in-Ok-clause-by_reads g c = λ tells s in_step.
     let h = s.history in
@@ -63,12 +42,6 @@ pub returns-in-Err-clause-refused : goal.returns-in-Err-clause-refused
 returns-in-Err-clause-refused g c = λ h stands why is.
     given_up_refused (λ w s. Plans h c.args.word.now c.args.kind c.args.factor (Refused w) h × StandsFor s h) c.in-Err.declined c.give_up.result c.args.self.now c.give_up.new.self why c.give_up.ensures
     (λ other one. (plans_refused h c.args.word.now c.args.kind c.args.factor other (c.in-Err.ensures.refused h stands other one), stands)) is
-
-pub returns-in-Err-clause-takes : goal.returns-in-Err-clause-takes
-returns-in-Err-clause-takes g c = λ tells h in_step.
-    takes_plan h c.args.word.now c.args.kind c.args.factor (Err c.give_up.result) _ _ c.args.self.now c.give_up.new.self in_step in_step.stands.loadable
-    (λ why is. let full = returns-in-Err-clause-refused g c h in_step.stands why is in (refl, full.0, still_in_step _ c.args.self.now c.give_up.new.self h in_step full.1 (given_up_cached c.in-Err.declined c.give_up.result c.args.self.now c.give_up.new.self (g.D.Disk.disk c.args.disk.now) c.give_up.ensures in_step.cached)))
-    (λ is. refl) (given_up_never _ c.in-Err.declined c.give_up.result c.args.self.now c.give_up.new.self c.give_up.ensures)
 
 pub returns-in-Err-clause-by_reads : goal.returns-in-Err-clause-by_reads
 returns-in-Err-clause-by_reads g c = λ tells s in_step.

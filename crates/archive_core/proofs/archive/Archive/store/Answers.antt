@@ -7,10 +7,9 @@ use Rattle.page_store.specs.Taken.{HasTaken}
 use Rattle.archive_state.specs.declared.stored.StoredPlan.{StoredPlan}
 use Rattle.archive_state.specs.Histories.{History}
 use Rattle.archive_state.specs.Plans.{with_plan, live_extents}
-use Rattle.archive_state.proofs.HistoryLemmas.{legal-push}
 use Rattle.archive_core.specs.Adding.{HasSameShelf}
 use Rattle.archive_state.specs.Stands.{bodies_of}
-use Rattle.archive_core.specs.States.{ArchiveState, StandsFor, AreInStep, AreInStepBy, with_entry}
+use Rattle.archive_core.specs.States.{ArchiveState, StandsFor, AreInStepBy, with_entry}
 use Rattle.plan_shelf.specs.Shelves.{extents_all}
 use Rattle.plan_shelf.specs.Readying.{IsFull, summary_of, tells_of}
 use Rattle.archive_core.proofs.AddLemmas.{bodies_more, given_up_cached, given_up_refused, inside_on}
@@ -76,30 +75,6 @@ returns-in-Ok-write_ready-clause-cached g c = λ tells cached is.
     let kept = c.in-Ok.ensures.cache ∙ ap (λ (s : ArchiveState). s.shelf.cache) c.self.view_is in
     c.in-Ok-write_ready.ensures.cached tells (subst (λ (ks : List Kept). IsCacheOf ks (g.D.Disk.disk c.args.disk.now).holds.pages) (sym kept) cached)
 
-pub returns-in-Ok-write_ready-clause-leads : goal.returns-in-Ok-write_ready-clause-leads
-returns-in-Ok-write_ready-clause-leads g c = λ tells h now is.
-    let in_step = subst (λ (s : ArchiveState). AreInStep (g.D.Disk.disk c.args.disk.now) s h) (sym c.self.view_is) now in
-    let r = c.in-Ok.ready in
-    let ready = c.in-Ok.ensures.ready in
-    let storable = ready_storable h c.args.draft c.end.result c.self.inside.entries r c.make_ready.new.shelf.pages (c.requires.drafted h now.stands) ready (c.in-Ok.ensures.taken _ in_step.stands.pages_are) in
-    let then = c.in-Ok-write_ready.ensures.in_step tells h in_step.journal in_step.held in_step.legal storable in (
-      r.stored.plan,
-      (
-        ready_stored h c.args.draft c.end.result c.self.inside.entries r (c.end.ensures.end ∙ in_step.stands.end_is) ready (c.in-Ok.ensures.placed _ in_step.stands.pages_are),
-        c.in-Ok-write_ready.ensures.crash tells h in_step.journal in_step.held in_step.legal storable,
-        (
-          ap summary_of c.in-Ok-write_ready.ensures.report ∙ ready.told ∙ ap (λ (n : ℕ). tells_of c.args.draft (n + 1)) in_step.stands.length_is,
-          record {
-            stands = planned g c h now.stands;
-            journal = then.0;
-            legal = legal-push h (entries.Planned r.stored.plan) in_step.legal storable.entry;
-            held = then.1;
-            cached = returns-in-Ok-write_ready-clause-cached g c tells now.cached (inl refl);
-          },
-        ),
-      ),
-    )
-
 pub returns-in-Err-write_ready-clause-within : goal.returns-in-Err-write_ready-clause-within
 returns-in-Err-write_ready-clause-within g c =
     let spent = c.in-Err-write_ready.ensures.spent in
@@ -123,21 +98,6 @@ returns-in-Err-write_ready-clause-spent g c = λ is.
       shelf_is = subst (λ (s : ArchiveState). HasSameShelf s.shelf c.write_ready.new.shelf) view shelf;
       live_is = refl;
     }
-
-pub returns-in-Err-write_ready-clause-leads : goal.returns-in-Err-write_ready-clause-leads
-returns-in-Err-write_ready-clause-leads g c = λ tells h now is.
-    let in_step = subst (λ (s : ArchiveState). AreInStep (g.D.Disk.disk c.args.disk.now) s h) (sym c.self.view_is) now in
-    let stands = in_step.stands in
-    let r = c.in-Ok.ready in
-    let ready = c.in-Ok.ensures.ready in
-    let storable = ready_storable h c.args.draft c.end.result c.self.inside.entries r c.make_ready.new.shelf.pages (c.requires.drafted h now.stands) ready (c.in-Ok.ensures.taken _ stands.pages_are) in (
-      r.stored.plan,
-      (
-        ready_stored h c.args.draft c.end.result c.self.inside.entries r (c.end.ensures.end ∙ stands.end_is) ready (c.in-Ok.ensures.placed _ stands.pages_are),
-        c.in-Err-write_ready.ensures.crash tells h in_step.journal in_step.held in_step.legal storable,
-        tt,
-      ),
-    )
 
 pub returns-in-Ok-write_ready-clause-puts : goal.returns-in-Ok-write_ready-clause-puts
 returns-in-Ok-write_ready-clause-puts g c = λ tells s now.

@@ -4,7 +4,7 @@ use Rattle.std.proofs.lemmas.Result.{IfOk-weaker}
 use Rattle.plan_shelf.specs.Shelves.{ShelfState}
 use Rattle.archive_check.proofs.LawLemmas.{loaded_in_order}
 use Rattle.archive_core.proofs.ChosenLemmas.{readable}
-use Rattle.archive_core.proofs.TakeLemmas.{takes_verify, verify_by}
+use Rattle.archive_core.proofs.TakeLemmas.{verify_by}
 use Rattle.archive_core.proofs.TextLemmas.{all_lie}
 use Rattle.archive_core.proofs.archive.Archive.verify.Goals as goal
 
@@ -28,10 +28,6 @@ pub returns-clause-checked : goal.returns-clause-checked
 returns-clause-checked g c = λ told h stands.
     let plans = c.plans-plans.ensures ∙ ap (λ (s : ShelfState). s.plans) c.shelf.ensures.shelf ∙ stands.plans_are in
     IfOk-weaker c.verify.result _ _ (λ verdict is. (c.directory.result.now.changes, rw c.directory.ensures.changes stands.changes_are, rw plans at is)) (c.verify.ensures.verdict told)
-
-pub returns-clause-takes : goal.returns-clause-takes
-returns-clause-takes g c = λ tells h in_step.
-    takes_verify h c.verify.result _ _ c.args.self.now (g.met.D.Disk.holds_allowed c.args.disk.now tells) (returns-clause-checked g c tells h in_step.stands) c.verify.ensures.same in_step
 
 pub returns-clause-by_reads : goal.returns-clause-by_reads
 returns-clause-by_reads g c = λ tells s in_step.

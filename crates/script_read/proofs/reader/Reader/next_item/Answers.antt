@@ -3,6 +3,7 @@ use Rattle.std.proofs.lemmas.List.Elements.{All-nil}
 use Rattle.std.proofs.lemmas.Result.{err_from_is_err_and}
 use Rattle.script_read.specs.Reading.{IsAwaited, found}
 use Rattle.script_read.specs.declared.first.First.TheVariants.{More}
+use Rattle.script_read.proofs.Ranges.{taken-fits}
 use Rattle.script_read.proofs.ReaderLemmas.{still-open}
 use Rattle.script_read.proofs.CallLemmas.{goes-start, goes-front, goes-piece, goes-pull, goes-skipped, wanted, awaited-more, says-piece, says-none, says-broken, says-failed}
 use Rattle.script_read.proofs.reader.Reader.next_item.Goals as goal
@@ -25,6 +26,11 @@ returns-then-is_some-clause-says g c = λ since stands.
     says-piece _ _ _ c.args.self.now c.advance.new.self since c.in-Whole.piece (sym c.is_some.ensures ∙ c.if-is_some.true)
     (goes-piece _ _ _ c.args.self.now c.front.new.self c.advance.new.self since c.in-Whole.piece c.in-Whole.n went (sym c.in-Whole.is ∙ front.value) within.0 within.1 c.advance.ensures)
 
+pub returns-then-is_some-clause-fits : goal.returns-then-is_some-clause-fits
+returns-then-is_some-clause-fits g c =
+    let front = c.in_ok-piece.ensures in
+    taken-fits c.front.new.self c.in-Whole.piece c.in-Whole.n front.small (sym c.in-Whole.is ∙ front.value)
+
 pub returns-then-is_some-clause-further : goal.returns-then-is_some-clause-further
 returns-then-is_some-clause-further g c =
     let front = c.in_ok-piece.ensures in
@@ -32,8 +38,8 @@ returns-then-is_some-clause-further g c =
     let later : c.args.self.now.passed < c.advance.new.self.passed = omega (arith, c.rounds.invariant.further, front.passed, within.0, ap (λ h. h.passed) c.advance.ensures) in
     λ some. later
 
-pub rounds-preserved-else-is_some-18 : goal.rounds-preserved-else-is_some-18
-rounds-preserved-else-is_some-18 g c =
+pub rounds-preserved-else-is_some-19 : goal.rounds-preserved-else-is_some-19
+rounds-preserved-else-is_some-19 g c =
     let run = c.rounds.invariant in
     let front = c.in_ok-piece.ensures in
     let within = rw c.in-Whole.is at front.within in

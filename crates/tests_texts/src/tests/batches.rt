@@ -1,0 +1,320 @@
+//! A batch is one item, in whatever pieces it comes and whichever pulls fail.
+ghost use Rattle.std.specs.Prelude.{◌^◌, ◌<◌};
+
+use crate::tests::scripts::in_words;
+use commands::{BatchItem, BatchItems, Command, Text};
+use machine_model::{Failed, Source};
+use script_items::{Item, Reader, ScriptError};
+use std::alloc::Global;
+use std::process::Abort;
+
+/// A source that gives its bytes in pieces, and whose every second pull fails.
+#[derive(Drop)]
+struct Halting<'a> {
+    rest: &'a [u8],
+    piece: usize,
+    halts: bool,
+    faults: u64,
+    ghost counted: { faults < 2 ^ 64 },
+}
+
+impl Source for Halting<'_> {
+    ghost use Rattle.std.specs.Prelude.{[], ◌≤◌, ℕ};
+    ghost use Rattle.std.proofs.Common.{arith};
+    ghost use Rattle.machine_model.specs.Pulls.{ArePulls};
+    ghost use Rattle.machine_model.proofs.PullLemmas.{source_laws};
+
+    ghost source_tells = { ⊥ };
+
+    ghost source = { λ s. record { left = []; faults = s.faults } };
+
+    ghost only = { λ x y. x.faults ≤ y.faults };
+
+    ghost pulled = { λ x lefts y. ArePulls (λ (faults : ℕ). []) (λ m n. m ≤ n) x.faults lefts y.faults };
+
+    ghost laws = { source_laws (λ x. x.faults) (λ n. record { left = []; faults = n }) (λ m n. m ≤ n) (λ n. Prim.omega arith) (λ m n k one two. Prim.omega (arith, one, two)) (λ m n one. one) (λ x. Prim.omega (arith, x.counted)) };
+
+    fn pull(&mut self, buf: &mut [u8]) -> Result<usize, Failed> {
+        let halts = self.halts;
+        self.halts = !halts;
+        if halts {
+            self.faults = self.faults.saturating_add(1);
+            return Err(Failed);
+        }
+        let n = self.piece.min(buf.len()).min(self.rest.len());
+        buf[..n].copy_from_slice(&self.rest[..n]);
+        self.rest = &self.rest[n..];
+        Ok(n)
+    }
+}
+
+/// A text in words: a short one whole, or how long it is.
+fn text_in_words(rt: &impl Abort, alloc: Global, text: &Text) -> String {
+    match text {
+        Text::Bytes(content) => short_in_words(rt, alloc, content.as_slice()),
+        Text::TooLong { bytes } => format!(in alloc; "too long {bytes}").expect(rt, "memory"),
+    }
+}
+
+fn short_in_words(rt: &impl Abort, alloc: Global, text: &[u8]) -> String {
+    if text.len() > 16 {
+        return format!(in alloc; "{} bytes", text.len()).expect(rt, "memory");
+    }
+    String::from_utf8(Vec::from_slice(alloc, text).expect(rt, "memory")).expect(rt, "a text")
+}
+
+fn member_in_words(rt: &impl Abort, alloc: Global, member: &BatchItem) -> String {
+    match member {
+        BatchItem::Arrive { doc, at, text } => {
+            let text = text_in_words(rt, alloc, text);
+            format!(in alloc; "arrive {} {} {text}", doc.0, at.seconds()).expect(rt, "memory")
+        }
+        BatchItem::Delete { doc, at } => {
+            format!(in alloc; "delete {} {}", doc.0, at.seconds()).expect(rt, "memory")
+        }
+        BatchItem::Other => String::from_str(alloc, "other").expect(rt, "memory"),
+    }
+}
+
+/// Items of a batch in words: how many they are, and the first three.
+fn members_in_words(rt: &impl Abort, alloc: Global, members: &[BatchItem]) -> String {
+    let mut line = format!(in alloc; "batch {}", members.len()).expect(rt, "memory");
+    for member in members.iter().take(3) {
+        line.push_str("; ").expect(rt, "memory");
+        let words = member_in_words(rt, alloc, member);
+        line.push_str(words.as_str()).expect(rt, "memory");
+    }
+    line
+}
+
+fn batch_in_words(rt: &impl Abort, alloc: Global, batch: &BatchItems) -> String {
+    match batch {
+        BatchItems::Items(list) => members_in_words(rt, alloc, list.as_slice()),
+        BatchItems::TooLong { bytes } => {
+            format!(in alloc; "batch too long {bytes}").expect(rt, "memory")
+        }
+    }
+}
+
+/// An answer in words, where the items of a batch are told.
+fn answer_in_words(
+    rt: &impl Abort,
+    alloc: Global,
+    answer: &Result<Option<Item>, ScriptError>,
+) -> String {
+    match answer {
+        Ok(Some(Item::Command(Command::Batch(batch)))) => batch_in_words(rt, alloc, batch),
+        other => in_words(rt, alloc, other),
+    }
+}
+
+/// The next answer that isn't a pull that failed.
+fn next_answer(
+    rt: &impl Abort,
+    alloc: Global,
+    reader: &mut Reader,
+    source: &mut Halting,
+) -> Result<Option<Item>, ScriptError> {
+    for _ in 0..100000 {
+        match reader.next_item(alloc, source) {
+            Err(ScriptError::Failed) => {}
+            answer => return answer,
+        }
+    }
+    Err(ScriptError::Failed)
+}
+
+/// A reader answers this, call after call, of a script in pieces of that size; where a pull failed,
+/// the call is made again.
+fn expect_answers(rt: &impl Abort, alloc: Global, script: &[u8], piece: usize, want: &[&str]) {
+    let mut source = Halting {
+        rest: script,
+        piece,
+        halts: false,
+        faults: 0,
+    };
+    let mut reader = Reader::new(alloc).expect(rt, "memory");
+    for words in want {
+        let answer = next_answer(rt, alloc, &mut reader, &mut source);
+        let answer = answer_in_words(rt, alloc, &answer);
+        assert_eq!(rt; answer.as_str(), *words);
+    }
+}
+
+/// Scripts, and their answers.
+const SCRIPTS: [(&str, &[&str]); 16] = [
+    (
+        "batch 3\narrive 7 10 5\r\nred a\r\ndelete 7 20\nverify\nfind 20 red\n",
+        &[
+            "batch 3; arrive 7 10 red a; delete 7 20; other",
+            "find 20 red",
+            "finished",
+        ],
+    ),
+    // the line of a batch within a batch is one item, and the batch ends without a line end
+    (
+        "batch 2\nbatch 2\ndelete 1 5\nbatch 1\ndelete 2 6",
+        &[
+            "batch 2; other; delete 1 5",
+            "batch 1; delete 2 6",
+            "finished",
+        ],
+    ),
+    // lines that are skipped
+    (
+        "# a\n\n batch  02 \n  \n# b\ndelete 1 5\n#\n\r\ndelete 2 5\n\n#",
+        &["batch 2; delete 1 5; delete 2 5", "finished"],
+    ),
+    // lines that begin no batch
+    (
+        "batch 0\nbatch 1001\nbatch 1 1\nbatch\nbatch x\nbatch 4294967297\ndelete 1 5",
+        &[
+            "line",
+            "line",
+            "line",
+            "line",
+            "line",
+            "line",
+            "delete 1 5",
+            "finished",
+        ],
+    ),
+    (
+        "batch 2\nhello\nfind 20 red\n",
+        &["batch 2; other; other", "finished"],
+    ),
+    (
+        "batch 1\narrive 7 10 0\n\nverify",
+        &["batch 1; arrive 7 10 ", "verify", "finished"],
+    ),
+    // the bytes of a text aren't looked at
+    (
+        "batch 1\narrive 7 10 8\nbatch 2\n\nverify",
+        &["batch 1; arrive 7 10 batch 2\n", "verify", "finished"],
+    ),
+    // the input ends within a batch
+    ("batch 1", &["broken at 7"]),
+    ("batch 1000\n", &["broken at 11"]),
+    ("verify\nbatch 2\ndelete 1 5\n", &["verify", "broken at 26"]),
+    ("batch 2\ndelete 1 5\n# b\n\n", &["broken at 24"]),
+    // and within an item of it
+    ("batch 2\narrive 7 70", &["broken at 8"]),
+    ("batch 2\narrive 7 70 9\nblue", &["broken at 26"]),
+    ("batch 2\narrive 7 70 3\nred", &["broken at 25"]),
+    // an item that is broken
+    (
+        "batch 2\ndelete 1 5\narrive 7 70 3\nred a\n",
+        &["broken at 36"],
+    ),
+    ("batch 2\ndelete 1 5\narrive 7 70 x\n", &["broken at 19"]),
+];
+
+#[test]
+fn a_batch_is_one_item_in_any_pieces(rt: HostRuntime) {
+    for piece in [1, 2, 3, 7, 4096] {
+        for (script, want) in SCRIPTS {
+            expect_answers(&rt, rt.alloc(), script.as_bytes(), piece, want);
+        }
+    }
+}
+
+/// Calls answer this, one after another, of a script that comes whole in its first pull, while every
+/// second pull fails.
+#[test]
+fn nothing_is_pulled_while_a_batch_is_whole(rt: HostRuntime) {
+    let script = b"batch 1\ndelete 1 5\n# a\nbatch 2\ndelete 2 6\n";
+    let mut source = Halting {
+        rest: script,
+        piece: 4096,
+        halts: false,
+        faults: 0,
+    };
+    let mut reader = Reader::new(rt.alloc()).expect(&rt, "memory");
+    for words in ["batch 1; delete 1 5", "failed", "broken at 42"] {
+        let answer = reader.next_item(rt.alloc(), &mut source);
+        let answer = answer_in_words(&rt, rt.alloc(), &answer);
+        assert_eq!(&rt; answer.as_str(), words);
+    }
+}
+
+/// A batch of texts of these lengths, and `verify` behind it.
+fn batch_of_texts(rt: &impl Abort, alloc: Global, texts: &[usize]) -> Vec<u8> {
+    let line = format!(in alloc; "batch {}\n", texts.len()).expect(rt, "memory");
+    let mut script = line.into_bytes();
+    for text in texts {
+        push_text(rt, alloc, &mut script, *text);
+    }
+    script.extend_from_slice(b"verify\n").expect(rt, "memory");
+    script
+}
+
+fn push_text(rt: &impl Abort, alloc: Global, script: &mut Vec<u8>, text: usize) {
+    let line = format!(in alloc; "arrive 7 10 {text}\n").expect(rt, "memory");
+    script
+        .extend_from_slice(line.as_bytes())
+        .expect(rt, "memory");
+    let bytes = vec![in alloc; b'a'; text].expect(rt, "memory");
+    script
+        .extend_from_slice(bytes.as_slice())
+        .expect(rt, "memory");
+    script.push(b'\n').expect(rt, "memory");
+}
+
+/// Texts by their lengths, and what their batch is.
+const TEXTS: [(&[usize], &str); 4] = [
+    (
+        &[4194304, 4194304, 4194304, 4194304],
+        "batch 4; arrive 7 10 4194304 bytes; arrive 7 10 4194304 bytes; arrive 7 10 4194304 bytes",
+    ),
+    (
+        &[4194304, 4194304, 4194304, 4194304, 1],
+        "batch too long 16777217",
+    ),
+    (&[4194305], "batch 1; arrive 7 10 too long 4194305"),
+    (&[16777217, 1], "batch too long 16777218"),
+];
+
+#[test]
+fn texts_of_a_batch_have_together_at_most_16_mib(rt: HostRuntime) {
+    for (texts, words) in TEXTS {
+        let script = batch_of_texts(&rt, rt.alloc(), texts);
+        let want = [words, "verify", "finished"];
+        expect_answers(&rt, rt.alloc(), script.as_slice(), 65536, &want);
+    }
+}
+
+/// A batch of so many deletions, of which so many are there, and then `verify`.
+fn batch_of_deletions(rt: &impl Abort, alloc: Global, count: usize, there: usize) -> Vec<u8> {
+    let line = format!(in alloc; "batch {count}\n").expect(rt, "memory");
+    let mut script = line.into_bytes();
+    for _ in 0..there {
+        script
+            .extend_from_slice(b"delete 7 20\n")
+            .expect(rt, "memory");
+    }
+    script.extend_from_slice(b"verify\n").expect(rt, "memory");
+    script
+}
+
+#[test]
+fn a_batch_has_at_most_1000_items(rt: HostRuntime) {
+    let deletions = "; delete 7 20; delete 7 20; delete 7 20";
+    let whole = format!(in rt.alloc(); "batch 1000{deletions}").expect(&rt, "memory");
+    let script = batch_of_deletions(&rt, rt.alloc(), 1000, 1000);
+    let want = [whole.as_str(), "verify", "finished"];
+    expect_answers(&rt, rt.alloc(), script.as_slice(), 4096, &want);
+    let script = batch_of_deletions(&rt, rt.alloc(), 1000, 999);
+    let want = [whole.as_str(), "finished"];
+    expect_answers(&rt, rt.alloc(), script.as_slice(), 4096, &want);
+    let script = batch_of_deletions(&rt, rt.alloc(), 1000, 998);
+    expect_answers(
+        &rt,
+        rt.alloc(),
+        script.as_slice(),
+        4096,
+        &["broken at 11994"],
+    );
+    let script = batch_of_deletions(&rt, rt.alloc(), 1001, 1);
+    let want = ["line", "delete 7 20", "verify", "finished"];
+    expect_answers(&rt, rt.alloc(), script.as_slice(), 4096, &want);
+}
