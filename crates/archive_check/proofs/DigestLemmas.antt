@@ -19,7 +19,7 @@ use Rattle.archive_check.specs.Verdicts.{with_texts}
 use Rattle.archive_check.specs.Digests.{HasDigest, HasDigests, IsAltered, IsFirstAltered, TellsSound, Finds}
 use Rattle.archive_check.specs.Checking.{IsFaultOf, AreAltered, AreFirstAltered, TellsAll}
 use Rattle.archive_check.specs.Laws.{OneFinding}
-use Rattle.archive_check.proofs.OrderLemmas.{one_way, are_moved}
+use Rattle.archive_state.proofs.OrderLemmas.{one_way, are_moved}
 use Rattle.archive_check.proofs.LawLemmas.{all_at, one_at, tells_one}
 
 -- ---- segments by halves

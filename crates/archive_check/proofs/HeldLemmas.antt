@@ -26,7 +26,7 @@ use Rattle.archive_check.specs.Verdicts.{IsSound, Tells}
 use Rattle.archive_check.specs.Digests.{HasDigest, HasDigests}
 use Rattle.archive_check.specs.Laws.{SoundWithDigestsIsHeld, WhatIsHeldHasItsDigests, WhatStandsIsFoundSound}
 use Rattle.archive_check.proofs.DigestLemmas.{findings_are_one}
-use Rattle.archive_check.proofs.OrderLemmas.{are_moved}
+use Rattle.archive_state.proofs.OrderLemmas.{are_moved}
 use Rattle.archive_check.proofs.SoundLemmas.{sound_verdict}
 
 -- ---- bytes and digests that are right are held

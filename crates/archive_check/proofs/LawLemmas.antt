@@ -26,7 +26,7 @@ use Rattle.archive_state.specs.declared.verdict.Verdict.{Verdict}
 use Rattle.archive_state.specs.declared.verdict.Verdict.TheVariants.{Sound, Differs, NotLeast, BadText}
 use Rattle.archive_check.specs.Verdicts.{with_texts, IsText, IsUpTo, IsFirstBad, IsPlanned, found_in, wanted_of, DifferAt, SegmentDiffers, IsLeastSpace, IsSound, HasDifference, TakesMore, FirstFault, AllSound, Says, Tells}
 use Rattle.archive_check.specs.Laws.{LoadedChangesAreInOrder, OneVerdict}
-use Rattle.archive_check.proofs.OrderLemmas.{one_way}
+use Rattle.archive_state.proofs.OrderLemmas.{one_way}
 
 -- ---- the order of changes
 

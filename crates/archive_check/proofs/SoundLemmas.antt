@@ -32,10 +32,10 @@ use Rattle.archive_state.specs.Steps.{sound_of}
 use Rattle.archive_state.proofs.LiveLemmas.{live_planned}
 use Rattle.archive_replay.specs.Places.{ArePlaced}
 use Rattle.archive_replay.proofs.PlaceLemmas.{texts_are}
-use Rattle.archive_check.specs.Orders.{AreByNumber}
+use Rattle.archive_state.specs.Orders.{AreByNumber}
 use Rattle.archive_check.specs.Verdicts.{with_texts, IsText, IsSound, Tells, IsVerdict}
 use Rattle.archive_check.specs.Laws.{WhatStandsIsSound, ANewArchiveIsSound}
-use Rattle.archive_check.proofs.OrderLemmas.{put_in_order, are_put, are_moved}
+use Rattle.archive_state.proofs.OrderLemmas.{put_in_order, are_put, are_moved}
 use Rattle.archive_check.proofs.LawLemmas.{verdicts_are_one}
 
 -- ---- a history that is legal

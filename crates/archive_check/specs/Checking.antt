@@ -26,7 +26,7 @@ use Rattle.archive_check.specs.declared.digests.Digests.{Digests}
 use Rattle.archive_check.specs.declared.digests.Digests.TheVariants.{Asked}
 use Rattle.archive_check.specs.declared.verifying.Altered.{Altered}
 use Rattle.archive_check.specs.declared.verifying.Checked.{Checked}
-use Rattle.archive_check.specs.Orders.{AreByNumber}
+use Rattle.archive_state.specs.Orders.{AreByNumber}
 use Rattle.archive_check.specs.Verdicts.{with_texts, IsText, IsFirstBad, IsLeastSpace, SegmentDiffers, HasDifference, TakesMore, Says}
 use Rattle.archive_check.specs.Digests.{HasDigest, HasDigests, IsAltered, IsFirstAltered, TellsSound}
 

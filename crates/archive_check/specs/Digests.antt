@@ -16,7 +16,7 @@ use Rattle.archive_state.specs.declared.verdict.Verdict.TheVariants.{Sound, Diff
 use Rattle.archive_replay.specs.Places.{ArePlaced}
 use Rattle.archive_check.specs.declared.finding.Finding.{Finding}
 use Rattle.archive_check.specs.declared.finding.Finding.TheVariants.{Told, BadDigest}
-use Rattle.archive_check.specs.Orders.{AreByNumber}
+use Rattle.archive_state.specs.Orders.{AreByNumber}
 use Rattle.archive_check.specs.Verdicts.{with_texts, Tells}
 
 -- the digest of a place is that of the bytes that stand there

@@ -1,4 +1,3 @@
-pub mod Orders
 pub mod Verdicts
 pub mod Checked
 pub mod Digests

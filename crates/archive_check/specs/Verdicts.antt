@@ -23,7 +23,7 @@ use Rattle.archive_state.specs.declared.stored.StoredPlan.{StoredPlan}
 use Rattle.archive_replay.specs.Texts.{text_in}
 use Rattle.archive_state.specs.declared.verdict.Verdict.{Verdict}
 use Rattle.archive_state.specs.declared.verdict.Verdict.TheVariants.{Sound, Differs, NotLeast, BadText}
-use Rattle.archive_check.specs.Orders.{AreByNumber}
+use Rattle.archive_state.specs.Orders.{AreByNumber}
 
 -- ---- texts
 

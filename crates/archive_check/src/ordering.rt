@@ -3,7 +3,7 @@ ghost use Rattle.std.specs.Prelude.{◌≡◌, ◌==◌, ℕ, bytes_eq, filter, 
 ghost use Rattle.std.specs.List.{position_or_len};
 ghost use Rattle.std.specs.List.Sorted.{IsNonDecreasingBy, IsPermutation};
 ghost use Rattle.version_index.specs.Indexes.{state_of};
-ghost use Rattle.archive_check.specs.Orders.{place_of, AreByNumber};
+ghost use Rattle.archive_state.specs.Orders.{place_of, AreByNumber};
 
 use archive_state::StoredPlan;
 use std::alloc::{AllocError, Global};

@@ -11,16 +11,16 @@ use Rattle.postings.proofs.Clipping.{one_list_of}
 use Rattle.proposals.specs.declared.proposal.Node.{Node}
 use Rattle.proposals.specs.declared.proposal.Segment.{Segment}
 use Rattle.proposals.specs.Proposals.{IsProposal}
-use Rattle.proposals.proofs.Pieces.{differ_in_segments}
-use Rattle.proposals.proofs.Begins.{each_least_is_proposed, begin_once}
+use Rattle.proposals.proofs.Pieces.{shown, shown_once}
 use Rattle.record_codec.specs.declared.plan.PlanEntry.{PlanEntry}
-use Rattle.sublist_store.specs.Segments.{seconds}
-use Rattle.stored_plans.specs.Plans.{IsLeastPlan, IsGoodPlan, later}
+use Rattle.elementary.specs.Partitions.{space}
+use Rattle.stored_plans.specs.Plans.{IsLeastPlan, IsFitPlan, IsGoodPlan, IsFitFor, later}
 use Rattle.archive_state.specs.declared.refusal.Refusal.TheVariants as refusals
 use Rattle.archive_state.specs.declared.stored.StoredPlan.{StoredPlan}
 use Rattle.archive_state.specs.Histories.{History, vocabulary}
 use Rattle.archive_state.specs.Answers.{frequency_at}
-use Rattle.archive_state.specs.Legal.{MayBePlanned, IsLegal}
+use Rattle.archive_state.specs.Bounds.{CertifiedPlansAreLeast}
+use Rattle.archive_state.specs.Legal.{MayBePlanned, IsLoadable}
 use Rattle.archive_state.specs.Planning.{OfTerm}
 use Rattle.archive_state.specs.Plans.{first_plan, live_plans, plan_of}
 use Rattle.archive_state.specs.Steps.{Reply, Refused, Proposed, IsCertificate, CertifiesPlan, CertifiesLive, Certifies}
@@ -36,62 +36,56 @@ live_has P keep (s ∷ live) plan all is = go (keep s) is (live_has P keep live 
     go true some rest = (let same : s.plan ≡ plan = cc in subst P same (All-head (λ (stored : StoredPlan). P stored.plan) s live all))
     go false some rest = rest some
 
--- the last of two lists that are one falls away
-last_cancels : (a b : List ℕ) (x : ℕ) → a ++ x ∷ [] ≡ b ++ x ∷ [] → a ≡ b
-last_cancels [] [] x same = refl
-last_cancels [] (y ∷ []) x same = absurd (omega (arith, ap length same))
-last_cancels [] (y ∷ z ∷ b) x same = absurd (omega (arith, ap length same))
-last_cancels (y ∷ []) [] x same = absurd (omega (arith, ap length same))
-last_cancels (y ∷ z ∷ a) [] x same = absurd (omega (arith, ap length same))
-last_cancels (y ∷ a) (z ∷ b) x same =
-    let first : y ≡ z = ap (λ (l : List ℕ). get_or l 0 y) same in
-    let rest : a ≡ b = last_cancels a b x (ap (λ (l : List ℕ). drop 1 l) same) in
-    ap (λ (n : ℕ). n ∷ a) first ∙ ap (λ (l : List ℕ). z ∷ l) rest
-
--- a least plan is certified
-certified : (list : List Posting) (factor : Fraction) (cuts : List Time) (horizon : Time) → All (λ p. p.span.to ≤ horizon.seconds) list → IsLeastPlan list factor cuts horizon.seconds
-    → (segments : List Segment) × ((nodes : List Node) × ((total : ℕ) × (IsProposal list factor horizon.seconds segments nodes total × (map (λ (s : Segment). s.span.from) segments ≡ seconds cuts))))
-certified list factor [] horizon early least = absurd least
-certified list factor (f ∷ cuts) horizon early least =
+-- a plan that may be loaded is certified
+certified : (list : List Posting) (factor : Fraction) (cuts : List Time) (horizon : Time) → All (λ p. p.span.to ≤ horizon.seconds) list → IsFitPlan list factor cuts horizon.seconds
+    → (segments : List Segment) × ((nodes : List Node) × ((total : ℕ) × IsCertificate list factor cuts horizon.seconds segments nodes total))
+certified list factor [] horizon early fit = absurd fit
+certified list factor (f ∷ cuts) horizon early fit =
     let now : horizon.seconds < 2 ^ 40 = horizon.before_now in
-    let (segments, (nodes, (total, (proposal, begins, space)))) = each_least_is_proposed list factor horizon.seconds f.seconds (later cuts horizon.seconds) (omega (arith, now)) early least in
-    (segments, (nodes, (total, (proposal, last_cancels (map (λ (s : Segment). s.span.from) segments) (seconds (f ∷ cuts)) horizon.seconds begins))))
+    let (segments, (nodes, is)) = shown list factor horizon.seconds f.seconds (later cuts horizon.seconds) (omega (arith, now)) early fit.covers in
+    (segments, (nodes, (space list f.seconds (later cuts horizon.seconds), is)))
 
-plan_certified : (h : History) (plan : PlanEntry) (kind : Kind) → MayBePlanned IsGoodPlan h plan
-    → ((list : List Posting) → IsGoodPlan plan.kind list plan.fraction plan.cuts plan.horizon.seconds → IsGoodPlan kind list plan.fraction plan.cuts plan.horizon.seconds) → (reply : Reply) × CertifiesPlan h plan kind reply
-plan_certified h plan Guarantee may suits =
-    let (narrow, least) = suits may.list may.suits in
+plan_certified : (h : History) (plan : PlanEntry) (kind : Kind) → MayBePlanned IsFitFor h plan → plan.kind ≡ kind → (reply : Reply) × CertifiesPlan h plan kind reply
+plan_certified h plan Guarantee may kind =
+    let suits = subst (λ (k : Kind). IsFitFor k may.list plan.fraction plan.cuts plan.horizon.seconds) kind may.suits in
     let early = All-weaker (λ (p : Posting). (0 ≤ p.span.from) × (p.span.to ≤ plan.horizon.seconds)) (λ (p : Posting). p.span.to ≤ plan.horizon.seconds) (λ p in_it. in_it.1) may.list may.list_is.inside in
-    let (segments, (nodes, (total, (proposal, stored)))) = certified may.list plan.fraction plan.cuts plan.horizon early least in
-    (Proposed segments nodes total, (may.list, may.list_is, (segments, nodes, total, record { proposal = proposal; stored = stored }, refl)))
-plan_certified h plan Uniform may suits = (Refused refusals.NoPlan, refl)
-plan_certified h plan (Since at) may suits = (Refused refusals.NoPlan, refl)
+    let (segments, (nodes, (total, is))) = certified may.list plan.fraction plan.cuts plan.horizon early suits.1 in
+    (Proposed segments nodes total, (may.list, may.list_is, (segments, nodes, total, is, refl)))
+plan_certified h plan Uniform may kind = (Refused refusals.NoPlan, refl)
+plan_certified h plan (Since at) may kind = (Refused refusals.NoPlan, refl)
 
-live_certified : (h : History) (o : Option PlanEntry) → ((plan : PlanEntry) → o ≡ Some plan → MayBePlanned IsGoodPlan h plan) → (reply : Reply) × CertifiesLive h o reply
+live_certified : (h : History) (o : Option PlanEntry) → ((plan : PlanEntry) → o ≡ Some plan → MayBePlanned IsFitFor h plan) → (reply : Reply) × CertifiesLive h o reply
 live_certified h None may = (Refused refusals.NoPlan, refl)
-live_certified h (Some plan) may = plan_certified h plan plan.kind (may plan refl) (λ list suits. suits)
+live_certified h (Some plan) may = plan_certified h plan plan.kind (may plan refl) refl
 
-pub each_certifies : (h : History) (phrase : List ℕ) → IsLegal h → (reply : Reply) × Certifies h phrase reply
-each_certifies h phrase legal = go (one_term phrase)
+pub each_certifies : (h : History) (phrase : List ℕ) → IsLoadable h → (reply : Reply) × Certifies h phrase reply
+each_certifies h phrase loads = go (one_term phrase)
   where
     go : (key : Option (List ℕ)) → (reply : Reply) × OfTerm h key (λ why. reply ≡ Refused why) (λ word. CertifiesLive h (plan_of h word) reply)
     go None = (Refused refusals.NotOneTerm, refl)
     go (Some word) = elim (known_or_not (vocabulary h) word) [
       | inr unknown ↦ (Refused refusals.UnknownWord, inl (unknown, refl))
       | inl known ↦
-          let (reply, certifies) = live_certified h (plan_of h word) (λ plan is. live_has (λ p. MayBePlanned IsGoodPlan h p) (λ stored. bytes_eq stored.plan.word word) (live_plans h) plan (live_planned IsGoodPlan h legal) is) in
+          let (reply, certifies) = live_certified h (plan_of h word) (λ plan is. live_has (λ p. MayBePlanned IsFitFor h p) (λ stored. bytes_eq stored.plan.word word) (live_plans h) plan (live_planned IsFitFor h loads) is) in
           (reply, inr (known, certifies))
     ]
 
--- two certificates of one plan are one
+-- a plan has one certificate
+one_certificate : (list : List Posting) (factor : Fraction) (cuts : List Time) (h : ℕ) (segments others : List Segment) (nodes those : List Node) (total sum : ℕ)
+    → IsCertificate list factor cuts h segments nodes total → IsCertificate list factor cuts h others those sum → Proposed segments nodes total ≡ Proposed others those sum
+one_certificate list factor [] h segments others nodes those total sum a b = absurd a
+one_certificate list factor (f ∷ cuts) h segments others nodes those total sum a b =
+    let same = shown_once list factor h f.seconds (later cuts h) segments others nodes those total sum a b in
+    let e0 : segments ≡ others = same.0 in
+    let e1 : nodes ≡ those = same.1 in
+    let e2 : total ≡ sum = same.2 in
+    cc
+
 one_certified : (h : History) (plan : PlanEntry) (kind : Kind) (reply other : Reply) → CertifiesPlan h plan kind reply → CertifiesPlan h plan kind other → reply ≡ other
 one_certified h plan Guarantee reply other (list, is, (segments, nodes, total, one, reply_is)) (those, are, (others, rest, sum, two, other_is)) =
     let same = one_list_of (λ d t. frequency_at h plan.word (record { 0 = d }) t) 0 plan.horizon.seconds list those is are in
-    let C : List Posting → Type 0 = λ l. IsCertificate plan l segments nodes total in
-    let here = subst C same one in
-    let begins = begin_once those plan.fraction plan.horizon.seconds segments others nodes rest total sum here.proposal two.proposal (here.stored ∙ sym two.stored) in
-    let numbers = differ_in_segments those plan.fraction plan.horizon.seconds segments others nodes rest total sum here.proposal two.proposal in
-    reply_is ∙ ap (λ (s : List Segment). Proposed s nodes total) begins ∙ ap (λ (n : List Node). Proposed others n total) numbers.0 ∙ ap (λ (n : ℕ). Proposed others rest n) numbers.1 ∙ sym other_is
+    let here = subst (λ (l : List Posting). IsCertificate l plan.fraction plan.cuts plan.horizon.seconds segments nodes total) same one in
+    reply_is ∙ one_certificate those plan.fraction plan.cuts plan.horizon.seconds segments others nodes rest total sum here two ∙ sym other_is
 one_certified h plan Uniform reply other a b = a ∙ sym b
 one_certified h plan (Since at) reply other a b = a ∙ sym b
 
@@ -109,3 +103,17 @@ one_certifies h phrase reply other = go (one_term phrase)
     go (Some word) (inl x) (inr y) = absurd (x.0 y.0)
     go (Some word) (inr x) (inl y) = absurd (y.0 x.0)
     go (Some word) (inr x) (inr y) = one_live h (plan_of h word) reply other x.1 y.1
+
+-- ---- plans that are least
+
+least_proposed : (list : List Posting) (factor : Fraction) (cuts : List Time) (h : ℕ) (segments : List Segment) (nodes : List Node) (total : ℕ)
+    → IsLeastPlan list factor cuts h → IsCertificate list factor cuts h segments nodes total → IsProposal list factor h segments nodes total
+least_proposed list factor [] h segments nodes total least is = absurd least
+least_proposed list factor (f ∷ cuts) h segments nodes total least is = record { first = f.seconds; cuts = later cuts h; least = least; shown = is }
+
+pub certified_least : CertifiedPlansAreLeast
+certified_least h word plan list segments nodes total legal live guarantee list_is is =
+    let may = live_has (λ p. MayBePlanned IsGoodPlan h p) (λ stored. bytes_eq stored.plan.word word) (live_plans h) plan (live_planned IsGoodPlan h legal) live in
+    let suits = subst (λ (k : Kind). IsGoodPlan k may.list plan.fraction plan.cuts plan.horizon.seconds) guarantee may.suits in
+    let one = one_list_of (λ d t. frequency_at h plan.word (record { 0 = d }) t) 0 plan.horizon.seconds may.list list may.list_is list_is in
+    least_proposed list plan.fraction plan.cuts plan.horizon.seconds segments nodes total (subst (λ (l : List Posting). IsLeastPlan l plan.fraction plan.cuts plan.horizon.seconds) one suits.1) is

@@ -7,6 +7,9 @@ pub mod RefusalLemmas
 mod PlanningLemmas
 pub mod StoringLemmas
 mod ToldLemmas
+pub mod Sorting
+pub mod OrderLemmas
+pub mod VerifyLemmas
 pub mod CertifyingLemmas
 pub mod OutcomeLemmas
 mod BoundLemmas

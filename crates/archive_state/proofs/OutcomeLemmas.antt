@@ -57,13 +57,14 @@ use Rattle.commands.specs.declared.command.Item.TheVariants as items
 use Rattle.commands.specs.declared.command.Kind.{Kind}
 use Rattle.commands.specs.declared.command.Kind.TheVariants.{Guarantee}
 use Rattle.commands.specs.declared.text.Text.TheVariants as texts
-use Rattle.archive_state.specs.Steps.{Reply, Accepted, Refused, Found, Spanned, Version, Proposed, Planned, Verified, Summary, Adds, Declines, IsRepliedBy, IsReplied, Finds, FindsBy, Spans, SpansBy, Proposes, ProposesPlan, Plans, StoresPlan, spelled_key, sound_of, CarriesOut, Step, too_long, bad_text, full_journal, arrival_refusal, deletion_refusal}
+use Rattle.archive_state.specs.Steps.{Reply, Accepted, Refused, Found, Spanned, Version, Proposed, Planned, Verified, Summary, Adds, Declines, IsRepliedBy, IsReplied, Finds, FindsBy, Spans, SpansBy, Proposes, ProposesPlan, Plans, StoresPlan, spelled_key, CarriesOut, Step, too_long, bad_text, full_journal, arrival_refusal, deletion_refusal}
 use Rattle.archive_state.specs.Runs.{Outcome, IsRun}
 use Rattle.archive_state.specs.Worlds.{World, world_of}
-use Rattle.archive_state.proofs.HistoryLemmas.{legal-push, legal_loads}
+use Rattle.archive_state.proofs.HistoryLemmas.{legal-push, loadable-push, entry_loads}
 use Rattle.archive_state.proofs.StoringLemmas.{plan_outcome, plans_keep}
 use Rattle.archive_state.proofs.ToldLemmas.{plans_alike}
 use Rattle.archive_state.proofs.CertifyingLemmas.{each_certifies, one_certifies}
+use Rattle.archive_state.proofs.VerifyLemmas.{each_verdict, one_verdict}
 use Rattle.archive_state.proofs.PlanningLemmas.{each_phrase, one_phrase, last_in_time}
 use Rattle.archive_state.specs.Choices.{IsChoice, IsStoring, SameButSegments, SamePlanned}
 use Rattle.archive_state.specs.Planning.{last_second, IsListUpTo}
@@ -185,80 +186,79 @@ each_text Finds each text =
     let found = each_replied Finds each (read term_of text) in
     (found.0, (read term_of text, is_read term_of text, found.1))
 
-each_found : (h : History) (at : Time) → IsLegal h → (query : Query) → (reply : Reply) × FindsBy h at query reply
-each_found h at legal query =
+each_found : (h : History) (at : Time) → IsLoadable h → (query : Query) → (reply : Reply) × FindsBy h at query reply
+each_found h at loads query =
     let often = λ (doc : DocId) (word : List ℕ). frequency_at h word doc at.seconds in
     let given = each-answer (changed.alive at.seconds (changes h)) often query in
-    let read = each_read h at.seconds (at.seconds + 1) (words_of query) (legal_loads h legal) in
+    let read = each_read h at.seconds (at.seconds + 1) (words_of query) loads in
     let answer = same_alive (λ doc. IsSome (text_at h doc at.seconds)) (λ doc. Contains (changed.alive at.seconds (changes h)) doc) often query given.0 (λ doc. alive-has at.seconds (changes h) doc) given.1 in
     (Found given.0 read.0, (given.0, read.0, answer, read.1, refl))
 
-pub each_finds : (h : History) (at : Time) (text : List ℕ) → IsLegal h → (reply : Reply) × Finds h at text reply
-each_finds h at text legal = each_text (FindsBy h at) (each_found h at legal) text
+pub each_finds : (h : History) (at : Time) (text : List ℕ) → IsLoadable h → (reply : Reply) × Finds h at text reply
+each_finds h at text loads = each_text (FindsBy h at) (each_found h at loads) text
 
-each_spanned : (h : History) (span : Span) → IsLegal h → (query : Query) → (reply : Reply) × SpansBy h span query reply
-each_spanned h span legal query =
+each_spanned : (h : History) (span : Span) → IsLoadable h → (query : Query) → (reply : Reply) × SpansBy h span query reply
+each_spanned h span loads query =
     let given = each-window (λ doc t. is_some (text_at h doc t)) (λ doc t word. frequency_at h word doc t) query (2 ^ 32) span.from span.to span.in_time
-    (λ doc t far. ap is_some (text_none h doc t (legal_loads h legal) far)) in
-    let read = each_read h span.from span.to (words_of query) (legal_loads h legal) in
+    (λ doc t far. ap is_some (text_none h doc t loads far)) in
+    let read = each_read h span.from span.to (words_of query) loads in
     (Spanned given.0 read.0, (given.0, read.0, given.1, read.1, refl))
 
-pub each_spans : (h : History) (span : Span) (text : List ℕ) → IsLegal h → (reply : Reply) × Spans h span text reply
-each_spans h span text legal = each_text (SpansBy h span) (each_spanned h span legal) text
+pub each_spans : (h : History) (span : Span) (text : List ℕ) → IsLoadable h → (reply : Reply) × Spans h span text reply
+each_spans h span text loads = each_text (SpansBy h span) (each_spanned h span loads) text
 
 -- each proposal is answered
-pub each_proposes : (h : History) (phrase : List ℕ) (factor : Fraction) → IsLegal h → (reply : Reply) × Proposes h phrase factor reply
-each_proposes h phrase factor legal =
+pub each_proposes : (h : History) (phrase : List ℕ) (factor : Fraction) → IsLoadable h → (reply : Reply) × Proposes h phrase factor reply
+each_proposes h phrase factor loads =
     each_phrase Guarantee h (λ (r : Reply) why. r ≡ Refused why) (λ (r : Reply) word list. ProposesPlan factor (last_second h) list r) (λ why. (Refused why, refl))
-    (λ word. each_list_up_to h word (last_second h) (last_in_time h) (legal_loads h legal))
+    (λ word. each_list_up_to h word (last_second h) (last_in_time h) loads)
     (λ word list is some narrow.
     let early = All-weaker (λ (p : Posting). (0 ≤ p.span.from) × (p.span.to ≤ last_second h)) (λ (p : Posting). p.span.to ≤ last_second h) (λ p in_it. in_it.1) list is.inside in
     let (segments, (nodes, (total, proposal))) = each_has_a_proposal list factor (last_second h) (last_in_time h) early in
     (Proposed segments nodes total, (segments, nodes, total, proposal, refl)))
     (one_term phrase)
 
-pub loaded_plans : (h : History) (phrase : List ℕ) (kind : Kind) (factor : Fraction) → IsLoadable h → (outcome : Outcome Reply History) × Plans h phrase kind factor outcome.reply outcome.next
-loaded_plans h phrase kind factor loads =
+pub each_plans : (h : History) (phrase : List ℕ) (kind : Kind) (factor : Fraction) → IsLoadable h → (outcome : Outcome Reply History) × Plans h phrase kind factor outcome.reply outcome.next
+each_plans h phrase kind factor loads =
     each_phrase kind h (λ (r : Outcome Reply History) why. Declines h why r.reply r.next) (λ (r : Outcome Reply History) word list. StoresPlan h kind factor word list r.reply r.next)
     (λ why. (record { reply = Refused why; next = h }, (refl, refl)))
     (λ word. each_list_up_to h word (last_second h) (last_in_time h) loads)
     (λ word list is some narrow. plan_outcome h kind factor word list is some narrow)
     (spelled_key (one_term phrase))
 
-pub each_plans : (h : History) (phrase : List ℕ) (kind : Kind) (factor : Fraction) → IsLegal h → (outcome : Outcome Reply History) × Plans h phrase kind factor outcome.reply outcome.next
-each_plans h phrase kind factor legal = loaded_plans h phrase kind factor (legal_loads h legal)
-
 declines_outcome : (h : History) (why : Refusal) → (outcome : Outcome Reply History) × Declines h why outcome.reply outcome.next
 declines_outcome h why = (record { reply = Refused why; next = h }, (refl, refl))
 
-each_command : (h : History) (c : Command) → IsLegal h → (outcome : Outcome Reply History) × CarriesOut h c outcome.reply outcome.next
-each_command h (commands.Arrive doc at (texts.Bytes text)) legal = adds_outcome h (entries.Arrive doc at text) (arrival_refusal h doc at text)
-each_command h (commands.Arrive doc at (texts.TooLong bytes)) legal = declines_outcome h (refusals.TooLong most_text)
-each_command h (commands.Delete doc at) legal = adds_outcome h (entries.Delete doc at) (deletion_refusal h doc at)
-each_command h (commands.Find at expr) legal =
-    let found = each_finds h at expr legal in
+each_command : (h : History) (c : Command) → IsLoadable h → (outcome : Outcome Reply History) × CarriesOut h c outcome.reply outcome.next
+each_command h (commands.Arrive doc at (texts.Bytes text)) loads = adds_outcome h (entries.Arrive doc at text) (arrival_refusal h doc at text)
+each_command h (commands.Arrive doc at (texts.TooLong bytes)) loads = declines_outcome h (refusals.TooLong most_text)
+each_command h (commands.Delete doc at) loads = adds_outcome h (entries.Delete doc at) (deletion_refusal h doc at)
+each_command h (commands.Find at expr) loads =
+    let found = each_finds h at expr loads in
     (record { reply = found.0; next = h }, (refl, found.1))
-each_command h (commands.Show doc at) legal = (record { reply = Version (text_at h doc at.seconds); next = h }, (refl, refl))
-each_command h (commands.Plan word kind fraction) legal = each_plans h word kind fraction legal
-each_command h (commands.Propose word fraction) legal =
-    let proposed = each_proposes h word fraction legal in
+each_command h (commands.Show doc at) loads = (record { reply = Version (text_at h doc at.seconds); next = h }, (refl, refl))
+each_command h (commands.Plan word kind fraction) loads = each_plans h word kind fraction loads
+each_command h (commands.Propose word fraction) loads =
+    let proposed = each_proposes h word fraction loads in
     (record { reply = proposed.0; next = h }, (refl, proposed.1))
-each_command h (commands.Between span expr) legal =
-    let found = each_spans h span expr legal in
+each_command h (commands.Between span expr) loads =
+    let found = each_spans h span expr loads in
     (record { reply = found.0; next = h }, (refl, found.1))
-each_command h (commands.Certificate word) legal =
-    let certified = each_certifies h word legal in
+each_command h (commands.Certificate word) loads =
+    let certified = each_certifies h word loads in
     (record { reply = certified.0; next = h }, (refl, certified.1))
-each_command h commands.Verify legal = (record { reply = Verified (sound_of h); next = h }, (refl, refl))
-each_command h to_come legal = declines_outcome h refusals.Line
+each_command h commands.Verify loads =
+    let (verdict, verifies) = each_verdict h loads in
+    (record { reply = Verified verdict; next = h }, (refl, (verdict, verifies, refl)))
+each_command h to_come loads = declines_outcome h refusals.Line
 
 -- what came of a history, as the state that has it
 in_world : (P : Reply → History → Type 0) → (outcome : Outcome Reply History) × P outcome.reply outcome.next → (outcome : Outcome Reply World) × P outcome.reply outcome.next.history
 in_world P came = (record { reply = came.0.reply; next = world_of came.0.next }, came.1)
 
-pub each_outcome : (w : World) (item : Item) → IsLegal w.history → (outcome : Outcome Reply World) × Step w item outcome.reply outcome.next
-each_outcome w (items.Command c) legal = in_world (CarriesOut w.history c) (each_command w.history c legal)
-each_outcome w items.Line legal = in_world (Declines w.history refusals.Line) (declines_outcome w.history refusals.Line)
+pub each_outcome : (w : World) (item : Item) → IsLoadable w.history → (outcome : Outcome Reply World) × Step w item outcome.reply outcome.next
+each_outcome w (items.Command c) loads = in_world (CarriesOut w.history c) (each_command w.history c loads)
+each_outcome w items.Line loads = in_world (Declines w.history refusals.Line) (declines_outcome w.history refusals.Line)
 
 -- and what is so of a history, and stays so with a legal entry more, is so of what a command leads to
 adds_keep : (P : History → Type 0) → ((h : History) (e : Entry) → P h → IsLegalEntry h e → P (h ++ e ∷ []))
@@ -283,17 +283,22 @@ command_keeps P push h (commands.Certificate word) reply next is range step = st
 command_keeps P push h commands.Verify reply next is range step = stays P h next is step.0
 command_keeps P push h to_come reply next is range step = stays P h next is step.0
 
--- so every outcome leads from a legal history to a legal one
+-- so every outcome leads from a legal history to a legal one,
 pub step_legal : (w : World) (item : Item) (reply : Reply) (next : World) → IsLegal w.history → HasDocument item → Step w item reply next → IsLegal next.history
 step_legal w (items.Command c) reply next legal range step = command_keeps IsLegal legal-push w.history c reply next.history legal range step
 step_legal w items.Line reply next legal range step = stays IsLegal w.history next.history legal step.0
 
+-- and from one that loads to one that loads
+pub step_loads : (w : World) (item : Item) (reply : Reply) (next : World) → IsLoadable w.history → HasDocument item → Step w item reply next → IsLoadable next.history
+step_loads w (items.Command c) reply next loads range step = command_keeps IsLoadable (λ h e is legal. loadable-push h e is (entry_loads h e legal)) w.history c reply next.history loads range step
+step_loads w items.Line reply next loads range step = stays IsLoadable w.history next.history loads step.0
+
 -- a run goes on over any items whose documents are in range
-pub run_on : (w : World) (events : List Item) → IsLegal w.history → All HasDocument events → (outcomes : List (Outcome Reply World)) × IsRun Step w events outcomes
-run_on w [] legal range = ([], tt)
-run_on w (item ∷ events) legal range =
-    let outcome = each_outcome w item legal in
-    let next = step_legal w item outcome.0.reply outcome.0.next legal (All-head HasDocument item events range) outcome.1 in
+pub run_on : (w : World) (events : List Item) → IsLoadable w.history → All HasDocument events → (outcomes : List (Outcome Reply World)) × IsRun Step w events outcomes
+run_on w [] loads range = ([], tt)
+run_on w (item ∷ events) loads range =
+    let outcome = each_outcome w item loads in
+    let next = step_loads w item outcome.0.reply outcome.0.next loads (All-head HasDocument item events range) outcome.1 in
     let further = run_on outcome.0.next events next (All-tail HasDocument item events range) in
     (outcome.0 ∷ further.0, (outcome.1, further.1))
 
@@ -390,7 +395,8 @@ one_command h (commands.Plan word kind fraction) reply other next then free a b 
 one_command h (commands.Propose word fraction) reply other next then free a b = absurd (free tt)
 one_command h (commands.Between span expr) reply other next then free a b = one_stays h reply other next then a.0 b.0 (one_spans h span expr reply other a.1 b.1)
 one_command h (commands.Certificate word) reply other next then free a b = one_stays h reply other next then a.0 b.0 (one_certifies h word reply other a.1 b.1)
-one_command h commands.Verify reply other next then free a b = one_stays h reply other next then a.0 b.0 (a.1 ∙ sym b.1)
+one_command h commands.Verify reply other next then free a b =
+    one_stays h reply other next then a.0 b.0 (a.1.2 ∙ ap Verified (one_verdict h a.1.0 b.1.0 a.1.1 b.1.1) ∙ sym b.1.2)
 one_command h to_come reply other next then free a b = one_declines h refusals.Line reply other next then a b
 
 pub one_outcome_only : (w : World) (item : Item) (reply other : Reply) (next then : World) → (IsChoice item → ⊥) → Step w item reply next → Step w item other then → (reply ≡ other) × (next ≡ then)

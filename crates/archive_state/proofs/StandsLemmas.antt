@@ -24,14 +24,14 @@ use Rattle.archive_state.specs.Legal.{IsLoadable, IsLoadableEntry}
 use Rattle.archive_state.specs.Plans.{live_plans, live_extents, live_gates, extents_of}
 use Rattle.archive_state.specs.Holding.{HoldsPlan}
 use Rattle.archive_state.specs.Stands.{bodies_of, Stands, IsMisspelled, IsIllegal, IsBadEntry, IsBadPlace, IsNotArchive}
-use Rattle.archive_state.proofs.HistoryLemmas.{legal_loads, loadable-middle, same_history, split_bodies}
+use Rattle.archive_state.proofs.HistoryLemmas.{loadable-middle, same_history, split_bodies}
 
 -- bytes are loaded as one history at most, and stand for one at most
 pub spells_one_history : (bytes : List ℕ) (a b : History) → Spells bytes (bodies_of a) → IsLoadable a → Spells bytes (bodies_of b) → IsLoadable b → a ≡ b
 spells_one_history bytes a b one p other q = same_history a b p q (spells_once bytes (bodies_of a) (bodies_of b) one other)
 
 pub stands_once : (a b : History) (image : Bytes) → Stands a image → Stands b image → a ≡ b
-stands_once a b image one other = spells_one_history image.journal a b one.spelled (legal_loads a one.legal) other.spelled (legal_loads b other.legal)
+stands_once a b image one other = spells_one_history image.journal a b one.spelled one.loadable other.spelled other.loadable
 
 -- what is wrong with an entry: the place is behind the gate by so many bytes
 abbrev pub Fault : History → List ℕ → ℕ → ℕ → Type 0
@@ -114,7 +114,7 @@ pub stands_live : (h : History) (image : Bytes) → Stands h image → AreLive (
 stands_live h image stands = (held_inside h image.pages (live_plans h) stands.held.each, stands.held.apart)
 
 pub stands_is_archive : (h : History) (image : Bytes) (at : ℕ) → Stands h image → IsNotArchive image at → ⊥
-stands_is_archive h image at stands refused = loaded_is_archive image h at stands.spelled (legal_loads h stands.legal) (stands_live h image stands) refused
+stands_is_archive h image at stands refused = loaded_is_archive image h at stands.spelled stands.loadable (stands_live h image stands) refused
 
 -- two lists with a part in front and an item behind it: the parts are one, or one is in front of the other
 meet : (a b : List (List ℕ)) (x y : List ℕ) (s t : List (List ℕ)) → a ++ x ∷ s ≡ b ++ y ∷ t

@@ -20,9 +20,15 @@ use Rattle.archive_state.specs.Histories.{History, text_at}
 use Rattle.archive_state.specs.Answers.{IsAnswerAt, IsSpanAnswerAt, IsWordList, frequency_at}
 use Rattle.archive_state.specs.Chosen.{AreChosen, IsReadOf, IsReadFor, IsMadeAt, IsMadeOver, IsDamagedFor}
 use Rattle.archive_state.specs.Holding.{HoldsPlans}
-use Rattle.archive_state.specs.Legal.{IsLoadable}
+use Rattle.archive_state.specs.Legal.{IsLegal, IsLoadable}
 use Rattle.archive_state.specs.Planning.{IsListUpTo}
 use Rattle.archive_state.specs.Plans.{plan_of}
+use Rattle.archive_state.specs.Steps.{IsCertificate}
+use Rattle.archive_state.specs.Verifying.{Verifies, sound_of}
+use Rattle.archive_state.specs.declared.verdict.Verdict.{Verdict}
+use Rattle.proposals.specs.Proposals.{IsProposal}
+use Rattle.proposals.specs.declared.proposal.Node.{Node}
+use Rattle.proposals.specs.declared.proposal.Segment.{Segment}
 
 -- From the first cut of a word's plan on that keeps to a guarantee, and before its horizon, a question for the word reads at most the plan's factor
 -- times as many postings as hold the time.
@@ -71,3 +77,14 @@ abbrev pub UnplannedHitsAreAlive : Type 0
 UnplannedHitsAreAlive =
     (h : History) (pages : List ℕ) (a b t : ℕ) (words : List (List ℕ)) (parts : List Part) (doc : DocId) → b ≤ 2 ^ 40 → All (λ word. plan_of h word ≡ None) words
     → AreChosen h pages a b words parts → a ≤ t → t < b → HasHit words parts t doc → IsSome (text_at h doc t)
+
+-- Where each plan is what its kind promises, what is certified of a stored one is a proposal: the plan is least, and no partition takes less than its numbers say.
+abbrev pub CertifiedPlansAreLeast : Type 0
+CertifiedPlansAreLeast =
+    (h : History) (word : List ℕ) (plan : PlanEntry) (list : List Posting) (segments : List Segment) (nodes : List Node) (total : ℕ) → IsLegal h → plan_of h word ≡ Some plan → plan.kind ≡ Guarantee
+    → IsListUpTo h plan.word plan.horizon.seconds list → IsCertificate list plan.fraction plan.cuts plan.horizon.seconds segments nodes total
+    → IsProposal list plan.fraction plan.horizon.seconds segments nodes total
+
+-- Where each plan is what its kind promises, a check of pages that hold them tells that all is as it should be.
+abbrev pub GoodPlansAreSound : Type 0
+GoodPlansAreSound = (h : History) (verdict : Verdict) → IsLegal h → Verifies h verdict → verdict ≡ sound_of h

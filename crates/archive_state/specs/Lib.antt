@@ -5,6 +5,7 @@ pub mod Chosen
 pub mod Histories
 pub mod Holding
 pub mod Legal
+pub mod Orders
 pub mod Planning
 pub mod Plans
 pub mod Refusals
@@ -14,4 +15,5 @@ pub mod Runs
 pub mod Standing
 pub mod Stands
 pub mod Steps
+pub mod Verifying
 pub mod Worlds

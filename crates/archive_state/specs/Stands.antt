@@ -11,7 +11,7 @@ use Rattle.record_codec.specs.Spelling.{spelling, IsEntry}
 use Rattle.record_codec.specs.Reading.{IsFault}
 use Rattle.record_codec.specs.declared.entry.Entry.{Entry}
 use Rattle.archive_state.specs.Histories.{History}
-use Rattle.archive_state.specs.Legal.{IsLegal, IsLoadable, IsLoadableEntry}
+use Rattle.archive_state.specs.Legal.{IsLoadable, IsLoadableEntry}
 use Rattle.archive_state.specs.Plans.{live_extents, live_gates}
 use Rattle.archive_state.specs.Holding.{HoldsPlans}
 use Rattle.archive_state.specs.Worlds.{World}
@@ -20,11 +20,11 @@ use Rattle.archive_state.specs.Worlds.{World}
 abbrev pub bodies_of : History → List (List ℕ)
 bodies_of history = map spelling history
 
--- an image stands for a history: its journal spells the history's entries, the history is legal, and its pages hold the sublists of the
+-- an image stands for a history: its journal spells the history's entries, a load accepts the history, and its pages hold the sublists of the
 -- live plans
 pub record Stands (history : History) (image : Bytes) : Type 0 where
   pub spelled : Spells image.journal (bodies_of history)
-  pub legal : IsLegal history
+  pub loadable : IsLoadable history
   pub held : HoldsPlans history image.pages
 
 -- an image stands for a state of the abstract machine: by the state's history

@@ -28,9 +28,9 @@ use Rattle.record_codec.specs.declared.plan.PlanEntry.{PlanEntry}
 use Rattle.page_store.specs.Placing.{ArePlaced, HaveNoRoom}
 use Rattle.sublist_store.specs.Preparing.{IsFor, extents, sizes, spellings}
 use Rattle.sublist_store.specs.Segments.{seconds}
-use Rattle.stored_plans.specs.Plans.{IsGoodPlan, IsCostOf, plan_space}
+use Rattle.stored_plans.specs.Plans.{IsGoodPlan, IsCostOf, later, plan_space}
 use Rattle.fold_tokens.specs.Terms.{one_term}
-use Rattle.proposals.specs.Proposals.{IsProposal}
+use Rattle.proposals.specs.Proposals.{IsProposal, IsShown}
 use Rattle.proposals.specs.declared.proposal.Node.{Node}
 use Rattle.proposals.specs.declared.proposal.Segment.{Segment}
 use Rattle.query_lang.specs.Grammar.{Query, IsRead}
@@ -41,12 +41,12 @@ use Rattle.query_eval.specs.declared.spans.SpanRow.{SpanRow}
 use Rattle.archive_state.specs.declared.refusal.Refusal.{Refusal}
 use Rattle.archive_state.specs.declared.refusal.Refusal.TheVariants as refusals
 use Rattle.archive_state.specs.declared.verdict.Verdict.{Verdict}
-use Rattle.archive_state.specs.declared.verdict.Verdict.TheVariants.{Sound}
 use Rattle.archive_state.specs.Histories.{History, entry_refusal, end_of, text_at}
 use Rattle.archive_state.specs.Answers.{IsAnswerAt, IsSpanAnswerAt}
 use Rattle.archive_state.specs.Chosen.{IsReadFor}
 use Rattle.archive_state.specs.Planning.{OfPhrase, OfTerm, IsListUpTo, last_second}
-use Rattle.archive_state.specs.Plans.{live_extents, live_plans, plan_of, segments_of}
+use Rattle.archive_state.specs.Plans.{live_extents, plan_of}
+use Rattle.archive_state.specs.Verifying.{Verifies}
 use Rattle.archive_state.specs.Worlds.{World}
 
 -- what is told of a plan that is stored: how many entries the history has now, how many segments the plan has, how many postings their sublists
@@ -143,15 +143,15 @@ abbrev pub Proposes : History → List ℕ → Fraction → Reply → Type 0
 Proposes history phrase factor reply =
     OfPhrase Guarantee history (one_term phrase) (λ why. reply ≡ Refused why) (λ word list. ProposesPlan factor (last_second history) list reply)
 
--- the stored plan of a word's list, as it is certified: a proposal whose segments begin at the plan's cuts
-pub record IsCertificate (plan : PlanEntry) (list : List Posting) (segments : List Segment) (nodes : List Node) (total : ℕ) : Type 0 where
-  pub proposal : IsProposal list plan.fraction plan.horizon.seconds segments nodes total
-  pub stored : map (λ s. s.span.from) segments ≡ seconds plan.cuts
+-- the stored plan of a list, as it is certified: the partition by its cuts is shown, with the least space up to each boundary
+abbrev pub IsCertificate : List Posting → Fraction → List Time → ℕ → List Segment → List Node → ℕ → Type 0
+IsCertificate list factor [] h segments nodes total = ⊥
+IsCertificate list factor (f ∷ cuts) h segments nodes total = IsShown list factor h f.seconds (later cuts h) segments nodes total
 
 -- what is certified of a live plan, by its kind: only one that keeps to a guarantee has a certificate
 abbrev pub CertifiesPlan : History → PlanEntry → Kind → Reply → Type 0
 CertifiesPlan history plan Guarantee reply = (list : List Posting) × IsListUpTo history plan.word plan.horizon.seconds list
-    × ((segments : List Segment) × (nodes : List Node) × (total : ℕ) × IsCertificate plan list segments nodes total × (reply ≡ Proposed segments nodes total))
+    × ((segments : List Segment) × (nodes : List Node) × (total : ℕ) × IsCertificate list plan.fraction plan.cuts plan.horizon.seconds segments nodes total × (reply ≡ Proposed segments nodes total))
 CertifiesPlan history plan Uniform reply = reply ≡ Refused refusals.NoPlan
 CertifiesPlan history plan (Since at) reply = reply ≡ Refused refusals.NoPlan
 
@@ -218,10 +218,6 @@ abbrev pub Arrives : History → DocId → Time → Text → Reply → History �
 Arrives old doc at (texts.Bytes text) reply new = Adds old (entries.Arrive doc at text) (arrival_refusal old doc at text) reply new
 Arrives old doc at (texts.TooLong bytes) reply new = Declines old (refusals.TooLong most_text) reply new
 
--- what a check tells of a history: all is as it should be, so many words have a live plan, and these have so many segments
-abbrev pub sound_of : History → Verdict
-sound_of history = Sound (length (live_plans history)) (segments_of (live_plans history))
-
 -- from the old history, the archive may give this reply to the command and go on to the new one; a command to come is refused as a line that is none
 abbrev pub CarriesOut : History → Command → Reply → History → Type 0
 CarriesOut old (commands.Arrive doc at text) reply new = Arrives old doc at text reply new
@@ -232,7 +228,7 @@ CarriesOut old (commands.Plan word kind fraction) reply new = Plans old word kin
 CarriesOut old (commands.Propose word fraction) reply new = (new ≡ old) × Proposes old word fraction reply
 CarriesOut old (commands.Between span expr) reply new = (new ≡ old) × Spans old span expr reply
 CarriesOut old (commands.Certificate word) reply new = (new ≡ old) × Certifies old word reply
-CarriesOut old commands.Verify reply new = (new ≡ old) × (reply ≡ Verified (sound_of old))
+CarriesOut old commands.Verify reply new = (new ≡ old) × ((verdict : Verdict) × Verifies old verdict × (reply ≡ Verified verdict))
 CarriesOut old to_come reply new = Declines old refusals.Line reply new
 
 -- The step of the machine, over an item of the input: a command is carried out, and a line that is none is refused.

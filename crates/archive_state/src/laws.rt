@@ -12,7 +12,7 @@ ghost use Rattle.archive_state.specs.Steps.{Reply, Planned, Summary, Step};
 ghost use Rattle.archive_state.specs.Runs.{Outcome};
 ghost use Rattle.archive_state.specs.Stands.{Stands, IsNotArchive, bodies_of};
 ghost use Rattle.archive_state.specs.Worlds.{World};
-ghost use Rattle.archive_state.specs.Bounds.{HoldersAreDocuments, PlannedReadsAreBounded, PlannedSpaceIsCapped, MadeAtStands, MadeOverStands, HeldIsUndamaged, UnplannedHitsAreAlive};
+ghost use Rattle.archive_state.specs.Bounds.{HoldersAreDocuments, PlannedReadsAreBounded, PlannedSpaceIsCapped, MadeAtStands, MadeOverStands, HeldIsUndamaged, UnplannedHitsAreAlive, CertifiedPlansAreLeast, GoodPlansAreSound};
 
 /// A history is legal exactly where each of its entries is legal after those before it, and a load
 /// accepts each legal history. A history's journal ends with one byte behind its records, the closed
@@ -25,16 +25,18 @@ pub fn a_history_is_legal_entry_by_entry()
 {}
 
 /// The abstract machine never gets stuck, and chooses nothing but which least plan it proposes, and
-/// which least or best plan it stores. From a legal history each item has an outcome. It is the only one
-/// where no plan is asked for; two outcomes that propose a plan differ in its segments alone; and where
+/// which least or best plan it stores. From a history that loads each item has an outcome. It is the only
+/// one where no plan is asked for; two outcomes that propose a plan differ in its segments alone; and where
 /// two outcomes of one item each store a plan, their replies are the same but for the number of segments
 /// and, under a space bound, the space. (By its choice the one may find room in Pages where the other
-/// is refused.) Where the item's document is in range, an outcome leads to a legal history. Does nothing.
+/// is refused.) Where the item's document is in range, an outcome leads from a history that loads to one
+/// that loads, and from a legal one to a legal one. Does nothing.
 pub fn each_item_has_one_outcome()
-    ensures outcome { (w : World) (item : Item) → IsLegal w.history → (outcome : Outcome Reply World) × Step w item outcome.reply outcome.next }
+    ensures outcome { (w : World) (item : Item) → IsLoadable w.history → (outcome : Outcome Reply World) × Step w item outcome.reply outcome.next }
     ensures one { (w : World) (item : Item) (reply other : Reply) (next then : World) → (IsChoice item → ⊥) → Step w item reply next → Step w item other then → (reply ≡ other) × (next ≡ then) }
     ensures but_segments { (w : World) (item : Item) (reply other : Reply) (next then : World) → (IsStoring item → ⊥) → Step w item reply next → Step w item other then → SameButSegments reply other × (next ≡ then) }
     ensures plans { (w : World) (item : Item) (one other : Summary) (next then : World) → Step w item (Planned one) next → Step w item (Planned other) then → SamePlanned one other }
+    ensures loads { (w : World) (item : Item) (reply : Reply) (next : World) → IsLoadable w.history → HasDocument item → Step w item reply next → IsLoadable next.history }
     ensures legal { (w : World) (item : Item) (reply : Reply) (next : World) → IsLegal w.history → HasDocument item → Step w item reply next → IsLegal next.history }
 {}
 
@@ -62,6 +64,13 @@ pub fn planned_reads_are_bounded()
 /// its horizon, rounded down. Does nothing.
 pub fn planned_space_is_capped()
     ensures { PlannedSpaceIsCapped }
+{}
+
+/// Where each plan is what its kind promises, as in each history that the machine leads to from none, what
+/// is certified of a stored plan is that it is least, and a check tells that all is sound. Does nothing.
+pub fn good_plans_are_least_and_sound()
+    ensures certified { CertifiedPlansAreLeast }
+    ensures sound { GoodPlansAreSound }
 {}
 
 /// In pages that hold the live plans nothing is damaged, and what is made from them is the answer

@@ -4,14 +4,15 @@ use Rattle.std.specs.List.{zip}
 use Rattle.std.proofs.lemmas.List.Elements.{All-contains, All-weaker}
 use Rattle.time_base.specs.declared.posting.Posting.{Posting}
 use Rattle.time_base.specs.declared.fraction.Fraction.{Fraction}
+use Rattle.time_base.proofs.Equal.{same_span}
 use Rattle.postings.specs.Sizes.{size}
-use Rattle.elementary.specs.Partitions.{sizes, space, Covers, IsLeast, IsFitting, AreBest}
+use Rattle.elementary.specs.Partitions.{sizes, space, Covers, IsFitting, AreBest}
 use Rattle.elementary.proofs.Ordering.{each_has_boundaries, one_list_of_boundaries}
 use Rattle.elementary.proofs.Bests.{each_has_best, one_list_of_best, each_has_a_least, covers_to}
 use Rattle.proposals.specs.declared.proposal.Segment.{Segment}
 use Rattle.proposals.specs.declared.proposal.Node.{Node}
-use Rattle.proposals.specs.Proposals.{pieces, paired, bare_node, AreSegments, AreNodes, IsProposal}
-use Rattle.proposals.specs.Laws.{EachListHasAProposal, ProposalsDifferInSegments}
+use Rattle.proposals.specs.Proposals.{pieces, paired, bare_segment, bare_node, AreSegments, AreNodes, IsProposal, IsShown}
+use Rattle.proposals.specs.Laws.{EachListHasAProposal, EachPartitionIsShown, PartitionsAreShownOnce, ProposalsDifferInSegments}
 
 pub paired_pieces : (list : List Posting) (f : ℕ) (cuts : List ℕ) → paired f cuts (sizes list f cuts) ≡ pieces list f cuts
 paired_pieces list f [] = refl
@@ -32,39 +33,20 @@ numbered (t ∷ times) (n ∷ numbers) =
     let (nodes, are) = numbered times numbers in
     (record { at = t; pi = n } ∷ nodes, ap (λ (l : List (ℕ × ℕ)). (t, n) ∷ l) are)
 
--- what is proposed by a least partition
-pub proposed : (list : List Posting) (factor : Fraction) (horizon first : ℕ) (cuts : List ℕ) → horizon ≤ 2 ^ 40 → All (λ p. p.span.to ≤ horizon) list → IsLeast list factor first cuts horizon
-    → (segments : List Segment) × ((nodes : List Node) × (IsProposal list factor horizon segments nodes (space list first cuts) × AreSegments list first cuts segments))
-proposed list factor horizon first cuts now early least =
+-- what is shown of a partition
+pub shown : EachPartitionIsShown
+shown list factor horizon first cuts now early covers =
     let (times, b) = each_has_boundaries list horizon in
     let (numbers, best) = each_has_best list factor horizon times early b in
-    let (segments, segments_are) = segmented list factor cuts first horizon least.covers now in
-    let (nodes, nodes_are) = numbered times numbers in (
-      segments,
-      (
-        nodes,
-        (
-          record {
-            first = first;
-            cuts = cuts;
-            least = least;
-            segments_are = segments_are;
-            total_is = refl;
-            times = times;
-            numbers = numbers;
-            best = best;
-            nodes_are = nodes_are;
-          },
-          segments_are,
-        ),
-      ),
-    )
+    let (segments, segments_are) = segmented list factor cuts first horizon covers now in
+    let (nodes, nodes_are) = numbered times numbers in
+    (segments, (nodes, record { segments_are = segments_are; total_is = refl; times = times; numbers = numbers; best = best; nodes_are = nodes_are }))
 
 pub each_has_a_proposal : EachListHasAProposal
 each_has_a_proposal list factor horizon now early =
     let (first, (cuts, least)) = each_has_a_least list factor horizon early in
-    let (segments, (nodes, is)) = proposed list factor horizon first cuts now early least in
-    (segments, (nodes, (space list first cuts, is.0)))
+    let (segments, (nodes, is)) = shown list factor horizon first cuts now early least.covers in
+    (segments, (nodes, (space list first cuts, record { first = first; cuts = cuts; least = least; shown = is })))
 
 -- what is shown of nodes is all of them
 pub maps_same : {X Y : Type 0} (f : X → Y) → ((x y : X) → f x ≡ f y → x ≡ y) → (a b : List X) → map f a ≡ map f b → a ≡ b
@@ -77,17 +59,34 @@ maps_same {X = X} {Y = Y} f one (x ∷ a) (y ∷ b) e =
 same_node : (m n : Node) → bare_node m ≡ bare_node n → m ≡ n
 same_node m n e = λ i. record { at = (e i).0; pi = (e i).1 }
 
-pub differ_in_segments : ProposalsDifferInSegments
-differ_in_segments list factor horizon segments others nodes those total sum p q =
+-- whatever partitions are shown of a list, the numbers are the same
+same_nodes : (list : List Posting) (factor : Fraction) (horizon f g : ℕ) (cuts others : List ℕ) (segments rest : List Segment) (nodes those : List Node) (total sum : ℕ)
+    → IsShown list factor horizon f cuts segments nodes total → IsShown list factor horizon g others rest those sum → nodes ≡ those
+same_nodes list factor horizon f g cuts others segments rest nodes those total sum p q =
     let times : p.times ≡ q.times = one_list_of_boundaries list horizon p.times q.times p.best.times_are q.best.times_are in
     let best = subst (λ (ts : List ℕ). AreBest list factor horizon ts p.numbers) times p.best in
     let numbers : p.numbers ≡ q.numbers = one_list_of_best list factor horizon q.times p.numbers q.numbers best q.best in
+    maps_same bare_node same_node nodes those (p.nodes_are ∙ ap (λ (ts : List ℕ). zip ts p.numbers) times ∙ ap (λ (ns : List ℕ). zip q.times ns) numbers ∙ sym q.nodes_are)
+
+pub differ_in_segments : ProposalsDifferInSegments
+differ_in_segments list factor horizon segments others nodes those total sum p q =
     let first : p.first ≡ q.first = omega (arith, p.least.first.none_before q.first q.least.first.is, q.least.first.none_before p.first p.least.first.is) in
     let over = p.least.least q.cuts (subst (λ f. Covers list factor f q.cuts horizon) (sym first) q.least.covers) in
     let under = q.least.least p.cuts (subst (λ f. Covers list factor f p.cuts horizon) first p.least.covers) in (
-      maps_same bare_node same_node nodes those (p.nodes_are ∙ ap (λ (ts : List ℕ). zip ts p.numbers) times ∙ ap (λ (ns : List ℕ). zip q.times ns) numbers ∙ sym q.nodes_are),
-      omega (arith, over, under, p.total_is, q.total_is, ap (λ f. space list f p.cuts) first, ap (λ f. space list f q.cuts) first),
+      same_nodes list factor horizon p.first q.first p.cuts q.cuts segments others nodes those total sum p.shown q.shown,
+      omega (arith, over, under, p.shown.total_is, q.shown.total_is, ap (λ f. space list f p.cuts) first, ap (λ f. space list f q.cuts) first),
     )
+
+-- what is shown of a segment is all of it
+same_segment : (s r : Segment) → bare_segment s ≡ bare_segment r → s ≡ r
+same_segment s r e = λ i. record { span = same_span s.span r.span (λ j. (e j).0) (λ j. (e j).1) i; size = (e i).2 }
+
+pub shown_once : PartitionsAreShownOnce
+shown_once list factor horizon first cuts segments others nodes those total sum p q = (
+  maps_same bare_segment same_segment segments others (p.segments_are ∙ sym q.segments_are),
+  same_nodes list factor horizon first first cuts cuts segments others nodes those total sum p q,
+  p.total_is ∙ sym q.total_is,
+)
 
 -- cuts that fit boundaries are times
 pub fitting_times : (times cuts : List ℕ) → IsFitting times cuts → All (λ x. x < 2 ^ 40) times → All (λ x. x < 2 ^ 40) cuts

@@ -1,11 +1,11 @@
--- There is a proposal for each list, and all of them are the same but for the segments; each least partition has one.
-use Rattle.std.specs.Prelude.{◌≡◌, ℕ, ◌^◌, ◌≤◌, List, [], ◌∷◌, ◌++◌, map, All}
+-- There is a proposal for each list, and all of them are the same but for the segments; each partition is shown in one way.
+use Rattle.std.specs.Prelude.{◌≡◌, ℕ, ◌^◌, ◌≤◌, List, All}
 use Rattle.time_base.specs.declared.posting.Posting.{Posting}
 use Rattle.time_base.specs.declared.fraction.Fraction.{Fraction}
-use Rattle.elementary.specs.Partitions.{IsLeast, space}
+use Rattle.elementary.specs.Partitions.{Covers, space}
 use Rattle.proposals.specs.declared.proposal.Segment.{Segment}
 use Rattle.proposals.specs.declared.proposal.Node.{Node}
-use Rattle.proposals.specs.Proposals.{IsProposal}
+use Rattle.proposals.specs.Proposals.{IsProposal, IsShown}
 
 -- A list whose spans end at or before the horizon has a proposal, for each factor.
 abbrev pub EachListHasAProposal : Type 0
@@ -19,14 +19,14 @@ ProposalsDifferInSegments =
     (list : List Posting) (factor : Fraction) (horizon : ℕ) (segments others : List Segment) (nodes those : List Node) (total sum : ℕ)
     → IsProposal list factor horizon segments nodes total → IsProposal list factor horizon others those sum → (nodes ≡ those) × (total ≡ sum)
 
--- Each least partition has a proposal that shows it: its segments begin at its cuts.
-abbrev pub EachLeastIsProposed : Type 0
-EachLeastIsProposed =
-    (list : List Posting) (factor : Fraction) (horizon first : ℕ) (cuts : List ℕ) → horizon ≤ 2 ^ 40 → All (λ p. p.span.to ≤ horizon) list → IsLeast list factor first cuts horizon
-    → (segments : List Segment) × ((nodes : List Node) × ((total : ℕ) × (IsProposal list factor horizon segments nodes total × (map (λ s. s.span.from) segments ++ horizon ∷ [] ≡ first ∷ cuts) × (total ≡ space list first cuts))))
+-- Each admissible partition of a list can be shown.
+abbrev pub EachPartitionIsShown : Type 0
+EachPartitionIsShown =
+    (list : List Posting) (factor : Fraction) (horizon first : ℕ) (cuts : List ℕ) → horizon ≤ 2 ^ 40 → All (λ p. p.span.to ≤ horizon) list → Covers list factor first cuts horizon
+    → (segments : List Segment) × ((nodes : List Node) × IsShown list factor horizon first cuts segments nodes (space list first cuts))
 
--- Two proposals whose segments begin at the same times have the same segments.
-abbrev pub ProposalsBeginOnce : Type 0
-ProposalsBeginOnce =
-    (list : List Posting) (factor : Fraction) (horizon : ℕ) (segments others : List Segment) (nodes those : List Node) (total sum : ℕ)
-    → IsProposal list factor horizon segments nodes total → IsProposal list factor horizon others those sum → map (λ s. s.span.from) segments ≡ map (λ s. s.span.from) others → segments ≡ others
+-- A partition is shown in one way.
+abbrev pub PartitionsAreShownOnce : Type 0
+PartitionsAreShownOnce =
+    (list : List Posting) (factor : Fraction) (horizon first : ℕ) (cuts : List ℕ) (segments others : List Segment) (nodes those : List Node) (total sum : ℕ)
+    → IsShown list factor horizon first cuts segments nodes total → IsShown list factor horizon first cuts others those sum → (segments ≡ others) × (nodes ≡ those) × (total ≡ sum)

@@ -1,5 +1,5 @@
 //! What holds of proposals by their definition. The functions do nothing when they run.
-ghost use Rattle.proposals.specs.Laws.{EachLeastIsProposed, EachListHasAProposal, ProposalsBeginOnce, ProposalsDifferInSegments};
+ghost use Rattle.proposals.specs.Laws.{EachListHasAProposal, EachPartitionIsShown, PartitionsAreShownOnce, ProposalsDifferInSegments};
 
 /// A list whose spans end at or before the horizon has a proposal, for each factor.
 pub fn each_list_has_a_proposal()
@@ -11,12 +11,12 @@ pub fn proposals_differ_in_segments()
     ensures { ProposalsDifferInSegments }
 {}
 
-/// Each least partition has a proposal that shows it: its segments begin at its cuts.
-pub fn each_least_is_proposed()
-    ensures { EachLeastIsProposed }
+/// Each admissible partition of a list can be shown.
+pub fn each_partition_is_shown()
+    ensures { EachPartitionIsShown }
 {}
 
-/// Two proposals for a list whose segments begin at the same times have the same segments.
-pub fn proposals_begin_once()
-    ensures { ProposalsBeginOnce }
+/// A partition is shown in one way.
+pub fn partitions_are_shown_once()
+    ensures { PartitionsAreShownOnce }
 {}

@@ -7,7 +7,7 @@ use Rattle.version_index.specs.Words.{words_in}
 use Rattle.archive_check.specs.declared.texts.Texts.{Texts}
 use Rattle.archive_check.specs.Checking.{AreRead, TellsAll}
 use Rattle.archive_check.specs.Verdicts.{with_texts}
-use Rattle.archive_check.proofs.OrderLemmas.{put_in_order, are_put, are_moved}
+use Rattle.archive_state.proofs.OrderLemmas.{put_in_order, are_put, are_moved}
 use Rattle.archive_check.proofs.SegmentLemmas.{pages_on}
 use Rattle.archive_check.proofs.verifying.check.Goals as goal
 
