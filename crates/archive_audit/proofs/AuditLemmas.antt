@@ -11,10 +11,10 @@ use Rattle.machine_model.specs.States.{DiskState, Moment}
 use Rattle.machine_model.proofs.MomentLemmas.{joined, left_now, goes_on_reads}
 use Rattle.archive_state.specs.Histories.{History}
 use Rattle.archive_state.specs.Stands.{Stands}
-use Rattle.archive_state.specs.Steps.{sound_of}
+use Rattle.archive_state.specs.Verifying.{sound_of}
 use Rattle.archive_state.specs.Holding.{HoldsPlans}
 use Rattle.archive_state.specs.declared.verdict.Verdict.TheVariants as verdicts
-use Rattle.archive_state.proofs.HistoryLemmas.{legal_loads}
+use Rattle.archive_state.specs.Legal.{IsLegal}
 use Rattle.archive_state.proofs.StandsLemmas.{spells_one_history}
 use Rattle.archive_check.specs.declared.finding.Finding.{Finding}
 use Rattle.archive_check.specs.declared.finding.Finding.TheVariants.{Told, BadDigest}
@@ -79,12 +79,12 @@ decided status told (inr (inr is)) (inr faulty) = absurd cc
 
 -- ---- what is found
 
--- of what stands all is sound
-pub stands_as_sound : (history : History) (image : Bytes) (finding : Finding) → Stands history image → IsFindingOn image finding → status_of_finding finding ≡ Sound
-stands_as_sound history image finding stands is =
-    let one : is.loaded ≡ history = spells_one_history image.journal is.loaded history is.spelled is.loadable stands.spelled (legal_loads history stands.legal) in
+-- of what stands all is sound, where each plan is what its kind promises
+pub stands_as_sound : (history : History) (image : Bytes) (finding : Finding) → IsLegal history → Stands history image → IsFindingOn image finding → status_of_finding finding ≡ Sound
+stands_as_sound history image finding legal stands is =
+    let one : is.loaded ≡ history = spells_one_history image.journal is.loaded history is.spelled is.loadable stands.spelled stands.loadable in
     let E : History → Type 0 = λ h. IsExamined h image finding in
-    let sound : finding ≡ Told (sound_of history) = found_sound history image finding stands (subst E one is.examined) in
+    let sound : finding ≡ Told (sound_of history) = found_sound history image finding legal stands (subst E one is.examined) in
     ap status_of_finding sound
 
 -- the history that an image spells is one, and its texts are those that stand there; so one thing is found
@@ -109,7 +109,7 @@ sound_held image (Told (verdicts.BadText doc at)) is sound = absurd cc
 sound_held image (BadDigest word segment) is sound = absurd cc
 
 pub sound_whole : SoundImagesAreWhole
-sound_whole image finding is sound = record { loaded = is.loaded; loadable = is.loadable; spelled = is.spelled; held = sound_held image finding is sound }
+sound_whole image finding is sound = (is.loaded, record { spelled = is.spelled; loadable = is.loadable; held = sound_held image finding is sound })
 
 -- so no audit ends with a fault that told that
 pub not_faulty : (status told : AuditStatus) → told ≡ Sound → status ≡ told → status ≡ Faulty → ⊥

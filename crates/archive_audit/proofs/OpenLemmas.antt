@@ -35,7 +35,7 @@ pages_long image old after reach is same long = is ∙ ap (λ (d : DiskState). d
 
 -- a journal of at most 17 bytes is that of an archive without entries, which needs nothing of Pages
 pub new_stands : (image : Bytes) → length image.journal ≤ 17 → Stands [] image
-new_stands image few = record { spelled = inl (few, refl); legal = tt; held = record { apart = tt; each = All-nil (λ (stored : StoredPlan). HoldsPlan [] image.pages stored.plan) } }
+new_stands image few = record { spelled = inl (few, refl); loadable = tt; held = record { apart = tt; each = All-nil (λ (stored : StoredPlan). HoldsPlan [] image.pages stored.plan) } }
 
 -- entries that were gone over, with places that lie well
 pub is_opened : (h : History) (heads : List Head) (plans : List StoredPlan) (reach : Both ℕ) (pages : ℕ) (opened : Opened) → IsReplayed h heads opened.directory.changes plans → opened.journal.end ≡ end_of h

@@ -6,10 +6,9 @@ use Rattle.machine_model.specs.Pushes.{IsPrefix}
 use Rattle.gate_journal.specs.Spelled.{Spells}
 use Rattle.page_store.specs.Live.{AreLive}
 use Rattle.archive_state.specs.Histories.{History}
-use Rattle.archive_state.specs.Holding.{HoldsPlans}
 use Rattle.archive_state.specs.Legal.{IsLoadable}
 use Rattle.archive_state.specs.Plans.{live_extents}
-use Rattle.archive_state.specs.Stands.{bodies_of}
+use Rattle.archive_state.specs.Stands.{Stands, bodies_of}
 use Rattle.archive_state.specs.Steps.{Verified}
 use Rattle.archive_state.specs.Replies.{reply_text}
 use Rattle.archive_check.specs.declared.finding.Finding.{Finding}
@@ -47,13 +46,9 @@ pub record IsCutOff (image : Bytes) (before after : List ℕ) : Type 0 where
   pub front : IsPrefix after (before ++ finding_text finding)
   pub short : length after < length before + length (finding_text finding)
 
--- an image has all that an archive answers from: its journal spells a history that loads, and its pages hold each live plan's sublists, with their
--- digests
-pub record IsWhole (image : Bytes) : Type 0 where
-  pub loaded : History
-  pub loadable : IsLoadable loaded
-  pub spelled : Spells image.journal (bodies_of loaded)
-  pub held : HoldsPlans loaded image.pages
+-- an image has all that an archive answers from: it stands for a history
+abbrev pub IsWhole : Bytes → Type 0
+IsWhole image = (history : History) × Stands history image
 
 -- a disk has the lengths, the bytes and the images that it had: nothing changed but its counts, and its moments by what was shown
 pub record IsLeftAlone (old new : DiskState) : Type 0 where

@@ -6,6 +6,7 @@ ghost use Rattle.machine_model.specs.Images.{MayLeave};
 ghost use Rattle.machine_model.specs.Moments.{LeavesOnly};
 ghost use Rattle.machine_model.specs.Pushes.{IsPrefix};
 ghost use Rattle.archive_state.specs.Histories.{History};
+ghost use Rattle.archive_state.specs.Legal.{IsLegal};
 ghost use Rattle.archive_state.specs.Stands.{Stands, IsNotArchive};
 ghost use Rattle.archive_audit.specs.Audits.{IsAudited, IsCutOff, IsLeftAlone, IsWhole};
 ghost use Rattle.archive_audit.specs.Statuses.{ShowsNothing};
@@ -58,10 +59,10 @@ pub fn audit<M: Machine>(alloc: Global, words: &[String], machine: &mut M) -> Au
         IsAudited (M.disk machine.old).holds result (M.sink machine.old).shown (M.sink machine.new).shown }
     ensures cut_off { M.sink_tells → M.disk_tells → result ≡ AuditStatus.Sink → IsCutOff (M.disk machine.old).holds (M.sink machine.old).shown (M.sink machine.new).shown }
     ensures unshown { ShowsNothing result → M.sink machine.new ≡ M.sink machine.old }
-    // At status 0 the journal spells a history that loads, and the pages hold each live plan's sublists, with the digests that the journal has.
+    // At status 0 the bytes stand for a history: the journal spells it, a load accepts it, and the pages hold each live plan's sublists.
     ensures whole { M.disk_tells → result ≡ AuditStatus.Sound → IsWhole (M.disk machine.old).holds }
-    // Of bytes that stand for a history no fault is told.
-    ensures no_false_alarm { M.disk_tells → (h : History) → Stands h (M.disk machine.old).holds → result ≡ AuditStatus.Faulty → ⊥ }
+    // Of bytes that stand for a history in which each plan is what its kind promises, no fault is told.
+    ensures no_false_alarm { M.disk_tells → (h : History) → IsLegal h → Stands h (M.disk machine.old).holds → result ≡ AuditStatus.Faulty → ⊥ }
     // Where nothing is wrong with the machine, an archive has its verdict, unless memory runs out.
     ensures complete { M.disk_tells → length words.now ≡ 0 →
         ((at : ℕ) → IsNotArchive (M.disk machine.old).holds at → ⊥) →

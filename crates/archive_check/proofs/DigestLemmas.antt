@@ -20,7 +20,8 @@ use Rattle.archive_check.specs.Digests.{HasDigest, HasDigests, IsAltered, IsFirs
 use Rattle.archive_check.specs.Checking.{IsFaultOf, AreAltered, AreFirstAltered, TellsAll}
 use Rattle.archive_check.specs.Laws.{OneFinding}
 use Rattle.archive_state.proofs.OrderLemmas.{one_way, are_moved}
-use Rattle.archive_check.proofs.LawLemmas.{all_at, one_at, tells_one}
+use Rattle.archive_state.proofs.VerifyLemmas.{all_at, one_at}
+use Rattle.archive_check.proofs.LawLemmas.{tells_one}
 
 -- ---- segments by halves
 
@@ -116,7 +117,7 @@ finding_told texts pages plans verdict t = (
 -- ---- there is one finding
 
 -- a plan with a digest that is wrong hasn't all digests
-not_digests : (pages : List ℕ) (places : List Place) (segment : ℕ) → IsAltered pages places segment → All (HasDigest pages) places → ⊥
+pub not_digests : (pages : List ℕ) (places : List Place) (segment : ℕ) → IsAltered pages places segment → All (HasDigest pages) places → ⊥
 not_digests pages places segment a all = a.wrong (all_at (HasDigest pages) a.front a.back a.place (subst (λ (l : List Place). All (HasDigest pages) l) a.places_are all))
 
 one_altered : (pages : List ℕ) (places : List Place) (m n : ℕ) → IsAltered pages places m → IsAltered pages places n → m ≡ n

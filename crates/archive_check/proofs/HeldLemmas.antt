@@ -1,8 +1,9 @@
 -- What is checked with its digests is held, and what is held is checked so.
-use Rattle.std.proofs.Common.{◌≡◌, ℕ, List, [], ◌∷◌, ◌++◌, length, map, All, subst}
+use Rattle.std.proofs.Common.{◌≡◌, ℕ, List, [], ◌∷◌, ◌++◌, length, map, All, refl, ap, subst, ◌∙◌}
 use Rattle.std.specs.List.{flat_map}
 use Rattle.std.proofs.lemmas.List.Elements.{All-nil, All-cons, All-head, All-tail}
 use Rattle.std.proofs.lemmas.List.Sorted.{All-permutation, IsPermutation-sym}
+use Rattle.machine_model.specs.Areas.{Bytes}
 use Rattle.time_base.specs.declared.extent.Extent.{Extent}
 use Rattle.time_base.specs.declared.posting.Posting.{Posting}
 use Rattle.page_store.specs.Live.{IsInside}
@@ -15,19 +16,23 @@ use Rattle.record_codec.specs.declared.plan.PlanEntry.{PlanEntry}
 use Rattle.sublist_store.specs.Preparing.{spellings}
 use Rattle.sublist_store.specs.Segments.{seconds, EachSegment, HoldsSublist}
 use Rattle.archive_state.specs.declared.stored.StoredPlan.{StoredPlan}
+use Rattle.archive_state.specs.declared.verdict.Verdict.{Verdict}
 use Rattle.archive_state.specs.declared.verdict.Verdict.TheVariants.{Sound}
+use Rattle.archive_state.specs.Stands.{Stands}
 use Rattle.archive_state.specs.Histories.{History, changes}
 use Rattle.archive_state.specs.Holding.{HoldsPlan}
 use Rattle.archive_state.specs.Plans.{live_plans, extents_of}
-use Rattle.archive_state.specs.Steps.{sound_of}
 use Rattle.archive_replay.proofs.PlaceLemmas.{texts_are}
-use Rattle.archive_check.specs.declared.finding.Finding.TheVariants.{Told}
-use Rattle.archive_check.specs.Verdicts.{IsSound, Tells}
-use Rattle.archive_check.specs.Digests.{HasDigest, HasDigests}
+use Rattle.archive_check.specs.Checked.{IsChecked}
+use Rattle.archive_check.specs.declared.finding.Finding.{Finding}
+use Rattle.archive_check.specs.declared.finding.Finding.TheVariants.{Told, BadDigest}
+use Rattle.archive_check.specs.Verdicts.{with_texts, IsSound, Tells}
+use Rattle.archive_check.specs.Digests.{HasDigest, HasDigests, IsExamined}
 use Rattle.archive_check.specs.Laws.{SoundWithDigestsIsHeld, WhatIsHeldHasItsDigests, WhatStandsIsFoundSound}
-use Rattle.archive_check.proofs.DigestLemmas.{findings_are_one}
+use Rattle.archive_check.proofs.DigestLemmas.{not_digests}
 use Rattle.archive_state.proofs.OrderLemmas.{are_moved}
-use Rattle.archive_check.proofs.SoundLemmas.{sound_verdict}
+use Rattle.archive_state.proofs.VerifyLemmas.{all_at}
+use Rattle.archive_check.proofs.SoundLemmas.{stands_sound}
 
 -- ---- bytes and digests that are right are held
 
@@ -94,6 +99,18 @@ all_digests h pages (s ∷ live) held =
 pub held_digests : WhatIsHeldHasItsDigests
 held_digests h pages held = all_digests h pages (live_plans h) held.each
 
+-- where the pages hold the plans, no digest is found wrong
+found_told : (h : History) (image : Bytes) (finding : Finding) → Stands h image → IsExamined h image finding → (verdict : Verdict) × (IsChecked h image verdict × (finding ≡ Told verdict))
+found_told h image (Told verdict) stands examined = (verdict, ((examined.0, examined.1, examined.2.0), refl))
+found_told h image (BadDigest word segment) stands examined =
+    let bad = examined.2 in
+    let first = bad.first in
+    let D : StoredPlan → Type 0 = λ s. HasDigests image.pages s.plan in
+    let moved = are_moved (words_in (with_texts image.journal examined.0)) (live_plans h) bad.ordered bad.by_number in
+    let all = All-permutation D (live_plans h) bad.ordered moved (held_digests h image.pages stands.held) in
+    absurd (not_digests image.pages first.stored.plan.places segment first.there (all_at D first.front first.back first.stored (subst (λ (l : List StoredPlan). All D l) first.plans_are all)))
+
 pub found_sound : WhatStandsIsFoundSound
-found_sound h image finding stands examined =
-    findings_are_one image.journal examined.0 image.pages (live_plans h) finding (Told (sound_of h)) examined.2 (sound_verdict h image examined.0 stands examined.1, λ sound. held_digests h image.pages stands.held)
+found_sound h image finding legal stands examined =
+    let (verdict, (checked, is)) = found_told h image finding stands examined in
+    is ∙ ap Told (stands_sound h image verdict legal stands checked)

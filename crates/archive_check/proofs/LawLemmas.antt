@@ -24,9 +24,11 @@ use Rattle.archive_replay.proofs.PlaceLemmas.{bare_changes}
 use Rattle.archive_replay.proofs.IndexLemmas.{loadable_rises}
 use Rattle.archive_state.specs.declared.verdict.Verdict.{Verdict}
 use Rattle.archive_state.specs.declared.verdict.Verdict.TheVariants.{Sound, Differs, NotLeast, BadText}
-use Rattle.archive_check.specs.Verdicts.{with_texts, IsText, IsUpTo, IsFirstBad, IsPlanned, found_in, wanted_of, DifferAt, SegmentDiffers, IsLeastSpace, IsSound, HasDifference, TakesMore, FirstFault, AllSound, Says, Tells}
+use Rattle.archive_check.specs.Verdicts.{with_texts, IsText, IsUpTo, IsFirstBad, IsPlanned, found_in, wanted_of, DifferAt, SegmentDiffers, IsSound, HasDifference, TakesMore, FirstFault, AllSound, Says, Tells}
 use Rattle.archive_check.specs.Laws.{LoadedChangesAreInOrder, OneVerdict}
 use Rattle.archive_state.proofs.OrderLemmas.{one_way}
+use Rattle.archive_state.proofs.VerifyLemmas.{all_at, one_at, no_more, one_least}
+use Rattle.archive_state.specs.Verifying.{IsLeastSpace}
 
 -- ---- the order of changes
 
@@ -110,7 +112,7 @@ one_spot one other s t p q f w x y a b =
       wanted_is = a.differs.wanted_is ∙ ap (λ (n : ℕ). slice_get a.that n) place ∙ sym there.wanted_is;
     }
 
-not_the_same : (one other : List (List ℕ)) (s p : ℕ) (f w : Option ℕ) → SegmentDiffers one other s p f w → one ≡ other → ⊥
+pub not_the_same : (one other : List (List ℕ)) (s p : ℕ) (f w : Option ℕ) → SegmentDiffers one other s p f w → one ≡ other → ⊥
 not_the_same one other s p f w d same =
     let rest : d.this ∷ d.behind ≡ d.that ∷ d.after = append_cancel_left d.front (d.this ∷ d.behind) (d.that ∷ d.after) (sym d.one_is ∙ same ∙ d.other_is) in
     let here : d.this ≡ d.that = cc in
@@ -125,11 +127,6 @@ differs_unsound : (word : List ℕ) (s p : ℕ) (f w : Option ℕ) (texts : List
 differs_unsound word s p f w texts pages plan d sound =
     not_the_same (found_in pages plan) (wanted_of plan d.list) s p f w d.differs (sound.held ∙ ap (wanted_of plan) (one_planned texts plan sound.list d.list sound.planned d.planned))
 
--- a least plan takes no more than the least space
-no_more : (list : List Posting) (factor : Fraction) (cuts : List Time) (h least : ℕ) → IsLeastPlan list factor cuts h → IsLeastSpace list factor cuts h least → plan_space list cuts h ≤ least
-no_more list factor [] h least plan best = absurd plan
-no_more list factor (f ∷ cuts) h least plan best = omega (arith, plan.least best.cuts best.covers, best.takes)
-
 more_unsound : (word : List ℕ) (taken least : ℕ) (texts : List (Change (List ℕ))) (pages : List ℕ) (plan : PlanEntry) → TakesMore word taken least texts pages plan → IsSound texts pages plan → ⊥
 more_unsound word taken least texts pages plan m sound =
     let same = one_planned texts plan m.list sound.list m.planned sound.planned in
@@ -138,29 +135,7 @@ more_unsound word taken least texts pages plan m sound =
     let is : IsLeastPlan sound.list plan.fraction plan.cuts plan.horizon.seconds = sound.least (m.asked.0, (rw back m.asked.1)) in
     omega (arith, no_more m.list plan.fraction plan.cuts plan.horizon.seconds least (subst L back is) m.least_is, m.taken_is, m.more)
 
-one_least : (list : List Posting) (factor : Fraction) (cuts : List Time) (h m n : ℕ) → IsLeastSpace list factor cuts h m → IsLeastSpace list factor cuts h n → m ≡ n
-one_least list factor [] h m n a b = absurd a
-one_least list factor (f ∷ cuts) h m n a b = omega (arith, a.least b.cuts b.covers, b.takes, b.least a.cuts a.covers, a.takes)
-
 -- the first plan that isn't sound
-pub all_at : {X : Type 0} (P : X → Type 0) (front back : List X) (x : X) → All P (front ++ x ∷ back) → P x
-all_at P [] back x all = All-head P x back all
-all_at P (y ∷ front) back x all = all_at P front back x (All-tail P y (front ++ x ∷ back) all)
-
--- two lists with an item of which P doesn't hold, behind items of which it does: it is one item, at one place
-pub record IsOneAt {X : Type 0} (f g : List X) (s t : X) : Type 0 where
-  pub long : length f ≡ length g
-  pub same : s ≡ t
-
-pub one_at : {X : Type 0} (P : X → Type 0) (f g : List X) (s t : X) (b c : List X) → f ++ s ∷ b ≡ g ++ t ∷ c → All P f → All P g → (P s → ⊥) → (P t → ⊥) → IsOneAt f g s t
-one_at P [] [] s t b c same early other bad ill = record { long = refl; same = cc }
-one_at {X} P [] (x ∷ g) s t b c same early other bad ill = let here : s ≡ x = cc in absurd (bad (subst P (sym here) (All-head P x g other)))
-one_at {X} P (x ∷ f) [] s t b c same early other bad ill = let here : x ≡ t = cc in absurd (ill (subst P here (All-head P x f early)))
-one_at {X} P (x ∷ f) (y ∷ g) s t b c same early other bad ill =
-    let rest : f ++ s ∷ b ≡ g ++ t ∷ c = cc in
-    let more = one_at P f g s t b c rest (All-tail P x f early) (All-tail P y g other) bad ill in
-    record { long = omega (arith, more.long); same = more.same }
-
 fault_sound : (fault : List (Change (List ℕ)) → List ℕ → PlanEntry → Type 0) (words segments : ℕ) (texts : List (Change (List ℕ))) (pages : List ℕ) (plans : List StoredPlan)
     → ((plan : PlanEntry) → fault texts pages plan → IsSound texts pages plan → ⊥) → FirstFault fault texts pages plans → AllSound words segments texts pages plans → ⊥
 fault_sound fault words segments texts pages plans unsound first all =
@@ -178,7 +153,7 @@ one_plan fault other texts pages plans unsound ill a b =
 
 -- ---- verdicts
 
-bad_unread : (texts : List (Change (List ℕ))) (doc : DocId) (at : Time) → IsFirstBad texts doc at → All IsText texts → ⊥
+pub bad_unread : (texts : List (Change (List ℕ))) (doc : DocId) (at : Time) → IsFirstBad texts doc at → All IsText texts → ⊥
 bad_unread texts doc at b all = b.bad (All-contains IsText texts b.change all b.among)
 
 one_doc : (c d : DocId) → c.0 ≡ d.0 → c ≡ d

@@ -27,7 +27,8 @@ use Rattle.archive_check.specs.declared.digests.Digests.TheVariants.{Asked}
 use Rattle.archive_check.specs.declared.verifying.Altered.{Altered}
 use Rattle.archive_check.specs.declared.verifying.Checked.{Checked}
 use Rattle.archive_state.specs.Orders.{AreByNumber}
-use Rattle.archive_check.specs.Verdicts.{with_texts, IsText, IsFirstBad, IsLeastSpace, SegmentDiffers, HasDifference, TakesMore, Says}
+use Rattle.archive_state.specs.Verifying.{IsLeastSpace}
+use Rattle.archive_check.specs.Verdicts.{with_texts, IsText, IsFirstBad, SegmentDiffers, HasDifference, TakesMore, Says}
 use Rattle.archive_check.specs.Digests.{HasDigest, HasDigests, IsAltered, IsFirstAltered, TellsSound}
 
 -- ---- texts; on a disk that tells they are those that stand in the journal

@@ -7,10 +7,10 @@ use Rattle.gate_journal.specs.Spelled.{Spells}
 use Rattle.page_store.specs.Live.{AreLive}
 use Rattle.archive_state.specs.Histories.{History}
 use Rattle.archive_state.specs.Holding.{HoldsPlans}
-use Rattle.archive_state.specs.Legal.{IsLoadable}
+use Rattle.archive_state.specs.Legal.{IsLegal, IsLoadable}
 use Rattle.archive_state.specs.Plans.{live_plans, live_extents}
 use Rattle.archive_state.specs.Stands.{Stands, bodies_of}
-use Rattle.archive_state.specs.Steps.{sound_of}
+use Rattle.archive_state.specs.Verifying.{Verifies, sound_of}
 use Rattle.archive_state.specs.declared.stored.StoredPlan.{StoredPlan}
 use Rattle.archive_replay.specs.Places.{ArePlaced}
 use Rattle.archive_state.specs.declared.verdict.Verdict.{Verdict}
@@ -30,9 +30,13 @@ abbrev pub OneVerdict : Type 0
 OneVerdict = (journal : List ℕ) (changes : List (Change TextPlace)) (pages : List ℕ) (plans : List StoredPlan) (one other : Verdict)
     → IsVerdict journal changes pages plans one → IsVerdict journal changes pages plans other → one ≡ other
 
--- An image that stands for a history has one verdict, that all is sound.
+-- The verdict on an image that stands for a history is the history's.
+abbrev pub WhatStandsIsVerified : Type 0
+WhatStandsIsVerified = (history : History) (image : Bytes) (verdict : Verdict) → Stands history image → IsChecked history image verdict → Verifies history verdict
+
+-- So where each plan is what its kind promises, all is sound.
 abbrev pub WhatStandsIsSound : Type 0
-WhatStandsIsSound = (history : History) (image : Bytes) (verdict : Verdict) → Stands history image → IsChecked history image verdict → verdict ≡ sound_of history
+WhatStandsIsSound = (history : History) (image : Bytes) (verdict : Verdict) → IsLegal history → Stands history image → IsChecked history image verdict → verdict ≡ sound_of history
 
 -- Of a new archive all is sound, whatever an image holds, and nothing else is told.
 abbrev pub ANewArchiveIsSound : Type 0
@@ -45,12 +49,12 @@ abbrev pub OneFinding : Type 0
 OneFinding = (journal : List ℕ) (changes : List (Change TextPlace)) (pages : List ℕ) (plans : List StoredPlan) (one other : Finding)
     → IsFinding journal changes pages plans one → IsFinding journal changes pages plans other → one ≡ other
 
--- An image that stands for a history has one finding, that all is sound.
+-- An image that stands for a history in which each plan is what its kind promises has one finding, that all is sound.
 abbrev pub WhatStandsIsFoundSound : Type 0
-WhatStandsIsFoundSound = (history : History) (image : Bytes) (finding : Finding) → Stands history image → IsExamined history image finding → finding ≡ Told (sound_of history)
+WhatStandsIsFoundSound = (history : History) (image : Bytes) (finding : Finding) → IsLegal history → Stands history image → IsExamined history image finding → finding ≡ Told (sound_of history)
 
 -- Where the journal spells a history, its live extents lie inside Pages with no page of two, a check tells that all is sound, and all digests are
--- right, the pages hold the live plans' sublists. With a history that loads, that is what an archive reads its answers from.
+-- right, the pages hold the live plans' sublists. With a history that loads, the image stands for it.
 abbrev pub SoundWithDigestsIsHeld : Type 0
 SoundWithDigestsIsHeld = (history : History) (image : Bytes) (words segments : ℕ) → Spells image.journal (bodies_of history) → IsChecked history image (Sound words segments)
     → All (λ stored. HasDigests image.pages stored.plan) (live_plans history) → AreLive (live_extents history) (length image.pages) → HoldsPlans history image.pages

@@ -40,6 +40,7 @@ use Rattle.archive_state.specs.Legal.{IsLegal, MayBePlanned}
 use Rattle.archive_state.specs.Planning.{last_second, IsListUpTo}
 use Rattle.archive_state.specs.Plans.{live_plans}
 use Rattle.archive_state.specs.Stands.{Stands, bodies_of}
+use Rattle.archive_state.proofs.HistoryLemmas.{legal_loads}
 use Rattle.archive_state.proofs.StoringLemmas.{sha_digest}
 
 -- ---- the history: document 1 has the word `v` in [10, 40), and a plan of the word has one segment
@@ -227,7 +228,7 @@ held digest is =
 stands_by : (digest : List ℕ) → digest ≡ sha256 sublist_bytes → IsDigest digest → Stands (planned digest) (image digest)
 stands_by digest is fits = record {
   spelled = inr (record { gate = 0; rest = []; shut = λ same. absurd (omega (arith, same)); fit = spelled_long digest fits; whole = refl });
-  legal = legal digest fits;
+  loadable = legal_loads (planned digest) (legal digest fits);
   held = held digest is;
 }
 

@@ -4,14 +4,12 @@ use Rattle.time_base.specs.declared.ids.DocId.{DocId}
 use Rattle.time_base.specs.declared.time.Time.{Time}
 use Rattle.time_base.specs.declared.text_place.TextPlace.{TextPlace}
 use Rattle.time_base.specs.declared.posting.Posting.{Posting}
-use Rattle.time_base.specs.declared.fraction.Fraction.{Fraction}
 use Rattle.commands.specs.declared.command.Kind.TheVariants.{Guarantee}
 use Rattle.postings.specs.Lists.{EachNext}
 use Rattle.postings.specs.ListsOf.{IsListOf}
 use Rattle.version_store.specs.declared.change.Change.{Change}
 use Rattle.version_store.specs.Changes.{changes_of, mapped}
 use Rattle.version_index.specs.Words.{frequency_in, words_in}
-use Rattle.elementary.specs.Partitions.{IsBest}
 use Rattle.stored_plans.specs.Plans.{IsFitFor, IsLeastPlan, plan_space}
 use Rattle.page_store.specs.Ranges.{bytes_in}
 use Rattle.page_store.specs.Live.{IsInside}
@@ -19,6 +17,7 @@ use Rattle.record_codec.specs.declared.plan.PlanEntry.{PlanEntry}
 use Rattle.sublist_store.specs.Segments.{seconds}
 use Rattle.sublist_store.specs.Preparing.{spellings}
 use Rattle.archive_state.specs.Plans.{segments_of}
+use Rattle.archive_state.specs.Verifying.{IsLeastSpace}
 use Rattle.archive_state.specs.declared.stored.StoredPlan.{StoredPlan}
 use Rattle.archive_replay.specs.Texts.{text_in}
 use Rattle.archive_state.specs.declared.verdict.Verdict.{Verdict}
@@ -86,11 +85,6 @@ pub record SegmentDiffers (one other : List (List ℕ)) (segment place : ℕ) (f
 -- the plan keeps to a guarantee, and may be loaded for this list; so it has to be a least one
 abbrev pub IsToBeLeast : PlanEntry → List Posting → Type 0
 IsToBeLeast plan list = (plan.kind ≡ Guarantee) × IsFitFor Guarantee list plan.fraction plan.cuts plan.horizon.seconds
-
--- the least space of a partition that keeps the plan's factor, from the plan's first cut to its horizon
-abbrev pub IsLeastSpace : List Posting → Fraction → List Time → ℕ → ℕ → Type 0
-IsLeastSpace list factor [] h least = ⊥
-IsLeastSpace list factor (f ∷ cuts) h least = IsBest list factor h f.seconds h least
 
 -- ---- plans
 

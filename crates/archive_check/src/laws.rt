@@ -1,6 +1,6 @@
 //! What holds of verdicts by their definitions, for whoever proves something over them. Nothing here
 //! runs.
-ghost use Rattle.archive_check.specs.Laws.{ANewArchiveIsSound, LoadedChangesAreInOrder, OneFinding, OneVerdict, SoundWithDigestsIsHeld, WhatIsHeldHasItsDigests, WhatStandsIsFoundSound, WhatStandsIsSound};
+ghost use Rattle.archive_check.specs.Laws.{ANewArchiveIsSound, LoadedChangesAreInOrder, OneFinding, OneVerdict, SoundWithDigestsIsHeld, WhatIsHeldHasItsDigests, WhatStandsIsFoundSound, WhatStandsIsSound, WhatStandsIsVerified};
 
 /// The changes of a history that loads come in the order that a check asks for. Does nothing.
 pub fn loaded_changes_are_in_order()
@@ -12,10 +12,11 @@ pub fn one_verdict()
     ensures { OneVerdict }
 {}
 
-/// An image that stands for a history has one verdict, that all is sound: as many words as there are
-/// live plans, and all their segments. Does nothing.
+/// The verdict on an image that stands for a history is the history's; where each plan is what its kind
+/// promises, that all is sound: as many words as there are live plans, and all their segments. Does nothing.
 pub fn what_stands_is_sound()
-    ensures { WhatStandsIsSound }
+    ensures verified { WhatStandsIsVerified }
+    ensures sound { WhatStandsIsSound }
 {}
 
 /// Of a new archive all is sound, and nothing else is told. Does nothing.
@@ -28,7 +29,8 @@ pub fn one_finding()
     ensures { OneFinding }
 {}
 
-/// An image that stands for a history has one finding, that all is sound. Does nothing.
+/// An image that stands for a history in which each plan is what its kind promises has one finding, that
+/// all is sound. Does nothing.
 pub fn what_stands_is_found_sound()
     ensures { WhatStandsIsFoundSound }
 {}

@@ -58,8 +58,8 @@ returns-in-Ok-clause-cut_off g c = λ sink_tells disk_tells is.
     subst S alone.1 (record { finding = c.in-Ok.finding; is = c.in-Ok.ensures.found disk_tells; front = c.tell.ensures.front sink_tells is; short = c.tell.ensures.short sink_tells is })
 
 pub returns-in-Ok-clause-no_false_alarm : goal.returns-in-Ok-clause-no_false_alarm
-returns-in-Ok-clause-no_false_alarm g c = λ disk_tells h stands faulty.
-    not_faulty c.tell.result (status_of_finding c.in-Ok.finding) (stands_as_sound h (g.M.Disk.disk c.args.machine.now).holds c.in-Ok.finding stands (c.in-Ok.ensures.found disk_tells))
+returns-in-Ok-clause-no_false_alarm g c = λ disk_tells h legal stands faulty.
+    not_faulty c.tell.result (status_of_finding c.in-Ok.finding) (stands_as_sound h (g.M.Disk.disk c.args.machine.now).holds c.in-Ok.finding legal stands (c.in-Ok.ensures.found disk_tells))
     (decided c.tell.result (status_of_finding c.in-Ok.finding) c.tell.ensures.ends (inr faulty)) faulty
 
 pub returns-in-Ok-clause-whole : goal.returns-in-Ok-clause-whole
