@@ -6,7 +6,6 @@ use Rattle.std.proofs.lemmas.List.{length-drop}
 use Rattle.std.proofs.lemmas.List.Elements.{All-nil}
 use Rattle.std.proofs.lemmas.Str.{is_utf8-from_IsUtf8}
 use Rattle.std.specs.List.Sorted.{IsStrictlyIncreasing}
-use Rattle.std.proofs.lemmas.Simd.{map-map}
 use Rattle.time_base.specs.declared.fraction.Fraction.{Fraction}
 use Rattle.time_base.specs.declared.time.Time.{Time}
 use Rattle.time_base.specs.declared.text_place.TextPlace.{TextPlace}
@@ -15,7 +14,7 @@ use Rattle.postings.specs.ListsOf.{IsListOf}
 use Rattle.elementary.specs.Counts.{Counts, Tabulates}
 use Rattle.elementary.specs.Partitions.{widest, IsLeast, AreBest, space}
 use Rattle.elementary.proofs.Narrow.{narrow}
-use Rattle.proposals.specs.Proposals.{AreSegments, AreNodes, IsProposal, pieces, bare_segment}
+use Rattle.proposals.specs.Proposals.{AreSegments, AreNodes, IsProposal}
 use Rattle.proposals.specs.declared.proposal.Proposal.{Proposal}
 use Rattle.fold_tokens.specs.Terms.{one_term}
 use Rattle.version_store.specs.Changes.{last_time}
@@ -38,13 +37,11 @@ use Rattle.archive_replay.proofs.PlaceLemmas.{bare_changes}
 use Rattle.postings.proofs.Clipping.{one_list_of}
 use Rattle.elementary.proofs.Cuts.{there}
 use Rattle.elementary.proofs.Places.{place_of, place_below, rises}
-use Rattle.proposals.specs.declared.proposal.Segment.{Segment}
 use Rattle.record_codec.specs.declared.plan.PlanEntry.{PlanEntry}
-use Rattle.sublist_store.specs.Segments.{seconds}
-use Rattle.stored_plans.specs.Plans.{later, IsLeastPlan, IsGoodPlan}
+use Rattle.stored_plans.specs.Plans.{later, IsFitPlan, IsFitFor}
 use Rattle.stored_plans.proofs.PlanLemmas.{seconds_are}
 use Rattle.archive_state.specs.Answers.{frequency_at}
-use Rattle.archive_state.specs.Legal.{MayBePlanned, IsLegal}
+use Rattle.archive_state.specs.Legal.{MayBePlanned, IsLoadable}
 use Rattle.archive_state.specs.declared.stored.StoredPlan.{StoredPlan}
 use Rattle.archive_state.specs.Plans.{is_another, plan_of, live_plans}
 use Rattle.archive_state.proofs.CertifyingLemmas.{live_has}
@@ -89,7 +86,7 @@ few_cuts list factor horizon table cuts t many within least =
 pub proposal_is : (list : List Posting) (factor : Fraction) (horizon first : ℕ) (cuts times numbers : List ℕ) (p : Proposal) → IsLeast list factor first cuts horizon → AreBest list factor horizon times numbers
     → AreSegments list first cuts p.segments.items → AreNodes times numbers p.nodes.items → p.space ≡ space list first cuts → IsProposal list factor horizon p.segments.items p.nodes.items p.space
 proposal_is list factor horizon first cuts times numbers p least best segments nodes total =
-    record { first = first; cuts = cuts; least = least; segments_are = segments; total_is = total; times = times; numbers = numbers; best = best; nodes_are = nodes }
+    record { first = first; cuts = cuts; least = least; shown = record { segments_are = segments; total_is = total; times = times; numbers = numbers; best = best; nodes_are = nodes } }
 
 -- the tests by other names of what they come to
 module _ (h : ℕ) (One Other : Refusal → Type 0) (refused : (why : Refusal) → One why → Other why) where
@@ -189,50 +186,40 @@ few_fit times (x ∷ cuts) up rise inside =
 
 -- ---- what is certified of a plan
 
-begin_of : ℕ × ℕ × ℕ → ℕ
-begin_of piece = piece.0
-
--- the pieces up to a horizon begin at the cuts
-pieces_begin : (list : List Posting) (f : ℕ) (cuts : List ℕ) (h : ℕ) → map begin_of (pieces list f (cuts ++ h ∷ [])) ≡ f ∷ cuts
-unfolding begin_of
-pieces_begin list f [] h = refl
-pieces_begin list f (g ∷ cuts) h = ap (λ (l : List ℕ). f ∷ l) (pieces_begin list g cuts h)
-
-segments_begin : (list : List Posting) (f : ℕ) (cuts : List ℕ) (h : ℕ) (segments : List Segment) → AreSegments list f (cuts ++ h ∷ []) segments → map (λ s. s.span.from) segments ≡ f ∷ cuts
-unfolding begin_of
-segments_begin list f cuts h segments are =
-    sym (map-map begin_of bare_segment segments) ∙ ap (λ (l : List (ℕ × ℕ × ℕ)). map begin_of l) are ∙ pieces_begin list f cuts h
-
--- a stored plan that is least, as it is certified
+-- a stored plan, as it is certified
 pub certified_by : (list : List Posting) (factor : Fraction) (cuts : List Time) (horizon : Time) (table : Counts) (part numbers : List ℕ) (p : Proposal) → part ≡ map (λ (t : Time). t.seconds) (cuts ++ horizon ∷ [])
     → AreBest list factor horizon.seconds table.boundaries numbers → AreSegments list (slice_index part 0) (drop 1 part) p.segments.items → AreNodes table.boundaries numbers p.nodes.items
-    → p.space ≡ space list (slice_index part 0) (drop 1 part) → IsLeastPlan list factor cuts horizon.seconds
-    → IsProposal list factor horizon.seconds p.segments.items p.nodes.items p.space × (map (λ (s : Segment). s.span.from) p.segments.items ≡ seconds cuts)
-certified_by list factor [] horizon table part numbers p same best segments nodes total least = absurd least
-certified_by list factor (f ∷ cuts) horizon table part numbers p same best segments nodes total least =
+    → p.space ≡ space list (slice_index part 0) (drop 1 part) → IsFitPlan list factor cuts horizon.seconds
+    → IsCertificate list factor cuts horizon.seconds p.segments.items p.nodes.items p.space
+certified_by list factor [] horizon table part numbers p same best segments nodes total fit = absurd fit
+certified_by list factor (f ∷ cuts) horizon table part numbers p same best segments nodes total fit =
     let here : part ≡ f.seconds ∷ later cuts horizon.seconds = same ∙ sym (seconds_are f cuts horizon) in
-    let are = subst (λ (c : List ℕ). AreSegments list (slice_index c 0) (drop 1 c) p.segments.items) here segments in
-    let spaced = total ∙ ap (λ (c : List ℕ). space list (slice_index c 0) (drop 1 c)) here in
-    (proposal_is list factor horizon.seconds f.seconds (later cuts horizon.seconds) table.boundaries numbers p least best are nodes spaced, segments_begin list f.seconds (seconds cuts) horizon.seconds p.segments.items are)
+    record {
+      segments_are = subst (λ (c : List ℕ). AreSegments list (slice_index c 0) (drop 1 c) p.segments.items) here segments;
+      total_is = total ∙ ap (λ (c : List ℕ). space list (slice_index c 0) (drop 1 c)) here;
+      times = table.boundaries;
+      numbers = numbers;
+      best = best;
+      nodes_are = nodes;
+    }
 
--- a live plan that keeps to a guarantee is least for its word's list
-live_least : (h : History) (plan : PlanEntry) (list : List Posting) → IsLegal h → plan_of h plan.word ≡ Some plan → plan.kind ≡ Guarantee → IsListUpTo h plan.word plan.horizon.seconds list
-    → IsLeastPlan list plan.fraction plan.cuts plan.horizon.seconds
-live_least h plan list legal live kind is =
-    let may = live_has (λ p. MayBePlanned IsGoodPlan h p) (λ stored. bytes_eq stored.plan.word plan.word) (live_plans h) plan (live_planned IsGoodPlan h legal) live in
-    let suits = subst (λ (k : Kind). IsGoodPlan k may.list plan.fraction plan.cuts plan.horizon.seconds) kind may.suits in
+-- a live plan that keeps to a guarantee fits its word's list
+live_fit : (h : History) (plan : PlanEntry) (list : List Posting) → IsLoadable h → plan_of h plan.word ≡ Some plan → plan.kind ≡ Guarantee → IsListUpTo h plan.word plan.horizon.seconds list
+    → IsFitPlan list plan.fraction plan.cuts plan.horizon.seconds
+live_fit h plan list loads live kind is =
+    let may = live_has (λ p. MayBePlanned IsFitFor h p) (λ stored. bytes_eq stored.plan.word plan.word) (live_plans h) plan (live_planned IsFitFor h loads) live in
+    let suits = subst (λ (k : Kind). IsFitFor k may.list plan.fraction plan.cuts plan.horizon.seconds) kind may.suits in
     let one = one_list_of (λ d t. frequency_at h plan.word (record { 0 = d }) t) 0 plan.horizon.seconds may.list list may.list_is is in
-    subst (λ (l : List Posting). IsLeastPlan l plan.fraction plan.cuts plan.horizon.seconds) one suits.1
+    subst (λ (l : List Posting). IsFitPlan l plan.fraction plan.cuts plan.horizon.seconds) one suits.1
 
-pub plan_certified : {E : Type 0} (h : History) (plan : PlanEntry) (list here : List Posting) (r : Result Proposal E) → IsLegal h → plan_of h plan.word ≡ Some plan → plan.kind ≡ Guarantee
+pub plan_certified : {E : Type 0} (h : History) (plan : PlanEntry) (list here : List Posting) (r : Result Proposal E) → IsLoadable h → plan_of h plan.word ≡ Some plan → plan.kind ≡ Guarantee
     → IsListUpTo h plan.word plan.horizon.seconds list → here ≡ list
-    → IfOk r (λ p. IsLeastPlan here plan.fraction plan.cuts plan.horizon.seconds → IsCertificate plan here p.segments.items p.nodes.items p.space)
+    → IfOk r (λ p. IsFitPlan here plan.fraction plan.cuts plan.horizon.seconds → IsCertificate here plan.fraction plan.cuts plan.horizon.seconds p.segments.items p.nodes.items p.space)
     → IfOk r (λ p. CertifiesPlan h plan Guarantee (Proposed p.segments.items p.nodes.items p.space))
-plan_certified h plan list here (Ok p) legal live kind is same certifies =
-    let least = live_least h plan list legal live kind is in
-    let certificate = subst (λ (l : List Posting). IsLeastPlan l plan.fraction plan.cuts plan.horizon.seconds → IsCertificate plan l p.segments.items p.nodes.items p.space) same certifies least in
-    (list, is, (p.segments.items, p.nodes.items, p.space, certificate, refl))
-plan_certified h plan list here (Err e) legal live kind is same certifies = tt
+plan_certified h plan list here (Ok p) loads live kind is same certifies =
+    let C : List Posting → Type 0 = λ l. IsFitPlan l plan.fraction plan.cuts plan.horizon.seconds → IsCertificate l plan.fraction plan.cuts plan.horizon.seconds p.segments.items p.nodes.items p.space in
+    (list, is, (p.segments.items, p.nodes.items, p.space, subst C same certifies (live_fit h plan list loads live kind is), refl))
+plan_certified h plan list here (Err e) loads live kind is same certifies = tt
 
 -- ---- what is certified for a phrase
 

@@ -9,7 +9,7 @@ use Rattle.time_base.specs.declared.fraction.Fraction.{Fraction}
 use Rattle.time_base.specs.declared.posting.Posting.{Posting}
 use Rattle.page_store.specs.Taken.{AreApart}
 use Rattle.fold_tokens.specs.Terms.{one_term}
-use Rattle.stored_plans.specs.Plans.{IsGoodPlan}
+use Rattle.stored_plans.specs.Plans.{IsFitFor}
 use Rattle.commands.specs.Documents.{HasDocument}
 use Rattle.commands.specs.declared.command.Command.{Command}
 use Rattle.commands.specs.declared.command.Command.TheVariants as commands
@@ -25,43 +25,43 @@ use Rattle.record_codec.specs.declared.plan.PlanEntry.{PlanEntry}
 use Rattle.archive_state.specs.declared.refusal.Refusal.{Refusal}
 use Rattle.archive_state.specs.Histories.{History}
 use Rattle.archive_state.specs.Holding.{HoldsPlan, HoldsPlans}
-use Rattle.archive_state.specs.Legal.{IsLegal}
+use Rattle.archive_state.specs.Legal.{IsLoadable}
 use Rattle.archive_state.specs.Planning.{OfBoundaries, OfList, OfPhrase, OfWidth, last_second}
 use Rattle.archive_state.specs.Plans.{live_extents}
 use Rattle.archive_state.specs.Stands.{EachStands, Stands, bodies_of}
-use Rattle.archive_state.specs.Steps.{Reply, Verified, Adds, AddsPlan, CarriesOut, Declines, Step, StoresPlan, arrival_refusal, deletion_refusal, full_journal, in_blocks, spelled_key}
+use Rattle.archive_state.specs.Steps.{Reply, Adds, AddsPlan, CarriesOut, Declines, Step, StoresPlan, arrival_refusal, deletion_refusal, full_journal, in_blocks, spelled_key}
 use Rattle.archive_state.specs.Worlds.{world_of}
 use Rattle.archive_state.proofs.ChosenLemmas.{held_undamaged, made_at, made_over}
-use Rattle.archive_state.proofs.HistoryLemmas.{legal-middle, legal_loads}
+use Rattle.archive_state.proofs.HistoryLemmas.{loadable-middle}
 use Rattle.archive_state.proofs.HoldLemmas.{held_alike, held_push, held_with}
-use Rattle.archive_state.proofs.OutcomeLemmas.{step_legal}
+use Rattle.archive_state.proofs.OutcomeLemmas.{step_loads}
 use Rattle.sublist_store.specs.declared.why.Damage.{Damage}
-use Rattle.archive_check.proofs.SoundLemmas.{stands_sound}
+use Rattle.archive_check.proofs.SoundLemmas.{stands_verified}
 use Rattle.archive_state.proofs.StandsLemmas.{spells_one_history}
 use Rattle.archive_core.specs.States.{ArchiveState, AreInStep, AreInStepBy}
 use Rattle.archive_core.specs.Stored.{Store, AsksOf, Spoils, StandsBy, Stocks, StoreStep}
 use Rattle.archive_core.proofs.ByReadsLemmas.{stands_by}
 use Rattle.archive_core.proofs.PlanLemmas.{map_phrase}
 
--- what is stored stands for its history: that is legal, and the pages hold what its live plans need
+-- what is stored stands for its history: a load accepts that, and the pages hold what its live plans need
 pub record IsStanding (s : Store) : Type 0 where
-  pub legal : IsLegal s.history
+  pub loadable : IsLoadable s.history
   pub held : HoldsPlans s.history s.pages
 
 -- so each image that stands for it stands for the history
 pub stands_standing : (s : Store) (image : Bytes) → IsStanding s → StandsBy s image → Stands s.history image
-stands_standing s image standing stands = record { spelled = stands.spelled; legal = standing.legal; held = held_alike s.history s.pages image.pages stands.same standing.held }
+stands_standing s image standing stands = record { spelled = stands.spelled; loadable = standing.loadable; held = held_alike s.history s.pages image.pages stands.same standing.held }
 
 -- ---- an archive and its disk that are in step with a history
 
 pub in_step_standing : (d : DiskState) (a : ArchiveState) (h : History) → (in_step : AreInStep d a h) → IsStanding in_step.store
 in_step_standing d a h in_step = record {
-  legal = subst IsLegal (sym in_step.history_is) in_step.legal;
+  loadable = in_step.by_reads.stands.loadable;
   held = subst (λ (x : History). HoldsPlans x in_step.store.pages) (sym in_step.history_is) in_step.held;
 }
 
 pub in_step_by : (d : DiskState) (a : ArchiveState) (s : Store) → AreInStepBy d a s → IsStanding s → AreInStep d a s.history
-in_step_by d a s in_step standing = record { store = s; history_is = refl; by_reads = in_step; legal = standing.legal; held = standing.held }
+in_step_by d a s in_step standing = record { store = s; history_is = refl; by_reads = in_step; held = standing.held }
 
 -- each image stands for the history
 pub in_step_stands : (d : DiskState) (a : ArchiveState) (h : History) → AreInStep d a h → EachStands d h
@@ -72,9 +72,8 @@ in_step_stands d a h in_step = λ image allowed.
 pub loaded_in_step : (d : DiskState) (a : ArchiveState) (h : History) (old : Bytes) → (s : Store) × (AreInStepBy d a s × Spells old.journal (bodies_of s.history) × (s.pages ≡ old.pages)) → Stands h old → AreInStep d a h
 loaded_in_step d a h old (s, (in_step, spelled, pages)) stands = record {
   store = s;
-  history_is = spells_one_history old.journal s.history h spelled in_step.stands.loadable stands.spelled (legal_loads h stands.legal);
+  history_is = spells_one_history old.journal s.history h spelled in_step.stands.loadable stands.spelled stands.loadable;
   by_reads = in_step;
-  legal = stands.legal;
   held = subst (λ (ps : List ℕ). HoldsPlans h ps) (sym pages) stands.held;
 }
 
@@ -130,22 +129,22 @@ command_more h other reply next step = inl step.0
 
 -- ---- what is stored goes on standing
 
-held_next : (s next : Store) → IsStanding s → Stocks s next → IsLegal next.history → IsMore s.history next.history → HoldsPlans next.history next.pages
-held_next s next standing stocks legal (inl same) = subst (λ (h : History). HoldsPlans h next.pages) (sym same) (held_alike s.history s.pages next.pages stocks.same standing.held)
-held_next s next standing stocks legal (inr (e, is)) = subst (λ (h : History). HoldsPlans h next.pages) (sym is) (go e is)
+held_next : (s next : Store) → IsStanding s → Stocks s next → IsLoadable next.history → IsMore s.history next.history → HoldsPlans next.history next.pages
+held_next s next standing stocks loads (inl same) = subst (λ (h : History). HoldsPlans h next.pages) (sym same) (held_alike s.history s.pages next.pages stocks.same standing.held)
+held_next s next standing stocks loads (inr (e, is)) = subst (λ (h : History). HoldsPlans h next.pages) (sym is) (go e is)
   where
     now : HoldsPlans s.history next.pages
     now = held_alike s.history s.pages next.pages stocks.same standing.held
 
     go : (e : Entry) → next.history ≡ s.history ++ e ∷ [] → HoldsPlans (s.history ++ e ∷ []) next.pages
-    go (entries.Arrive doc at text) is = held_push IsGoodPlan s.history (entries.Arrive doc at text) next.pages tt standing.legal (legal-middle s.history (entries.Arrive doc at text) [] (subst IsLegal is legal)).1.allowed now
-    go (entries.Delete doc at) is = held_push IsGoodPlan s.history (entries.Delete doc at) next.pages tt standing.legal (legal-middle s.history (entries.Delete doc at) [] (subst IsLegal is legal)).1.allowed now
-    go (entries.Planned plan) is = held_with IsGoodPlan s.history plan next.pages standing.legal (subst (λ (h : History). AreApart (live_extents h)) is stocks.apart) now (subst (λ (h : History). HoldsPlan h next.pages plan) is (stocks.held plan is))
+    go (entries.Arrive doc at text) is = held_push IsFitFor s.history (entries.Arrive doc at text) next.pages tt standing.loadable (loadable-middle s.history (entries.Arrive doc at text) [] (subst IsLoadable is loads)).1.allowed now
+    go (entries.Delete doc at) is = held_push IsFitFor s.history (entries.Delete doc at) next.pages tt standing.loadable (loadable-middle s.history (entries.Delete doc at) [] (subst IsLoadable is loads)).1.allowed now
+    go (entries.Planned plan) is = held_with IsFitFor s.history plan next.pages standing.loadable (subst (λ (h : History). AreApart (live_extents h)) is stocks.apart) now (subst (λ (h : History). HoldsPlan h next.pages plan) is (stocks.held plan is))
 
 -- a step that leaves the history and the pages
 same_next : (s next : Store) → next.history ≡ s.history → next.pages ≡ s.pages → IsStanding s → IsStanding next
 same_next s next history pages standing = record {
-  legal = subst IsLegal (sym history) standing.legal;
+  loadable = subst IsLoadable (sym history) standing.loadable;
   held = subst (λ (h : History). HoldsPlans h next.pages) (sym history) (subst (λ (ps : List ℕ). HoldsPlans s.history ps) (sym pages) standing.held);
 }
 
@@ -158,14 +157,14 @@ asks_same s next a b (Err place) is = (ap (λ (x : Store). x.history) is, ap (λ
 changed : (s next : Store) (c : Command) (reply : Reply) → IsStanding s → HasDocument (items.Command c) → Step (world_of s.history) (items.Command c) reply (world_of next.history) → CarriesOut s.history c reply next.history → Stocks s next
     → Step (world_of s.history) (items.Command c) reply (world_of next.history) × IsStanding next
 changed s next c reply standing range step carries stocks =
-    let legal = step_legal (world_of s.history) (items.Command c) reply (world_of next.history) standing.legal range step in
-    (step, record { legal = legal; held = held_next s next standing stocks legal (command_more s.history c reply next.history carries) })
+    let loads = step_loads (world_of s.history) (items.Command c) reply (world_of next.history) standing.loadable range step in
+    (step, record { loadable = loads; held = held_next s next standing stocks loads (command_more s.history c reply next.history carries) })
 
 found : (s : Store) (at : Time) (expr : List ℕ) (reply : Reply) (next : Store) → IsStanding s → StoreStep s (items.Command (commands.Find at expr)) reply next
     → Step (world_of s.history) (items.Command (commands.Find at expr)) reply (world_of next.history) × IsStanding next
 found s at expr reply next standing (Ok query, read, (rows, count, made, is), asks) =
     let same = asks_same s next at.seconds (at.seconds + 1) (Ok query) asks in
-    let stands = made_at s.history s.pages at.seconds query rows count (legal_loads s.history standing.legal) standing.held at.before_now made in
+    let stands = made_at s.history s.pages at.seconds query rows count standing.loadable standing.held at.before_now made in
     ((same.0, (Ok query, read, (rows, count, stands.0, stands.1, is))), same_next s next same.0 same.1 standing)
 found s at expr reply next standing (Err place, read, is, asks) =
     let same = asks_same s next at.seconds (at.seconds + 1) (Err place) asks in ((same.0, (Err place, read, is)), same_next s next same.0 same.1 standing)
@@ -174,7 +173,7 @@ spanned : (s : Store) (span : Span) (expr : List ℕ) (reply : Reply) (next : St
     → Step (world_of s.history) (items.Command (commands.Between span expr)) reply (world_of next.history) × IsStanding next
 spanned s span expr reply next standing (Ok query, read, (rows, count, made, is), asks) =
     let same = asks_same s next span.from span.to (Ok query) asks in
-    let stands = made_over s.history s.pages span.from span.to query rows count (legal_loads s.history standing.legal) standing.held span.in_time made in
+    let stands = made_over s.history s.pages span.from span.to query rows count standing.loadable standing.held span.in_time made in
     ((same.0, (Ok query, read, (rows, count, stands.0, stands.1, is))), same_next s next same.0 same.1 standing)
 spanned s span expr reply next standing (Err place, read, is, asks) =
     let same = asks_same s next span.from span.to (Err place) asks in ((same.0, (Err place, read, is)), same_next s next same.0 same.1 standing)
@@ -190,19 +189,19 @@ step_standing s (items.Command (commands.Show doc at)) reply next standing range
 step_standing s (items.Command (commands.Propose word fraction)) reply next standing range (same, is) =
     let history = ap (λ (x : Store). x.history) same in ((history, is), same_next s next history (ap (λ (x : Store). x.pages) same) standing)
 step_standing s (items.Command (commands.Certificate word)) reply next standing range (same, certifies) =
-    let history = ap (λ (x : Store). x.history) same in ((history, certifies.0 standing.legal), same_next s next history (ap (λ (x : Store). x.pages) same) standing)
+    let history = ap (λ (x : Store). x.history) same in ((history, certifies), same_next s next history (ap (λ (x : Store). x.pages) same) standing)
 step_standing s (items.Command commands.Verify) reply next standing range (reads, (journal, verdict, spelled, checked, is)) =
     let history = ap (λ (x : Store). x.history) reads in
     let image : Bytes = record { journal = journal; pages = s.pages } in
-    let sound = stands_sound s.history image verdict (record { spelled = spelled; legal = standing.legal; held = standing.held }) checked in
-    ((history, is ∙ ap Verified sound), same_next s next history (ap (λ (x : Store). x.pages) reads) standing)
+    let verifies = stands_verified s.history image verdict (record { spelled = spelled; loadable = standing.loadable; held = standing.held }) checked in
+    ((history, (verdict, verifies, is)), same_next s next history (ap (λ (x : Store). x.pages) reads) standing)
 step_standing s other reply next standing range (same, is) =
     let history = ap (λ (x : Store). x.history) same in ((history, is), same_next s next history (ap (λ (x : Store). x.pages) same) standing)
 
 -- and nothing is damaged of what is read for an item
 pub spoiled_never : (s : Store) (item : Item) (damage : Damage) → IsStanding s → Spoils s item damage → ⊥
 spoiled_never s (items.Command (commands.Find at expr)) damage standing spoils =
-    held_undamaged s.history s.pages spoils.first.word at.seconds (at.seconds + 1) damage (legal_loads s.history standing.legal) standing.held spoils.first.damaged
+    held_undamaged s.history s.pages spoils.first.word at.seconds (at.seconds + 1) damage standing.loadable standing.held spoils.first.damaged
 spoiled_never s (items.Command (commands.Between span expr)) damage standing spoils =
-    held_undamaged s.history s.pages spoils.first.word span.from span.to damage (legal_loads s.history standing.legal) standing.held spoils.first.damaged
+    held_undamaged s.history s.pages spoils.first.word span.from span.to damage standing.loadable standing.held spoils.first.damaged
 spoiled_never s other damage standing spoils = spoils

@@ -10,7 +10,7 @@ use Rattle.page_cache.specs.Caches.{StandsFor as IsCacheOf}
 use Rattle.page_store.specs.Live.{AreLive, IsInside}
 use Rattle.page_store.specs.Taken.{HasTaken}
 use Rattle.archive_state.specs.Histories.{History, changes, end_of}
-use Rattle.archive_state.specs.Legal.{IsLegal, IsLoadable}
+use Rattle.archive_state.specs.Legal.{IsLoadable}
 use Rattle.archive_state.specs.Plans.{live_plans, live_extents}
 use Rattle.archive_state.specs.Holding.{HoldsPlans}
 use Rattle.record_codec.specs.declared.entry.Entry.{Entry}
@@ -63,12 +63,11 @@ pub record AreInStepBy (d : DiskState) (archive : ArchiveState) (store : Store) 
   pub same : (image : Bytes) → MayLeave d.now image → All (HasSame store.pages image.pages) (live_extents store.history)
   pub cached : CacheStands d archive
 
--- and an archive in hand and its disk are in step with a history: it is legal, and the pages hold what its live plans need
+-- and an archive in hand and its disk are in step with a history: the pages hold what its live plans need
 pub record AreInStep (d : DiskState) (archive : ArchiveState) (history : History) : Type 0 where
   pub store : Store
   pub history_is : store.history ≡ history
   pub by_reads : AreInStepBy d archive store
-  pub legal : IsLegal history
   pub held : HoldsPlans history store.pages
 
 -- what is stored with an entry more, in these pages, by the archive and its disk then

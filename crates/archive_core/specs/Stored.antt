@@ -29,7 +29,6 @@ use Rattle.archive_state.specs.declared.verdict.Verdict.{Verdict}
 use Rattle.archive_state.specs.Chosen.{IsMadeAt, IsMadeOver, SpoilsAnswer, pieces_for}
 use Rattle.archive_state.specs.Histories.{History, text_at}
 use Rattle.archive_state.specs.Holding.{HoldsPlan}
-use Rattle.archive_state.specs.Legal.{IsLegal}
 use Rattle.archive_state.specs.Plans.{live_extents}
 use Rattle.archive_state.specs.Stands.{bodies_of}
 use Rattle.archive_state.specs.Steps.{Reply, Accepted, Found, Planned, Refused, Spanned, Verified, Version, CarriesOut, Certifies, IsRepliedBy, Proposes}
@@ -85,10 +84,6 @@ TellsNoEntry (Accepted length) = ⊥
 TellsNoEntry (Planned summary) = ⊥
 TellsNoEntry other = Unit {0}
 
--- what is certified for a phrase: where its word's plan is what its kind promises, that it is
-abbrev pub CertifiesBy : Store → List ℕ → Reply → Type 0
-CertifiesBy store word reply = (IsLegal store.history → Certifies store.history word reply) × TellsNoEntry reply
-
 -- pages are asked for that give these pieces: those that are missed are read, and kept
 abbrev pub asking : Store → List Kept → Store
 asking store pieces = record store { kept = after_asking_all pieces store.kept; read = store.read + missed_by_all pieces store.kept }
@@ -116,7 +111,7 @@ StoreStep old (items.Command (commands.Find at expr)) reply new = Answers (Makes
 StoreStep old (items.Command (commands.Between span expr)) reply new = Answers (MakesOver old span) old span.from span.to expr reply new
 StoreStep old (items.Command (commands.Show doc at)) reply new = ReadsOn old new × (reply ≡ Version (text_at old.history doc at.seconds))
 StoreStep old (items.Command (commands.Propose word fraction)) reply new = (new ≡ old) × Proposes old.history word fraction reply
-StoreStep old (items.Command (commands.Certificate word)) reply new = (new ≡ old) × CertifiesBy old word reply
+StoreStep old (items.Command (commands.Certificate word)) reply new = (new ≡ old) × Certifies old.history word reply
 StoreStep old (items.Command commands.Verify) reply new = ReadsOn old new × TellsVerdict old reply
 StoreStep old other reply new = (new ≡ old) × (reply ≡ Refused refusals.Line)
 

@@ -1,9 +1,8 @@
 //! The certificate of a plan that is stored.
 ghost use Rattle.std.specs.Prelude.{◌≡◌, ◌<◌, ◌≤◌, ◌^◌, length, All, IfOk, IsErrOf, Some};
 ghost use Rattle.machine_model.specs.States.{DiskState};
-ghost use Rattle.stored_plans.specs.Plans.{IsLeastPlan};
+ghost use Rattle.stored_plans.specs.Plans.{IsFitPlan};
 ghost use Rattle.archive_state.specs.Histories.{History};
-ghost use Rattle.archive_state.specs.Legal.{IsLegal};
 ghost use Rattle.archive_state.specs.Plans.{plan_of};
 ghost use Rattle.archive_state.specs.Steps.{Certifies, IsCertificate, Proposed, Refused, CertifiesLive, CertifiesPlan};
 ghost use Rattle.archive_core.specs.States.{StandsFor, AreInStepBy};
@@ -26,18 +25,18 @@ use stored_plans::partition_of;
 use time_base::{Key, Posting};
 
 impl Archive {
-    /// The stored plan of a word, if it keeps to a guarantee: its segments with their sizes, and the least
-    /// space up to each boundary of the list, so that its own space tells that it is least. Nothing is
-    /// changed, and no disk is asked.
+    /// The stored plan of a word, if it keeps to a guarantee: its segments with their sizes, its space, and
+    /// the least space up to each boundary of the list; where the last of these is its own space, the plan
+    /// is least. Nothing is changed, and no disk is asked.
     ///
     /// `Refused`: for the first cause in order, the phrase isn't one term, no text has the word, or it has
     /// no stored plan that keeps to a guarantee. `Memory`: there was none.
     /// Costs `n log n` in the word's postings, and memory in them.
     pub fn certificate(&self, alloc: Global, word: &Phrase) -> Result<Proposal, Declined>
-        // Whatever history it stands for, a refusal comes exactly where that has the cause (but for want of memory); what is told is the stored
-        // plan, where the history is legal.
+        // Whatever history it stands for, what is told is the stored plan, and a refusal comes exactly where that history has the cause (but for
+        // want of memory).
         ensures refused { (h : History) → StandsFor self.now h → (why : Refusal) → IsErrOf result (Declined.Refused why) → Certifies h word.now (Refused why) }
-        ensures certifies { (h : History) → StandsFor self.now h → IsLegal h → IfOk result (λ p. Certifies h word.now (Proposed p.segments.items p.nodes.items p.space)) }
+        ensures certifies { (h : History) → StandsFor self.now h → IfOk result (λ p. Certifies h word.now (Proposed p.segments.items p.nodes.items p.space)) }
         // In step by what reads give, whatever lies in Pages, it is a step.
         ensures by_reads { (d : DiskState) (s : Store) → AreInStepBy d self.now s → TakesBy s (items.Command (commands.Certificate word.now)) (proposed result) d d self.now }
     {
@@ -47,7 +46,7 @@ impl Archive {
     /// The certificate of a phrase's word.
     fn certificate_of(&self, alloc: Global, word: &Phrase) -> Result<Proposal, Declined>
         ensures refused { (h : History) → StandsFor self.now h → (why : Refusal) → IsErrOf result (Declined.Refused why) → Certifies h word.now (Refused why) }
-        ensures certifies { (h : History) → StandsFor self.now h → IsLegal h → IfOk result (λ p. Certifies h word.now (Proposed p.segments.items p.nodes.items p.space)) }
+        ensures certifies { (h : History) → StandsFor self.now h → IfOk result (λ p. Certifies h word.now (Proposed p.segments.items p.nodes.items p.space)) }
     {
         let Some(key) = one_term(alloc, word.as_str())? else {
             return Err(Declined::Refused(Refusal::NotOneTerm));
@@ -61,7 +60,7 @@ impl Archive {
     /// The certificate of a word's live plan.
     fn certificate_of_word(&self, alloc: Global, word: &Key) -> Result<Proposal, Declined>
         ensures refused { (h : History) → StandsFor self.now h → (why : Refusal) → IsErrOf result (Declined.Refused why) → CertifiesLive h (plan_of h word.now) (Refused why) }
-        ensures certifies { (h : History) → StandsFor self.now h → IsLegal h → IfOk result (λ p. CertifiesLive h (plan_of h word.now) (Proposed p.segments.items p.nodes.items p.space)) }
+        ensures certifies { (h : History) → StandsFor self.now h → IfOk result (λ p. CertifiesLive h (plan_of h word.now) (Proposed p.segments.items p.nodes.items p.space)) }
     {
         let Some(stored) = self.shelf().plan_of(word) else {
             return Err(Declined::Refused(Refusal::NoPlan));
@@ -80,7 +79,7 @@ impl Archive {
     fn certificate_of_plan(&self, alloc: Global, plan: &PlanEntry) -> Result<Proposal, AllocError>
         requires live { (h : History) → StandsFor self.now h → plan_of h plan.now.word ≡ Some plan.now }
         requires kind { plan.now.kind ≡ Kind.Guarantee }
-        ensures { (h : History) → StandsFor self.now h → IsLegal h → IfOk result (λ p. CertifiesPlan h plan.now Kind.Guarantee (Proposed p.segments.items p.nodes.items p.space)) }
+        ensures { (h : History) → StandsFor self.now h → IfOk result (λ p. CertifiesPlan h plan.now Kind.Guarantee (Proposed p.segments.items p.nodes.items p.space)) }
     {
         let list = self.list_until(alloc, &plan.word, plan.horizon)?;
         if list.is_empty() || list.len() >= MANY_POSTINGS {
@@ -96,7 +95,7 @@ fn certified(alloc: Global, list: &[Posting], plan: &PlanEntry) -> Result<Propos
     requires some { 0 < length list.now }
     requires few { length list.now < 2 ^ 38 }
     requires early { All (λ p. p.span.to ≤ plan.now.horizon.seconds) list.now }
-    ensures { IfOk result (λ p. IsLeastPlan list.now plan.now.fraction plan.now.cuts plan.now.horizon.seconds → IsCertificate plan.now list.now p.segments.items p.nodes.items p.space) }
+    ensures { IfOk result (λ p. IsFitPlan list.now plan.now.fraction plan.now.cuts plan.now.horizon.seconds → IsCertificate list.now plan.now.fraction plan.now.cuts plan.now.horizon.seconds p.segments.items p.nodes.items p.space) }
 {
     let table = Table::new(alloc, list, plan.horizon)?;
     let Ok((_, certificate)) = planned(alloc, &table, plan.fraction) else {

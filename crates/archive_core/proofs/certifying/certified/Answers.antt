@@ -18,14 +18,13 @@ pub of-requires-clause-many : goal.of-requires-clause-many
 of-requires-clause-many c = ap length c.pi.ensures ∙ (c.in-Ok.ensures.best c.args.list.now c.args.plan.now.horizon.seconds c.in_ok-table.ensures).long
 
 pub returns : goal.returns
-returns c = λ least.
+returns c = λ fit.
     let t = c.in_ok-table.ensures in
     let whole : List ℕ = map (λ (t : Time). t.seconds) (c.as_slice.result.now ++ c.args.plan.now.horizon ∷ []) in
     let same : c.in-Some.partition ≡ whole = subst (λ (o : Option (List ℕ)). IfSome o (λ p. p ≡ whole)) c.in-Some.is c.in_ok-partition.ensures.value in
-    let (proposal, stored) = certified_by c.args.list.now c.args.plan.now.fraction c.args.plan.now.cuts c.args.plan.now.horizon c.in_ok-table.table c.in-Some.partition c.in-Ok.certificate c.in_ok-proposal.proposal
+    certified_by c.args.list.now c.args.plan.now.fraction c.args.plan.now.cuts c.args.plan.now.horizon c.in_ok-table.table c.in-Some.partition c.in-Ok.certificate c.in_ok-proposal.proposal
     (same ∙ ap (λ (cuts : List Time). map (λ (t : Time). t.seconds) (cuts ++ c.args.plan.now.horizon ∷ [])) c.as_slice.ensures)
     (c.in-Ok.ensures.best c.args.list.now c.args.plan.now.horizon.seconds t)
     (c.in_ok-proposal.ensures.segments c.args.list.now c.args.plan.now.horizon.seconds t)
     (subst (λ (ns : List ℕ). AreNodes c.in_ok-table.table.boundaries ns c.in_ok-proposal.proposal.nodes.items) c.pi.ensures c.in_ok-proposal.ensures.nodes)
-    (c.in_ok-proposal.ensures.space c.args.list.now c.args.plan.now.horizon.seconds t) least in
-    record { proposal = proposal; stored = stored }
+    (c.in_ok-proposal.ensures.space c.args.list.now c.args.plan.now.horizon.seconds t) fit

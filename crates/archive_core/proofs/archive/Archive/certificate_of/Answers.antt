@@ -17,7 +17,7 @@ returns-clause-refused c = λ h stands why e.
     (inr ((c.knows.ensures h stands).0 c.if-not-knows.false, c.certificate_of_word.ensures.refused h stands why e))
 
 pub returns-clause-certifies : goal.returns-clause-certifies
-returns-clause-certifies c = λ h stands legal.
+returns-clause-certifies c = λ h stands.
     let known = (c.knows.ensures h stands).0 c.if-not-knows.false in
     IfOk-weaker c.certificate_of_word.result _ _
-    (λ p told. term_certifies h c.args.word.now c.in-Some.key _ (ap one_term (sym c.as_str.ensures.value) ∙ sym c.in_ok-key.ensures ∙ c.in-Some.is) (inr (known, told))) (c.certificate_of_word.ensures.certifies h stands legal)
+    (λ p told. term_certifies h c.args.word.now c.in-Some.key _ (ap one_term (sym c.as_str.ensures.value) ∙ sym c.in_ok-key.ensures ∙ c.in-Some.is) (inr (known, told))) (c.certificate_of_word.ensures.certifies h stands)

@@ -19,9 +19,9 @@ certificate_of_plan-requires-clause-live c = λ h stands.
     ap (plan_of h) found.1 ∙ found.0
 
 pub returns-in_ok-proposal-in-Guarantee-clause-certifies : goal.returns-in_ok-proposal-in-Guarantee-clause-certifies
-returns-in_ok-proposal-in-Guarantee-clause-certifies c = λ h stands legal.
+returns-in_ok-proposal-in-Guarantee-clause-certifies c = λ h stands.
     let found = found_live c.args.self.now h c.args.word.now c.shelf.result.now.plans c.in-Some.stored.now (ap (λ (s : ShelfState). s.plans) c.shelf.ensures.shelf) stands c.in-Some.ensures in
-    live_as h (plan_of h c.args.word.now) c.in-Some.stored.now.plan Guarantee _ found.0 c.in-Guarantee.is (c.in_ok-proposal-in-Guarantee.ensures h stands legal)
+    live_as h (plan_of h c.args.word.now) c.in-Some.stored.now.plan Guarantee _ found.0 c.in-Guarantee.is (c.in_ok-proposal-in-Guarantee.ensures h stands)
 
 pub returns-in-Uniform-clause-refused : goal.returns-in-Uniform-clause-refused
 returns-in-Uniform-clause-refused c = λ h stands why e.
