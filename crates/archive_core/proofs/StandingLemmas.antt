@@ -63,6 +63,10 @@ in_step_standing d a h in_step = record {
 pub in_step_by : (d : DiskState) (a : ArchiveState) (s : Store) → AreInStepBy d a s → IsStanding s → AreInStep d a s.history
 in_step_by d a s in_step standing = record { store = s; history_is = refl; by_reads = in_step; held = standing.held }
 
+-- a load accepts the history
+pub in_step_loads : (d : DiskState) (a : ArchiveState) (h : History) → AreInStep d a h → IsLoadable h
+in_step_loads d a h in_step = subst IsLoadable in_step.history_is in_step.by_reads.stands.loadable
+
 -- each image stands for the history
 pub in_step_stands : (d : DiskState) (a : ArchiveState) (h : History) → AreInStep d a h → EachStands d h
 in_step_stands d a h in_step = λ image allowed.

@@ -67,11 +67,11 @@ carried s command (Replied reply) result old new archive standing range (next, c
     let E : Result Note FillError → Type 0 = λ r. EndsIn s.history outcome new archive r in
     record { outcome = outcome; step = went.0; leads = leads_standing s next old new standing went.1 comes.leads; ends = subst E (sym is.1) (subst (IsTold reply) is.1 told, in_step_by new archive next there went.1) }
 carried s command Starved result old new archive standing range keeps told =
-    let (outcome, step) = each_outcome (world_of s.history) (items.Command command) standing.legal in
+    let (outcome, step) = each_outcome (world_of s.history) (items.Command command) standing.loadable in
     let E : Result Note FillError → Type 0 = λ r. EndsIn s.history outcome new archive r in
     record { outcome = outcome; step = step; leads = keeps_standing s outcome.next.history old new standing keeps; ends = subst E (sym told) (each_kept s old new standing keeps) }
 carried s command Faulted result old new archive standing range (inl keeps) told =
-    let (outcome, step) = each_outcome (world_of s.history) (items.Command command) standing.legal in
+    let (outcome, step) = each_outcome (world_of s.history) (items.Command command) standing.loadable in
     let E : Result Note FillError → Type 0 = λ r. EndsIn s.history outcome new archive r in
     record { outcome = outcome; step = step; leads = keeps_standing s outcome.next.history old new standing keeps; ends = subst E (sym told) tt }
 carried s command Faulted result old new archive standing range (inr (reply, next, comes)) told =

@@ -5,7 +5,7 @@ use Rattle.commands.specs.declared.command.Command.{Command}
 use Rattle.commands.specs.declared.command.Command.TheVariants as plain
 use Rattle.commands.specs.declared.command.Item.TheVariants as items
 use Rattle.archive_state.specs.declared.verdict.Verdict.{Verdict}
-use Rattle.archive_state.specs.Steps.{Reply, Verified, Step, sound_of}
+use Rattle.archive_state.specs.Steps.{Reply, Verified, Step}
 use Rattle.archive_state.specs.Runs.{Outcome, IsRun}
 use Rattle.archive_state.specs.Worlds.{World}
 use Rattle.archive_replies.specs.Tallies.{tally_of}
@@ -18,7 +18,7 @@ use Rattle.archive_sample.proofs.FillLemmas.{sample_ends}
 checked_last : (front : List Command) (w : World) (outcomes : List (Outcome Reply World)) → IsRun Step w (map items.Command (front ++ plain.Verify ∷ [])) outcomes
     → (before : List Reply) × (verdict : Verdict) × (replies_of outcomes ≡ before ++ Verified verdict ∷ [])
 checked_last [] w [] run = absurd run
-checked_last [] w (outcome ∷ []) run = ([], sound_of w.history, ap (λ (r : Reply). r ∷ []) run.0.1)
+checked_last [] w (outcome ∷ []) run = ([], run.0.1.0, ap (λ (r : Reply). r ∷ []) run.0.1.2)
 checked_last [] w (outcome ∷ next ∷ outcomes) run = absurd run.1
 checked_last (command ∷ front) w [] run = absurd run
 checked_last (command ∷ front) w (outcome ∷ outcomes) run =

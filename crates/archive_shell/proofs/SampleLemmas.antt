@@ -125,7 +125,7 @@ filled_shown seed count status report output output_now began old mid new archiv
 
 -- a journal that spells no entry stands for none
 pub empty_stands : (h : History) (image : Bytes) → length h ≡ 0 → Spells image.journal (bodies_of h) → Stands [] image
-empty_stands [] image none spelled = record { spelled = spelled; legal = tt; held = record { apart = tt; each = All-nil (λ stored. HoldsPlan [] image.pages stored.plan) } }
+empty_stands [] image none spelled = record { spelled = spelled; loadable = tt; held = record { apart = tt; each = All-nil (λ stored. HoldsPlan [] image.pages stored.plan) } }
 empty_stands (entry ∷ h) image none spelled = absurd (omega (arith, none))
 
 -- how a run over a sample ends that had no fault

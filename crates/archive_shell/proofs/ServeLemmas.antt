@@ -27,7 +27,6 @@ use Rattle.archive_state.specs.Stands.{Stands, EachStands, IsNotArchive, bodies_
 use Rattle.archive_state.specs.Steps.{Reply}
 use Rattle.archive_state.proofs.RunLemmas.{carried_joins, last_state_joins, reopens, runs_join, shown_by_joins, state_after_all}
 use Rattle.archive_state.proofs.StandsLemmas.{loaded_is_archive, spells_one_history, stands_is_archive, stands_live}
-use Rattle.archive_state.proofs.HistoryLemmas.{legal_loads}
 use Rattle.gate_journal.specs.Crash.{KeepsBodies, KeepsPages}
 use Rattle.gate_journal.specs.Spelled.{EachSpells, Spells}
 use Rattle.archive_core.specs.Changing.{KeepsBy, KeepsHistory}
@@ -335,7 +334,7 @@ stopped store old now sink disk archive archive_new held held_now before item st
 
 -- a new journal stands for the history of no entry
 pub new_stands : (image : Bytes) → length image.journal ≤ 17 → Stands [] image
-new_stands image short = record { spelled = inl (short, refl); legal = tt; held = record { apart = tt; each = All-nil (λ stored. HoldsPlan [] image.pages stored.plan) } }
+new_stands image short = record { spelled = inl (short, refl); loadable = tt; held = record { apart = tt; each = All-nil (λ stored. HoldsPlan [] image.pages stored.plan) } }
 
 -- where nothing is done, each image stands for the history for which each stood
 pub keeps_still : (history : History) (d : DiskState) → EachStands d history → KeepsHistory history d d
@@ -459,7 +458,7 @@ loads_found d (s, (in_step, spelled, pages)) = record { spelled = spelled; loada
 
 -- bytes that stand for a history are loaded for it
 pub stands_loads : (h : History) (image : Bytes) → Stands h image → LoadsAs h image
-stands_loads h image stands = record { spelled = stands.spelled; loadable = legal_loads h stands.legal; live = stands_live h image stands }
+stands_loads h image stands = record { spelled = stands.spelled; loadable = stands.loadable; live = stands_live h image stands }
 
 -- and what is loaded isn't refused
 pub loads_archive : (h : History) (image : Bytes) (at : ℕ) → LoadsAs h image → IsNotArchive image at → ⊥

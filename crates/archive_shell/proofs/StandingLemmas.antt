@@ -12,7 +12,7 @@ use Rattle.commands.specs.declared.command.Item.{Item}
 use Rattle.script_items.proofs.Ranges.{Items-documents}
 use Rattle.script_items.specs.Items.{Splits}
 use Rattle.archive_state.specs.Histories.{History}
-use Rattle.archive_state.specs.Legal.{IsLegal}
+use Rattle.archive_state.specs.Legal.{IsLoadable}
 use Rattle.archive_state.specs.Replies.{reply_text}
 use Rattle.archive_state.specs.Runs.{Outcome, IsRun, IsAcknowledged, shown_by, state_after}
 use Rattle.archive_state.specs.Standing.{last_state, Carried, StandsAlong}
@@ -127,8 +127,8 @@ runs_on s status reached behind outcomes standing range run =
     let parts = all_front HasDocument reached behind range in
     let runs = run_bare s reached outcomes standing parts.0 run in
     let w = world_of s.history in
-    let legal : IsLegal (last_state w (map bare outcomes)).history = rw (last_bare s outcomes) runs.1.legal in
-    let on = run_on (last_state w (map bare outcomes)) behind legal parts.1 in
+    let loads : IsLoadable (last_state w (map bare outcomes)).history = rw (last_bare s outcomes) runs.1.loadable in
+    let on = run_on (last_state w (map bare outcomes)) behind loads parts.1 in
     record {
       further = on.0;
       run = runs_join Step w reached behind (map bare outcomes) on.0 runs.0 on.1;

@@ -6,7 +6,6 @@ use Rattle.gate_journal.specs.Spelled.{Spells}
 use Rattle.archive_state.specs.Histories.{History}
 use Rattle.archive_state.specs.Legal.{IsLoadable}
 use Rattle.archive_state.specs.Stands.{bodies_of}
-use Rattle.archive_state.proofs.HistoryLemmas.{legal_loads}
 use Rattle.archive_state.proofs.StandsLemmas.{spells_one_history, stands_is_archive, not_archive_once}
 use Rattle.archive_shell.specs.declared.status.Status.TheVariants.{Disk, Sink, Memory, NotEmpty}
 use Rattle.gate_journal.proofs.SpellingLemmas.{spells_once}
@@ -68,11 +67,11 @@ returns-then-length-gt0-clause-spared g c = λ disk_tells h each some. ((g.met.M
 
 pub returns-then-length-gt0-clause-sampled : goal.returns-then-length-gt0-clause-sampled
 returns-then-length-gt0-clause-sampled g c = λ sink_tells disk_tells stands.
-    absurd (omega (arith, c.if-length-gt0.true, entries g (goal.at.returns-then-length-gt0-clause-sampled g c).After-length-length disk_tells [] stands.spelled (legal_loads [] stands.legal)))
+    absurd (omega (arith, c.if-length-gt0.true, entries g (goal.at.returns-then-length-gt0-clause-sampled g c).After-length-length disk_tells [] stands.spelled stands.loadable))
 
 pub returns-then-length-gt0-clause-complete : goal.returns-then-length-gt0-clause-complete
 returns-then-length-gt0-clause-complete g c = λ disk_tells stands disk sink.
-    absurd (omega (arith, c.if-length-gt0.true, entries g (goal.at.returns-then-length-gt0-clause-complete g c).After-length-length disk_tells [] stands.spelled (legal_loads [] stands.legal)))
+    absurd (omega (arith, c.if-length-gt0.true, entries g (goal.at.returns-then-length-gt0-clause-complete g c).After-length-length disk_tells [] stands.spelled stands.loadable))
 
 pub returns-clause-source : goal.returns-clause-source
 returns-clause-source g c = c.fill_and_show.ensures.source ∙ (g.met.M.Machine.disk_alone _ _ c.load.ensures.only).0
@@ -110,7 +109,7 @@ pub returns-clause-spared : goal.returns-clause-spared
 returns-clause-spared g c = λ disk_tells h each some.
     let m = c.args.machine.now in
     let stands = each (g.M.Disk.disk m).holds (g.met.M.Disk.holds_allowed m disk_tells) in
-    absurd (omega (arith, some, c.if-length-gt0.false, entries g (goal.at.returns-clause-spared g c).After-length-length disk_tells h stands.spelled (legal_loads h stands.legal)))
+    absurd (omega (arith, some, c.if-length-gt0.false, entries g (goal.at.returns-clause-spared g c).After-length-length disk_tells h stands.spelled stands.loadable))
 
 pub returns-clause-sampled : goal.returns-clause-sampled
 returns-clause-sampled g c = λ sink_tells disk_tells stands.
