@@ -2,12 +2,11 @@
 use Rattle.std.proofs.Common.{◌≡◌, ◌⊎◌, inl, inr, ℕ, zero, suc, ◌<◌, ◌≤◌, List, [], ◌∷◌, ◌++◌, length, take, map, slice_get, All, Option, Some, refl, ap, sym, subst, ◌∙◌, arith}
 use Rattle.std.proofs.lemmas.Bool.{cases_lt}
 use Rattle.std.proofs.lemmas.List.{append_cancel_left}
-use Rattle.std.proofs.lemmas.List.Elements.{All-head, All-tail, All-contains}
+use Rattle.std.proofs.lemmas.List.Elements.{All-contains}
 use Rattle.time_base.specs.declared.ids.DocId.{DocId}
 use Rattle.time_base.specs.declared.time.Time.{Time}
 use Rattle.time_base.specs.declared.text_place.TextPlace.{TextPlace}
 use Rattle.time_base.specs.declared.posting.Posting.{Posting}
-use Rattle.time_base.specs.declared.fraction.Fraction.{Fraction}
 use Rattle.time_base.proofs.Equal.{same_time}
 use Rattle.postings.specs.Lists.{EachNext}
 use Rattle.postings.proofs.Clipping.{one_list_of}

@@ -1,5 +1,5 @@
 -- Plans in the order of the numbers of their words.
-use Rattle.std.proofs.Common.{◌≡◌, ◌==◌, ℕ, ◌<◌, bytes_eq, List, [], ◌∷◌, length, map, get_or, filter, All, None, ap, sym, subst, ◌∙◌, arith}
+use Rattle.std.proofs.Common.{◌≡◌, ◌==◌, ℕ, ◌<◌, bytes_eq, List, [], ◌∷◌, length, map, get_or, filter, All, None, ap, sym, ◌∙◌, arith}
 use Rattle.std.specs.List.{position_or_len}
 use Rattle.std.specs.List.Sorted.{IsNonDecreasingBy, IsPermutation}
 use Rattle.std.proofs.lemmas.List.{get_or-map, length-map}

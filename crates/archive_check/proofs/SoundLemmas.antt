@@ -34,7 +34,6 @@ use Rattle.archive_state.specs.Stands.{Stands}
 use Rattle.archive_state.specs.Verifying.{TakesLeast, Judges}
 use Rattle.archive_state.proofs.VerifyLemmas.{all_at, good_is_sound}
 use Rattle.archive_state.proofs.LiveLemmas.{live_planned}
-use Rattle.archive_replay.specs.Places.{ArePlaced}
 use Rattle.archive_replay.proofs.PlaceLemmas.{texts_are}
 use Rattle.archive_replay.proofs.IndexLemmas.{words_are}
 use Rattle.archive_state.specs.Orders.{AreByNumber}

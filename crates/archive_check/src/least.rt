@@ -8,7 +8,7 @@ ghost use Rattle.stored_plans.specs.Plans.{IsFitFor, IsLeastPlan};
 ghost use Rattle.archive_check.specs.Checking.{IsBeaten, IsExcess};
 
 use crate::error::VerifyError;
-use archive_replay::MANY_POSTINGS;
+use archive_replay::are_many;
 use commands::Kind;
 use elementary::{Partition, Table};
 use guarantee_planner::plan;
@@ -42,7 +42,7 @@ pub(crate) fn excess_of(
     if list.is_empty() {
         return Ok(None);
     }
-    if list.len() >= MANY_POSTINGS {
+    if are_many(list) {
         return Err(VerifyError::Memory);
     }
     if !is_fit(alloc, list, Kind::Guarantee, factor, cuts, horizon)? {

@@ -13,7 +13,7 @@ ghost use Rattle.commands.specs.declared.command.Item.TheVariants as items;
 
 use crate::archive::Archive;
 use crate::planning::planned;
-use archive_replay::{Declined, MANY_POSTINGS};
+use archive_replay::{Declined, are_many};
 use archive_state::Refusal;
 use commands::{Kind, Phrase};
 use elementary::Table;
@@ -82,7 +82,7 @@ impl Archive {
         ensures { (h : History) → StandsFor self.now h → IfOk result (λ p. CertifiesPlan h plan.now Kind.Guarantee (Proposed p.segments.items p.nodes.items p.space)) }
     {
         let list = self.list_until(alloc, &plan.word, plan.horizon)?;
-        if list.is_empty() || list.len() >= MANY_POSTINGS {
+        if list.is_empty() || are_many(&list) {
             return Err(AllocError);
         }
         certified(alloc, &list, plan)

@@ -1,5 +1,5 @@
 //! Which postings are read for a query.
-ghost use Rattle.std.specs.Prelude.{◌≡◌, ◌+◌, ◌^◌, ◌++◌, length, IfOk, OnOk, IsErrOf};
+ghost use Rattle.std.specs.Prelude.{◌≡◌, ◌<◌, ◌+◌, ◌^◌, ◌++◌, ◌↔◌, length, IfOk, OnOk, IsErrOf, IsTrue};
 ghost use Rattle.archive_state.specs.Histories.{History};
 ghost use Rattle.archive_state.specs.Plans.{plan_of};
 ghost use Rattle.archive_state.specs.Chosen.{AreChosen, IsChosenOf, IsDamagedFor, IsTailFor, pieces_chosen};
@@ -120,13 +120,20 @@ fn with_tail(stored: Gathered, tail: &[Posting]) -> Result<Part, AllocError>
     let mut list = list;
     list.extend_from_slice(tail)?;
     let more = tail.len() as u64;
-    if read > MOST_READ || more > MOST_READ - read {
+    if are_too_many(read, more) {
         return Err(AllocError);
     }
     Ok(Part {
         list,
         read: read + more,
     })
+}
+
+/// Whether so many postings and so many more are too many to be told. Constant cost.
+fn are_too_many(read: u64, more: u64) -> bool
+    ensures { IsTrue result ↔ (2 ^ 40 < read + more) }
+{
+    read > MOST_READ || more > MOST_READ - read
 }
 
 /// All times from one on.

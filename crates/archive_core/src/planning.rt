@@ -19,7 +19,7 @@ ghost use Rattle.commands.specs.declared.command.Kind.{Kind};
 ghost use Rattle.commands.specs.declared.command.Item.TheVariants as items;
 
 use crate::archive::Archive;
-use archive_replay::{Declined, MANY_POSTINGS, list_up_to};
+use archive_replay::{Declined, are_many, list_up_to};
 use archive_state::Refusal;
 use commands::Phrase;
 use elementary::{Partition, Table};
@@ -105,7 +105,7 @@ impl Archive {
         if list.is_empty() {
             return Err(Declined::Refused(Refusal::NothingSealed));
         }
-        if list.len() >= MANY_POSTINGS {
+        if are_many(&list) {
             return Err(Declined::Memory);
         }
         Ok(Sealed {

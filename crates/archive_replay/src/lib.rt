@@ -19,7 +19,7 @@ mod texts;
 pub use change::{TEXT_AT, note, placed};
 pub use error::{Declined, LoadError, ReadError};
 pub use laws::{changes_follow_entries, places_follow_entries};
-pub use lists::{MANY_POSTINGS, list_up_to};
+pub use lists::{are_many, list_up_to};
 pub use live::{position_of, put_live};
 pub use preparing::{Prepared, full_journal, prepare_arrival, prepare_deletion};
 pub use replaying::{Replayed, replay};

@@ -1,5 +1,5 @@
 //! The list of a word up to a horizon.
-ghost use Rattle.std.specs.Prelude.{◌≤◌, ◌^◌, ℕ, All, IfOk};
+ghost use Rattle.std.specs.Prelude.{◌≤◌, ◌^◌, ◌↔◌, ℕ, length, All, IfOk, IsTrue};
 ghost use Rattle.postings.specs.ListsOf.{IsListOf};
 
 use postings::clip;
@@ -7,7 +7,14 @@ use std::alloc::{AllocError, Global};
 use time_base::{Posting, Span, Time};
 
 /// So many postings and more are not planned; the memory for them is never there.
-pub const MANY_POSTINGS: usize = 1 << 38;
+const MANY_POSTINGS: usize = 1 << 38;
+
+/// Whether a list has too many postings to be planned, 2^38 or more. Constant cost.
+pub fn are_many(list: &[Posting]) -> bool
+    ensures { IsTrue result ↔ (2 ^ 38 ≤ length list.now) }
+{
+    list.len() >= MANY_POSTINGS
+}
 
 /// A whole list, clipped to the times before a horizon. Costs its postings.
 pub fn list_up_to(

@@ -19,7 +19,7 @@ ghost use Rattle.archive_replay.specs.Replaying.{IsReached, IsGoneOver, IsFaulty
 
 use crate::change::{TEXT_AT, may_come, note, placed};
 use crate::error::LoadError;
-use crate::lists::{MANY_POSTINGS, list_up_to};
+use crate::lists::{are_many, list_up_to};
 use crate::live::live_of;
 use archive_state::StoredPlan;
 use fold_tokens::NumberError;
@@ -305,7 +305,7 @@ fn fits(alloc: Global, index: &Index, stored: &StoredPlan) -> Result<bool, LoadE
     if list.is_empty() {
         return Ok(false);
     }
-    if list.len() >= MANY_POSTINGS {
+    if are_many(&list) {
         return Err(LoadError::Memory);
     }
     let fit = is_fit(

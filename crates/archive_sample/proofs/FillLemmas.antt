@@ -12,7 +12,7 @@ use Rattle.commands.specs.declared.command.Item.{Item}
 use Rattle.commands.specs.declared.command.Item.TheVariants as items
 use Rattle.sample_commands.specs.Samples.{changes, plans, questions, sample_of}
 use Rattle.archive_state.specs.declared.verdict.Verdict.{Verdict}
-use Rattle.archive_state.specs.Legal.{IsLegal}
+use Rattle.archive_state.specs.Legal.{IsLoadable}
 use Rattle.archive_state.specs.Steps.{Reply, Accepted, Refused, Found, Spanned, Version, Proposed, Planned, Verified, Step}
 use Rattle.archive_state.specs.Runs.{Outcome, IsRun, state_after}
 use Rattle.archive_state.specs.Standing.{last_state}
@@ -23,7 +23,7 @@ use Rattle.archive_state.proofs.OutcomeLemmas.{run_on, step_loads}
 use Rattle.archive_replies.specs.Tallies.{tally_of}
 use Rattle.archive_replies.specs.declared.tally.Tally.{Tally}
 use Rattle.archive_core.specs.States.{ArchiveState, AreInStep}
-use Rattle.archive_core.proofs.StandingLemmas.{in_step_stands}
+use Rattle.archive_core.proofs.StandingLemmas.{in_step_loads, in_step_stands}
 use Rattle.archive_sample.specs.declared.error.FillError.{FillError}
 use Rattle.archive_sample.specs.declared.error.FillError.TheVariants as errors
 use Rattle.archive_sample.specs.declared.note.Note.{Note}

@@ -1,33 +1,26 @@
 -- What the pages hold for live plans: over an entry more, over writes elsewhere, and with the places of a plan that is stored.
-use Rattle.std.proofs.Common.{◌≡◌, ◌⊎◌, ℕ, ◌≤◌, ◌-◌, Bool, true, false, cond, List, [], ◌∷◌, ◌++◌, length, map, filter, All, None, inl, inr, refl, ap, sym, subst, ◌∙◌, arith}
+use Rattle.std.proofs.Common.{◌≡◌, ◌⊎◌, ℕ, ◌-◌, Bool, true, false, cond, List, [], ◌∷◌, ◌++◌, length, map, filter, All, None, inl, inr, refl, ap, sym, subst, ◌∙◌}
 use Rattle.std.specs.List.{flat_map, AllZip}
 use Rattle.std.proofs.lemmas.List.{append-nil}
 use Rattle.std.proofs.lemmas.List.Concat.{flat_map-append}
 use Rattle.std.proofs.lemmas.List.Elements.{All-nil, All-cons, All-head, All-tail, All-append, All-filter}
 use Rattle.sha2.specs.Sha256.{sha256}
-use Rattle.machine_model.specs.Areas.{Bytes}
-use Rattle.machine_model.specs.declared.range.Range.{Range}
 use Rattle.time_base.specs.declared.extent.Extent.{Extent}
-use Rattle.time_base.specs.declared.posting.Posting.{Posting}
 use Rattle.page_store.specs.Runs.{IsTaken}
-use Rattle.page_store.specs.Taken.{IsApartFrom, AreApart}
+use Rattle.page_store.specs.Taken.{AreApart}
 use Rattle.page_store.specs.Live.{IsInside}
-use Rattle.page_store.specs.Ranges.{SameOutside, bytes_in, range_of}
-use Rattle.page_store.specs.Wrote.{Wrote}
+use Rattle.page_store.specs.Ranges.{bytes_in}
 use Rattle.page_store.specs.Wrote as wrote
-use Rattle.page_store.proofs.StayLemmas.{AreApartFrom, bytes_stay, taken_right, apart_parts, apart_left}
-use Rattle.record_codec.specs.declared.place.Layout.{Layout}
+use Rattle.page_store.proofs.StayLemmas.{AreApartFrom, taken_right, apart_parts, apart_left}
 use Rattle.record_codec.specs.declared.place.Place.{Place}
 use Rattle.record_codec.specs.declared.entry.Entry.{Entry}
 use Rattle.record_codec.specs.declared.entry.Entry.TheVariants.{Arrive, Delete, Planned}
 use Rattle.record_codec.specs.declared.plan.PlanEntry.{PlanEntry}
-use Rattle.sublist_store.specs.Preparing.{IsFor, extents, pieces_of, spellings}
+use Rattle.sublist_store.specs.Preparing.{IsFor, extents, pieces_of}
 use Rattle.sublist_store.specs.Segments.{seconds, next_cut, EachSegment, HoldsSublist}
-use Rattle.sublist_store.proofs.HoldLemmas.{hold_sublists}
 use Rattle.stored_plans.specs.Plans.{Asks}
 use Rattle.archive_state.specs.declared.stored.StoredPlan.{StoredPlan}
 use Rattle.archive_state.specs.Histories.{History, entry_refusal, end_of}
-use Rattle.archive_state.specs.Planning.{IsListUpTo, last_second}
 use Rattle.archive_state.specs.Plans.{IsChange, is_another, live_plans, live_extents, extents_of}
 use Rattle.archive_state.specs.Legal.{MayBePlanned, EachMayCome}
 use Rattle.archive_state.specs.Holding.{HoldsPlan, HoldsPlans}
@@ -76,48 +69,6 @@ each_follows R Q P follows (f ∷ cuts) h (p ∷ places) all each =
     (follows f (next_cut cuts h) p (All-head P p places all) each.0, each_follows R Q P follows cuts h places (All-tail P p places all) each.1)
 each_follows R Q P follows [] h (p ∷ places) all each = absurd each
 each_follows R Q P follows (f ∷ cuts) h [] all each = absurd each
-
--- the place of a segment holds what it held
-sublist_stays : (layout : Layout) (list : List Posting) (others : List Extent) (was pages : List ℕ) → SameOutside (map range_of others) was pages → (f g : ℕ) (place : Place)
-    → IsApartFrom place.extent others → HoldsSublist layout list was f g place → HoldsSublist layout list pages f g place
-sublist_stays layout list others was pages same f g place apart holds =
-    let stay = bytes_stay place.extent others was pages apart (λ some. holds.inside) same in
-    record {
-      inside = omega (arith, holds.inside, same.no_shorter);
-      bytes = stay ∙ holds.bytes;
-      digest = (let P : List ℕ → Type 0 = λ l. place.digest ≡ sha256 l in subst P (sym stay) holds.digest);
-    }
-
--- the extents of places that are apart from others, one by one
-all_apart : (places : List Place) (rest others : List Extent) → AreApartFrom others (map (λ (q : Place). q.extent) places ++ rest) → All (λ (place : Place). IsApartFrom place.extent others) places
-all_apart [] rest others apart = All-nil (λ (place : Place). IsApartFrom place.extent others)
-all_apart (q ∷ places) rest others apart =
-    All-cons (λ (place : Place). IsApartFrom place.extent others) q places (λ p is taken. apart p taken (inl is)) (all_apart places rest others (λ p one other. apart p one (inr other)))
-
-plan_stays : (h : History) (plan : PlanEntry) (rest others : List Extent) (was pages : List ℕ) → SameOutside (map range_of others) was pages
-    → AreApartFrom others (extents_of plan ++ rest) → HoldsPlan h was plan → HoldsPlan h pages plan
-plan_stays h plan rest others was pages same apart holds = record {
-  list = holds.list;
-  list_is = holds.list_is;
-  each = each_follows (HoldsSublist plan.layout holds.list was) (HoldsSublist plan.layout holds.list pages) (λ (place : Place). IsApartFrom place.extent others)
-      (sublist_stays plan.layout holds.list others was pages same) (seconds plan.cuts) plan.horizon.seconds plan.places (all_apart plan.places rest others apart) holds.each;
-}
-
-plans_stay : (h : History) (live : List StoredPlan) (others : List Extent) (was pages : List ℕ) → SameOutside (map range_of others) was pages
-    → AreApartFrom others (all_extents live) → All (λ stored. HoldsPlan h was stored.plan) live → All (λ stored. HoldsPlan h pages stored.plan) live
-plans_stay h [] others was pages same apart each = All-nil (λ (stored : StoredPlan). HoldsPlan h pages stored.plan)
-plans_stay h (s ∷ live) others was pages same apart each =
-    let P : StoredPlan → Type 0 = λ stored. HoldsPlan h was stored.plan in
-    All-cons (λ (stored : StoredPlan). HoldsPlan h pages stored.plan) s live
-    (plan_stays h s.plan (all_extents live) others was pages same apart (All-head P s live each))
-    (plans_stay h live others was pages same (λ p one other. apart p one (taken_right (extents_of s.plan) (all_extents live) p other)) (All-tail P s live each))
-
--- what the live places hold stays where only places apart from them were written
-pub held_stays : (h : History) (others : List Extent) (was pages : List ℕ) → AreApart (others ++ live_extents h) → SameOutside (map range_of others) was pages → HoldsPlans h was → HoldsPlans h pages
-held_stays h others was pages apart same holds = record {
-  apart = holds.apart;
-  each = plans_stay h (live_plans h) others was pages same (apart_parts others (live_extents h) apart).0 holds.each;
-}
 
 -- ---- the same bytes in live places
 
@@ -233,20 +184,3 @@ held_with Good h plan pages each apart holds own =
           (All-filter keep H (live_plans h) (plans_later Good h next pages (live_plans h) (later_push h (Planned plan) refl) (live_planned Good h each) holds.each))
           (All-cons H new [] own (All-nil H)));
     }
-
--- the pages hold what the history with the plan needs
-pub held_more : (Good : Asks) (h : History) (plan : PlanEntry) (list : List Posting) (was image : Bytes) → EachMayCome Good [] h
-    → AreApart (extents plan.places ++ live_extents h) → AllZip IsFor plan.places (spellings plan.layout list (seconds plan.cuts) plan.horizon.seconds)
-    → IsListUpTo h plan.word plan.horizon.seconds list → plan.horizon.seconds ≤ last_second h → HoldsPlans h was.pages
-    → Wrote (pieces_of plan.places (spellings plan.layout list (seconds plan.cuts) plan.horizon.seconds)) was image → HoldsPlans (h ++ Planned plan ∷ []) image.pages
-held_more Good h plan list was image each apart zip is past holds wrote =
-    let all = spellings plan.layout list (seconds plan.cuts) plan.horizon.seconds in
-    let next = h ++ Planned plan ∷ [] in
-    let S : List Range → Type 0 = λ rs. SameOutside rs was.pages image.pages in
-    let same = subst S (ap (map range_of) (piece_extents plan.places all zip)) wrote.elsewhere in
-    held_with Good h plan image.pages each (apart_more h plan apart) (held_stays h (extents plan.places) was.pages image.pages apart same holds)
-    (record {
-      list = list;
-      list_is = list_later h next plan.word plan.horizon.seconds list (later_push h (Planned plan) refl) past is;
-      each = hold_sublists plan.layout list (seconds plan.cuts) plan.horizon.seconds plan.places image.pages zip wrote.each;
-    })

@@ -19,9 +19,9 @@ use Rattle.archive_state.specs.declared.verdict.Verdict.TheVariants.{Sound, Diff
 use Rattle.archive_state.specs.Answers.{frequency_at}
 use Rattle.archive_state.specs.Bounds.{GoodPlansAreSound}
 use Rattle.archive_state.specs.Histories.{History, vocabulary}
-use Rattle.archive_state.specs.Legal.{MayBePlanned, IsLegal, IsLoadable}
+use Rattle.archive_state.specs.Legal.{MayBePlanned, IsLoadable}
 use Rattle.archive_state.specs.Planning.{IsListUpTo}
-use Rattle.archive_state.specs.Plans.{live_plans, segments_of}
+use Rattle.archive_state.specs.Plans.{live_plans}
 use Rattle.archive_state.specs.Verifying.{IsLeastSpace, TakesLeast, Wastes, IsFirstToWaste, Judges, Verifies, sound_of}
 use Rattle.archive_state.proofs.LiveLemmas.{live_planned}
 use Rattle.archive_state.proofs.OrderLemmas.{put_in_order, are_put, one_way, are_moved}

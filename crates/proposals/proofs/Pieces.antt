@@ -11,7 +11,7 @@ use Rattle.elementary.proofs.Ordering.{each_has_boundaries, one_list_of_boundari
 use Rattle.elementary.proofs.Bests.{each_has_best, one_list_of_best, each_has_a_least, covers_to}
 use Rattle.proposals.specs.declared.proposal.Segment.{Segment}
 use Rattle.proposals.specs.declared.proposal.Node.{Node}
-use Rattle.proposals.specs.Proposals.{pieces, paired, bare_segment, bare_node, AreSegments, AreNodes, IsProposal, IsShown}
+use Rattle.proposals.specs.Proposals.{pieces, paired, bare_segment, bare_node, AreSegments, AreNodes, IsShown}
 use Rattle.proposals.specs.Laws.{EachListHasAProposal, EachPartitionIsShown, PartitionsAreShownOnce, ProposalsDifferInSegments}
 
 pub paired_pieces : (list : List Posting) (f : ℕ) (cuts : List ℕ) → paired f cuts (sizes list f cuts) ≡ pieces list f cuts
