@@ -1,5 +1,5 @@
 //! The index of a whole history at once.
-ghost use Rattle.std.specs.Prelude.{◌≡◌, ℕ, ◌<◌, ◌≤◌, ◌^◌, List, [], ◌∷◌, ◌++◌, ◌↔◌, length, option_map, All, Err, IfOk, OnOk, OnErr, IfSome, IsSome, IsTrue};
+ghost use Rattle.std.specs.Prelude.{◌≡◌, ℕ, ◌<◌, ◌≤◌, ◌^◌, List, [], ◌∷◌, ◌++◌, length, option_map, All, Err, IfOk, OnOk, OnErr, IfSome, IsSome};
 ghost use Rattle.version_store.specs.declared.change.Change.{Change};
 ghost use Rattle.tail_lists.specs.Acts.{open_after};
 ghost use Rattle.tail_lists.specs.Gathered.{acts_of};
@@ -68,7 +68,7 @@ impl Loader {
         ensures some { result ≡ Err NumberError.Full → IsSome text.entry }
     {
         held_as_changes_come::<Key>();
-        if are_full(&self.turns) {
+        if MOST_TURNS <= self.turns.len() as u64 {
             return Err(NumberError::Memory);
         }
         self.turns.reserve(1)?;
@@ -104,13 +104,6 @@ impl Loader {
             newest,
         })
     }
-}
-
-/// Whether there may be no turn more. Constant cost.
-fn are_full(turns: &[Turn]) -> bool
-    ensures { IsTrue result ↔ (2 ^ 40 ≤ length turns.now) }
-{
-    MOST_TURNS <= turns.len() as u64
 }
 
 /// What each document has after the turns: the weights of its last one.
