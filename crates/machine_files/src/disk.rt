@@ -1,5 +1,5 @@
 //! The files as the disk.
-ghost use Rattle.std.specs.Prelude.{◌≡◌, ◌≤◌, true, OnOk, OnErr};
+ghost use Rattle.std.specs.Prelude.{◌≡◌, ◌≤◌, true, OnOk, OnErr, IsErr};
 ghost use Rattle.machine_model.specs.Causes.{Rose, HasCause};
 ghost use Rattle.machine_files.specs.Telling.{OnlyDisk};
 ghost use Rattle.machine_files.specs.Meaning.{meaning, disk_state};
@@ -22,6 +22,8 @@ impl<F: FileExt + Seek + OpenFile, I: Read, O: Write> Disk for FileMachine<F, I,
 
     ghost only = { λ x y. OnlyDisk (meaning x) (meaning y) };
 
+    ghost has_lost = { λ x. x.store.has_lost ≡ true };
+
     ghost only_same = { λ x. OnlyDisk-same (meaning x) };
 
     ghost only_joins = { λ x y z one two. OnlyDisk-joins (meaning x) (meaning y) (meaning z) one two };
@@ -35,6 +37,8 @@ impl<F: FileExt + Seek + OpenFile, I: Read, O: Write> Disk for FileMachine<F, I,
     ghost only_beside = { λ x y tells one. absurd tells };
 
     ghost only_read = { λ x y area tells one. absurd tells };
+
+    ghost only_lost = { λ x y one was. one.lost was };
 
     ghost faults_limit = { λ x. x.disk_faults.limit };
 
@@ -64,6 +68,8 @@ impl<F: FileExt + Seek + OpenFile, I: Read, O: Write> Disk for FileMachine<F, I,
         ensures only { OnlyDisk (meaning self.old) (meaning self.new) }
         ensures cause { HasCause (disk_state self.old).faults (disk_state self.new).faults result }
         ensures reach { (disk_state self.new).reach ≡ (disk_state self.old).reach }
+        ensures lost { OnErr result (self.new.store.has_lost ≡ true) }
+        ensures stays_lost { self.old.store.has_lost ≡ true → IsErr result }
 
         // exactly
         ensures journal { OnOk result (self.new.store.journal.is_synced ≡ true) }

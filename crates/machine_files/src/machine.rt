@@ -125,6 +125,7 @@ impl<F, I, O> FileMachine<F, I, O> {
 }
 
 impl<F: FileExt + Seek + OpenFile, I: Read, O: Write> Machine for FileMachine<F, I, O> {
+    ghost use Rattle.std.proofs.Common.{◌∙◌};
     ghost use Rattle.machine_model.specs.Pulls.{AreAsked};
     ghost use Rattle.machine_model.proofs.PullLemmas.{asked_laws};
     ghost use Rattle.machine_files.specs.Telling.{OnlySource, OnlySink, OnlyDisk, IsBefore};
@@ -140,6 +141,10 @@ impl<F: FileExt + Seek + OpenFile, I: Read, O: Write> Machine for FileMachine<F,
     ghost disk_alone = { λ x y one. (one.source, one.sink) };
 
     ghost sink_alone = { λ x y one. (one.source, IsSameBeside-same (disk_state x) (disk_state y) one.disk) };
+
+    ghost source_keeps_lost = { λ x y one was. one.lost ∙ was };
+
+    ghost sink_keeps_lost = { λ x y one was. one.lost ∙ was };
 
     ghost beside_shown = { λ x sink_tells disk_tells. absurd sink_tells };
 

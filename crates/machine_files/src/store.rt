@@ -165,6 +165,7 @@ impl<F: FileExt + Seek + OpenFile> Store<F> {
         ensures pages { self.old.pages.length ≤ self.new.pages.length }
         ensures open_journal { area ≡ Area.Journal → self.new.journal.is_synced ≡ false }
         ensures open_pages { area ≡ Area.Pages → self.new.pages.is_synced ≡ false }
+        ensures lost { self.new.has_lost ≡ self.old.has_lost }
     {
         match area {
             Area::Journal => self.journal.write(at, bytes),

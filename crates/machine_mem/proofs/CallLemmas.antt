@@ -9,7 +9,7 @@ use Rattle.machine_model.specs.declared.area.Area.{Area}
 use Rattle.machine_model.specs.declared.area.Area.TheVariants.{Journal, Pages}
 use Rattle.machine_model.specs.declared.range.Range.{Range}
 use Rattle.machine_model.proofs.MomentLemmas.{goes_on_reads, since_now}
-use Rattle.machine_mem.specs.Machines.{MemoryState, OnlyDisk, wrote, synced, passed}
+use Rattle.machine_mem.specs.Machines.{MemoryState, OnlyDisk, wrote, synced, passed, failed_disk, failed_sync}
 use Rattle.machine_mem.proofs.GrowthLemmas.{Grows, grown, left_since}
 
 -- the state before a call is remembered
@@ -130,8 +130,8 @@ Syncs-starved old new same =
 -- no length, count or moment fell
 pub OnlyDisk-recorded : (x y : MemoryState) → y.source ≡ x.source → y.sink ≡ x.sink → x.disk.faults ≤ y.disk.faults
     → ((area : Area) → part x.disk.reach area ≤ part y.disk.reach area) → y.disk.bytes_read ≡ x.disk.bytes_read → y.disk.now.beside ≡ x.disk.now.beside
-    → y.disk.past ≡ x.disk.past ++ x.disk.now ∷ [] → OnlyDisk x y
-OnlyDisk-recorded x y source sink faults reach read beside past = record {
+    → y.disk.past ≡ x.disk.past ++ x.disk.now ∷ [] → y.has_lost ≡ x.has_lost → OnlyDisk x y
+OnlyDisk-recorded x y source sink faults reach read beside past lost = record {
   source = source;
   sink = sink;
   faults = faults;
@@ -139,11 +139,12 @@ OnlyDisk-recorded x y source sink faults reach read beside past = record {
   read = λ area. let e = ap (λ b. part b area) read in omega arith;
   beside = beside;
   goes_on = goes_on_by_now x.disk y.disk past;
+  lost = λ was. lost ∙ was;
 }
 
 pub OnlyDisk-reads : (x y : MemoryState) → y.source ≡ x.source → y.sink ≡ x.sink → x.disk.faults ≤ y.disk.faults → OnlyReads x.disk y.disk
-    → ((area : Area) → part x.disk.bytes_read area ≤ part y.disk.bytes_read area) → OnlyDisk x y
-OnlyDisk-reads x y source sink faults same read = record {
+    → ((area : Area) → part x.disk.bytes_read area ≤ part y.disk.bytes_read area) → y.has_lost ≡ x.has_lost → OnlyDisk x y
+OnlyDisk-reads x y source sink faults same read lost = record {
   source = source;
   sink = sink;
   faults = faults;
@@ -151,11 +152,12 @@ OnlyDisk-reads x y source sink faults same read = record {
   read = read;
   beside = ap (λ d. d.now.beside) same;
   goes_on = goes_on_reads x.disk y.disk same;
+  lost = λ was. lost ∙ was;
 }
 
-pub OnlyDisk-fails : (x y : MemoryState) → y.source ≡ x.source → y.sink ≡ x.sink → x.disk.faults ≤ y.disk.faults → OnlyFails x.disk y.disk → OnlyDisk x y
-OnlyDisk-fails x y source sink faults same =
-    OnlyDisk-reads x y source sink faults (OnlyReads-fails x.disk y.disk same) (λ area. let e = ap (λ d. part d.bytes_read area) same in omega arith)
+pub OnlyDisk-fails : (x y : MemoryState) → y.source ≡ x.source → y.sink ≡ x.sink → x.disk.faults ≤ y.disk.faults → OnlyFails x.disk y.disk → y.has_lost ≡ x.has_lost → OnlyDisk x y
+OnlyDisk-fails x y source sink faults same lost =
+    OnlyDisk-reads x y source sink faults (OnlyReads-fails x.disk y.disk same) (λ area. let e = ap (λ d. part d.bytes_read area) same in omega arith) lost
 
 -- what is allowed in each area is allowed in both
 pub allowed_by_area : (m : Moment) (image : Bytes) → IsAllowed m.stable.journal m.pending.journal image.journal
@@ -178,7 +180,7 @@ OnlyDisk-wrote x y area at bytes landed n is risen =
     let same = ap (λ z. z.disk.faults) is in
     let later : x.disk.faults ≤ n = omega arith in
     let z = with_faults n (wrote area at bytes landed x) in
-    subst P (sym is) (OnlyDisk-recorded x z refl refl later (grows_reach area (at + landed) x.disk.reach) refl refl refl)
+    subst P (sym is) (OnlyDisk-recorded x z refl refl later (grows_reach area (at + landed) x.disk.reach) refl refl refl refl)
 
 pub Writes-wrote : (x y : MemoryState) (area : Area) (at : ℕ) (bytes : List ℕ) (landed n : ℕ) → y ≡ wrote area at bytes landed x
     → Writes area at (length bytes) x.disk (with_faults n y).disk
@@ -192,7 +194,7 @@ OnlyDisk-stayed x y n is risen =
     let P : MemoryState → Type 0 = λ z. OnlyDisk x (with_faults n z) in
     let same = ap (λ z. z.disk.faults) is in
     let later : x.disk.faults ≤ n = omega arith in
-    subst P (sym is) (OnlyDisk-fails x (with_faults n x) refl refl later refl)
+    subst P (sym is) (OnlyDisk-fails x (with_faults n x) refl refl later refl refl)
 
 pub Writes-stayed : (x y : MemoryState) (area : Area) (at count n : ℕ) → y ≡ x → Writes area at count x.disk (with_faults n y).disk
 Writes-stayed x y area at count n is =
@@ -204,7 +206,7 @@ OnlyDisk-synced x y n is risen =
     let P : MemoryState → Type 0 = λ z. OnlyDisk x (with_faults n z) in
     let same = ap (λ z. z.disk.faults) is in
     let later : x.disk.faults ≤ n = omega arith in
-    subst P (sym is) (OnlyDisk-recorded x (with_faults n (synced x)) refl refl later (λ area. omega arith) refl refl refl)
+    subst P (sym is) (OnlyDisk-recorded x (with_faults n (synced x)) refl refl later (λ area. omega arith) refl refl refl refl)
 
 pub Syncs-synced : (x y : MemoryState) (n : ℕ) → y ≡ synced x → MayLeave x.disk.now x.disk.holds → Syncs x.disk (with_faults n y).disk
 Syncs-synced x y n is may =
@@ -216,7 +218,7 @@ OnlyDisk-passed x y n is risen =
     let P : MemoryState → Type 0 = λ z. OnlyDisk x (with_faults n z) in
     let same = ap (λ z. z.disk.faults) is in
     let later : x.disk.faults ≤ n = omega arith in
-    subst P (sym is) (OnlyDisk-recorded x (with_faults n (passed x)) refl refl later (λ area. omega arith) refl refl refl)
+    subst P (sym is) (OnlyDisk-recorded x (with_faults n (passed x)) refl refl later (λ area. omega arith) refl refl refl refl)
 
 pub Syncs-passed : (x y : MemoryState) (n : ℕ) → y ≡ passed x → Syncs x.disk (with_faults n y).disk
 Syncs-passed x y n is =
@@ -227,3 +229,21 @@ pub Syncs-stayed : (x y : MemoryState) (n : ℕ) → y ≡ x → Syncs x.disk (w
 Syncs-stayed x y n is =
     let P : MemoryState → Type 0 = λ z. Syncs x.disk (with_faults n z).disk in
     subst P (sym is) (Syncs-starved x.disk (with_faults n x).disk refl)
+
+-- a sync that failed, recorded or not, isn't forgotten
+pub OnlyDisk-lost : (x y z : MemoryState) → OnlyDisk x (failed_disk y) → z ≡ failed_sync y → OnlyDisk x z
+OnlyDisk-lost x y z one is =
+    let P : MemoryState → Type 0 = λ u. OnlyDisk x u in
+    subst P (sym is) (record {
+      source = one.source;
+      sink = one.sink;
+      faults = one.faults;
+      reach = one.reach;
+      read = one.read;
+      beside = one.beside;
+      goes_on = one.goes_on;
+      lost = λ was. refl;
+    })
+
+pub Syncs-lost : (x y z : MemoryState) → Syncs x.disk (failed_disk y).disk → z ≡ failed_sync y → Syncs x.disk z.disk
+Syncs-lost x y z one is = let P : MemoryState → Type 0 = λ u. Syncs x.disk u.disk in subst P (sym is) one

@@ -77,13 +77,14 @@ OnlyShows-by_piece before piece count old new by = record {
 
 -- one push of a piece, as the sink's law and the machine's ask
 pub OnlySink-pushed : (x y : MemoryState) (piece : List ℕ) (answer : Result ℕ Failed) → Pushed x piece answer y
-    → y.source ≡ x.source → IsSameBeside x.disk y.disk → x.sink.faults ≤ y.sink.faults → OnlySink x y
-OnlySink-pushed x y piece answer by source beside faults =
+    → y.source ≡ x.source → IsSameBeside x.disk y.disk → y.has_lost ≡ x.has_lost → x.sink.faults ≤ y.sink.faults → OnlySink x y
+OnlySink-pushed x y piece answer by source beside lost faults =
     let P : List ℕ → Type 0 = λ shown. OnlyShows x.disk y.disk x.sink.shown shown in
     record {
       source = source;
       beside = beside;
       shows = subst P (sym by.shown) (OnlyShows-by_piece x.sink.shown piece (taken answer) x.disk y.disk by.moments);
+      lost = lost;
       faults = faults;
     }
 
@@ -137,7 +138,7 @@ OnlySink-showed x y piece n is beside risen =
     let same = ap (λ z. z.sink.faults) is in
     OnlySink-pushed x (with_sink_faults n y) piece (Ok (length piece)) (Pushed-showed x y piece n is beside) (ap (λ z. z.source) is)
     (let P : MemoryState → Type 0 = λ z. IsSameBeside x.disk z.disk in subst P (sym is) (record { same = refl; stable = refl; pending = refl }))
-    (omega arith)
+    (ap (λ z. z.has_lost) is) (omega arith)
 
 pub OnlySink-passed : (x y : MemoryState) (n : ℕ) → y ≡ passed x → x.disk.now.beside ≡ x.sink.shown → y.sink.faults ≤ n
     → OnlySink x (with_sink_faults n y)
@@ -145,7 +146,7 @@ OnlySink-passed x y n is beside risen =
     let same = ap (λ z. z.sink.faults) is in
     OnlySink-pushed x (with_sink_faults n y) [] (Err (record {})) (Pushed-passed x y [] (record {}) n is beside) (ap (λ z. z.source) is)
     (let P : MemoryState → Type 0 = λ z. IsSameBeside x.disk z.disk in subst P (sym is) (record { same = refl; stable = refl; pending = refl }))
-    (omega arith)
+    (ap (λ z. z.has_lost) is) (omega arith)
 
 pub OnlySink-stayed : (x y : MemoryState) (n : ℕ) → y ≡ x → x.disk.now.beside ≡ x.sink.shown → y.sink.faults ≤ n
     → OnlySink x (with_sink_faults n y)
@@ -153,4 +154,4 @@ OnlySink-stayed x y n is beside risen =
     let same = ap (λ z. z.sink.faults) is in
     OnlySink-pushed x (with_sink_faults n y) [] (Err (record {})) (Pushed-stayed x y [] (record {}) n is beside) (ap (λ z. z.source) is)
     (let P : MemoryState → Type 0 = λ z. IsSameBeside x.disk z.disk in subst P (sym is) (record { same = refl; stable = refl; pending = refl }))
-    (omega arith)
+    (ap (λ z. z.has_lost) is) (omega arith)

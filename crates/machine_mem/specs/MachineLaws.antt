@@ -10,13 +10,13 @@ use Rattle.machine_model.proofs.MomentLemmas.{joined, goes_on_joins, goes_on_sam
 use Rattle.machine_mem.specs.Machines.{MemoryState, OnlySource, OnlySink, OnlyDisk}
 
 pub OnlySource-same : (x : MemoryState) → OnlySource x x
-OnlySource-same x = record { sink = refl; disk = refl; faults = omega arith }
+OnlySource-same x = record { sink = refl; disk = refl; lost = refl; faults = omega arith }
 
 pub OnlySource-joins : (x y z : MemoryState) → OnlySource x y → OnlySource y z → OnlySource x z
-OnlySource-joins x y z one two = record { sink = two.sink ∙ one.sink; disk = two.disk ∙ one.disk; faults = omega (arith, one.faults, two.faults) }
+OnlySource-joins x y z one two = record { sink = two.sink ∙ one.sink; disk = two.disk ∙ one.disk; lost = two.lost ∙ one.lost; faults = omega (arith, one.faults, two.faults) }
 
 pub OnlyDisk-same : (x : MemoryState) → OnlyDisk x x
-OnlyDisk-same x = record { source = refl; sink = refl; faults = omega arith; reach = λ area. omega arith; read = λ area. omega arith; beside = refl; goes_on = goes_on_same x.disk }
+OnlyDisk-same x = record { source = refl; sink = refl; faults = omega arith; reach = λ area. omega arith; read = λ area. omega arith; beside = refl; goes_on = goes_on_same x.disk; lost = λ was. was }
 
 pub OnlyDisk-joins : (x y z : MemoryState) → OnlyDisk x y → OnlyDisk y z → OnlyDisk x z
 OnlyDisk-joins x y z one two = record {
@@ -27,6 +27,7 @@ OnlyDisk-joins x y z one two = record {
   read = λ area. omega (arith, one.read area, two.read area);
   beside = two.beside ∙ one.beside;
   goes_on = goes_on_joins one.goes_on two.goes_on;
+  lost = λ was. two.lost (one.lost was);
 }
 
 IsPrefix-joins : (a b c : List ℕ) → IsPrefix a b → IsPrefix b c → IsPrefix a c
@@ -72,6 +73,7 @@ OnlySink-joins x y z one two = record {
   source = two.source ∙ one.source;
   beside = IsSameBeside-joins x.disk y.disk z.disk one.beside two.beside;
   shows = OnlyShows-joins x.disk y.disk z.disk x.sink.shown y.sink.shown z.sink.shown one.beside one.shows two.shows;
+  lost = two.lost ∙ one.lost;
   faults = omega (arith, one.faults, two.faults);
 }
 
@@ -80,5 +82,6 @@ OnlySink-same x is = record {
   source = refl;
   beside = record { same = refl; stable = refl; pending = refl };
   shows = OnlyShows-same x.disk x.sink.shown is;
+  lost = refl;
   faults = omega arith;
 }

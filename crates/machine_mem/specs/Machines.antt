@@ -1,5 +1,5 @@
 -- What the calls of one trait do to a machine.
-use Rattle.std.specs.Prelude.{◌≡◌, ℕ, ◌+◌, ◌-◌, ◌^◌, ◌≤◌, min, max, List, [], ◌∷◌, ◌++◌, take, drop, length, Result}
+use Rattle.std.specs.Prelude.{◌≡◌, ℕ, ◌+◌, ◌-◌, ◌^◌, ◌≤◌, min, max, Bool, true, List, [], ◌∷◌, ◌++◌, take, drop, length, Result}
 use Rattle.machine_model.specs.Areas.{Bytes, part, replaced}
 use Rattle.machine_model.specs.States.{SourceState, SinkState, DiskState}
 use Rattle.machine_model.specs.Moments.{GoesOn}
@@ -10,13 +10,14 @@ use Rattle.machine_mem.specs.Moments.{along}
 use Rattle.machine_model.specs.declared.area.Area.{Area}
 use Rattle.machine_model.specs.declared.area.Failed.{Failed}
 
--- the meanings of the three traits, the bytes of both areas as last written, by failed writes too, and the most bytes that one pull gives
+-- the meanings of the three traits, the bytes of both areas as last written, by failed writes too, the most bytes that one pull gives, and whether a sync has failed
 pub record MemoryState : Type 0 where
   pub source : SourceState
   pub sink : SinkState
   pub disk : DiskState
   pub last : Bytes
   pub pull_limit : ℕ
+  pub has_lost : Bool
 
 -- a pull of a machine in this state
 abbrev pub IsBefore : MemoryState → Pull → Type 0
@@ -26,6 +27,7 @@ IsBefore x pull = (x.source.left ≡ pull.left) × (x.sink.shown ≡ pull.shown)
 pub record OnlySource (x y : MemoryState) : Type 0 where
   pub sink : y.sink ≡ x.sink
   pub disk : y.disk ≡ x.disk
+  pub lost : y.has_lost ≡ x.has_lost
   pub faults : x.source.faults ≤ y.source.faults
 
 -- the calls of the sink alone
@@ -33,9 +35,10 @@ pub record OnlySink (x y : MemoryState) : Type 0 where
   pub source : y.source ≡ x.source
   pub beside : IsSameBeside x.disk y.disk
   pub shows : OnlyShows x.disk y.disk x.sink.shown y.sink.shown
+  pub lost : y.has_lost ≡ x.has_lost
   pub faults : x.sink.faults ≤ y.sink.faults
 
--- the calls of the disk alone
+-- the calls of the disk alone; a sync that failed isn't forgotten
 pub record OnlyDisk (x y : MemoryState) : Type 0 where
   pub source : y.source ≡ x.source
   pub sink : y.sink ≡ x.sink
@@ -44,6 +47,7 @@ pub record OnlyDisk (x y : MemoryState) : Type 0 where
   pub read : (area : Area) → part x.disk.bytes_read area ≤ part y.disk.bytes_read area
   pub beside : y.disk.now.beside ≡ x.disk.now.beside
   pub goes_on : GoesOn x.disk y.disk
+  pub lost : x.has_lost ≡ true → y.has_lost ≡ true
 
 -- one push
 pub record Pushed (x : MemoryState) (piece : List ℕ) (answer : Result ℕ Failed) (y : MemoryState) : Type 0 where
@@ -107,3 +111,7 @@ failed_sink x = record x { sink = record x.sink { faults = risen x.sink.faults }
 
 abbrev pub failed_disk : MemoryState → MemoryState
 failed_disk x = record x { disk = record x.disk { faults = risen x.disk.faults } }
+
+-- a machine after a sync failed
+abbrev pub failed_sync : MemoryState → MemoryState
+failed_sync x = record (failed_disk x) { has_lost = true }

@@ -4,12 +4,12 @@ use crate::faults::CallKind;
 use machine_model::{Area, Disk, Failed};
 
 impl Disk for MemMachine {
-    ghost use Rattle.std.specs.Prelude.{◌≡◌, ◌⊎◌, ℕ, ◌+◌, ◌-◌, ◌^◌, ◌≤◌, ◌∷◌, min, max, length, take, drop, refl, IfOk, OnOk, OnErr, IsErr};
+    ghost use Rattle.std.specs.Prelude.{◌≡◌, ◌⊎◌, ℕ, ◌+◌, ◌-◌, ◌^◌, ◌≤◌, ◌∷◌, min, max, true, length, take, drop, refl, IfOk, OnOk, OnErr, IsErr};
     ghost use Rattle.machine_model.specs.Areas.{part, replaced};
     ghost use Rattle.machine_model.specs.Causes.{HasCause};
     ghost use Rattle.machine_model.specs.Calls.{Writes, Syncs, IsSynced, IsPartlyReached, written};
     ghost use Rattle.machine_model.specs.declared.area.Area.TheVariants.{Journal, Pages};
-    ghost use Rattle.machine_mem.specs.Machines.{OnlyDisk, did_read, wrote, synced, passed, failed_disk};
+    ghost use Rattle.machine_mem.specs.Machines.{OnlyDisk, did_read, wrote, synced, passed, failed_disk, failed_sync};
     ghost use Rattle.machine_mem.specs.MachineLaws.{OnlyDisk-same, OnlyDisk-joins};
     ghost use Rattle.machine_mem.specs.Calls.{IsDue, called, script_of, Serves, Starves, Remembers, Stays};
     ghost use Rattle.machine_mem.specs.Meaning.{meaning, disk_state};
@@ -19,6 +19,8 @@ impl Disk for MemMachine {
     ghost disk = { disk_state };
 
     ghost only = { λ x y. OnlyDisk (meaning x) (meaning y) };
+
+    ghost has_lost = { λ x. (meaning x).has_lost ≡ true };
 
     ghost only_same = { λ x. OnlyDisk-same (meaning x) };
 
@@ -33,6 +35,8 @@ impl Disk for MemMachine {
     ghost only_beside = { λ x y tells one. one.beside };
 
     ghost only_read = { λ x y area tells one. one.read area };
+
+    ghost only_lost = { λ x y one was. one.lost was };
 
     ghost faults_limit = { λ x. x.disk_faults.small };
 
@@ -142,29 +146,31 @@ impl Disk for MemMachine {
         ensures durable { OnOk result (IsSynced (disk_state self.old) (disk_state self.new)) }
         ensures failed { OnErr result ((disk_state self.new).now ≡ (disk_state self.old).now) }
         ensures read { (disk_state self.new).bytes_read ≡ (disk_state self.old).bytes_read }
+        ensures lost { OnErr result ((meaning self.new).has_lost ≡ true) }
+        ensures stays_lost { (meaning self.old).has_lost ≡ true → IsErr result }
 
-        // exactly
+        // exactly; behind a sync that failed each is recorded as one that a fault names
         ensures done { OnOk result (Serves synced self.old self.new) }
-        ensures why { OnErr result ((((landed : ℕ) × IsDue self.old CallKind.Sync landed) × Serves (λ x. failed_disk (passed x)) self.old self.new) ⊎ Starves failed_disk self.old self.new) }
+        ensures why { OnErr result (((((landed : ℕ) × IsDue self.old CallKind.Sync landed) ⊎ ((meaning self.old).has_lost ≡ true)) × Serves (λ x. failed_sync (passed x)) self.old self.new) ⊎ Starves failed_sync self.old self.new) }
         ensures named { (landed : ℕ) → IsDue self.old CallKind.Sync landed → IsErr result }
         ensures counted { script_of self.new ≡ called CallKind.Sync (script_of self.old) }
         ensures remembers { Remembers self.old self.new }
     {
-        match self.script.due(CallKind::Sync) {
-            None => match self.try_sync() {
-                Ok(()) => Ok(()),
+        if self.script.due(CallKind::Sync).is_some() || self.has_lost {
+            return match self.try_pass() {
+                Ok(()) => Err(self.lose()),
                 Err(_) => {
                     self.starve();
-                    Err(self.disk_faults.fails())
+                    Err(self.lose())
                 }
-            },
-            Some(_) => match self.try_pass() {
-                Ok(()) => Err(self.disk_faults.fails()),
-                Err(_) => {
-                    self.starve();
-                    Err(self.disk_faults.fails())
-                }
-            },
+            };
+        }
+        match self.try_sync() {
+            Ok(()) => Ok(()),
+            Err(_) => {
+                self.starve();
+                Err(self.lose())
+            }
         }
     }
 }

@@ -1,8 +1,8 @@
 //! The machine in memory, what it holds, and the image that a stop leaves.
-ghost use Rattle.std.specs.Prelude.{◌≡◌, ◌+◌, ◌-◌, ◌^◌, ◌<◌, ◌≤◌, [], min, length, IfOk, OnOk, OnErr};
+ghost use Rattle.std.specs.Prelude.{◌≡◌, ◌+◌, ◌-◌, ◌^◌, ◌<◌, ◌≤◌, [], min, false, length, IfOk, OnOk, OnErr};
 ghost use Rattle.machine_model.specs.Areas.{part};
 ghost use Rattle.machine_model.specs.Causes.{Rose};
-ghost use Rattle.machine_mem.specs.Machines.{wrote, synced, passed, showed, did_read};
+ghost use Rattle.machine_mem.specs.Machines.{wrote, synced, passed, showed, did_read, failed_sync};
 ghost use Rattle.machine_model.specs.Moments.{LeftSince};
 ghost use Rattle.machine_mem.specs.Picks.{IsPicked, bytes_of};
 ghost use Rattle.machine_mem.specs.Faults.{count_of};
@@ -17,7 +17,7 @@ use crate::input::Input;
 use crate::picks::{Pick, Picked, pick_image};
 use crate::store::Store;
 use crate::tally::Tally;
-use machine_model::{Area, Image, Machine};
+use machine_model::{Area, Failed, Image, Machine};
 use std::alloc::{AllocError, Global};
 
 /// A machine in memory. It tells all that it holds, and its calls fail where its script says so,
@@ -34,6 +34,8 @@ pub struct MemMachine {
     pub(crate) disk_faults: Counter,
     pub(crate) script: Script,
     pub(crate) starved: Counter,
+    /// Whether a sync has failed. Then each later one does.
+    pub(crate) has_lost: bool,
 }
 
 impl MemMachine {
@@ -67,6 +69,7 @@ impl MemMachine {
         ensures counts { IfOk result (λ x. (kind : _) → count_of (script_of x).counts kind ≡ 0) }
         ensures starved { IfOk result (λ x. starved_of x ≡ 0) }
         ensures pulls { IfOk result (λ x. (meaning x).pull_limit ≡ 2 ^ 64 - 1) }
+        ensures lost { IfOk result (λ x. (meaning x).has_lost ≡ false) }
     {
         let history = History::new(alloc, image)?;
         Ok(MemMachine {
@@ -87,6 +90,7 @@ impl MemMachine {
                 counts: Counts::new(),
             },
             starved: Counter::new(),
+            has_lost: false,
         })
     }
 
@@ -229,6 +233,16 @@ impl MemMachine {
         self.history.record(self.alloc, Difference::Show(piece))
     }
 
+    /// Counts a sync that failed as a fault of the disk. From then on each sync fails.
+    pub(crate) fn lose(&mut self) -> Failed
+        ensures state { meaning self.new ≡ failed_sync (meaning self.old) }
+        ensures history { self.new.history ≡ self.old.history }
+        ensures rest { (self.new.script ≡ self.old.script) × (self.new.starved ≡ self.old.starved) }
+    {
+        self.has_lost = true;
+        self.disk_faults.fails()
+    }
+
     /// Counts a write, a sync or a push that found no memory.
     pub(crate) fn starve(&mut self)
         ensures same { meaning self.new ≡ meaning self.old }
@@ -243,6 +257,7 @@ impl MemMachine {
 
 impl Machine for MemMachine {
     ghost use Rattle.std.specs.Prelude.{refl};
+    ghost use Rattle.std.proofs.Common.{◌∙◌};
     ghost use Rattle.machine_model.specs.Pulls.{AreAsked};
     ghost use Rattle.machine_model.proofs.PullLemmas.{asked_laws};
     ghost use Rattle.machine_mem.specs.Machines.{OnlySource, OnlySink, OnlyDisk, IsBefore};
@@ -256,6 +271,10 @@ impl Machine for MemMachine {
     ghost disk_alone = { λ x y one. (one.source, one.sink) };
 
     ghost sink_alone = { λ x y one. (one.source, one.beside) };
+
+    ghost source_keeps_lost = { λ x y one was. one.lost ∙ was };
+
+    ghost sink_keeps_lost = { λ x y one was. one.lost ∙ was };
 
     ghost beside_shown = { λ x sink_tells disk_tells. refl };
 

@@ -1,5 +1,5 @@
 //! Where bytes are kept, through stops.
-ghost use Rattle.std.specs.Prelude.{◌≡◌, ◌+◌, ◌-◌, ◌^◌, ◌≤◌, ◌∷◌, max, length, take, drop, IfOk, OnOk, OnErr};
+ghost use Rattle.std.specs.Prelude.{◌≡◌, ◌+◌, ◌-◌, ◌^◌, ◌≤◌, ◌∷◌, max, length, take, drop, IfOk, OnOk, OnErr, IsErr};
 ghost use Rattle.machine_model.specs.Areas.{part, replaced};
 ghost use Rattle.machine_model.specs.States.{DiskState};
 ghost use Rattle.machine_model.specs.Causes.{HasCause};
@@ -21,6 +21,10 @@ pub trait Disk {
 
     /// The disk came from the first state to the second by calls of this trait alone.
     ghost only: { Self → Self → Type 0 };
+
+    /// A sync of the disk has failed. From then on each sync fails: what the disk could not write may
+    /// be lost.
+    ghost has_lost: { Self → Type 0 };
 
     /// The length of an area, in bytes.
     fn length(&mut self, area: Area) -> Result<u64, Failed>
@@ -53,6 +57,9 @@ pub trait Disk {
         ensures read { disk_tells → (disk self.new).bytes_read ≡ (disk self.old).bytes_read };
 
     /// Makes both areas durable: after `Ok` the only image is what reads give.
+    ///
+    /// Once a sync has failed, every later one fails, whatever is called between. The system may drop
+    /// what it could not write, and then nothing could be made of a good answer.
     fn sync(&mut self) -> Result<(), Failed>
         ensures only { only self.old self.new }
         ensures cause { HasCause (disk self.old).faults (disk self.new).faults result }
@@ -60,7 +67,9 @@ pub trait Disk {
         ensures images { disk_tells → Syncs (disk self.old) (disk self.new) }
         ensures durable { disk_tells → OnOk result (IsSynced (disk self.old) (disk self.new)) }
         ensures failed { disk_tells → OnErr result ((disk self.new).now ≡ (disk self.old).now) }
-        ensures read { disk_tells → (disk self.new).bytes_read ≡ (disk self.old).bytes_read };
+        ensures read { disk_tells → (disk self.new).bytes_read ≡ (disk self.old).bytes_read }
+        ensures lost { OnErr result (has_lost self.new) }
+        ensures stays_lost { has_lost self.old → IsErr result };
 
     ghost only_same: { (x : Self) → only x x };
 
@@ -75,6 +84,8 @@ pub trait Disk {
     ghost only_beside: { (x y : Self) → disk_tells → only x y → (disk y).now.beside ≡ (disk x).now.beside };
 
     ghost only_read: { (x y : Self) (a : Area) → disk_tells → only x y → part (disk x).bytes_read a ≤ part (disk y).bytes_read a };
+
+    ghost only_lost: { (x y : Self) → only x y → has_lost x → has_lost y };
     // the count is that of a real machine's counter
     ghost faults_limit: { (x : Self) → (disk x).faults ≤ 2 ^ 64 - 1 };
 

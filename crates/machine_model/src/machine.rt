@@ -20,6 +20,10 @@ pub trait Machine: Source + Sink + Disk {
     ghost disk_alone: { (x y : Self) → Self.Disk.only x y → (Self.source y ≡ Self.source x) × (Self.sink y ≡ Self.sink x) };
 
     ghost sink_alone: { (x y : Self) → Self.Sink.only x y → (Self.source y ≡ Self.source x) × IsSameBeside (Self.disk x) (Self.disk y) };
+    // the calls of the other traits heal no disk
+    ghost source_keeps_lost: { (x y : Self) → Self.Source.only x y → Self.has_lost x → Self.has_lost y };
+
+    ghost sink_keeps_lost: { (x y : Self) → Self.Sink.only x y → Self.has_lost x → Self.has_lost y };
     // beside the images stand the bytes shown
     ghost beside_shown: { (x : Self) → Self.sink_tells → Self.disk_tells → (Self.disk x).now.beside ≡ (Self.sink x).shown };
     // any pushes

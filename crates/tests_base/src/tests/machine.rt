@@ -103,9 +103,46 @@ fn each_kind_of_call_fails_once(rt: HostRuntime) -> Result<(), Fail> {
     assert_eq!(rt; machine.pull(&mut buf)?, 5);
     assert_eq!(rt; machine.push(b"ok")?, 2);
     machine.write(Area::Journal, 0, b"J")?;
-    machine.sync()?;
+    // all but the sync are well again
+    assert!(rt; machine.sync().is_err());
     assert_eq!(rt; machine.moments(), 7);
     assert_eq!(rt; machine.starved(), 0);
+    Ok(())
+}
+
+// Each sync is a moment, and what was written since the last good one stays open at it.
+#[test]
+fn a_sync_behind_a_failed_one_fails(rt: HostRuntime) -> Result<(), Fail> {
+    let alloc = rt.alloc();
+    let fault = Fault {
+        call: CallKind::Sync,
+        nth: 2,
+        landed: 0,
+    };
+    let mut machine = make_machine(alloc, &[fault])?;
+    machine.sync()?;
+    machine.write(Area::Journal, 7, b"AB")?;
+    assert!(rt; machine.sync().is_err());
+    machine.push(b"shown")?;
+    machine.write(Area::Journal, 9, b"C")?;
+    assert!(rt; machine.sync().is_err());
+    assert_eq!(rt; machine.moments(), 7);
+    assert_eq!(rt;
+        read_journal(alloc, &mut machine)?.as_slice(),
+        b"journalABC".as_slice()
+    );
+    for (back, extra, want) in [
+        (0, 0, b"journal".as_slice()),
+        (0, 9, b"journal???".as_slice()),
+        (1, 9, b"journal???".as_slice()),
+        (2, 9, b"journal??".as_slice()),
+        (3, 9, b"journal??".as_slice()),
+        (4, 9, b"journal??".as_slice()),
+        (5, 9, b"journal".as_slice()),
+    ] {
+        let journal = journal_at(alloc, &machine, back, extra, Fill::Byte(b'?'))?;
+        assert_eq!(rt; journal.as_slice(), want, "{back} back");
+    }
     Ok(())
 }
 
