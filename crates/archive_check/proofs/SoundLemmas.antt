@@ -107,8 +107,8 @@ judges : (h : History) (pages : List ℕ) (ordered : List StoredPlan) (verdict :
 judges h pages ordered (Sound words segments) loads moved held all =
     let may = All-permutation (λ (s : StoredPlan). MayBePlanned IsFitFor h s.plan) (live_plans h) ordered moved (live_planned IsFitFor h loads) in (
       each_spare h pages ordered may all.sound,
-      all.words_are ∙ sym (length_permutation (live_plans h) ordered moved),
-      all.segments_are ∙ sym (sum_by-IsPermutation (λ (s : StoredPlan). length s.plan.cuts) (live_plans h) ordered moved),
+      all.words_are ∙ length_permutation (live_plans h) ordered moved,
+      all.segments_are ∙ sum_by-IsPermutation (λ (s : StoredPlan). length s.plan.cuts) (live_plans h) ordered moved,
     )
 judges h pages ordered (NotLeast word taken least) loads moved held first =
     let M : StoredPlan → Type 0 = λ s. MayBePlanned IsFitFor h s.plan in

@@ -29,4 +29,4 @@ returns-clause-fits c = λ h indexes.
     let here = subst (λ (l : List Posting). IsListOf f 0 (2 ^ 40) l) (sym c.deref.ensures.value) (word_list h word c.in_ok-whole.whole.items (c.in_ok-whole.ensures.list (λ word. 0) (changes h) indexes)) in
     let T : List Posting → Type 0 = λ l. IsTrue b ↔ IsFitFor plan.kind l plan.fraction c.as_slice.result.now plan.horizon.seconds in
     let U : List Time → Type 0 = λ l. IsTrue b ↔ IsFitFor plan.kind c.in_ok-list.list.items plan.fraction l plan.horizon.seconds in
-    some_fit h c.args.stored.now c.in_ok-list.list.items b (c.in_ok-list.ensures.list f here) (search rules) (subst U c.as_slice.ensures (subst T c.deref-2.ensures.value c.in_ok-fit.ensures))
+    some_fit h c.args.stored.now c.in_ok-list.list.items b (c.in_ok-list.ensures.list f here) (search rules) (subst U c.as_slice.ensures (subst T c.deref-3.ensures.value c.in_ok-fit.ensures))
