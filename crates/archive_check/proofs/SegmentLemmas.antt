@@ -11,7 +11,7 @@ use Rattle.machine_model.specs.States.{DiskState}
 use Rattle.machine_model.specs.Calls.{OnlyReads}
 use Rattle.page_store.specs.Ranges.{bytes_in}
 use Rattle.postings.specs.Lists.{sublist}
-use Rattle.sublist_store.specs.Layouts.{spelling_in}
+use Rattle.checked_lists.specs.Layouts.{spelling_in}
 use Rattle.sublist_store.specs.Segments.{seconds}
 use Rattle.sublist_store.specs.Preparing.{spellings, Serves}
 use Rattle.sublist_store.proofs.SpellLemmas.{both_halves}

@@ -18,7 +18,7 @@ use Rattle.record_codec.specs.declared.entry.Entry.TheVariants.{Arrive, Delete, 
 use Rattle.record_codec.specs.declared.place.Layout.{Layout}
 use Rattle.record_codec.specs.declared.place.Place.{Place}
 use Rattle.record_codec.specs.declared.plan.PlanEntry.{PlanEntry}
-use Rattle.sublist_store.specs.Layouts.{spelling_in}
+use Rattle.checked_lists.specs.Layouts.{spelling_in}
 use Rattle.sublist_store.specs.Preparing.{spellings}
 use Rattle.sublist_store.specs.Segments.{seconds, next_cut, EachSegment, HoldsSublist}
 use Rattle.archive_state.specs.declared.stored.StoredPlan.{StoredPlan}

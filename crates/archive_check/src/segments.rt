@@ -5,7 +5,7 @@ ghost use Rattle.machine_model.specs.Calls.{OnlyReads};
 ghost use Rattle.postings.specs.Lists.{IsList, sublist};
 ghost use Rattle.page_store.specs.Live.{IsInside};
 ghost use Rattle.page_store.specs.Ranges.{bytes_in};
-ghost use Rattle.sublist_store.specs.Layouts.{spelling_in};
+ghost use Rattle.checked_lists.specs.Layouts.{spelling_in};
 ghost use Rattle.sublist_store.specs.Segments.{seconds};
 ghost use Rattle.sublist_store.specs.Preparing.{spellings};
 ghost use Rattle.archive_check.specs.Verdicts.{DifferAt};

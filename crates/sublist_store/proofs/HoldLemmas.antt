@@ -5,7 +5,7 @@ use Rattle.std.proofs.lemmas.List.Elements.{All-head, All-tail}
 use Rattle.sha2.specs.Sha256.{sha256}
 use Rattle.postings.specs.Lists.{sublist}
 use Rattle.page_store.specs.Wrote.{Piece, HoldsPiece}
-use Rattle.sublist_store.specs.Layouts.{spelling_in}
+use Rattle.checked_lists.specs.Layouts.{spelling_in}
 use Rattle.sublist_store.specs.Segments.{next_cut}
 use Rattle.sublist_store.specs.Preparing.{spellings, pieces_of, PiecesHoldSublists, PlacesAreForSublists}
 

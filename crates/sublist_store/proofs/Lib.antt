@@ -1,4 +1,3 @@
-mod Longer
 mod GatherLemmas
 mod AskLemmas
 pub mod KeptLemmas

@@ -11,7 +11,7 @@ use Rattle.sublist_codec.specs.Layouts.{IsLayout}
 use Rattle.sublist_codec.proofs.LayoutLemmas.{layout_of}
 use Rattle.sublist_codec.proofs.FlatLemmas.{flat_codec}
 use Rattle.sublist_codec.proofs.BlockCodec.{block_codec}
-use Rattle.sublist_store.specs.Layouts.{Spells, IsFault}
+use Rattle.checked_lists.specs.Layouts.{Spells, IsFault}
 use Rattle.sublist_store.specs.Fetching.{IsFetched, IsFirstAstray, belongs}
 use Rattle.sublist_store.specs.Gathering.{Chosen, ListOrDamage, Joins, Parts, Refuses, Gathers, bytes_of}
 use Rattle.sublist_store.specs.Laws.{OneCause, NoCauseAgainstFetched, OneFetched, OneGathering, AreClashes}

@@ -12,7 +12,7 @@ use Rattle.time_base.specs.declared.time.Time.{Time}
 use Rattle.record_codec.specs.declared.place.Layout.{Layout}
 use Rattle.postings.specs.Lists.{IsList, meets, sublist}
 use Rattle.postings.proofs.Clipping.{sublist_list}
-use Rattle.sublist_store.specs.Layouts.{spelling_in}
+use Rattle.checked_lists.specs.Layouts.{spelling_in}
 use Rattle.sublist_store.specs.Segments.{seconds, next_cut}
 use Rattle.sublist_store.specs.Preparing.{spellings, Serves, IsEarliest, IsLatest}
 

@@ -4,17 +4,13 @@ use Rattle.sha2.specs.Sha256.{sha256}
 use Rattle.time_base.specs.declared.posting.Posting.{Posting}
 use Rattle.record_codec.specs.declared.place.Layout.{Layout}
 use Rattle.postings.specs.Lists.{meets}
-use Rattle.sublist_store.specs.Layouts.{Spells, IsFault}
+use Rattle.checked_lists.specs.Layouts.{IsFault}
+use Rattle.checked_lists.specs.Checking.{IsChecked}
 use Rattle.sublist_store.specs.declared.why.Why.{Why}
 use Rattle.sublist_store.specs.declared.why.Why.TheVariants.{Digest, Form, Astray, Clash, Bare}
 use Rattle.sublist_store.specs.declared.why.Damage.{Damage}
 use Rattle.sublist_store.specs.declared.why.FetchError.{FetchError}
 use Rattle.sublist_store.specs.declared.why.FetchError.TheVariants.{Failed, Damaged, Memory}
-
--- the bytes have the digest and spell the list
-pub record IsChecked (layout : Layout) (digest bytes : List ℕ) (list : List Posting) : Type 0 where
-  pub digest_is : digest ≡ sha256 bytes
-  pub spelled : Spells layout bytes list
 
 -- the posting has a time in [f, g) and ends by the horizon
 abbrev pub belongs : ℕ → ℕ → ℕ → Posting → Bool

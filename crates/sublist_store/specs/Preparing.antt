@@ -11,7 +11,7 @@ use Rattle.postings.specs.Sizes.{size}
 use Rattle.page_store.specs.Runs.{IsLowestRun, pages_for}
 use Rattle.page_store.specs.Taken.{PagesState, HasTaken}
 use Rattle.page_store.specs.Wrote.{Piece, HoldsPiece}
-use Rattle.sublist_store.specs.Layouts.{spelling_in}
+use Rattle.checked_lists.specs.Layouts.{spelling_in}
 use Rattle.sublist_store.specs.Segments.{next_cut, EachSegment, HoldsSublist}
 
 -- the bytes of the segments' sublists

@@ -9,7 +9,7 @@ use Rattle.record_codec.specs.declared.place.Layout.{Layout}
 use Rattle.record_codec.specs.declared.place.Place.{Place}
 use Rattle.postings.specs.Lists.{IsList, sublist}
 use Rattle.page_store.specs.Ranges.{bytes_in}
-use Rattle.sublist_store.specs.Layouts.{spelling_in}
+use Rattle.checked_lists.specs.Layouts.{spelling_in}
 
 -- times in seconds
 abbrev pub seconds : List Time → List ℕ

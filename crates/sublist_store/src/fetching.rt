@@ -13,8 +13,8 @@ ghost use Rattle.sublist_store.specs.Fetching.{IsFetched, IsFirstAstray, IfDamag
 ghost use Rattle.sublist_store.specs.Gathering.{IsBare};
 ghost use Rattle.sublist_store.specs.Joining.{RefusesAlone};
 
-use crate::checker::{CheckError, Checker};
 use crate::why::{Damage, FetchError, Why};
+use checked_lists::{CheckError, Checker};
 use machine_model::{Area, Disk};
 use page_cache::{PageCache, PageError};
 use record_codec::{Layout, Place};

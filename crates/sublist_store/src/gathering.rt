@@ -16,11 +16,11 @@ ghost use Rattle.sublist_store.specs.Fetching.{IfDamaged, IfFailed};
 ghost use Rattle.sublist_store.specs.Gathering.{Chosen, chosen, Gathers};
 ghost use Rattle.sublist_store.specs.Joining.{Paged, size_of_all, AreFetched, StopsAt};
 
-use crate::checker::Checker;
 use crate::fetching::{Bounds, Segment, fetch_one};
 use crate::joining::{Sublist, join_all};
 use crate::store::Sublists;
 use crate::why::FetchError;
+use checked_lists::Checker;
 use machine_model::{Area, Disk};
 use page_cache::PageCache;
 use record_codec::{Layout, Place};

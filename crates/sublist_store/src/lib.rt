@@ -5,11 +5,10 @@
 //! extents that are taken. What is fetched is a function of the bytes that the disk gives
 //! (`specs/Fetching.antt`, `specs/Gathering.antt`): a list, or the first cause against them. Places are
 //! read through a cache of pages, so that exactly the bytes of pages that aren't kept are read
-//! (`specs/Caching.antt`); pages that are given up are kept no longer. Bytes that were checked before are
-//! compared in place of being hashed and decoded anew, which no clause shows.
+//! (`specs/Caching.antt`); pages that are given up are kept no longer. What their bytes spell is checked
+//! by `checked_lists`, which compares bytes that were checked before and hashes no byte of them.
 #![tactic(auto)]
 
-mod checker;
 mod fetching;
 mod framing;
 mod gathering;
@@ -20,7 +19,6 @@ mod parts;
 mod placing;
 mod prepared;
 mod spelled;
-mod spelling;
 mod store;
 mod why;
 

@@ -2,11 +2,11 @@
 ghost use Rattle.std.specs.Prelude.{◌≡◌, ◌*◌, ◌≤◌, ◌∷◌, length, min, max, None, IfOk, IfSome};
 ghost use Rattle.postings.specs.Lists.{IsList, sublist};
 ghost use Rattle.postings.specs.Sizes.{size};
-ghost use Rattle.sublist_store.specs.Layouts.{spelling_in};
+ghost use Rattle.checked_lists.specs.Layouts.{spelling_in};
 ghost use Rattle.sublist_store.specs.Segments.{seconds};
 ghost use Rattle.sublist_store.specs.Preparing.{Serves, IsEarliest, IsLatest, IsMostlyMet};
 
-use crate::spelling::encoded;
+use checked_lists::encoded;
 use record_codec::Layout;
 use std::alloc::{AllocError, Global};
 use time_base::{Posting, Time};

@@ -10,9 +10,9 @@ ghost use Rattle.record_codec.specs.declared.place.Place.{Place as PlainPlace};
 ghost use Rattle.sublist_store.specs.Preparing.{Adds, IsFor, extents, sizes};
 ghost use Rattle.sublist_store.specs.PlacedAt.{IsPlaceFault, IsFaultOf};
 
-use crate::checker::Checker;
 use crate::spelled::Spelling;
 use crate::why::PlaceError;
+use checked_lists::Checker;
 use page_cache::PageCache;
 use page_store::{AtError, Pages, TakeError};
 use record_codec::Place;

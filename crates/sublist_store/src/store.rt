@@ -13,10 +13,10 @@ ghost use Rattle.sublist_store.specs.Caching.{pieces_at};
 ghost use Rattle.sublist_store.specs.Fetching.{IsFetched, Explains, IfDamaged, IfFailed};
 ghost use Rattle.sublist_store.specs.Framing.{IsFramed, IsUnframed};
 
-use crate::checker::Checker;
 use crate::fetching::{Bounds, Segment, fetch_one};
 use crate::framing::frames_of;
 use crate::why::FetchError;
+use checked_lists::Checker;
 use machine_model::{Area, Disk, Failed};
 use page_cache::PageCache;
 use page_store::{LiveError, Pages};

@@ -5,7 +5,7 @@ use Rattle.record_codec.specs.declared.place.Place.{Place}
 use Rattle.postings.specs.Lists.{sublist}
 use Rattle.page_store.specs.Live.{IsInside}
 use Rattle.page_store.specs.Ranges.{bytes_in}
-use Rattle.sublist_store.specs.Layouts.{spelling_in}
+use Rattle.checked_lists.specs.Layouts.{spelling_in}
 use Rattle.sublist_store.specs.Segments.{seconds}
 use Rattle.sublist_store.specs.Preparing.{spellings}
 use Rattle.sublist_store.proofs.SpellLemmas.{serves_or}

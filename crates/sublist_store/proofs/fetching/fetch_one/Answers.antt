@@ -2,7 +2,7 @@ use Rattle.std.proofs.Common.{◌≤◌, length, arith}
 use Rattle.std.proofs.lemmas.Result.{IfOk-weaker}
 use Rattle.sublist_store.specs.Fetching.{IsFetched}
 use Rattle.sublist_store.proofs.AskLemmas.{lie_asked, lie_partly}
-use Rattle.sublist_store.proofs.Longer.{spells_more}
+use Rattle.checked_lists.proofs.Longer.{spells_more}
 use Rattle.sublist_store.proofs.fetching.fetch_one.Goals as goal
 
 pub returns-in-Err-Failed-clause-lie : goal.returns-in-Err-Failed-clause-lie

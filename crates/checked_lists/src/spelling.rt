@@ -2,7 +2,7 @@
 ghost use Rattle.std.specs.Prelude.{◌≡◌, IfOk, IfErr};
 ghost use Rattle.postings.specs.Lists.{IsList};
 ghost use Rattle.sublist_codec.specs.Decoding.{OrMemory};
-ghost use Rattle.sublist_store.specs.Layouts.{spelling_in, Spells, IsFault};
+ghost use Rattle.checked_lists.specs.Layouts.{spelling_in, Spells, IsFault};
 
 use record_codec::Layout;
 use std::alloc::{AllocError, Global};
@@ -24,12 +24,8 @@ pub(crate) fn decoded(
     }
 }
 
-/// The bytes of a list in a layout.
-pub(crate) fn encoded(
-    alloc: Global,
-    layout: Layout,
-    list: &[Posting],
-) -> Result<Vec<u8>, AllocError>
+/// The bytes of a list in a layout. One pass over the list.
+pub fn encoded(alloc: Global, layout: Layout, list: &[Posting]) -> Result<Vec<u8>, AllocError>
     requires { IsList list.now }
     ensures { IfOk result (λ v. v.items ≡ spelling_in layout list.now) }
 {

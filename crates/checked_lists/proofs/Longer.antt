@@ -9,7 +9,7 @@ use Rattle.sublist_codec.specs.Fields.{Fields, fields}
 use Rattle.sublist_codec.specs.Numbers.{number_bytes}
 use Rattle.sublist_codec.specs.Blocks.{span_numbers, base_behind, other_numbers, numbers, inside, head_for, head_bytes, block, pieces, block_spelling}
 use Rattle.sublist_codec.proofs.FlatLemmas.{spelling-length}
-use Rattle.sublist_store.specs.Layouts.{Spells, spelling_in}
+use Rattle.checked_lists.specs.Layouts.{Spells, spelling_in}
 
 number_some : (n : ℕ) → 1 ≤ length (number_bytes 6 n)
 unfolding number_bytes

@@ -1,0 +1,4 @@
+pub mod Layouts
+pub mod Checking
+pub mod Unchecked
+pub mod Weights
