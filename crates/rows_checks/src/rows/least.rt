@@ -1,7 +1,8 @@
 //! Plans that take more space than they have to.
 use crate::rows::disks::{expect_told, put_byte};
 use archive_rig::{
-    LIFE_OF_1, LIVES_OF_1_AND_2, Plan, UNIFORM, disk_with, first_segments, plan_of_v, segment_at,
+    LIFE_OF_1, LIVES_OF_1_AND_2, Plan, Row, UNIFORM, disk_with, expect_on, first_segments,
+    plan_of_v, segment_at,
 };
 
 // With the factor 2 one segment of 2 postings keeps the guarantee. The load asks only that a plan keeps it.
@@ -15,6 +16,12 @@ fn a_guarantee_that_takes_too_much_is_told_with_both_spaces(rt: HostRuntime) {
     };
     let disk = disk_with(alloc, &plan).expect(&rt, "a disk");
     expect_told(&rt, alloc, &disk, b"notleast v 4 2\n");
+    // The certificate shows the cuts that are stored, their space, and the least spaces beside them.
+    let row = Row {
+        script: b"certificate v\n",
+        replies: b"segment 10 20 1\nsegment 20 30 2\nsegment 30 40 1\nnode 10 0\nnode 20 1\nnode 30 2\nnode 40 2\nend 3 space 4\n",
+    };
+    expect_on(alloc, &disk, &[row]).expect(&rt, "the replies");
     let two = [
         segment_at(10, 0, LIVES_OF_1_AND_2),
         segment_at(30, 1, LIFE_OF_1),
