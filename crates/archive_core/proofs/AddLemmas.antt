@@ -180,7 +180,7 @@ history_loaded h old mid new allowed each keeps pages same =
       images = λ image beside left.
           let is = kept.images image beside left in
           let was = pages.images image beside left in
-          (record { spelled = is.0; legal = (each old.holds allowed).legal; held = rw was.2 (each was.0 was.1).held }, is.1);
+          (record { spelled = is.0; loadable = (each old.holds allowed).loadable; held = rw was.2 (each was.0 was.1).held }, is.1);
     })
 
 pub pages_reads : (a b c : DiskState) → KeepsPages a b → OnlyReads b c → KeepsPages a c
