@@ -1,17 +1,16 @@
 -- How many bytes wait where more are wanted.
 use Rattle.std.specs.Prelude.{◌≡◌, ℕ, ◌+◌, ◌-◌, ◌<◌, ◌≤◌, min, Bool, true, false, nat_lt, if◌then◌else◌, ◌==◌, ◌&&◌, List, [], ◌∷◌, length, take, drop, Some, refl}
 use Rattle.std.specs.List.{position_or_len}
-use Rattle.std.proofs.Common.{arith, sym, ◌∙◌, ltb-true, ltb-false, le-ltb, length-take, length-drop}
+use Rattle.std.proofs.Common.{arith, sym, ◌∙◌, ltb-true, le-ltb, length-take, length-drop}
 use Rattle.commands.specs.declared.command.Command.TheVariants.{Arrive}
 use Rattle.script_read.specs.declared.part.Part.{Part}
 use Rattle.script_read.specs.Parts.{told}
 use Rattle.script_read.specs.declared.line.Meaning.{Meaning}
 use Rattle.script_read.specs.declared.line.Meaning.TheVariants.{Skipped, Alone, Arrival, Faulty}
 use Rattle.script_read.specs.declared.first.First.TheVariants.{Whole, Broken, More}
-use Rattle.script_read.specs.declared.passing.Over.{Over}
 use Rattle.script_read.specs.Lines.{meaning}
 use Rattle.script_read.specs.Items.{first, short, text_end, text_at, piece_of, closed_line, without_cr}
-use Rattle.script_read.specs.Reading.{IsWithinText, long_piece, passed_item}
+use Rattle.script_read.specs.Reading.{IsWithinText}
 use Rattle.script_read.proofs.Cuts.{without_cr-length}
 use Rattle.script_read.proofs.LineLemmas.{first-closed}
 
@@ -46,26 +45,6 @@ pub few_wait : (ended : Bool) (n : ℕ) (bytes : List ℕ) → n ≡ min 4098 (p
 few_wait ended n bytes place lt short_line within more =
     let near : n < 4098 = omega (arith, lt, short_line, length-take n bytes, (without_cr-length (take n bytes)).0) in
     let closed : closed_line meaning ended n (without_cr (take n bytes)) bytes ≡ piece_of ended (meaning (without_cr (take n bytes))) (n + 1) bytes =
-        rw (le-ltb 4096 (length (without_cr (take n bytes))) short_line) refl in
+    rw (le-ltb 4096 (length (without_cr (take n bytes))) short_line) refl in
     piece_of-few ended (meaning (without_cr (take n bytes))) (n + 1) bytes (omega (arith, near)) within
     (sym closed ∙ sym (first-closed ended n bytes place (omega (arith, near)) lt) ∙ more)
-
--- a text that is passed over is gone where more of it is to come, and else a CR waits behind it
-pub few_behind : (ended : Bool) (over : Over) (bytes : List ℕ) → over.gone ≤ over.size → (over.gone < over.size → length bytes ≡ 0)
-    → long_piece ended over bytes ≡ More → length bytes ≤ 1
-few_behind ended over bytes partly rest e = go (nat_lt (over.gone + length bytes) over.size) refl e
-  where
-    len : ℕ
-    len = over.line + over.gone + length bytes
-
-    go : (b : Bool) → nat_lt (over.gone + length bytes) over.size ≡ b
-        → (if b then short ended len else text_end ended len (over.line + over.size) (passed_item over) (drop (over.size - over.gone) bytes)) ≡ More
-        → length bytes ≤ 1
-    go true k e = omega (arith, rest (omega (arith, ltb-true _ _ k)))
-    go false k e = two (nat_lt over.gone over.size) refl
-      where
-        two : (b : Bool) → nat_lt over.gone over.size ≡ b → length bytes ≤ 1
-        two true h = omega (arith, rest (ltb-true _ _ h))
-        two false h =
-            omega (arith, text_end-few ended len (over.line + over.size) (passed_item over) (drop (over.size - over.gone) bytes) e,
-            length-drop (over.size - over.gone) bytes, ltb-false _ _ h, partly)
