@@ -2,6 +2,8 @@
 ghost use Rattle.std.specs.Prelude.{◌≡◌, ◌≤◌, ◌+◌, ◌<◌, ◌^◌, ◌++◌, List, [], ℕ, true, All, Option, IsSome, IfOk, OnOk, IsErrOf};
 ghost use Rattle.machine_model.specs.Causes.{Rose};
 ghost use Rattle.script_read.specs.Parts.{IsPartInRange};
+ghost use Rattle.script_read.specs.Reading.{most_kept};
+ghost use Rattle.script_items.specs.Gathered.{KeepsFew};
 ghost use Rattle.script_items.specs.Groups.{Begun};
 ghost use Rattle.script_items.specs.Items.{Waits};
 ghost use Rattle.script_items.specs.Putting.{Holds, HasRoom, IsPut};
@@ -15,8 +17,9 @@ use script_read::{Part, Reader as PartReader, ScriptError};
 use std::alloc::{AllocError, Global};
 use std::marker::Model;
 
-/// A reader of the items of a script. Holds no more than one item within the limits, a text and a
-/// block: about 21 MB, and up to twice that in memory.
+/// A reader of the items of a script. It keeps what the reader of parts keeps of the input, at most
+/// 4,263,939 bytes, and of a batch under way texts of at most 16,777,216 bytes together, in at most
+/// 1,000 items.
 #[derive(Drop)]
 pub struct Reader {
     parts: PartReader,
@@ -26,7 +29,7 @@ pub struct Reader {
 
 impl Model for Reader {
     ghost use Rattle.std.specs.Prelude.{Option, ◌≤◌, ◌^◌};
-    ghost use Rattle.script_read.specs.Reading.{taken};
+    ghost use Rattle.script_read.specs.Reading.{taken, most_kept};
     ghost use Rattle.script_items.specs.Groups.{Begun};
     ghost use Rattle.script_items.specs.Putting.{Holds};
     ghost use Rattle.script_items.specs.Reading.{ReaderState};
@@ -35,7 +38,7 @@ impl Model for Reader {
 
     ghost view = { λ r. record { parts = r.parts; batch = r.batch } };
 
-    ghost invariant = { λ r. (taken r.parts ≤ 2 ^ 40) × ((begun : Option Begun) × Holds r.batch begun) };
+    ghost invariant = { λ r. (taken r.parts ≤ 2 ^ 40) × (r.parts.kept ≤ most_kept) × ((begun : Option Begun) × Holds r.batch begun) };
 }
 
 impl Reader {
@@ -76,6 +79,8 @@ impl Reader {
         ensures awaited { (since : List ℕ) → StandsFor self.old since → ((lefts : List (List ℕ)) × S.pulled source.old lefts source.new
             × (S.source_tells → All (IsAwaited since (S.source source.old).left) lefts)) }
         ensures bound { taken self.new ≤ 2 ^ 40 }
+        // However long the input is, few bytes of it are kept, and of a batch texts within the limit.
+        ensures kept { (self.new.parts.kept ≤ most_kept) × KeepsFew self.new.batch }
         // An item lets bytes go.
         ensures further { IfOk result (λ item. IsSome item → self.old.parts.passed < self.new.parts.passed) }
         // The end, once told, is the source's.
@@ -101,6 +106,8 @@ impl Reader {
         ensures parts { self.new.parts ≡ self.old.parts }
         ensures same { (begun : Option Begun) → Holds self.old.batch begun → Holds self.new.batch begun }
         ensures bound { taken self.new ≤ 2 ^ 40 }
+        ensures kept { self.new.parts.kept ≤ most_kept }
+        ensures few { KeepsFew self.new.batch }
     {
         reserve(&mut self.batch)
     }
@@ -111,6 +118,7 @@ impl Reader {
         requires fits { IsPartInRange part }
         ensures parts { self.new.parts ≡ self.old.parts }
         ensures put { (begun : Option Begun) → Holds self.old.batch begun → IsPut begun part result self.new.batch }
+        ensures few { KeepsFew self.new.batch }
     {
         put(alloc, &mut self.batch, part)
     }

@@ -48,7 +48,7 @@ goes-front Tells before after old new next since items g stands passed ended = r
 -- a piece is taken
 pub goes-piece : (Tells : Type 0) (before after : List ℕ) (old new next : ReaderState) (since : List ℕ) (p : Option Part) (n : ℕ) → Goes Tells before after old new since []
     → Whole p n ≡ found new → gone new.over < n → n ≤ gone new.over + length new.bytes
-    → next ≡ record { bytes = drop (n - gone new.over) new.bytes; passed = new.passed + n; ended = new.ended; over = None }
+    → next ≡ record { bytes = drop (n - gone new.over) new.bytes; passed = new.passed + n; ended = new.ended; over = None; kept = new.kept }
     → Goes Tells before after old next since (option_to_list p)
 goes-piece Tells before after old new next since p n g whole some within is =
     subst (λ h. Goes Tells before after old h since (option_to_list p)) (sym is) (record {

@@ -8,6 +8,7 @@ mod Cuts
 mod LineLemmas
 mod PassedOver
 mod LongTexts
+mod WaitLemmas
 pub mod Joins
 mod ReaderLemmas
 mod CallLemmas

@@ -80,12 +80,7 @@ stands-begun r over start items now hand is asks start_at same view =
       joined = sym (take-append-drop over.line now) ∙ ap (λ l. take over.line now ++ l) (ap (drop over.line) (sym view) ∙ drop-drop over.line start items);
     }
 
--- where more is wanted, it still is once a text is begun
-pub more-found : (old new : ReaderState) (f : First) (e : Bool) (hand : List ℕ) → f ≡ More → f ≡ first e hand → hand ≡ old.bytes → e ≡ old.ended → new.ended ≡ old.ended
-    → StandsFor new old.bytes → More ≡ found new
-more-found old new f e hand is value same told keeps stands =
-    sym is ∙ value ∙ ap (first e) same ∙ ap (λ b. first b old.bytes) (told ∙ sym keeps) ∙ found-is new old.bytes stands
-
+-- what a first line begins is found in what is held
 pub line-found : (old : ReaderState) (f : First) (e : Bool) (hand : List ℕ) → old.over ≡ None → f ≡ first e hand → hand ≡ old.bytes → e ≡ old.ended → f ≡ found old
 line-found old f e hand none value same told =
     value ∙ ap (first e) same ∙ ap (λ b. first b old.bytes) told ∙ ap (λ o. found_by old.ended o old.bytes) (sym none)

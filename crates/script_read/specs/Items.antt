@@ -20,6 +20,10 @@ most_line = 4096
 abbrev pub most_text : ℕ
 most_text = 4194304
 
+-- The most bytes that may wait for an item to be whole: a line with CR and LF, a text, and a CR behind it.
+abbrev pub most_waiting : ℕ
+most_waiting = most_line + 2 + most_text + 1
+
 -- A line without the one CR that may stand before its LF.
 abbrev pub without_cr : List ℕ → List ℕ
 without_cr line = if slice_index line (length line - 1) == 13 then take (length line - 1) line else line

@@ -5,26 +5,33 @@ use Rattle.commands.specs.declared.text.Text.TheVariants.{TooLong}
 use Rattle.commands.specs.declared.command.Command.TheVariants.{Arrive}
 use Rattle.script_read.specs.declared.part.Part.{Part}
 use Rattle.script_read.specs.Parts.{told}
-use Rattle.script_read.specs.declared.line.Meaning.TheVariants.{Arrival}
+use Rattle.script_read.specs.declared.line.Meaning.{Meaning}
+use Rattle.script_read.specs.declared.line.Meaning.TheVariants.{Skipped, Alone, Arrival, Faulty}
 use Rattle.script_read.specs.declared.first.First.{First}
 use Rattle.script_read.specs.declared.first.First.TheVariants.{Whole, Broken, More, End}
 use Rattle.script_read.specs.declared.passing.Over.{Over}
 use Rattle.script_read.specs.declared.error.ScriptError.{ScriptError}
 use Rattle.script_read.specs.declared.error.ScriptError.TheVariants as errors
 use Rattle.script_read.specs.Lines.{meaning}
-use Rattle.script_read.specs.Items.{first, Items, Waits, without_cr, short, text_end, most_text}
+use Rattle.script_read.specs.Items.{first, Items, Waits, without_cr, short, text_end, most_text, most_waiting}
 
 -- The bytes at hand, how many came before the item that they belong to, whether the end of the input was told, and a text above the limit
--- that is being passed over: its line and the part of it that is gone belong to the item too.
+-- that is being passed over: its line and the part of it that is gone belong to the item too. And how many bytes are kept in memory: those at
+-- hand, and those in front of them that are of no more use.
 pub record ReaderState : Type 0 where
   pub bytes : List ℕ
   pub passed : ℕ
   pub ended : Bool
   pub over : Option Over
+  pub kept : ℕ
+
+-- The most bytes that a reader keeps: those that may wait, and a block.
+abbrev pub most_kept : ℕ
+most_kept = most_waiting + 65536
 
 -- A reader that has taken nothing.
 abbrev pub fresh : ReaderState
-fresh = record { bytes = []; passed = 0; ended = false; over = None }
+fresh = record { bytes = []; passed = 0; ended = false; over = None; kept = 0 }
 
 -- How many bytes of an item are gone.
 abbrev pub gone : Option Over → ℕ
@@ -45,6 +52,13 @@ pub record AsksFor (over : Over) (line : List ℕ) : Type 0 where
   pub says : meaning (without_cr (take place line)) ≡ Arrival over.doc over.at over.size
   pub long : most_text < over.size
   pub partly : over.gone ≤ over.size
+
+-- A line that says this asks for no text above the limit.
+abbrev pub IsWithinText : Meaning → Type 0
+IsWithinText Skipped = Unit {0}
+IsWithinText (Alone item) = Unit {0}
+IsWithinText (Arrival doc at size) = size ≤ most_text
+IsWithinText Faulty = Unit {0}
 
 -- The bytes at hand and those gone are these since the last item: a line, a part of its text, and what is at hand.
 pub record StandsForLong (over : Over) (at_hand since : List ℕ) : Type 0 where

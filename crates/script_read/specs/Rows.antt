@@ -20,7 +20,8 @@ use Rattle.script_read.specs.declared.first.First.TheVariants.{Whole, Broken, Mo
 use Rattle.script_read.specs.Dates.{date, day_number}
 use Rattle.script_read.specs.Values.{fraction, tolerance, top_count, best_count, share_fraction, texts}
 use Rattle.script_read.specs.Lines.{meaning, kind, spanning}
-use Rattle.script_read.specs.Items.{first}
+use Rattle.script_read.specs.Items.{first, most_waiting}
+use Rattle.script_read.specs.Reading.{most_kept}
 
 -- the days before 1 March 2000 and 23 July 2007
 pub days : (day_number 1970 1 1 ≡ 0) × (day_number 2000 3 1 ≡ 11017) × (day_number 2007 7 23 ≡ 13717)
@@ -169,6 +170,10 @@ pub changes_to_come :
     × (first true (codes "share 2/1") ≡ Whole (Some no_command) 9)
 unfolding meaning is_utf8 chars encode texts
 changes_to_come = (refl, refl, refl, refl, refl, refl)
+
+-- what may wait for an item to be whole, and what a reader keeps
+pub most_bytes : (most_waiting ≡ 4198403) × (most_kept ≡ 4263939)
+most_bytes = (refl, refl)
 
 -- a batch has 1 to 1,000 items; other lines of its name are no commands
 pub batches :

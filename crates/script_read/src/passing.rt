@@ -1,6 +1,7 @@
 //! Texts above the limit, which are passed over.
-ghost use Rattle.std.specs.Prelude.{◌≡◌, ◌≤◌, ◌<◌, ◌^◌, length, take, IfOk, IfSome, Some};
-ghost use Rattle.script_read.specs.Reading.{AsksFor, IsSmall, long_piece};
+ghost use Rattle.std.specs.Prelude.{◌≡◌, ◌≤◌, ◌<◌, ◌^◌, Bool, length, take, IfOk, IfSome, Some, None};
+ghost use Rattle.script_read.specs.Items.{first, most_waiting};
+ghost use Rattle.script_read.specs.Reading.{AsksFor, IsSmall, IsWithinText, long_piece};
 
 use crate::first::{First, MOST_LINE_BYTES, line_length, short, text_end, without_cr};
 use crate::line::{Meaning, meaning_of};
@@ -26,7 +27,8 @@ pub struct Over {
 
 /// The text above the limit for which a line asks that says this and takes so many bytes.
 fn over_of(meaning: Meaning, line: u64) -> Option<Over>
-    ensures { IfSome result (λ over. (meaning ≡ Meaning.Arrival over.doc over.at over.size) × (4194304 < over.size) × (over.line ≡ line) × (over.gone ≡ 0)) }
+    ensures some { IfSome result (λ over. (meaning ≡ Meaning.Arrival over.doc over.at over.size) × (4194304 < over.size) × (over.line ≡ line) × (over.gone ≡ 0)) }
+    ensures none { result ≡ None → IsWithinText meaning }
 {
     let Meaning::Arrival { doc, at, bytes } = meaning else {
         return None;
@@ -49,6 +51,8 @@ pub(crate) fn long_text(alloc: Global, bytes: &[u8]) -> Result<Option<Over>, All
     ensures asks { IfOk result (λ o. IfSome o (λ over. AsksFor over (take over.line bytes.now))) }
     ensures start { IfOk result (λ o. IfSome o (λ over. (over.gone ≡ 0) × (over.line ≤ length bytes.now))) }
     ensures small { IfOk result IsSmall }
+    // Where it asks for none, what waits for an item to be whole is bounded.
+    ensures waits { IfOk result (λ o. o ≡ None → (ended : Bool) → first ended bytes.now ≡ First.More → length bytes.now ≤ most_waiting) }
 {
     let place = line_length(bytes);
     if place == bytes.len() {

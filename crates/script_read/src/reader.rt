@@ -1,9 +1,9 @@
 //! The reader of a script.
 ghost use Rattle.std.specs.Prelude.{◌≡◌, ◌≤◌, ◌+◌, ◌-◌, ◌<◌, ◌^◌, ◌++◌, List, [], ℕ, true, false, length, vec_len, vec_capacity, drop, All, None, Some, IsSome, IfOk, IfErr, IfSome, OnOk, OnErr, IsErrOf};
 ghost use Rattle.machine_model.specs.Causes.{Rose};
-ghost use Rattle.script_read.specs.Items.{first, Waits};
+ghost use Rattle.script_read.specs.Items.{first, Waits, most_waiting};
 ghost use Rattle.script_read.specs.Parts.{IsPartInRange};
-ghost use Rattle.script_read.specs.Reading.{ReaderState, fresh, gone, taken, found, StandsFor, Says, IsCalm, IsAwaited, IsSmall, IsWithin, IsPullError, IsMissing, rounds};
+ghost use Rattle.script_read.specs.Reading.{ReaderState, fresh, gone, taken, found, StandsFor, Says, IsCalm, IsAwaited, IsSmall, IsWithin, IsPullError, IsMissing, most_kept, rounds};
 
 use crate::error::ScriptError;
 use crate::first::{First, first_of};
@@ -19,8 +19,10 @@ pub const MOST_INPUT_BYTES: u64 = 1 << 40;
 /// The most bytes of one pull.
 pub const BLOCK_BYTES: usize = 1 << 16;
 
-/// A reader of the items of a script. Holds no more than one item within the limits and a block,
-/// about 4.3 MB, and up to twice that in memory.
+/// A reader of the items of a script. It keeps at most 4,263,939 bytes of the input: those that may
+/// wait for an item to be whole (a line of 4,096 bytes with CR and LF, a text of 4,194,304, and a CR
+/// behind it) and a block. Beside these it has the room for one pull, a block too; no clause says how
+/// much more room than its bytes take the buffer has.
 #[derive(Drop)]
 pub struct Reader {
     /// The bytes taken and not let go; those before `start` are of no more use.
@@ -37,13 +39,13 @@ pub struct Reader {
 
 impl Model for Reader {
     ghost use Rattle.std.specs.Prelude.{◌≡◌, ◌≤◌, ◌+◌, ◌^◌, drop, length};
-    ghost use Rattle.script_read.specs.Reading.{ReaderState, IsSmall, gone};
+    ghost use Rattle.script_read.specs.Reading.{ReaderState, IsSmall, gone, most_kept};
 
     ghost Value = { ReaderState };
 
-    ghost view = { λ r. record { bytes = drop r.start r.buffer.items; passed = r.passed; ended = r.ended; over = r.over } };
+    ghost view = { λ r. record { bytes = drop r.start r.buffer.items; passed = r.passed; ended = r.ended; over = r.over; kept = length r.buffer.items } };
 
-    ghost invariant = { λ r. (r.start ≤ length r.buffer.items) × (r.passed + gone r.over + length (drop r.start r.buffer.items) ≤ 2 ^ 40) × IsSmall r.over × (length r.block.items ≡ 65536) };
+    ghost invariant = { λ r. (r.start ≤ length r.buffer.items) × (r.passed + gone r.over + length (drop r.start r.buffer.items) ≤ 2 ^ 40) × IsSmall r.over × (length r.block.items ≡ 65536) × (length r.buffer.items ≤ most_kept) };
 }
 
 impl Reader {
@@ -90,6 +92,8 @@ impl Reader {
         ensures awaited { (since : List ℕ) → StandsFor self.old since → ((lefts : List (List ℕ)) × S.pulled source.old lefts source.new
             × (S.source_tells → All (IsAwaited since (S.source source.old).left) lefts)) }
         ensures bound { taken self.new ≤ 2 ^ 40 }
+        // However long the input is, and whatever it asks for, few bytes of it are kept.
+        ensures kept { self.new.kept ≤ most_kept }
         // What it gives is in range, for whatever bytes the reader stands.
         ensures fits { IfOk result (λ part. IfSome part IsPartInRange) }
         // An item lets bytes go.
@@ -117,7 +121,8 @@ impl Reader {
     }
 
     /// What the bytes since the last item begin with. Lets go what is at hand of a text that is
-    /// passed over, and the line of one that is from now on. Costs as `first_of`.
+    /// passed over, and the line of one that is from now on, so that few bytes wait. Costs as
+    /// `first_of`.
     fn front(&mut self, alloc: Global) -> Result<First, AllocError>
         ensures stands { (since : List ℕ) → StandsFor self.old since → StandsFor self.new since }
         ensures value { IfOk result (λ f. f ≡ found self.new) }
@@ -128,6 +133,8 @@ impl Reader {
         ensures taken { taken self.new ≡ taken self.old }
         ensures shorter { length self.new.bytes ≤ length self.old.bytes }
         ensures bound { taken self.new ≤ 2 ^ 40 }
+        ensures kept { self.new.kept ≤ most_kept }
+        ensures waits { IfOk result (λ f. f ≡ First.More → length self.new.bytes ≤ most_waiting) }
     {
         match self.over {
             Some(over) => Ok(self.front_of_text(over)),
@@ -145,6 +152,8 @@ impl Reader {
         ensures ended { self.new.ended ≡ self.old.ended }
         ensures taken { taken self.new ≡ taken self.old }
         ensures shorter { length self.new.bytes ≤ length self.old.bytes }
+        ensures kept { self.new.kept ≡ self.old.kept }
+        ensures waits { result ≡ First.More → length self.new.bytes ≤ 1 }
     {
         let over = self.let_go(over);
         long_piece(self.ended, over, self.at_hand())
@@ -160,6 +169,9 @@ impl Reader {
         ensures ended { self.new.ended ≡ self.old.ended }
         ensures taken { taken self.new ≡ taken self.old }
         ensures shorter { length self.new.bytes ≤ length self.old.bytes }
+        ensures kept { self.new.kept ≡ self.old.kept }
+        // While more of the text is to come, nothing is at hand.
+        ensures rest { result.gone < result.size → length self.new.bytes ≡ 0 }
     {
         let n = (self.at_hand().len() as u64).min(over.size - over.gone);
         let over = Over {
@@ -184,40 +196,43 @@ impl Reader {
         ensures ended { self.new.ended ≡ self.old.ended }
         ensures taken { taken self.new ≡ taken self.old }
         ensures shorter { length self.new.bytes ≤ length self.old.bytes }
+        ensures kept { self.new.kept ≡ self.old.kept }
+        ensures waits { IfOk result (λ f. f ≡ First.More → length self.new.bytes ≤ most_waiting) }
     {
         match first_of(alloc, self.ended, self.at_hand())? {
-            First::More => {
-                self.begin_text(alloc)?;
-                Ok(First::More)
-            }
+            First::More => self.begin_text(alloc),
             first => Ok(first),
         }
     }
 
-    /// Lets the first line go where it asks for a text above the limit, which is passed over from
-    /// then on. Costs the line.
-    fn begin_text(&mut self, alloc: Global) -> Result<(), AllocError>
-        requires { self.old.over ≡ None }
+    /// The same, where no piece is whole. Lets the first line go where it asks for a text above the
+    /// limit, with what is at hand of that text, which is passed over from then on. Costs the line.
+    fn begin_text(&mut self, alloc: Global) -> Result<First, AllocError>
+        requires none { self.old.over ≡ None }
+        requires more { First.More ≡ found self.old }
         ensures stands { StandsFor self.new self.old.bytes }
+        ensures value { IfOk result (λ f. f ≡ found self.new) }
         ensures small { IsSmall self.new.over }
         ensures passed { self.new.passed ≡ self.old.passed }
         ensures ended { self.new.ended ≡ self.old.ended }
         ensures taken { taken self.new ≡ taken self.old }
         ensures shorter { length self.new.bytes ≤ length self.old.bytes }
+        ensures kept { self.new.kept ≡ self.old.kept }
+        ensures waits { IfOk result (λ f. f ≡ First.More → length self.new.bytes ≤ most_waiting) }
     {
         let Some(over) = long_text(alloc, self.at_hand())? else {
-            return Ok(());
+            return Ok(First::More);
         };
         self.start += over.line as usize;
         self.over = Some(over);
-        Ok(())
+        Ok(self.front_of_text(over))
     }
 
     /// Lets the first bytes go, those that are gone among them. Constant cost.
     fn advance(&mut self, n: usize)
         requires some { gone self.old.over ≤ n }
         requires within { n ≤ gone self.old.over + length self.old.bytes }
-        ensures { self.new ≡ record { bytes = drop (n - gone self.old.over) self.old.bytes; passed = self.old.passed + n; ended = self.old.ended; over = None } }
+        ensures { self.new ≡ record { bytes = drop (n - gone self.old.over) self.old.bytes; passed = self.old.passed + n; ended = self.old.ended; over = None; kept = self.old.kept } }
     {
         self.start += n - self.gone() as usize;
         self.passed += n as u64;
@@ -253,7 +268,8 @@ impl Reader {
     /// Takes the next block of the source, or its word that there is none. Costs the block, and the
     /// bytes before `start` and behind it once.
     fn pull<S: Source>(&mut self, source: &mut S) -> Result<(), ScriptError>
-        requires { self.old.ended ≡ false }
+        requires going { self.old.ended ≡ false }
+        requires waits { length self.old.bytes ≤ most_waiting }
         ensures only { S.only source.old source.new }
         ensures asked { (lefts : List (List ℕ)) × S.pulled source.old lefts source.new × All (λ left. left ≡ (S.source source.old).left) lefts }
         ensures rose { IsErrOf result ScriptError.Failed → Rose (S.source source.old).faults (S.source source.new).faults }
@@ -262,9 +278,10 @@ impl Reader {
         ensures passed { self.new.passed ≡ self.old.passed }
         ensures over { self.new.over ≡ self.old.over }
         ensures bound { taken self.new ≤ 2 ^ 40 }
+        ensures kept { self.new.kept ≤ most_kept }
         ensures nearer { OnOk result (rounds self.new < rounds self.old) }
         ensures end { S.source_tells → self.new.ended ≡ true → (S.source source.new).left ≡ [] }
-        ensures err { OnErr result (self.new ≡ self.old) }
+        ensures err { OnErr result (self.new ≡ record { bytes = self.old.bytes; passed = self.old.passed; ended = self.old.ended; over = self.old.over; kept = self.new.kept }) }
         ensures failed { IsErrOf result ScriptError.Failed → taken self.new < 2 ^ 40 }
         ensures spent { IsErrOf result ScriptError.Budget → taken self.new ≡ 2 ^ 40 }
         ensures why { IfErr result (λ e. IsPullError e) }
@@ -309,6 +326,7 @@ fn take_block<S: Source>(
     ensures bytes { (pulled : List ℕ) × (S.source_tells → (S.source source.old).left ≡ pulled ++ (S.source source.new).left)
         × (buffer.new.items ≡ buffer.old.items ++ pulled) × IfOk result (λ n. length pulled ≡ n) × OnErr result (pulled ≡ []) }
     ensures count { IfOk result (λ n. n ≤ most) }
+    ensures few { length buffer.new.items ≤ length buffer.old.items + most }
     ensures end { S.source_tells → IfOk result (λ n. n ≡ 0 → (S.source source.new).left ≡ []) }
     ensures why { IfErr result (λ e. IsMissing e) }
 {

@@ -1,11 +1,6 @@
 use Rattle.std.proofs.Common.{ap}
-use Rattle.script_read.proofs.ReaderLemmas.{more-found, line-found}
+use Rattle.script_read.proofs.ReaderLemmas.{line-found}
 use Rattle.script_read.proofs.reader.Reader.front_of_line.Goals as goal
-
-pub returns-in_ok-begin_text-in-More-clause-value : goal.returns-in_ok-begin_text-in-More-clause-value
-returns-in_ok-begin_text-in-More-clause-value c =
-    let begun = c.begin_text.ensures in
-    more-found c.args.self.now c.begin_text.new.self c.in_ok-first.first _ _ c.in-More.is c.in_ok-first.ensures c.at_hand.ensures.value (ap (λ h. h.ended) c.self.view_is) begun.ended begun.stands
 
 pub returns-in_default-clause-value : goal.returns-in_default-clause-value
 returns-in_default-clause-value c =
