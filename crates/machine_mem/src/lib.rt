@@ -1,9 +1,9 @@
 //! The machine in memory: the source, sink and disk on which tests run what the archive does.
 //!
 //! `MemMachine` tells all that it holds. Its calls fail where its script names them, and where it
-//! finds no memory for its record, which `starved` counts; and once a sync has failed, every later
-//! one fails. It records what each write, sync and push changed, so that a test can take any image
-//! that a stop might have left after one of them, and begin again from it.
+//! finds no memory for its record, which `starved` counts. It records what each write, sync and push
+//! changed, so that a test can take any image that a stop might have left after one of them, and begin
+//! again from it.
 //! `with_pulls_of` cuts its input into pieces.
 //! `SliceSource` is a source over bytes in memory that never fails.
 //!

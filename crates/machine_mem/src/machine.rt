@@ -21,7 +21,7 @@ use machine_model::{Area, Failed, Image, Machine};
 use std::alloc::{AllocError, Global};
 
 /// A machine in memory. It tells all that it holds, and its calls fail where its script says so,
-/// or where it finds no memory for its record. Once a sync has failed, every later one fails, too.
+/// or where it finds no memory for its record.
 #[derive(Drop)]
 pub struct MemMachine {
     pub(crate) alloc: Global,
