@@ -1,6 +1,6 @@
 -- The commands of a sample, one after another: one run of the abstract machine, which goes on where it was ended early.
-use Rattle.std.proofs.Common.{◌≡◌, ◌⊎◌, ℕ, ◌≤◌, List, [], ◌∷◌, ◌++◌, length, map, All, Option, None, Ok, Err, IsSome, refl, inl, inr, ap, subst, sym, ◌∙◌, arith, append_assoc, length-append}
-use Rattle.std.proofs.lemmas.List.{map-append}
+use Rattle.std.proofs.Common.{◌≡◌, ◌⊎◌, ℕ, ◌≤◌, List, [], ◌∷◌, ◌++◌, length, map, All, Option, Some, None, Ok, Err, IsSome, refl, inl, inr, ap, subst, sym, ◌∙◌, arith, append_assoc, length-append}
+use Rattle.std.proofs.lemmas.List.{append-nil, map-append}
 use Rattle.std.proofs.lemmas.List.Elements.{All-head, All-tail}
 use Rattle.machine_model.specs.Areas.{Bytes}
 use Rattle.machine_model.specs.States.{DiskState}
@@ -190,6 +190,22 @@ filled_at w commands rest further command error outcomes old mid new a b goes is
     (run_next w goes.done command outcomes out.outcome goes.run out.step) (subst E (sym (last_state_joins w outcomes (out.outcome ∷ []))) loads)
     (All-tail HasDocument (items.Command command) (map items.Command further) here) (fills_next w outcomes out.outcome old mid new goes.fills out.leads beside)
     (ends_at w outcomes out.outcome new b error out.ends)
+
+-- or all commands were carried out
+pub filled_whole : (w : World) (commands rest : List Command) (tally : Tally) (last : Option Verdict) (verdict : Verdict) (old now : DiskState) (archive : ArchiveState)
+    → Counts w commands rest tally last old now archive → rest ≡ [] → last ≡ Some verdict → IsFilled w.history commands (Ok (record { tally = tally; verdict = verdict })) old now archive
+filled_whole w commands rest tally last verdict old now archive counts none some =
+    let goes = counts.goes in
+    let all : commands ≡ goes.done = goes.commands_are ∙ ap (λ (l : List Command). goes.done ++ l) none ∙ append-nil goes.done in
+    let R : List Command → Type 0 = λ l. IsRun Step w (map items.Command l) counts.outcomes in
+    let L : Option Verdict → Type 0 = λ v. IsLast (replies_of counts.outcomes) v in
+    let is = subst L some counts.last_is in
+    record {
+      outcomes = counts.outcomes;
+      run = subst R (sym all) goes.run;
+      fills = goes.fills;
+      ends = (record { tally_is = counts.tally_is; front = is.0; ends = is.1 }, goes.in_step);
+    }
 
 -- a sample ends with a check
 pub sample_ends : (seed count : ℕ) → (front : List Command) × (sample_of seed count ≡ front ++ plain.Verify ∷ [])

@@ -9,7 +9,7 @@ use Rattle.sample_commands.proofs.LawLemmas.{documents, kinds}
 use Rattle.archive_state.specs.declared.verdict.Verdict.{Verdict}
 use Rattle.archive_state.specs.Worlds.{world_of}
 use Rattle.archive_sample.specs.Carrying.{ComesToCheck}
-use Rattle.archive_sample.proofs.FillLemmas.{comes_next, counts_first, counts_next, filled_at, filled_between, goes_next, sample_ends}
+use Rattle.archive_sample.proofs.FillLemmas.{comes_next, counts_first, counts_next, filled_at, filled_between, filled_whole, goes_next, sample_ends}
 use Rattle.archive_sample.proofs.filling.fill.Goals as goal
 
 pub commands-init : goal.commands-init
@@ -81,3 +81,7 @@ commands-preserved g c =
           _ _ _ c.commands.archive c.carry_out.new.archive counts next (out.outcome tells _ counts.goes.in_step (All-head HasDocument (items.Command c.in-Some.command) (map items.Command c.next_command.new.self) (subst D next was.documents))) (g.met.D.Disk.only_beside _ _ tells was.only)
           (λ replies reply is told. c.in_ok-tally.ensures.counts replies reply is told) c.verdict-last.ensures);
     }
+
+pub returns-clause-filled : goal.returns-clause-filled
+returns-clause-filled g c = λ tells h in_step.
+    filled_whole (world_of h) c.args.sample c.commands.rest c.commands.tally c.commands.last c.unwrap.result _ _ c.commands.archive (c.commands.invariant.counts tells h in_step) ?none ?some
