@@ -84,4 +84,4 @@ commands-preserved g c =
 
 pub returns-clause-filled : goal.returns-clause-filled
 returns-clause-filled g c = λ tells h in_step.
-    filled_whole (world_of h) c.args.sample c.commands.rest c.commands.tally c.commands.last c.unwrap.result _ _ c.commands.archive (c.commands.invariant.counts tells h in_step) ?none ?some
+    filled_whole (world_of h) c.args.sample c.commands.rest c.commands.tally c.commands.last c.unwrap.result _ _ c.commands.archive (c.commands.invariant.counts tells h in_step) (rw c.in_default.is at c.in_ok-command.ensures.end).0 c.unwrap.ensures
