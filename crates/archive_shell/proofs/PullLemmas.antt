@@ -151,7 +151,7 @@ ends_here old source held p (Ok (Some item)) finds = tt
 ends_here old source held p (Ok None) finds =
     let none = end-is held.parts.ended p.since finds in
     let script = reads_end p.pulled p.items p.since held (Ok None) p.reads finds in
-    (inl tt, whole_behind Done old source held p (read_so_far p.reads, End, finds) (input_by Done held.parts.ended p.pulled p.since none (λ at broken. absurd (script_unbroken p.pulled at (p.items, script.1) (rw none.0 at broken)))))
+    (inl tt, whole_behind Done old source held p (read_so_far p.reads, (End, finds)) (input_by Done held.parts.ended p.pulled p.since none (λ at broken. absurd (script_unbroken p.pulled at (p.items, script.1) (rw none.0 at broken)))))
 ends_here old source held p (Err (errors.Broken at)) finds =
     let ends = reads_end p.pulled p.items p.since held (Err (errors.Broken at)) p.reads finds in
     (inl tt, whole_behind (Script at) old source held p ends.0 (input_by (Script at) held.parts.ended p.pulled p.since ends.1 (λ place other. inl (ap Script (broken_once held.parts.ended p.pulled at place ends.1 other)))))

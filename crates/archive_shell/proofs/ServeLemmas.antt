@@ -13,7 +13,9 @@ use Rattle.machine_model.proofs.MomentLemmas.{allowed_left, goes_on_same, left_n
 use Rattle.commands.specs.declared.command.Item.{Item}
 use Rattle.page_cache.specs.Caches.{Kept}
 use Rattle.page_store.specs.Live.{AreLive}
-use Rattle.script_items.specs.Items.{Splits, Waits}
+use Rattle.script_read.specs.Items as parted
+use Rattle.script_read.specs.declared.first.First.TheVariants.{More}
+use Rattle.script_items.specs.Items.{Begins, Splits, Waits}
 use Rattle.script_items.specs.Reading.{ReaderState, IsAwaited, fresh}
 use Rattle.script_items.proofs.RunLemmas.{pulled_by_then}
 use Rattle.script_items.proofs.Splitting.{never-more}
@@ -394,6 +396,13 @@ load_completes status loads.Failed is never archive = absurd (never refl)
 load_completes status (loads.NotArchive at) is never archive = absurd (archive at refl)
 load_completes status loads.Memory is never archive = is
 
+-- where nothing was pulled there are no items and no rest
+pub nothing_split : Splits false [] [] []
+nothing_split =
+    let none : parted.Items false [] [] [] = record { pieces = []; items_are = refl; in_turn = refl } in
+    let begins : Begins false [] More = record { in_front = tt; parts = []; tail = []; in_turn = none; none_whole = refl; unfinished = tt; before = 0; place = refl; found_is = refl } in
+    (record { parts = []; in_turn = none; are = refl }, (More, begins))
+
 -- a run that ended before its input was begun
 abbrev pub not_begun : {S : Type 0} (step : S → Item → Reply → S → Type 0) (stands : S → Bytes → Type 0) (state : S) (status : Status) (old new : MachineState) → EndsEarly status → (new.source ≡ old.source) × (new.sink ≡ old.sink)
     → (((image : Bytes) → MayLeave old.disk.now image → stands state image) → Carried {R = Reply} reply_text stands state [] old.sink.shown old.disk new.disk × ((image : Bytes) → MayLeave new.disk.now image → stands state image)) → Headline step stands state status old new []
@@ -406,7 +415,7 @@ not_begun step stands state status old new early alone keeps = record {
     reached = [];
     behind = [];
     rest = [];
-    split = (record { pieces = []; items_are = refl; in_turn = refl }, tt);
+    split = nothing_split;
     input_at = input_early status false [] [] early;
     outcomes = [];
     run = tt;
