@@ -1,15 +1,20 @@
 //! Approximate lists that were worked out by hand, or by a look at all ways to cut small lists.
+ghost use Rattle.postings.specs.Lists.{IsList};
+
 use super::given::{Part, listed};
 use approx_coalesce::approximate;
 use std::alloc::Global;
 use std::process::Abort;
-use time_base::{NOW, Tolerance};
+use time_base::{NOW, Posting, Tolerance};
 
 /// A tolerance, and the list that comes of it.
 type Wanted = ((u32, u32), &'static [Part]);
 
+/// A list, and what comes of it by tolerances.
+type Row = (&'static [Part], &'static [Wanted]);
+
 /// Small lists, each with what a look at all ways to cut them gave.
-const SMALL: &[(&[Part], &[Wanted])] = &[
+const SMALL: &[Row] = &[
     (
         &[
             (1, 0, 1, 8),
@@ -270,88 +275,115 @@ const SMALL: &[(&[Part], &[Wanted])] = &[
     ),
 ];
 
-/// That each tolerance gives the list that is wanted.
+/// The list within a tolerance is approximated by this one.
+fn assert_near(
+    rt: &impl Abort,
+    alloc: Global,
+    list: &[Posting],
+    tolerance: (u32, u32),
+    near: &[Part],
+)
+    requires { IsList list.now }
+{
+    let (part, whole) = tolerance;
+    let tolerance = Tolerance::new(part, whole).expect(rt, "a tolerance");
+    let short = approximate(alloc, list, tolerance).expect(rt, "memory");
+    let wanted = listed(rt, alloc, near);
+    assert_eq!(rt; short, wanted, "within {part}/{whole}");
+}
+
+/// Each tolerance gives the list that is wanted.
 fn assert_approximated(rt: &impl Abort, alloc: Global, parts: &[Part], wanted: &[Wanted]) {
     let list = listed(rt, alloc, parts);
-    for ((part, whole), near) in wanted {
-        let tolerance = Tolerance::new(*part, *whole).expect(rt, "a tolerance");
-        let short = approximate(alloc, &list, tolerance).expect(rt, "memory");
-        assert_eq!(rt; short, listed(rt, alloc, near), "within {part}/{whole}");
+    for (tolerance, near) in wanted {
+        assert_near(rt, alloc, &list, *tolerance, near);
     }
 }
 
 /// 4, 5 and 6 times.
+const GROWING: &[Part] = &[(1, 10, 20, 4), (1, 20, 30, 5), (1, 30, 40, 6)];
+
 #[test]
 fn the_lists_of_a_growing_text(rt: HostRuntime) {
-    let alloc = rt.alloc();
-    assert_approximated(
-        &rt,
-        alloc,
-        &[(1, 10, 20, 4), (1, 20, 30, 5), (1, 30, 40, 6)],
-        &[
-            ((0, 1), &[(1, 10, 20, 4), (1, 20, 30, 5), (1, 30, 40, 6)]),
-            ((1, 4), &[(1, 10, 40, 5)]),
-            ((1, 5), &[(1, 10, 30, 4), (1, 30, 40, 5)]),
-        ],
-    );
+    let wanted: &[Wanted] = &[
+        ((0, 1), GROWING),
+        ((1, 4), &[(1, 10, 40, 5)]),
+        ((1, 5), &[(1, 10, 30, 4), (1, 30, 40, 5)]),
+    ];
+    assert_approximated(&rt, rt.alloc(), GROWING, wanted);
 }
+
+/// One frequency, and then the same document after a gap, and another one.
+const TOUCHING: &[Part] = &[
+    (1, 10, 20, 3),
+    (1, 20, NOW, 3),
+    (2, 5, 6, 3),
+    (2, 7, 8, 3),
+    (3, 8, 9, 3),
+];
+
+const JOINED: &[Part] = &[(1, 10, NOW, 3), (2, 5, 6, 3), (2, 7, 8, 3), (3, 8, 9, 3)];
 
 #[test]
 fn what_the_tolerance_0_joins(rt: HostRuntime) {
-    let alloc = rt.alloc();
-    // no posting
-    assert_approximated(&rt, alloc, &[], &[((0, 1), &[]), ((1, 2), &[])]);
-    // one frequency, and then the same document after a gap, and another one
-    let parts = [
-        (1, 10, 20, 3),
-        (1, 20, NOW, 3),
-        (2, 5, 6, 3),
-        (2, 7, 8, 3),
-        (3, 8, 9, 3),
-    ];
-    let joined = [(1, 10, NOW, 3), (2, 5, 6, 3), (2, 7, 8, 3), (3, 8, 9, 3)];
-    for (part, whole) in [(0, 1), (0, u32::MAX), (1, 4)] {
-        let list = listed(&rt, alloc, &parts);
-        let tolerance = Tolerance::new(part, whole).expect(&rt, "a tolerance");
-        let short = approximate(alloc, &list, tolerance).expect(&rt, "memory");
-        assert_eq!(rt; short, listed(&rt, alloc, &joined));
-    }
+    let wanted: &[Wanted] = &[((0, 1), JOINED), ((0, u32::MAX), JOINED), ((1, 4), JOINED)];
+    assert_approximated(&rt, rt.alloc(), TOUCHING, wanted);
+    let none: &[Wanted] = &[((0, 1), &[]), ((1, 2), &[])];
+    assert_approximated(&rt, rt.alloc(), &[], none);
 }
 
-/// Whole numbers of 32 bits, and a tolerance that is nearly 1.
+/// The highest frequency, and the highest denominator.
+const MOST: u32 = u32::MAX;
+
+/// Whole numbers of 32 bits, and tolerances that are nearly 0 and nearly 1.
+const WIDEST: &[Row] = &[
+    // 1 is near the highest frequency, and no less is near 1
+    (
+        &[(7, 0, 1, 1), (7, 1, 2, MOST)],
+        &[((MOST - 1, MOST), &[(7, 0, 2, 1)])],
+    ),
+    (
+        &[(7, 0, 1, MOST), (7, 1, 2, 1)],
+        &[((MOST - 1, MOST), &[(7, 0, 2, 1)])],
+    ),
+    (
+        &[(7, 0, 1, 2), (7, 1, 2, MOST)],
+        &[((MOST - 1, MOST), &[(7, 0, 2, 1)])],
+    ),
+    (
+        &[(7, 0, 1, MOST), (7, 1, 2, MOST)],
+        &[((0, 1), &[(7, 0, 2, MOST)])],
+    ),
+    // 2^32 - 2 is near both by 1 in 2^32 - 1 alone
+    (
+        &[(7, 0, 1, MOST - 1), (7, 1, 2, MOST)],
+        &[
+            ((0, 1), &[(7, 0, 1, MOST - 1), (7, 1, 2, MOST)]),
+            ((1, MOST), &[(7, 0, 2, MOST - 1)]),
+        ],
+    ),
+    // 2^31 is the least that is near 2^32 - 1, and what is near 2^30 is below
+    (
+        &[(7, 0, 1, 1 << 30), (7, 1, 2, MOST)],
+        &[((1, 2), &[(7, 0, 1, 1 << 29), (7, 1, 2, 1 << 31)])],
+    ),
+    (
+        &[(7, 0, 1, 1 << 31), (7, 1, 2, MOST)],
+        &[((1, 2), &[(7, 0, 2, 1 << 31)])],
+    ),
+];
+
 #[test]
 fn the_widest_frequencies_and_tolerances(rt: HostRuntime) {
-    let alloc = rt.alloc();
-    let most = u32::MAX;
-    for (tfs, (part, whole), near) in [
-        // 1 is near the highest frequency, and no less is near 1
-        ([1, most], (most - 1, most), Some(1)),
-        ([most, 1], (most - 1, most), Some(1)),
-        ([2, most], (most - 1, most), Some(1)),
-        ([most, most], (0, 1), Some(most)),
-        ([most - 1, most], (0, 1), None),
-        // 2^32 - 2 is near both
-        ([most - 1, most], (1, most), Some(most - 1)),
-        // 2^31 is the least that is near 2^32 - 1, and what is near 2^30 is below
-        ([1 << 30, most], (1, 2), None),
-        ([1 << 31, most], (1, 2), Some(1 << 31)),
-    ] {
-        let list = listed(&rt, alloc, &[(7, 0, 1, tfs[0]), (7, 1, 2, tfs[1])]);
-        let tolerance = Tolerance::new(part, whole).expect(&rt, "a tolerance");
-        let short = approximate(alloc, &list, tolerance).expect(&rt, "memory");
-        if let Some(tf) = near {
-            assert_eq!(rt; short, listed(&rt, alloc, &[(7, 0, 2, tf)]));
-        } else {
-            assert_eq!(rt; short.len(), 2, "{part}/{whole}");
-        }
+    for (parts, wanted) in WIDEST {
+        assert_approximated(&rt, rt.alloc(), parts, wanted);
     }
 }
 
 /// Each list is the only one that is longest first among all ways to cut the seconds of its documents.
 #[test]
 fn small_lists_beside_all_approximations(rt: HostRuntime) {
-    let alloc = rt.alloc();
     for (parts, wanted) in SMALL {
-        assert_approximated(&rt, alloc, parts, wanted);
+        assert_approximated(&rt, rt.alloc(), parts, wanted);
     }
 }

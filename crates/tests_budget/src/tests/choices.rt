@@ -159,109 +159,114 @@ fn chosen(rt: &impl Abort, alloc: Global, offers: &[Offer], budget: u64) -> Choi
     combine(alloc, offers, budget).expect(rt, "memory")
 }
 
-/// That a choice costs so much, is told so, and may be taken.
-fn assert_costs(rt: &impl Abort, offers: &[Offer], budget: u64, choice: &Choice, cost: u128) {
-    assert_eq!(rt; choice.picks.len(), offers.len());
-    let mut costs = 0u128;
+/// The charge and the cost of picks together, one of each offer.
+fn totals(rt: &impl Abort, offers: &[Offer], picks: &[usize]) -> Pair {
+    assert_eq!(rt; picks.len(), offers.len());
     let mut charges = 0u64;
-    for (offer, pick) in offers.iter().zip(choice.picks.iter()) {
+    let mut costs = 0u128;
+    for (offer, pick) in offers.iter().zip(picks) {
         assert!(rt; *pick <= offer.front.len());
         let point = offer.point(*pick);
-        costs = costs.saturating_add(point.cost);
         charges = charges.saturating_add(point.charge);
+        costs = costs.saturating_add(point.cost);
     }
+    (charges, costs)
+}
+
+/// The choice costs so much, is told so, and may be taken.
+fn assert_costs(rt: &impl Abort, alloc: Global, offers: &[Offer], (budget, cost): Pair) {
+    let choice = chosen(rt, alloc, offers, budget);
     assert_eq!(rt; choice.cost, cost, "within {budget}");
+    let (charges, costs) = totals(rt, offers, &choice.picks);
     assert_eq!(rt; costs, cost, "within {budget}");
     assert!(rt; charges <= budget || choice.picks.iter().all(|k| *k == 0));
 }
 
-/// That offers with these budgets cost so much.
+/// Offers with these budgets cost so much.
 fn assert_chosen(rt: &impl Abort, alloc: Global, table: &[Plain], wanted: &[Pair]) {
     let offers = offers_of(rt, alloc, table);
-    for (budget, cost) in wanted {
-        let choice = chosen(rt, alloc, &offers, *budget);
-        assert_costs(rt, &offers, *budget, &choice, *cost);
+    for pair in wanted {
+        assert_costs(rt, alloc, &offers, *pair);
     }
 }
 
 #[test]
 fn small_offers_beside_all_choices(rt: HostRuntime) {
-    let alloc = rt.alloc();
     for (table, wanted) in SMALL {
-        assert_chosen(&rt, alloc, table, wanted);
+        assert_chosen(&rt, rt.alloc(), table, wanted);
     }
 }
+
+/// Offers of one word, and budgets with the least costs.
+const ALONE: [(Plain, &[Pair]); 3] = [
+    // the whole, which may be taken whatever it is charged
+    (((u64::MAX, 9), &[]), &[(0, 9), (4096, 9)]),
+    // the point of which the charge is the budget; and those past any budget
+    (
+        ((2, 6), &[(2, 6), (3, 4), (4097, 1), (u64::MAX, 0)]),
+        &[(0, 6), (1, 6), (2, 6), (3, 4), (4, 4), (4096, 4)],
+    ),
+    // two points of one charge, and a dearer one behind
+    (
+        ((5, 50), &[(0, 40), (0, 30), (1, 45)]),
+        &[(0, 30), (4096, 30)],
+    ),
+];
 
 #[test]
 fn no_word_and_one_word(rt: HostRuntime) {
-    let alloc = rt.alloc();
-    assert_chosen(&rt, alloc, &[], &[(0, 0), (4096, 0)]);
-    // the whole, which may be taken whatever it is charged
-    assert_chosen(&rt, alloc, &[((u64::MAX, 9), &[])], &[(0, 9), (4096, 9)]);
-    // the point of which the charge is the budget; and those past any budget
-    let front = &[(2, 6), (3, 4), (4097, 1), (u64::MAX, 0)];
-    assert_chosen(
-        &rt,
-        alloc,
-        &[((2, 6), front)],
-        &[(0, 6), (1, 6), (2, 6), (3, 4), (4, 4), (4096, 4)],
-    );
-    // two points of one charge, and a dearer one behind
-    assert_chosen(
-        &rt,
-        alloc,
-        &[((5, 50), &[(0, 40), (0, 30), (1, 45)])],
-        &[(0, 30), (4096, 30)],
-    );
+    assert_chosen(&rt, rt.alloc(), &[], &[(0, 0), (4096, 0)]);
+    for (word, wanted) in &ALONE {
+        assert_chosen(&rt, rt.alloc(), &[*word], wanted);
+    }
 }
 
-/// The first word alone would spend two more units on 1 of cost less, the second on 90.
+/// Alone this word would spend two more units on 1 of cost less.
+const ONE: Plain = ((1, 10), &[(1, 10), (3, 9)]);
+
+/// This one would spend them on 90.
+const OTHER: Plain = ((1, 100), &[(1, 100), (3, 10)]);
+
 #[test]
 fn the_budget_is_not_filled_word_by_word(rt: HostRuntime) {
     let alloc = rt.alloc();
-    let one: Plain = ((1, 10), &[(1, 10), (3, 9)]);
-    let other: Plain = ((1, 100), &[(1, 100), (3, 10)]);
-    let wanted = &[(1, 110), (3, 110), (4, 20), (5, 20), (6, 19)];
-    assert_chosen(&rt, alloc, &[one, other], wanted);
-    assert_chosen(&rt, alloc, &[other, one], wanted);
+    let wanted = [(1, 110), (3, 110), (4, 20), (5, 20), (6, 19)];
+    assert_chosen(&rt, alloc, &[ONE, OTHER], &wanted);
+    assert_chosen(&rt, alloc, &[OTHER, ONE], &wanted);
     // one word twice counts twice
-    assert_chosen(&rt, alloc, &[other, other], &[(3, 200), (4, 110), (6, 20)]);
+    assert_chosen(&rt, alloc, &[OTHER, OTHER], &[(3, 200), (4, 110), (6, 20)]);
 }
+
+/// Budgets, and the least costs of sixteen words with the same offer.
+const SIXTEEN: [Pair; 10] = [
+    (0, 160),
+    (15, 160),
+    (16, 128),
+    (17, 124),
+    (20, 112),
+    (32, 64),
+    (33, 61),
+    (47, 19),
+    (48, 16),
+    (4096, 16),
+];
 
 #[test]
 fn sixteen_words(rt: HostRuntime) {
-    let alloc = rt.alloc();
     let word: Plain = ((2, 10), &[(1, 8), (2, 4), (3, 1)]);
-    assert_chosen(
-        &rt,
-        alloc,
-        &[word; 16],
-        &[
-            (0, 160),
-            (15, 160),
-            (16, 128),
-            (17, 124),
-            (20, 112),
-            (32, 64),
-            (33, 61),
-            (47, 19),
-            (48, 16),
-            (4096, 16),
-        ],
-    );
-    // the highest costs
-    let most = (1u128 << 100) - 1;
-    let points: &[Pair] = &[(1, (1 << 100) - 2)];
-    let dear: Plain = ((0, most), points);
-    let dear = offers_of(&rt, alloc, &[dear; 16]);
-    for (budget, cheaper) in [(0, 0), (16, 16), (4096, 16)] {
-        let choice = chosen(&rt, alloc, &dear, budget);
-        assert_costs(
-            &rt,
-            &dear,
-            budget,
-            &choice,
-            most.saturating_mul(16).saturating_sub(cheaper),
-        );
-    }
+    assert_chosen(&rt, rt.alloc(), &[word; 16], &SIXTEEN);
+}
+
+/// The highest cost.
+const MOST: u128 = (1 << 100) - 1;
+
+#[test]
+fn sixteen_words_of_the_highest_costs(rt: HostRuntime) {
+    let word: Plain = ((0, MOST), &[(1, MOST - 1)]);
+    let wanted = [
+        (0, 16 * MOST),
+        (16, 16 * MOST - 16),
+        (4096, 16 * MOST - 16),
+    ];
+    assert_chosen(&rt, rt.alloc(), &[word; 16], &wanted);
 }

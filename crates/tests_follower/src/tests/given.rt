@@ -8,7 +8,7 @@ use std::process::Abort;
 /// The number of an entry, and its bytes.
 pub(crate) type Plain<'a> = (u64, &'a [u8]);
 
-/// The packets of entries, one after another.
+/// The bytes of packets of entries, one after another.
 pub(crate) fn stream(rt: &impl Abort, alloc: Global, entries: &[Plain]) -> Vec<u8> {
     let mut bytes = Vec::new(alloc);
     for (number, body) in entries {
@@ -45,44 +45,50 @@ pub(crate) fn source(
         .with_pulls_of(piece)
 }
 
-/// That the reader gives these packets next, the first of them from this place of the input on;
-/// answers where the last one ends.
+/// The reader gives this packet next, from this place of the input on; answers where it ends.
+fn assert_packet(
+    rt: &impl Abort,
+    alloc: Global,
+    reader: &mut Packets,
+    source: &mut MemMachine,
+    place: u64,
+    (number, body): Plain,
+) -> u64 {
+    let answer = reader.next_packet(alloc, source).ok();
+    let packet = answer.expect(rt, "an answer").expect(rt, "a packet");
+    assert_eq!(rt; packet.at, place);
+    assert_eq!(rt; packet.number, number);
+    assert_eq!(rt; packet.body.as_slice(), body);
+    place.saturating_add(12).saturating_add(body.len() as u64)
+}
+
+/// The reader gives these packets next, the first of them from the first byte of the input on.
 pub(crate) fn assert_packets(
     rt: &impl Abort,
     alloc: Global,
     reader: &mut Packets,
     source: &mut MemMachine,
-    from: u64,
     entries: &[Plain],
-) -> u64 {
-    let mut place = from;
-    for (number, body) in entries {
-        let packet: Packet = reader
-            .next_packet(alloc, source)
-            .ok()
-            .expect(rt, "an answer")
-            .expect(rt, "a packet");
-        assert_eq!(rt; packet.at, place);
-        assert_eq!(rt; packet.number, *number);
-        assert_eq!(rt; packet.body.as_slice(), *body);
-        place = place.saturating_add(12).saturating_add(body.len() as u64);
+) {
+    let mut place = 0;
+    for entry in entries {
+        place = assert_packet(rt, alloc, reader, source, place, *entry);
     }
-    place
 }
 
-/// That the reader says so, and again.
-pub(crate) fn assert_ends(
+/// The reader gives no packet next, for this reason, or since the input has ended.
+pub(crate) fn assert_none(
     rt: &impl Abort,
     alloc: Global,
     reader: &mut Packets,
     source: &mut MemMachine,
-    error: Option<PacketError>,
+    wanted: Option<PacketError>,
 ) {
-    for _ in 0..2 {
-        let answer = reader.next_packet(alloc, source);
-        match answer {
-            Ok(packet) => assert!(rt; packet.is_none() && error.is_none()),
-            Err(why) => assert_eq!(rt; Some(why), error),
+    match reader.next_packet(alloc, source) {
+        Ok(packet) => {
+            assert!(rt; packet.is_none());
+            assert_eq!(rt; wanted, None);
         }
+        Err(why) => assert_eq!(rt; Some(why), wanted),
     }
 }

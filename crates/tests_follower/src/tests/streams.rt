@@ -1,5 +1,5 @@
 //! Streams of packets in pieces of any size.
-use super::given::{Plain, assert_ends, assert_packets, source, stream};
+use super::given::{Plain, assert_none, assert_packets, source, stream};
 use follower::{PacketError, Packets, spell};
 use std::alloc::Global;
 use std::process::Abort;
@@ -37,16 +37,29 @@ fn packets_as_bytes(rt: HostRuntime) {
     );
 }
 
+/// The stream, in pieces of so many bytes, gives these packets, and then none, for a reason or since it has
+/// ended, and again.
+fn assert_read(
+    rt: &impl Abort,
+    alloc: Global,
+    bytes: &[u8],
+    piece: usize,
+    entries: &[Plain],
+    end: Option<PacketError>,
+) {
+    let mut source = source(rt, alloc, bytes, piece, 0);
+    let mut reader = Packets::new(alloc).expect(rt, "memory");
+    assert_packets(rt, alloc, &mut reader, &mut source, entries);
+    assert_none(rt, alloc, &mut reader, &mut source, end);
+    assert_none(rt, alloc, &mut reader, &mut source, end);
+}
+
 #[test]
 fn a_stream_is_read_in_any_pieces(rt: HostRuntime) {
-    let alloc = rt.alloc();
-    let bytes = stream(&rt, alloc, ENTRIES);
-    for piece in PIECES {
-        let mut source = source(&rt, alloc, &bytes, piece, 0);
-        let mut reader = Packets::new(alloc).expect(&rt, "memory");
-        let end = assert_packets(&rt, alloc, &mut reader, &mut source, 0, ENTRIES);
-        assert_eq!(rt; end, 113, "in pieces of {piece}");
-        assert_ends(&rt, alloc, &mut reader, &mut source, None);
+    let bytes = stream(&rt, rt.alloc(), ENTRIES);
+    assert_eq!(rt; bytes.len(), 113);
+    for piece in &PIECES {
+        assert_read(&rt, rt.alloc(), &bytes, *piece, ENTRIES, None);
     }
 }
 
@@ -57,51 +70,48 @@ fn long_bodies_are_read_whole(rt: HostRuntime) {
     let long = vec![in alloc; 165; 200_000].expect(&rt, "memory");
     let entries: [Plain; 3] = [(4, &long), (5, b"short"), (6, &long[..65_524])];
     let bytes = stream(&rt, alloc, &entries);
+    assert_eq!(rt; bytes.len(), 265_565);
     for piece in [7, 4096, 65_536, 1 << 20] {
-        let mut source = source(&rt, alloc, &bytes, piece, 0);
-        let mut reader = Packets::new(alloc).expect(&rt, "memory");
-        let end = assert_packets(&rt, alloc, &mut reader, &mut source, 0, &entries);
-        assert_eq!(rt; end, 265_565);
-        assert_ends(&rt, alloc, &mut reader, &mut source, None);
+        assert_read(&rt, alloc, &bytes, piece, &entries, None);
     }
 }
 
-/// That a stream cut behind so many bytes gives so many packets, and then is bad at a place, or ends.
+/// The packets of 5 bytes and of none.
+const SHORT: [Plain; 2] = [(1, b"abcde"), (2, b"")];
+
+/// Behind which bytes their stream is cut, how many packets are whole then, and where it is bad.
+const CUTS: [(usize, usize, usize, Option<u64>); 5] = [
+    (0, 1, 0, None),
+    (1, 17, 0, Some(0)),
+    (17, 18, 1, None),
+    (18, 29, 1, Some(17)),
+    (29, 30, 2, None),
+];
+
+/// The stream, cut behind any of these bytes, gives so many of the packets, and then is bad at a place, or
+/// ends.
 fn assert_cut(
     rt: &impl Abort,
     alloc: Global,
     bytes: &[u8],
     piece: usize,
-    whole: &[Plain],
-    bad: Option<u64>,
+    (from, to, whole, bad): (usize, usize, usize, Option<u64>),
 ) {
-    let mut source = source(rt, alloc, bytes, piece, 0);
-    let mut reader = Packets::new(alloc).expect(rt, "memory");
-    let _end = assert_packets(rt, alloc, &mut reader, &mut source, 0, whole);
-    let error = bad.map(|at| PacketError::Bad { at });
-    assert_ends(rt, alloc, &mut reader, &mut source, error);
+    let end = bad.map(|at| PacketError::Bad { at });
+    let whole = &SHORT[..whole.min(SHORT.len())];
+    for cut in from..to {
+        let front = &bytes[..cut.min(bytes.len())];
+        assert_read(rt, alloc, front, piece, whole, end);
+    }
 }
 
-/// The stream of two packets, of 5 bytes and of none, cut behind each byte.
 #[test]
 fn a_packet_cut_short_is_bad_at_its_first_byte(rt: HostRuntime) {
-    let alloc = rt.alloc();
-    let entries: &[Plain] = &[(1, b"abcde"), (2, b"")];
-    let bytes = stream(&rt, alloc, entries);
+    let bytes = stream(&rt, rt.alloc(), &SHORT);
     assert_eq!(rt; bytes.len(), 29);
-    for piece in PIECES {
-        for (from, to, count, bad) in [
-            (0usize, 1usize, 0usize, None),
-            (1, 17, 0, Some(0u64)),
-            (17, 18, 1, None),
-            (18, 29, 1, Some(17)),
-            (29, 30, 2, None),
-        ] {
-            for cut in from..to {
-                let front = &bytes[..cut.min(bytes.len())];
-                let whole = &entries[..count.min(entries.len())];
-                assert_cut(&rt, alloc, front, piece, whole, bad);
-            }
+    for piece in &PIECES {
+        for cut in &CUTS {
+            assert_cut(&rt, rt.alloc(), &bytes, *piece, *cut);
         }
     }
 }
@@ -120,73 +130,69 @@ fn an_export_without_its_last_byte(rt: HostRuntime) {
     ];
     let bytes = stream(&rt, alloc, &entries);
     assert_eq!(rt; bytes.len(), 295);
-    for piece in PIECES {
-        assert_cut(&rt, alloc, &bytes, piece, &entries, None);
-        assert_cut(&rt, alloc, &bytes[..294], piece, &entries[..4], Some(102));
+    let bad = Some(PacketError::Bad { at: 102 });
+    for piece in &PIECES {
+        assert_read(&rt, alloc, &bytes, *piece, &entries, None);
+        assert_read(&rt, alloc, &bytes[..294], *piece, &entries[..4], bad);
+    }
+}
+
+/// What is no packet, behind a packet of 15 bytes.
+const NO_PACKETS: [&[u8]; 5] = [
+    // the number 0, as soon as it is there
+    b"\x00\x00\x00\x00\x00\x00\x00\x00",
+    b"\x00\x00\x00\x00\x00\x00\x00\x00\x00\x00\x00\x01v",
+    // a length of 67,108,865 bytes
+    b"\x00\x00\x00\x00\x00\x00\x00\x02\x04\x00\x00\x01abc",
+    b"\x00\x00\x00\x00\x00\x00\x00\x02\xff\xff\xff\xff",
+    // one of 67,108,864, of which bytes are missing
+    b"\x00\x00\x00\x00\x00\x00\x00\x02\x04\x00\x00\x00abc",
+];
+
+/// A packet of 15 bytes is read, and what is behind it is bad, or nothing.
+fn assert_behind(rt: &impl Abort, alloc: Global, behind: &[u8], end: Option<PacketError>) {
+    let front: [Plain; 1] = [(1, b"abc")];
+    let mut bytes = stream(rt, alloc, &front);
+    bytes.extend_from_slice(behind).expect(rt, "memory");
+    for piece in &PIECES {
+        assert_read(rt, alloc, &bytes, *piece, &front, end);
     }
 }
 
 #[test]
 fn what_is_no_packet(rt: HostRuntime) {
-    let alloc = rt.alloc();
-    let front: &[Plain] = &[(1, b"abc")];
-    for (behind, bad) in [
-        // the number 0, as soon as it is there
-        (b"\x00\x00\x00\x00\x00\x00\x00\x00".as_slice(), true),
-        (
-            b"\x00\x00\x00\x00\x00\x00\x00\x00\x00\x00\x00\x01v".as_slice(),
-            true,
-        ),
-        // a length of 67,108,865 bytes
-        (
-            b"\x00\x00\x00\x00\x00\x00\x00\x02\x04\x00\x00\x01abc".as_slice(),
-            true,
-        ),
-        (
-            b"\x00\x00\x00\x00\x00\x00\x00\x02\xff\xff\xff\xff".as_slice(),
-            true,
-        ),
-        // one of 67,108,864, of which bytes are missing
-        (
-            b"\x00\x00\x00\x00\x00\x00\x00\x02\x04\x00\x00\x00abc".as_slice(),
-            true,
-        ),
-        (b"".as_slice(), false),
-    ] {
-        let mut bytes = stream(&rt, alloc, front);
-        bytes.extend_from_slice(behind).expect(&rt, "memory");
-        for piece in PIECES {
-            let at = if bad { Some(15) } else { None };
-            assert_cut(&rt, alloc, &bytes, piece, front, at);
-        }
+    let bad = Some(PacketError::Bad { at: 15 });
+    for behind in &NO_PACKETS {
+        assert_behind(&rt, rt.alloc(), behind, bad);
     }
+    assert_behind(&rt, rt.alloc(), b"", None);
 }
 
-/// What the reader holds is answered before a pull, and a pull that fails loses nothing.
+/// What the reader holds is answered before a pull: all packets came with the first one, and the second
+/// fails.
 #[test]
 fn nothing_is_pulled_while_a_packet_stands(rt: HostRuntime) {
     let alloc = rt.alloc();
     let bytes = stream(&rt, alloc, ENTRIES);
-    let mut one = source(&rt, alloc, &bytes, 4096, 2);
+    let mut source = source(&rt, alloc, &bytes, 4096, 2);
     let mut reader = Packets::new(alloc).expect(&rt, "memory");
-    // all came with the first pull
-    let _end = assert_packets(&rt, alloc, &mut reader, &mut one, 0, ENTRIES);
-    assert!(rt;
-        matches!(
-            reader.next_packet(alloc, &mut one),
-            Err(PacketError::Failed)
-        )
-    );
-    assert_ends(&rt, alloc, &mut reader, &mut one, None);
-    // the third pull of 7 bytes fails, within the first packet of 17
-    let mut other = source(&rt, alloc, &bytes, 7, 3);
-    let mut again = Packets::new(alloc).expect(&rt, "memory");
-    assert!(rt;
-        matches!(
-            again.next_packet(alloc, &mut other),
-            Err(PacketError::Failed)
-        )
-    );
-    let _place = assert_packets(&rt, alloc, &mut again, &mut other, 0, ENTRIES);
-    assert_ends(&rt, alloc, &mut again, &mut other, None);
+    assert_packets(&rt, alloc, &mut reader, &mut source, ENTRIES);
+    let failed = Some(PacketError::Failed);
+    assert_none(&rt, alloc, &mut reader, &mut source, failed);
+    assert_none(&rt, alloc, &mut reader, &mut source, None);
+    assert_none(&rt, alloc, &mut reader, &mut source, None);
+}
+
+/// The third pull of 7 bytes fails, within the first packet of 17.
+#[test]
+fn a_pull_that_fails_loses_nothing(rt: HostRuntime) {
+    let alloc = rt.alloc();
+    let bytes = stream(&rt, alloc, ENTRIES);
+    let mut source = source(&rt, alloc, &bytes, 7, 3);
+    let mut reader = Packets::new(alloc).expect(&rt, "memory");
+    let failed = Some(PacketError::Failed);
+    assert_none(&rt, alloc, &mut reader, &mut source, failed);
+    assert_packets(&rt, alloc, &mut reader, &mut source, ENTRIES);
+    assert_none(&rt, alloc, &mut reader, &mut source, None);
+    assert_none(&rt, alloc, &mut reader, &mut source, None);
 }

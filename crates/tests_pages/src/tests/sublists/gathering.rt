@@ -88,6 +88,7 @@ fn expect_window(
 fn expect_windows(rt: &impl Abort, alloc: Global, layout: Layout) {
     let cuts = cuts(rt);
     let mut stored = make_stored(rt, alloc, layout, &cuts);
+    assert_eq!(rt; stored.machine.read_of(Area::Pages), 0);
     for window in &WINDOWS {
         expect_window(rt, alloc, &mut stored, *window);
     }
