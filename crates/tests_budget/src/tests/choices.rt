@@ -263,10 +263,6 @@ const MOST: u128 = (1 << 100) - 1;
 #[test]
 fn sixteen_words_of_the_highest_costs(rt: HostRuntime) {
     let word: Plain = ((0, MOST), &[(1, MOST - 1)]);
-    let wanted = [
-        (0, 16 * MOST),
-        (16, 16 * MOST - 16),
-        (4096, 16 * MOST - 16),
-    ];
+    let wanted = [(0, 16 * MOST), (16, 16 * MOST - 16), (4096, 16 * MOST - 16)];
     assert_chosen(&rt, rt.alloc(), &[word; 16], &wanted);
 }

@@ -114,12 +114,7 @@ const POSTING_FAULTS: [(usize, u8, u64); 5] = [
 ];
 
 /// A list with another byte at a place names this posting.
-fn expect_fault(
-    rt: &impl Abort,
-    alloc: Global,
-    list: &[u8],
-    (at, byte, named): (usize, u8, u64),
-) {
+fn expect_fault(rt: &impl Abort, alloc: Global, list: &[u8], (at, byte, named): (usize, u8, u64)) {
     let changed = altered(rt, alloc, list, at, byte);
     let read = decode_list(alloc, &changed);
     assert_eq!(rt; place(read), Some(named), "byte {at} as {byte}");
@@ -137,7 +132,11 @@ fn the_posting_at_fault_is_named(rt: HostRuntime) {
 fn expect_cut_short(rt: &impl Abort, alloc: Global, list: &[u8], bytes: usize, named: u64) {
     let mut short = Vec::from_slice(alloc, list).expect(rt, "memory");
     short.truncate(bytes);
-    assert_eq!(rt; place(decode_list(alloc, &short)), Some(named), "{bytes} bytes");
+    assert_eq!(rt;
+        place(decode_list(alloc, &short)),
+        Some(named),
+        "{bytes} bytes"
+    );
 }
 
 #[test]

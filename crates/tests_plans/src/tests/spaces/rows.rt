@@ -16,8 +16,9 @@ fn expect_plan(
     (segments, cost): (usize, u128),
 ) {
     let load = Load::new(|span: Span| span.to.saturating_sub(span.from.max(since)));
-    let (partition, least) =
-        plan(alloc, table, factor(rt, over, under), &load).expect(rt, "a plan");
+    let (partition, least) = plan(alloc, table, factor(rt, over, under), &load).expect(
+        rt, "a plan",
+    );
     assert_eq!(rt;
         partition.segments(),
         segments,
