@@ -36,4 +36,4 @@ some_rise test (c ∷ changes) h = go (test c) (some_rise test changes (rest c c
     go false up = up
 
 pub list_of-requires : goal.list_of-requires
-list_of-requires c = λ doc. some_rise (λ d. d.doc.0 == doc.0) c.args.changes.now c.requires
+list_of-requires g c = λ doc. some_rise (λ d. d.doc.0 == doc.0) c.args.changes.now c.requires
