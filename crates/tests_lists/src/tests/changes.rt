@@ -3,8 +3,7 @@ ghost use Rattle.std.specs.Prelude.{◌≡◌, ◌<◌, ◌^◌};
 ghost use Rattle.postings.specs.Lists.{EachNext};
 
 use crate::tests::given::posting;
-use std::alloc::Global;
-use std::process::Abort;
+use std::alloc::{AllocError, Global};
 use time_base::{DocId, NOW, Posting, Time};
 use version_store::Change;
 use word_lists::list_of;
@@ -21,12 +20,11 @@ fn change(doc: u32, seconds: u64, held: Option<u32>) -> Change<u32>
     }
 }
 
-/// The list of these changes, each of which comes later than the one before it, is this one.
-fn expect_list(rt: &impl Abort, alloc: Global, changes: &[Change<u32>], wanted: &[Posting])
+/// The list of these changes, each of which comes later than the one before it.
+fn list_in_order(alloc: Global, changes: &[Change<u32>]) -> Result<Vec<Posting>, AllocError>
     requires { EachNext (λ a b. a.at.seconds < b.at.seconds) changes.now }
 {
-    let list = list_of(alloc, changes).expect(rt, "memory");
-    assert_eq!(rt; list.as_slice(), wanted);
+    list_of(alloc, changes)
 }
 
 #[test]
@@ -36,7 +34,8 @@ fn versions_of_one_frequency_make_one_posting(rt: HostRuntime) {
         change(7, 20, Some(1)),
         change(7, 30, Some(1)),
     ];
-    expect_list(&rt, rt.alloc(), &changes, &[posting(7, 10, NOW, 1)]);
+    let list = list_in_order(rt.alloc(), &changes).expect(&rt, "memory");
+    assert_eq!(rt; list.as_slice(), [posting(7, 10, NOW, 1)].as_slice());
 }
 
 #[test]
@@ -46,8 +45,11 @@ fn a_tombstone_keeps_two_postings_apart(rt: HostRuntime) {
         change(7, 20, None),
         change(7, 30, Some(1)),
     ];
-    let postings = [posting(7, 10, 20, 1), posting(7, 30, NOW, 1)];
-    expect_list(&rt, rt.alloc(), &changes, &postings);
+    let list = list_in_order(rt.alloc(), &changes).expect(&rt, "memory");
+    assert_eq!(rt;
+        list.as_slice(),
+        [posting(7, 10, 20, 1), posting(7, 30, NOW, 1)].as_slice()
+    );
 }
 
 #[test]
@@ -59,12 +61,13 @@ fn a_frequency_changes_inside(rt: HostRuntime) {
         change(7, 30, Some(1)),
         change(7, 40, Some(0)),
     ];
+    let list = list_in_order(rt.alloc(), &changes).expect(&rt, "memory");
     let postings = [
         posting(7, 10, 20, 1),
         posting(7, 20, 30, 3),
         posting(7, 30, 40, 1),
     ];
-    expect_list(&rt, rt.alloc(), &changes, &postings);
+    assert_eq!(rt; list.as_slice(), postings.as_slice());
 }
 
 #[test]
@@ -76,11 +79,13 @@ fn two_documents_alternate(rt: HostRuntime) {
         change(3, 40, Some(4)),
         change(9, 50, None),
     ];
+    let list = list_in_order(rt.alloc(), &changes).expect(&rt, "memory");
     let postings = [
         posting(3, 20, 40, 1),
         posting(3, 40, NOW, 4),
         posting(9, 10, 50, 2),
     ];
-    expect_list(&rt, rt.alloc(), &changes, &postings);
-    expect_list(&rt, rt.alloc(), &[], &[]);
+    assert_eq!(rt; list.as_slice(), postings.as_slice());
+    let none = list_in_order(rt.alloc(), &[]).expect(&rt, "memory");
+    assert!(rt; none.is_empty());
 }

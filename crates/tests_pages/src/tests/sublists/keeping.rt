@@ -6,7 +6,7 @@ ghost use Rattle.page_cache.specs.Laws.{LieIn};
 ghost use Rattle.sublist_store.specs.Preparing.{extents};
 
 use super::given::{
-    BOTH, FIRST, bytes_of, cuts, docs_of, documents, expect_extents, fetch_on, gather_blocks,
+    BOTH, FIRST, bytes_of, cuts, docs_of, documents, extents_of, fetch_on, gather_blocks,
     machine_with, no_sublists, pages_of, places_of, time,
 };
 use machine_mem::MemMachine;
@@ -140,7 +140,8 @@ fn pages_that_are_written_anew_are_read_anew(rt: HostRuntime) -> Result<(), Fail
         &documents(&rt, alloc, 3, 4),
         &between,
     )?;
-    expect_extents(&rt, &late, &[(0, 18), (1, 22), (2, 18)]);
+    let lie = extents_of(&rt, alloc, &late);
+    assert_eq!(rt; lie.as_slice(), [(0, 18), (1, 22), (2, 18)].as_slice());
     read_all(&rt, alloc, &mut sublists, &mut machine, &late, 3);
     assert_eq!(rt; machine.read_of(Area::Pages), 116);
     Ok(())

@@ -3,7 +3,7 @@ use Rattle.std.proofs.Common.{arith}
 use Rattle.std.proofs.lemmas.List.Elements.{All-nil, All-cons, All-head, All-weaker, All-filter}
 use Rattle.version_store.specs.declared.change.Change.{Change}
 use Rattle.postings.specs.Lists.{EachNext}
-use Rattle.tests_lists.proofs.tests.changes.expect_list.Goals as goal
+use Rattle.tests_lists.proofs.tests.changes.list_in_order.Goals as goal
 
 -- each comes later than the one before it
 abbrev Rise : List (Change ℕ) → Type 0
@@ -36,4 +36,4 @@ some_rise test (c ∷ changes) h = go (test c) (some_rise test changes (rest c c
     go false up = up
 
 pub list_of-requires : goal.list_of-requires
-list_of-requires g c = λ doc. some_rise (λ d. d.doc.0 == doc.0) c.args.changes.now c.requires
+list_of-requires c = λ doc. some_rise (λ d. d.doc.0 == doc.0) c.args.changes.now c.requires

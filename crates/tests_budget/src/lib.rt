@@ -1,8 +1,0 @@
-//! The tests of approximate lists and of one budget for many words: of `approx_coalesce` and
-//! `shared_budget`.
-//!
-//! They stand apart since a library with tests inside is proved twice, once with them.
-#![tactic(auto)]
-
-#[cfg(test)]
-mod tests;

@@ -1,5 +1,0 @@
-//! The tests, by what they try.
-mod approximations;
-mod asked;
-mod choices;
-mod given;

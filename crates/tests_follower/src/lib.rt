@@ -1,7 +1,0 @@
-//! The tests of packets, of `follower`.
-//!
-//! They stand apart since a library with tests inside is proved twice, once with them.
-#![tactic(auto)]
-
-#[cfg(test)]
-mod tests;
