@@ -13,9 +13,9 @@ use std::alloc::{AllocError, Global};
 use time_base::{Extent, Posting};
 
 /// What gives the lists of bytes: it checks them, and remembers those that it checked, by the first page
-/// of their place. What it answers doesn't depend on what it remembers. What was checked last is remembered
-/// until other bytes are checked, however much it takes; what was put away takes at most 64 MiB, and what
-/// was used longest ago goes first.
+/// of their place. What it answers doesn't depend on what it remembers. What was checked last is remembered,
+/// however much it takes, until other bytes are checked or a place is let go. What was put away then takes
+/// at most 64 MiB together, and what was used longest ago goes first.
 #[derive(Drop)]
 pub struct Checker {
     newest: Option<Checked>,
