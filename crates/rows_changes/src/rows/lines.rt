@@ -32,7 +32,8 @@ fn a_line_to_come_is_declined_and_the_run_goes_on(rt: HostRuntime) {
     .expect(&rt, "memory");
     let rows = [Row {
         script: &script,
-        replies: b"ok 1\nno 1 Line\nno 1 Line\nno 1 Line\nno 1 Line\nno 1 Line\nno 1 Line\nno 1 Line\nno 1 Line\nhit 7 1\nend 1 read 1\n",
+        // the batch has the next line, and is one item
+        replies: b"ok 1\nno 1 Line\nno 1 Line\nno 1 Line\nno 1 Line\nno 1 Line\nno 1 Line\nno 1 Line\nhit 7 1\nend 1 read 1\n",
     }];
     expect_rows(alloc, b"", &rows).expect(&rt, "the replies");
 }
