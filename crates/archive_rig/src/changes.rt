@@ -1,11 +1,12 @@
 //! Changes, by the calls of an archive in hand.
 ghost use Rattle.std.specs.Prelude.{IsTrue, OnOk};
-ghost use Rattle.archive_core.specs.States.{Reaches};
+ghost use Rattle.archive_hand.specs.States.{Reaches};
 ghost use Rattle.machine_mem.specs.Meaning.{disk_state};
 
 use crate::machines::expect_memory;
 use crate::{RowError, make_machine};
-use archive_core::{Archive, ChangeError};
+use archive_changes::{arrive, delete};
+use archive_hand::{Archive, ChangeError};
 use archive_state::Refusal;
 use machine_mem::MemMachine;
 use std::alloc::Global;
@@ -62,8 +63,8 @@ fn call(
     ensures within { Reaches (disk_state machine.new).reach archive.new }
 {
     match change.text {
-        Some(text) => archive.arrive(alloc, machine, DocId(change.doc), at, text),
-        None => archive.delete(alloc, machine, DocId(change.doc), at),
+        Some(text) => arrive(alloc, machine, archive, DocId(change.doc), at, text),
+        None => delete(alloc, machine, archive, DocId(change.doc), at),
     }
 }
 

@@ -1,5 +1,5 @@
 //! Why a row doesn't hold.
-use archive_core::{ChangeError, LoadError};
+use archive_hand::{ChangeError, LoadError};
 use archive_shell::Status;
 use machine_mem::Tail;
 use machine_model::Failed;

@@ -1,13 +1,13 @@
 //! Machines for a row, the run over one, and what it leaves.
 ghost use Rattle.std.specs.Prelude.{◌≡◌, [], IsTrue, IfOk, OnOk};
 ghost use Rattle.machine_model.specs.Areas.{part};
-ghost use Rattle.archive_core.specs.States.{Reaches};
+ghost use Rattle.archive_hand.specs.States.{Reaches};
 ghost use Rattle.machine_mem.specs.Meaning.{disk_state, sink_state, source_state};
 ghost use Rattle.machine_mem.specs.Calls.{starved_of};
 ghost use Rattle.machine_mem.specs.Picks.{bytes_of};
 
 use crate::RowError;
-use archive_core::Archive;
+use archive_hand::Archive;
 use archive_shell::{Status, run};
 use machine_mem::{Fault, MemMachine};
 use machine_model::{Area, Disk, Image};

@@ -11,11 +11,11 @@ use Rattle.archive_state.specs.Runs.{Outcome}
 use Rattle.archive_state.specs.Stands.{EachStands}
 use Rattle.archive_state.specs.Worlds.{World, world_of}
 use Rattle.archive_state.proofs.OutcomeLemmas.{each_outcome}
-use Rattle.archive_core.specs.Changing.{KeepsBy, LeadsBy}
-use Rattle.archive_core.specs.States.{ArchiveState, AreInStep}
-use Rattle.archive_core.specs.Stored.{Store}
-use Rattle.archive_core.specs.Takes.{Ending, Replied, Starved, Faulted, Spoiled, TakesBy}
-use Rattle.archive_core.proofs.StandingLemmas.{IsStanding, in_step_by, in_step_standing, spoiled_never, stands_standing, step_standing}
+use Rattle.archive_hand.specs.Changing.{KeepsBy, LeadsBy}
+use Rattle.archive_hand.specs.States.{ArchiveState, AreInStep}
+use Rattle.archive_hand.specs.Stored.{Store}
+use Rattle.archive_hand.specs.Takes.{Ending, Replied, Starved, Faulted, Spoiled, TakesBy}
+use Rattle.archive_hand.proofs.StandingLemmas.{IsStanding, in_step_by, in_step_standing, spoiled_never, stands_standing, step_standing}
 use Rattle.archive_sample.specs.declared.error.FillError.{FillError}
 use Rattle.archive_sample.specs.declared.note.Note.{Note}
 use Rattle.archive_sample.specs.declared.note.Note.TheVariants as notes

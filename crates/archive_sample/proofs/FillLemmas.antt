@@ -22,8 +22,8 @@ use Rattle.archive_state.proofs.RunLemmas.{runs_join, last_state_joins, state_af
 use Rattle.archive_state.proofs.OutcomeLemmas.{run_on, step_loads}
 use Rattle.archive_replies.specs.Tallies.{tally_of}
 use Rattle.archive_replies.specs.declared.tally.Tally.{Tally}
-use Rattle.archive_core.specs.States.{ArchiveState, AreInStep}
-use Rattle.archive_core.proofs.StandingLemmas.{in_step_loads, in_step_stands}
+use Rattle.archive_hand.specs.States.{ArchiveState, AreInStep}
+use Rattle.archive_hand.proofs.StandingLemmas.{in_step_loads, in_step_stands}
 use Rattle.archive_sample.specs.declared.error.FillError.{FillError}
 use Rattle.archive_sample.specs.declared.error.FillError.TheVariants as errors
 use Rattle.archive_sample.specs.declared.note.Note.{Note}

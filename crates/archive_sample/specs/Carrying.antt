@@ -14,8 +14,8 @@ use Rattle.archive_state.specs.Stands.{EachStands, Stands}
 use Rattle.archive_state.specs.Worlds.{World, world_of}
 use Rattle.archive_replies.specs.Tallies.{tally_of}
 use Rattle.archive_replies.specs.declared.tally.Tally.{Tally}
-use Rattle.archive_core.specs.States.{ArchiveState, AreInStep}
-use Rattle.archive_core.specs.Takes.{Ending, Replied, Starved, Faulted, Spoiled}
+use Rattle.archive_hand.specs.States.{ArchiveState, AreInStep}
+use Rattle.archive_hand.specs.Takes.{Ending, Replied, Starved, Faulted, Spoiled}
 use Rattle.archive_sample.specs.declared.error.FillError.{FillError}
 use Rattle.archive_sample.specs.declared.error.FillError.TheVariants as errors
 use Rattle.archive_sample.specs.declared.note.Note.{Note}

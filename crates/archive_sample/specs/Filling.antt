@@ -12,7 +12,7 @@ use Rattle.archive_state.specs.Standing.{last_state}
 use Rattle.archive_state.specs.Stands.{EachStands, StandsIn}
 use Rattle.archive_state.specs.Worlds.{World, world_of}
 use Rattle.archive_replies.specs.Tallies.{tally_of}
-use Rattle.archive_core.specs.States.{ArchiveState, AreInStep}
+use Rattle.archive_hand.specs.States.{ArchiveState, AreInStep}
 use Rattle.archive_sample.specs.declared.report.Report.{Report}
 use Rattle.archive_sample.specs.declared.error.FillError.{FillError}
 use Rattle.archive_sample.specs.declared.error.FillError.TheVariants as errors

@@ -6,12 +6,14 @@ ghost use Rattle.commands.specs.declared.command.Command.TheVariants as plain;
 ghost use Rattle.commands.specs.declared.command.Item.TheVariants as items;
 ghost use Rattle.sample_commands.specs.Laws.{MayBeSampled};
 ghost use Rattle.archive_state.specs.Histories.{History};
-ghost use Rattle.archive_core.specs.States.{AreInStep, Reaches};
+ghost use Rattle.archive_hand.specs.States.{AreInStep, Reaches};
 ghost use Rattle.archive_sample.specs.Carrying.{CarriesOut, verdict_of};
 
 use crate::error::FillError;
 use crate::note::{Note, of_change, of_check, of_plan, of_question};
-use archive_core::Archive;
+use archive_changes::{arrive, delete, plan};
+use archive_hand::Archive;
+use archive_questions::{find, verify};
 use commands::{Command, Text};
 use machine_model::Disk;
 use std::alloc::Global;
@@ -39,15 +41,15 @@ pub(crate) fn carry_out<D: Disk>(
             doc,
             at,
             text: Text::Bytes(content),
-        } => of_change(archive.arrive(alloc, disk, doc, at, content.as_slice())),
-        Command::Delete { doc, at } => of_change(archive.delete(alloc, disk, doc, at)),
+        } => of_change(arrive(alloc, disk, archive, doc, at, content.as_slice())),
+        Command::Delete { doc, at } => of_change(delete(alloc, disk, archive, doc, at)),
         Command::Plan {
             word,
             kind,
             fraction,
-        } => of_plan(archive.plan(alloc, disk, &word, kind, fraction)),
-        Command::Find { at, expr } => of_question(archive.find(alloc, disk, at, &expr)),
-        Command::Verify => of_check(archive.verify(alloc, disk)),
+        } => of_plan(plan(alloc, disk, archive, &word, kind, fraction)),
+        Command::Find { at, expr } => of_question(find(alloc, disk, archive, at, &expr)),
+        Command::Verify => of_check(verify(alloc, disk, archive)),
         Command::Arrive {
             text: Text::TooLong { .. },
             ..

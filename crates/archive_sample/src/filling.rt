@@ -3,14 +3,14 @@ ghost use Rattle.std.specs.Prelude.{◌≡◌, ℕ, OnOk, IsErrOf, IsTrue};
 ghost use Rattle.machine_model.specs.Causes.{Rose};
 ghost use Rattle.sample_commands.specs.Samples.{sample_of};
 ghost use Rattle.archive_state.specs.Histories.{History};
-ghost use Rattle.archive_core.specs.States.{AreInStep, Reaches};
+ghost use Rattle.archive_hand.specs.States.{AreInStep, Reaches};
 ghost use Rattle.archive_sample.specs.Filling.{IsFilled};
 
 use crate::carrying::carry_out;
 use crate::counting::{NOTHING, with_note};
 use crate::error::FillError;
 use crate::report::Report;
-use archive_core::Archive;
+use archive_hand::Archive;
 use machine_model::Disk;
 use sample_commands::Sample;
 use std::alloc::Global;

@@ -1,11 +1,14 @@
 //! What is noted of one command.
 ghost use Rattle.std.specs.Prelude.{◌≡◌, Ok, IfOk, IsOk, IsSome, IsErrOf, ◌⊎◌, OnOk};
-ghost use Rattle.archive_core.specs.Takes.{changed, found, planned, unanswered, unchanged, verified};
+ghost use Rattle.archive_changes.specs.Endings.{changed, planned, unchanged};
+ghost use Rattle.archive_questions.specs.Endings.{found, unanswered, verified};
 ghost use Rattle.archive_sample.specs.Carrying.{Tells, verdict_of};
 
 use crate::error::FillError;
+use archive_changes::PlanReport;
 use archive_check::VerifyError;
-use archive_core::{AskError, ChangeError, PlanReport};
+use archive_hand::ChangeError;
+use archive_questions::AskError;
 use archive_state::{Refusal, Verdict};
 use query_eval::Answer;
 

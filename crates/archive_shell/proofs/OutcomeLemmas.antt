@@ -23,11 +23,11 @@ use Rattle.archive_state.specs.Steps.{Reply, Accepted, Refused, Version}
 use Rattle.archive_state.proofs.RunLemmas.{one_outcome}
 use Rattle.gate_journal.specs.InStep.{IsInStep}
 use Rattle.gate_journal.specs.Spelled.{Spells}
-use Rattle.archive_core.specs.Changing.{KeepsBy, LeadsBy}
-use Rattle.archive_core.specs.States.{ArchiveState, AreInStepBy}
-use Rattle.archive_core.specs.Stored.{Store, HasSame, IsSameStore, StandsBy, StoreStep}
-use Rattle.archive_core.specs.Takes.{Ending, Replied, Starved, Faulted, Spoiled, TakesBy}
-use Rattle.archive_core.proofs.ByReadsLemmas.{keeps_leads, keeps_nowhere, stands_by, stocks_none}
+use Rattle.archive_hand.specs.Changing.{KeepsBy, LeadsBy}
+use Rattle.archive_hand.specs.States.{ArchiveState, AreInStepBy}
+use Rattle.archive_hand.specs.Stored.{Store, HasSame, IsSameStore, StandsBy, StoreStep}
+use Rattle.archive_hand.specs.Takes.{Ending, Replied, Starved, Faulted, Spoiled, TakesBy}
+use Rattle.archive_hand.proofs.ByReadsLemmas.{keeps_leads, keeps_nowhere, stands_by, stocks_none}
 use Rattle.archive_shell.specs.Outcomes.{AnswersTo, CarriesOut, IsAnswered, IsShown, Passes, Writes}
 use Rattle.archive_shell.specs.Statuses.{stop_of_halt}
 use Rattle.archive_shell.specs.declared.stop.Halt.{Halt}

@@ -15,8 +15,8 @@ use Rattle.script_items.proofs.Splitting.{broken_once, each_splits, end-is, more
 use Rattle.sublist_store.specs.declared.why.Damage.{Damage}
 use Rattle.archive_state.specs.Standing.{last_state}
 use Rattle.archive_state.proofs.RunLemmas.{last_state_joins, runs_join}
-use Rattle.archive_core.specs.States.{ArchiveState, AreInStepBy}
-use Rattle.archive_core.specs.Stored.{Store, StoreStep}
+use Rattle.archive_hand.specs.States.{ArchiveState, AreInStepBy}
+use Rattle.archive_hand.specs.Stored.{Store, StoreStep}
 use Rattle.archive_shell.specs.Causes.{IsLater, IsLeft, MayEnd}
 use Rattle.archive_shell.specs.Headline.{ArePulled, CarriesOutAll, Ends, EndsEarly, InputAt}
 use Rattle.archive_shell.specs.Outcomes.{Passes}

@@ -22,9 +22,9 @@ use Rattle.archive_state.specs.Worlds.{World, world_of}
 use Rattle.archive_state.proofs.OutcomeLemmas.{run_on}
 use Rattle.archive_state.proofs.RunLemmas.{state_after_all}
 use Rattle.archive_replies.specs.Tallies.{sample_text}
-use Rattle.archive_core.specs.Changing.{KeepsHistory}
-use Rattle.archive_core.specs.States.{ArchiveState}
-use Rattle.archive_core.proofs.StandingLemmas.{in_step_stands}
+use Rattle.archive_hand.specs.Changing.{KeepsHistory}
+use Rattle.archive_hand.specs.States.{ArchiveState}
+use Rattle.archive_hand.proofs.StandingLemmas.{in_step_stands}
 use Rattle.archive_sample.specs.Filling.{EndsFilled, Fills, IsFilled}
 use Rattle.archive_sample.specs.declared.error.FillError.{FillError}
 use Rattle.archive_sample.specs.declared.error.FillError.TheVariants as fills

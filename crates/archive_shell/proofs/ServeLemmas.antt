@@ -31,10 +31,10 @@ use Rattle.archive_state.proofs.RunLemmas.{carried_joins, last_state_joins, reop
 use Rattle.archive_state.proofs.StandsLemmas.{loaded_is_archive, spells_one_history, stands_is_archive, stands_live}
 use Rattle.gate_journal.specs.Crash.{KeepsBodies, KeepsPages}
 use Rattle.gate_journal.specs.Spelled.{EachSpells, Spells}
-use Rattle.archive_core.specs.Changing.{KeepsBy, KeepsHistory}
-use Rattle.archive_core.specs.States.{ArchiveState, AreInStepBy}
-use Rattle.archive_core.specs.Stored.{Store, EachStandsBy, Spoils, StandsBy, StoreStep}
-use Rattle.archive_core.proofs.ByReadsLemmas.{keeps_nowhere, same_as, stands_by}
+use Rattle.archive_hand.specs.Changing.{KeepsBy, KeepsHistory}
+use Rattle.archive_hand.specs.States.{ArchiveState, AreInStepBy}
+use Rattle.archive_hand.specs.Stored.{Store, EachStandsBy, Spoils, StandsBy, StoreStep}
+use Rattle.archive_hand.proofs.ByReadsLemmas.{keeps_nowhere, same_as, stands_by}
 use Rattle.archive_replay.specs.declared.error.LoadError.{LoadError}
 use Rattle.archive_replay.specs.declared.error.LoadError.TheVariants as loads
 use Rattle.sublist_store.specs.declared.why.Damage.{Damage}

@@ -21,9 +21,9 @@ use Rattle.archive_state.specs.Steps.{Reply, Step}
 use Rattle.archive_state.specs.Worlds.{World, world_of}
 use Rattle.archive_state.proofs.OutcomeLemmas.{run_on}
 use Rattle.archive_state.proofs.RunLemmas.{carried_joins, carried_on, reopens, runs_join, shown_by_joins, state_after_all, state_after_front}
-use Rattle.archive_core.specs.Changing.{KeepsHistory}
-use Rattle.archive_core.specs.Stored.{Store, StandsBy, StoreStep}
-use Rattle.archive_core.proofs.StandingLemmas.{IsStanding, spoiled_never, stands_standing, step_standing}
+use Rattle.archive_hand.specs.Changing.{KeepsHistory}
+use Rattle.archive_hand.specs.Stored.{Store, StandsBy, StoreStep}
+use Rattle.archive_hand.proofs.StandingLemmas.{IsStanding, spoiled_never, stands_standing, step_standing}
 use Rattle.archive_shell.specs.Headline.{CarriesOutAll, ComesAfterReplies, EachOf, StandingRun}
 use Rattle.archive_shell.specs.Serving.{IsShort, Serves}
 use Rattle.archive_shell.specs.declared.status.Status.{Status}

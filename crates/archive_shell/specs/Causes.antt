@@ -4,8 +4,8 @@ use Rattle.machine_model.specs.Causes.{Rose}
 use Rattle.machine_model.specs.Moments.{GoesOn}
 use Rattle.machine_model.specs.States.{DiskState, MachineState}
 use Rattle.archive_state.specs.Stands.{EachStands}
-use Rattle.archive_core.specs.Changing.{KeepsHistory}
-use Rattle.archive_core.specs.States.{ArchiveState, CacheStands}
+use Rattle.archive_hand.specs.Changing.{KeepsHistory}
+use Rattle.archive_hand.specs.States.{ArchiveState, CacheStands}
 use Rattle.archive_shell.specs.Outcomes.{CanGoOn}
 use Rattle.archive_shell.specs.declared.status.Status.{Status}
 use Rattle.archive_shell.specs.declared.status.Status.TheVariants.{Usage, NotArchive, Disk, Source, Sink, NotEmpty}

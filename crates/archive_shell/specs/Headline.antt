@@ -22,7 +22,7 @@ use Rattle.archive_state.specs.Standing.{last_state}
 use Rattle.archive_state.specs.Stands.{IsNotArchive, StandsIn, bodies_of}
 use Rattle.archive_state.specs.Steps.{Reply, Step}
 use Rattle.archive_state.specs.Worlds.{world_of}
-use Rattle.archive_core.specs.Stored.{Store, Spoils, StandsBy, StoreStep}
+use Rattle.archive_hand.specs.Stored.{Store, Spoils, StandsBy, StoreStep}
 use Rattle.sublist_store.specs.declared.why.Damage.{Damage}
 use Rattle.archive_shell.specs.declared.status.Status.{Status}
 use Rattle.archive_shell.specs.declared.status.Status.TheVariants.{Done, Usage, NotArchive, Disk, Source, Sink, Script, Damaged, Budget, NotEmpty, Memory}

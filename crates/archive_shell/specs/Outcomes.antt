@@ -8,12 +8,13 @@ use Rattle.archive_state.specs.Steps.{Reply}
 use Rattle.archive_state.specs.Replies.{reply_text}
 use Rattle.archive_state.specs.Runs.{Outcome}
 use Rattle.archive_state.specs.Standing.{Carried}
-use Rattle.archive_core.specs.Changing.{KeepsBy, LeadsBy}
-use Rattle.archive_core.specs.States.{ArchiveState, AreInStepBy, Reaches}
-use Rattle.archive_core.specs.Stored.{Store, EachStandsBy, Spoils, StandsBy, StoreStep, TellsNoEntry}
-use Rattle.archive_core.specs.Takes.{Ending, Replied, Starved, Faulted, Spoiled, answered}
-use Rattle.archive_core.specs.declared.error.AskError.{AskError}
-use Rattle.archive_core.specs.declared.error.AskError.TheVariants as asks
+use Rattle.archive_hand.specs.Changing.{KeepsBy, LeadsBy}
+use Rattle.archive_hand.specs.States.{ArchiveState, AreInStepBy, Reaches}
+use Rattle.archive_hand.specs.Stored.{Store, EachStandsBy, Spoils, StandsBy, StoreStep, TellsNoEntry}
+use Rattle.archive_hand.specs.Takes.{Ending, Replied, Starved, Faulted, Spoiled}
+use Rattle.archive_questions.specs.Endings.{answered}
+use Rattle.archive_questions.specs.declared.error.AskError.{AskError}
+use Rattle.archive_questions.specs.declared.error.AskError.TheVariants as asks
 use Rattle.sublist_store.specs.declared.why.Damage.{Damage}
 use Rattle.archive_shell.specs.declared.stop.Halt.{Halt}
 use Rattle.archive_shell.specs.declared.stop.Halt.TheVariants as halts

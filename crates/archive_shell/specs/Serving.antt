@@ -9,8 +9,8 @@ use Rattle.archive_state.specs.Steps.{Reply}
 use Rattle.archive_state.specs.Replies.{reply_text}
 use Rattle.archive_state.specs.Runs.{Outcome, IsRun, shown_by}
 use Rattle.archive_state.specs.Standing.{last_state, Carried}
-use Rattle.archive_core.specs.States.{ArchiveState, AreInStepBy}
-use Rattle.archive_core.specs.Stored.{Store, EachStandsBy, Spoils, StandsBy, StoreStep}
+use Rattle.archive_hand.specs.States.{ArchiveState, AreInStepBy}
+use Rattle.archive_hand.specs.Stored.{Store, EachStandsBy, Spoils, StandsBy, StoreStep}
 use Rattle.archive_shell.specs.Headline.{ArePulled, CarriesOutAll, ComesAfterReplies, Ran}
 use Rattle.sublist_store.specs.declared.why.Damage.{Damage}
 use Rattle.archive_shell.specs.declared.status.Status.{Status}

@@ -3,17 +3,20 @@ ghost use Rattle.std.specs.Prelude.{◌≡◌, ◌⊎◌, Ok, OnOk, IsOk, IsErrO
 ghost use Rattle.machine_model.specs.Causes.{Rose};
 ghost use Rattle.archive_state.specs.Replies.{reply_text};
 ghost use Rattle.archive_state.specs.Steps.{Found, Refused, Reply, Spanned};
-ghost use Rattle.archive_core.specs.States.{AreInStepBy};
-ghost use Rattle.archive_core.specs.Stored.{Store, TellsNoEntry};
-ghost use Rattle.archive_core.specs.Takes.{changed, planned, proposed, version_shown, unanswered, unchanged, verified};
+ghost use Rattle.archive_hand.specs.States.{AreInStepBy};
+ghost use Rattle.archive_hand.specs.Stored.{Store, TellsNoEntry};
+ghost use Rattle.archive_changes.specs.Endings.{changed, planned, unchanged};
+ghost use Rattle.archive_questions.specs.Endings.{proposed, version_shown, unanswered, verified};
 ghost use Rattle.commands.specs.declared.command.Item.TheVariants as items;
 ghost use Rattle.commands.specs.declared.command.Command.TheVariants as plain;
 ghost use Rattle.archive_shell.specs.Causes.{IsLeft};
 ghost use Rattle.archive_shell.specs.Outcomes.{CanGoOn, IsAnswered, Writes, WritesAnswer};
 
 use crate::stop::Halt;
+use archive_changes::{PlanReport, delete, plan};
 use archive_check::VerifyError;
-use archive_core::{Archive, AskError, ChangeError, PlanReport};
+use archive_hand::{Archive, ChangeError};
+use archive_questions::{AskError, between, certificate, find, propose, show, verify};
 use archive_replay::{Declined, ReadError};
 use archive_replies::{ReplyPage, Summary};
 use archive_state::{Refusal, Verdict};
@@ -46,23 +49,23 @@ pub(crate) fn answer<D: Disk>(
     match command {
         Command::Arrive { doc, at, text } => arrive(alloc, disk, archive, page, doc, at, text),
         Command::Delete { doc, at } => {
-            let result = archive.delete(alloc, disk, doc, at);
+            let result = delete(alloc, disk, archive, doc, at);
             write_change(page, result)
         }
         Command::Find { at, expr } => {
-            let result = archive.find(alloc, disk, at, &expr);
+            let result = find(alloc, disk, archive, at, &expr);
             write_answer(page, result)
         }
         Command::Between { span, expr } => {
-            let result = archive.between(alloc, disk, span, &expr);
+            let result = between(alloc, disk, archive, span, &expr);
             write_answer(page, result)
         }
         Command::Show { doc, at } => {
-            let result = archive.show(alloc, disk, doc, at);
+            let result = show(alloc, disk, archive, doc, at);
             write_version(page, result)
         }
         Command::Propose { word, fraction } => {
-            let result = archive.propose(alloc, &word, fraction);
+            let result = propose(alloc, archive, &word, fraction);
             write_proposed(page, result)
         }
         Command::Plan {
@@ -70,15 +73,15 @@ pub(crate) fn answer<D: Disk>(
             kind,
             fraction,
         } => {
-            let result = archive.plan(alloc, disk, &word, kind, fraction);
+            let result = plan(alloc, disk, archive, &word, kind, fraction);
             write_planned(page, result)
         }
         Command::Certificate { word } => {
-            let result = archive.certificate(alloc, &word);
+            let result = certificate(alloc, archive, &word);
             write_proposed(page, result)
         }
         Command::Verify => {
-            let result = archive.verify(alloc, disk);
+            let result = verify(alloc, disk, archive);
             write_verified(page, result)
         }
         Command::Format => refuse(page, Refusal::Line),
@@ -112,7 +115,7 @@ fn arrive<D: Disk>(
 {
     match text {
         Text::Bytes(content) => {
-            let result = archive.arrive(alloc, disk, doc, at, content.as_slice());
+            let result = archive_changes::arrive(alloc, disk, archive, doc, at, content.as_slice());
             write_change(page, result)
         }
         Text::TooLong { .. } => refuse(

@@ -1,14 +1,14 @@
 //! Carrying out one item and showing its reply.
 ghost use Rattle.std.specs.Prelude.{◌≡◌, ◌≤◌, [], OnOk, IsErrOf};
 ghost use Rattle.machine_model.specs.Causes.{Rose};
-ghost use Rattle.archive_core.specs.States.{AreInStepBy};
-ghost use Rattle.archive_core.specs.Stored.{Store};
+ghost use Rattle.archive_hand.specs.States.{AreInStepBy};
+ghost use Rattle.archive_hand.specs.Stored.{Store};
 ghost use Rattle.archive_shell.specs.Causes.{IsLeft};
 ghost use Rattle.archive_shell.specs.Outcomes.{CanGoOn, CarriesOut, Passes};
 
 use crate::answer::answer;
 use crate::stop::Stop;
-use archive_core::Archive;
+use archive_hand::Archive;
 use archive_replies::{ReplyPage, show};
 use commands::Item;
 use machine_model::Machine;

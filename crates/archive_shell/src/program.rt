@@ -7,7 +7,7 @@ ghost use Rattle.machine_model.specs.States.{state_by};
 ghost use Rattle.archive_state.specs.Histories.{History};
 ghost use Rattle.archive_state.specs.Legal.{IsLoadable};
 ghost use Rattle.archive_state.specs.Stands.{Stands, EachStands, IsNotArchive, bodies_of};
-ghost use Rattle.archive_core.specs.Changing.{KeepsHistory};
+ghost use Rattle.archive_hand.specs.Changing.{KeepsHistory};
 ghost use Rattle.gate_journal.specs.Crash.{KeepsBodies};
 ghost use Rattle.gate_journal.specs.Spelled.{EachSpells, Spells};
 ghost use Rattle.program_words.specs.Words.{AreNoWords, AreWords, texts};

@@ -8,13 +8,13 @@ ghost use Rattle.gate_journal.specs.Spelled.{EachSpells, Spells};
 ghost use Rattle.archive_state.specs.Histories.{History};
 ghost use Rattle.archive_state.specs.Legal.{IsLoadable};
 ghost use Rattle.archive_state.specs.Stands.{Stands, EachStands, IsNotArchive, bodies_of};
-ghost use Rattle.archive_core.specs.States.{AreInStep, Reaches};
-ghost use Rattle.archive_core.specs.Changing.{KeepsHistory};
+ghost use Rattle.archive_hand.specs.States.{AreInStep, Reaches};
+ghost use Rattle.archive_hand.specs.Changing.{KeepsHistory};
 ghost use Rattle.archive_shell.specs.Causes.{IsLoaded};
 ghost use Rattle.archive_shell.specs.Sampling.{EndsSample, Sampled};
 
 use crate::status::Status;
-use archive_core::Archive;
+use archive_hand::Archive;
 use archive_replies::{ReplyPage, show};
 use archive_sample::fill;
 use machine_model::Machine;

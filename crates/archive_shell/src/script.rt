@@ -11,7 +11,7 @@ ghost use Rattle.archive_shell.specs.Headline.{Ends, EndsSpoiled, IsComplete, Is
 use crate::desk::Desk;
 use crate::serve::serve;
 use crate::status::Status;
-use archive_core::Archive;
+use archive_hand::Archive;
 use machine_model::Machine;
 use std::alloc::Global;
 use sublist_store::Damage;

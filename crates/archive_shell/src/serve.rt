@@ -2,8 +2,8 @@
 ghost use Rattle.std.specs.Prelude.{◌≡◌, ◌<◌, ◌≤◌, ◌^◌, ◌++◌, [], List, OnOk, IfErr, IsErrOf, MatchResult, ℕ};
 ghost use Rattle.machine_model.specs.Pulls.{Pull};
 ghost use Rattle.machine_model.specs.States.{SourceState, MachineState, state_by};
-ghost use Rattle.archive_core.specs.States.{AreInStepBy};
-ghost use Rattle.archive_core.specs.Stored.{Store};
+ghost use Rattle.archive_hand.specs.States.{AreInStepBy};
+ghost use Rattle.archive_hand.specs.Stored.{Store};
 ghost use Rattle.archive_shell.specs.Headline.{Ends};
 ghost use Rattle.archive_shell.specs.Causes.{IsLater, IsLeft, MayEnd};
 ghost use Rattle.archive_shell.specs.Serving.{AreAwaited, Gives, HasPassed, HasSpoiled, Pulling, Serving, Serves, pulls_beside};
@@ -11,7 +11,7 @@ ghost use Rattle.archive_shell.specs.Outcomes.{CanGoOn};
 
 use crate::carry_out::carry_out;
 use crate::status::Status;
-use archive_core::Archive;
+use archive_hand::Archive;
 use archive_replies::ReplyPage;
 use commands::Item;
 use machine_model::Machine;

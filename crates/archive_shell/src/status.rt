@@ -3,7 +3,7 @@ ghost use Rattle.std.specs.Prelude.{◌≡◌};
 ghost use Rattle.archive_shell.specs.Statuses.{code_of, status_of_fill, status_of_load, status_of_script, status_of_stop, why_text};
 
 use crate::stop::Stop;
-use archive_core::LoadError;
+use archive_hand::LoadError;
 use archive_sample::FillError;
 use script_read::ScriptError;
 use std::fmt;

@@ -1,4 +1,4 @@
-use Rattle.archive_core.specs.States.{Reaches}
+use Rattle.archive_hand.specs.States.{Reaches}
 use Rattle.machine_mem.specs.Meaning.{disk_state}
 use Rattle.archive_rig.proofs.changes.expect_changes.Given as goal
 

@@ -4,7 +4,7 @@ use Rattle.commands.specs.declared.command.Item.TheVariants as items
 use Rattle.sample_commands.specs.Laws.{MayBeSampled}
 use Rattle.archive_state.specs.Histories.{History}
 use Rattle.archive_state.specs.Worlds.{world_of}
-use Rattle.archive_core.specs.States.{AreInStep, Reaches}
+use Rattle.archive_hand.specs.States.{AreInStep, Reaches}
 use Rattle.archive_sample.specs.Carrying.{ComesToCheck, Counts}
 use Rattle.archive_sample.proofs.filling.fill.Given as goal
 

@@ -1,7 +1,7 @@
 use Rattle.std.proofs.Common.{[], Result, Ok, Err, ap, sym, ◌∙◌}
 use Rattle.machine_model.specs.States.{SinkState}
-use Rattle.archive_core.specs.States.{AreInStepBy}
-use Rattle.archive_core.specs.Stored.{Store}
+use Rattle.archive_hand.specs.States.{AreInStepBy}
+use Rattle.archive_hand.specs.Stored.{Store}
 use Rattle.archive_shell.specs.Outcomes.{CarriesOut}
 use Rattle.archive_shell.specs.declared.stop.Stop.{Stop}
 use Rattle.archive_shell.specs.declared.stop.Stop.TheVariants.{Sink}

@@ -6,7 +6,7 @@ use Rattle.program_words.specs.declared.task.Task.TheVariants as tasks
 use Rattle.archive_state.specs.Stands.{StandsIn}
 use Rattle.archive_state.specs.Steps.{Step}
 use Rattle.archive_state.specs.Worlds.{world_of}
-use Rattle.archive_core.specs.Stored.{StandsBy, StoreStep}
+use Rattle.archive_hand.specs.Stored.{StandsBy, StoreStep}
 use Rattle.archive_shell.specs.Headline.{CarriesOutAll, store_of}
 use Rattle.archive_shell.specs.declared.status.Status.TheVariants.{Memory}
 use Rattle.archive_shell.proofs.PullLemmas.{not_pulled}

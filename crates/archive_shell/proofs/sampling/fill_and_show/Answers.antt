@@ -2,7 +2,7 @@ use Rattle.std.proofs.Common.{◌≡◌, ◌++◌, [], Ok, Err, sym, subst, ◌�
 use Rattle.machine_model.specs.States.{DiskState}
 use Rattle.sample_commands.specs.Samples.{sample_of}
 use Rattle.sublist_store.specs.declared.why.Damage.{Damage}
-use Rattle.archive_core.specs.States.{AreInStep}
+use Rattle.archive_hand.specs.States.{AreInStep}
 use Rattle.archive_sample.specs.Filling.{IsFilled}
 use Rattle.archive_shell.specs.Causes.{IsLoaded}
 use Rattle.archive_shell.specs.Sampling.{Sampled}

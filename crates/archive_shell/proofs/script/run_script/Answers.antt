@@ -6,7 +6,7 @@ use Rattle.archive_state.specs.Stands.{StandsIn}
 use Rattle.archive_state.specs.Steps.{Step}
 use Rattle.archive_state.specs.Worlds.{world_of}
 use Rattle.archive_state.proofs.StandsLemmas.{not_archive_once}
-use Rattle.archive_core.specs.Stored.{StandsBy, StoreStep}
+use Rattle.archive_hand.specs.Stored.{StandsBy, StoreStep}
 use Rattle.archive_shell.specs.Causes.{MayEnd}
 use Rattle.archive_shell.specs.Headline.{LoadsAs, store_of}
 use Rattle.archive_shell.specs.Serving.{Serves}

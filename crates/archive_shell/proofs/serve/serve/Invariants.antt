@@ -1,8 +1,8 @@
 use Rattle.std.proofs.Common.{◌-◌, ◌^◌, List, []}
 use Rattle.machine_model.specs.Pulls.{Pull}
 use Rattle.machine_model.specs.States.{SourceState, state_by}
-use Rattle.archive_core.specs.States.{AreInStepBy}
-use Rattle.archive_core.specs.Stored.{Store}
+use Rattle.archive_hand.specs.States.{AreInStepBy}
+use Rattle.archive_hand.specs.Stored.{Store}
 use Rattle.archive_shell.specs.Causes.{IsLater, IsLeft}
 use Rattle.archive_shell.specs.Serving.{HasPassed, Pulling, Serving}
 use Rattle.archive_shell.proofs.serve.serve.Given as goal

@@ -3,8 +3,8 @@ use Rattle.std.proofs.lemmas.List.{append-nil}
 use Rattle.machine_model.specs.Pulls.{Pull}
 use Rattle.machine_model.specs.States.{MachineState, SourceState, state_by}
 use Rattle.archive_state.specs.Standing.{last_state}
-use Rattle.archive_core.specs.States.{AreInStepBy}
-use Rattle.archive_core.specs.Stored.{Store}
+use Rattle.archive_hand.specs.States.{AreInStepBy}
+use Rattle.archive_hand.specs.Stored.{Store}
 use Rattle.archive_shell.specs.Serving.{Gives, Pulling, Serving, pulls_beside}
 use Rattle.archive_shell.proofs.PullLemmas.{early_behind, ends_by, passes_one, pulling_next, spoils_one, stops_early}
 use Rattle.archive_shell.proofs.ServeLemmas.{ended_by, serving_next, stopped}

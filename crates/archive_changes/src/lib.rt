@@ -1,0 +1,13 @@
+//! The changes of an archive in hand: a version arrives, a document ends, a plan is stored.
+//!
+//! Each change leaves images that stand for the history before it or for that and the new entry, and
+//! after Ok for the latter alone; a refused one changes nothing (`specs/After.antt`). What is
+//! refused, and for which cause, is the history's to say (`specs/Adding.antt`).
+#![tactic(auto)]
+
+mod changing;
+mod planning;
+
+pub use changing::{arrive, delete};
+pub use plan_shelf::PlanReport;
+pub use planning::plan;

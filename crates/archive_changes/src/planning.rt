@@ -1,0 +1,122 @@
+//! Plans that are stored.
+ghost use Rattle.std.specs.Prelude.{◌≡◌, ◌<◌, ◌≤◌, ◌^◌, length, All, Some, IsTrue, IfOk, IsErrOf};
+ghost use Rattle.archive_state.specs.Histories.{History};
+ghost use Rattle.archive_state.specs.Steps.{Planned, Plans, Refused, spelled_key};
+ghost use Rattle.archive_hand.specs.Storing.{IsDraft};
+ghost use Rattle.archive_hand.specs.States.{StandsFor, AreInStepBy, Reaches};
+ghost use Rattle.archive_hand.specs.Stored.{Store};
+ghost use Rattle.archive_hand.specs.Takes.{TakesBy};
+ghost use Rattle.archive_changes.specs.Endings.{planned};
+ghost use Rattle.plan_shelf.specs.Readying.{summary_of};
+ghost use Rattle.archive_changes.specs.After.{AfterChange};
+ghost use Rattle.commands.specs.declared.command.Command.TheVariants as commands;
+ghost use Rattle.commands.specs.declared.command.Item.TheVariants as items;
+ghost use Rattle.stored_plans.specs.Plans.{IsCostOf, IsGoodPlan, plan_space};
+ghost use Rattle.fold_tokens.specs.Terms.{one_term as term_of};
+ghost use Rattle.archive_state.specs.Planning.{OfPhrase, OfWidth, IsKnown};
+
+use archive_hand::{Archive, ChangeError, Sealed};
+use archive_replay::Declined;
+use archive_state::Refusal;
+use commands::{Kind, Phrase};
+use machine_model::Disk;
+use plan_choice::{Choice, ChoiceError, choose};
+use plan_shelf::{Draft, PlanReport};
+use std::alloc::Global;
+use time_base::Fraction;
+
+/// Stores a plan of a word's list up to the last time, in the place of the word's plan if it has one.
+/// One that keeps to a guarantee takes least space of those in which each read costs at most the
+/// factor times what is alive. One under a space bound takes at most the factor times the list, and
+/// its reads are expected to cost least, where each second is as likely to be asked for, or each
+/// second from a time on. At `Ok` it is durable: each image that a stop may leave has it, with its
+/// sublists. All memory is taken before the first write.
+///
+/// `Refused`: for the first cause in order, the phrase isn't one term, no text has the word, it has no
+/// posting before the last time, its list has too many boundaries for a guarantee, or Pages or the
+/// journal are full. `Failed`, `Memory`: the archive is spent, and keeps what it had.
+/// Costs `n log n` in the word's postings; what `choose` does; what `Sublists::prepare` does; the
+/// sublists' bytes, hashed and written once; a sync; and two synced writes of the entry.
+pub fn plan<D: Disk>(
+    alloc: Global,
+    disk: &mut D,
+    archive: &mut Archive,
+    word: &Phrase,
+    kind: Kind,
+    factor: Fraction,
+) -> Result<PlanReport, ChangeError>
+    requires live { IsTrue archive.old.live }
+    requires within { Reaches (D.disk disk.old).reach archive.old }
+    ensures only { D.Disk.only disk.old disk.new }
+    ensures after { AfterChange D.disk_tells (disk.new ≡ disk.old) (disk.new ≡ disk.old) result (D.disk disk.old) (D.disk disk.new) archive.old archive.new }
+    // On any disk, whatever history it stood for: a refusal has its cause there, and comes wherever there is one (but for want of memory); at Ok
+    // the archive stands for a history with a plan that may be stored.
+    ensures refused { (h : History) → StandsFor archive.old h → (why : Refusal) → IsErrOf result (ChangeError.Refused why) → Plans h word.now kind factor (Refused why) h × StandsFor archive.new h }
+    ensures stores { (h : History) → StandsFor archive.old h → IfOk result (λ r. (next : History) × (Plans h word.now kind factor (Planned (summary_of r)) next × StandsFor archive.new next)) }
+    // In step by what reads give, whatever lies in Pages, it is a step; each image left since stands for what was before it or after it.
+    ensures by_reads { D.disk_tells → (s : Store) → AreInStepBy (D.disk disk.old) archive.old s → TakesBy s (items.Command (commands.Plan word.now kind factor)) (planned result) (D.disk disk.old) (D.disk disk.new) archive.new }
+{
+    match draft(alloc, archive, word, kind, factor) {
+        Ok(draft) => archive.store(alloc, disk, draft),
+        Err(declined) => Err(archive.give_up(declined)),
+    }
+}
+
+/// A plan of the list of a phrase's word up to the last time that is what its kind promises, or why
+/// there is none to store.
+fn draft(
+    alloc: Global,
+    archive: &Archive,
+    word: &Phrase,
+    kind: Kind,
+    factor: Fraction,
+) -> Result<Draft, Declined>
+    ensures refused { (h : History) → StandsFor archive.now h → (why : Refusal) → IsErrOf result (Declined.Refused why) →
+        OfPhrase kind h (spelled_key (term_of word.now)) (λ because. why ≡ because) (λ word list. ⊥) }
+    ensures known { (h : History) → StandsFor archive.now h → IfOk result (λ d. IsKnown h d.word) }
+    ensures term { IfOk result (λ d. spelled_key (term_of word.now) ≡ Some d.word) }
+    ensures kind { IfOk result (λ d. d.kind ≡ kind) }
+    ensures factor { IfOk result (λ d. d.factor ≡ factor) }
+    ensures drafted { (h : History) → StandsFor archive.now h → IfOk result (λ d. IsDraft h d) }
+{
+    let sealed = archive.sealed(alloc, word)?;
+    draft_of(alloc, sealed, kind, factor)
+}
+
+/// A plan of a word's list up to the last time that is what its kind promises.
+fn draft_of(alloc: Global, sealed: Sealed, kind: Kind, factor: Fraction) -> Result<Draft, Declined>
+    requires some { 0 < length sealed.list.items }
+    requires few { length sealed.list.items < 2 ^ 38 }
+    requires early { All (λ p. p.span.to ≤ sealed.horizon.seconds) sealed.list.items }
+    ensures refused { (why : Refusal) → IsErrOf result (Declined.Refused why) → OfWidth kind sealed.horizon.seconds sealed.list.items (λ because. why ≡ because) ⊥ }
+    ensures word { IfOk result (λ d. d.word ≡ sealed.word) }
+    ensures kind { IfOk result (λ d. d.kind ≡ kind) }
+    ensures factor { IfOk result (λ d. d.factor ≡ factor) }
+    ensures list { IfOk result (λ d. d.list.items ≡ sealed.list.items) }
+    ensures horizon { IfOk result (λ d. d.horizon ≡ sealed.horizon) }
+    ensures good { IfOk result (λ d. IsGoodPlan kind sealed.list.items factor d.cuts.items sealed.horizon.seconds) }
+    ensures space { IfOk result (λ d. d.space ≡ plan_space sealed.list.items d.cuts.items sealed.horizon.seconds) }
+    ensures cost { IfOk result (λ d. IsCostOf kind sealed.list.items d.cuts.items sealed.horizon.seconds d.cost) }
+{
+    let Sealed {
+        word,
+        list,
+        horizon,
+    } = sealed;
+    match choose(alloc, &list, kind, factor, horizon) {
+        Ok(Choice { cuts, space, cost }) => Ok(Draft {
+            word,
+            kind,
+            factor,
+            list,
+            horizon,
+            cuts,
+            space,
+            cost,
+        }),
+        Err(ChoiceError::TooWide { boundaries }) => {
+            Err(Declined::Refused(Refusal::TooWide { boundaries }))
+        }
+        Err(ChoiceError::Memory) => Err(Declined::Memory),
+    }
+}

@@ -1,5 +1,0 @@
-use Rattle.archive_core.proofs.StandingLemmas.{in_step_stands}
-use Rattle.archive_core.proofs.laws.an_archive_in_step_stands.Goals as goal
-
-pub returns : goal.returns
-returns c = in_step_stands

@@ -1,0 +1,101 @@
+-- What an archive stands for with an entry more, and what stays so on its disk.
+use Rattle.std.proofs.Common.{◌≡◌, ◌⊎◌, ℕ, ◌+◌, ◌-◌, ◌≤◌, List, [], ◌∷◌, ◌++◌, length, All, inl, refl, ap, subst, sym, ◌∙◌, arith}
+use Rattle.std.proofs.lemmas.List.{length_push}
+use Rattle.std.proofs.lemmas.List.Elements.{All-weaker}
+use Rattle.machine_model.specs.Areas.{Bytes}
+use Rattle.time_base.specs.declared.extent.Extent.{Extent}
+use Rattle.page_store.specs.Live.{IsInside}
+use Rattle.machine_model.specs.States.{DiskState, moment}
+use Rattle.machine_model.specs.Images.{MayLeave}
+use Rattle.machine_model.proofs.MomentLemmas.{goes_on_same, left_now, allowed_left}
+use Rattle.version_store.specs.declared.change.Change.{Change}
+use Rattle.gate_journal.specs.Spelled.{Spells}
+use Rattle.gate_journal.specs.InStep.{IsInStep}
+use Rattle.gate_journal.specs.Crash.{Appends, KeepsPages}
+use Rattle.gate_journal.proofs.InStepLemmas.{step_spells}
+use Rattle.machine_model.specs.declared.range.Range.{Range}
+use Rattle.page_store.specs.Crash.{ChangesOnly}
+use Rattle.record_codec.specs.Spelling.{spelling}
+use Rattle.record_codec.specs.declared.entry.Entry.{Entry}
+use Rattle.record_codec.specs.declared.entry.Entry.TheVariants.{Arrive, Delete, Planned}
+use Rattle.archive_state.specs.Histories.{History, changes, end_of}
+use Rattle.archive_state.specs.Plans.{live_plans}
+use Rattle.archive_state.proofs.HoldLemmas.{same_live}
+use Rattle.archive_state.specs.Stands.{bodies_of}
+use Rattle.archive_state.proofs.HistoryLemmas.{bodies_of-push, end_of-push, end_of-least, loadable-push, entry_loads}
+use Rattle.archive_hand.specs.States.{ArchiveState, StandsFor}
+use Rattle.plan_shelf.specs.Shelves.{ShelfState}
+use Rattle.version_index.specs.Indexes.{IsPreparedFor}
+use Rattle.version_index.specs.declared.prepared.Prepared.{Prepared as Words}
+use Rattle.archive_hand.specs.Adding.{IsMore}
+use Rattle.archive_replay.specs.Entries.{IsNext, IsHeld, Makes, document_of, text_of}
+use Rattle.archive_replay.proofs.IndexLemmas.{change_comes}
+use Rattle.archive_replay.proofs.PlaceLemmas.{placed_more}
+use Rattle.machine_model.specs.Calls.{OnlyReads}
+
+-- ---- an entry more
+
+makes_document : (e : Entry) (x : Change ℕ) → Makes e x → document_of e ≡ x.doc
+makes_document (Arrive doc at text) x makes = makes.0
+makes_document (Delete doc at) x makes = makes.0
+makes_document (Planned plan) x makes = absurd makes
+
+pub stands_more : (a b : ArchiveState) (h : History) (e : Entry) (x : Change ℕ) (body : List ℕ) (words : Words)
+    → StandsFor a h → IsNext h e x body → IsPreparedFor a.index (document_of e) (text_of e) words → IsMore a b x body words → StandsFor b (h ++ e ∷ [])
+stands_more a b h e x body words stands next prepared more =
+    let least : 17 ≤ end_of h = omega (arith, end_of-least h) in
+    let gate : ℕ = end_of h - 1 in
+    let held : IsHeld (gate + 18) x.held more.held = subst (λ (n : ℕ). IsHeld n x.held more.held) (omega (arith, least, stands.end_is)) more.held_is in
+    let placed = placed_more h a.changes e x more.held gate stands.changes_are (omega (arith, least, stands.end_is)) next.makes held in
+    let comes = change_comes h e x stands.loadable next.legal.allowed next.makes in
+    let live : live_plans (h ++ e ∷ []) ≡ live_plans h = same_live h e comes.0 in
+    record {
+      loadable = loadable-push h e stands.loadable (entry_loads h e next.legal);
+      end_is = omega (arith, more.end_is, stands.end_is, end_of-push h e, ap length next.spelled);
+      length_is = omega (arith, more.length_is, stands.length_is, length_push h e);
+      changes_are = rw more.changes_are placed;
+      index_is = rw comes.1 (more.indexed (changes h) x.doc (text_of e) stands.index_is (rw (makes_document e x next.makes) at prepared) comes.2);
+      plans_are = ap (λ (s : ShelfState). s.plans) more.shelf_is ∙ stands.plans_are ∙ sym live;
+      pages_are = rw (more.shelf_is, live) stands.pages_are;
+    }
+
+-- the bodies of a history with an entry more
+pub bodies_more : (h : History) (e : Entry) (body : List ℕ) → body ≡ spelling e → bodies_of h ++ body ∷ [] ≡ bodies_of (h ++ e ∷ [])
+bodies_more h e body same = ap (λ (l : List ℕ). bodies_of h ++ l ∷ []) same ∙ sym (bodies_of-push h e)
+
+-- ---- no call is made
+
+pub pages_nowhere : (d : DiskState) → KeepsPages d d
+pages_nowhere d = record {
+  goes_on = goes_on_same d;
+  images = left_now d (λ image beside. (was : Bytes) × MayLeave d.now was × (image.pages ≡ was.pages) × (beside ≡ d.now.beside)) (λ image allowed. (image, allowed, refl, refl));
+}
+
+pub appends_nowhere : (d : DiskState) (end : ℕ) (bodies : List (List ℕ)) (body : List ℕ) → IsInStep d end bodies → Appends bodies body d d
+appends_nowhere d end bodies body step = record {
+  goes_on = goes_on_same d;
+  images = left_now d (λ image beside. (Spells image.journal bodies ⊎ Spells image.journal (bodies ++ body ∷ [])) × (beside ≡ d.now.beside)) (λ image allowed. (inl (step_spells d end bodies step image allowed), refl));
+}
+
+-- ---- over writes to pages, reads, and a disk that reaches further
+
+-- the journal stays in step over writes to pages
+pub step_stays : (ranges : List Range) (old new : DiskState) (end : ℕ) (bodies : List (List ℕ)) → ChangesOnly ranges old new → IsInStep old end bodies → IsInStep new end bodies
+step_stays ranges old new end bodies changes step = record {
+  gate = step.gate;
+  shut = step.shut;
+  fit = step.fit;
+  end_is = step.end_is;
+  images = λ image allowed.
+      let was = changes.images image new.now.beside (allowed_left new (moment old) image allowed) in
+      let is = step.images was.0 was.1 in
+      (is.0, was.2 ∙ is.1);
+}
+
+pub step_reads : (b c : DiskState) (end : ℕ) (bodies : List (List ℕ)) → IsInStep b end bodies → OnlyReads b c → IsInStep c end bodies
+step_reads b c end bodies step same =
+    subst (λ (d : DiskState). IsInStep d end bodies) (sym same) (record { gate = step.gate; shut = step.shut; fit = step.fit; end_is = step.end_is; images = step.images })
+
+-- a disk that reached as far as an archive reaches on as far, where it reaches further and the archive has the same plans
+pub inside_on : (n m : ℕ) (es : List Extent) → n ≤ m → All (IsInside n) es → All (IsInside m) es
+inside_on n m es more inside = All-weaker (IsInside n) (IsInside m) (λ e is. omega (arith, is, more)) es inside

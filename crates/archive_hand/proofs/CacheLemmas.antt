@@ -1,0 +1,40 @@
+-- An archive of which the cache alone changes, and what is kept is what reads give.
+use Rattle.std.proofs.Common.{◌≡◌, ℕ, List, [], ◌++◌, get_or, All, subst, sym}
+use Rattle.std.proofs.lemmas.List.Elements.{All-nil}
+use Rattle.machine_model.specs.States.{DiskState}
+use Rattle.page_cache.specs.Caches.{Kept, IsHeld, StandsFor as IsCacheOf}
+use Rattle.page_cache.specs.Laws.{LieIn}
+use Rattle.page_store.specs.Runs.{IsTaken}
+use Rattle.page_store.specs.Taken.{PagesState, HasTaken}
+use Rattle.page_store.proofs.StayLemmas.{apart_parts}
+use Rattle.time_base.specs.declared.extent.Extent.{Extent}
+use Rattle.archive_state.specs.Histories.{History}
+use Rattle.archive_hand.specs.States.{ArchiveState, StandsFor, CacheStands, IsSameButCache}
+
+-- it stands for the history for which it stood
+pub stands_but_cache : (a b : ArchiveState) (h : History) → IsSameButCache a b → StandsFor a h → StandsFor b h
+stands_but_cache a b h same stands =
+    let S : ArchiveState → Type 0 = λ x. StandsFor x h in
+    subst S (sym same) (record {
+      loadable = stands.loadable;
+      end_is = stands.end_is;
+      length_is = stands.length_is;
+      changes_are = stands.changes_are;
+      index_is = stands.index_is;
+      plans_are = stands.plans_are;
+      pages_are = stands.pages_are;
+    })
+
+-- where the cache and Pages are as they were
+pub cached_on : (was now : List Kept) (old new : DiskState) → now ≡ was → new.holds.pages ≡ old.holds.pages → IsCacheOf was old.holds.pages → IsCacheOf now new.holds.pages
+cached_on was now old new cache pages cached =
+    let P : List ℕ → Type 0 = λ ps. IsCacheOf now ps in
+    let C : List Kept → Type 0 = λ ks. IsCacheOf ks old.holds.pages in
+    subst P (sym pages) (subst C (sym cache) cached)
+
+pub none_cached : (d : DiskState) (a : ArchiveState) → a.shelf.cache ≡ [] → CacheStands d a
+none_cached d a empty = let C : List Kept → Type 0 = λ ks. IsCacheOf ks d.holds.pages in subst C (sym empty) (All-nil (IsHeld d.holds.pages))
+
+-- none of the pages that are kept is among those of other extents
+pub kept_apart : (store : PagesState) (extents live : List Extent) (cache : List Kept) → HasTaken store (extents ++ live) → LieIn live cache → All (λ k. IsTaken extents k.page → ⊥) cache
+kept_apart store extents live cache taken lie i d within one = (apart_parts extents live taken.apart).0 (get_or cache i d).page one (lie i d within)

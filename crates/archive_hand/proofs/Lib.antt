@@ -1,0 +1,12 @@
+pub mod AddLemmas
+pub mod GiveUpLemmas
+pub mod ByReadsLemmas
+pub mod StandingLemmas
+pub mod PhraseLemmas
+pub mod CacheLemmas
+pub mod ReadableLemmas
+mod SealLemmas
+mod LiveLemmas
+mod PutLemmas
+mod StoreLemmas
+mod LoadLemmas

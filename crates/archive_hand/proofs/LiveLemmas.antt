@@ -1,0 +1,37 @@
+-- What holds of the extents of live plans holds with one more.
+use Rattle.std.proofs.Common.{◌≡◌, ℕ, ◌+◌, Bool, true, false, cond, List, [], ◌∷◌, ◌++◌, length, filter, All, ap, subst, sym, ◌∙◌, arith}
+use Rattle.std.proofs.lemmas.List.{append-nil, length-append, get_or_append_left, get_or-append-add}
+use Rattle.std.proofs.lemmas.List.Concat.{flat_map-append}
+use Rattle.std.proofs.lemmas.List.Elements.{All-append}
+use Rattle.time_base.specs.declared.extent.Extent.{Extent}
+use Rattle.page_store.specs.Live.{IsInside}
+use Rattle.archive_state.specs.declared.stored.StoredPlan.{StoredPlan}
+use Rattle.archive_state.specs.Plans.{is_another, with_plan, extents_of}
+use Rattle.plan_shelf.specs.Shelves.{extents_all}
+
+all_left : (P : Extent → Type 0) (xs ys : List Extent) → All P (xs ++ ys) → All P xs
+all_left P xs ys all = λ k d lt. subst P (get_or_append_left xs ys d k lt) (all k d (omega (arith, lt, length-append xs ys)))
+
+all_right : (P : Extent → Type 0) (xs ys : List Extent) → All P (xs ++ ys) → All P ys
+all_right P xs ys all = λ k d lt. subst P (get_or-append-add xs ys k d) (all (length xs + k) d (omega (arith, lt, length-append xs ys)))
+
+all_filtered : (P : Extent → Type 0) (p : StoredPlan → Bool) (live : List StoredPlan) → All P (extents_all live) → All P (extents_all (filter p live))
+all_filtered P p [] all = all
+all_filtered P p (s ∷ live) all =
+    go (p s) (all_left P (extents_of s.plan) (extents_all live) all) (all_filtered P p live (all_right P (extents_of s.plan) (extents_all live) all))
+  where
+    go : (b : Bool) → All P (extents_of s.plan) → All P (extents_all (filter p live)) → All P (extents_all (cond b (s ∷ filter p live) (filter p live)))
+    go true one rest = All-append P (extents_of s.plan) (extents_all (filter p live)) one rest
+    go false one rest = rest
+
+-- the extents of plans with one more
+extents_push : (live : List StoredPlan) (stored : StoredPlan) → extents_all (live ++ stored ∷ []) ≡ extents_all live ++ extents_of stored.plan
+extents_push live stored =
+    flat_map-append (λ (s : StoredPlan). extents_of s.plan) live (stored ∷ []) ∙ ap (λ (es : List Extent). extents_all live ++ es) (append-nil (extents_of stored.plan))
+
+pub all_inside_with : (reach : ℕ) (live : List StoredPlan) (stored : StoredPlan) → All (IsInside reach) (extents_all live) → All (IsInside reach) (extents_of stored.plan)
+    → All (IsInside reach) (extents_all (with_plan live stored))
+all_inside_with reach live stored all more =
+    let others = filter (is_another stored.plan.word) live in
+    subst (λ (es : List Extent). All (IsInside reach) es) (sym (extents_push others stored))
+    (All-append (IsInside reach) (extents_all others) (extents_of stored.plan) (all_filtered (IsInside reach) (is_another stored.plan.word) live all) more)

@@ -1,0 +1,149 @@
+-- What an archive that was loaded stands for, and each image left; and journals and places that are no archive's.
+use Rattle.std.proofs.Common.{◌≡◌, ℕ, ◌<◌, ◌≤◌, List, [], ◌∷◌, length, All, Result, Ok, Err, IfOk, inl, inr, refl, ap, subst, sym, ◌∙◌, arith, Bool, length-append}
+use Rattle.std.proofs.lemmas.List.Elements.{All-nil}
+use Rattle.machine_model.specs.Areas.{Bytes}
+use Rattle.page_store.specs.Live.{AreLive, IsInside}
+use Rattle.machine_model.specs.States.{DiskState}
+use Rattle.machine_model.specs.Images.{MayLeave, Only}
+use Rattle.version_store.specs.declared.change.Change.{Change}
+use Rattle.gate_journal.specs.Spelled.{Spells, EachSpells}
+use Rattle.gate_journal.specs.InStep.{IsInStep}
+use Rattle.gate_journal.specs.Crash.{KeepsPages, KeepsBodies}
+use Rattle.archive_state.specs.Histories.{History, end_of}
+use Rattle.archive_state.specs.Legal.{IsLoadable}
+use Rattle.archive_state.specs.Plans.{live_extents, live_plans}
+use Rattle.archive_state.specs.Stands.{bodies_of, EachStands, IsNotArchive}
+use Rattle.archive_state.proofs.HistoryLemmas.{end_of-least, end_of_is}
+use Rattle.archive_hand.specs.States.{ArchiveState, StandsFor, Reaches, AreInStepBy}
+use Rattle.plan_shelf.specs.Shelves.{ShelfState, IsBadShelf, extents_all}
+use Rattle.version_index.specs.Indexes.{IndexState, Indexes}
+use Rattle.archive_hand.specs.Changing.{KeepsHistory}
+use Rattle.page_store.specs.Taken.{HasTaken}
+use Rattle.gate_journal.specs.Records.{front}
+use Rattle.machine_model.specs.Calls.{OnlyReads}
+use Rattle.gate_journal.specs.declared.head.Head.{Head}
+use Rattle.time_base.specs.declared.text_place.TextPlace.{TextPlace}
+use Rattle.archive_state.specs.Histories as histories
+use Rattle.archive_state.specs.declared.stored.StoredPlan.{StoredPlan}
+use Rattle.gate_journal.specs.declared.error.JournalError.{JournalError}
+use Rattle.gate_journal.specs.declared.error.JournalError.TheVariants.{Failed, NotJournal, Memory}
+use Rattle.archive_replay.specs.declared.error.LoadError.{LoadError}
+use Rattle.archive_replay.specs.declared.error.LoadError.TheVariants.{NotArchive}
+use Rattle.archive_replay.specs.Causes.{load_error_of}
+use Rattle.archive_replay.specs.Replaying.{IsReplayed, IsBadAmong}
+use Rattle.std.proofs.lemmas.Bool.{cases_lt}
+use Rattle.archive_hand.specs.Stored.{Store, HasSame}
+use Rattle.archive_hand.proofs.AddLemmas.{step_reads}
+use Rattle.archive_hand.proofs.CacheLemmas.{none_cached}
+use Rattle.archive_hand.proofs.ByReadsLemmas.{all_same, same_as}
+
+-- ---- what is kept
+
+-- Where each image left spells the bodies of a history for which each image stood, and has the pages of one of these, it stands for the history.
+-- Reads leave what they find.
+pub history_loaded : (h : History) (old mid new : DiskState) → MayLeave old.now old.holds → EachStands old h → (EachSpells old (bodies_of h) → KeepsBodies (bodies_of h) old mid) → KeepsPages old mid → OnlyReads mid new
+    → KeepsHistory h old new
+history_loaded h old mid new allowed each keeps pages same =
+    let kept = keeps (λ image allowed. (each image allowed).spelled) in
+    subst (λ (d : DiskState). KeepsHistory h old d) (sym same) (record {
+      goes_on = let g = kept.goes_on in record { later = g.later; nothing_else = g.nothing_else; keeps = g.keeps };
+      images = λ image beside left.
+          let is = kept.images image beside left in
+          let was = pages.images image beside left in
+          (record { spelled = is.0; loadable = (each old.holds allowed).loadable; held = rw was.2 (each was.0 was.1).held }, is.1);
+    })
+
+pub pages_reads : (a b c : DiskState) → KeepsPages a b → OnlyReads b c → KeepsPages a c
+pages_reads a b c keeps same =
+    subst (λ (d : DiskState). KeepsPages a d) (sym same) (record {
+      goes_on = let g = keeps.goes_on in record { later = g.later; nothing_else = g.nothing_else; keeps = g.keeps };
+      images = keeps.images;
+    })
+
+-- ---- the archive, or why there is none
+
+-- the archive of what was gone over
+pub stands_replayed : (h : History) (live : Bool) (heads : List Head) (changes : List (Change TextPlace)) (index : IndexState) (plans : List StoredPlan) (shelf : ShelfState) (end : ℕ)
+    → end ≡ end_of h → length heads ≡ length h → IsReplayed h heads changes plans → Indexes index (histories.changes h) → shelf.plans ≡ plans → HasTaken shelf.pages (extents_all plans)
+    → StandsFor (record { end = end; live = live; length = length heads; changes = changes; index = index; shelf = shelf }) h
+stands_replayed h live heads changes index plans shelf end at many replayed indexed same taken = record {
+  loadable = replayed.loadable;
+  end_is = at;
+  length_is = many;
+  changes_are = replayed.placed;
+  index_is = indexed;
+  plans_are = same ∙ replayed.plans_are;
+  pages_are = subst (λ (l : List StoredPlan). HasTaken shelf.pages (extents_all l)) replayed.plans_are taken;
+}
+
+-- bodies of which one is bad are no archive's
+pub bad_archive : (image : Bytes) (bodies : List (List ℕ)) (at : ℕ) → Spells image.journal bodies → IsBadAmong bodies at → IsNotArchive image at
+bad_archive image bodies at spelled bad =
+    inr (inl (record { before = bad.before; body = bad.next.body; rest = bad.next.rest; spelled = rw (← bad.next.split) spelled; loadable = bad.loadable; fault = bad.next.fault }))
+
+-- nor are places that lie badly
+pub bad_shelf : (image : Bytes) (h : History) (plans : List StoredPlan) (reach at : ℕ) → Spells image.journal (bodies_of h) → IsLoadable h → plans ≡ live_plans h → reach ≡ length image.pages → IsBadShelf plans reach at → IsNotArchive image at
+bad_shelf image h plans reach at spelled loads live long bad =
+    let is = subst (λ (l : List StoredPlan). IsBadShelf l (length image.pages) at) live (subst (λ (n : ℕ). IsBadShelf plans n at) long bad) in
+    inr (inr (record { history = h; spelled = spelled; loadable = loads; index = is.index; inside = is.inside; good = is.good; bad = is.bad; at_is = is.at_is }))
+
+-- pages that are as long as those of a disk are as long as it tells after reads
+pub pages_long : (image : Bytes) (old after : DiskState) (reach : ℕ) → reach ≡ after.reach.pages → OnlyReads old after → length image.pages ≡ old.reach.pages → reach ≡ length image.pages
+pages_long image old after reach is same long = is ∙ ap (λ (d : DiskState). d.reach.pages) same ∙ sym long
+
+-- a journal of at most 17 bytes spells the bodies of the empty history alone
+pub none_spelled : (h : History) (bytes : List ℕ) → length bytes ≤ 17 → Spells bytes (bodies_of h) → h ≡ []
+none_spelled [] bytes short spelled = refl
+none_spelled (e ∷ h) bytes short (inl new) = absurd (omega (arith, ap length new.1))
+none_spelled (e ∷ h) bytes short (inr long) = absurd (omega (arith, short, ap length long.whole, length-append (front (bodies_of (e ∷ h))) (long.gate ∷ long.rest), end_of_is (e ∷ h), end_of-least (e ∷ h)))
+
+-- what the journal's error is where a load hands it on
+pub journal_exit : {T U : Type 0} (r : Result T JournalError) (s : Result U LoadError) (e : JournalError) (y : LoadError) (at : ℕ) → r ≡ Err e → s ≡ Err y → y ≡ load_error_of e
+    → s ≡ Err (NotArchive at) → r ≡ Err (NotJournal at)
+journal_exit r s Failed y at was made same is = absurd cc
+journal_exit r s (NotJournal n) y at was made same is = cc
+journal_exit r s Memory y at was made same is = absurd cc
+
+-- two things of what a call gave make a third
+pub IfOk-both : {T E : Type 0} (r : Result T E) (P Q R : T → Type 0) → ((x : T) → P x → Q x → R x) → IfOk r P → IfOk r Q → IfOk r R
+IfOk-both (Ok x) P Q R both p q = both x p q
+IfOk-both (Err e) P Q R both p q = tt
+
+-- the live places of an archive that was loaded lie well
+pub lie_well : (h : History) (d : DiskState) (a : ArchiveState) → StandsFor a h → Reaches d.reach a → length d.holds.pages ≡ d.reach.pages → AreLive (live_extents h) (length d.holds.pages)
+lie_well h d a stands reaches same =
+    let I : ℕ → Type 0 = λ reach. All (IsInside reach) (live_extents h) in
+    (subst I (sym same) (subst (λ (plans : List StoredPlan). All (IsInside d.reach.pages) (extents_all plans)) stands.plans_are reaches.1), stands.pages_are.apart)
+
+-- ---- in step
+
+-- after a load each image has the pages that reads give, or the archive has no live place
+pub loaded_by : (a : ArchiveState) (mid new : DiskState) (old : Bytes) (end : ℕ) (bodies : List (List ℕ)) (h : History)
+    → StandsFor a h → a.shelf.cache ≡ [] → a.end ≡ end → bodies_of h ≡ bodies → Spells old.journal bodies → IsInStep mid end bodies → OnlyReads mid new → (17 < length old.journal → Only mid.holds mid) → mid.holds.pages ≡ old.pages
+    → Reaches new.reach a → length new.holds.pages ≡ new.reach.pages
+    → (s : Store) × (AreInStepBy new a s × Spells old.journal (bodies_of s.history) × (s.pages ≡ old.pages))
+loaded_by a mid new old end bodies h stands empty end_is same spelled step reads one pages reach long =
+    let there : Spells old.journal (bodies_of h) = subst (λ (l : List (List ℕ)). Spells old.journal l) (sym same) spelled in
+    let read : new.holds.pages ≡ old.pages = ap (λ (d : DiskState). d.holds.pages) reads ∙ pages in
+    let live : AreLive (live_extents h) (length old.pages) = rw read at (lie_well h new a stands reach long) in (
+      record { history = h; pages = old.pages; kept = a.shelf.cache; read = new.bytes_read.pages },
+      (
+        record {
+          stands = stands;
+          journal = subst (λ (l : List (List ℕ)). IsInStep new a.end l) (sym same) (subst (λ (n : ℕ). IsInStep new n bodies) (sym end_is) (step_reads mid new end bodies step reads));
+          pages_are = read;
+          kept_are = refl;
+          read_is = refl;
+          live = live;
+          same = λ image allowed. elim (cases_lt 17 (length old.journal)) as (λ _. All (HasSame old.pages image.pages) (live_extents h)) [
+            | inl longer ↦
+                let is : image.pages ≡ old.pages = ap (λ (b : Bytes). b.pages) (one longer image (rw (ap (λ (d : DiskState). d.now) reads) at allowed)) ∙ pages in
+                same_as old.pages old.pages image.pages (live_extents h) is (all_same old.pages (live_extents h) live.0)
+            | inr short ↦ rw (none_spelled h old.journal short there) (All-nil (HasSame old.pages image.pages))
+          ];
+          cached = none_cached new a empty;
+        },
+        there,
+        refl,
+      ),
+    )

@@ -1,0 +1,118 @@
+-- A plan that is ready is stored: that it may come next, and what the archive stands for with it, or without.
+use Rattle.std.proofs.Common.{◌≡◌, ℕ, ◌+◌, ◌-◌, ◌≤◌, List, [], ◌∷◌, ◌++◌, length, All, true, ap, sym, subst, ◌∙◌, arith}
+use Rattle.std.specs.List.{AllZip}
+use Rattle.std.proofs.lemmas.List.{length_push}
+use Rattle.std.proofs.lemmas.List.Elements.{All-map}
+use Rattle.time_base.specs.declared.extent.Extent.{Extent}
+use Rattle.version_store.specs.declared.change.Change.{Change}
+use Rattle.version_index.specs.Indexes.{Indexes}
+use Rattle.page_store.specs.Live.{IsInside}
+use Rattle.page_store.specs.Taken.{PagesState, HasTaken}
+use Rattle.record_codec.specs.declared.entry.Entry.TheVariants.{Planned}
+use Rattle.record_codec.specs.declared.place.Place.{Place}
+use Rattle.record_codec.specs.declared.plan.PlanEntry.{PlanEntry}
+use Rattle.sublist_store.specs.Preparing.{IsFor, extents, spellings}
+use Rattle.sublist_store.specs.Segments.{seconds}
+use Rattle.archive_state.specs.declared.stored.StoredPlan.{StoredPlan}
+use Rattle.archive_state.specs.Histories.{History, end_of}
+use Rattle.archive_state.specs.Legal.{IsLegalEntry}
+use Rattle.archive_state.specs.Planning.{IsListUpTo}
+use Rattle.archive_state.specs.Plans.{with_plan, live_plans, live_extents}
+use Rattle.archive_state.proofs.HistoryLemmas.{end_of-push, loadable-push, entry_loads}
+use Rattle.archive_state.proofs.LiveLemmas.{live_plans-push}
+use Rattle.archive_state.proofs.StoringLemmas.{plan_legal}
+use Rattle.archive_hand.specs.Adding.{HasSameShelf}
+use Rattle.archive_hand.specs.States.{ArchiveState, StandsFor}
+use Rattle.plan_shelf.specs.Shelves.{ShelfState, extents_all}
+use Rattle.plan_shelf.specs.Readying.{HasPlaces, IsReady}
+use Rattle.archive_hand.specs.Storing.{IsDraft, IsStorable, IsStoredAs}
+use Rattle.plan_shelf.specs.declared.readying.Draft.{Draft}
+use Rattle.plan_shelf.specs.declared.readying.Ready.{Ready}
+use Rattle.archive_replay.proofs.IndexLemmas.{changes_still}
+use Rattle.archive_replay.proofs.PlaceLemmas.{placed_plan}
+use Rattle.archive_hand.proofs.AddLemmas.{inside_on}
+use Rattle.archive_hand.proofs.LiveLemmas.{all_inside_with}
+
+-- ---- what is ready may come next
+
+ready_legal : (h : History) (draft : Draft) (end count : ℕ) (r : Ready) → IsDraft h draft → IsReady draft end count r → IsLegalEntry h (Planned r.stored.plan)
+ready_legal h draft end count r is ready =
+    subst (λ (p : PlanEntry). IsLegalEntry h (Planned p)) (sym ready.plan_is)
+    (plan_legal h draft.word draft.kind draft.factor draft.horizon draft.cuts.items r.prepared.places draft.list.items is.word is.horizon_is is.list_is is.some is.good ready.each)
+
+pub ready_storable : (h : History) (draft : Draft) (end count : ℕ) (r : Ready) (pages : PagesState) → IsDraft h draft → IsReady draft end count r → HasTaken pages (extents r.prepared.places ++ live_extents h)
+    → IsStorable h r.stored.plan r.prepared r.frame
+ready_storable h draft end count r pages is ready taken = record {
+  entry = ready_legal h draft end count r is ready;
+  framed = ready.framed;
+  places = ap (λ (p : PlanEntry). p.places) ready.plan_is;
+  list = draft.list.items;
+  list_is = subst (λ (p : PlanEntry). IsListUpTo h p.word p.horizon.seconds draft.list.items) (sym ready.plan_is)
+      (subst (λ (n : ℕ). IsListUpTo h draft.word n draft.list.items) (sym is.horizon_is) is.list_is);
+  spelled = ready.spelled ∙ ap (λ (p : PlanEntry). spellings p.layout draft.list.items (seconds p.cuts) p.horizon.seconds) (sym ready.plan_is);
+  each = subst (λ (all : List (List ℕ)). AllZip IsFor r.prepared.places all) (sym ready.spelled) ready.each;
+  apart = taken.apart;
+}
+
+pub ready_stored : (h : History) (draft : Draft) (end count : ℕ) (r : Ready) → end ≡ end_of h → IsReady draft end count r → HasPlaces draft (live_extents h) r.prepared.places → IsStoredAs h draft r.stored.plan
+ready_stored h draft end count r at ready has = record {
+  places = r.prepared.places;
+  has = has;
+  plan_is = ready.plan_is;
+  room = omega (arith, ready.fits, at, end_of-push h (Planned r.stored.plan), ap length ready.framed);
+}
+
+-- ---- an archive with a plan more
+
+-- an archive whose journal has an entry more, which is a plan's
+abbrev pub after_plan : ArchiveState → ℕ → ShelfState → ArchiveState
+after_plan a end shelf = record a { end = end; live = true; length = a.length + 1; shelf = shelf }
+
+pub stands_planned : (a : ArchiveState) (h : History) (draft : Draft) (end count last : ℕ) (r : Ready) (shelf : ShelfState) → StandsFor a h → IsDraft h draft → end ≡ a.end → IsReady draft end count r
+    → last ≡ a.end + 5 + length r.frame → shelf.plans ≡ with_plan a.shelf.plans r.stored → HasTaken shelf.pages (extents_all shelf.plans) → StandsFor (after_plan a last shelf) (h ++ Planned r.stored.plan ∷ [])
+stands_planned a h draft end count last r shelf stands is at ready ends placed pages =
+    let plan = r.stored.plan in
+    let gate : r.stored.gate ≡ end_of h - 1 = omega (arith, ready.gate_is, at, stands.end_is) in
+    let plans : shelf.plans ≡ live_plans (h ++ Planned plan ∷ []) =
+    placed ∙ ap (λ (l : List StoredPlan). with_plan l r.stored) stands.plans_are
+    ∙ ap (λ (n : ℕ). with_plan (live_plans h) (record { gate = n; plan = plan })) gate ∙ sym (live_plans-push h (Planned plan)) in
+    record {
+      loadable = loadable-push h (Planned plan) stands.loadable (entry_loads h (Planned plan) (ready_legal h draft end count r is ready));
+      end_is = omega (arith, ends, stands.end_is, end_of-push h (Planned plan), ap length ready.framed);
+      length_is = omega (arith, stands.length_is, length_push h (Planned plan));
+      changes_are = placed_plan h a.changes plan stands.changes_are;
+      index_is = subst (λ (cs : List (Change (List ℕ))). Indexes a.index cs) (sym (changes_still h plan)) stands.index_is;
+      plans_are = plans;
+      pages_are = subst (λ (l : List StoredPlan). HasTaken shelf.pages (extents_all l)) plans pages;
+    }
+
+-- a disk that reached as far as the live plans reaches as far with one more, whose places it reaches
+pub placed_inside : (n m : ℕ) (before after : List StoredPlan) (stored : StoredPlan) (places : List Place) → n ≤ m → All (IsInside n) (extents_all before)
+    → after ≡ with_plan before stored → stored.plan.places ≡ places → All (λ (p : Place). IsInside m p.extent) places → All (IsInside m) (extents_all after)
+placed_inside n m before after stored places more was placed same inside =
+    rw placed (all_inside_with m before stored (inside_on n m (extents_all before) more was) (subst (λ (ps : List Place). All (IsInside m) (extents ps)) (sym same) (All-map (IsInside m) (λ (p : Place). p.extent) places inside)))
+
+-- ---- an archive that has what it had
+
+-- where pages have the same extents taken as before, they have whatever was taken
+pub same_shelf : (old new : ShelfState) (live : List Extent) → new.plans ≡ old.plans → HasTaken old.pages live → HasTaken new.pages live → new.cache ≡ old.cache → HasSameShelf old new
+same_shelf old new live plans was now cache = record {
+  plans_are = plans;
+  cache_is = cache;
+  taken = λ es has. record {
+    apart = has.apart;
+    counted = has.counted ∙ sym was.counted ∙ now.counted;
+    free_are = λ p. ((λ free. (has.free_are p).0 ((was.free_are p).1 ((now.free_are p).0 free))), (λ untaken. (now.free_are p).1 ((was.free_are p).0 ((has.free_are p).1 untaken))));
+  };
+}
+
+pub stands_still : (a : ArchiveState) (h : History) (shelf : ShelfState) → StandsFor a h → shelf.plans ≡ a.shelf.plans → HasTaken shelf.pages (live_extents h) → StandsFor (record a { shelf = shelf }) h
+stands_still a h shelf stands plans pages = record {
+  loadable = stands.loadable;
+  end_is = stands.end_is;
+  length_is = stands.length_is;
+  changes_are = stands.changes_are;
+  index_is = stands.index_is;
+  plans_are = plans ∙ stands.plans_are;
+  pages_are = pages;
+}

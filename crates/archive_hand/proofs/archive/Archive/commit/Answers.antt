@@ -1,0 +1,109 @@
+use Rattle.std.proofs.Common.{◌≡◌, ◌+◌, ◌++◌, ◌∷◌, [], ℕ, List, All, length, Err, true, false, refl, ap, ap₂, sym, subst, ◌∙◌, arith, rules}
+use Rattle.machine_model.specs.declared.area.Area.TheVariants.{Journal, Pages}
+use Rattle.page_store.specs.Live.{IsInside}
+use Rattle.time_base.specs.declared.ids.DocId.{DocId}
+use Rattle.time_base.specs.declared.text_place.TextPlace.{TextPlace}
+use Rattle.time_base.specs.declared.time.Time.{Time}
+use Rattle.version_store.specs.declared.change.Change.{Change}
+use Rattle.gate_journal.specs.Crash.{Appends}
+use Rattle.gate_journal.specs.State.{JournalState}
+use Rattle.gate_journal.specs.declared.error.AppendError.{AppendError}
+use Rattle.gate_journal.specs.declared.error.AppendError.TheVariants as appends
+use Rattle.version_index.specs.Indexes.{state_of}
+use Rattle.version_index.specs.Indexing.{IndexValue, AreIndexed}
+use Rattle.version_index.specs.Measuring.{IsMeasured}
+use Rattle.archive_replay.specs.Entries.{IsHeld}
+use Rattle.archive_hand.specs.Adding.{IsMore}
+use Rattle.archive_hand.specs.States.{ArchiveState, StandsFor}
+use Rattle.plan_shelf.specs.Shelves.{extents_all}
+use Rattle.archive_hand.proofs.CacheLemmas.{cached_on}
+use Rattle.gate_journal.proofs.InStepLemmas.{step_at}
+use Rattle.archive_hand.proofs.AddLemmas.{appends_nowhere, inside_on, pages_nowhere, stands_more}
+use Rattle.archive_hand.proofs.archive.Archive.commit.Given.{Over}
+use Rattle.archive_hand.proofs.archive.Archive.commit.Goals as goal
+
+pub returns-then-limit-end-clause-crash : goal.returns-then-limit-end-clause-crash
+returns-then-limit-end-clause-crash g c = λ tells bodies step. appends_nowhere _ _ bodies c.args.prepared.body.items step
+
+pub returns-then-limit-end-clause-pages : goal.returns-then-limit-end-clause-pages
+returns-then-limit-end-clause-pages g c = λ tells. pages_nowhere _
+
+pub returns-in_err-frame-clause-crash : goal.returns-in_err-frame-clause-crash
+returns-in_err-frame-clause-crash g c = λ tells bodies step. appends_nowhere _ _ bodies c.args.prepared.body.items step
+
+pub returns-in_err-frame-clause-pages : goal.returns-in_err-frame-clause-pages
+returns-in_err-frame-clause-pages g c = λ tells. pages_nowhere _
+
+pub returns-in_err-reserve-clause-crash : goal.returns-in_err-reserve-clause-crash
+returns-in_err-reserve-clause-crash g c = λ tells bodies step. appends_nowhere _ _ bodies c.args.prepared.body.items step
+
+pub returns-in_err-reserve-clause-pages : goal.returns-in_err-reserve-clause-pages
+returns-in_err-reserve-clause-pages g c = λ tells. pages_nowhere _
+
+pub returns-then-is_err-clause-crash : goal.returns-then-is_err-clause-crash
+returns-then-is_err-clause-crash g c = λ tells bodies step. appends_nowhere _ _ bodies c.args.prepared.body.items step
+
+pub returns-then-is_err-clause-pages : goal.returns-then-is_err-clause-pages
+returns-then-is_err-clause-pages g c = λ tells. pages_nowhere _
+
+pub returns-in-Ok-clause-crash : goal.returns-in-Ok-clause-crash
+returns-in-Ok-clause-crash g c = λ tells bodies step.
+    let B : List ℕ → Type 0 = λ b. Appends bodies b (g.D.Disk.disk c.args.disk.now) (g.D.Disk.disk c.append.new.disk) in
+    subst B (c.in_ok-frame.ensures.body ∙ c.deref.ensures.value) (c.in-Ok.ensures.crash tells bodies (step_at (ap (λ s. s.end) c.self.view_is) step))
+
+pub returns-clause-crash : goal.returns-clause-crash
+returns-clause-crash g c = λ tells bodies step.
+    let B : List ℕ → Type 0 = λ b. Appends bodies b (g.D.Disk.disk c.args.disk.now) (g.D.Disk.disk c.append.new.disk) in
+    subst B (c.in_ok-frame.ensures.body ∙ c.deref.ensures.value) (c.in-Err.ensures.crash tells bodies (step_at (ap (λ s. s.end) c.self.view_is) step))
+
+-- an archive with the entry
+more : (g : Over) (c : goal.After-drop-body-in-Ok g)
+    → IsMore c.args.self.now (record { end = c.append.new.self.end; live = true; length = c.self.inside.entries + 1; changes = c.note.new.directory.changes; index = state_of c.commit.new.self; shelf = c.self.inside.shelf })
+    c.args.prepared.change c.args.prepared.body.items c.args.prepared.words
+more g c =
+    rw (← c.self.view_is) (record {
+      end_is = omega (arith, c.in-Ok.ensures.end, ap length (c.in_ok-frame.ensures.body ∙ c.deref.ensures.value));
+      length_is = refl;
+      held = c.placed.result.held;
+      held_is = subst (λ (n : ℕ). IsHeld n c.args.prepared.change.held c.placed.result.held) (omega (arith, c.in-Ok.ensures.place)) c.placed.ensures.held;
+      changes_are = c.note.ensures ∙ ap (λ (l : List (Change TextPlace)). l ++ c.placed.result ∷ []) c.reserve.ensures.same
+          ∙ ap₂ (λ (d : DocId) (t : Time). c.self.inside.directory.changes ++ record { doc = d; at = t; held = c.placed.result.held } ∷ []) c.placed.ensures.doc c.placed.ensures.at;
+      shelf_is = refl;
+      indexed = λ texts doc text stands prepared later. c.commit.ensures (λ word. 0) (λ word. omega arith) texts doc text
+          (subst (λ (v : IndexValue). AreIndexed (λ word. 0) v texts) (sym c.make_room.ensures.same) stands)
+          (record { doc_is = prepared.doc_is; measured = subst (λ (v : IndexValue). IsMeasured v.words text c.args.prepared.words.fresh.items c.args.prepared.words.weights) (sym c.make_room.ensures.same) prepared.measured }) later;
+    })
+
+pub invariant_of-self-in-Ok : goal.invariant_of-self-in-Ok
+invariant_of-self-in-Ok g c =
+    let (h, stands) = c.self.invariant.2 in
+    let now = subst (λ (a : ArchiveState). StandsFor a h) c.self.view_is stands in
+    let (e, next, prepared) = c.requires.next h now in (
+      λ live. search rules,
+      omega (arith, c.self.invariant.1, c.in-Ok.ensures.end),
+      (h ++ e ∷ [], stands_more c.args.self.now _ h e c.args.prepared.change c.args.prepared.body.items c.args.prepared.words now next prepared (more g c)),
+    )
+
+pub returns-in-Ok-clause-more : goal.returns-in-Ok-clause-more
+returns-in-Ok-clause-more g c = (more g c, refl)
+
+pub returns-then-limit-end-clause-cached : goal.returns-then-limit-end-clause-cached
+returns-then-limit-end-clause-cached g c = λ tells cached is. cached
+
+pub returns-in-Ok-clause-cached : goal.returns-in-Ok-clause-cached
+returns-in-Ok-clause-cached g c = λ tells cached is.
+    cached_on c.args.self.now.shelf.cache c.self.inside.shelf.cache (g.D.Disk.disk c.args.disk.now) (g.D.Disk.disk c.append.new.disk) (ap (λ (s : ArchiveState). s.shelf.cache) c.self.view_is) (c.in-Ok.ensures.pages_hold tells) cached
+
+-- an append that failed leaves the end
+pub returns-clause-within : goal.returns-clause-within
+returns-clause-within g c =
+    let view = ap (λ s. s.end) c.self.view_is in
+    let reach = g.met.D.Disk.only_reach c.args.disk.now c.append.new.disk Journal c.append.ensures.only in
+    let P : ArchiveState → Type 0 = λ a. All (IsInside (g.D.Disk.disk c.append.new.disk).reach.pages) (extents_all a.shelf.plans) in (
+      omega (arith, end_same c.in-Err.field-0 c.append.new.self c.self.inside.journal (λ is. (c.in-Err.ensures.same (ap Err is)).0) (λ is. c.in-Err.ensures.spent (ap Err is)), view, reach, c.requires.within.0),
+      subst P (sym c.self.view_is) (inside_on _ _ _ (g.met.D.Disk.only_reach c.args.disk.now c.append.new.disk Pages c.append.ensures.only) c.requires.within.1),
+    )
+  where
+    end_same : (e : AppendError) (new old : JournalState) → (e ≡ appends.Full → new ≡ old) → (e ≡ appends.Failed → new ≡ record old { live = false }) → new.end ≡ old.end
+    end_same appends.Full new old full failed = ap (λ (s : JournalState). s.end) (full refl)
+    end_same appends.Failed new old full failed = ap (λ (s : JournalState). s.end) (failed refl)

@@ -1,0 +1,160 @@
+use Rattle.std.proofs.Common.{ℕ, ◌+◌, List, ◌∷◌, [], ◌++◌, true, inl, inr, refl, ap, sym, subst, ◌∙◌, arith, rules}
+use Rattle.machine_model.specs.declared.area.Area.TheVariants.{Journal, Pages}
+use Rattle.record_codec.specs.declared.entry.Entry.TheVariants as entries
+use Rattle.version_index.specs.Indexes.{seen, state_of}
+use Rattle.page_cache.specs.Caches.{Kept, StandsFor as IsCacheOf}
+use Rattle.page_store.specs.Taken.{HasTaken}
+use Rattle.archive_state.specs.declared.stored.StoredPlan.{StoredPlan}
+use Rattle.archive_state.specs.Histories.{History}
+use Rattle.archive_state.specs.Plans.{with_plan, live_extents}
+use Rattle.archive_hand.specs.Adding.{HasSameShelf}
+use Rattle.archive_state.specs.Stands.{bodies_of}
+use Rattle.archive_hand.specs.States.{ArchiveState, StandsFor, AreInStepBy, with_entry}
+use Rattle.plan_shelf.specs.Shelves.{extents_all}
+use Rattle.plan_shelf.specs.Readying.{IsFull, summary_of, tells_of}
+use Rattle.archive_hand.proofs.AddLemmas.{bodies_more, inside_on}
+use Rattle.archive_hand.proofs.GiveUpLemmas.{given_up_cached, given_up_refused}
+use Rattle.archive_hand.proofs.ByReadsLemmas.{all_same, same_as}
+use Rattle.archive_hand.proofs.PutLemmas.{begun_keeps, put_there}
+use Rattle.archive_hand.proofs.CacheLemmas.{cached_on}
+use Rattle.archive_hand.proofs.StoreLemmas.{ready_storable, ready_stored, stands_planned, placed_inside, same_shelf, stands_still}
+use Rattle.archive_hand.proofs.archive.Archive.store.Given.{Over}
+use Rattle.archive_hand.proofs.archive.Archive.store.Goals as goal
+
+pub returns-in-Err-clause-refused : goal.returns-in-Err-clause-refused
+returns-in-Err-clause-refused g c = λ h stands why is.
+    let before = subst (λ (s : ArchiveState). StandsFor s h) (sym c.self.view_is) stands in
+    let still = stands_still _ h c.make_ready.new.shelf before c.in-Err.ensures.plans (c.in-Err.ensures.none _ before.pages_are) in
+    given_up_refused (λ w s. IsFull c.args.draft (live_extents h) c.args.self.now.end w × StandsFor s h) c.in-Err.why c.give_up.result _ c.give_up.new.self why c.give_up.ensures
+    (λ because e. (subst (λ (n : ℕ). IsFull c.args.draft (live_extents h) n because) (c.end.ensures.end ∙ ap (λ (s : ArchiveState). s.end) c.self.view_is) (c.in-Err.ensures.full _ before.pages_are because e), still)) is
+
+pub returns-in-Err-clause-cached : goal.returns-in-Err-clause-cached
+returns-in-Err-clause-cached g c = λ tells cached is.
+    let disk = g.D.Disk.disk c.args.disk.now in
+    given_up_cached c.in-Err.why c.give_up.result _ c.give_up.new.self disk c.give_up.ensures
+    (cached_on c.args.self.now.shelf.cache c.make_ready.new.shelf.cache disk disk (c.in-Err.ensures.cache ∙ ap (λ (s : ArchiveState). s.shelf.cache) c.self.view_is) refl cached)
+
+-- the archive with the plan
+abbrev after : (g : Over) (c : goal.After-self-in-Ok-write_ready-2-1 g) → ArchiveState
+after g c = record { end = c.write_ready.new.journal.end; live = true; length = c.self.inside.entries + 1; changes = c.self.inside.directory.changes; index = state_of c.self.inside.index; shelf = c.write_ready.new.shelf }
+
+-- the archive with the plan stands for a history more
+planned : (g : Over) (c : goal.After-self-in-Ok-write_ready-2-1 g) (h : History) → StandsFor c.args.self.now h
+    → StandsFor (after g c) (h ++ entries.Planned c.in-Ok.ready.stored.plan ∷ [])
+planned g c h now =
+    stands_planned _ h c.args.draft c.end.result c.self.inside.entries c.write_ready.new.journal.end c.in-Ok.ready c.write_ready.new.shelf (subst (λ (s : ArchiveState). StandsFor s h) (sym c.self.view_is) now) (c.requires.drafted h now)
+    c.end.ensures.end c.in-Ok.ensures.ready c.in-Ok-write_ready.ensures.end (c.in-Ok-write_ready.ensures.plans ∙ ap (λ (l : List StoredPlan). with_plan l c.in-Ok.ready.stored) c.in-Ok.ensures.plans) c.in-Ok-write_ready.ensures.pages
+
+pub invariant_of-self-in-Ok-write_ready : goal.invariant_of-self-in-Ok-write_ready
+invariant_of-self-in-Ok-write_ready g c =
+    let (h, stands) = c.self.invariant.2 in (
+      λ live. search rules,
+      omega (arith, c.self.invariant.1, c.in-Ok-write_ready.ensures.end),
+      (h ++ entries.Planned c.in-Ok.ready.stored.plan ∷ [], planned g c h (subst (λ (s : ArchiveState). StandsFor s h) c.self.view_is stands)),
+    )
+
+pub returns-in-Ok-write_ready-clause-within : goal.returns-in-Ok-write_ready-clause-within
+returns-in-Ok-write_ready-clause-within g c =
+    let r = c.in-Ok.ready in
+    let plans = c.in-Ok-write_ready.ensures.plans ∙ ap (λ (l : List StoredPlan). with_plan l r.stored) (c.in-Ok.ensures.plans ∙ ap (λ (s : ArchiveState). s.shelf.plans) c.self.view_is) in
+    let longer = g.met.D.Disk.only_reach c.args.disk.now c.write_ready.new.disk Pages c.write_ready.ensures.only in
+    (c.in-Ok-write_ready.ensures.reached, placed_inside (g.D.Disk.disk c.args.disk.now).reach.pages (g.D.Disk.disk c.write_ready.new.disk).reach.pages c.args.self.now.shelf.plans c.write_ready.new.shelf.plans r.stored r.prepared.places longer c.requires.within.1 plans (ap (λ p. p.places) c.in-Ok.ensures.ready.plan_is) c.in-Ok-write_ready.ensures.inside)
+
+pub returns-in-Ok-write_ready-clause-stores : goal.returns-in-Ok-write_ready-clause-stores
+returns-in-Ok-write_ready-clause-stores g c = λ h now.
+    let stands = subst (λ (s : ArchiveState). StandsFor s h) (sym c.self.view_is) now in
+    let r = c.in-Ok.ready in (
+      r.stored.plan,
+      (
+        ready_stored h c.args.draft c.end.result c.self.inside.entries r (c.end.ensures.end ∙ stands.end_is) c.in-Ok.ensures.ready (c.in-Ok.ensures.placed _ stands.pages_are),
+        ap summary_of c.in-Ok-write_ready.ensures.report ∙ c.in-Ok.ensures.ready.told ∙ ap (λ (n : ℕ). tells_of c.args.draft (n + 1)) stands.length_is,
+        planned g c h now,
+      ),
+    )
+
+pub returns-in-Ok-write_ready-clause-cached : goal.returns-in-Ok-write_ready-clause-cached
+returns-in-Ok-write_ready-clause-cached g c = λ tells cached is.
+    let kept = c.in-Ok.ensures.cache ∙ ap (λ (s : ArchiveState). s.shelf.cache) c.self.view_is in
+    c.in-Ok-write_ready.ensures.cached tells (subst (λ (ks : List Kept). IsCacheOf ks (g.D.Disk.disk c.args.disk.now).holds.pages) (sym kept) cached)
+
+pub returns-in-Err-write_ready-clause-within : goal.returns-in-Err-write_ready-clause-within
+returns-in-Err-write_ready-clause-within g c =
+    let spent = c.in-Err-write_ready.ensures.spent in
+    let only = g.met.D.Disk.only_reach c.args.disk.now c.write_ready.new.disk in (
+      omega (arith, spent.0, c.requires.within.0, ap (λ (s : ArchiveState). s.end) c.self.view_is, only Journal c.write_ready.ensures.only),
+      rw (spent.1 ∙ c.in-Ok.ensures.plans ∙ ap (λ (s : ArchiveState). s.shelf.plans) c.self.view_is) (inside_on _ _ _ (only Pages c.write_ready.ensures.only) c.requires.within.1),
+    )
+
+pub returns-in-Err-write_ready-clause-spent : goal.returns-in-Err-write_ready-clause-spent
+returns-in-Err-write_ready-clause-spent g c = λ is.
+    let (h, stands) = c.self.invariant.2 in
+    let spent = c.in-Err-write_ready.ensures.spent in
+    let pages = subst (λ (l : List StoredPlan). HasTaken c.write_ready.new.shelf.pages (extents_all l)) (c.in-Ok.ensures.plans ∙ stands.plans_are) spent.2 in
+    let view = c.self.view_is in
+    let shelf = same_shelf c.self.inside.shelf c.write_ready.new.shelf (live_extents h) (spent.1 ∙ c.in-Ok.ensures.plans) stands.pages_are pages (spent.3 ∙ c.in-Ok.ensures.cache) in
+    record {
+      end_is = spent.0 ∙ ap (λ (s : ArchiveState). s.end) view;
+      length_is = ap (λ (s : ArchiveState). s.length) view;
+      changes_are = ap (λ (s : ArchiveState). s.changes) view;
+      index_is = ap (λ (s : ArchiveState). seen s.index) view;
+      shelf_is = subst (λ (s : ArchiveState). HasSameShelf s.shelf c.write_ready.new.shelf) view shelf;
+      live_is = refl;
+    }
+
+pub returns-in-Ok-write_ready-clause-puts : goal.returns-in-Ok-write_ready-clause-puts
+returns-in-Ok-write_ready-clause-puts g c = λ tells s now.
+    let in_step = subst (λ (a : ArchiveState). AreInStepBy (g.D.Disk.disk c.args.disk.now) a s) (sym c.self.view_is) now in
+    let h = s.history in
+    let r = c.in-Ok.ready in
+    let ready = c.in-Ok.ensures.ready in
+    let plan = r.stored.plan in
+    let pages = (g.D.Disk.disk c.write_ready.new.disk).holds.pages in
+    let storable = ready_storable h c.args.draft c.end.result c.self.inside.entries r c.make_ready.new.shelf.pages (c.requires.drafted h now.stands) ready (c.in-Ok.ensures.taken _ in_step.stands.pages_are) in
+    let put = c.in-Ok-write_ready.ensures.puts tells (bodies_of h) in_step.journal in
+    let there = put_there s plan r.prepared r.frame pages _ _ _ (after g c) in_step storable put.0 in (
+      with_entry s (entries.Planned plan) pages (after g c) (g.D.Disk.disk c.write_ready.new.disk),
+      (
+        record {
+          plan = plan;
+          stored = ready_stored h c.args.draft c.end.result c.self.inside.entries r (c.end.ensures.end ∙ in_step.stands.end_is) ready (c.in-Ok.ensures.placed _ in_step.stands.pages_are);
+          next_is = refl;
+          stocks = there.stocks;
+          leads = there.leads;
+        },
+        ap summary_of c.in-Ok-write_ready.ensures.report ∙ ready.told ∙ ap (λ (n : ℕ). tells_of c.args.draft (n + 1)) in_step.stands.length_is,
+        record {
+          stands = planned g c h now.stands;
+          journal = rw (← bodies_more h (entries.Planned plan) r.frame ready.framed) (c.in-Ok-write_ready.ensures.entered tells (bodies_of h) in_step.journal);
+          pages_are = refl;
+          kept_are = refl;
+          read_is = refl;
+          live = (there.inside, there.stocks.apart);
+          same = λ image allowed. same_as pages pages image.pages (live_extents (h ++ entries.Planned plan ∷ [])) (put.1 image allowed) (all_same pages (live_extents (h ++ entries.Planned plan ∷ [])) there.inside);
+          cached = returns-in-Ok-write_ready-clause-cached g c tells now.cached (inl refl);
+        },
+      ),
+    )
+
+pub returns-in-Err-write_ready-clause-stops : goal.returns-in-Err-write_ready-clause-stops
+returns-in-Err-write_ready-clause-stops g c = λ tells s now is.
+    let in_step = subst (λ (a : ArchiveState). AreInStepBy (g.D.Disk.disk c.args.disk.now) a s) (sym c.self.view_is) now in
+    let h = s.history in
+    let r = c.in-Ok.ready in
+    let ready = c.in-Ok.ensures.ready in
+    let plan = r.stored.plan in
+    let storable = ready_storable h c.args.draft c.end.result c.self.inside.entries r c.make_ready.new.shelf.pages (c.requires.drafted h now.stands) ready (c.in-Ok.ensures.taken _ in_step.stands.pages_are) in
+    elim (c.in-Err-write_ready.ensures.stops tells (bodies_of h) in_step.journal) [
+      | inl started ↦ inl (begun_keeps s plan r.prepared r.frame _ _ _ in_step storable started)
+      | inr put ↦
+          let there = put_there s plan r.prepared r.frame put.0 _ _ _ c.args.self.now in_step storable put.1 in
+          inr (
+            with_entry s (entries.Planned plan) put.0 c.args.self.now (g.D.Disk.disk c.write_ready.new.disk),
+            record {
+              plan = plan;
+              stored = ready_stored h c.args.draft c.end.result c.self.inside.entries r (c.end.ensures.end ∙ in_step.stands.end_is) ready (c.in-Ok.ensures.placed _ in_step.stands.pages_are);
+              next_is = refl;
+              stocks = there.stocks;
+              leads = there.leads;
+            },
+          )
+    ]

@@ -1,0 +1,79 @@
+-- What an archive in hand is, and when it and its disk stand for a history.
+use Rattle.std.specs.Prelude.{◌≡◌, ℕ, ◌≤◌, Bool, List, [], ◌∷◌, ◌++◌, length, All}
+use Rattle.machine_model.specs.Areas.{Both, Bytes}
+use Rattle.machine_model.specs.Images.{MayLeave}
+use Rattle.machine_model.specs.States.{DiskState}
+use Rattle.gate_journal.specs.InStep.{IsInStep}
+use Rattle.time_base.specs.declared.text_place.TextPlace.{TextPlace}
+use Rattle.version_store.specs.declared.change.Change.{Change}
+use Rattle.page_cache.specs.Caches.{StandsFor as IsCacheOf}
+use Rattle.page_store.specs.Live.{AreLive, IsInside}
+use Rattle.page_store.specs.Taken.{HasTaken}
+use Rattle.archive_state.specs.Histories.{History, changes, end_of}
+use Rattle.archive_state.specs.Legal.{IsLoadable}
+use Rattle.archive_state.specs.Plans.{live_plans, live_extents}
+use Rattle.archive_state.specs.Holding.{HoldsPlans}
+use Rattle.record_codec.specs.declared.entry.Entry.{Entry}
+use Rattle.version_index.specs.Indexes.{IndexState, Indexes}
+use Rattle.archive_replay.specs.Places.{ArePlaced}
+use Rattle.plan_shelf.specs.Shelves.{ShelfState, extents_all}
+use Rattle.archive_state.specs.Stands.{bodies_of}
+use Rattle.archive_hand.specs.Stored.{Store, HasSame}
+
+-- an archive in hand: where its journal ends, whether it may be changed, how many entries it has, the changes of documents with
+-- the places of the texts, the index of the texts, and the live plans with the free pages and the pages that are kept
+pub record ArchiveState : Type 0 where
+  pub end : ℕ
+  pub live : Bool
+  pub length : ℕ
+  pub changes : List (Change TextPlace)
+  pub index : IndexState
+  pub shelf : ShelfState
+
+-- an archive in hand stands for a history
+pub record StandsFor (archive : ArchiveState) (history : History) : Type 0 where
+  pub loadable : IsLoadable history
+  pub end_is : archive.end ≡ end_of history
+  pub length_is : archive.length ≡ length history
+  pub changes_are : ArePlaced 16 history archive.changes
+  pub index_is : Indexes archive.index (changes history)
+  pub plans_are : archive.shelf.plans ≡ live_plans history
+  pub pages_are : HasTaken archive.shelf.pages (live_extents history)
+
+-- a disk of these lengths reaches as far as an archive in hand: what it may read is there
+abbrev pub Reaches : Both ℕ → ArchiveState → Type 0
+Reaches reach archive = (archive.end ≤ reach.journal) × All (IsInside reach.pages) (extents_all archive.shelf.plans)
+
+-- the pages that an archive in hand keeps are as reads of its disk give them
+abbrev pub CacheStands : DiskState → ArchiveState → Type 0
+CacheStands d archive = IsCacheOf archive.shelf.cache d.holds.pages
+
+-- the archive but for its cache is as it was
+abbrev pub IsSameButCache : ArchiveState → ArchiveState → Type 0
+IsSameButCache old new = new ≡ record old { shelf = record (old.shelf) { cache = new.shelf.cache } }
+
+-- what a disk is that an archive in hand may change, by what reads give, whatever lies in Pages: all images have the history's journal, and in each live place the bytes that reads give
+pub record AreInStepBy (d : DiskState) (archive : ArchiveState) (store : Store) : Type 0 where
+  pub stands : StandsFor archive store.history
+  pub journal : IsInStep d archive.end (bodies_of store.history)
+  pub pages_are : d.holds.pages ≡ store.pages
+  pub kept_are : archive.shelf.cache ≡ store.kept
+  pub read_is : d.bytes_read.pages ≡ store.read
+  pub live : AreLive (live_extents store.history) (length store.pages)
+  pub same : (image : Bytes) → MayLeave d.now image → All (HasSame store.pages image.pages) (live_extents store.history)
+  pub cached : CacheStands d archive
+
+-- and an archive in hand and its disk are in step with a history: the pages hold what its live plans need
+pub record AreInStep (d : DiskState) (archive : ArchiveState) (history : History) : Type 0 where
+  pub store : Store
+  pub history_is : store.history ≡ history
+  pub by_reads : AreInStepBy d archive store
+  pub held : HoldsPlans history store.pages
+
+-- what is stored with an entry more, in these pages, by the archive and its disk then
+abbrev pub with_entry : Store → Entry → List ℕ → ArchiveState → DiskState → Store
+with_entry store entry pages archive d = record { history = store.history ++ entry ∷ []; pages = pages; kept = archive.shelf.cache; read = d.bytes_read.pages }
+
+-- the same history in the same pages
+abbrev pub with_reads : Store → ArchiveState → DiskState → Store
+with_reads store archive d = record store { kept = archive.shelf.cache; read = d.bytes_read.pages }

@@ -1,0 +1,20 @@
+//! The archive in hand: a history of documents on any disk, safe at any stop.
+//!
+//! An archive in hand stands for a history, always (`specs/States.antt`). A load gives the history for
+//! which the images of its disk stand. The calls here keep it so: each reaches a part of what is in
+//! memory, makes a change of it together with the journal's entry, or closes it to further changes.
+//! Which changes there are, and what it is asked, stands in the crates above.
+#![tactic(auto)]
+
+mod archive;
+mod error;
+mod laws;
+mod loading;
+mod sealing;
+mod storing;
+
+pub use archive::Archive;
+pub use archive_replay::LoadError;
+pub use error::ChangeError;
+pub use laws::an_archive_in_step_stands;
+pub use sealing::Sealed;

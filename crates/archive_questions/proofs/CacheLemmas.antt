@@ -1,0 +1,61 @@
+-- An archive of which the cache alone changes, and pages that are asked for in turn.
+use Rattle.std.proofs.Common.{◌≡◌, ℕ, ◌+◌, List, [], ◌∷◌, ◌++◌, Option, refl, ap, subst, sym, ◌∙◌, arith}
+use Rattle.std.proofs.lemmas.List.{append-nil}
+use Rattle.std.proofs.lemmas.List.Concat.{flat_map-append}
+use Rattle.machine_model.specs.Areas.{Both, replaced}
+use Rattle.machine_model.specs.Calls.{OnlyReads}
+use Rattle.machine_model.specs.States.{DiskState}
+use Rattle.machine_model.specs.declared.area.Area.TheVariants.{Pages}
+use Rattle.page_cache.specs.Caches.{Kept, after_asking_all, missed_by_all}
+use Rattle.page_cache.proofs.LawLemmas.{askings-join, misses-join}
+use Rattle.record_codec.specs.declared.plan.PlanEntry.{PlanEntry}
+use Rattle.archive_state.specs.Histories.{History}
+use Rattle.archive_state.specs.Plans.{plan_of}
+use Rattle.archive_state.specs.Chosen.{pieces_chosen, pieces_for}
+use Rattle.archive_hand.specs.Asking.{HasAsked}
+use Rattle.archive_hand.specs.States.{ArchiveState, CacheStands, IsSameButCache, Reaches}
+
+-- ---- the cache alone changes
+
+pub reaches_but_cache : (reach : Both ℕ) (a b : ArchiveState) → IsSameButCache a b → Reaches reach a → Reaches reach b
+reaches_but_cache reach a b same within = let R : ArchiveState → Type 0 = λ x. Reaches reach x in subst R (sym same) within
+
+pub but_cache_joins : (a b c : ArchiveState) → IsSameButCache a b → IsSameButCache b c → IsSameButCache a c
+but_cache_joins a b c x y = y ∙ ap (λ (s : ArchiveState). record s { shelf = record (s.shelf) { cache = c.shelf.cache } }) x
+
+pub cache_reads : (old new : DiskState) (a : ArchiveState) → OnlyReads old new → CacheStands old a → CacheStands new a
+cache_reads old new a same cached = let C : DiskState → Type 0 = λ d. CacheStands d a in subst C (sym same) cached
+
+-- ---- pages that are asked for in turn
+
+-- bytes that were read one after another
+counts_join : (a b c : Both ℕ) (m n k : ℕ) → b ≡ replaced a Pages (a.pages + m) → c ≡ replaced b Pages (b.pages + n) → k ≡ m + n → c ≡ replaced a Pages (a.pages + k)
+counts_join a b c m n k x y sum =
+    let journal : b.journal ≡ a.journal = ap (λ (d : Both ℕ). d.journal) x in
+    let pages : b.pages + n ≡ a.pages + k = omega (arith, ap (λ (d : Both ℕ). d.pages) x, sum) in
+    y ∙ ap (λ (j : ℕ). record { journal = j; pages = b.pages + n }) journal ∙ ap (λ (p : ℕ). record { journal = a.journal; pages = p }) pages
+
+pub asked_joins : (ks ls all was mid now : List Kept) (a b c : DiskState) → HasAsked ks was mid a b → HasAsked ls mid now b c → all ≡ ks ++ ls → HasAsked all was now a c
+asked_joins ks ls all was mid now a b c one more is = record {
+  count = counts_join a.bytes_read b.bytes_read c.bytes_read (missed_by_all ks was) (missed_by_all ls mid) (missed_by_all all was) one.count more.count
+      (ap (λ (l : List Kept). missed_by_all l was) is ∙ misses-join ks ls was ∙ ap (λ (l : List Kept). missed_by_all ks was + missed_by_all ls l) (sym one.cache));
+  cache = more.cache ∙ ap (after_asking_all ls) one.cache ∙ sym (askings-join ks ls was) ∙ ap (λ (l : List Kept). after_asking_all l was) (sym is);
+}
+
+-- nothing is asked for
+pub nothing_asked : (was : List Kept) (d : DiskState) → HasAsked [] was was d d
+nothing_asked was d =
+    let same : d.bytes_read.pages ≡ d.bytes_read.pages + 0 = omega arith in
+    record { count = ap (λ (n : ℕ). replaced d.bytes_read Pages n) same; cache = refl }
+
+-- pages that were asked for by a word's plan
+pub asked_by : (word : List ℕ) (h : History) (pages : List ℕ) (o : Option PlanEntry) (a b : ℕ) (was now : List Kept) (old new : DiskState) → plan_of h word ≡ o → HasAsked (pieces_chosen pages o a b) was now old new
+    → HasAsked (pieces_chosen pages (plan_of h word) a b) was now old new
+asked_by word h pages o a b was now old new live asked = let P : Option PlanEntry → Type 0 = λ x. HasAsked (pieces_chosen pages x a b) was now old new in subst P (sym live) asked
+
+-- one word more
+pub pieces_more : (h : History) (pages : List ℕ) (a b : ℕ) (words : List (List ℕ)) (word : List ℕ)
+    → pieces_for h pages a b (words ++ word ∷ []) ≡ pieces_for h pages a b words ++ pieces_chosen pages (plan_of h word) a b
+pieces_more h pages a b words word =
+    let f : List ℕ → List Kept = λ w. pieces_chosen pages (plan_of h w) a b in
+    flat_map-append f words (word ∷ []) ∙ ap (λ (ks : List Kept). pieces_for h pages a b words ++ ks) (append-nil (f word))

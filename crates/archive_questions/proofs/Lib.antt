@@ -1,0 +1,9 @@
+mod TextLemmas
+mod AskedLemmas
+mod TakeLemmas
+mod AnswerLemmas
+mod SpanLemmas
+mod PlanLemmas
+mod LiveLemmas
+mod ChosenLemmas
+mod CacheLemmas

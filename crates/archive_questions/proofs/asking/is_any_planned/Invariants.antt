@@ -1,0 +1,6 @@
+use Rattle.std.proofs.Common.{◌≡◌, All, take, true}
+use Rattle.archive_state.specs.Plans.{is_another}
+use Rattle.archive_questions.proofs.asking.is_any_planned.Given as goal
+
+abbrev pub invariant-loop-word : goal.invariant-loop-word
+invariant-loop-word l = All (λ word. All (λ s. is_another word s ≡ true) l.archive.shelf.plans) (take l.word-index l.words)

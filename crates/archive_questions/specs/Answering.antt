@@ -1,0 +1,30 @@
+-- What is said of a question, whatever the disk holds: that its phrase is a query or none, and what its answer is made from.
+use Rattle.std.specs.Prelude.{◌≡◌, ℕ, List, Ok, Err}
+use Rattle.machine_model.specs.States.{DiskState}
+use Rattle.page_cache.specs.Caches.{Kept}
+use Rattle.query_lang.specs.Grammar.{Query, IsRead}
+use Rattle.query_lang.specs.Meaning.{words_of}
+use Rattle.query_lang.specs.Tokens.{term_of}
+use Rattle.archive_state.specs.declared.refusal.Refusal.{Refusal}
+use Rattle.archive_state.specs.declared.refusal.Refusal.TheVariants as refusals
+use Rattle.archive_state.specs.Histories.{History}
+use Rattle.archive_state.specs.Chosen.{pieces_for}
+use Rattle.archive_hand.specs.Asking.{HasAsked}
+
+-- the phrase is a query
+abbrev pub IsQuery : List ℕ → Type 0
+IsQuery phrase = (query : Query) × IsRead term_of phrase (Ok query)
+
+-- the phrase is none, which shows at the place that is told
+abbrev pub IsNoQuery : List ℕ → Refusal → Type 0
+IsNoQuery phrase why = (place : ℕ) × IsRead term_of phrase (Err place) × (why ≡ refusals.BadQuery place)
+
+-- exactly the pages of the places were asked for that are chosen of a query's words over [a, b)
+abbrev pub HasReadFor : History → ℕ → ℕ → Query → List Kept → List Kept → DiskState → DiskState → Type 0
+HasReadFor history a b query was now old new = HasAsked (pieces_for history old.holds.pages a b (words_of query)) was now old new
+
+-- The answer to a phrase over [a, b) is made from its query, and the pages were asked for of the places that are chosen, with the caches before
+-- and after.
+abbrev pub IsAnswerTo : History → ℕ → ℕ → List ℕ → (Query → Type 0) → List Kept → List Kept → DiskState → DiskState → Type 0
+IsAnswerTo history a b phrase IsMade was now old new =
+    (query : Query) × IsRead term_of phrase (Ok query) × IsMade query × HasReadFor history a b query was now old new

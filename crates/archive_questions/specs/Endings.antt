@@ -1,0 +1,50 @@
+-- How the calls that ask an archive end.
+use Rattle.std.specs.Prelude.{ℕ, List, Option, Result, Ok, Err}
+use Rattle.std.specs.Option.{option_map}
+use Rattle.proposals.specs.declared.proposal.Proposal.{Proposal}
+use Rattle.query_eval.specs.declared.answer.Answer.{Answer}
+use Rattle.query_eval.specs.declared.spans.SpanAnswer.{SpanAnswer}
+use Rattle.archive_state.specs.declared.verdict.Verdict.{Verdict}
+use Rattle.archive_state.specs.Steps.{Reply, Refused, Found, Spanned, Version, Proposed, Verified}
+use Rattle.archive_questions.specs.declared.error.AskError.{AskError}
+use Rattle.archive_questions.specs.declared.error.AskError.TheVariants as asks
+use Rattle.archive_check.specs.declared.error.VerifyError.{VerifyError}
+use Rattle.archive_check.specs.declared.error.VerifyError.TheVariants as checks
+use Rattle.archive_replay.specs.declared.error.Declined.{Declined}
+use Rattle.archive_replay.specs.declared.error.Declined.TheVariants as declines
+use Rattle.archive_replay.specs.declared.error.ReadError.{ReadError}
+use Rattle.archive_replay.specs.declared.error.ReadError.TheVariants as reads
+use Rattle.archive_hand.specs.Takes.{Ending, Replied, Starved, Faulted, Spoiled}
+
+-- how queries end
+abbrev pub unanswered : AskError → Ending
+unanswered (asks.Refused why) = Replied (Refused why)
+unanswered asks.Failed = Faulted
+unanswered asks.Memory = Starved
+unanswered (asks.Damaged damage) = Spoiled damage
+
+abbrev pub answered : {T : Type 0} → (T → Reply) → Result T AskError → Ending
+answered reply (Ok answer) = Replied (reply answer)
+answered reply (Err error) = unanswered error
+
+abbrev pub found : Result Answer AskError → Ending
+found = answered (λ answer. Found answer.rows.items answer.read)
+
+abbrev pub spanned : Result SpanAnswer AskError → Ending
+spanned = answered (λ answer. Spanned answer.rows.items answer.read)
+
+-- how the other questions do: what needs no disk, a text that is read, and a check
+abbrev pub proposed : Result Proposal Declined → Ending
+proposed (Ok proposal) = Replied (Proposed proposal.segments.items proposal.nodes.items proposal.space)
+proposed (Err (declines.Refused why)) = Replied (Refused why)
+proposed (Err declines.Memory) = Starved
+
+abbrev pub version_shown : {T : Type 0} → (T → List ℕ) → Result (Option T) ReadError → Ending
+version_shown bytes (Ok text) = Replied (Version (option_map bytes text))
+version_shown bytes (Err reads.Failed) = Faulted
+version_shown bytes (Err reads.Memory) = Starved
+
+abbrev pub verified : Result Verdict VerifyError → Ending
+verified (Ok verdict) = Replied (Verified verdict)
+verified (Err checks.Failed) = Faulted
+verified (Err checks.Memory) = Starved

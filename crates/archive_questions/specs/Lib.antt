@@ -1,0 +1,4 @@
+pub mod Causes
+pub mod Answering
+pub mod After
+pub mod Endings

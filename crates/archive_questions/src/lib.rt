@@ -1,0 +1,22 @@
+//! What an archive in hand is asked: what a query finds at a time and over a window, the text of a
+//! version, plans that are proposed and certified, and whether all is sound.
+//!
+//! A question changes nothing but which pages an archive keeps, and these go on being what reads
+//! give. An answer is made from the lists that are chosen, by what reads of Pages give; in step with
+//! the disk it is the history's (`specs/Answering.antt`, `specs/After.antt`).
+#![tactic(auto)]
+
+mod asking;
+mod certifying;
+mod checking;
+mod choosing;
+mod error;
+mod planning;
+mod windows;
+
+pub use asking::{find, show};
+pub use certifying::certificate;
+pub use checking::verify;
+pub use error::AskError;
+pub use planning::propose;
+pub use windows::between;
