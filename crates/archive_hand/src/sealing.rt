@@ -30,6 +30,9 @@ pub struct Sealed {
 
 impl Archive {
     /// The list of a phrase's word up to the last time, or why it can't be planned.
+    ///
+    /// `Refused`: for the first cause in order, the phrase isn't one term, no text has the word, or it has no
+    /// posting before the last time. `Memory`: there was none. Costs what `list_until` does.
     pub fn sealed(&self, alloc: Global, word: &Phrase) -> Result<Sealed, Declined>
         ensures refused { (kind : Kind) (h : History) → StandsFor self.now h → (why : Refusal) → IsErrOf result (Declined.Refused why) →
             OfPhrase kind h (term_of word.now) (λ because. why ≡ because) (λ word list. ⊥) }
@@ -81,14 +84,14 @@ impl Archive {
         })
     }
 
-    /// Whether some text has a word.
+    /// Whether some text has a word. Costs a look-up.
     pub fn knows(&self, word: &Key) -> bool
         ensures { (h : History) → StandsFor self.now h → IsTrue result ↔ IsKnown h word.now }
     {
         self.index().knows(word)
     }
 
-    /// The list of a word up to a time.
+    /// The list of a word up to a time. Costs time and memory in the word's postings.
     pub fn list_until(
         &self,
         alloc: Global,
