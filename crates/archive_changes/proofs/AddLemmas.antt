@@ -1,41 +1,41 @@
 -- What is known of an entry that was to be added, for the history, and by what reads give.
 use Rattle.std.proofs.Common.{◌≡◌, ◌⊎◌, ℕ, ◌+◌, ◌<◌, ◌≤◌, List, [], ◌∷◌, ◌++◌, length, All, Option, Some, None, Result, Ok, Err, IfOk, IsOk, inl, inr, refl, ap, subst, sym, ◌∙◌, arith, OnOk}
 use Rattle.machine_model.specs.Areas.{Bytes}
-use Rattle.page_store.specs.Live.{AreLive}
+use Rattle.pages_area.specs.Live.{AreLive}
 use Rattle.machine_model.specs.States.{DiskState, moment}
 use Rattle.machine_model.specs.Images.{MayLeave}
 use Rattle.machine_model.proofs.MomentLemmas.{allowed_left}
-use Rattle.time_base.specs.Limits.{limit_of}
-use Rattle.time_base.specs.declared.which.Which.TheVariants.{Journal}
-use Rattle.version_store.specs.declared.change.Change.{Change}
-use Rattle.gate_journal.specs.InStep.{IsInStep}
-use Rattle.gate_journal.specs.Crash.{Appends, KeepsPages}
-use Rattle.record_codec.specs.Spelling.{spelling}
-use Rattle.record_codec.specs.declared.entry.Entry.{Entry}
-use Rattle.archive_state.specs.Histories.{History}
-use Rattle.archive_state.specs.Plans.{live_extents, IsChange}
-use Rattle.archive_state.proofs.HoldLemmas.{same_live}
-use Rattle.archive_state.specs.Stands.{bodies_of}
-use Rattle.archive_state.proofs.HistoryLemmas.{end_of-push}
-use Rattle.archive_state.specs.declared.refusal.Refusal.{Refusal}
-use Rattle.archive_state.specs.declared.refusal.Refusal.TheVariants.{Full}
-use Rattle.version_store.specs.Tests.{first_of}
-use Rattle.archive_state.specs.Steps.{full_journal}
-use Rattle.archive_state.proofs.RefusalLemmas.{cause, cause-allowed, cause-full, cause-none}
+use Rattle.base_types.specs.Limits.{limit_of}
+use Rattle.base_types.specs.declared.which.Which.TheVariants.{Journal}
+use Rattle.lists_versions.specs.declared.change.Change.{Change}
+use Rattle.journal_gates.specs.InStep.{IsInStep}
+use Rattle.journal_gates.specs.Crash.{Appends, KeepsPages}
+use Rattle.journal_entries.specs.Spelling.{spelling}
+use Rattle.journal_entries.specs.declared.entry.Entry.{Entry}
+use Rattle.model_archive.specs.Histories.{History}
+use Rattle.model_archive.specs.Plans.{live_extents, IsChange}
+use Rattle.model_archive.proofs.HoldLemmas.{same_live}
+use Rattle.model_archive.specs.Stands.{bodies_of}
+use Rattle.model_archive.proofs.HistoryLemmas.{end_of-push}
+use Rattle.model_archive.specs.declared.refusal.Refusal.{Refusal}
+use Rattle.model_archive.specs.declared.refusal.Refusal.TheVariants.{Full}
+use Rattle.lists_versions.specs.Tests.{first_of}
+use Rattle.model_archive.specs.Steps.{full_journal}
+use Rattle.model_archive.proofs.RefusalLemmas.{cause, cause-allowed, cause-full, cause-none}
 use Rattle.archive_hand.specs.States.{ArchiveState, StandsFor, CacheStands, AreInStepBy, with_entry}
-use Rattle.plan_shelf.specs.Shelves.{extents_all}
-use Rattle.version_index.specs.Indexes.{IsPreparedFor}
-use Rattle.version_index.specs.declared.prepared.Prepared.{Prepared as Words}
+use Rattle.archive_plans.specs.Shelves.{extents_all}
+use Rattle.lists_index.specs.Indexes.{IsPreparedFor}
+use Rattle.lists_index.specs.declared.prepared.Prepared.{Prepared as Words}
 use Rattle.archive_changes.specs.Adding.{Adds}
 use Rattle.archive_hand.specs.Adding.{GivesUp, IsMore}
-use Rattle.archive_replay.specs.Entries.{IsNext, IsPrepared, document_of, text_of}
-use Rattle.archive_replay.proofs.IndexLemmas.{change_comes}
+use Rattle.archive_entries.specs.Entries.{IsNext, IsPrepared, document_of, text_of}
+use Rattle.archive_entries.proofs.IndexLemmas.{change_comes}
 use Rattle.archive_hand.specs.declared.error.ChangeError.{ChangeError}
 use Rattle.archive_hand.specs.declared.error.ChangeError.TheVariants as errors
-use Rattle.archive_replay.specs.declared.error.Declined.{Declined}
-use Rattle.archive_replay.specs.declared.preparing.Prepared.{Prepared}
+use Rattle.archive_entries.specs.declared.error.Declined.{Declined}
+use Rattle.archive_entries.specs.declared.preparing.Prepared.{Prepared}
 use Rattle.archive_hand.specs.Changing.{LeadsBy}
-use Rattle.archive_state.specs.declared.stored.StoredPlan.{StoredPlan}
+use Rattle.model_archive.specs.declared.stored.StoredPlan.{StoredPlan}
 use Rattle.archive_hand.specs.Stored.{Store, HasSame}
 use Rattle.archive_hand.proofs.AddLemmas.{bodies_more, stands_more}
 use Rattle.archive_hand.proofs.GiveUpLemmas.{given_up_never, given_up_refused}

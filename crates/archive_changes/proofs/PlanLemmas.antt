@@ -3,40 +3,40 @@ use Rattle.std.proofs.Common.{◌≡◌, ◌⊎◌, ℕ, ◌+◌, ◌<◌, ◌�
 use Rattle.std.proofs.lemmas.List.{length_push}
 use Rattle.std.proofs.lemmas.Bool.{lt-ltb, le-ltb}
 use Rattle.machine_model.specs.States.{DiskState}
-use Rattle.time_base.specs.Limits.{limit_of}
-use Rattle.time_base.specs.declared.fraction.Fraction.{Fraction}
-use Rattle.time_base.specs.declared.posting.Posting.{Posting}
-use Rattle.time_base.specs.declared.time.Time.{Time}
-use Rattle.time_base.specs.declared.which.Which.TheVariants.{Journal}
-use Rattle.commands.specs.declared.command.Command.TheVariants as commands
-use Rattle.commands.specs.declared.command.Item.{Item}
-use Rattle.commands.specs.declared.command.Item.TheVariants as items
-use Rattle.commands.specs.declared.command.Kind.{Kind}
-use Rattle.commands.specs.declared.command.Kind.TheVariants.{Guarantee, Uniform, Since}
-use Rattle.fold_tokens.specs.Terms.{one_term}
-use Rattle.stored_plans.specs.Plans.{IsGoodPlan}
-use Rattle.record_codec.specs.declared.entry.Entry.TheVariants.{Planned}
-use Rattle.record_codec.specs.declared.plan.PlanEntry.{PlanEntry}
-use Rattle.archive_state.specs.declared.refusal.Refusal.{Refusal}
-use Rattle.archive_state.specs.declared.refusal.Refusal.TheVariants as refusals
-use Rattle.archive_state.specs.Histories.{History, end_of}
-use Rattle.archive_state.specs.Planning.{IsKnown, OfWidth, OfPhrase, last_second}
-use Rattle.archive_state.specs.Plans.{live_extents}
-use Rattle.archive_state.specs.Steps as steps
-use Rattle.archive_state.specs.Steps.{Reply, Refused, Summary, Declines, AddsPlan, StoresCuts, StoresPlan, Plans, full_journal, spelled_key}
-use Rattle.archive_state.proofs.HistoryLemmas.{end_of-push}
-use Rattle.archive_state.proofs.RefusalLemmas.{when_true, when_false}
+use Rattle.base_types.specs.Limits.{limit_of}
+use Rattle.base_types.specs.declared.fraction.Fraction.{Fraction}
+use Rattle.base_types.specs.declared.posting.Posting.{Posting}
+use Rattle.base_types.specs.declared.time.Time.{Time}
+use Rattle.base_types.specs.declared.which.Which.TheVariants.{Journal}
+use Rattle.base_commands.specs.declared.command.Command.TheVariants as commands
+use Rattle.base_commands.specs.declared.command.Item.{Item}
+use Rattle.base_commands.specs.declared.command.Item.TheVariants as items
+use Rattle.base_commands.specs.declared.command.Kind.{Kind}
+use Rattle.base_commands.specs.declared.command.Kind.TheVariants.{Guarantee, Uniform, Since}
+use Rattle.text_words.specs.Terms.{one_term}
+use Rattle.plans_kinds.specs.Plans.{IsGoodPlan}
+use Rattle.journal_entries.specs.declared.entry.Entry.TheVariants.{Planned}
+use Rattle.journal_entries.specs.declared.plan.PlanEntry.{PlanEntry}
+use Rattle.model_archive.specs.declared.refusal.Refusal.{Refusal}
+use Rattle.model_archive.specs.declared.refusal.Refusal.TheVariants as refusals
+use Rattle.model_archive.specs.Histories.{History, end_of}
+use Rattle.model_archive.specs.Planning.{IsKnown, OfWidth, OfPhrase, last_second}
+use Rattle.model_archive.specs.Plans.{live_extents}
+use Rattle.model_archive.specs.Steps as steps
+use Rattle.model_archive.specs.Steps.{Reply, Refused, Summary, Declines, AddsPlan, StoresCuts, StoresPlan, Plans, full_journal, spelled_key}
+use Rattle.model_archive.proofs.HistoryLemmas.{end_of-push}
+use Rattle.model_archive.proofs.RefusalLemmas.{when_true, when_false}
 use Rattle.archive_hand.specs.Changing.{KeepsBy}
 use Rattle.archive_hand.specs.Stored.{Store}
 use Rattle.archive_hand.specs.States.{ArchiveState, AreInStepBy, with_reads}
-use Rattle.plan_shelf.specs.Readying.{IsFull, plan_with, tells_of, summary_of}
+use Rattle.archive_plans.specs.Readying.{IsFull, plan_with, tells_of, summary_of}
 use Rattle.archive_hand.specs.Storing.{IsDraft, IsStoredAs, IsStoredBy}
 use Rattle.archive_hand.specs.Takes.{Comes, TakesBy}
 use Rattle.archive_changes.specs.Endings.{planned}
 use Rattle.archive_hand.specs.declared.error.ChangeError.{ChangeError}
 use Rattle.archive_hand.specs.declared.error.ChangeError.TheVariants as changes
-use Rattle.plan_shelf.specs.declared.readying.Draft.{Draft}
-use Rattle.plan_shelf.specs.declared.readying.PlanReport.{PlanReport}
+use Rattle.archive_plans.specs.declared.readying.Draft.{Draft}
+use Rattle.archive_plans.specs.declared.readying.PlanReport.{PlanReport}
 use Rattle.archive_hand.proofs.ByReadsLemmas.{stocks_same}
 use Rattle.archive_changes.proofs.TakeLemmas.{unmade_by}
 use Rattle.archive_hand.proofs.PhraseLemmas.{goes_on, map_phrase}

@@ -1,12 +1,12 @@
 -- A change that carries out an item is a step of the abstract machine by what reads give.
 use Rattle.std.proofs.Common.{◌≡◌, ◌⊎◌, ℕ, [], ◌∷◌, length, Option, Result, Ok, Err, OnOk, refl, inl, inr, ap, subst, sym, arith, length-append}
 use Rattle.machine_model.specs.States.{DiskState}
-use Rattle.commands.specs.declared.command.Item.{Item}
-use Rattle.record_codec.specs.declared.entry.Entry.{Entry}
-use Rattle.archive_state.specs.declared.refusal.Refusal.{Refusal}
-use Rattle.archive_state.specs.Steps as machine
-use Rattle.archive_state.specs.Steps.{Reply, Accepted, Refused}
-use Rattle.archive_state.specs.Plans.{IsChange}
+use Rattle.base_commands.specs.declared.command.Item.{Item}
+use Rattle.journal_entries.specs.declared.entry.Entry.{Entry}
+use Rattle.model_archive.specs.declared.refusal.Refusal.{Refusal}
+use Rattle.model_archive.specs.Steps as machine
+use Rattle.model_archive.specs.Steps.{Reply, Accepted, Refused}
+use Rattle.model_archive.specs.Plans.{IsChange}
 use Rattle.archive_hand.specs.States.{ArchiveState, AreInStepBy, with_entry, with_reads}
 use Rattle.archive_changes.specs.Adding.{Adds}
 use Rattle.archive_hand.specs.Changing.{KeepsBy, LeadsBy}

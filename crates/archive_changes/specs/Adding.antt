@@ -1,11 +1,11 @@
 -- How an entry is added for the history that an archive stands for.
 use Rattle.std.specs.Prelude.{◌≡◌, ◌⊎◌, ℕ, ◌+◌, [], ◌∷◌, ◌++◌, length, Option, Some, None, Result, Err, IsOk, IfOk}
-use Rattle.archive_state.specs.declared.refusal.Refusal.{Refusal}
-use Rattle.record_codec.specs.declared.entry.Entry.{Entry}
+use Rattle.model_archive.specs.declared.refusal.Refusal.{Refusal}
+use Rattle.journal_entries.specs.declared.entry.Entry.{Entry}
 use Rattle.archive_hand.specs.States.{ArchiveState, StandsFor}
 use Rattle.archive_hand.specs.declared.error.ChangeError.{ChangeError}
 use Rattle.archive_hand.specs.declared.error.ChangeError.TheVariants as changes
-use Rattle.archive_state.specs.Histories.{History}
+use Rattle.model_archive.specs.Histories.{History}
 
 -- what an archive in hand says of an entry that was to be added, for the history that it stood for
 pub record Adds (history : History) (entry : Entry) (refusal : Option Refusal) (result : Result ℕ ChangeError) (new : ArchiveState) : Type 0 where

@@ -2,7 +2,7 @@
 use Rattle.std.specs.Prelude.{◌≡◌, ◌⊎◌, ◌↔◌, Result, Err, IsTrue}
 use Rattle.machine_model.specs.Causes.{Rose}
 use Rattle.machine_model.specs.States.{DiskState}
-use Rattle.archive_state.specs.declared.refusal.Refusal.{Refusal}
+use Rattle.model_archive.specs.declared.refusal.Refusal.{Refusal}
 use Rattle.archive_hand.specs.Adding.{IsSpent, IsDone}
 use Rattle.archive_hand.specs.States.{ArchiveState, CacheStands, Reaches}
 use Rattle.archive_hand.specs.declared.error.ChangeError.{ChangeError}

@@ -1,8 +1,8 @@
 -- How the calls that change an archive end.
 use Rattle.std.specs.Prelude.{ℕ, Result, Ok, Err}
-use Rattle.archive_state.specs.Steps.{Accepted, Refused, Planned}
-use Rattle.plan_shelf.specs.declared.readying.PlanReport.{PlanReport}
-use Rattle.plan_shelf.specs.Readying.{summary_of}
+use Rattle.model_archive.specs.Steps.{Accepted, Refused, Planned}
+use Rattle.archive_plans.specs.declared.readying.PlanReport.{PlanReport}
+use Rattle.archive_plans.specs.Readying.{summary_of}
 use Rattle.archive_hand.specs.declared.error.ChangeError.{ChangeError}
 use Rattle.archive_hand.specs.declared.error.ChangeError.TheVariants as changes
 use Rattle.archive_hand.specs.Takes.{Ending, Replied, Starved, Faulted}

@@ -1,28 +1,28 @@
 //! Changes of documents: an arrival, and a deletion.
 ghost use Rattle.std.specs.Prelude.{◌≡◌, ◌<◌, ◌^◌, length, Option, None, IsTrue, IfOk, OnOk};
-ghost use Rattle.gate_journal.specs.Crash.{KeepsPages};
-ghost use Rattle.archive_state.specs.Histories.{History};
-ghost use Rattle.archive_state.specs.Steps.{arrival_refusal, deletion_refusal};
+ghost use Rattle.journal_gates.specs.Crash.{KeepsPages};
+ghost use Rattle.model_archive.specs.Histories.{History};
+ghost use Rattle.model_archive.specs.Steps.{arrival_refusal, deletion_refusal};
 ghost use Rattle.archive_hand.specs.States.{StandsFor, AreInStepBy, Reaches, with_entry};
 ghost use Rattle.archive_hand.specs.Changing.{LeadsBy};
 ghost use Rattle.archive_hand.specs.Stored.{Store};
 ghost use Rattle.archive_hand.specs.Takes.{TakesBy};
 ghost use Rattle.archive_changes.specs.Endings.{changed};
-ghost use Rattle.record_codec.specs.declared.entry.Entry.{Entry};
+ghost use Rattle.journal_entries.specs.declared.entry.Entry.{Entry};
 ghost use Rattle.archive_changes.specs.Adding.{Adds};
 ghost use Rattle.archive_changes.specs.After.{AfterChange};
-ghost use Rattle.archive_replay.specs.Entries.{IsPrepared, change_refusal};
-ghost use Rattle.record_codec.specs.declared.entry.Entry.TheVariants as entries;
-ghost use Rattle.commands.specs.declared.command.Command.TheVariants as commands;
-ghost use Rattle.commands.specs.declared.command.Item.TheVariants as items;
-ghost use Rattle.commands.specs.declared.text.Text.TheVariants as texts;
+ghost use Rattle.archive_entries.specs.Entries.{IsPrepared, change_refusal};
+ghost use Rattle.journal_entries.specs.declared.entry.Entry.TheVariants as entries;
+ghost use Rattle.base_commands.specs.declared.command.Command.TheVariants as commands;
+ghost use Rattle.base_commands.specs.declared.command.Item.TheVariants as items;
+ghost use Rattle.base_commands.specs.declared.text.Text.TheVariants as texts;
 
+use archive_entries::{Declined, Prepared};
 use archive_hand::{Archive, ChangeError};
-use archive_replay::{Declined, Prepared};
-use archive_state::Refusal;
+use base_types::{DocId, Time};
 use machine_model::Disk;
+use model_archive::Refusal;
 use std::alloc::Global;
-use time_base::{DocId, Time};
 
 /// Adds a version of a document, and answers how many entries there are. At `Ok` the entry is
 /// durable: each image that a stop may leave has it. All memory is taken before the first write.

@@ -8,6 +8,6 @@
 mod changing;
 mod planning;
 
+pub use archive_plans::PlanReport;
 pub use changing::{arrive, delete};
-pub use plan_shelf::PlanReport;
 pub use planning::plan;

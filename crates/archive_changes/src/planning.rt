@@ -1,29 +1,29 @@
 //! Plans that are stored.
 ghost use Rattle.std.specs.Prelude.{◌≡◌, ◌<◌, ◌≤◌, ◌^◌, length, All, Some, IsTrue, IfOk, IsErrOf};
-ghost use Rattle.archive_state.specs.Histories.{History};
-ghost use Rattle.archive_state.specs.Steps.{Planned, Plans, Refused, spelled_key};
+ghost use Rattle.model_archive.specs.Histories.{History};
+ghost use Rattle.model_archive.specs.Steps.{Planned, Plans, Refused, spelled_key};
 ghost use Rattle.archive_hand.specs.Storing.{IsDraft};
 ghost use Rattle.archive_hand.specs.States.{StandsFor, AreInStepBy, Reaches};
 ghost use Rattle.archive_hand.specs.Stored.{Store};
 ghost use Rattle.archive_hand.specs.Takes.{TakesBy};
 ghost use Rattle.archive_changes.specs.Endings.{planned};
-ghost use Rattle.plan_shelf.specs.Readying.{summary_of};
+ghost use Rattle.archive_plans.specs.Readying.{summary_of};
 ghost use Rattle.archive_changes.specs.After.{AfterChange};
-ghost use Rattle.commands.specs.declared.command.Command.TheVariants as commands;
-ghost use Rattle.commands.specs.declared.command.Item.TheVariants as items;
-ghost use Rattle.stored_plans.specs.Plans.{IsCostOf, IsGoodPlan, plan_space};
-ghost use Rattle.fold_tokens.specs.Terms.{one_term as term_of};
-ghost use Rattle.archive_state.specs.Planning.{OfPhrase, OfWidth, IsKnown};
+ghost use Rattle.base_commands.specs.declared.command.Command.TheVariants as commands;
+ghost use Rattle.base_commands.specs.declared.command.Item.TheVariants as items;
+ghost use Rattle.plans_kinds.specs.Plans.{IsCostOf, IsGoodPlan, plan_space};
+ghost use Rattle.text_words.specs.Terms.{one_term as term_of};
+ghost use Rattle.model_archive.specs.Planning.{OfPhrase, OfWidth, IsKnown};
 
+use archive_entries::Declined;
 use archive_hand::{Archive, ChangeError, Sealed};
-use archive_replay::Declined;
-use archive_state::Refusal;
-use commands::{Kind, Phrase};
+use archive_plans::{Draft, PlanReport};
+use base_commands::{Kind, Phrase};
+use base_types::Fraction;
 use machine_model::Disk;
-use plan_choice::{Choice, ChoiceError, choose};
-use plan_shelf::{Draft, PlanReport};
+use model_archive::Refusal;
+use plans_choice::{Choice, ChoiceError, choose};
 use std::alloc::Global;
-use time_base::Fraction;
 
 /// Stores a plan of a word's list up to the last time, in the place of the word's plan if it has one.
 /// One that keeps to a guarantee takes least space of those in which each read costs at most the

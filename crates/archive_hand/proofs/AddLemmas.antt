@@ -3,34 +3,34 @@ use Rattle.std.proofs.Common.{◌≡◌, ◌⊎◌, ℕ, ◌+◌, ◌-◌, ◌�
 use Rattle.std.proofs.lemmas.List.{length_push}
 use Rattle.std.proofs.lemmas.List.Elements.{All-weaker}
 use Rattle.machine_model.specs.Areas.{Bytes}
-use Rattle.time_base.specs.declared.extent.Extent.{Extent}
-use Rattle.page_store.specs.Live.{IsInside}
+use Rattle.base_types.specs.declared.extent.Extent.{Extent}
+use Rattle.pages_area.specs.Live.{IsInside}
 use Rattle.machine_model.specs.States.{DiskState, moment}
 use Rattle.machine_model.specs.Images.{MayLeave}
 use Rattle.machine_model.proofs.MomentLemmas.{goes_on_same, left_now, allowed_left}
-use Rattle.version_store.specs.declared.change.Change.{Change}
-use Rattle.gate_journal.specs.Spelled.{Spells}
-use Rattle.gate_journal.specs.InStep.{IsInStep}
-use Rattle.gate_journal.specs.Crash.{Appends, KeepsPages}
-use Rattle.gate_journal.proofs.InStepLemmas.{step_spells}
+use Rattle.lists_versions.specs.declared.change.Change.{Change}
+use Rattle.journal_gates.specs.Spelled.{Spells}
+use Rattle.journal_gates.specs.InStep.{IsInStep}
+use Rattle.journal_gates.specs.Crash.{Appends, KeepsPages}
+use Rattle.journal_gates.proofs.InStepLemmas.{step_spells}
 use Rattle.machine_model.specs.declared.range.Range.{Range}
-use Rattle.page_store.specs.Crash.{ChangesOnly}
-use Rattle.record_codec.specs.Spelling.{spelling}
-use Rattle.record_codec.specs.declared.entry.Entry.{Entry}
-use Rattle.record_codec.specs.declared.entry.Entry.TheVariants.{Arrive, Delete, Planned}
-use Rattle.archive_state.specs.Histories.{History, changes, end_of}
-use Rattle.archive_state.specs.Plans.{live_plans}
-use Rattle.archive_state.proofs.HoldLemmas.{same_live}
-use Rattle.archive_state.specs.Stands.{bodies_of}
-use Rattle.archive_state.proofs.HistoryLemmas.{bodies_of-push, end_of-push, end_of-least, loadable-push, entry_loads}
+use Rattle.pages_area.specs.Crash.{ChangesOnly}
+use Rattle.journal_entries.specs.Spelling.{spelling}
+use Rattle.journal_entries.specs.declared.entry.Entry.{Entry}
+use Rattle.journal_entries.specs.declared.entry.Entry.TheVariants.{Arrive, Delete, Planned}
+use Rattle.model_archive.specs.Histories.{History, changes, end_of}
+use Rattle.model_archive.specs.Plans.{live_plans}
+use Rattle.model_archive.proofs.HoldLemmas.{same_live}
+use Rattle.model_archive.specs.Stands.{bodies_of}
+use Rattle.model_archive.proofs.HistoryLemmas.{bodies_of-push, end_of-push, end_of-least, loadable-push, entry_loads}
 use Rattle.archive_hand.specs.States.{ArchiveState, StandsFor}
-use Rattle.plan_shelf.specs.Shelves.{ShelfState}
-use Rattle.version_index.specs.Indexes.{IsPreparedFor}
-use Rattle.version_index.specs.declared.prepared.Prepared.{Prepared as Words}
+use Rattle.archive_plans.specs.Shelves.{ShelfState}
+use Rattle.lists_index.specs.Indexes.{IsPreparedFor}
+use Rattle.lists_index.specs.declared.prepared.Prepared.{Prepared as Words}
 use Rattle.archive_hand.specs.Adding.{IsMore}
-use Rattle.archive_replay.specs.Entries.{IsNext, IsHeld, Makes, document_of, text_of}
-use Rattle.archive_replay.proofs.IndexLemmas.{change_comes}
-use Rattle.archive_replay.proofs.PlaceLemmas.{placed_more}
+use Rattle.archive_entries.specs.Entries.{IsNext, IsHeld, Makes, document_of, text_of}
+use Rattle.archive_entries.proofs.IndexLemmas.{change_comes}
+use Rattle.archive_entries.proofs.PlaceLemmas.{placed_more}
 use Rattle.machine_model.specs.Calls.{OnlyReads}
 
 -- ---- an entry more

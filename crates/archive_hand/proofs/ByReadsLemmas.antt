@@ -7,22 +7,22 @@ use Rattle.machine_model.specs.Calls.{OnlyReads}
 use Rattle.machine_model.specs.Images.{MayLeave}
 use Rattle.machine_model.specs.States.{DiskState}
 use Rattle.machine_model.proofs.MomentLemmas.{goes_on_same, left_now}
-use Rattle.time_base.specs.declared.extent.Extent.{Extent}
-use Rattle.gate_journal.specs.InStep.{IsInStep}
-use Rattle.gate_journal.proofs.InStepLemmas.{step_at, step_spells}
-use Rattle.page_store.specs.Live.{AreLive, IsInside}
-use Rattle.page_store.specs.Ranges.{SameOutside, range_of}
-use Rattle.page_store.specs.Taken.{AreApart, IsApartFrom}
-use Rattle.page_store.proofs.StayLemmas.{AreApartFrom, bytes_stay}
-use Rattle.record_codec.specs.declared.entry.Entry.{Entry}
-use Rattle.record_codec.specs.declared.entry.Entry.TheVariants.{Planned}
-use Rattle.record_codec.specs.declared.plan.PlanEntry.{PlanEntry}
-use Rattle.archive_state.specs.Histories.{History}
-use Rattle.archive_state.specs.Plans.{IsChange, live_extents}
-use Rattle.archive_state.specs.Stands.{bodies_of}
-use Rattle.archive_state.specs.declared.stored.StoredPlan.{StoredPlan}
-use Rattle.archive_state.proofs.HoldLemmas.{same_live}
-use Rattle.plan_shelf.specs.Shelves.{extents_all}
+use Rattle.base_types.specs.declared.extent.Extent.{Extent}
+use Rattle.journal_gates.specs.InStep.{IsInStep}
+use Rattle.journal_gates.proofs.InStepLemmas.{step_at, step_spells}
+use Rattle.pages_area.specs.Live.{AreLive, IsInside}
+use Rattle.pages_area.specs.Ranges.{SameOutside, range_of}
+use Rattle.pages_area.specs.Taken.{AreApart, IsApartFrom}
+use Rattle.pages_area.proofs.StayLemmas.{AreApartFrom, bytes_stay}
+use Rattle.journal_entries.specs.declared.entry.Entry.{Entry}
+use Rattle.journal_entries.specs.declared.entry.Entry.TheVariants.{Planned}
+use Rattle.journal_entries.specs.declared.plan.PlanEntry.{PlanEntry}
+use Rattle.model_archive.specs.Histories.{History}
+use Rattle.model_archive.specs.Plans.{IsChange, live_extents}
+use Rattle.model_archive.specs.Stands.{bodies_of}
+use Rattle.model_archive.specs.declared.stored.StoredPlan.{StoredPlan}
+use Rattle.model_archive.proofs.HoldLemmas.{same_live}
+use Rattle.archive_plans.specs.Shelves.{extents_all}
 use Rattle.archive_hand.specs.Changing.{KeepsBy, LeadsBy}
 use Rattle.archive_hand.specs.States.{ArchiveState, AreInStepBy, CacheStands, IsSameButCache, StandsFor, with_entry, with_reads}
 use Rattle.archive_hand.specs.Stored.{Store, EachStandsBy, HasSame, StandsBy, Stocks}

@@ -2,13 +2,13 @@
 use Rattle.std.proofs.Common.{◌≡◌, ℕ, List, [], ◌++◌, get_or, All, subst, sym}
 use Rattle.std.proofs.lemmas.List.Elements.{All-nil}
 use Rattle.machine_model.specs.States.{DiskState}
-use Rattle.page_cache.specs.Caches.{Kept, IsHeld, StandsFor as IsCacheOf}
-use Rattle.page_cache.specs.Laws.{LieIn}
-use Rattle.page_store.specs.Runs.{IsTaken}
-use Rattle.page_store.specs.Taken.{PagesState, HasTaken}
-use Rattle.page_store.proofs.StayLemmas.{apart_parts}
-use Rattle.time_base.specs.declared.extent.Extent.{Extent}
-use Rattle.archive_state.specs.Histories.{History}
+use Rattle.pages_area.specs.Caches.{Kept, IsHeld, StandsFor as IsCacheOf}
+use Rattle.pages_area.specs.CacheLaws.{LieIn}
+use Rattle.pages_area.specs.Runs.{IsTaken}
+use Rattle.pages_area.specs.Taken.{PagesState, HasTaken}
+use Rattle.pages_area.proofs.StayLemmas.{apart_parts}
+use Rattle.base_types.specs.declared.extent.Extent.{Extent}
+use Rattle.model_archive.specs.Histories.{History}
 use Rattle.archive_hand.specs.States.{ArchiveState, StandsFor, CacheStands, IsSameButCache}
 
 -- it stands for the history for which it stood

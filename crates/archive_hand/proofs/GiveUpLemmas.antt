@@ -1,13 +1,13 @@
 -- What is known of a change, or a plan, that was given up.
 use Rattle.std.proofs.Common.{◌≡◌, ◌⊎◌, Result, Err, IsOk, inl, inr, refl, subst}
 use Rattle.machine_model.specs.States.{DiskState}
-use Rattle.archive_state.specs.declared.refusal.Refusal.{Refusal}
+use Rattle.model_archive.specs.declared.refusal.Refusal.{Refusal}
 use Rattle.archive_hand.specs.States.{ArchiveState, CacheStands}
 use Rattle.archive_hand.specs.Adding.{GivesUp}
 use Rattle.archive_hand.specs.declared.error.ChangeError.{ChangeError}
 use Rattle.archive_hand.specs.declared.error.ChangeError.TheVariants as errors
-use Rattle.archive_replay.specs.declared.error.Declined.{Declined}
-use Rattle.archive_replay.specs.declared.error.Declined.TheVariants as declines
+use Rattle.archive_entries.specs.declared.error.Declined.{Declined}
+use Rattle.archive_entries.specs.declared.error.Declined.TheVariants as declines
 
 -- it was not made, and no call of the disk failed
 pub given_up_never : {T : Type 0} (Q : Type 0) (why : Declined) (error : ChangeError) (a b : ArchiveState) → GivesUp why error a b → IsOk {T = T} (Err error) ⊎ (◌≡◌ {A = Result T ChangeError} (Err error) (Err errors.Failed)) → Q

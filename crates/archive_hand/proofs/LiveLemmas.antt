@@ -3,11 +3,11 @@ use Rattle.std.proofs.Common.{◌≡◌, ℕ, ◌+◌, Bool, true, false, cond, 
 use Rattle.std.proofs.lemmas.List.{append-nil, length-append, get_or_append_left, get_or-append-add}
 use Rattle.std.proofs.lemmas.List.Concat.{flat_map-append}
 use Rattle.std.proofs.lemmas.List.Elements.{All-append}
-use Rattle.time_base.specs.declared.extent.Extent.{Extent}
-use Rattle.page_store.specs.Live.{IsInside}
-use Rattle.archive_state.specs.declared.stored.StoredPlan.{StoredPlan}
-use Rattle.archive_state.specs.Plans.{is_another, with_plan, extents_of}
-use Rattle.plan_shelf.specs.Shelves.{extents_all}
+use Rattle.base_types.specs.declared.extent.Extent.{Extent}
+use Rattle.pages_area.specs.Live.{IsInside}
+use Rattle.model_archive.specs.declared.stored.StoredPlan.{StoredPlan}
+use Rattle.model_archive.specs.Plans.{is_another, with_plan, extents_of}
+use Rattle.archive_plans.specs.Shelves.{extents_all}
 
 all_left : (P : Extent → Type 0) (xs ys : List Extent) → All P (xs ++ ys) → All P xs
 all_left P xs ys all = λ k d lt. subst P (get_or_append_left xs ys d k lt) (all k d (omega (arith, lt, length-append xs ys)))

@@ -2,35 +2,35 @@
 use Rattle.std.proofs.Common.{◌≡◌, ℕ, ◌<◌, ◌≤◌, List, [], ◌∷◌, length, All, Result, Ok, Err, IfOk, inl, inr, refl, ap, subst, sym, ◌∙◌, arith, Bool, length-append}
 use Rattle.std.proofs.lemmas.List.Elements.{All-nil}
 use Rattle.machine_model.specs.Areas.{Bytes}
-use Rattle.page_store.specs.Live.{AreLive, IsInside}
+use Rattle.pages_area.specs.Live.{AreLive, IsInside}
 use Rattle.machine_model.specs.States.{DiskState}
 use Rattle.machine_model.specs.Images.{MayLeave, Only}
-use Rattle.version_store.specs.declared.change.Change.{Change}
-use Rattle.gate_journal.specs.Spelled.{Spells, EachSpells}
-use Rattle.gate_journal.specs.InStep.{IsInStep}
-use Rattle.gate_journal.specs.Crash.{KeepsPages, KeepsBodies}
-use Rattle.archive_state.specs.Histories.{History, end_of}
-use Rattle.archive_state.specs.Legal.{IsLoadable}
-use Rattle.archive_state.specs.Plans.{live_extents, live_plans}
-use Rattle.archive_state.specs.Stands.{bodies_of, EachStands, IsNotArchive}
-use Rattle.archive_state.proofs.HistoryLemmas.{end_of-least, end_of_is}
+use Rattle.lists_versions.specs.declared.change.Change.{Change}
+use Rattle.journal_gates.specs.Spelled.{Spells, EachSpells}
+use Rattle.journal_gates.specs.InStep.{IsInStep}
+use Rattle.journal_gates.specs.Crash.{KeepsPages, KeepsBodies}
+use Rattle.model_archive.specs.Histories.{History, end_of}
+use Rattle.model_archive.specs.Legal.{IsLoadable}
+use Rattle.model_archive.specs.Plans.{live_extents, live_plans}
+use Rattle.model_archive.specs.Stands.{bodies_of, EachStands, IsNotArchive}
+use Rattle.model_archive.proofs.HistoryLemmas.{end_of-least, end_of_is}
 use Rattle.archive_hand.specs.States.{ArchiveState, StandsFor, Reaches, AreInStepBy}
-use Rattle.plan_shelf.specs.Shelves.{ShelfState, IsBadShelf, extents_all}
-use Rattle.version_index.specs.Indexes.{IndexState, Indexes}
+use Rattle.archive_plans.specs.Shelves.{ShelfState, IsBadShelf, extents_all}
+use Rattle.lists_index.specs.Indexes.{IndexState, Indexes}
 use Rattle.archive_hand.specs.Changing.{KeepsHistory}
-use Rattle.page_store.specs.Taken.{HasTaken}
-use Rattle.gate_journal.specs.Records.{front}
+use Rattle.pages_area.specs.Taken.{HasTaken}
+use Rattle.journal_gates.specs.Records.{front}
 use Rattle.machine_model.specs.Calls.{OnlyReads}
-use Rattle.gate_journal.specs.declared.head.Head.{Head}
-use Rattle.time_base.specs.declared.text_place.TextPlace.{TextPlace}
-use Rattle.archive_state.specs.Histories as histories
-use Rattle.archive_state.specs.declared.stored.StoredPlan.{StoredPlan}
-use Rattle.gate_journal.specs.declared.error.JournalError.{JournalError}
-use Rattle.gate_journal.specs.declared.error.JournalError.TheVariants.{Failed, NotJournal, Memory}
-use Rattle.archive_replay.specs.declared.error.LoadError.{LoadError}
-use Rattle.archive_replay.specs.declared.error.LoadError.TheVariants.{NotArchive}
-use Rattle.archive_replay.specs.Causes.{load_error_of}
-use Rattle.archive_replay.specs.Replaying.{IsReplayed, IsBadAmong}
+use Rattle.journal_gates.specs.declared.head.Head.{Head}
+use Rattle.base_types.specs.declared.text_place.TextPlace.{TextPlace}
+use Rattle.model_archive.specs.Histories as histories
+use Rattle.model_archive.specs.declared.stored.StoredPlan.{StoredPlan}
+use Rattle.journal_gates.specs.declared.error.JournalError.{JournalError}
+use Rattle.journal_gates.specs.declared.error.JournalError.TheVariants.{Failed, NotJournal, Memory}
+use Rattle.archive_entries.specs.declared.error.LoadError.{LoadError}
+use Rattle.archive_entries.specs.declared.error.LoadError.TheVariants.{NotArchive}
+use Rattle.archive_entries.specs.Causes.{load_error_of}
+use Rattle.archive_entries.specs.Replaying.{IsReplayed, IsBadAmong}
 use Rattle.std.proofs.lemmas.Bool.{cases_lt}
 use Rattle.archive_hand.specs.Stored.{Store, HasSame}
 use Rattle.archive_hand.proofs.AddLemmas.{step_reads}

@@ -1,14 +1,14 @@
 -- The tests of a phrase that is to be planned, by any names of what they come to.
 use Rattle.std.proofs.Common.{Bool, true, false, ◌≡◌, ℕ, ◌<◌, List, [], ◌∷◌, length, Option, Some, None, Result, Err, sym, subst, inl, inr, arith}
-use Rattle.time_base.specs.declared.posting.Posting.{Posting}
-use Rattle.commands.specs.declared.command.Kind.{Kind}
-use Rattle.commands.specs.declared.command.Kind.TheVariants.{Guarantee, Uniform, Since}
-use Rattle.archive_state.specs.declared.refusal.Refusal.{Refusal}
-use Rattle.archive_state.specs.declared.refusal.Refusal.TheVariants as refusals
-use Rattle.archive_state.specs.Histories.{History}
-use Rattle.archive_state.specs.Planning.{IsKnown, IsListUpTo, OfBoundaries, OfWidth, OfList, OfPhrase, last_second}
-use Rattle.archive_replay.specs.declared.error.Declined.{Declined}
-use Rattle.archive_replay.specs.declared.error.Declined.TheVariants as declines
+use Rattle.base_types.specs.declared.posting.Posting.{Posting}
+use Rattle.base_commands.specs.declared.command.Kind.{Kind}
+use Rattle.base_commands.specs.declared.command.Kind.TheVariants.{Guarantee, Uniform, Since}
+use Rattle.model_archive.specs.declared.refusal.Refusal.{Refusal}
+use Rattle.model_archive.specs.declared.refusal.Refusal.TheVariants as refusals
+use Rattle.model_archive.specs.Histories.{History}
+use Rattle.model_archive.specs.Planning.{IsKnown, IsListUpTo, OfBoundaries, OfWidth, OfList, OfPhrase, last_second}
+use Rattle.archive_entries.specs.declared.error.Declined.{Declined}
+use Rattle.archive_entries.specs.declared.error.Declined.TheVariants as declines
 
 -- the tests by other names of what they come to
 module _ (h : ℕ) (One Other : Refusal → Type 0) (refused : (why : Refusal) → One why → Other why) where

@@ -7,30 +7,30 @@ use Rattle.machine_model.specs.Images.{MayLeave}
 use Rattle.machine_model.specs.States.{DiskState, moment}
 use Rattle.machine_model.specs.declared.range.Range.{Range}
 use Rattle.machine_model.proofs.MomentLemmas.{goes_on_joins, joined, allowed_left}
-use Rattle.time_base.specs.declared.extent.Extent.{Extent}
-use Rattle.gate_journal.specs.Crash.{Appends, KeepsPages}
-use Rattle.gate_journal.specs.InStep.{IsInStep}
-use Rattle.gate_journal.specs.Spelled.{Spells}
-use Rattle.gate_journal.proofs.InStepLemmas.{step_spells}
-use Rattle.page_store.specs.Crash.{ChangesOnly}
-use Rattle.page_store.specs.Live.{IsInside}
-use Rattle.page_store.specs.Ranges.{SameOutside, range_of}
-use Rattle.page_store.specs.Wrote.{HoldsPiece, Piece, Stored, extents_of, ranges_of}
-use Rattle.page_store.proofs.StayLemmas.{apart_parts}
-use Rattle.record_codec.specs.declared.entry.Entry.TheVariants.{Planned}
-use Rattle.record_codec.specs.declared.place.Place.{Place}
-use Rattle.record_codec.specs.declared.plan.PlanEntry.{PlanEntry}
-use Rattle.sublist_store.specs.Preparing.{IsFor, PreparedState, extents, pieces, pieces_of}
-use Rattle.sublist_store.specs.Segments.{seconds}
-use Rattle.sublist_store.proofs.HoldLemmas.{hold_sublists}
-use Rattle.archive_state.specs.Histories.{History, end_of}
-use Rattle.archive_state.specs.Holding.{HoldsPlan}
-use Rattle.archive_state.specs.Plans.{live_extents, live_plans}
-use Rattle.archive_state.specs.Stands.{bodies_of}
-use Rattle.archive_state.specs.declared.stored.StoredPlan.{StoredPlan}
-use Rattle.archive_state.proofs.HoldLemmas.{apart_more, piece_extents}
-use Rattle.archive_state.proofs.LiveLemmas.{later_push, list_later, live_plans-push}
-use Rattle.plan_shelf.specs.Shelves.{extents_all}
+use Rattle.base_types.specs.declared.extent.Extent.{Extent}
+use Rattle.journal_gates.specs.Crash.{Appends, KeepsPages}
+use Rattle.journal_gates.specs.InStep.{IsInStep}
+use Rattle.journal_gates.specs.Spelled.{Spells}
+use Rattle.journal_gates.proofs.InStepLemmas.{step_spells}
+use Rattle.pages_area.specs.Crash.{ChangesOnly}
+use Rattle.pages_area.specs.Live.{IsInside}
+use Rattle.pages_area.specs.Ranges.{SameOutside, range_of}
+use Rattle.pages_area.specs.Wrote.{HoldsPiece, Piece, Stored, extents_of, ranges_of}
+use Rattle.pages_area.proofs.StayLemmas.{apart_parts}
+use Rattle.journal_entries.specs.declared.entry.Entry.TheVariants.{Planned}
+use Rattle.journal_entries.specs.declared.place.Place.{Place}
+use Rattle.journal_entries.specs.declared.plan.PlanEntry.{PlanEntry}
+use Rattle.pages_sublists.specs.Preparing.{IsFor, PreparedState, extents, pieces, pieces_of}
+use Rattle.pages_sublists.specs.Segments.{seconds}
+use Rattle.pages_sublists.proofs.HoldLemmas.{hold_sublists}
+use Rattle.model_archive.specs.Histories.{History, end_of}
+use Rattle.model_archive.specs.Holding.{HoldsPlan}
+use Rattle.model_archive.specs.Plans.{live_extents, live_plans}
+use Rattle.model_archive.specs.Stands.{bodies_of}
+use Rattle.model_archive.specs.declared.stored.StoredPlan.{StoredPlan}
+use Rattle.model_archive.proofs.HoldLemmas.{apart_more, piece_extents}
+use Rattle.model_archive.proofs.LiveLemmas.{later_push, list_later, live_plans-push}
+use Rattle.archive_plans.specs.Shelves.{extents_all}
 use Rattle.archive_hand.specs.Changing.{KeepsBy, LeadsBy}
 use Rattle.archive_hand.specs.States.{ArchiveState, AreInStepBy, with_entry}
 use Rattle.archive_hand.specs.Stored.{Store, HasSame, StandsBy, Stocks}

@@ -3,19 +3,19 @@ use Rattle.std.proofs.Common.{◌≡◌, ℕ, zero, suc, ◌+◌, ◌*◌, ◌<�
 use Rattle.std.proofs.lemmas.List.Elements.{All-nil, All-cons, All-head, All-tail, All-append, All-filter}
 use Rattle.std.proofs.lemmas.List.Sums.{sum_by-cons}
 use Rattle.machine_model.specs.Areas.{Both}
-use Rattle.time_base.specs.declared.extent.Extent.{Extent}
-use Rattle.page_store.specs.Live.{IsInside}
-use Rattle.record_codec.specs.Spelling.{spelling}
-use Rattle.record_codec.specs.PlanSpelling.{IsPlanEntry}
-use Rattle.record_codec.specs.declared.entry.Entry.TheVariants.{Arrive, Delete, Planned}
-use Rattle.record_codec.specs.declared.place.Place.{Place}
-use Rattle.stored_plans.specs.Plans.{IsFitFor}
-use Rattle.archive_state.specs.declared.stored.StoredPlan.{StoredPlan}
-use Rattle.archive_state.specs.Histories.{History}
-use Rattle.archive_state.specs.Legal.{EachMayCome, IsLoadable}
-use Rattle.archive_state.specs.Plans.{is_another, live_after, live_plans, with_plan}
+use Rattle.base_types.specs.declared.extent.Extent.{Extent}
+use Rattle.pages_area.specs.Live.{IsInside}
+use Rattle.journal_entries.specs.Spelling.{spelling}
+use Rattle.journal_entries.specs.PlanSpelling.{IsPlanEntry}
+use Rattle.journal_entries.specs.declared.entry.Entry.TheVariants.{Arrive, Delete, Planned}
+use Rattle.journal_entries.specs.declared.place.Place.{Place}
+use Rattle.plans_kinds.specs.Plans.{IsFitFor}
+use Rattle.model_archive.specs.declared.stored.StoredPlan.{StoredPlan}
+use Rattle.model_archive.specs.Histories.{History}
+use Rattle.model_archive.specs.Legal.{EachMayCome, IsLoadable}
+use Rattle.model_archive.specs.Plans.{is_another, live_after, live_plans, with_plan}
 use Rattle.archive_hand.specs.States.{ArchiveState, StandsFor, Reaches}
-use Rattle.plan_shelf.specs.Shelves.{extents_all, IsReadable}
+use Rattle.archive_plans.specs.Shelves.{extents_all, IsReadable}
 
 -- ---- their fields are in their ranges
 

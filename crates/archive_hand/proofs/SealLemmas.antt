@@ -3,23 +3,23 @@ use Rattle.std.proofs.Common.{true, ◌==◌, ◌≡◌, ℕ, ◌≤◌, List, [
 use Rattle.std.proofs.lemmas.Bool.Decides.{nat_tests}
 use Rattle.std.proofs.lemmas.List.Elements.{All-nil}
 use Rattle.std.proofs.lemmas.Str.{is_utf8-from_IsUtf8}
-use Rattle.time_base.specs.declared.time.Time.{Time}
-use Rattle.time_base.specs.declared.text_place.TextPlace.{TextPlace}
-use Rattle.time_base.specs.declared.posting.Posting.{Posting}
-use Rattle.postings.specs.ListsOf.{IsListOf}
-use Rattle.version_store.specs.Changes.{last_time}
-use Rattle.version_store.proofs.Mapped.{last_time-mapped}
-use Rattle.version_index.specs.Words.{words_in}
-use Rattle.commands.specs.declared.command.Kind.{Kind}
-use Rattle.archive_state.specs.declared.refusal.Refusal.{Refusal}
-use Rattle.archive_state.specs.declared.refusal.Refusal.TheVariants as refusals
-use Rattle.archive_state.specs.Histories.{History, changes}
-use Rattle.archive_state.specs.Planning.{IsKnown, IsListUpTo, OfWord, last_second}
-use Rattle.archive_state.specs.Steps.{spelled_key}
+use Rattle.base_types.specs.declared.time.Time.{Time}
+use Rattle.base_types.specs.declared.text_place.TextPlace.{TextPlace}
+use Rattle.base_types.specs.declared.posting.Posting.{Posting}
+use Rattle.lists_postings.specs.ListsOf.{IsListOf}
+use Rattle.lists_versions.specs.Changes.{last_time}
+use Rattle.lists_versions.proofs.Mapped.{last_time-mapped}
+use Rattle.lists_index.specs.Words.{words_in}
+use Rattle.base_commands.specs.declared.command.Kind.{Kind}
+use Rattle.model_archive.specs.declared.refusal.Refusal.{Refusal}
+use Rattle.model_archive.specs.declared.refusal.Refusal.TheVariants as refusals
+use Rattle.model_archive.specs.Histories.{History, changes}
+use Rattle.model_archive.specs.Planning.{IsKnown, IsListUpTo, OfWord, last_second}
+use Rattle.model_archive.specs.Steps.{spelled_key}
 use Rattle.archive_hand.specs.States.{ArchiveState, StandsFor}
-use Rattle.archive_replay.specs.Texts.{nothing}
-use Rattle.archive_replay.proofs.IndexLemmas.{words_are}
-use Rattle.archive_replay.proofs.PlaceLemmas.{bare_changes}
+use Rattle.archive_entries.specs.Texts.{nothing}
+use Rattle.archive_entries.proofs.IndexLemmas.{words_are}
+use Rattle.archive_entries.proofs.PlaceLemmas.{bare_changes}
 
 -- ---- the last time, and the words that are known
 

@@ -3,33 +3,33 @@ use Rattle.std.proofs.Common.{◌≡◌, ℕ, ◌+◌, ◌-◌, ◌≤◌, List,
 use Rattle.std.specs.List.{AllZip}
 use Rattle.std.proofs.lemmas.List.{length_push}
 use Rattle.std.proofs.lemmas.List.Elements.{All-map}
-use Rattle.time_base.specs.declared.extent.Extent.{Extent}
-use Rattle.version_store.specs.declared.change.Change.{Change}
-use Rattle.version_index.specs.Indexes.{Indexes}
-use Rattle.page_store.specs.Live.{IsInside}
-use Rattle.page_store.specs.Taken.{PagesState, HasTaken}
-use Rattle.record_codec.specs.declared.entry.Entry.TheVariants.{Planned}
-use Rattle.record_codec.specs.declared.place.Place.{Place}
-use Rattle.record_codec.specs.declared.plan.PlanEntry.{PlanEntry}
-use Rattle.sublist_store.specs.Preparing.{IsFor, extents, spellings}
-use Rattle.sublist_store.specs.Segments.{seconds}
-use Rattle.archive_state.specs.declared.stored.StoredPlan.{StoredPlan}
-use Rattle.archive_state.specs.Histories.{History, end_of}
-use Rattle.archive_state.specs.Legal.{IsLegalEntry}
-use Rattle.archive_state.specs.Planning.{IsListUpTo}
-use Rattle.archive_state.specs.Plans.{with_plan, live_plans, live_extents}
-use Rattle.archive_state.proofs.HistoryLemmas.{end_of-push, loadable-push, entry_loads}
-use Rattle.archive_state.proofs.LiveLemmas.{live_plans-push}
-use Rattle.archive_state.proofs.StoringLemmas.{plan_legal}
+use Rattle.base_types.specs.declared.extent.Extent.{Extent}
+use Rattle.lists_versions.specs.declared.change.Change.{Change}
+use Rattle.lists_index.specs.Indexes.{Indexes}
+use Rattle.pages_area.specs.Live.{IsInside}
+use Rattle.pages_area.specs.Taken.{PagesState, HasTaken}
+use Rattle.journal_entries.specs.declared.entry.Entry.TheVariants.{Planned}
+use Rattle.journal_entries.specs.declared.place.Place.{Place}
+use Rattle.journal_entries.specs.declared.plan.PlanEntry.{PlanEntry}
+use Rattle.pages_sublists.specs.Preparing.{IsFor, extents, spellings}
+use Rattle.pages_sublists.specs.Segments.{seconds}
+use Rattle.model_archive.specs.declared.stored.StoredPlan.{StoredPlan}
+use Rattle.model_archive.specs.Histories.{History, end_of}
+use Rattle.model_archive.specs.Legal.{IsLegalEntry}
+use Rattle.model_archive.specs.Planning.{IsListUpTo}
+use Rattle.model_archive.specs.Plans.{with_plan, live_plans, live_extents}
+use Rattle.model_archive.proofs.HistoryLemmas.{end_of-push, loadable-push, entry_loads}
+use Rattle.model_archive.proofs.LiveLemmas.{live_plans-push}
+use Rattle.model_archive.proofs.StoringLemmas.{plan_legal}
 use Rattle.archive_hand.specs.Adding.{HasSameShelf}
 use Rattle.archive_hand.specs.States.{ArchiveState, StandsFor}
-use Rattle.plan_shelf.specs.Shelves.{ShelfState, extents_all}
-use Rattle.plan_shelf.specs.Readying.{HasPlaces, IsReady}
+use Rattle.archive_plans.specs.Shelves.{ShelfState, extents_all}
+use Rattle.archive_plans.specs.Readying.{HasPlaces, IsReady}
 use Rattle.archive_hand.specs.Storing.{IsDraft, IsStorable, IsStoredAs}
-use Rattle.plan_shelf.specs.declared.readying.Draft.{Draft}
-use Rattle.plan_shelf.specs.declared.readying.Ready.{Ready}
-use Rattle.archive_replay.proofs.IndexLemmas.{changes_still}
-use Rattle.archive_replay.proofs.PlaceLemmas.{placed_plan}
+use Rattle.archive_plans.specs.declared.readying.Draft.{Draft}
+use Rattle.archive_plans.specs.declared.readying.Ready.{Ready}
+use Rattle.archive_entries.proofs.IndexLemmas.{changes_still}
+use Rattle.archive_entries.proofs.PlaceLemmas.{placed_plan}
 use Rattle.archive_hand.proofs.AddLemmas.{inside_on}
 use Rattle.archive_hand.proofs.LiveLemmas.{all_inside_with}
 

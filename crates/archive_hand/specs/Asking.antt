@@ -3,7 +3,7 @@ use Rattle.std.specs.Prelude.{◌≡◌, ◌+◌, List}
 use Rattle.machine_model.specs.Areas.{replaced}
 use Rattle.machine_model.specs.States.{DiskState}
 use Rattle.machine_model.specs.declared.area.Area.TheVariants.{Pages}
-use Rattle.page_cache.specs.Caches.{Kept, after_asking_all, missed_by_all}
+use Rattle.pages_area.specs.Caches.{Kept, after_asking_all, missed_by_all}
 
 -- Pages were asked for that gave these pieces, in turn: those that were missed were read of Pages, and nothing else; the cache is the one after
 -- the asking.

@@ -1,9 +1,9 @@
 -- What a call of the archive does for an item of the input: a step of the abstract machine, and what it leaves.
 use Rattle.std.specs.Prelude.{◌≡◌, ◌⊎◌}
 use Rattle.machine_model.specs.States.{DiskState}
-use Rattle.commands.specs.declared.command.Item.{Item}
-use Rattle.sublist_store.specs.declared.why.Damage.{Damage}
-use Rattle.archive_state.specs.Steps.{Reply}
+use Rattle.base_commands.specs.declared.command.Item.{Item}
+use Rattle.pages_sublists.specs.declared.why.Damage.{Damage}
+use Rattle.model_archive.specs.Steps.{Reply}
 use Rattle.archive_hand.specs.States.{ArchiveState, AreInStepBy}
 use Rattle.archive_hand.specs.Stored.{Store, IsSameStore, Spoils, StoreStep, TellsNoEntry}
 use Rattle.archive_hand.specs.Changing.{KeepsBy, LeadsBy}

@@ -2,7 +2,7 @@
 ghost use Rattle.std.specs.Prelude.{◌≡◌};
 ghost use Rattle.archive_hand.specs.declared.error.ChangeError.{ChangeError};
 
-use archive_state::Refusal;
+use model_archive::Refusal;
 use std::alloc::AllocError;
 
 /// Why a change was not made.

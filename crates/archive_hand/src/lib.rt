@@ -14,7 +14,7 @@ mod sealing;
 mod storing;
 
 pub use archive::Archive;
-pub use archive_replay::LoadError;
+pub use archive_entries::LoadError;
 pub use error::ChangeError;
 pub use laws::an_archive_in_step_stands;
 pub use sealing::Sealed;

@@ -1,21 +1,21 @@
 //! The list of a word, and what is asked of it before it is planned.
 ghost use Rattle.std.specs.Prelude.{◌≡◌, ◌↔◌, ◌<◌, ◌≤◌, ◌^◌, length, All, IfOk, IsErrOf, IsTrue, Some};
-ghost use Rattle.fold_tokens.specs.Terms.{one_term as term_of};
-ghost use Rattle.record_codec.specs.PlanSpelling.{IsWord};
-ghost use Rattle.archive_state.specs.Histories.{History};
-ghost use Rattle.archive_state.specs.Planning.{IsKnown, IsListUpTo, OfPhrase, OfWord, last_second};
-ghost use Rattle.archive_state.specs.Steps.{spelled_key};
+ghost use Rattle.text_words.specs.Terms.{one_term as term_of};
+ghost use Rattle.journal_entries.specs.PlanSpelling.{IsWord};
+ghost use Rattle.model_archive.specs.Histories.{History};
+ghost use Rattle.model_archive.specs.Planning.{IsKnown, IsListUpTo, OfPhrase, OfWord, last_second};
+ghost use Rattle.model_archive.specs.Steps.{spelled_key};
 ghost use Rattle.archive_hand.specs.States.{StandsFor};
 ghost use Rattle.archive_hand.specs.Sealing.{IsSealed};
-ghost use Rattle.commands.specs.declared.command.Kind.{Kind};
+ghost use Rattle.base_commands.specs.declared.command.Kind.{Kind};
 
 use crate::archive::Archive;
-use archive_replay::{Declined, are_many, list_up_to};
-use archive_state::Refusal;
-use commands::Phrase;
-use fold_tokens::one_term;
+use archive_entries::{Declined, are_many, list_up_to};
+use base_commands::Phrase;
+use base_types::{Key, Posting, Time};
+use model_archive::Refusal;
 use std::alloc::{AllocError, Global};
-use time_base::{Key, Posting, Time};
+use text_words::one_term;
 
 /// A word with its list up to the last time.
 #[derive(Drop)]

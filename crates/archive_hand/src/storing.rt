@@ -1,22 +1,22 @@
 //! A plan is put down: its sublists, and then its entry.
 ghost use Rattle.std.specs.Prelude.{ℕ, ◌≡◌, ◌+◌, ◌≤◌, ◌^◌, ◌++◌, ◌∷◌, [], List, length, All, IsTrue, IfOk, OnOk, OnErr};
 ghost use Rattle.machine_model.specs.Causes.{Rose};
-ghost use Rattle.time_base.specs.declared.extent.Extent.{Extent as PlainExtent};
-ghost use Rattle.record_codec.specs.declared.place.Place.{Place as PlainPlace};
-ghost use Rattle.gate_journal.specs.InStep.{IsInStep};
-ghost use Rattle.page_cache.specs.Caches.{StandsFor as IsCacheOf};
-ghost use Rattle.page_store.specs.Live.{IsInside};
-ghost use Rattle.page_store.specs.Runs.{IsTaken};
-ghost use Rattle.page_store.specs.Taken.{HasTaken};
-ghost use Rattle.sublist_store.specs.Preparing.{extents, pieces};
-ghost use Rattle.archive_state.specs.Plans.{with_plan};
-ghost use Rattle.plan_shelf.specs.Shelves.{extents_all};
+ghost use Rattle.base_types.specs.declared.extent.Extent.{Extent as PlainExtent};
+ghost use Rattle.journal_entries.specs.declared.place.Place.{Place as PlainPlace};
+ghost use Rattle.journal_gates.specs.InStep.{IsInStep};
+ghost use Rattle.pages_area.specs.Caches.{StandsFor as IsCacheOf};
+ghost use Rattle.pages_area.specs.Live.{IsInside};
+ghost use Rattle.pages_area.specs.Runs.{IsTaken};
+ghost use Rattle.pages_area.specs.Taken.{HasTaken};
+ghost use Rattle.pages_sublists.specs.Preparing.{extents, pieces};
+ghost use Rattle.model_archive.specs.Plans.{with_plan};
+ghost use Rattle.archive_plans.specs.Shelves.{extents_all};
 ghost use Rattle.archive_hand.specs.Storing.{HasPutDown, HasStopped};
 
-use gate_journal::{AppendError, Frame, Journal};
+use archive_plans::{PlanReport, Ready, Shelf};
+use journal_gates::{AppendError, Frame, Journal};
 use machine_model::{Disk, Failed};
-use plan_shelf::{PlanReport, Ready, Shelf};
-use sublist_store::{Prepared, Sublists};
+use pages_sublists::{Prepared, Sublists};
 
 /// Writes what is ready, first the sublists and then the entry; the plan takes the place of the one that its
 /// word had, whose pages are free only then. Takes no memory.

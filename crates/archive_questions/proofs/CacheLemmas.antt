@@ -6,12 +6,12 @@ use Rattle.machine_model.specs.Areas.{Both, replaced}
 use Rattle.machine_model.specs.Calls.{OnlyReads}
 use Rattle.machine_model.specs.States.{DiskState}
 use Rattle.machine_model.specs.declared.area.Area.TheVariants.{Pages}
-use Rattle.page_cache.specs.Caches.{Kept, after_asking_all, missed_by_all}
-use Rattle.page_cache.proofs.LawLemmas.{askings-join, misses-join}
-use Rattle.record_codec.specs.declared.plan.PlanEntry.{PlanEntry}
-use Rattle.archive_state.specs.Histories.{History}
-use Rattle.archive_state.specs.Plans.{plan_of}
-use Rattle.archive_state.specs.Chosen.{pieces_chosen, pieces_for}
+use Rattle.pages_area.specs.Caches.{Kept, after_asking_all, missed_by_all}
+use Rattle.pages_area.proofs.CacheLawLemmas.{askings-join, misses-join}
+use Rattle.journal_entries.specs.declared.plan.PlanEntry.{PlanEntry}
+use Rattle.model_archive.specs.Histories.{History}
+use Rattle.model_archive.specs.Plans.{plan_of}
+use Rattle.model_archive.specs.Chosen.{pieces_chosen, pieces_for}
 use Rattle.archive_hand.specs.Asking.{HasAsked}
 use Rattle.archive_hand.specs.States.{ArchiveState, CacheStands, IsSameButCache, Reaches}
 

@@ -3,10 +3,10 @@ use Rattle.std.proofs.Common.{◌≡◌, ℕ, zero, suc, ◌<◌, Bool, true, fa
 use Rattle.std.proofs.lemmas.Bool.{not-true}
 use Rattle.std.proofs.lemmas.List.Elements.{All-head, All-tail}
 use Rattle.std.proofs.lemmas.Slice.Eq.{bytes_eq-Decides}
-use Rattle.archive_state.specs.declared.stored.StoredPlan.{StoredPlan}
-use Rattle.archive_state.specs.Histories.{History}
-use Rattle.archive_state.specs.Plans.{is_another, live_plans, first_plan, plan_of}
-use Rattle.archive_replay.specs.Live.{IsPlanAt}
+use Rattle.model_archive.specs.declared.stored.StoredPlan.{StoredPlan}
+use Rattle.model_archive.specs.Histories.{History}
+use Rattle.model_archive.specs.Plans.{is_another, live_plans, first_plan, plan_of}
+use Rattle.archive_entries.specs.Live.{IsPlanAt}
 
 found_at : (live : List StoredPlan) (word : List ℕ) (at : ℕ) (s : StoredPlan) → at < length live → (get_or live at s).plan.word ≡ word
     → All (λ other. is_another word other ≡ true) (take at live) → s ≡ get_or live at s → first_plan (filter (λ stored. bytes_eq stored.plan.word word) live) ≡ Some s.plan

@@ -3,36 +3,36 @@ use Rattle.std.proofs.Common.{true, ◌≡◌, ℕ, ◌+◌, ◌<◌, ◌≤◌,
 use Rattle.std.specs.Prelude.{slice_index}
 use Rattle.std.proofs.lemmas.List.{length-drop}
 use Rattle.std.specs.List.Sorted.{IsStrictlyIncreasing}
-use Rattle.time_base.specs.declared.fraction.Fraction.{Fraction}
-use Rattle.time_base.specs.declared.time.Time.{Time}
-use Rattle.time_base.specs.declared.posting.Posting.{Posting}
-use Rattle.elementary.specs.Counts.{Counts, Tabulates}
-use Rattle.elementary.specs.Partitions.{widest, IsLeast, AreBest, space}
-use Rattle.elementary.proofs.Narrow.{narrow}
-use Rattle.proposals.specs.Proposals.{AreSegments, AreNodes, IsProposal}
-use Rattle.proposals.specs.declared.proposal.Proposal.{Proposal}
-use Rattle.fold_tokens.specs.Terms.{one_term}
-use Rattle.commands.specs.declared.command.Kind.{Kind}
-use Rattle.commands.specs.declared.command.Kind.TheVariants.{Guarantee}
-use Rattle.archive_state.specs.declared.refusal.Refusal.{Refusal}
-use Rattle.archive_state.specs.Histories.{History}
-use Rattle.archive_state.specs.Planning.{IsListUpTo, OfBoundaries, OfPhrase, last_second, OfKnown, OfTerm}
-use Rattle.archive_state.specs.Steps.{Refused, Proposed, Proposes, ProposesPlan, Reply, IsCertificate, CertifiesPlan, CertifiesLive, Certifies}
+use Rattle.base_types.specs.declared.fraction.Fraction.{Fraction}
+use Rattle.base_types.specs.declared.time.Time.{Time}
+use Rattle.base_types.specs.declared.posting.Posting.{Posting}
+use Rattle.plans_partitions.specs.Counts.{Counts, Tabulates}
+use Rattle.plans_partitions.specs.Partitions.{widest, IsLeast, AreBest, space}
+use Rattle.plans_partitions.proofs.Narrow.{narrow}
+use Rattle.plans_kinds.specs.Proposals.{AreSegments, AreNodes, IsProposal}
+use Rattle.plans_kinds.specs.declared.proposal.Proposal.{Proposal}
+use Rattle.text_words.specs.Terms.{one_term}
+use Rattle.base_commands.specs.declared.command.Kind.{Kind}
+use Rattle.base_commands.specs.declared.command.Kind.TheVariants.{Guarantee}
+use Rattle.model_archive.specs.declared.refusal.Refusal.{Refusal}
+use Rattle.model_archive.specs.Histories.{History}
+use Rattle.model_archive.specs.Planning.{IsListUpTo, OfBoundaries, OfPhrase, last_second, OfKnown, OfTerm}
+use Rattle.model_archive.specs.Steps.{Refused, Proposed, Proposes, ProposesPlan, Reply, IsCertificate, CertifiesPlan, CertifiesLive, Certifies}
 use Rattle.archive_hand.specs.States.{ArchiveState, StandsFor}
 use Rattle.archive_hand.specs.Sealing.{IsSealed}
-use Rattle.postings.proofs.Clipping.{one_list_of}
-use Rattle.elementary.proofs.Cuts.{there}
-use Rattle.elementary.proofs.Places.{place_of, place_below, rises}
-use Rattle.record_codec.specs.declared.plan.PlanEntry.{PlanEntry}
-use Rattle.stored_plans.specs.Plans.{later, IsFitPlan, IsFitFor}
-use Rattle.stored_plans.proofs.PlanLemmas.{seconds_are}
-use Rattle.archive_state.specs.Answers.{frequency_at}
-use Rattle.archive_state.specs.Legal.{MayBePlanned, IsLoadable}
-use Rattle.archive_state.specs.declared.stored.StoredPlan.{StoredPlan}
-use Rattle.archive_state.specs.Plans.{is_another, plan_of, live_plans}
-use Rattle.archive_state.proofs.CertifyingLemmas.{live_has}
-use Rattle.archive_state.proofs.LiveLemmas.{live_planned}
-use Rattle.archive_replay.specs.Live.{IsPlanAt}
+use Rattle.lists_postings.proofs.Clipping.{one_list_of}
+use Rattle.plans_partitions.proofs.Cuts.{there}
+use Rattle.plans_partitions.proofs.Places.{place_of, place_below, rises}
+use Rattle.journal_entries.specs.declared.plan.PlanEntry.{PlanEntry}
+use Rattle.plans_kinds.specs.Plans.{later, IsFitPlan, IsFitFor}
+use Rattle.plans_kinds.proofs.PlanLemmas.{seconds_are}
+use Rattle.model_archive.specs.Answers.{frequency_at}
+use Rattle.model_archive.specs.Legal.{MayBePlanned, IsLoadable}
+use Rattle.model_archive.specs.declared.stored.StoredPlan.{StoredPlan}
+use Rattle.model_archive.specs.Plans.{is_another, plan_of, live_plans}
+use Rattle.model_archive.proofs.CertifyingLemmas.{live_has}
+use Rattle.model_archive.proofs.LiveLemmas.{live_planned}
+use Rattle.archive_entries.specs.Live.{IsPlanAt}
 use Rattle.archive_questions.proofs.LiveLemmas.{plan_found, none_found}
 use Rattle.archive_hand.proofs.PhraseLemmas.{goes_on, map_phrase, map_bounded}
 

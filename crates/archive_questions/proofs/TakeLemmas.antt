@@ -4,17 +4,17 @@ use Rattle.std.specs.Option.{option_map}
 use Rattle.machine_model.specs.Images.{MayLeave}
 use Rattle.machine_model.specs.States.{DiskState}
 use Rattle.machine_model.specs.Calls.{OnlyReads}
-use Rattle.time_base.specs.declared.ids.DocId.{DocId}
-use Rattle.time_base.specs.declared.time.Time.{Time}
-use Rattle.commands.specs.declared.command.Command.TheVariants as commands
-use Rattle.commands.specs.declared.command.Item.{Item}
-use Rattle.commands.specs.declared.command.Item.TheVariants as items
-use Rattle.proposals.specs.declared.proposal.Proposal.{Proposal}
-use Rattle.archive_state.specs.declared.refusal.Refusal.{Refusal}
-use Rattle.archive_state.specs.Histories.{text_at}
-use Rattle.archive_state.specs.Steps.{Reply, Refused, Proposed, Version}
-use Rattle.archive_state.specs.Stands.{bodies_of}
-use Rattle.archive_state.specs.declared.verdict.Verdict.{Verdict}
+use Rattle.base_types.specs.declared.ids.DocId.{DocId}
+use Rattle.base_types.specs.declared.time.Time.{Time}
+use Rattle.base_commands.specs.declared.command.Command.TheVariants as commands
+use Rattle.base_commands.specs.declared.command.Item.{Item}
+use Rattle.base_commands.specs.declared.command.Item.TheVariants as items
+use Rattle.plans_kinds.specs.declared.proposal.Proposal.{Proposal}
+use Rattle.model_archive.specs.declared.refusal.Refusal.{Refusal}
+use Rattle.model_archive.specs.Histories.{text_at}
+use Rattle.model_archive.specs.Steps.{Reply, Refused, Proposed, Version}
+use Rattle.model_archive.specs.Stands.{bodies_of}
+use Rattle.model_archive.specs.declared.verdict.Verdict.{Verdict}
 use Rattle.archive_check.specs.Checked.{IsChecked}
 use Rattle.archive_check.specs.declared.error.VerifyError.{VerifyError}
 use Rattle.archive_check.specs.declared.error.VerifyError.TheVariants as checks
@@ -22,15 +22,15 @@ use Rattle.archive_hand.specs.States.{ArchiveState, AreInStepBy, CacheStands, Is
 use Rattle.archive_hand.specs.Stored.{Store, ReadsOn, Spoils, StoreStep, TellsVerdict}
 use Rattle.archive_hand.specs.Takes.{Ending, Replied, Starved, Faulted, Spoiled, TakesBy}
 use Rattle.archive_questions.specs.Endings.{proposed, version_shown, verified}
-use Rattle.archive_replay.specs.declared.error.ReadError.{ReadError}
-use Rattle.archive_replay.specs.declared.error.ReadError.TheVariants as reads
-use Rattle.archive_replay.specs.declared.error.Declined.{Declined}
-use Rattle.archive_replay.specs.declared.error.Declined.TheVariants as declines
+use Rattle.archive_entries.specs.declared.error.ReadError.{ReadError}
+use Rattle.archive_entries.specs.declared.error.ReadError.TheVariants as reads
+use Rattle.archive_entries.specs.declared.error.Declined.{Declined}
+use Rattle.archive_entries.specs.declared.error.Declined.TheVariants as declines
 use Rattle.archive_hand.proofs.ByReadsLemmas.{keeps_leads, keeps_reads, reads_by}
-use Rattle.page_cache.specs.Caches.{Kept}
+use Rattle.pages_area.specs.Caches.{Kept}
 use Rattle.archive_questions.proofs.CacheLemmas.{cache_reads}
-use Rattle.gate_journal.proofs.InStepLemmas.{step_spells}
-use Rattle.sublist_store.specs.declared.why.Damage.{Damage}
+use Rattle.journal_gates.proofs.InStepLemmas.{step_spells}
+use Rattle.pages_sublists.specs.declared.why.Damage.{Damage}
 
 -- what a question is answered, if it is; or what of it is damaged
 abbrev pub IsAnsweredBy : (Reply → Type 0) → (Damage → Type 0) → Ending → Type 0

@@ -1,14 +1,14 @@
 -- What is said of a question, whatever the disk holds: that its phrase is a query or none, and what its answer is made from.
 use Rattle.std.specs.Prelude.{◌≡◌, ℕ, List, Ok, Err}
 use Rattle.machine_model.specs.States.{DiskState}
-use Rattle.page_cache.specs.Caches.{Kept}
+use Rattle.pages_area.specs.Caches.{Kept}
 use Rattle.query_lang.specs.Grammar.{Query, IsRead}
 use Rattle.query_lang.specs.Meaning.{words_of}
 use Rattle.query_lang.specs.Tokens.{term_of}
-use Rattle.archive_state.specs.declared.refusal.Refusal.{Refusal}
-use Rattle.archive_state.specs.declared.refusal.Refusal.TheVariants as refusals
-use Rattle.archive_state.specs.Histories.{History}
-use Rattle.archive_state.specs.Chosen.{pieces_for}
+use Rattle.model_archive.specs.declared.refusal.Refusal.{Refusal}
+use Rattle.model_archive.specs.declared.refusal.Refusal.TheVariants as refusals
+use Rattle.model_archive.specs.Histories.{History}
+use Rattle.model_archive.specs.Chosen.{pieces_for}
 use Rattle.archive_hand.specs.Asking.{HasAsked}
 
 -- the phrase is a query

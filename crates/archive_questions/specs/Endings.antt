@@ -1,19 +1,19 @@
 -- How the calls that ask an archive end.
 use Rattle.std.specs.Prelude.{ℕ, List, Option, Result, Ok, Err}
 use Rattle.std.specs.Option.{option_map}
-use Rattle.proposals.specs.declared.proposal.Proposal.{Proposal}
+use Rattle.plans_kinds.specs.declared.proposal.Proposal.{Proposal}
 use Rattle.query_eval.specs.declared.answer.Answer.{Answer}
 use Rattle.query_eval.specs.declared.spans.SpanAnswer.{SpanAnswer}
-use Rattle.archive_state.specs.declared.verdict.Verdict.{Verdict}
-use Rattle.archive_state.specs.Steps.{Reply, Refused, Found, Spanned, Version, Proposed, Verified}
+use Rattle.model_archive.specs.declared.verdict.Verdict.{Verdict}
+use Rattle.model_archive.specs.Steps.{Reply, Refused, Found, Spanned, Version, Proposed, Verified}
 use Rattle.archive_questions.specs.declared.error.AskError.{AskError}
 use Rattle.archive_questions.specs.declared.error.AskError.TheVariants as asks
 use Rattle.archive_check.specs.declared.error.VerifyError.{VerifyError}
 use Rattle.archive_check.specs.declared.error.VerifyError.TheVariants as checks
-use Rattle.archive_replay.specs.declared.error.Declined.{Declined}
-use Rattle.archive_replay.specs.declared.error.Declined.TheVariants as declines
-use Rattle.archive_replay.specs.declared.error.ReadError.{ReadError}
-use Rattle.archive_replay.specs.declared.error.ReadError.TheVariants as reads
+use Rattle.archive_entries.specs.declared.error.Declined.{Declined}
+use Rattle.archive_entries.specs.declared.error.Declined.TheVariants as declines
+use Rattle.archive_entries.specs.declared.error.ReadError.{ReadError}
+use Rattle.archive_entries.specs.declared.error.ReadError.TheVariants as reads
 use Rattle.archive_hand.specs.Takes.{Ending, Replied, Starved, Faulted, Spoiled}
 
 -- how queries end

@@ -6,28 +6,28 @@ ghost use Rattle.query_lang.specs.Meaning.{words_of};
 ghost use Rattle.query_eval.specs.Answers.{IsAnswer};
 ghost use Rattle.query_eval.specs.Asked.{read_of};
 ghost use Rattle.query_eval.specs.Found.{told};
-ghost use Rattle.archive_state.specs.Histories.{History, text_at};
-ghost use Rattle.archive_state.specs.Plans.{is_another};
-ghost use Rattle.archive_state.specs.Chosen.{AreChosen, IsMadeAt};
+ghost use Rattle.model_archive.specs.Histories.{History, text_at};
+ghost use Rattle.model_archive.specs.Plans.{is_another};
+ghost use Rattle.model_archive.specs.Chosen.{AreChosen, IsMadeAt};
 ghost use Rattle.archive_questions.specs.After.{AfterFetching, AfterQuestion, Fetches};
 ghost use Rattle.archive_hand.specs.States.{StandsFor, AreInStepBy, Reaches};
 ghost use Rattle.archive_hand.specs.Stored.{Store};
 ghost use Rattle.archive_hand.specs.Takes.{TakesBy};
 ghost use Rattle.archive_questions.specs.Endings.{found, version_shown};
-ghost use Rattle.commands.specs.declared.command.Command.TheVariants as commands;
-ghost use Rattle.commands.specs.declared.command.Item.TheVariants as items;
+ghost use Rattle.base_commands.specs.declared.command.Command.TheVariants as commands;
+ghost use Rattle.base_commands.specs.declared.command.Item.TheVariants as items;
 
 use crate::choosing::parts_of;
 use crate::error::{AskError, asked};
+use archive_entries::{ReadError, read_text};
 use archive_hand::Archive;
-use archive_replay::{ReadError, read_text};
-use commands::Phrase;
+use base_commands::Phrase;
+use base_types::{DocId, Key, Span, Time};
 use machine_model::Disk;
+use pages_sublists::FetchError;
 use query_eval::{Answer, Part, answer_by_hits, answer_by_living_hits, answer_from};
 use query_lang::Query;
 use std::alloc::{AllocError, Global};
-use sublist_store::FetchError;
-use time_base::{DocId, Key, Span, Time};
 
 /// What a query finds as of a time: the rows of the documents alive then that match, and how many
 /// postings were read for them. Nothing is changed but which pages are kept.

@@ -2,19 +2,19 @@
 ghost use Rattle.std.specs.Prelude.{IfOk, IsErrOf};
 ghost use Rattle.machine_model.specs.Causes.{Rose};
 ghost use Rattle.machine_model.specs.Calls.{OnlyReads};
-ghost use Rattle.archive_state.specs.Histories.{History};
+ghost use Rattle.model_archive.specs.Histories.{History};
 ghost use Rattle.archive_check.specs.Checked.{IsChecked};
 ghost use Rattle.archive_hand.specs.States.{StandsFor, AreInStepBy, Reaches};
 ghost use Rattle.archive_hand.specs.Stored.{Store};
 ghost use Rattle.archive_hand.specs.Takes.{TakesBy};
 ghost use Rattle.archive_questions.specs.Endings.{verified};
-ghost use Rattle.commands.specs.declared.command.Command.TheVariants as commands;
-ghost use Rattle.commands.specs.declared.command.Item.TheVariants as items;
+ghost use Rattle.base_commands.specs.declared.command.Command.TheVariants as commands;
+ghost use Rattle.base_commands.specs.declared.command.Item.TheVariants as items;
 
 use archive_check::VerifyError;
 use archive_hand::Archive;
-use archive_state::Verdict;
 use machine_model::Disk;
+use model_archive::Verdict;
 use std::alloc::Global;
 
 /// Checks the archive by its texts, and tells what it finds: that all is sound, or the first fault.

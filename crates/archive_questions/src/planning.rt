@@ -1,30 +1,29 @@
 //! What is planned for a word.
 ghost use Rattle.std.specs.Prelude.{◌≡◌, ◌<◌, ◌≤◌, ◌^◌, ℕ, List, length, drop, slice_index, All, IfOk, IsErrOf};
-ghost use Rattle.time_base.specs.declared.posting.Posting.{Posting as PlainPosting};
-ghost use Rattle.elementary.specs.Counts.{Tabulates};
-ghost use Rattle.elementary.specs.Partitions.{IsFitting, IsLeast, AreBest, widest};
+ghost use Rattle.base_types.specs.declared.posting.Posting.{Posting as PlainPosting};
+ghost use Rattle.plans_partitions.specs.Counts.{Tabulates};
+ghost use Rattle.plans_partitions.specs.Partitions.{IsFitting, IsLeast, AreBest, widest};
 ghost use Rattle.machine_model.specs.States.{DiskState};
-ghost use Rattle.proposals.specs.Proposals.{IsProposal};
-ghost use Rattle.archive_state.specs.Histories.{History};
-ghost use Rattle.archive_state.specs.Planning.{OfBoundaries};
-ghost use Rattle.archive_state.specs.Steps.{Proposed, Proposes, Refused};
+ghost use Rattle.plans_kinds.specs.Proposals.{IsProposal};
+ghost use Rattle.model_archive.specs.Histories.{History};
+ghost use Rattle.model_archive.specs.Planning.{OfBoundaries};
+ghost use Rattle.model_archive.specs.Steps.{Proposed, Proposes, Refused};
 ghost use Rattle.archive_hand.specs.States.{StandsFor, AreInStepBy};
 ghost use Rattle.archive_hand.specs.Stored.{Store};
 ghost use Rattle.archive_hand.specs.Takes.{TakesBy};
 ghost use Rattle.archive_questions.specs.Endings.{proposed};
-ghost use Rattle.commands.specs.declared.command.Command.TheVariants as commands;
-ghost use Rattle.commands.specs.declared.command.Item.TheVariants as items;
+ghost use Rattle.base_commands.specs.declared.command.Command.TheVariants as commands;
+ghost use Rattle.base_commands.specs.declared.command.Item.TheVariants as items;
 
+use archive_entries::Declined;
 use archive_hand::Archive;
-use archive_replay::Declined;
-use archive_state::Refusal;
-use commands::Phrase;
-use elementary::{Partition, Table};
-use guarantee_planner::{PlanError, plan};
-use plan_certificate::Certificate;
-use proposals::Proposal;
+use base_commands::Phrase;
+use base_types::{Fraction, Posting, Time};
+use model_archive::Refusal;
+use plans_guarantee::{Certificate, PlanError, plan};
+use plans_kinds::Proposal;
+use plans_partitions::{Partition, Table};
 use std::alloc::Global;
-use time_base::{Fraction, Posting, Time};
 
 /// A least plan of a word's list up to the last time, in which each read costs at most the factor
 /// times what is alive, with the least space up to each boundary. Nothing is stored or changed, and

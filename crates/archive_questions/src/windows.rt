@@ -4,27 +4,27 @@ ghost use Rattle.query_lang.specs.Meaning.{words_of};
 ghost use Rattle.query_eval.specs.Asked.{read_of};
 ghost use Rattle.query_eval.specs.Found.{told};
 ghost use Rattle.query_eval.specs.Spans.{IsSpanAnswer};
-ghost use Rattle.archive_state.specs.Histories.{History, text_at};
-ghost use Rattle.archive_state.specs.Chosen.{AreChosen, IsMadeOver};
+ghost use Rattle.model_archive.specs.Histories.{History, text_at};
+ghost use Rattle.model_archive.specs.Chosen.{AreChosen, IsMadeOver};
 ghost use Rattle.archive_questions.specs.After.{AfterFetching, AfterQuestion, Fetches};
 ghost use Rattle.archive_hand.specs.States.{StandsFor, AreInStepBy, Reaches};
 ghost use Rattle.archive_hand.specs.Stored.{Store};
 ghost use Rattle.archive_hand.specs.Takes.{TakesBy};
 ghost use Rattle.archive_questions.specs.Endings.{spanned};
-ghost use Rattle.commands.specs.declared.command.Command.TheVariants as commands;
-ghost use Rattle.commands.specs.declared.command.Item.TheVariants as items;
+ghost use Rattle.base_commands.specs.declared.command.Command.TheVariants as commands;
+ghost use Rattle.base_commands.specs.declared.command.Item.TheVariants as items;
 
 use crate::asking::is_any_planned;
 use crate::choosing::parts_of;
 use crate::error::{AskError, asked};
 use archive_hand::Archive;
-use commands::Phrase;
+use base_commands::Phrase;
+use base_types::Span;
 use machine_model::Disk;
+use pages_sublists::FetchError;
 use query_eval::{Part, SpanAnswer, answer_over, answer_over_hits, docs_met};
 use query_lang::Query;
 use std::alloc::{AllocError, Global};
-use sublist_store::FetchError;
-use time_base::Span;
 
 /// What a query finds over a window of time: for each document the longest spans inside it in which
 /// the document is alive, matches and has one score, and how many postings were read for them.

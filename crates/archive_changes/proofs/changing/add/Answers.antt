@@ -1,7 +1,7 @@
 use Rattle.std.proofs.Common.{Result, inl, subst}
-use Rattle.archive_replay.specs.Entries.{IsPrepared}
-use Rattle.archive_replay.specs.declared.preparing.Prepared.{Prepared}
-use Rattle.archive_replay.specs.declared.error.Declined.{Declined}
+use Rattle.archive_entries.specs.Entries.{IsPrepared}
+use Rattle.archive_entries.specs.declared.preparing.Prepared.{Prepared}
+use Rattle.archive_entries.specs.declared.error.Declined.{Declined}
 use Rattle.archive_changes.proofs.AddLemmas.{adds_entry, adds_none, adds_by}
 use Rattle.archive_hand.proofs.AddLemmas.{pages_nowhere}
 use Rattle.archive_hand.proofs.ByReadsLemmas.{keeps_leads, keeps_nowhere}

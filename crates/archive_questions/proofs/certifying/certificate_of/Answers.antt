@@ -1,8 +1,8 @@
 use Rattle.std.proofs.Common.{inl, inr, ap, sym, ◌∙◌}
 use Rattle.std.proofs.lemmas.Result.{IfOk-weaker}
-use Rattle.fold_tokens.specs.Terms.{one_term}
-use Rattle.archive_state.specs.declared.refusal.Refusal.TheVariants as refusals
-use Rattle.archive_state.specs.Steps.{Refused}
+use Rattle.text_words.specs.Terms.{one_term}
+use Rattle.model_archive.specs.declared.refusal.Refusal.TheVariants as refusals
+use Rattle.model_archive.specs.Steps.{Refused}
 use Rattle.archive_hand.proofs.PhraseLemmas.{one_why, not_both}
 use Rattle.archive_questions.proofs.PlanLemmas.{term_certifies}
 use Rattle.archive_questions.proofs.certifying.certificate_of.Goals as goal
