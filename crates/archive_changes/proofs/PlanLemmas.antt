@@ -1,4 +1,4 @@
--- What becomes of a phrase that is to be planned, and that storing its plan is a step of the abstract machine.
+-- What becomes of a phrase that is to be planned, and that storing its plan is a step of the abstract archive.
 use Rattle.std.proofs.Common.{◌≡◌, ◌⊎◌, ℕ, ◌+◌, ◌<◌, ◌≤◌, List, [], ◌∷◌, ◌++◌, length, Option, Some, None, Result, Ok, Err, IfOk, inl, inr, refl, ap, sym, subst, arith}
 use Rattle.std.proofs.lemmas.List.{length_push}
 use Rattle.std.proofs.lemmas.Bool.{lt-ltb, le-ltb}

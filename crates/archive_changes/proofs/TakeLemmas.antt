@@ -1,4 +1,4 @@
--- A change that carries out an item is a step of the abstract machine by what reads give.
+-- A change that carries out an item is a step of the abstract archive by what reads give.
 use Rattle.std.proofs.Common.{◌≡◌, ◌⊎◌, ℕ, [], ◌∷◌, length, Option, Result, Ok, Err, OnOk, refl, inl, inr, ap, subst, sym, arith, length-append}
 use Rattle.machine_model.specs.States.{DiskState}
 use Rattle.base_commands.specs.declared.command.Item.{Item}

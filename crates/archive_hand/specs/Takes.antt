@@ -1,4 +1,4 @@
--- What a call of the archive does for an item of the input: a step of the abstract machine, and what it leaves.
+-- What a call of the archive does for an item of the input: a step of the abstract archive, and what it leaves.
 use Rattle.std.specs.Prelude.{◌≡◌, ◌⊎◌}
 use Rattle.machine_model.specs.States.{DiskState}
 use Rattle.base_commands.specs.declared.command.Item.{Item}

@@ -1,4 +1,4 @@
--- A question that carries out an item is a step of the abstract machine by what reads give.
+-- A question that carries out an item is a step of the abstract archive by what reads give.
 use Rattle.std.proofs.Common.{◌≡◌, ℕ, List, Option, Result, Ok, Err, IfOk, refl, inl, ap, subst, ◌∙◌}
 use Rattle.std.specs.Option.{option_map}
 use Rattle.machine_model.specs.Images.{MayLeave}

@@ -76,13 +76,13 @@ pub fn run<M: Machine>(alloc: Global, words: &[String], machine: &mut M) -> Stat
     ensures left_alone { M.disk_tells → (at : ℕ) → IsNotArchive (M.disk machine.old).holds at →
         (M.source machine.new ≡ M.source machine.old) × (M.sink machine.new ≡ M.sink machine.old)
         × Syncs (M.disk machine.old) (M.disk machine.new) }
-    // Where the bytes stand for a history: one run of the abstract machine over the items of the bytes pulled, what is shown of it and when, what each
+    // Where the bytes stand for a history: one run of the abstract archive over the items of the bytes pulled, what is shown of it and when, what each
     // image left at any moment stands for, and where the input was.
     ensures headline { M.source_tells → M.sink_tells → M.disk_tells → AreWords (texts words.now) tasks.Script → (h : History) → Stands h (M.disk machine.old).holds →
         (pulls : List Pull) × M.asked machine.old pulls machine.new
         × StandingRun h result (state_by M.source M.sink M.disk machine.old) (state_by M.source M.sink M.disk machine.new) pulls }
     // The same by what reads give, whatever lies in Pages: from the history for which a load takes the bytes, one run in which changes and plans are
-    // the machine's, answers are made from the lists that are chosen, and verdicts from the bytes that are there. Each image left at any moment has the
+    // the abstract archive's, answers are made from the lists that are chosen, and verdicts from the bytes that are there. Each image left at any moment has the
     // journal of its state, and in each live place the bytes that reads give; so a plan whose sublists are held keeps them while it is live, whatever
     // became of the others. Where the run ends at a damaged sublist, it is the first damage of what is read for the next item. At the end just those
     // bytes of Pages were read that its questions asked for.
@@ -114,7 +114,7 @@ pub fn run<M: Machine>(alloc: Global, words: &[String], machine: &mut M) -> Stat
         (M.sink machine.new ≡ M.sink machine.old) × KeepsHistory h (M.disk machine.old) (M.disk machine.new) }
     ensures unwritten { M.disk_tells → (numbers : PlainNumbers) → AreWords (texts words.now) (tasks.Generate numbers) → (bodies : List (List ℕ)) → EachSpells (M.disk machine.old) bodies → 1 ≤ length bodies →
         (M.sink machine.new ≡ M.sink machine.old) × KeepsBodies bodies (M.disk machine.old) (M.disk machine.new) }
-    // From an archive without entries: one run of the abstract machine over the sample's commands, the lines that are shown of it, and what each
+    // From an archive without entries: one run of the abstract archive over the sample's commands, the lines that are shown of it, and what each
     // image left at any moment stands for.
     ensures sampled { M.sink_tells → M.disk_tells → (numbers : PlainNumbers) → AreWords (texts words.now) (tasks.Generate numbers) → Stands [] (M.disk machine.old).holds →
         Sampled numbers.seed numbers.count result (M.sink machine.old) (M.sink machine.new) (M.disk machine.old) (M.disk machine.new) }
