@@ -7,7 +7,7 @@ use Rattle.archive_hand.specs.declared.error.ChangeError.{ChangeError}
 use Rattle.archive_hand.specs.declared.error.ChangeError.TheVariants as changes
 use Rattle.model_archive.specs.Histories.{History}
 
--- what an archive in hand says of an entry that was to be added, for the history that it stood for
+-- what an open archive says of an entry that was to be added, for the history that it stood for
 pub record Adds (history : History) (entry : Entry) (refusal : Option Refusal) (result : Result ℕ ChangeError) (new : ArchiveState) : Type 0 where
   pub refused : (why : Refusal) → result ≡ Err (changes.Refused why) → refusal ≡ Some why
   pub allowed : IsOk result ⊎ (result ≡ Err changes.Failed) → refusal ≡ None

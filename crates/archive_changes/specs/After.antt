@@ -1,4 +1,4 @@
--- What holds after each call that changes an archive in hand.
+-- What holds after each call that changes an open archive.
 use Rattle.std.specs.Prelude.{◌≡◌, ◌⊎◌, ◌↔◌, Result, Err, IsTrue}
 use Rattle.machine_model.specs.Causes.{Rose}
 use Rattle.machine_model.specs.States.{DiskState}

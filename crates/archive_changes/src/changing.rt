@@ -45,7 +45,7 @@ pub fn arrive<D: Disk>(
     requires within { Reaches (D.disk disk.old).reach archive.old }
     ensures only { D.Disk.only disk.old disk.new }
     ensures after { AfterChange D.disk_tells ((archive.new ≡ archive.old) × (disk.new ≡ disk.old)) (disk.new ≡ disk.old) result (D.disk disk.old) (D.disk disk.new) archive.old archive.new }
-    // On any disk: a refusal is the first cause in order, comes wherever there is one (but for want of memory), and changes nothing; at Ok
+    // On any disk: a refusal is the first cause in order, comes wherever there is one (unless memory runs out), and changes nothing; at Ok
     // the archive stands for the history with the new entry, and answers how many entries there are.
     ensures adds { (h : History) → StandsFor archive.old h → Adds h (entries.Arrive doc at text.now) (arrival_refusal h doc at text.now) result archive.new }
     // In step by what reads give, whatever lies in Pages, it is a step; each image left since stands for what was before it or after it.
@@ -77,7 +77,7 @@ pub fn delete<D: Disk>(
     requires within { Reaches (D.disk disk.old).reach archive.old }
     ensures only { D.Disk.only disk.old disk.new }
     ensures after { AfterChange D.disk_tells ((archive.new ≡ archive.old) × (disk.new ≡ disk.old)) (disk.new ≡ disk.old) result (D.disk disk.old) (D.disk disk.new) archive.old archive.new }
-    // On any disk: a refusal is the first cause in order, comes wherever there is one (but for want of memory), and changes nothing; at Ok
+    // On any disk: a refusal is the first cause in order, comes wherever there is one (unless memory runs out), and changes nothing; at Ok
     // the archive stands for the history with the new entry, and answers how many entries there are.
     ensures adds { (h : History) → StandsFor archive.old h → Adds h (entries.Delete doc at) (deletion_refusal h doc at) result archive.new }
     // In step by what reads give, whatever lies in Pages, it is a step; each image left since stands for what was before it or after it.

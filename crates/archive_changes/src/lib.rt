@@ -1,4 +1,4 @@
-//! The changes of an archive in hand: a version arrives, a document ends, a plan is stored.
+//! The changes of an open archive: a version arrives, a document ends, a plan is stored.
 //!
 //! Each change leaves images that stand for the history before it or for that and the new entry, and
 //! after Ok for the latter alone; a refused one changes nothing (`specs/After.antt`). What is

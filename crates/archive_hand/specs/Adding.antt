@@ -1,4 +1,4 @@
--- How an entry is added to an archive in hand, and when a change is given up.
+-- How an entry is added to an open archive, and when a change is given up.
 use Rattle.std.specs.Prelude.{◌≡◌, ◌⊎◌, ℕ, ◌+◌, List, [], ◌∷◌, ◌++◌, length, Option, Result, Err, IsOk, false}
 use Rattle.journal_gates.specs.Records.{gate_bytes}
 use Rattle.base_types.specs.declared.ids.DocId.{DocId}

@@ -1,4 +1,4 @@
-//! The archive in hand, and the calls that keep it consistent.
+//! The open archive, and the calls that keep it consistent.
 ghost use Rattle.std.specs.Prelude.{◌≡◌, ◌⊎◌, ◌↔◌, ◌+◌, ◌<◌, ◌≤◌, ◌^◌, ◌++◌, [], ◌∷◌, ℕ, List, length, get_or, Some, None, Ok, Err, IsTrue, IfOk, IfErr, OnOk, IsOk, IsErrOf};
 ghost use Rattle.journal_gates.specs.Records.{gate_bytes, new_bytes};
 ghost use Rattle.machine_model.specs.Calls.{OnlyReads};
@@ -41,7 +41,7 @@ use pages_sublists::{FetchError, Gathered};
 use std::alloc::Global;
 use std::marker::Model;
 
-/// An archive in hand.
+/// An open archive.
 #[derive(Drop)]
 pub struct Archive {
     journal: Journal,
@@ -141,7 +141,7 @@ impl Archive {
     /// but which pages are kept.
     ///
     /// `Damaged`: a sublist that was read isn't what the entry of the plan says. `Failed`: the disk failed.
-    /// `Memory`: there was none. Costs what `Shelf::gather` does.
+    /// `Memory`: an allocation failed. Costs what `Shelf::gather` does.
     pub fn gather<D: Disk>(
         &mut self,
         alloc: Global,

@@ -32,7 +32,7 @@ impl Archive {
     /// The list of a phrase's word up to the last time, or why it can't be planned.
     ///
     /// `Refused`: for the first cause in order, the phrase isn't one term, no text has the word, or it has no
-    /// posting before the last time. `Memory`: there was none. Costs what `list_until` does.
+    /// posting before the last time. `Memory`: an allocation failed. Costs what `list_until` does.
     pub fn sealed(&self, alloc: Global, word: &Phrase) -> Result<Sealed, Declined>
         ensures refused { (kind : Kind) (h : History) → StandsFor self.now h → (why : Refusal) → IsErrOf result (Declined.Refused why) →
             OfPhrase kind h (term_of word.now) (λ because. why ≡ because) (λ word list. ⊥) }

@@ -1,4 +1,4 @@
-//! What an archive in hand is asked: what a query finds at a time and over a window, the text of a
+//! What an open archive is asked: what a query finds at a time and over a window, the text of a
 //! version, plans that are proposed and certified, and whether all is sound.
 //!
 //! A question changes nothing but which pages an archive keeps, and these go on being what reads
