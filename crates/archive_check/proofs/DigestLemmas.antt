@@ -4,13 +4,13 @@ use Rattle.std.specs.Prelude.{IfOk, MatchOption}
 use Rattle.std.proofs.lemmas.List.{take_more, length-append}
 use Rattle.std.proofs.lemmas.List.Elements.{All-append, All-push}
 use Rattle.std.proofs.lemmas.List.Sorted.{All-permutation, IsPermutation-sym}
-use Rattle.record_codec.specs.declared.place.Place.{Place}
-use Rattle.record_codec.specs.declared.plan.PlanEntry.{PlanEntry}
-use Rattle.version_store.specs.declared.change.Change.{Change}
-use Rattle.version_index.specs.Words.{words_in}
-use Rattle.archive_state.specs.declared.stored.StoredPlan.{StoredPlan}
-use Rattle.archive_state.specs.declared.verdict.Verdict.{Verdict}
-use Rattle.archive_state.specs.declared.verdict.Verdict.TheVariants.{Sound, Differs, NotLeast, BadText}
+use Rattle.journal_entries.specs.declared.place.Place.{Place}
+use Rattle.journal_entries.specs.declared.plan.PlanEntry.{PlanEntry}
+use Rattle.lists_versions.specs.declared.change.Change.{Change}
+use Rattle.lists_index.specs.Words.{words_in}
+use Rattle.model_archive.specs.declared.stored.StoredPlan.{StoredPlan}
+use Rattle.model_archive.specs.declared.verdict.Verdict.{Verdict}
+use Rattle.model_archive.specs.declared.verdict.Verdict.TheVariants.{Sound, Differs, NotLeast, BadText}
 use Rattle.archive_check.specs.declared.digests.Digests.TheVariants.{Asked}
 use Rattle.archive_check.specs.declared.verifying.Altered.{Altered}
 use Rattle.archive_check.specs.declared.finding.Finding.{Finding}
@@ -19,8 +19,8 @@ use Rattle.archive_check.specs.Verdicts.{with_texts}
 use Rattle.archive_check.specs.Digests.{HasDigest, HasDigests, IsAltered, IsFirstAltered, TellsSound, Finds}
 use Rattle.archive_check.specs.Checking.{IsFaultOf, AreAltered, AreFirstAltered, TellsAll}
 use Rattle.archive_check.specs.Laws.{OneFinding}
-use Rattle.archive_state.proofs.OrderLemmas.{one_way, are_moved}
-use Rattle.archive_state.proofs.VerifyLemmas.{all_at, one_at}
+use Rattle.model_archive.proofs.OrderLemmas.{one_way, are_moved}
+use Rattle.model_archive.proofs.VerifyLemmas.{all_at, one_at}
 use Rattle.archive_check.proofs.LawLemmas.{tells_one}
 
 -- ---- segments by halves

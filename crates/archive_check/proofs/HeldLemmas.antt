@@ -4,25 +4,25 @@ use Rattle.std.specs.List.{flat_map}
 use Rattle.std.proofs.lemmas.List.Elements.{All-nil, All-cons, All-head, All-tail}
 use Rattle.std.proofs.lemmas.List.Sorted.{All-permutation, IsPermutation-sym}
 use Rattle.machine_model.specs.Areas.{Bytes}
-use Rattle.time_base.specs.declared.extent.Extent.{Extent}
-use Rattle.time_base.specs.declared.posting.Posting.{Posting}
-use Rattle.page_store.specs.Live.{IsInside}
-use Rattle.page_store.specs.Ranges.{bytes_in}
-use Rattle.version_store.specs.declared.change.Change.{Change}
-use Rattle.version_index.specs.Words.{words_in}
-use Rattle.record_codec.specs.declared.place.Layout.{Layout}
-use Rattle.record_codec.specs.declared.place.Place.{Place}
-use Rattle.record_codec.specs.declared.plan.PlanEntry.{PlanEntry}
-use Rattle.sublist_store.specs.Preparing.{spellings}
-use Rattle.sublist_store.specs.Segments.{seconds, EachSegment, HoldsSublist}
-use Rattle.archive_state.specs.declared.stored.StoredPlan.{StoredPlan}
-use Rattle.archive_state.specs.declared.verdict.Verdict.{Verdict}
-use Rattle.archive_state.specs.declared.verdict.Verdict.TheVariants.{Sound}
-use Rattle.archive_state.specs.Stands.{Stands}
-use Rattle.archive_state.specs.Histories.{History, changes}
-use Rattle.archive_state.specs.Holding.{HoldsPlan}
-use Rattle.archive_state.specs.Plans.{live_plans, extents_of}
-use Rattle.archive_replay.proofs.PlaceLemmas.{texts_are}
+use Rattle.base_types.specs.declared.extent.Extent.{Extent}
+use Rattle.base_types.specs.declared.posting.Posting.{Posting}
+use Rattle.pages_area.specs.Live.{IsInside}
+use Rattle.pages_area.specs.Ranges.{bytes_in}
+use Rattle.lists_versions.specs.declared.change.Change.{Change}
+use Rattle.lists_index.specs.Words.{words_in}
+use Rattle.journal_entries.specs.declared.place.Layout.{Layout}
+use Rattle.journal_entries.specs.declared.place.Place.{Place}
+use Rattle.journal_entries.specs.declared.plan.PlanEntry.{PlanEntry}
+use Rattle.pages_sublists.specs.Preparing.{spellings}
+use Rattle.pages_sublists.specs.Segments.{seconds, EachSegment, HoldsSublist}
+use Rattle.model_archive.specs.declared.stored.StoredPlan.{StoredPlan}
+use Rattle.model_archive.specs.declared.verdict.Verdict.{Verdict}
+use Rattle.model_archive.specs.declared.verdict.Verdict.TheVariants.{Sound}
+use Rattle.model_archive.specs.Stands.{Stands}
+use Rattle.model_archive.specs.Histories.{History, changes}
+use Rattle.model_archive.specs.Holding.{HoldsPlan}
+use Rattle.model_archive.specs.Plans.{live_plans, extents_of}
+use Rattle.archive_entries.proofs.PlaceLemmas.{texts_are}
 use Rattle.archive_check.specs.Checked.{IsChecked}
 use Rattle.archive_check.specs.declared.finding.Finding.{Finding}
 use Rattle.archive_check.specs.declared.finding.Finding.TheVariants.{Told, BadDigest}
@@ -30,8 +30,8 @@ use Rattle.archive_check.specs.Verdicts.{with_texts, IsSound, Tells}
 use Rattle.archive_check.specs.Digests.{HasDigest, HasDigests, IsExamined}
 use Rattle.archive_check.specs.Laws.{SoundWithDigestsIsHeld, WhatIsHeldHasItsDigests, WhatStandsIsFoundSound}
 use Rattle.archive_check.proofs.DigestLemmas.{not_digests}
-use Rattle.archive_state.proofs.OrderLemmas.{are_moved}
-use Rattle.archive_state.proofs.VerifyLemmas.{all_at}
+use Rattle.model_archive.proofs.OrderLemmas.{are_moved}
+use Rattle.model_archive.proofs.VerifyLemmas.{all_at}
 use Rattle.archive_check.proofs.SoundLemmas.{stands_sound}
 
 -- ---- bytes and digests that are right are held

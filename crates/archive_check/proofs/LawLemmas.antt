@@ -3,31 +3,31 @@ use Rattle.std.proofs.Common.{◌≡◌, ◌⊎◌, inl, inr, ℕ, zero, suc, �
 use Rattle.std.proofs.lemmas.Bool.{cases_lt}
 use Rattle.std.proofs.lemmas.List.{append_cancel_left}
 use Rattle.std.proofs.lemmas.List.Elements.{All-contains}
-use Rattle.time_base.specs.declared.ids.DocId.{DocId}
-use Rattle.time_base.specs.declared.time.Time.{Time}
-use Rattle.time_base.specs.declared.text_place.TextPlace.{TextPlace}
-use Rattle.time_base.specs.declared.posting.Posting.{Posting}
-use Rattle.time_base.proofs.Equal.{same_time}
-use Rattle.postings.specs.Lists.{EachNext}
-use Rattle.postings.proofs.Clipping.{one_list_of}
-use Rattle.version_store.specs.declared.change.Change.{Change}
-use Rattle.version_store.specs.Changes.{changes_of}
-use Rattle.version_store.proofs.Mapped.{changes_of-mapped}
-use Rattle.version_index.specs.Words.{frequency_in, words_in}
-use Rattle.stored_plans.specs.Plans.{IsLeastPlan, plan_space}
-use Rattle.record_codec.specs.declared.plan.PlanEntry.{PlanEntry}
-use Rattle.archive_state.specs.Histories.{changes}
-use Rattle.archive_state.specs.declared.stored.StoredPlan.{StoredPlan}
-use Rattle.archive_replay.specs.Texts.{bare, nothing}
-use Rattle.archive_replay.proofs.PlaceLemmas.{bare_changes}
-use Rattle.archive_replay.proofs.IndexLemmas.{loadable_rises}
-use Rattle.archive_state.specs.declared.verdict.Verdict.{Verdict}
-use Rattle.archive_state.specs.declared.verdict.Verdict.TheVariants.{Sound, Differs, NotLeast, BadText}
+use Rattle.base_types.specs.declared.ids.DocId.{DocId}
+use Rattle.base_types.specs.declared.time.Time.{Time}
+use Rattle.base_types.specs.declared.text_place.TextPlace.{TextPlace}
+use Rattle.base_types.specs.declared.posting.Posting.{Posting}
+use Rattle.base_types.proofs.Equal.{same_time}
+use Rattle.lists_postings.specs.Lists.{EachNext}
+use Rattle.lists_postings.proofs.Clipping.{one_list_of}
+use Rattle.lists_versions.specs.declared.change.Change.{Change}
+use Rattle.lists_versions.specs.Changes.{changes_of}
+use Rattle.lists_versions.proofs.Mapped.{changes_of-mapped}
+use Rattle.lists_index.specs.Words.{frequency_in, words_in}
+use Rattle.plans_kinds.specs.Plans.{IsLeastPlan, plan_space}
+use Rattle.journal_entries.specs.declared.plan.PlanEntry.{PlanEntry}
+use Rattle.model_archive.specs.Histories.{changes}
+use Rattle.model_archive.specs.declared.stored.StoredPlan.{StoredPlan}
+use Rattle.archive_entries.specs.Texts.{bare, nothing}
+use Rattle.archive_entries.proofs.PlaceLemmas.{bare_changes}
+use Rattle.archive_entries.proofs.IndexLemmas.{loadable_rises}
+use Rattle.model_archive.specs.declared.verdict.Verdict.{Verdict}
+use Rattle.model_archive.specs.declared.verdict.Verdict.TheVariants.{Sound, Differs, NotLeast, BadText}
 use Rattle.archive_check.specs.Verdicts.{with_texts, IsText, IsUpTo, IsFirstBad, IsPlanned, found_in, wanted_of, DifferAt, SegmentDiffers, IsSound, HasDifference, TakesMore, FirstFault, AllSound, Says, Tells}
 use Rattle.archive_check.specs.Laws.{LoadedChangesAreInOrder, OneVerdict}
-use Rattle.archive_state.proofs.OrderLemmas.{one_way}
-use Rattle.archive_state.proofs.VerifyLemmas.{all_at, one_at, no_more, one_least}
-use Rattle.archive_state.specs.Verifying.{IsLeastSpace}
+use Rattle.model_archive.proofs.OrderLemmas.{one_way}
+use Rattle.model_archive.proofs.VerifyLemmas.{all_at, one_at, no_more, one_least}
+use Rattle.model_archive.specs.Verifying.{IsLeastSpace}
 
 -- ---- the order of changes
 

@@ -3,18 +3,18 @@ use Rattle.std.proofs.Common.{◌≡◌, ◌⊎◌, inl, inr, ℕ, ◌-◌, ◌<
 use Rattle.std.specs.Prelude.{slice_index, Option, Some, None, Result, Ok, Err, IfOk, IfSome, MatchOption}
 use Rattle.std.proofs.lemmas.Bool.{cases_lt}
 use Rattle.std.proofs.lemmas.List.Elements.{All-drop}
-use Rattle.time_base.specs.declared.time.Time.{Time}
-use Rattle.time_base.specs.declared.posting.Posting.{Posting}
-use Rattle.time_base.specs.declared.fraction.Fraction.{Fraction}
-use Rattle.commands.specs.declared.command.Kind.TheVariants.{Guarantee}
-use Rattle.elementary.specs.Boundaries.{IsBoundary}
-use Rattle.elementary.specs.Counts.{Counts, Tabulates}
-use Rattle.elementary.specs.Partitions.{Covers, IsBest, IsLeast, IsFitting, AreBest, space}
-use Rattle.elementary.proofs.Tables.{some_time, last_is_horizon}
-use Rattle.plan_certificate.specs.Certificates.{CertifiesCuts}
-use Rattle.plan_certificate.proofs.Proved.{best_numbers_certify, first_is}
-use Rattle.stored_plans.specs.Plans.{IsFitFor, IsLeastPlan}
-use Rattle.stored_plans.proofs.PlanLemmas.{seconds_are}
+use Rattle.base_types.specs.declared.time.Time.{Time}
+use Rattle.base_types.specs.declared.posting.Posting.{Posting}
+use Rattle.base_types.specs.declared.fraction.Fraction.{Fraction}
+use Rattle.base_commands.specs.declared.command.Kind.TheVariants.{Guarantee}
+use Rattle.plans_partitions.specs.Boundaries.{IsBoundary}
+use Rattle.plans_partitions.specs.Counts.{Counts, Tabulates}
+use Rattle.plans_partitions.specs.Partitions.{Covers, IsBest, IsLeast, IsFitting, AreBest, space}
+use Rattle.plans_partitions.proofs.Tables.{some_time, last_is_horizon}
+use Rattle.plans_guarantee.specs.Certificates.{CertifiesCuts}
+use Rattle.plans_guarantee.proofs.Proved.{best_numbers_certify, first_is}
+use Rattle.plans_kinds.specs.Plans.{IsFitFor, IsLeastPlan}
+use Rattle.plans_kinds.proofs.PlanLemmas.{seconds_are}
 use Rattle.archive_check.specs.declared.least.Excess.{Excess}
 use Rattle.archive_check.specs.Checking.{IsBeaten, IsExcess}
 

@@ -4,21 +4,21 @@ use Rattle.std.specs.Option.{option_map}
 use Rattle.std.specs.List.{flat_map}
 use Rattle.std.proofs.lemmas.List.Elements.{All-nil, All-cons, All-head, All-tail, All-append, All-filter}
 use Rattle.std.proofs.lemmas.List.Sums.{sum_by-cons}
-use Rattle.time_base.specs.declared.text_place.TextPlace.{TextPlace}
-use Rattle.page_store.specs.Live.{IsInside, AreLive}
-use Rattle.version_store.specs.declared.change.Change.{Change}
-use Rattle.version_store.specs.Changes.{mapped}
-use Rattle.record_codec.specs.Spelling.{spelling}
-use Rattle.record_codec.specs.PlanSpelling.{IsPlanEntry}
-use Rattle.record_codec.specs.declared.entry.Entry.{Entry}
-use Rattle.record_codec.specs.declared.entry.Entry.TheVariants.{Arrive, Delete, Planned}
-use Rattle.stored_plans.specs.Plans.{IsFitFor}
-use Rattle.archive_state.specs.declared.stored.StoredPlan.{StoredPlan}
-use Rattle.archive_state.specs.Histories.{History, end_of}
-use Rattle.archive_state.specs.Legal.{EachMayCome, IsLoadable}
-use Rattle.archive_state.specs.Plans.{is_another, live_after, live_plans, live_extents, with_plan, extents_of}
-use Rattle.archive_replay.specs.Places.{ArePlaced, pair_of, placed_by, places}
-use Rattle.archive_replay.specs.Texts.{LiesIn}
+use Rattle.base_types.specs.declared.text_place.TextPlace.{TextPlace}
+use Rattle.pages_area.specs.Live.{IsInside, AreLive}
+use Rattle.lists_versions.specs.declared.change.Change.{Change}
+use Rattle.lists_versions.specs.Changes.{mapped}
+use Rattle.journal_entries.specs.Spelling.{spelling}
+use Rattle.journal_entries.specs.PlanSpelling.{IsPlanEntry}
+use Rattle.journal_entries.specs.declared.entry.Entry.{Entry}
+use Rattle.journal_entries.specs.declared.entry.Entry.TheVariants.{Arrive, Delete, Planned}
+use Rattle.plans_kinds.specs.Plans.{IsFitFor}
+use Rattle.model_archive.specs.declared.stored.StoredPlan.{StoredPlan}
+use Rattle.model_archive.specs.Histories.{History, end_of}
+use Rattle.model_archive.specs.Legal.{EachMayCome, IsLoadable}
+use Rattle.model_archive.specs.Plans.{is_another, live_after, live_plans, live_extents, with_plan, extents_of}
+use Rattle.archive_entries.specs.Places.{ArePlaced, pair_of, placed_by, places}
+use Rattle.archive_entries.specs.Texts.{LiesIn}
 use Rattle.archive_check.specs.Verdicts.{LiesInside}
 use Rattle.archive_check.proofs.HeldLemmas.{extents_split}
 

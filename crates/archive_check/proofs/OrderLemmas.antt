@@ -5,12 +5,12 @@ use Rattle.std.specs.List.Sorted.{IsNonDecreasingBy, IsPermutation}
 use Rattle.std.proofs.lemmas.List.{get_or-map, length-map}
 use Rattle.std.proofs.lemmas.List.Elements.{All-nil, All-cons, All-head, All-tail}
 use Rattle.std.proofs.lemmas.List.Sorted.{All-permutation}
-use Rattle.fold_tokens.specs.Words.{number_of}
-use Rattle.fold_tokens.proofs.WordLemmas.{absent-none, new_place}
-use Rattle.archive_state.specs.declared.stored.StoredPlan.{StoredPlan}
+use Rattle.text_words.specs.Words.{number_of}
+use Rattle.text_words.proofs.WordLemmas.{absent-none, new_place}
+use Rattle.model_archive.specs.declared.stored.StoredPlan.{StoredPlan}
 use Rattle.archive_check.specs.declared.ordering.Ranked.{Ranked}
-use Rattle.archive_state.specs.Orders.{place_of, AreByNumber}
-use Rattle.archive_state.proofs.Sorting.{ascends, rises, shown-of, shown-up}
+use Rattle.model_archive.specs.Orders.{place_of, AreByNumber}
+use Rattle.model_archive.proofs.Sorting.{ascends, rises, shown-of, shown-up}
 
 -- ---- a place by a number
 

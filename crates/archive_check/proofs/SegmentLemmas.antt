@@ -3,18 +3,18 @@ use Rattle.std.proofs.Common.{◌≡◌, ℕ, ◌+◌, ◌<◌, List, [], ◌∷
 use Rattle.std.specs.Prelude.{IfOk, IfSome, MatchOption}
 use Rattle.std.proofs.lemmas.List.Elements.{All-nil, All-cons}
 use Rattle.std.proofs.lemmas.List.{map-append, take-append-drop, length-take-le, length-map, length-append}
-use Rattle.time_base.specs.declared.posting.Posting.{Posting}
-use Rattle.time_base.specs.declared.time.Time.{Time}
-use Rattle.record_codec.specs.declared.place.Layout.{Layout}
-use Rattle.record_codec.specs.declared.place.Place.{Place}
+use Rattle.base_types.specs.declared.posting.Posting.{Posting}
+use Rattle.base_types.specs.declared.time.Time.{Time}
+use Rattle.journal_entries.specs.declared.place.Layout.{Layout}
+use Rattle.journal_entries.specs.declared.place.Place.{Place}
 use Rattle.machine_model.specs.States.{DiskState}
 use Rattle.machine_model.specs.Calls.{OnlyReads}
-use Rattle.page_store.specs.Ranges.{bytes_in}
-use Rattle.postings.specs.Lists.{sublist}
-use Rattle.checked_lists.specs.Layouts.{spelling_in}
-use Rattle.sublist_store.specs.Segments.{seconds}
-use Rattle.sublist_store.specs.Preparing.{spellings, Serves}
-use Rattle.sublist_store.proofs.SpellLemmas.{both_halves}
+use Rattle.pages_area.specs.Ranges.{bytes_in}
+use Rattle.lists_postings.specs.Lists.{sublist}
+use Rattle.pages_checked.specs.Layouts.{spelling_in}
+use Rattle.pages_sublists.specs.Segments.{seconds}
+use Rattle.pages_sublists.specs.Preparing.{spellings, Serves}
+use Rattle.pages_sublists.proofs.SpellLemmas.{both_halves}
 use Rattle.archive_check.specs.declared.segments.Wrong.{Wrong}
 use Rattle.archive_check.specs.Verdicts.{DifferAt, SegmentDiffers}
 use Rattle.archive_check.specs.Digests.{HasDigest}

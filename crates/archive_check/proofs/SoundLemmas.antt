@@ -4,43 +4,43 @@ use Rattle.std.proofs.lemmas.List.Elements.{All-nil, All-cons, All-head, All-tai
 use Rattle.std.specs.List.Sorted.{IsPermutation}
 use Rattle.std.proofs.lemmas.List.Sorted.{All-permutation, length_permutation, sum_by-IsPermutation}
 use Rattle.machine_model.specs.Areas.{Bytes}
-use Rattle.time_base.specs.declared.text_place.TextPlace.{TextPlace}
-use Rattle.time_base.specs.declared.posting.Posting.{Posting}
-use Rattle.commands.specs.declared.command.Kind.{Kind}
-use Rattle.postings.specs.Lists.{sublist}
-use Rattle.postings.proofs.Clipping.{one_list_of}
-use Rattle.page_store.specs.Ranges.{bytes_in}
-use Rattle.version_store.specs.declared.change.Change.{Change}
-use Rattle.version_index.specs.Words.{words_in}
-use Rattle.stored_plans.specs.Plans.{IsFitFor, IsLeastPlan}
-use Rattle.record_codec.specs.declared.entry.Entry.{Entry}
-use Rattle.record_codec.specs.declared.entry.Entry.TheVariants.{Arrive, Delete, Planned}
-use Rattle.record_codec.specs.declared.place.Layout.{Layout}
-use Rattle.record_codec.specs.declared.place.Place.{Place}
-use Rattle.record_codec.specs.declared.plan.PlanEntry.{PlanEntry}
-use Rattle.checked_lists.specs.Layouts.{spelling_in}
-use Rattle.sublist_store.specs.Preparing.{spellings}
-use Rattle.sublist_store.specs.Segments.{seconds, next_cut, EachSegment, HoldsSublist}
-use Rattle.archive_state.specs.declared.stored.StoredPlan.{StoredPlan}
-use Rattle.archive_state.specs.declared.verdict.Verdict.{Verdict}
-use Rattle.archive_state.specs.declared.verdict.Verdict.TheVariants.{Sound, Differs, NotLeast, BadText}
-use Rattle.archive_state.specs.Answers.{frequency_at}
-use Rattle.archive_state.specs.Histories.{History, acts, changes}
-use Rattle.archive_state.specs.Holding.{HoldsPlan}
-use Rattle.archive_state.specs.Legal.{MayBePlanned, MayCome, EachMayCome, IsLoadable}
-use Rattle.archive_state.specs.Planning.{IsListUpTo}
-use Rattle.archive_state.specs.Plans.{live_plans}
-use Rattle.archive_state.specs.Stands.{Stands}
-use Rattle.archive_state.specs.Verifying.{TakesLeast, Judges}
-use Rattle.archive_state.proofs.VerifyLemmas.{all_at, good_is_sound}
-use Rattle.archive_state.proofs.LiveLemmas.{live_planned}
-use Rattle.archive_replay.proofs.PlaceLemmas.{texts_are}
-use Rattle.archive_replay.proofs.IndexLemmas.{words_are}
-use Rattle.archive_state.specs.Orders.{AreByNumber}
+use Rattle.base_types.specs.declared.text_place.TextPlace.{TextPlace}
+use Rattle.base_types.specs.declared.posting.Posting.{Posting}
+use Rattle.base_commands.specs.declared.command.Kind.{Kind}
+use Rattle.lists_postings.specs.Lists.{sublist}
+use Rattle.lists_postings.proofs.Clipping.{one_list_of}
+use Rattle.pages_area.specs.Ranges.{bytes_in}
+use Rattle.lists_versions.specs.declared.change.Change.{Change}
+use Rattle.lists_index.specs.Words.{words_in}
+use Rattle.plans_kinds.specs.Plans.{IsFitFor, IsLeastPlan}
+use Rattle.journal_entries.specs.declared.entry.Entry.{Entry}
+use Rattle.journal_entries.specs.declared.entry.Entry.TheVariants.{Arrive, Delete, Planned}
+use Rattle.journal_entries.specs.declared.place.Layout.{Layout}
+use Rattle.journal_entries.specs.declared.place.Place.{Place}
+use Rattle.journal_entries.specs.declared.plan.PlanEntry.{PlanEntry}
+use Rattle.pages_checked.specs.Layouts.{spelling_in}
+use Rattle.pages_sublists.specs.Preparing.{spellings}
+use Rattle.pages_sublists.specs.Segments.{seconds, next_cut, EachSegment, HoldsSublist}
+use Rattle.model_archive.specs.declared.stored.StoredPlan.{StoredPlan}
+use Rattle.model_archive.specs.declared.verdict.Verdict.{Verdict}
+use Rattle.model_archive.specs.declared.verdict.Verdict.TheVariants.{Sound, Differs, NotLeast, BadText}
+use Rattle.model_archive.specs.Answers.{frequency_at}
+use Rattle.model_archive.specs.Histories.{History, acts, changes}
+use Rattle.model_archive.specs.Holding.{HoldsPlan}
+use Rattle.model_archive.specs.Legal.{MayBePlanned, MayCome, EachMayCome, IsLoadable}
+use Rattle.model_archive.specs.Planning.{IsListUpTo}
+use Rattle.model_archive.specs.Plans.{live_plans}
+use Rattle.model_archive.specs.Stands.{Stands}
+use Rattle.model_archive.specs.Verifying.{TakesLeast, Judges}
+use Rattle.model_archive.proofs.VerifyLemmas.{all_at, good_is_sound}
+use Rattle.model_archive.proofs.LiveLemmas.{live_planned}
+use Rattle.archive_entries.proofs.PlaceLemmas.{texts_are}
+use Rattle.archive_entries.proofs.IndexLemmas.{words_are}
+use Rattle.model_archive.specs.Orders.{AreByNumber}
 use Rattle.archive_check.specs.Verdicts.{with_texts, IsText, IsSound, HasDifference, Says, Tells, IsVerdict, found_in, wanted_of}
 use Rattle.archive_check.specs.Checked.{IsChecked}
 use Rattle.archive_check.specs.Laws.{WhatStandsIsVerified, WhatStandsIsSound, ANewArchiveIsSound}
-use Rattle.archive_state.proofs.OrderLemmas.{are_moved}
+use Rattle.model_archive.proofs.OrderLemmas.{are_moved}
 use Rattle.archive_check.proofs.LawLemmas.{not_the_same, bad_unread, verdicts_are_one}
 
 -- ---- a history that loads

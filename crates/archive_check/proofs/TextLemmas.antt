@@ -4,15 +4,15 @@ use Rattle.std.proofs.Math.Seq.{drop-cons}
 use Rattle.std.proofs.lemmas.Bool.{eq-eqb, cases_lt}
 use Rattle.std.proofs.lemmas.List.{map-append, take-append-drop, take_more}
 use Rattle.std.proofs.lemmas.List.Elements.{All-nil, All-cons, All-head, All-tail, All-append, All-push, All-weaker, All-map, filter-append, Contains-append_left, Contains-append_right, Contains-push}
-use Rattle.time_base.specs.declared.ids.DocId.{DocId}
-use Rattle.time_base.specs.declared.time.Time.{Time}
-use Rattle.time_base.specs.declared.text_place.TextPlace.{TextPlace}
-use Rattle.postings.specs.Lists.{EachNext}
-use Rattle.version_store.specs.declared.change.Change.{Change}
-use Rattle.version_store.specs.Changes.{changes_of, mapped}
-use Rattle.version_store.proofs.Mapped.{changes_of-mapped}
-use Rattle.version_index.specs.Loads.{Loaded}
-use Rattle.archive_replay.specs.Texts.{text_in, bare, nothing}
+use Rattle.base_types.specs.declared.ids.DocId.{DocId}
+use Rattle.base_types.specs.declared.time.Time.{Time}
+use Rattle.base_types.specs.declared.text_place.TextPlace.{TextPlace}
+use Rattle.lists_postings.specs.Lists.{EachNext}
+use Rattle.lists_versions.specs.declared.change.Change.{Change}
+use Rattle.lists_versions.specs.Changes.{changes_of, mapped}
+use Rattle.lists_versions.proofs.Mapped.{changes_of-mapped}
+use Rattle.lists_index.specs.Loads.{Loaded}
+use Rattle.archive_entries.specs.Texts.{text_in, bare, nothing}
 use Rattle.archive_check.specs.Verdicts.{with_texts, IsText, IsUpTo, IsFirstBad, AreInOrder}
 use Rattle.archive_check.specs.Checking.{IsLoadedBehind, AreAllLoaded, IsStopped}
 

@@ -1,33 +1,33 @@
 -- What the parts of a check give.
 use Rattle.std.specs.Prelude.{◌≡◌, ℕ, ◌<◌, List, [], ◌∷◌, ◌++◌, length, take, drop, slice_index, get_or, map, All, Option, IfSome, MatchOption, IsUtf8}
 use Rattle.std.specs.Option.{option_map}
-use Rattle.time_base.specs.declared.text_place.TextPlace.{TextPlace}
-use Rattle.time_base.specs.declared.posting.Posting.{Posting}
-use Rattle.time_base.specs.declared.fraction.Fraction.{Fraction}
-use Rattle.time_base.specs.declared.time.Time.{Time}
-use Rattle.commands.specs.declared.command.Kind.TheVariants.{Guarantee}
-use Rattle.version_store.specs.declared.change.Change.{Change}
-use Rattle.version_store.specs.Changes.{mapped}
-use Rattle.version_index.specs.Indexes.{state_of, Indexes}
-use Rattle.version_index.specs.Loads.{Loaded, AreLoaded}
-use Rattle.version_index.specs.Words.{words_in}
-use Rattle.record_codec.specs.declared.place.Place.{Place}
-use Rattle.record_codec.specs.declared.plan.PlanEntry.{PlanEntry}
-use Rattle.elementary.specs.Partitions.{IsBest, space}
-use Rattle.stored_plans.specs.Plans.{IsFitFor, plan_space}
-use Rattle.archive_replay.specs.Texts.{text_in, bare, nothing}
+use Rattle.base_types.specs.declared.text_place.TextPlace.{TextPlace}
+use Rattle.base_types.specs.declared.posting.Posting.{Posting}
+use Rattle.base_types.specs.declared.fraction.Fraction.{Fraction}
+use Rattle.base_types.specs.declared.time.Time.{Time}
+use Rattle.base_commands.specs.declared.command.Kind.TheVariants.{Guarantee}
+use Rattle.lists_versions.specs.declared.change.Change.{Change}
+use Rattle.lists_versions.specs.Changes.{mapped}
+use Rattle.lists_index.specs.Indexes.{state_of, Indexes}
+use Rattle.lists_index.specs.Loads.{Loaded, AreLoaded}
+use Rattle.lists_index.specs.Words.{words_in}
+use Rattle.journal_entries.specs.declared.place.Place.{Place}
+use Rattle.journal_entries.specs.declared.plan.PlanEntry.{PlanEntry}
+use Rattle.plans_partitions.specs.Partitions.{IsBest, space}
+use Rattle.plans_kinds.specs.Plans.{IsFitFor, plan_space}
+use Rattle.archive_entries.specs.Texts.{text_in, bare, nothing}
 use Rattle.archive_check.specs.declared.segments.Wrong.{Wrong}
 use Rattle.archive_check.specs.declared.texts.Texts.{Texts}
 use Rattle.archive_check.specs.declared.texts.Texts.TheVariants.{Good, Bad}
-use Rattle.archive_state.specs.declared.stored.StoredPlan.{StoredPlan}
-use Rattle.archive_state.specs.declared.verdict.Verdict.{Verdict}
-use Rattle.archive_state.specs.declared.verdict.Verdict.TheVariants.{Sound, Differs, NotLeast, BadText}
+use Rattle.model_archive.specs.declared.stored.StoredPlan.{StoredPlan}
+use Rattle.model_archive.specs.declared.verdict.Verdict.{Verdict}
+use Rattle.model_archive.specs.declared.verdict.Verdict.TheVariants.{Sound, Differs, NotLeast, BadText}
 use Rattle.archive_check.specs.declared.digests.Digests.{Digests}
 use Rattle.archive_check.specs.declared.digests.Digests.TheVariants.{Asked}
 use Rattle.archive_check.specs.declared.verifying.Altered.{Altered}
 use Rattle.archive_check.specs.declared.verifying.Checked.{Checked}
-use Rattle.archive_state.specs.Orders.{AreByNumber}
-use Rattle.archive_state.specs.Verifying.{IsLeastSpace}
+use Rattle.model_archive.specs.Orders.{AreByNumber}
+use Rattle.model_archive.specs.Verifying.{IsLeastSpace}
 use Rattle.archive_check.specs.Verdicts.{with_texts, IsText, IsFirstBad, SegmentDiffers, HasDifference, TakesMore, Says}
 use Rattle.archive_check.specs.Digests.{HasDigest, HasDigests, IsAltered, IsFirstAltered, TellsSound}
 

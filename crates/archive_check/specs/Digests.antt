@@ -2,21 +2,21 @@
 use Rattle.std.specs.Prelude.{◌≡◌, ℕ, List, ◌∷◌, ◌++◌, length, All}
 use Rattle.sha2.specs.Sha256.{sha256}
 use Rattle.machine_model.specs.Areas.{Bytes}
-use Rattle.time_base.specs.declared.text_place.TextPlace.{TextPlace}
-use Rattle.page_store.specs.Ranges.{bytes_in}
-use Rattle.record_codec.specs.declared.place.Place.{Place}
-use Rattle.record_codec.specs.declared.plan.PlanEntry.{PlanEntry}
-use Rattle.version_store.specs.declared.change.Change.{Change}
-use Rattle.version_index.specs.Words.{words_in}
-use Rattle.archive_state.specs.Histories.{History}
-use Rattle.archive_state.specs.Plans.{live_plans}
-use Rattle.archive_state.specs.declared.stored.StoredPlan.{StoredPlan}
-use Rattle.archive_state.specs.declared.verdict.Verdict.{Verdict}
-use Rattle.archive_state.specs.declared.verdict.Verdict.TheVariants.{Sound, Differs, NotLeast, BadText}
-use Rattle.archive_replay.specs.Places.{ArePlaced}
+use Rattle.base_types.specs.declared.text_place.TextPlace.{TextPlace}
+use Rattle.pages_area.specs.Ranges.{bytes_in}
+use Rattle.journal_entries.specs.declared.place.Place.{Place}
+use Rattle.journal_entries.specs.declared.plan.PlanEntry.{PlanEntry}
+use Rattle.lists_versions.specs.declared.change.Change.{Change}
+use Rattle.lists_index.specs.Words.{words_in}
+use Rattle.model_archive.specs.Histories.{History}
+use Rattle.model_archive.specs.Plans.{live_plans}
+use Rattle.model_archive.specs.declared.stored.StoredPlan.{StoredPlan}
+use Rattle.model_archive.specs.declared.verdict.Verdict.{Verdict}
+use Rattle.model_archive.specs.declared.verdict.Verdict.TheVariants.{Sound, Differs, NotLeast, BadText}
+use Rattle.archive_entries.specs.Places.{ArePlaced}
 use Rattle.archive_check.specs.declared.finding.Finding.{Finding}
 use Rattle.archive_check.specs.declared.finding.Finding.TheVariants.{Told, BadDigest}
-use Rattle.archive_state.specs.Orders.{AreByNumber}
+use Rattle.model_archive.specs.Orders.{AreByNumber}
 use Rattle.archive_check.specs.Verdicts.{with_texts, Tells}
 
 -- the digest of a place is that of the bytes that stand there

@@ -1,20 +1,20 @@
 -- What holds of verdicts and of what a check asks for.
 use Rattle.std.specs.Prelude.{◌≡◌, ℕ, List, [], length, All}
 use Rattle.machine_model.specs.Areas.{Bytes}
-use Rattle.time_base.specs.declared.text_place.TextPlace.{TextPlace}
-use Rattle.version_store.specs.declared.change.Change.{Change}
-use Rattle.gate_journal.specs.Spelled.{Spells}
-use Rattle.page_store.specs.Live.{AreLive}
-use Rattle.archive_state.specs.Histories.{History}
-use Rattle.archive_state.specs.Holding.{HoldsPlans}
-use Rattle.archive_state.specs.Legal.{IsLegal, IsLoadable}
-use Rattle.archive_state.specs.Plans.{live_plans, live_extents}
-use Rattle.archive_state.specs.Stands.{Stands, bodies_of}
-use Rattle.archive_state.specs.Verifying.{Verifies, sound_of}
-use Rattle.archive_state.specs.declared.stored.StoredPlan.{StoredPlan}
-use Rattle.archive_replay.specs.Places.{ArePlaced}
-use Rattle.archive_state.specs.declared.verdict.Verdict.{Verdict}
-use Rattle.archive_state.specs.declared.verdict.Verdict.TheVariants.{Sound}
+use Rattle.base_types.specs.declared.text_place.TextPlace.{TextPlace}
+use Rattle.lists_versions.specs.declared.change.Change.{Change}
+use Rattle.journal_gates.specs.Spelled.{Spells}
+use Rattle.pages_area.specs.Live.{AreLive}
+use Rattle.model_archive.specs.Histories.{History}
+use Rattle.model_archive.specs.Holding.{HoldsPlans}
+use Rattle.model_archive.specs.Legal.{IsLegal, IsLoadable}
+use Rattle.model_archive.specs.Plans.{live_plans, live_extents}
+use Rattle.model_archive.specs.Stands.{Stands, bodies_of}
+use Rattle.model_archive.specs.Verifying.{Verifies, sound_of}
+use Rattle.model_archive.specs.declared.stored.StoredPlan.{StoredPlan}
+use Rattle.archive_entries.specs.Places.{ArePlaced}
+use Rattle.model_archive.specs.declared.verdict.Verdict.{Verdict}
+use Rattle.model_archive.specs.declared.verdict.Verdict.TheVariants.{Sound}
 use Rattle.archive_check.specs.Verdicts.{AreInOrder, IsVerdict}
 use Rattle.archive_check.specs.Checked.{IsChecked}
 use Rattle.archive_check.specs.declared.finding.Finding.{Finding}

@@ -11,37 +11,37 @@ use Rattle.unicode_normalization.proofs.Computing.{unicode_normalization}
 use Rattle.caseless.proofs.Computing.{caseless}
 use Rattle.sha2.specs.Sha256.{sha256}
 use Rattle.machine_model.specs.Areas.{Bytes}
-use Rattle.time_base.specs.declared.fraction.Fraction.{Fraction}
-use Rattle.time_base.specs.declared.ids.DocId.{DocId}
-use Rattle.time_base.specs.declared.posting.Posting.{Posting}
-use Rattle.time_base.specs.declared.time.Time.{Time}
-use Rattle.commands.specs.declared.command.Kind.TheVariants.{Guarantee}
-use Rattle.postings.specs.Lists.{frequency, holds, meets}
-use Rattle.postings.specs.Sizes.{size, alive_count}
-use Rattle.stretches.proofs.Elements.{here, later, here-or-later, none}
-use Rattle.gate_journal.specs.Records.{front}
-use Rattle.elementary.specs.Boundaries.{IsBoundary, IsFirst, AreBoundaries}
-use Rattle.elementary.specs.Partitions.{Covers, IsAdmissible, IsLeast, space}
-use Rattle.elementary.proofs.Ordering.{increasing}
-use Rattle.fold_tokens.specs.Terms.{occurrences}
-use Rattle.version_store.specs.Changes.{valid_at}
-use Rattle.record_codec.specs.Spelling.{spelling}
-use Rattle.record_codec.specs.PlanSpelling.{IsDigest, IsPlanEntry, plan_spelling}
-use Rattle.record_codec.specs.declared.entry.Entry.TheVariants as entries
-use Rattle.record_codec.specs.declared.place.Layout.TheVariants.{Flat}
-use Rattle.record_codec.specs.declared.place.Place.{Place}
-use Rattle.record_codec.specs.declared.plan.PlanEntry.{PlanEntry}
-use Rattle.stored_plans.specs.Plans.{IsNarrow, IsGoodPlan}
-use Rattle.archive_state.specs.declared.stored.StoredPlan.{StoredPlan}
-use Rattle.archive_state.specs.Answers.{frequency_at}
-use Rattle.archive_state.specs.Histories.{History}
-use Rattle.archive_state.specs.Holding.{HoldsPlan, HoldsPlans}
-use Rattle.archive_state.specs.Legal.{IsLegal, MayBePlanned}
-use Rattle.archive_state.specs.Planning.{last_second, IsListUpTo}
-use Rattle.archive_state.specs.Plans.{live_plans}
-use Rattle.archive_state.specs.Stands.{Stands, bodies_of}
-use Rattle.archive_state.proofs.HistoryLemmas.{legal_loads}
-use Rattle.archive_state.proofs.StoringLemmas.{sha_digest}
+use Rattle.base_types.specs.declared.fraction.Fraction.{Fraction}
+use Rattle.base_types.specs.declared.ids.DocId.{DocId}
+use Rattle.base_types.specs.declared.posting.Posting.{Posting}
+use Rattle.base_types.specs.declared.time.Time.{Time}
+use Rattle.base_commands.specs.declared.command.Kind.TheVariants.{Guarantee}
+use Rattle.lists_postings.specs.Lists.{frequency, holds, meets}
+use Rattle.lists_postings.specs.Sizes.{size, alive_count}
+use Rattle.lists_postings.proofs.Elements.{here, later, here-or-later, none}
+use Rattle.journal_gates.specs.Records.{front}
+use Rattle.plans_partitions.specs.Boundaries.{IsBoundary, IsFirst, AreBoundaries}
+use Rattle.plans_partitions.specs.Partitions.{Covers, IsAdmissible, IsLeast, space}
+use Rattle.plans_partitions.proofs.Ordering.{increasing}
+use Rattle.text_words.specs.Terms.{occurrences}
+use Rattle.lists_versions.specs.Changes.{valid_at}
+use Rattle.journal_entries.specs.Spelling.{spelling}
+use Rattle.journal_entries.specs.PlanSpelling.{IsDigest, IsPlanEntry, plan_spelling}
+use Rattle.journal_entries.specs.declared.entry.Entry.TheVariants as entries
+use Rattle.journal_entries.specs.declared.place.Layout.TheVariants.{Flat}
+use Rattle.journal_entries.specs.declared.place.Place.{Place}
+use Rattle.journal_entries.specs.declared.plan.PlanEntry.{PlanEntry}
+use Rattle.plans_kinds.specs.Plans.{IsNarrow, IsGoodPlan}
+use Rattle.model_archive.specs.declared.stored.StoredPlan.{StoredPlan}
+use Rattle.model_archive.specs.Answers.{frequency_at}
+use Rattle.model_archive.specs.Histories.{History}
+use Rattle.model_archive.specs.Holding.{HoldsPlan, HoldsPlans}
+use Rattle.model_archive.specs.Legal.{IsLegal, MayBePlanned}
+use Rattle.model_archive.specs.Planning.{last_second, IsListUpTo}
+use Rattle.model_archive.specs.Plans.{live_plans}
+use Rattle.model_archive.specs.Stands.{Stands, bodies_of}
+use Rattle.model_archive.proofs.HistoryLemmas.{legal_loads}
+use Rattle.model_archive.proofs.StoringLemmas.{sha_digest}
 
 -- ---- the history: document 1 has the word `v` in [10, 40), and a plan of the word has one segment
 

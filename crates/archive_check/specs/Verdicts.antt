@@ -1,28 +1,28 @@
 -- What a check tells of an archive: by the bytes that reads give, and where texts and sublists lie. No digest is asked.
 use Rattle.std.specs.Prelude.{◌≡◌, ◌≢◌, ◌⊎◌, ℕ, ◌<◌, ◌≤◌, List, ◌∷◌, ◌++◌, length, take, map, slice_get, All, Contains, Option, IfSome, IsUtf8}
-use Rattle.time_base.specs.declared.ids.DocId.{DocId}
-use Rattle.time_base.specs.declared.time.Time.{Time}
-use Rattle.time_base.specs.declared.text_place.TextPlace.{TextPlace}
-use Rattle.time_base.specs.declared.posting.Posting.{Posting}
-use Rattle.commands.specs.declared.command.Kind.TheVariants.{Guarantee}
-use Rattle.postings.specs.Lists.{EachNext}
-use Rattle.postings.specs.ListsOf.{IsListOf}
-use Rattle.version_store.specs.declared.change.Change.{Change}
-use Rattle.version_store.specs.Changes.{changes_of, mapped}
-use Rattle.version_index.specs.Words.{frequency_in, words_in}
-use Rattle.stored_plans.specs.Plans.{IsFitFor, IsLeastPlan, plan_space}
-use Rattle.page_store.specs.Ranges.{bytes_in}
-use Rattle.page_store.specs.Live.{IsInside}
-use Rattle.record_codec.specs.declared.plan.PlanEntry.{PlanEntry}
-use Rattle.sublist_store.specs.Segments.{seconds}
-use Rattle.sublist_store.specs.Preparing.{spellings}
-use Rattle.archive_state.specs.Plans.{segments_of}
-use Rattle.archive_state.specs.Verifying.{IsLeastSpace}
-use Rattle.archive_state.specs.declared.stored.StoredPlan.{StoredPlan}
-use Rattle.archive_replay.specs.Texts.{text_in}
-use Rattle.archive_state.specs.declared.verdict.Verdict.{Verdict}
-use Rattle.archive_state.specs.declared.verdict.Verdict.TheVariants.{Sound, Differs, NotLeast, BadText}
-use Rattle.archive_state.specs.Orders.{AreByNumber}
+use Rattle.base_types.specs.declared.ids.DocId.{DocId}
+use Rattle.base_types.specs.declared.time.Time.{Time}
+use Rattle.base_types.specs.declared.text_place.TextPlace.{TextPlace}
+use Rattle.base_types.specs.declared.posting.Posting.{Posting}
+use Rattle.base_commands.specs.declared.command.Kind.TheVariants.{Guarantee}
+use Rattle.lists_postings.specs.Lists.{EachNext}
+use Rattle.lists_postings.specs.ListsOf.{IsListOf}
+use Rattle.lists_versions.specs.declared.change.Change.{Change}
+use Rattle.lists_versions.specs.Changes.{changes_of, mapped}
+use Rattle.lists_index.specs.Words.{frequency_in, words_in}
+use Rattle.plans_kinds.specs.Plans.{IsFitFor, IsLeastPlan, plan_space}
+use Rattle.pages_area.specs.Ranges.{bytes_in}
+use Rattle.pages_area.specs.Live.{IsInside}
+use Rattle.journal_entries.specs.declared.plan.PlanEntry.{PlanEntry}
+use Rattle.pages_sublists.specs.Segments.{seconds}
+use Rattle.pages_sublists.specs.Preparing.{spellings}
+use Rattle.model_archive.specs.Plans.{segments_of}
+use Rattle.model_archive.specs.Verifying.{IsLeastSpace}
+use Rattle.model_archive.specs.declared.stored.StoredPlan.{StoredPlan}
+use Rattle.archive_entries.specs.Texts.{text_in}
+use Rattle.model_archive.specs.declared.verdict.Verdict.{Verdict}
+use Rattle.model_archive.specs.declared.verdict.Verdict.TheVariants.{Sound, Differs, NotLeast, BadText}
+use Rattle.model_archive.specs.Orders.{AreByNumber}
 
 -- ---- texts
 

@@ -2,14 +2,14 @@
 ghost use Rattle.std.specs.Prelude.{◌≡◌, slice_get, IfOk, IsErrOf, MatchOption};
 ghost use Rattle.machine_model.specs.Causes.{Rose};
 ghost use Rattle.machine_model.specs.Calls.{OnlyReads};
-ghost use Rattle.page_store.specs.Live.{IsInside};
-ghost use Rattle.page_store.specs.Ranges.{bytes_in};
+ghost use Rattle.pages_area.specs.Live.{IsInside};
+ghost use Rattle.pages_area.specs.Ranges.{bytes_in};
 ghost use Rattle.archive_check.specs.Verdicts.{DifferAt};
 
 use crate::error::VerifyError;
+use base_types::{Extent, PAGE_BYTES};
 use machine_model::{Area, Disk};
 use std::alloc::Global;
-use time_base::{Extent, PAGE_BYTES};
 
 /// A place at which bytes differ, with what stands there; None past the end.
 #[derive(Clone, Copy)]

@@ -2,9 +2,9 @@
 ghost use Rattle.std.specs.Prelude.{◌≡◌};
 ghost use Rattle.archive_check.specs.declared.error.VerifyError.{VerifyError};
 
-use fold_tokens::NumberError;
-use guarantee_planner::PlanError;
+use plans_guarantee::PlanError;
 use std::alloc::{AllocError, AllocFailed};
+use text_words::NumberError;
 
 /// Why a check gave no verdict. It changed nothing.
 #[derive(Clone, Copy, Debug, PartialEq, Eq)]

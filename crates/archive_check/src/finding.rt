@@ -1,6 +1,6 @@
 //! What a check finds that asks digests too.
-use archive_state::Verdict;
-use time_base::Key;
+use base_types::Key;
+use model_archive::Verdict;
 
 /// What a check finds that asks digests too.
 #[derive(Debug, Drop)]

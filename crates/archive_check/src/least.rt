@@ -1,21 +1,20 @@
 //! Whether a plan is a least one.
 ghost use Rattle.std.specs.Prelude.{◌≡◌, ◌+◌, ◌<◌, ◌≤◌, ◌^◌, ◌++◌, ◌∷◌, [], ℕ, List, None, drop, length, map, slice_index, All, IfOk, IfSome, IsErrOf, MatchOption};
-ghost use Rattle.time_base.specs.declared.posting.Posting.{Posting as PlainPosting};
-ghost use Rattle.time_base.specs.declared.time.Time.{Time as PlainTime};
-ghost use Rattle.elementary.specs.Counts.{Tabulates};
-ghost use Rattle.elementary.specs.Partitions.{Covers, IsFitting, IsLeast};
-ghost use Rattle.stored_plans.specs.Plans.{IsFitFor, IsLeastPlan};
+ghost use Rattle.base_types.specs.declared.posting.Posting.{Posting as PlainPosting};
+ghost use Rattle.base_types.specs.declared.time.Time.{Time as PlainTime};
+ghost use Rattle.plans_partitions.specs.Counts.{Tabulates};
+ghost use Rattle.plans_partitions.specs.Partitions.{Covers, IsFitting, IsLeast};
+ghost use Rattle.plans_kinds.specs.Plans.{IsFitFor, IsLeastPlan};
 ghost use Rattle.archive_check.specs.Checking.{IsBeaten, IsExcess};
 
 use crate::error::VerifyError;
-use archive_replay::are_many;
-use commands::Kind;
-use elementary::{Partition, Table};
-use guarantee_planner::plan;
-use plan_certificate::check;
+use archive_entries::are_many;
+use base_commands::Kind;
+use base_types::{Fraction, Posting, Time};
+use plans_guarantee::{check, plan};
+use plans_kinds::{is_fit, partition_of};
+use plans_partitions::{Partition, Table};
 use std::alloc::Global;
-use stored_plans::{is_fit, partition_of};
-use time_base::{Fraction, Posting, Time};
 
 /// What a plan takes, and what it has to.
 #[derive(Clone, Copy)]

@@ -2,13 +2,13 @@
 ghost use Rattle.std.specs.Prelude.{◌≡◌, ◌==◌, ℕ, bytes_eq, filter, map, All, IfOk, OnOk};
 ghost use Rattle.std.specs.List.{position_or_len};
 ghost use Rattle.std.specs.List.Sorted.{IsNonDecreasingBy, IsPermutation};
-ghost use Rattle.version_index.specs.Indexes.{state_of};
-ghost use Rattle.archive_state.specs.Orders.{place_of, AreByNumber};
+ghost use Rattle.lists_index.specs.Indexes.{state_of};
+ghost use Rattle.model_archive.specs.Orders.{place_of, AreByNumber};
 
-use archive_state::StoredPlan;
+use base_types::Key;
+use lists_index::Index;
+use model_archive::StoredPlan;
 use std::alloc::{AllocError, Global};
-use time_base::Key;
-use version_index::Index;
 
 /// A plan with the place of its word among those of the texts.
 #[derive(Clone, Copy)]

@@ -2,12 +2,12 @@
 ghost use Rattle.std.specs.Prelude.{◌≡◌, ◌+◌, ◌<◌, ◌^◌, Some, None, length, map, All, IfOk, IfSome, IsErrOf, MatchOption};
 ghost use Rattle.machine_model.specs.Causes.{Rose};
 ghost use Rattle.machine_model.specs.Calls.{OnlyReads};
-ghost use Rattle.postings.specs.Lists.{IsList, sublist};
-ghost use Rattle.page_store.specs.Live.{IsInside};
-ghost use Rattle.page_store.specs.Ranges.{bytes_in};
-ghost use Rattle.checked_lists.specs.Layouts.{spelling_in};
-ghost use Rattle.sublist_store.specs.Segments.{seconds};
-ghost use Rattle.sublist_store.specs.Preparing.{spellings};
+ghost use Rattle.lists_postings.specs.Lists.{IsList, sublist};
+ghost use Rattle.pages_area.specs.Live.{IsInside};
+ghost use Rattle.pages_area.specs.Ranges.{bytes_in};
+ghost use Rattle.pages_checked.specs.Layouts.{spelling_in};
+ghost use Rattle.pages_sublists.specs.Segments.{seconds};
+ghost use Rattle.pages_sublists.specs.Preparing.{spellings};
 ghost use Rattle.archive_check.specs.Verdicts.{DifferAt};
 ghost use Rattle.archive_check.specs.Digests.{HasDigest};
 ghost use Rattle.archive_check.specs.Checking.{AreAltered, IsFirstWrong};
@@ -15,11 +15,11 @@ ghost use Rattle.archive_check.specs.Checking.{AreAltered, IsFirstWrong};
 use crate::bytes::{Spot, first_difference, read_extent};
 use crate::digests::{Digests, altered_of};
 use crate::error::VerifyError;
+use base_types::{Posting, Time};
+use journal_entries::{Layout, Place};
 use machine_model::Disk;
-use record_codec::{Layout, Place};
+use pages_sublists::{narrowed, sublist_bytes};
 use std::alloc::Global;
-use sublist_store::{narrowed, sublist_bytes};
-use time_base::{Posting, Time};
 
 /// A segment whose bytes differ, and where.
 #[derive(Clone, Copy)]

@@ -3,21 +3,21 @@ ghost use Rattle.std.specs.Prelude.{◌≡◌, ◌⊎◌, ◌↔◌, ◌+◌, �
 ghost use Rattle.std.specs.Option.{option_map};
 ghost use Rattle.machine_model.specs.Causes.{Rose};
 ghost use Rattle.machine_model.specs.Calls.{OnlyReads};
-ghost use Rattle.version_store.specs.declared.change.Change.{Change as PlainChange};
-ghost use Rattle.version_store.specs.Changes.{changes_of, mapped};
-ghost use Rattle.version_index.specs.Loads.{Loads, loaded};
-ghost use Rattle.archive_replay.specs.Texts.{text_in, LiesIn};
+ghost use Rattle.lists_versions.specs.declared.change.Change.{Change as PlainChange};
+ghost use Rattle.lists_versions.specs.Changes.{changes_of, mapped};
+ghost use Rattle.lists_index.specs.Loads.{Loads, loaded};
+ghost use Rattle.archive_entries.specs.Texts.{text_in, LiesIn};
 ghost use Rattle.archive_check.specs.Verdicts.{with_texts, IsText, IsFirstBad, AreInOrder};
 ghost use Rattle.archive_check.specs.Checking.{IsLoadedBehind, AreAllLoaded, IsStopped, AreRead};
 
 use crate::error::VerifyError;
-use gate_journal::Journal;
+use base_types::{DocId, TextPlace, Time};
+use journal_gates::Journal;
+use lists_index::{Index, Loader};
+use lists_versions::Change;
 use machine_model::Disk;
 use std::alloc::Global;
 use std::str;
-use time_base::{DocId, TextPlace, Time};
-use version_index::{Index, Loader};
-use version_store::Change;
 
 /// A version of a document.
 #[derive(Clone, Copy)]

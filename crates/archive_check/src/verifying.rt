@@ -2,11 +2,11 @@
 ghost use Rattle.std.specs.Prelude.{◌≡◌, ◌+◌, ◌<◌, ◌≤◌, Ok, Some, None, List, ℕ, length, map, All, IfOk, IsErrOf, MatchOption};
 ghost use Rattle.machine_model.specs.Causes.{Rose};
 ghost use Rattle.machine_model.specs.Calls.{OnlyReads};
-ghost use Rattle.postings.specs.Lists.{IsList};
-ghost use Rattle.version_store.specs.declared.change.Change.{Change as PlainChange};
-ghost use Rattle.version_index.specs.Indexes.{state_of, Indexes};
-ghost use Rattle.stored_plans.specs.Plans.{IsLeastPlan};
-ghost use Rattle.archive_replay.specs.Texts.{LiesIn};
+ghost use Rattle.lists_postings.specs.Lists.{IsList};
+ghost use Rattle.lists_versions.specs.declared.change.Change.{Change as PlainChange};
+ghost use Rattle.lists_index.specs.Indexes.{state_of, Indexes};
+ghost use Rattle.plans_kinds.specs.Plans.{IsLeastPlan};
+ghost use Rattle.archive_entries.specs.Texts.{LiesIn};
 ghost use Rattle.archive_check.specs.Verdicts.{with_texts, AreInOrder, IsPlanned, IsSound, IsText, IsVerdict, LiesInside, Says, IsToBeLeast};
 ghost use Rattle.archive_check.specs.Digests.{IsFinding};
 ghost use Rattle.archive_check.specs.Checking.{AreAltered, DigestsTold, IsExcess, IsExcessOf, IsFaultOf, TellsAll};
@@ -18,16 +18,16 @@ use crate::least::{Excess, excess_of};
 use crate::ordering::{Ranked, by_number};
 use crate::segments::{Looking, first_faults};
 use crate::texts::{Texts, read_texts};
-use archive_replay::list_up_to;
-use archive_state::{StoredPlan, Verdict};
-use commands::Kind;
-use gate_journal::Journal;
+use archive_entries::list_up_to;
+use base_commands::Kind;
+use base_types::{Key, Posting};
+use journal_entries::PlanEntry;
+use journal_gates::Journal;
+use lists_index::Index;
+use lists_versions::Directory;
 use machine_model::Disk;
-use record_codec::PlanEntry;
+use model_archive::{StoredPlan, Verdict};
 use std::alloc::{AllocError, Global};
-use time_base::{Key, Posting};
-use version_index::Index;
-use version_store::Directory;
 
 /// A segment of a word's plan whose digest isn't that of its bytes.
 #[derive(Drop)]

@@ -3,61 +3,61 @@ use Rattle.std.proofs.Common.{◌≡◌, ◌⊎◌, ℕ, ◌+◌, ◌-◌, ◌<�
 use Rattle.std.proofs.lemmas.List.{length_push}
 use Rattle.std.proofs.lemmas.List.Elements.{All-weaker}
 use Rattle.machine_model.specs.Areas.{Bytes}
-use Rattle.time_base.specs.declared.extent.Extent.{Extent}
-use Rattle.page_store.specs.Live.{AreLive, IsInside}
+use Rattle.base_types.specs.declared.extent.Extent.{Extent}
+use Rattle.pages_area.specs.Live.{AreLive, IsInside}
 use Rattle.machine_model.specs.States.{DiskState, moment}
 use Rattle.machine_model.specs.Images.{MayLeave}
 use Rattle.machine_model.proofs.MomentLemmas.{goes_on_same, left_now, allowed_left}
-use Rattle.time_base.specs.Limits.{limit_of}
-use Rattle.time_base.specs.declared.which.Which.TheVariants.{Journal}
-use Rattle.version_store.specs.declared.change.Change.{Change}
-use Rattle.gate_journal.specs.Spelled.{Spells, EachSpells}
-use Rattle.gate_journal.specs.InStep.{IsInStep}
-use Rattle.gate_journal.specs.Crash.{Appends, KeepsPages, KeepsBodies}
-use Rattle.gate_journal.proofs.InStepLemmas.{step_spells}
+use Rattle.base_types.specs.Limits.{limit_of}
+use Rattle.base_types.specs.declared.which.Which.TheVariants.{Journal}
+use Rattle.lists_versions.specs.declared.change.Change.{Change}
+use Rattle.journal_gates.specs.Spelled.{Spells, EachSpells}
+use Rattle.journal_gates.specs.InStep.{IsInStep}
+use Rattle.journal_gates.specs.Crash.{Appends, KeepsPages, KeepsBodies}
+use Rattle.journal_gates.proofs.InStepLemmas.{step_spells}
 use Rattle.machine_model.specs.declared.range.Range.{Range}
-use Rattle.page_store.specs.Crash.{ChangesOnly}
-use Rattle.record_codec.specs.Spelling.{spelling}
-use Rattle.record_codec.specs.declared.entry.Entry.{Entry}
-use Rattle.record_codec.specs.declared.entry.Entry.TheVariants.{Arrive, Delete, Planned}
-use Rattle.archive_state.specs.Histories.{History, changes, end_of}
-use Rattle.archive_state.specs.Legal.{IsLoadable}
-use Rattle.archive_state.specs.Plans.{live_extents, live_plans}
-use Rattle.archive_state.proofs.HoldLemmas.{same_live}
-use Rattle.archive_state.specs.Stands.{bodies_of, EachStands, IsNotArchive}
-use Rattle.archive_state.proofs.HistoryLemmas.{bodies_of-push, end_of-push, end_of-least, loadable-push, entry_loads, end_of_is}
-use Rattle.archive_state.specs.declared.refusal.Refusal.{Refusal}
-use Rattle.archive_state.specs.declared.refusal.Refusal.TheVariants.{Full}
-use Rattle.version_store.specs.Tests.{first_of}
-use Rattle.archive_state.specs.Steps.{full_journal}
-use Rattle.archive_state.proofs.RefusalLemmas.{cause, cause-allowed, cause-full, cause-none}
+use Rattle.pages_area.specs.Crash.{ChangesOnly}
+use Rattle.journal_entries.specs.Spelling.{spelling}
+use Rattle.journal_entries.specs.declared.entry.Entry.{Entry}
+use Rattle.journal_entries.specs.declared.entry.Entry.TheVariants.{Arrive, Delete, Planned}
+use Rattle.model_archive.specs.Histories.{History, changes, end_of}
+use Rattle.model_archive.specs.Legal.{IsLoadable}
+use Rattle.model_archive.specs.Plans.{live_extents, live_plans}
+use Rattle.model_archive.proofs.HoldLemmas.{same_live}
+use Rattle.model_archive.specs.Stands.{bodies_of, EachStands, IsNotArchive}
+use Rattle.model_archive.proofs.HistoryLemmas.{bodies_of-push, end_of-push, end_of-least, loadable-push, entry_loads, end_of_is}
+use Rattle.model_archive.specs.declared.refusal.Refusal.{Refusal}
+use Rattle.model_archive.specs.declared.refusal.Refusal.TheVariants.{Full}
+use Rattle.lists_versions.specs.Tests.{first_of}
+use Rattle.model_archive.specs.Steps.{full_journal}
+use Rattle.model_archive.proofs.RefusalLemmas.{cause, cause-allowed, cause-full, cause-none}
 use Rattle.archive_core.specs.States.{ArchiveState, StandsFor, CacheStands, Reaches}
-use Rattle.plan_shelf.specs.Shelves.{ShelfState, IsBadShelf, extents_all}
-use Rattle.version_index.specs.Indexes.{IsPreparedFor, IndexState, Indexes}
-use Rattle.version_index.specs.declared.prepared.Prepared.{Prepared as Words}
+use Rattle.archive_plans.specs.Shelves.{ShelfState, IsBadShelf, extents_all}
+use Rattle.lists_index.specs.Indexes.{IsPreparedFor, IndexState, Indexes}
+use Rattle.lists_index.specs.declared.prepared.Prepared.{Prepared as Words}
 use Rattle.archive_core.specs.Adding.{Adds, GivesUp, IsMore}
-use Rattle.archive_replay.specs.Entries.{IsNext, IsHeld, IsPrepared, Makes, document_of, text_of}
-use Rattle.archive_replay.proofs.IndexLemmas.{change_comes}
+use Rattle.archive_entries.specs.Entries.{IsNext, IsHeld, IsPrepared, Makes, document_of, text_of}
+use Rattle.archive_entries.proofs.IndexLemmas.{change_comes}
 use Rattle.archive_core.specs.declared.error.ChangeError.{ChangeError}
 use Rattle.archive_core.specs.declared.error.ChangeError.TheVariants as errors
-use Rattle.archive_replay.specs.declared.error.Declined.{Declined}
-use Rattle.archive_replay.specs.declared.preparing.Prepared.{Prepared}
-use Rattle.archive_replay.specs.declared.error.Declined.TheVariants as declines
+use Rattle.archive_entries.specs.declared.error.Declined.{Declined}
+use Rattle.archive_entries.specs.declared.preparing.Prepared.{Prepared}
+use Rattle.archive_entries.specs.declared.error.Declined.TheVariants as declines
 use Rattle.archive_core.specs.Changing.{KeepsHistory}
-use Rattle.archive_replay.proofs.PlaceLemmas.{placed_more}
-use Rattle.page_store.specs.Taken.{HasTaken}
-use Rattle.gate_journal.specs.Records.{front}
+use Rattle.archive_entries.proofs.PlaceLemmas.{placed_more}
+use Rattle.pages_area.specs.Taken.{HasTaken}
+use Rattle.journal_gates.specs.Records.{front}
 use Rattle.machine_model.specs.Calls.{OnlyReads}
-use Rattle.gate_journal.specs.declared.head.Head.{Head}
-use Rattle.time_base.specs.declared.text_place.TextPlace.{TextPlace}
-use Rattle.archive_state.specs.Histories as histories
-use Rattle.archive_state.specs.declared.stored.StoredPlan.{StoredPlan}
-use Rattle.gate_journal.specs.declared.error.JournalError.{JournalError}
-use Rattle.gate_journal.specs.declared.error.JournalError.TheVariants.{Failed, NotJournal, Memory}
-use Rattle.archive_replay.specs.declared.error.LoadError.{LoadError}
-use Rattle.archive_replay.specs.declared.error.LoadError.TheVariants.{NotArchive}
-use Rattle.archive_replay.specs.Causes.{load_error_of}
-use Rattle.archive_replay.specs.Replaying.{IsReplayed, IsBadAmong}
+use Rattle.journal_gates.specs.declared.head.Head.{Head}
+use Rattle.base_types.specs.declared.text_place.TextPlace.{TextPlace}
+use Rattle.model_archive.specs.Histories as histories
+use Rattle.model_archive.specs.declared.stored.StoredPlan.{StoredPlan}
+use Rattle.journal_gates.specs.declared.error.JournalError.{JournalError}
+use Rattle.journal_gates.specs.declared.error.JournalError.TheVariants.{Failed, NotJournal, Memory}
+use Rattle.archive_entries.specs.declared.error.LoadError.{LoadError}
+use Rattle.archive_entries.specs.declared.error.LoadError.TheVariants.{NotArchive}
+use Rattle.archive_entries.specs.Causes.{load_error_of}
+use Rattle.archive_entries.specs.Replaying.{IsReplayed, IsBadAmong}
 
 -- ---- an entry more
 

@@ -1,12 +1,12 @@
 -- The answer at a time over the documents that the archive in hand has alive is one over those of the history.
 use Rattle.std.proofs.Common.{◌≡◌, ◌↔◌, ℕ, ◌+◌, ◌<◌, ◌^◌, Bool, true, false, List, All, Contains, Option, Some, None, IsSome, is_some, refl, ap, sym, subst, ◌∙◌, arith}
 use Rattle.std.proofs.lemmas.List.Elements.{All-weaker}
-use Rattle.time_base.specs.declared.ids.DocId.{DocId}
-use Rattle.time_base.specs.declared.text_place.TextPlace.{TextPlace}
-use Rattle.version_store.specs.declared.change.Change.{Change}
-use Rattle.version_store.specs.Changes.{alive, held_at}
-use Rattle.version_store.proofs.Mapped.{alive-mapped, held_at-mapped, is_some-mapped}
-use Rattle.version_store.proofs.Alive.{alive-has}
+use Rattle.base_types.specs.declared.ids.DocId.{DocId}
+use Rattle.base_types.specs.declared.text_place.TextPlace.{TextPlace}
+use Rattle.lists_versions.specs.declared.change.Change.{Change}
+use Rattle.lists_versions.specs.Changes.{alive, held_at}
+use Rattle.lists_versions.proofs.Mapped.{alive-mapped, held_at-mapped, is_some-mapped}
+use Rattle.lists_versions.proofs.Alive.{alive-has}
 use Rattle.query_lang.specs.Grammar.{Query}
 use Rattle.query_lang.specs.Meaning.{matches, words_of}
 use Rattle.query_eval.specs.Answers.{IsAnswer}
@@ -14,14 +14,14 @@ use Rattle.query_eval.specs.Found.{told, HasHit}
 use Rattle.query_eval.specs.declared.answer.Row.{Row}
 use Rattle.query_eval.specs.declared.part.Part.{Part}
 use Rattle.query_eval.proofs.GivenLemmas.{only_hits_matter, same_alive}
-use Rattle.archive_state.specs.Chosen.{AreChosen}
-use Rattle.archive_state.specs.Histories.{History, changes, text_at}
-use Rattle.archive_state.specs.Plans.{is_another, plan_of}
-use Rattle.archive_state.proofs.ChosenLemmas.{unplanned_alive}
+use Rattle.model_archive.specs.Chosen.{AreChosen}
+use Rattle.model_archive.specs.Histories.{History, changes, text_at}
+use Rattle.model_archive.specs.Plans.{is_another, plan_of}
+use Rattle.model_archive.proofs.ChosenLemmas.{unplanned_alive}
 use Rattle.archive_core.specs.States.{ArchiveState, StandsFor}
 use Rattle.archive_core.proofs.ChosenLemmas.{unplanned_is}
-use Rattle.archive_replay.specs.Texts.{nothing}
-use Rattle.archive_replay.proofs.PlaceLemmas.{bare_changes}
+use Rattle.archive_entries.specs.Texts.{nothing}
+use Rattle.archive_entries.proofs.PlaceLemmas.{bare_changes}
 
 -- an archive has a document's version at a time exactly where its history has the text
 pub alive_is : (a : ArchiveState) (h : History) (doc : DocId) (t : ℕ) → StandsFor a h → is_some (held_at doc t a.changes) ≡ is_some (text_at h doc t)

@@ -1,13 +1,13 @@
 -- How a query ends: at a text that is none, at sublists that were not had, or with an answer; and errors that are handed on.
 use Rattle.std.proofs.Common.{◌≡◌, ℕ, ◌+◌, List, Result, Ok, Err, IfOk, OnOk, IsErrAnd, refl, ap, subst, sym, ◌∙◌}
 use Rattle.machine_model.specs.Areas.{Both}
-use Rattle.page_cache.specs.Caches.{Kept, after_asking_all, missed_by_all}
+use Rattle.pages_area.specs.Caches.{Kept, after_asking_all, missed_by_all}
 use Rattle.machine_model.specs.States.{DiskState}
-use Rattle.time_base.specs.declared.time.Time.{Time}
-use Rattle.time_base.specs.declared.time.Span.{Span}
-use Rattle.commands.specs.declared.command.Command.TheVariants as commands
-use Rattle.commands.specs.declared.command.Item.{Item}
-use Rattle.commands.specs.declared.command.Item.TheVariants as items
+use Rattle.base_types.specs.declared.time.Time.{Time}
+use Rattle.base_types.specs.declared.time.Span.{Span}
+use Rattle.base_commands.specs.declared.command.Command.TheVariants as commands
+use Rattle.base_commands.specs.declared.command.Item.{Item}
+use Rattle.base_commands.specs.declared.command.Item.TheVariants as items
 use Rattle.query_lang.specs.declared.error.QueryError.{QueryError}
 use Rattle.query_lang.specs.declared.error.QueryError.TheVariants as queries
 use Rattle.query_lang.specs.Grammar.{Query, IsRead}
@@ -15,16 +15,16 @@ use Rattle.query_lang.specs.Meaning.{words_of}
 use Rattle.query_lang.specs.Tokens.{term_of}
 use Rattle.query_eval.specs.declared.answer.Answer.{Answer}
 use Rattle.query_eval.specs.declared.spans.SpanAnswer.{SpanAnswer}
-use Rattle.sublist_store.specs.declared.why.Damage.{Damage}
-use Rattle.sublist_store.specs.declared.why.FetchError.{FetchError}
-use Rattle.sublist_store.specs.declared.why.FetchError.TheVariants as fetches
-use Rattle.archive_state.specs.Chosen.{IsMadeAt, IsMadeOver, SpoilsAnswer, pieces_for}
-use Rattle.archive_state.specs.declared.refusal.Refusal.{Refusal}
-use Rattle.archive_state.specs.declared.refusal.Refusal.TheVariants as refusals
-use Rattle.archive_state.specs.Histories.{History}
-use Rattle.archive_state.specs.Steps.{Reply, Refused, Found, Spanned}
-use Rattle.archive_replay.specs.declared.error.Declined.{Declined}
-use Rattle.archive_replay.specs.declared.error.Declined.TheVariants as declines
+use Rattle.pages_sublists.specs.declared.why.Damage.{Damage}
+use Rattle.pages_sublists.specs.declared.why.FetchError.{FetchError}
+use Rattle.pages_sublists.specs.declared.why.FetchError.TheVariants as fetches
+use Rattle.model_archive.specs.Chosen.{IsMadeAt, IsMadeOver, SpoilsAnswer, pieces_for}
+use Rattle.model_archive.specs.declared.refusal.Refusal.{Refusal}
+use Rattle.model_archive.specs.declared.refusal.Refusal.TheVariants as refusals
+use Rattle.model_archive.specs.Histories.{History}
+use Rattle.model_archive.specs.Steps.{Reply, Refused, Found, Spanned}
+use Rattle.archive_entries.specs.declared.error.Declined.{Declined}
+use Rattle.archive_entries.specs.declared.error.Declined.TheVariants as declines
 use Rattle.archive_core.specs.After.{AfterFetching, AfterQuestion, Fetches}
 use Rattle.archive_core.specs.Answering.{HasAsked, IsAnswerTo, IsNoQuery}
 use Rattle.archive_core.specs.Causes.{ask_error_of_query, asked_of}

@@ -10,38 +10,38 @@ use Rattle.machine_model.specs.Images.{MayLeave, Only}
 use Rattle.machine_model.specs.States.{DiskState, moment}
 use Rattle.machine_model.specs.declared.range.Range.{Range}
 use Rattle.machine_model.proofs.MomentLemmas.{goes_on_same, goes_on_joins, joined, left_now, allowed_left}
-use Rattle.time_base.specs.declared.extent.Extent.{Extent}
-use Rattle.version_store.specs.declared.change.Change.{Change}
-use Rattle.gate_journal.specs.Crash.{Appends, KeepsPages}
-use Rattle.gate_journal.specs.InStep.{IsInStep}
-use Rattle.gate_journal.specs.Spelled.{Spells}
-use Rattle.gate_journal.proofs.InStepLemmas.{step_at, step_spells}
-use Rattle.page_store.specs.Crash.{ChangesOnly}
-use Rattle.page_store.specs.Live.{AreLive, IsInside}
-use Rattle.page_store.specs.Ranges.{SameOutside, range_of}
-use Rattle.page_store.specs.Taken.{AreApart, IsApartFrom}
-use Rattle.page_store.specs.Wrote.{HoldsPiece, Piece, Stored, extents_of, ranges_of}
-use Rattle.page_store.proofs.StayLemmas.{AreApartFrom, apart_parts, bytes_stay}
-use Rattle.record_codec.specs.Spelling.{spelling}
-use Rattle.record_codec.specs.declared.entry.Entry.{Entry}
-use Rattle.record_codec.specs.declared.entry.Entry.TheVariants.{Planned}
-use Rattle.record_codec.specs.declared.place.Place.{Place}
-use Rattle.record_codec.specs.declared.plan.PlanEntry.{PlanEntry}
-use Rattle.sublist_store.specs.Preparing.{IsFor, PreparedState, extents, pieces, pieces_of}
-use Rattle.sublist_store.specs.Segments.{seconds}
-use Rattle.sublist_store.proofs.HoldLemmas.{hold_sublists}
-use Rattle.archive_state.specs.Histories.{History, end_of}
-use Rattle.archive_state.specs.Holding.{HoldsPlan}
-use Rattle.archive_state.specs.Plans.{IsChange, live_extents, live_plans}
-use Rattle.archive_state.specs.Stands.{bodies_of}
-use Rattle.archive_state.specs.declared.stored.StoredPlan.{StoredPlan}
-use Rattle.archive_state.proofs.HoldLemmas.{apart_more, piece_extents, same_live}
-use Rattle.archive_state.proofs.LiveLemmas.{later_push, list_later, live_plans-push}
-use Rattle.archive_replay.proofs.IndexLemmas.{change_comes}
-use Rattle.archive_replay.specs.Entries.{IsNext, document_of, text_of}
-use Rattle.version_index.specs.Indexes.{IsPreparedFor}
-use Rattle.version_index.specs.declared.prepared.Prepared.{Prepared as Words}
-use Rattle.plan_shelf.specs.Shelves.{extents_all}
+use Rattle.base_types.specs.declared.extent.Extent.{Extent}
+use Rattle.lists_versions.specs.declared.change.Change.{Change}
+use Rattle.journal_gates.specs.Crash.{Appends, KeepsPages}
+use Rattle.journal_gates.specs.InStep.{IsInStep}
+use Rattle.journal_gates.specs.Spelled.{Spells}
+use Rattle.journal_gates.proofs.InStepLemmas.{step_at, step_spells}
+use Rattle.pages_area.specs.Crash.{ChangesOnly}
+use Rattle.pages_area.specs.Live.{AreLive, IsInside}
+use Rattle.pages_area.specs.Ranges.{SameOutside, range_of}
+use Rattle.pages_area.specs.Taken.{AreApart, IsApartFrom}
+use Rattle.pages_area.specs.Wrote.{HoldsPiece, Piece, Stored, extents_of, ranges_of}
+use Rattle.pages_area.proofs.StayLemmas.{AreApartFrom, apart_parts, bytes_stay}
+use Rattle.journal_entries.specs.Spelling.{spelling}
+use Rattle.journal_entries.specs.declared.entry.Entry.{Entry}
+use Rattle.journal_entries.specs.declared.entry.Entry.TheVariants.{Planned}
+use Rattle.journal_entries.specs.declared.place.Place.{Place}
+use Rattle.journal_entries.specs.declared.plan.PlanEntry.{PlanEntry}
+use Rattle.pages_sublists.specs.Preparing.{IsFor, PreparedState, extents, pieces, pieces_of}
+use Rattle.pages_sublists.specs.Segments.{seconds}
+use Rattle.pages_sublists.proofs.HoldLemmas.{hold_sublists}
+use Rattle.model_archive.specs.Histories.{History, end_of}
+use Rattle.model_archive.specs.Holding.{HoldsPlan}
+use Rattle.model_archive.specs.Plans.{IsChange, live_extents, live_plans}
+use Rattle.model_archive.specs.Stands.{bodies_of}
+use Rattle.model_archive.specs.declared.stored.StoredPlan.{StoredPlan}
+use Rattle.model_archive.proofs.HoldLemmas.{apart_more, piece_extents, same_live}
+use Rattle.model_archive.proofs.LiveLemmas.{later_push, list_later, live_plans-push}
+use Rattle.archive_entries.proofs.IndexLemmas.{change_comes}
+use Rattle.archive_entries.specs.Entries.{IsNext, document_of, text_of}
+use Rattle.lists_index.specs.Indexes.{IsPreparedFor}
+use Rattle.lists_index.specs.declared.prepared.Prepared.{Prepared as Words}
+use Rattle.archive_plans.specs.Shelves.{extents_all}
 use Rattle.archive_core.specs.Adding.{IsMore}
 use Rattle.archive_core.specs.Changing.{KeepsBy, LeadsBy}
 use Rattle.archive_core.specs.States.{ArchiveState, AreInStepBy, CacheStands, IsSameButCache, Reaches, StandsFor, with_entry, with_reads}

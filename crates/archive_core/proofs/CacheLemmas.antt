@@ -7,17 +7,17 @@ use Rattle.machine_model.specs.Areas.{Both, replaced}
 use Rattle.machine_model.specs.Calls.{OnlyReads}
 use Rattle.machine_model.specs.States.{DiskState}
 use Rattle.machine_model.specs.declared.area.Area.TheVariants.{Pages}
-use Rattle.page_cache.specs.Caches.{Kept, IsHeld, after_asking_all, missed_by_all, StandsFor as IsCacheOf}
-use Rattle.page_cache.specs.Laws.{LieIn}
-use Rattle.page_cache.proofs.LawLemmas.{askings-join, misses-join}
-use Rattle.page_store.specs.Runs.{IsTaken}
-use Rattle.page_store.specs.Taken.{PagesState, HasTaken}
-use Rattle.page_store.proofs.StayLemmas.{apart_parts}
-use Rattle.time_base.specs.declared.extent.Extent.{Extent}
-use Rattle.record_codec.specs.declared.plan.PlanEntry.{PlanEntry}
-use Rattle.archive_state.specs.Histories.{History}
-use Rattle.archive_state.specs.Plans.{plan_of}
-use Rattle.archive_state.specs.Chosen.{pieces_chosen, pieces_for}
+use Rattle.pages_area.specs.Caches.{Kept, IsHeld, after_asking_all, missed_by_all, StandsFor as IsCacheOf}
+use Rattle.pages_area.specs.CacheLaws.{LieIn}
+use Rattle.pages_area.proofs.CacheLawLemmas.{askings-join, misses-join}
+use Rattle.pages_area.specs.Runs.{IsTaken}
+use Rattle.pages_area.specs.Taken.{PagesState, HasTaken}
+use Rattle.pages_area.proofs.StayLemmas.{apart_parts}
+use Rattle.base_types.specs.declared.extent.Extent.{Extent}
+use Rattle.journal_entries.specs.declared.plan.PlanEntry.{PlanEntry}
+use Rattle.model_archive.specs.Histories.{History}
+use Rattle.model_archive.specs.Plans.{plan_of}
+use Rattle.model_archive.specs.Chosen.{pieces_chosen, pieces_for}
 use Rattle.archive_core.specs.Answering.{HasAsked}
 use Rattle.archive_core.specs.States.{ArchiveState, StandsFor, CacheStands, IsSameButCache, Reaches}
 

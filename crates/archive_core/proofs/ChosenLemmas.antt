@@ -6,36 +6,36 @@ use Rattle.std.proofs.lemmas.List.Sums.{sum_by-cons}
 use Rattle.machine_model.specs.Areas.{Both}
 use Rattle.machine_model.specs.Calls.{OnlyReads}
 use Rattle.machine_model.specs.States.{DiskState}
-use Rattle.archive_state.specs.Answers.{IsWordList, frequency_at}
-use Rattle.time_base.specs.declared.extent.Extent.{Extent}
-use Rattle.time_base.specs.declared.posting.Posting.{Posting}
-use Rattle.postings.specs.Clips.{IsClip, IsCut}
-use Rattle.postings.specs.Lists.{meets, sublist}
-use Rattle.postings.proofs.Clipping.{clip_of_list_of}
-use Rattle.page_store.specs.Live.{IsInside}
-use Rattle.record_codec.specs.Spelling.{spelling}
-use Rattle.record_codec.specs.PlanSpelling.{IsPlanEntry}
-use Rattle.record_codec.specs.declared.entry.Entry.TheVariants.{Arrive, Delete, Planned}
-use Rattle.record_codec.specs.declared.place.Place.{Place}
-use Rattle.record_codec.specs.declared.plan.PlanEntry.{PlanEntry}
+use Rattle.model_archive.specs.Answers.{IsWordList, frequency_at}
+use Rattle.base_types.specs.declared.extent.Extent.{Extent}
+use Rattle.base_types.specs.declared.posting.Posting.{Posting}
+use Rattle.lists_postings.specs.Clips.{IsClip, IsCut}
+use Rattle.lists_postings.specs.Lists.{meets, sublist}
+use Rattle.lists_postings.proofs.Clipping.{clip_of_list_of}
+use Rattle.pages_area.specs.Live.{IsInside}
+use Rattle.journal_entries.specs.Spelling.{spelling}
+use Rattle.journal_entries.specs.PlanSpelling.{IsPlanEntry}
+use Rattle.journal_entries.specs.declared.entry.Entry.TheVariants.{Arrive, Delete, Planned}
+use Rattle.journal_entries.specs.declared.place.Place.{Place}
+use Rattle.journal_entries.specs.declared.plan.PlanEntry.{PlanEntry}
 use Rattle.query_eval.specs.declared.part.Part.{Part}
-use Rattle.stored_plans.specs.Plans.{IsFitFor}
-use Rattle.archive_state.specs.declared.stored.StoredPlan.{StoredPlan}
-use Rattle.archive_state.specs.Histories.{History}
-use Rattle.archive_state.specs.Legal.{EachMayCome, IsLoadable}
-use Rattle.archive_state.specs.Plans.{is_another, live_after, live_plans, with_plan, plan_of}
-use Rattle.archive_state.specs.Chosen.{AreChosen, GathersOf, IsChosenOf, IsFirstDamage, IsTailFor}
+use Rattle.plans_kinds.specs.Plans.{IsFitFor}
+use Rattle.model_archive.specs.declared.stored.StoredPlan.{StoredPlan}
+use Rattle.model_archive.specs.Histories.{History}
+use Rattle.model_archive.specs.Legal.{EachMayCome, IsLoadable}
+use Rattle.model_archive.specs.Plans.{is_another, live_after, live_plans, with_plan, plan_of}
+use Rattle.model_archive.specs.Chosen.{AreChosen, GathersOf, IsChosenOf, IsFirstDamage, IsTailFor}
 use Rattle.archive_core.specs.States.{ArchiveState, StandsFor, IsSameButCache, Reaches}
-use Rattle.plan_shelf.specs.Shelves.{extents_all}
-use Rattle.plan_shelf.specs.Shelves.{IsReadable}
-use Rattle.archive_replay.specs.Live.{IsPlanAt}
+use Rattle.archive_plans.specs.Shelves.{extents_all}
+use Rattle.archive_plans.specs.Shelves.{IsReadable}
+use Rattle.archive_entries.specs.Live.{IsPlanAt}
 use Rattle.std.specs.Result.{IsErrAnd}
 use Rattle.archive_core.proofs.CacheLemmas.{reaches_but_cache}
 use Rattle.archive_core.proofs.LiveLemmas.{plan_found, none_found}
-use Rattle.sublist_store.specs.Fetching.{IfDamaged}
-use Rattle.sublist_store.specs.declared.why.Damage.{Damage}
-use Rattle.sublist_store.specs.declared.why.FetchError.{FetchError}
-use Rattle.sublist_store.specs.declared.why.FetchError.TheVariants as fetches
+use Rattle.pages_sublists.specs.Fetching.{IfDamaged}
+use Rattle.pages_sublists.specs.declared.why.Damage.{Damage}
+use Rattle.pages_sublists.specs.declared.why.FetchError.{FetchError}
+use Rattle.pages_sublists.specs.declared.why.FetchError.TheVariants as fetches
 
 -- ---- the live plans have their fields in their ranges
 

@@ -5,13 +5,13 @@ use Rattle.std.proofs.lemmas.List.{append-nil, length-append, get_or_append_left
 use Rattle.std.proofs.lemmas.List.Concat.{flat_map-append}
 use Rattle.std.proofs.lemmas.List.Elements.{All-head, All-tail, All-append}
 use Rattle.std.proofs.lemmas.Slice.Eq.{bytes_eq-Decides}
-use Rattle.time_base.specs.declared.extent.Extent.{Extent}
-use Rattle.page_store.specs.Live.{IsInside}
-use Rattle.archive_state.specs.declared.stored.StoredPlan.{StoredPlan}
-use Rattle.archive_state.specs.Histories.{History}
-use Rattle.archive_state.specs.Plans.{is_another, with_plan, live_plans, first_plan, plan_of, extents_of}
-use Rattle.archive_replay.specs.Live.{IsPlanAt}
-use Rattle.plan_shelf.specs.Shelves.{extents_all}
+use Rattle.base_types.specs.declared.extent.Extent.{Extent}
+use Rattle.pages_area.specs.Live.{IsInside}
+use Rattle.model_archive.specs.declared.stored.StoredPlan.{StoredPlan}
+use Rattle.model_archive.specs.Histories.{History}
+use Rattle.model_archive.specs.Plans.{is_another, with_plan, live_plans, first_plan, plan_of, extents_of}
+use Rattle.archive_entries.specs.Live.{IsPlanAt}
+use Rattle.archive_plans.specs.Shelves.{extents_all}
 
 -- ---- the plan of a word
 

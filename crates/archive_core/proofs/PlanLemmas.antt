@@ -6,47 +6,47 @@ use Rattle.std.proofs.lemmas.List.{length-drop}
 use Rattle.std.proofs.lemmas.List.Elements.{All-nil}
 use Rattle.std.proofs.lemmas.Str.{is_utf8-from_IsUtf8}
 use Rattle.std.specs.List.Sorted.{IsStrictlyIncreasing}
-use Rattle.time_base.specs.declared.fraction.Fraction.{Fraction}
-use Rattle.time_base.specs.declared.time.Time.{Time}
-use Rattle.time_base.specs.declared.text_place.TextPlace.{TextPlace}
-use Rattle.time_base.specs.declared.posting.Posting.{Posting}
-use Rattle.postings.specs.ListsOf.{IsListOf}
-use Rattle.elementary.specs.Counts.{Counts, Tabulates}
-use Rattle.elementary.specs.Partitions.{widest, IsLeast, AreBest, space}
-use Rattle.elementary.proofs.Narrow.{narrow}
-use Rattle.proposals.specs.Proposals.{AreSegments, AreNodes, IsProposal}
-use Rattle.proposals.specs.declared.proposal.Proposal.{Proposal}
-use Rattle.fold_tokens.specs.Terms.{one_term}
-use Rattle.version_store.specs.Changes.{last_time}
-use Rattle.version_store.proofs.Mapped.{last_time-mapped}
-use Rattle.version_index.specs.Words.{words_in}
-use Rattle.commands.specs.declared.command.Kind.{Kind}
-use Rattle.commands.specs.declared.command.Kind.TheVariants.{Guarantee, Uniform, Since}
-use Rattle.archive_state.specs.declared.refusal.Refusal.{Refusal}
-use Rattle.archive_state.specs.declared.refusal.Refusal.TheVariants as refusals
-use Rattle.archive_state.specs.Histories.{History, changes}
-use Rattle.archive_state.specs.Planning.{IsKnown, IsListUpTo, OfBoundaries, OfWidth, OfList, OfWord, OfPhrase, last_second, OfKnown, OfTerm}
-use Rattle.archive_state.specs.Steps.{Refused, Proposed, Proposes, ProposesPlan, spelled_key, Reply, IsCertificate, CertifiesPlan, CertifiesLive, Certifies}
+use Rattle.base_types.specs.declared.fraction.Fraction.{Fraction}
+use Rattle.base_types.specs.declared.time.Time.{Time}
+use Rattle.base_types.specs.declared.text_place.TextPlace.{TextPlace}
+use Rattle.base_types.specs.declared.posting.Posting.{Posting}
+use Rattle.lists_postings.specs.ListsOf.{IsListOf}
+use Rattle.plans_partitions.specs.Counts.{Counts, Tabulates}
+use Rattle.plans_partitions.specs.Partitions.{widest, IsLeast, AreBest, space}
+use Rattle.plans_partitions.proofs.Narrow.{narrow}
+use Rattle.plans_kinds.specs.Proposals.{AreSegments, AreNodes, IsProposal}
+use Rattle.plans_kinds.specs.declared.proposal.Proposal.{Proposal}
+use Rattle.text_words.specs.Terms.{one_term}
+use Rattle.lists_versions.specs.Changes.{last_time}
+use Rattle.lists_versions.proofs.Mapped.{last_time-mapped}
+use Rattle.lists_index.specs.Words.{words_in}
+use Rattle.base_commands.specs.declared.command.Kind.{Kind}
+use Rattle.base_commands.specs.declared.command.Kind.TheVariants.{Guarantee, Uniform, Since}
+use Rattle.model_archive.specs.declared.refusal.Refusal.{Refusal}
+use Rattle.model_archive.specs.declared.refusal.Refusal.TheVariants as refusals
+use Rattle.model_archive.specs.Histories.{History, changes}
+use Rattle.model_archive.specs.Planning.{IsKnown, IsListUpTo, OfBoundaries, OfWidth, OfList, OfWord, OfPhrase, last_second, OfKnown, OfTerm}
+use Rattle.model_archive.specs.Steps.{Refused, Proposed, Proposes, ProposesPlan, spelled_key, Reply, IsCertificate, CertifiesPlan, CertifiesLive, Certifies}
 use Rattle.archive_core.specs.States.{ArchiveState, StandsFor}
 use Rattle.archive_core.specs.Sealing.{IsSealed}
-use Rattle.archive_replay.specs.Texts.{nothing}
-use Rattle.archive_replay.specs.declared.error.Declined.{Declined}
-use Rattle.archive_replay.specs.declared.error.Declined.TheVariants as declines
-use Rattle.archive_replay.proofs.IndexLemmas.{words_are}
-use Rattle.archive_replay.proofs.PlaceLemmas.{bare_changes}
-use Rattle.postings.proofs.Clipping.{one_list_of}
-use Rattle.elementary.proofs.Cuts.{there}
-use Rattle.elementary.proofs.Places.{place_of, place_below, rises}
-use Rattle.record_codec.specs.declared.plan.PlanEntry.{PlanEntry}
-use Rattle.stored_plans.specs.Plans.{later, IsFitPlan, IsFitFor}
-use Rattle.stored_plans.proofs.PlanLemmas.{seconds_are}
-use Rattle.archive_state.specs.Answers.{frequency_at}
-use Rattle.archive_state.specs.Legal.{MayBePlanned, IsLoadable}
-use Rattle.archive_state.specs.declared.stored.StoredPlan.{StoredPlan}
-use Rattle.archive_state.specs.Plans.{is_another, plan_of, live_plans}
-use Rattle.archive_state.proofs.CertifyingLemmas.{live_has}
-use Rattle.archive_state.proofs.LiveLemmas.{live_planned}
-use Rattle.archive_replay.specs.Live.{IsPlanAt}
+use Rattle.archive_entries.specs.Texts.{nothing}
+use Rattle.archive_entries.specs.declared.error.Declined.{Declined}
+use Rattle.archive_entries.specs.declared.error.Declined.TheVariants as declines
+use Rattle.archive_entries.proofs.IndexLemmas.{words_are}
+use Rattle.archive_entries.proofs.PlaceLemmas.{bare_changes}
+use Rattle.lists_postings.proofs.Clipping.{one_list_of}
+use Rattle.plans_partitions.proofs.Cuts.{there}
+use Rattle.plans_partitions.proofs.Places.{place_of, place_below, rises}
+use Rattle.journal_entries.specs.declared.plan.PlanEntry.{PlanEntry}
+use Rattle.plans_kinds.specs.Plans.{later, IsFitPlan, IsFitFor}
+use Rattle.plans_kinds.proofs.PlanLemmas.{seconds_are}
+use Rattle.model_archive.specs.Answers.{frequency_at}
+use Rattle.model_archive.specs.Legal.{MayBePlanned, IsLoadable}
+use Rattle.model_archive.specs.declared.stored.StoredPlan.{StoredPlan}
+use Rattle.model_archive.specs.Plans.{is_another, plan_of, live_plans}
+use Rattle.model_archive.proofs.CertifyingLemmas.{live_has}
+use Rattle.model_archive.proofs.LiveLemmas.{live_planned}
+use Rattle.archive_entries.specs.Live.{IsPlanAt}
 use Rattle.archive_core.proofs.LiveLemmas.{plan_found, none_found}
 
 -- ---- what is proposed

@@ -1,10 +1,10 @@
 -- The answer over a window by what the lists of a query's words have in it is the history's.
 use Rattle.std.proofs.Common.{◌≡◌, ◌↔◌, ℕ, ◌<◌, ◌≤◌, Bool, true, false, ◌&&◌, if◌then◌else◌, List, All, Contains, Some, None, IsTrue, IsSome, is_some, refl, ap, sym, ◌∙◌}
-use Rattle.time_base.specs.declared.ids.DocId.{DocId}
-use Rattle.time_base.specs.declared.time.Span.{Span}
-use Rattle.stretches.specs.Kinds.{is_alive}
-use Rattle.stretches.specs.declared.life.Life.{Life}
-use Rattle.version_store.specs.Changes.{held_at}
+use Rattle.base_types.specs.declared.ids.DocId.{DocId}
+use Rattle.base_types.specs.declared.time.Span.{Span}
+use Rattle.lists_postings.specs.Kinds.{is_alive}
+use Rattle.lists_postings.specs.declared.life.Life.{Life}
+use Rattle.lists_versions.specs.Changes.{held_at}
 use Rattle.query_lang.specs.Grammar.{Query}
 use Rattle.query_lang.specs.Meaning.{matches, score, words_of}
 use Rattle.query_eval.specs.Found.{told, HasHit}
@@ -14,12 +14,12 @@ use Rattle.query_eval.specs.declared.part.Part.{Part}
 use Rattle.query_eval.specs.declared.spans.SpanRow.{SpanRow}
 use Rattle.query_eval.proofs.MetLemmas.{hits_are_met}
 use Rattle.query_eval.proofs.SpanRows.{only_hits_over}
-use Rattle.archive_state.specs.Chosen.{AreChosen}
-use Rattle.archive_state.specs.Histories.{History, text_at}
-use Rattle.archive_state.specs.Plans.{is_another}
-use Rattle.archive_state.proofs.ChosenLemmas.{unplanned_alive}
+use Rattle.model_archive.specs.Chosen.{AreChosen}
+use Rattle.model_archive.specs.Histories.{History, text_at}
+use Rattle.model_archive.specs.Plans.{is_another}
+use Rattle.model_archive.proofs.ChosenLemmas.{unplanned_alive}
 use Rattle.archive_core.specs.States.{ArchiveState, StandsFor}
-use Rattle.stretches.proofs.Windows.{stretches-same}
+use Rattle.lists_postings.proofs.StretchWindows.{stretches-same}
 use Rattle.archive_core.proofs.AnswerLemmas.{alive_is, none_planned}
 
 same_truth : (b c : Bool) → (b ≡ true) ↔ (c ≡ true) → b ≡ c

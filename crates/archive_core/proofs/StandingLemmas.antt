@@ -2,42 +2,42 @@
 use Rattle.std.proofs.Common.{◌≡◌, ◌⊎◌, ℕ, ◌+◌, List, [], ◌∷◌, ◌++◌, Option, Some, None, Result, Ok, Err, inl, inr, refl, ap, sym, subst}
 use Rattle.machine_model.specs.Areas.{Bytes}
 use Rattle.machine_model.specs.States.{DiskState}
-use Rattle.gate_journal.specs.Spelled.{Spells}
-use Rattle.time_base.specs.declared.time.Span.{Span}
-use Rattle.time_base.specs.declared.time.Time.{Time}
-use Rattle.time_base.specs.declared.fraction.Fraction.{Fraction}
-use Rattle.time_base.specs.declared.posting.Posting.{Posting}
-use Rattle.page_store.specs.Taken.{AreApart}
-use Rattle.fold_tokens.specs.Terms.{one_term}
-use Rattle.stored_plans.specs.Plans.{IsFitFor}
-use Rattle.commands.specs.Documents.{HasDocument}
-use Rattle.commands.specs.declared.command.Command.{Command}
-use Rattle.commands.specs.declared.command.Command.TheVariants as commands
-use Rattle.commands.specs.declared.command.Item.{Item}
-use Rattle.commands.specs.declared.command.Item.TheVariants as items
-use Rattle.commands.specs.declared.command.Kind.{Kind}
-use Rattle.commands.specs.declared.command.Kind.TheVariants.{Guarantee, Uniform, Since}
-use Rattle.commands.specs.declared.text.Text.TheVariants as texts
+use Rattle.journal_gates.specs.Spelled.{Spells}
+use Rattle.base_types.specs.declared.time.Span.{Span}
+use Rattle.base_types.specs.declared.time.Time.{Time}
+use Rattle.base_types.specs.declared.fraction.Fraction.{Fraction}
+use Rattle.base_types.specs.declared.posting.Posting.{Posting}
+use Rattle.pages_area.specs.Taken.{AreApart}
+use Rattle.text_words.specs.Terms.{one_term}
+use Rattle.plans_kinds.specs.Plans.{IsFitFor}
+use Rattle.base_commands.specs.Documents.{HasDocument}
+use Rattle.base_commands.specs.declared.command.Command.{Command}
+use Rattle.base_commands.specs.declared.command.Command.TheVariants as commands
+use Rattle.base_commands.specs.declared.command.Item.{Item}
+use Rattle.base_commands.specs.declared.command.Item.TheVariants as items
+use Rattle.base_commands.specs.declared.command.Kind.{Kind}
+use Rattle.base_commands.specs.declared.command.Kind.TheVariants.{Guarantee, Uniform, Since}
+use Rattle.base_commands.specs.declared.text.Text.TheVariants as texts
 use Rattle.query_lang.specs.Grammar.{Query}
-use Rattle.record_codec.specs.declared.entry.Entry.{Entry}
-use Rattle.record_codec.specs.declared.entry.Entry.TheVariants as entries
-use Rattle.record_codec.specs.declared.plan.PlanEntry.{PlanEntry}
-use Rattle.archive_state.specs.declared.refusal.Refusal.{Refusal}
-use Rattle.archive_state.specs.Histories.{History}
-use Rattle.archive_state.specs.Holding.{HoldsPlan, HoldsPlans}
-use Rattle.archive_state.specs.Legal.{IsLoadable}
-use Rattle.archive_state.specs.Planning.{OfBoundaries, OfList, OfPhrase, OfWidth, last_second}
-use Rattle.archive_state.specs.Plans.{live_extents}
-use Rattle.archive_state.specs.Stands.{EachStands, Stands, bodies_of}
-use Rattle.archive_state.specs.Steps.{Reply, Adds, AddsPlan, CarriesOut, Declines, Step, StoresPlan, arrival_refusal, deletion_refusal, full_journal, in_blocks, spelled_key}
-use Rattle.archive_state.specs.Worlds.{world_of}
-use Rattle.archive_state.proofs.ChosenLemmas.{held_undamaged, made_at, made_over}
-use Rattle.archive_state.proofs.HistoryLemmas.{loadable-middle}
-use Rattle.archive_state.proofs.HoldLemmas.{held_alike, held_push, held_with}
-use Rattle.archive_state.proofs.OutcomeLemmas.{step_loads}
-use Rattle.sublist_store.specs.declared.why.Damage.{Damage}
+use Rattle.journal_entries.specs.declared.entry.Entry.{Entry}
+use Rattle.journal_entries.specs.declared.entry.Entry.TheVariants as entries
+use Rattle.journal_entries.specs.declared.plan.PlanEntry.{PlanEntry}
+use Rattle.model_archive.specs.declared.refusal.Refusal.{Refusal}
+use Rattle.model_archive.specs.Histories.{History}
+use Rattle.model_archive.specs.Holding.{HoldsPlan, HoldsPlans}
+use Rattle.model_archive.specs.Legal.{IsLoadable}
+use Rattle.model_archive.specs.Planning.{OfBoundaries, OfList, OfPhrase, OfWidth, last_second}
+use Rattle.model_archive.specs.Plans.{live_extents}
+use Rattle.model_archive.specs.Stands.{EachStands, Stands, bodies_of}
+use Rattle.model_archive.specs.Steps.{Reply, Adds, AddsPlan, CarriesOut, Declines, Step, StoresPlan, arrival_refusal, deletion_refusal, full_journal, in_blocks, spelled_key}
+use Rattle.model_archive.specs.Worlds.{world_of}
+use Rattle.model_archive.proofs.ChosenLemmas.{held_undamaged, made_at, made_over}
+use Rattle.model_archive.proofs.HistoryLemmas.{loadable-middle}
+use Rattle.model_archive.proofs.HoldLemmas.{held_alike, held_push, held_with}
+use Rattle.model_archive.proofs.OutcomeLemmas.{step_loads}
+use Rattle.pages_sublists.specs.declared.why.Damage.{Damage}
 use Rattle.archive_check.proofs.SoundLemmas.{stands_verified}
-use Rattle.archive_state.proofs.StandsLemmas.{spells_one_history}
+use Rattle.model_archive.proofs.StandsLemmas.{spells_one_history}
 use Rattle.archive_core.specs.States.{ArchiveState, AreInStep, AreInStepBy}
 use Rattle.archive_core.specs.Stored.{Store, AsksOf, Spoils, StandsBy, Stocks, StoreStep}
 use Rattle.archive_core.proofs.ByReadsLemmas.{stands_by}

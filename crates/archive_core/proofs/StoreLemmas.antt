@@ -5,56 +5,56 @@ use Rattle.std.proofs.lemmas.List.{length_push}
 use Rattle.std.proofs.lemmas.List.Elements.{All-map}
 use Rattle.std.proofs.lemmas.Bool.{lt-ltb, le-ltb}
 use Rattle.machine_model.specs.States.{DiskState}
-use Rattle.time_base.specs.Limits.{limit_of}
-use Rattle.time_base.specs.declared.extent.Extent.{Extent}
-use Rattle.time_base.specs.declared.fraction.Fraction.{Fraction}
-use Rattle.time_base.specs.declared.posting.Posting.{Posting}
-use Rattle.time_base.specs.declared.time.Time.{Time}
-use Rattle.time_base.specs.declared.which.Which.TheVariants.{Journal}
-use Rattle.commands.specs.declared.command.Command.TheVariants as commands
-use Rattle.commands.specs.declared.command.Item.{Item}
-use Rattle.commands.specs.declared.command.Item.TheVariants as items
-use Rattle.commands.specs.declared.command.Kind.{Kind}
-use Rattle.commands.specs.declared.command.Kind.TheVariants.{Guarantee, Uniform, Since}
-use Rattle.fold_tokens.specs.Terms.{one_term}
-use Rattle.stored_plans.specs.Plans.{IsGoodPlan}
-use Rattle.version_store.specs.declared.change.Change.{Change}
-use Rattle.version_index.specs.Indexes.{Indexes}
-use Rattle.page_store.specs.Live.{IsInside}
-use Rattle.page_store.specs.Taken.{PagesState, HasTaken}
-use Rattle.record_codec.specs.declared.entry.Entry.TheVariants.{Planned}
-use Rattle.record_codec.specs.declared.place.Place.{Place}
-use Rattle.record_codec.specs.declared.plan.PlanEntry.{PlanEntry}
-use Rattle.sublist_store.specs.Preparing.{IsFor, extents, spellings}
-use Rattle.sublist_store.specs.Segments.{seconds}
-use Rattle.archive_state.specs.declared.refusal.Refusal.{Refusal}
-use Rattle.archive_state.specs.declared.refusal.Refusal.TheVariants as refusals
-use Rattle.archive_state.specs.declared.stored.StoredPlan.{StoredPlan}
-use Rattle.archive_state.specs.Histories.{History, end_of}
-use Rattle.archive_state.specs.Legal.{IsLegalEntry}
-use Rattle.archive_state.specs.Planning.{IsKnown, IsListUpTo, OfWidth, OfPhrase, last_second}
-use Rattle.archive_state.specs.Plans.{with_plan, live_plans, live_extents}
-use Rattle.archive_state.specs.Steps as steps
-use Rattle.archive_state.specs.Steps.{Reply, Refused, Summary, Declines, AddsPlan, StoresCuts, StoresPlan, Plans, full_journal, spelled_key}
-use Rattle.archive_state.proofs.HistoryLemmas.{end_of-push, loadable-push, entry_loads}
-use Rattle.archive_state.proofs.LiveLemmas.{live_plans-push}
-use Rattle.archive_state.proofs.RefusalLemmas.{when_true, when_false}
-use Rattle.archive_state.proofs.StoringLemmas.{plan_legal}
+use Rattle.base_types.specs.Limits.{limit_of}
+use Rattle.base_types.specs.declared.extent.Extent.{Extent}
+use Rattle.base_types.specs.declared.fraction.Fraction.{Fraction}
+use Rattle.base_types.specs.declared.posting.Posting.{Posting}
+use Rattle.base_types.specs.declared.time.Time.{Time}
+use Rattle.base_types.specs.declared.which.Which.TheVariants.{Journal}
+use Rattle.base_commands.specs.declared.command.Command.TheVariants as commands
+use Rattle.base_commands.specs.declared.command.Item.{Item}
+use Rattle.base_commands.specs.declared.command.Item.TheVariants as items
+use Rattle.base_commands.specs.declared.command.Kind.{Kind}
+use Rattle.base_commands.specs.declared.command.Kind.TheVariants.{Guarantee, Uniform, Since}
+use Rattle.text_words.specs.Terms.{one_term}
+use Rattle.plans_kinds.specs.Plans.{IsGoodPlan}
+use Rattle.lists_versions.specs.declared.change.Change.{Change}
+use Rattle.lists_index.specs.Indexes.{Indexes}
+use Rattle.pages_area.specs.Live.{IsInside}
+use Rattle.pages_area.specs.Taken.{PagesState, HasTaken}
+use Rattle.journal_entries.specs.declared.entry.Entry.TheVariants.{Planned}
+use Rattle.journal_entries.specs.declared.place.Place.{Place}
+use Rattle.journal_entries.specs.declared.plan.PlanEntry.{PlanEntry}
+use Rattle.pages_sublists.specs.Preparing.{IsFor, extents, spellings}
+use Rattle.pages_sublists.specs.Segments.{seconds}
+use Rattle.model_archive.specs.declared.refusal.Refusal.{Refusal}
+use Rattle.model_archive.specs.declared.refusal.Refusal.TheVariants as refusals
+use Rattle.model_archive.specs.declared.stored.StoredPlan.{StoredPlan}
+use Rattle.model_archive.specs.Histories.{History, end_of}
+use Rattle.model_archive.specs.Legal.{IsLegalEntry}
+use Rattle.model_archive.specs.Planning.{IsKnown, IsListUpTo, OfWidth, OfPhrase, last_second}
+use Rattle.model_archive.specs.Plans.{with_plan, live_plans, live_extents}
+use Rattle.model_archive.specs.Steps as steps
+use Rattle.model_archive.specs.Steps.{Reply, Refused, Summary, Declines, AddsPlan, StoresCuts, StoresPlan, Plans, full_journal, spelled_key}
+use Rattle.model_archive.proofs.HistoryLemmas.{end_of-push, loadable-push, entry_loads}
+use Rattle.model_archive.proofs.LiveLemmas.{live_plans-push}
+use Rattle.model_archive.proofs.RefusalLemmas.{when_true, when_false}
+use Rattle.model_archive.proofs.StoringLemmas.{plan_legal}
 use Rattle.archive_core.specs.Adding.{HasSameShelf}
 use Rattle.archive_core.specs.Changing.{KeepsBy}
 use Rattle.archive_core.specs.Stored.{Store}
 use Rattle.archive_core.specs.States.{ArchiveState, StandsFor, AreInStepBy, with_reads}
-use Rattle.plan_shelf.specs.Shelves.{ShelfState, extents_all}
-use Rattle.plan_shelf.specs.Readying.{HasPlaces, IsFull, IsReady, plan_with, tells_of, summary_of}
+use Rattle.archive_plans.specs.Shelves.{ShelfState, extents_all}
+use Rattle.archive_plans.specs.Readying.{HasPlaces, IsFull, IsReady, plan_with, tells_of, summary_of}
 use Rattle.archive_core.specs.Storing.{IsDraft, IsStorable, IsStoredAs, IsStoredBy}
 use Rattle.archive_core.specs.Takes.{Comes, TakesBy, planned}
 use Rattle.archive_core.specs.declared.error.ChangeError.{ChangeError}
 use Rattle.archive_core.specs.declared.error.ChangeError.TheVariants as changes
-use Rattle.plan_shelf.specs.declared.readying.Draft.{Draft}
-use Rattle.plan_shelf.specs.declared.readying.PlanReport.{PlanReport}
-use Rattle.plan_shelf.specs.declared.readying.Ready.{Ready}
-use Rattle.archive_replay.proofs.IndexLemmas.{changes_still}
-use Rattle.archive_replay.proofs.PlaceLemmas.{placed_plan}
+use Rattle.archive_plans.specs.declared.readying.Draft.{Draft}
+use Rattle.archive_plans.specs.declared.readying.PlanReport.{PlanReport}
+use Rattle.archive_plans.specs.declared.readying.Ready.{Ready}
+use Rattle.archive_entries.proofs.IndexLemmas.{changes_still}
+use Rattle.archive_entries.proofs.PlaceLemmas.{placed_plan}
 use Rattle.archive_core.proofs.AddLemmas.{inside_on}
 use Rattle.archive_core.proofs.ByReadsLemmas.{stocks_same}
 use Rattle.archive_core.proofs.TakeLemmas.{unmade_by}

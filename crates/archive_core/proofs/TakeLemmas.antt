@@ -4,20 +4,20 @@ use Rattle.std.specs.Option.{option_map}
 use Rattle.machine_model.specs.Images.{MayLeave}
 use Rattle.machine_model.specs.States.{DiskState}
 use Rattle.machine_model.specs.Calls.{OnlyReads}
-use Rattle.time_base.specs.declared.ids.DocId.{DocId}
-use Rattle.time_base.specs.declared.time.Time.{Time}
-use Rattle.commands.specs.declared.command.Command.TheVariants as commands
-use Rattle.commands.specs.declared.command.Item.{Item}
-use Rattle.commands.specs.declared.command.Item.TheVariants as items
-use Rattle.record_codec.specs.declared.entry.Entry.{Entry}
-use Rattle.proposals.specs.declared.proposal.Proposal.{Proposal}
-use Rattle.archive_state.specs.declared.refusal.Refusal.{Refusal}
-use Rattle.archive_state.specs.Histories.{text_at}
-use Rattle.archive_state.specs.Steps as machine
-use Rattle.archive_state.specs.Steps.{Reply, Accepted, Refused, Proposed, Version}
-use Rattle.archive_state.specs.Plans.{IsChange}
-use Rattle.archive_state.specs.Stands.{bodies_of}
-use Rattle.archive_state.specs.declared.verdict.Verdict.{Verdict}
+use Rattle.base_types.specs.declared.ids.DocId.{DocId}
+use Rattle.base_types.specs.declared.time.Time.{Time}
+use Rattle.base_commands.specs.declared.command.Command.TheVariants as commands
+use Rattle.base_commands.specs.declared.command.Item.{Item}
+use Rattle.base_commands.specs.declared.command.Item.TheVariants as items
+use Rattle.journal_entries.specs.declared.entry.Entry.{Entry}
+use Rattle.plans_kinds.specs.declared.proposal.Proposal.{Proposal}
+use Rattle.model_archive.specs.declared.refusal.Refusal.{Refusal}
+use Rattle.model_archive.specs.Histories.{text_at}
+use Rattle.model_archive.specs.Steps as machine
+use Rattle.model_archive.specs.Steps.{Reply, Accepted, Refused, Proposed, Version}
+use Rattle.model_archive.specs.Plans.{IsChange}
+use Rattle.model_archive.specs.Stands.{bodies_of}
+use Rattle.model_archive.specs.declared.verdict.Verdict.{Verdict}
 use Rattle.archive_check.specs.Checked.{IsChecked}
 use Rattle.archive_check.specs.declared.error.VerifyError.{VerifyError}
 use Rattle.archive_check.specs.declared.error.VerifyError.TheVariants as checks
@@ -28,15 +28,15 @@ use Rattle.archive_core.specs.Stored.{Store, ReadsOn, Spoils, StoreStep, Stocks,
 use Rattle.archive_core.specs.Takes.{Ending, Replied, Starved, Faulted, Spoiled, Comes, TakesBy, changed, proposed, unchanged, version_shown, verified}
 use Rattle.archive_core.specs.declared.error.ChangeError.{ChangeError}
 use Rattle.archive_core.specs.declared.error.ChangeError.TheVariants as changes
-use Rattle.archive_replay.specs.declared.error.ReadError.{ReadError}
-use Rattle.archive_replay.specs.declared.error.ReadError.TheVariants as reads
-use Rattle.archive_replay.specs.declared.error.Declined.{Declined}
-use Rattle.archive_replay.specs.declared.error.Declined.TheVariants as declines
+use Rattle.archive_entries.specs.declared.error.ReadError.{ReadError}
+use Rattle.archive_entries.specs.declared.error.ReadError.TheVariants as reads
+use Rattle.archive_entries.specs.declared.error.Declined.{Declined}
+use Rattle.archive_entries.specs.declared.error.Declined.TheVariants as declines
 use Rattle.archive_core.proofs.ByReadsLemmas.{keeps_leads, keeps_nowhere, keeps_reads, reads_by, still_by, stocks_change, stocks_same}
-use Rattle.page_cache.specs.Caches.{Kept}
+use Rattle.pages_area.specs.Caches.{Kept}
 use Rattle.archive_core.proofs.CacheLemmas.{cache_reads}
-use Rattle.gate_journal.proofs.InStepLemmas.{step_spells}
-use Rattle.sublist_store.specs.declared.why.Damage.{Damage}
+use Rattle.journal_gates.proofs.InStepLemmas.{step_spells}
+use Rattle.pages_sublists.specs.declared.why.Damage.{Damage}
 
 -- ---- by what reads give
 

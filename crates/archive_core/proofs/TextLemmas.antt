@@ -5,23 +5,23 @@ use Rattle.std.proofs.lemmas.List.Elements.{All-nil, All-cons, All-head, All-tai
 use Rattle.std.proofs.lemmas.List.Sums.{sum_by-cons}
 use Rattle.machine_model.specs.States.{DiskState}
 use Rattle.machine_model.specs.Images.{MayLeave}
-use Rattle.time_base.specs.declared.ids.DocId.{DocId}
-use Rattle.time_base.specs.declared.text_place.TextPlace.{TextPlace}
-use Rattle.version_store.specs.declared.change.Change.{Change}
-use Rattle.version_store.specs.Changes.{mapped, held_at}
-use Rattle.version_store.proofs.Mapped.{held_at-mapped}
-use Rattle.version_store.proofs.Holding.{held_has}
-use Rattle.record_codec.specs.Spelling.{spelling}
-use Rattle.record_codec.specs.declared.entry.Entry.{Entry}
-use Rattle.record_codec.specs.declared.entry.Entry.TheVariants.{Arrive, Delete, Planned}
-use Rattle.archive_state.specs.Histories.{History, text_at}
-use Rattle.archive_state.specs.Stands.{bodies_of}
-use Rattle.gate_journal.specs.InStep.{IsInStep}
+use Rattle.base_types.specs.declared.ids.DocId.{DocId}
+use Rattle.base_types.specs.declared.text_place.TextPlace.{TextPlace}
+use Rattle.lists_versions.specs.declared.change.Change.{Change}
+use Rattle.lists_versions.specs.Changes.{mapped, held_at}
+use Rattle.lists_versions.proofs.Mapped.{held_at-mapped}
+use Rattle.lists_versions.proofs.Holding.{held_has}
+use Rattle.journal_entries.specs.Spelling.{spelling}
+use Rattle.journal_entries.specs.declared.entry.Entry.{Entry}
+use Rattle.journal_entries.specs.declared.entry.Entry.TheVariants.{Arrive, Delete, Planned}
+use Rattle.model_archive.specs.Histories.{History, text_at}
+use Rattle.model_archive.specs.Stands.{bodies_of}
+use Rattle.journal_gates.specs.InStep.{IsInStep}
 use Rattle.archive_core.specs.States.{ArchiveState, StandsFor}
-use Rattle.archive_replay.specs.Places.{pair_of, placed_by, places}
-use Rattle.archive_replay.specs.Texts.{text_in, LiesIn}
-use Rattle.archive_replay.proofs.PlaceLemmas.{texts_are}
-use Rattle.gate_journal.proofs.InStepLemmas.{step_spells}
+use Rattle.archive_entries.specs.Places.{pair_of, placed_by, places}
+use Rattle.archive_entries.specs.Texts.{text_in, LiesIn}
+use Rattle.archive_entries.proofs.PlaceLemmas.{texts_are}
+use Rattle.journal_gates.proofs.InStepLemmas.{step_spells}
 
 -- the text of a document that is alive at a time, by its place
 pub text_is : (d : DiskState) (a : ArchiveState) (h : History) (doc : DocId) (t : ℕ) → MayLeave d.now d.holds → StandsFor a h → IsInStep d a.end (bodies_of h)

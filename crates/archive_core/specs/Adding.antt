@@ -1,23 +1,23 @@
 -- How an entry is added to an archive in hand.
 use Rattle.std.specs.Prelude.{◌≡◌, ◌⊎◌, ℕ, ◌+◌, List, [], ◌∷◌, ◌++◌, length, Option, Some, None, Result, Err, IsOk, IfOk, false}
-use Rattle.time_base.specs.declared.ids.DocId.{DocId}
-use Rattle.time_base.specs.declared.text_place.TextPlace.{TextPlace}
-use Rattle.version_store.specs.declared.change.Change.{Change}
-use Rattle.archive_state.specs.declared.refusal.Refusal.{Refusal}
-use Rattle.archive_replay.specs.Entries.{IsHeld}
-use Rattle.archive_replay.specs.declared.error.Declined.{Declined}
-use Rattle.archive_replay.specs.declared.error.Declined.TheVariants as declines
-use Rattle.record_codec.specs.declared.entry.Entry.{Entry}
-use Rattle.time_base.specs.declared.extent.Extent.{Extent}
-use Rattle.page_store.specs.Taken.{HasTaken}
+use Rattle.base_types.specs.declared.ids.DocId.{DocId}
+use Rattle.base_types.specs.declared.text_place.TextPlace.{TextPlace}
+use Rattle.lists_versions.specs.declared.change.Change.{Change}
+use Rattle.model_archive.specs.declared.refusal.Refusal.{Refusal}
+use Rattle.archive_entries.specs.Entries.{IsHeld}
+use Rattle.archive_entries.specs.declared.error.Declined.{Declined}
+use Rattle.archive_entries.specs.declared.error.Declined.TheVariants as declines
+use Rattle.journal_entries.specs.declared.entry.Entry.{Entry}
+use Rattle.base_types.specs.declared.extent.Extent.{Extent}
+use Rattle.pages_area.specs.Taken.{HasTaken}
 use Rattle.archive_core.specs.States.{ArchiveState, StandsFor}
-use Rattle.plan_shelf.specs.Shelves.{ShelfState}
+use Rattle.archive_plans.specs.Shelves.{ShelfState}
 use Rattle.archive_core.specs.declared.error.ChangeError.{ChangeError}
 use Rattle.archive_core.specs.declared.error.ChangeError.TheVariants as changes
-use Rattle.archive_state.specs.Histories.{History}
-use Rattle.version_index.specs.Indexing.{ComesLater}
-use Rattle.version_index.specs.Indexes.{Indexes, IsPreparedFor, seen}
-use Rattle.version_index.specs.declared.prepared.Prepared.{Prepared as Words}
+use Rattle.model_archive.specs.Histories.{History}
+use Rattle.lists_index.specs.Indexing.{ComesLater}
+use Rattle.lists_index.specs.Indexes.{Indexes, IsPreparedFor, seen}
+use Rattle.lists_index.specs.declared.prepared.Prepared.{Prepared as Words}
 
 -- an archive with one entry more, which makes this change and has this spelling; its words were prepared
 pub record IsMore (old new : ArchiveState) (change : Change ℕ) (body : List ℕ) (words : Words) : Type 0 where

@@ -4,12 +4,12 @@ use Rattle.machine_model.specs.Calls.{OnlyReads}
 use Rattle.machine_model.specs.Causes.{Rose}
 use Rattle.machine_model.specs.States.{DiskState}
 use Rattle.query_lang.specs.Grammar.{Query}
-use Rattle.sublist_store.specs.declared.why.Damage.{Damage}
-use Rattle.sublist_store.specs.declared.why.FetchError.{FetchError}
-use Rattle.sublist_store.specs.declared.why.FetchError.TheVariants as fetches
-use Rattle.archive_state.specs.declared.refusal.Refusal.{Refusal}
-use Rattle.archive_state.specs.Chosen.{IsFirstDamage, SpoilsAnswer, pieces_for}
-use Rattle.archive_state.specs.Histories.{History}
+use Rattle.pages_sublists.specs.declared.why.Damage.{Damage}
+use Rattle.pages_sublists.specs.declared.why.FetchError.{FetchError}
+use Rattle.pages_sublists.specs.declared.why.FetchError.TheVariants as fetches
+use Rattle.model_archive.specs.declared.refusal.Refusal.{Refusal}
+use Rattle.model_archive.specs.Chosen.{IsFirstDamage, SpoilsAnswer, pieces_for}
+use Rattle.model_archive.specs.Histories.{History}
 use Rattle.archive_core.specs.Adding.{IsSpent}
 use Rattle.archive_core.specs.Answering.{HasAsked, IsAnswerTo, IsNoQuery, IsQuery}
 use Rattle.archive_core.specs.States.{ArchiveState, CacheStands, IsSameButCache, Reaches, StandsFor}

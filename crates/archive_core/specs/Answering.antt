@@ -3,14 +3,14 @@ use Rattle.std.specs.Prelude.{◌≡◌, ℕ, ◌+◌, List, Ok, Err}
 use Rattle.machine_model.specs.Areas.{replaced}
 use Rattle.machine_model.specs.States.{DiskState}
 use Rattle.machine_model.specs.declared.area.Area.TheVariants.{Pages}
-use Rattle.page_cache.specs.Caches.{Kept, after_asking_all, missed_by_all}
+use Rattle.pages_area.specs.Caches.{Kept, after_asking_all, missed_by_all}
 use Rattle.query_lang.specs.Grammar.{Query, IsRead}
 use Rattle.query_lang.specs.Meaning.{words_of}
 use Rattle.query_lang.specs.Tokens.{term_of}
-use Rattle.archive_state.specs.declared.refusal.Refusal.{Refusal}
-use Rattle.archive_state.specs.declared.refusal.Refusal.TheVariants as refusals
-use Rattle.archive_state.specs.Histories.{History}
-use Rattle.archive_state.specs.Chosen.{pieces_for}
+use Rattle.model_archive.specs.declared.refusal.Refusal.{Refusal}
+use Rattle.model_archive.specs.declared.refusal.Refusal.TheVariants as refusals
+use Rattle.model_archive.specs.Histories.{History}
+use Rattle.model_archive.specs.Chosen.{pieces_for}
 
 -- the phrase is a query
 abbrev pub IsQuery : List ℕ → Type 0

@@ -2,11 +2,11 @@
 use Rattle.std.specs.Prelude.{Result, Ok, Err}
 use Rattle.query_lang.specs.declared.error.QueryError.{QueryError}
 use Rattle.query_lang.specs.declared.error.QueryError.TheVariants as queries
-use Rattle.archive_state.specs.declared.refusal.Refusal.TheVariants as refusals
+use Rattle.model_archive.specs.declared.refusal.Refusal.TheVariants as refusals
 use Rattle.archive_core.specs.declared.error.AskError.{AskError}
 use Rattle.archive_core.specs.declared.error.AskError.TheVariants as asks
-use Rattle.sublist_store.specs.declared.why.FetchError.{FetchError}
-use Rattle.sublist_store.specs.declared.why.FetchError.TheVariants as fetches
+use Rattle.pages_sublists.specs.declared.why.FetchError.{FetchError}
+use Rattle.pages_sublists.specs.declared.why.FetchError.TheVariants as fetches
 
 -- a text that is no query, as the error of the question
 abbrev pub ask_error_of_query : QueryError → AskError

@@ -2,8 +2,8 @@
 use Rattle.std.specs.Prelude.{◌≡◌, ◌⊎◌}
 use Rattle.machine_model.specs.States.{DiskState}
 use Rattle.machine_model.specs.Moments.{GoesOn, LeavesOnly}
-use Rattle.archive_state.specs.Histories.{History}
-use Rattle.archive_state.specs.Stands.{Stands}
+use Rattle.model_archive.specs.Histories.{History}
+use Rattle.model_archive.specs.Stands.{Stands}
 use Rattle.archive_core.specs.Stored.{Store, StandsBy}
 
 -- each image left since stands for this history; what stands beside it is as it was

@@ -1,9 +1,9 @@
 -- A word's list up to the last time, as it is planned.
 use Rattle.std.specs.Prelude.{◌≡◌, ℕ, List, Some}
-use Rattle.time_base.specs.declared.posting.Posting.{Posting}
-use Rattle.fold_tokens.specs.Terms.{one_term}
-use Rattle.archive_state.specs.Histories.{History}
-use Rattle.archive_state.specs.Planning.{IsKnown, IsListUpTo, last_second}
+use Rattle.base_types.specs.declared.posting.Posting.{Posting}
+use Rattle.text_words.specs.Terms.{one_term}
+use Rattle.model_archive.specs.Histories.{History}
+use Rattle.model_archive.specs.Planning.{IsKnown, IsListUpTo, last_second}
 
 -- the phrase is one term that the history knows, and this is its list up to the last time
 pub record IsSealed (history : History) (phrase word : List ℕ) (list : List Posting) (horizon : ℕ) : Type 0 where

@@ -3,21 +3,21 @@ use Rattle.std.specs.Prelude.{◌≡◌, ℕ, ◌≤◌, Bool, List, [], ◌∷�
 use Rattle.machine_model.specs.Areas.{Both, Bytes}
 use Rattle.machine_model.specs.Images.{MayLeave}
 use Rattle.machine_model.specs.States.{DiskState}
-use Rattle.gate_journal.specs.InStep.{IsInStep}
-use Rattle.time_base.specs.declared.text_place.TextPlace.{TextPlace}
-use Rattle.version_store.specs.declared.change.Change.{Change}
-use Rattle.page_cache.specs.Caches.{StandsFor as IsCacheOf}
-use Rattle.page_store.specs.Live.{AreLive, IsInside}
-use Rattle.page_store.specs.Taken.{HasTaken}
-use Rattle.archive_state.specs.Histories.{History, changes, end_of}
-use Rattle.archive_state.specs.Legal.{IsLoadable}
-use Rattle.archive_state.specs.Plans.{live_plans, live_extents}
-use Rattle.archive_state.specs.Holding.{HoldsPlans}
-use Rattle.record_codec.specs.declared.entry.Entry.{Entry}
-use Rattle.version_index.specs.Indexes.{IndexState, Indexes}
-use Rattle.archive_replay.specs.Places.{ArePlaced}
-use Rattle.plan_shelf.specs.Shelves.{ShelfState, extents_all}
-use Rattle.archive_state.specs.Stands.{bodies_of}
+use Rattle.journal_gates.specs.InStep.{IsInStep}
+use Rattle.base_types.specs.declared.text_place.TextPlace.{TextPlace}
+use Rattle.lists_versions.specs.declared.change.Change.{Change}
+use Rattle.pages_area.specs.Caches.{StandsFor as IsCacheOf}
+use Rattle.pages_area.specs.Live.{AreLive, IsInside}
+use Rattle.pages_area.specs.Taken.{HasTaken}
+use Rattle.model_archive.specs.Histories.{History, changes, end_of}
+use Rattle.model_archive.specs.Legal.{IsLoadable}
+use Rattle.model_archive.specs.Plans.{live_plans, live_extents}
+use Rattle.model_archive.specs.Holding.{HoldsPlans}
+use Rattle.journal_entries.specs.declared.entry.Entry.{Entry}
+use Rattle.lists_index.specs.Indexes.{IndexState, Indexes}
+use Rattle.archive_entries.specs.Places.{ArePlaced}
+use Rattle.archive_plans.specs.Shelves.{ShelfState, extents_all}
+use Rattle.model_archive.specs.Stands.{bodies_of}
 use Rattle.archive_core.specs.Stored.{Store, HasSame}
 
 -- an archive in hand: where its journal ends, whether it may be changed, how many entries it has, the changes of documents with

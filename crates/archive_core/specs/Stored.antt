@@ -4,34 +4,34 @@ use Rattle.std.specs.Prelude.{◌≡◌, ℕ, ◌+◌, List, [], ◌∷◌, ◌+
 use Rattle.machine_model.specs.Areas.{Bytes}
 use Rattle.machine_model.specs.Images.{MayLeave}
 use Rattle.machine_model.specs.States.{DiskState}
-use Rattle.time_base.specs.declared.extent.Extent.{Extent}
-use Rattle.time_base.specs.declared.time.Span.{Span}
-use Rattle.time_base.specs.declared.time.Time.{Time}
-use Rattle.gate_journal.specs.Spelled.{Spells}
-use Rattle.page_cache.specs.Caches.{Kept, after_asking_all, missed_by_all}
-use Rattle.page_store.specs.Live.{IsInside}
-use Rattle.page_store.specs.Ranges.{bytes_in}
-use Rattle.page_store.specs.Taken.{AreApart}
-use Rattle.record_codec.specs.declared.entry.Entry.TheVariants as entries
-use Rattle.record_codec.specs.declared.plan.PlanEntry.{PlanEntry}
-use Rattle.commands.specs.declared.command.Command.{Command}
-use Rattle.commands.specs.declared.command.Command.TheVariants as commands
-use Rattle.commands.specs.declared.command.Item.{Item}
-use Rattle.commands.specs.declared.command.Item.TheVariants as items
+use Rattle.base_types.specs.declared.extent.Extent.{Extent}
+use Rattle.base_types.specs.declared.time.Span.{Span}
+use Rattle.base_types.specs.declared.time.Time.{Time}
+use Rattle.journal_gates.specs.Spelled.{Spells}
+use Rattle.pages_area.specs.Caches.{Kept, after_asking_all, missed_by_all}
+use Rattle.pages_area.specs.Live.{IsInside}
+use Rattle.pages_area.specs.Ranges.{bytes_in}
+use Rattle.pages_area.specs.Taken.{AreApart}
+use Rattle.journal_entries.specs.declared.entry.Entry.TheVariants as entries
+use Rattle.journal_entries.specs.declared.plan.PlanEntry.{PlanEntry}
+use Rattle.base_commands.specs.declared.command.Command.{Command}
+use Rattle.base_commands.specs.declared.command.Command.TheVariants as commands
+use Rattle.base_commands.specs.declared.command.Item.{Item}
+use Rattle.base_commands.specs.declared.command.Item.TheVariants as items
 use Rattle.query_lang.specs.Grammar.{Query, IsRead}
 use Rattle.query_lang.specs.Meaning.{words_of}
 use Rattle.query_lang.specs.Tokens.{term_of}
 use Rattle.query_eval.specs.declared.answer.Row.{Row}
 use Rattle.query_eval.specs.declared.spans.SpanRow.{SpanRow}
-use Rattle.sublist_store.specs.declared.why.Damage.{Damage}
-use Rattle.archive_state.specs.declared.refusal.Refusal.TheVariants as refusals
-use Rattle.archive_state.specs.declared.verdict.Verdict.{Verdict}
-use Rattle.archive_state.specs.Chosen.{IsMadeAt, IsMadeOver, SpoilsAnswer, pieces_for}
-use Rattle.archive_state.specs.Histories.{History, text_at}
-use Rattle.archive_state.specs.Holding.{HoldsPlan}
-use Rattle.archive_state.specs.Plans.{live_extents}
-use Rattle.archive_state.specs.Stands.{bodies_of}
-use Rattle.archive_state.specs.Steps.{Reply, Accepted, Found, Planned, Refused, Spanned, Verified, Version, CarriesOut, Certifies, IsRepliedBy, Proposes}
+use Rattle.pages_sublists.specs.declared.why.Damage.{Damage}
+use Rattle.model_archive.specs.declared.refusal.Refusal.TheVariants as refusals
+use Rattle.model_archive.specs.declared.verdict.Verdict.{Verdict}
+use Rattle.model_archive.specs.Chosen.{IsMadeAt, IsMadeOver, SpoilsAnswer, pieces_for}
+use Rattle.model_archive.specs.Histories.{History, text_at}
+use Rattle.model_archive.specs.Holding.{HoldsPlan}
+use Rattle.model_archive.specs.Plans.{live_extents}
+use Rattle.model_archive.specs.Stands.{bodies_of}
+use Rattle.model_archive.specs.Steps.{Reply, Accepted, Found, Planned, Refused, Spanned, Verified, Version, CarriesOut, Certifies, IsRepliedBy, Proposes}
 use Rattle.archive_check.specs.Checked.{IsChecked}
 
 -- an archive by what reads give: its history, the bytes of Pages, the pieces of pages that it keeps, and how many bytes of Pages were read

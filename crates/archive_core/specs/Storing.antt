@@ -6,28 +6,28 @@ use Rattle.machine_model.specs.Images.{MayLeave}
 use Rattle.machine_model.specs.Moments.{GoesOn, LeavesOnly}
 use Rattle.machine_model.specs.States.{DiskState}
 use Rattle.machine_model.specs.declared.range.Range.{Range}
-use Rattle.gate_journal.specs.Spelled.{Spells}
-use Rattle.page_store.specs.Live.{IsInside}
-use Rattle.page_store.specs.Ranges.{SameOutside}
-use Rattle.page_store.specs.Wrote.{HoldsPiece, Piece, extents_of, ranges_of}
-use Rattle.time_base.specs.Limits.{limit_of}
-use Rattle.time_base.specs.declared.posting.Posting.{Posting}
-use Rattle.time_base.specs.declared.which.Which.TheVariants.{Journal}
-use Rattle.record_codec.specs.declared.entry.Entry.TheVariants as entries
-use Rattle.record_codec.specs.declared.place.Place.{Place}
-use Rattle.record_codec.specs.declared.plan.PlanEntry.{PlanEntry}
-use Rattle.record_codec.specs.PlanSpelling.{IsWord}
-use Rattle.record_codec.specs.Spelling.{spelling}
-use Rattle.page_store.specs.Taken.{AreApart}
-use Rattle.sublist_store.specs.Preparing.{IsFor, PreparedState, extents, spellings}
-use Rattle.sublist_store.specs.Segments.{seconds}
-use Rattle.stored_plans.specs.Plans.{IsGoodPlan, IsCostOf, plan_space}
-use Rattle.archive_state.specs.Histories.{History, end_of}
-use Rattle.archive_state.specs.Legal.{IsLegalEntry}
-use Rattle.archive_state.specs.Planning.{IsListUpTo, last_second}
-use Rattle.archive_state.specs.Plans.{live_extents}
-use Rattle.plan_shelf.specs.declared.readying.Draft.{Draft}
-use Rattle.plan_shelf.specs.Readying.{HasPlaces, plan_with}
+use Rattle.journal_gates.specs.Spelled.{Spells}
+use Rattle.pages_area.specs.Live.{IsInside}
+use Rattle.pages_area.specs.Ranges.{SameOutside}
+use Rattle.pages_area.specs.Wrote.{HoldsPiece, Piece, extents_of, ranges_of}
+use Rattle.base_types.specs.Limits.{limit_of}
+use Rattle.base_types.specs.declared.posting.Posting.{Posting}
+use Rattle.base_types.specs.declared.which.Which.TheVariants.{Journal}
+use Rattle.journal_entries.specs.declared.entry.Entry.TheVariants as entries
+use Rattle.journal_entries.specs.declared.place.Place.{Place}
+use Rattle.journal_entries.specs.declared.plan.PlanEntry.{PlanEntry}
+use Rattle.journal_entries.specs.PlanSpelling.{IsWord}
+use Rattle.journal_entries.specs.Spelling.{spelling}
+use Rattle.pages_area.specs.Taken.{AreApart}
+use Rattle.pages_sublists.specs.Preparing.{IsFor, PreparedState, extents, spellings}
+use Rattle.pages_sublists.specs.Segments.{seconds}
+use Rattle.plans_kinds.specs.Plans.{IsGoodPlan, IsCostOf, plan_space}
+use Rattle.model_archive.specs.Histories.{History, end_of}
+use Rattle.model_archive.specs.Legal.{IsLegalEntry}
+use Rattle.model_archive.specs.Planning.{IsListUpTo, last_second}
+use Rattle.model_archive.specs.Plans.{live_extents}
+use Rattle.archive_plans.specs.declared.readying.Draft.{Draft}
+use Rattle.archive_plans.specs.Readying.{HasPlaces, plan_with}
 use Rattle.archive_core.specs.Stored.{Store, Stocks}
 use Rattle.archive_core.specs.Changing.{LeadsBy}
 

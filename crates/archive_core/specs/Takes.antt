@@ -2,28 +2,28 @@
 use Rattle.std.specs.Prelude.{◌≡◌, ◌⊎◌, ℕ, List, Option, Result, Ok, Err}
 use Rattle.std.specs.Option.{option_map}
 use Rattle.machine_model.specs.States.{DiskState}
-use Rattle.commands.specs.declared.command.Item.{Item}
-use Rattle.proposals.specs.declared.proposal.Proposal.{Proposal}
-use Rattle.sublist_store.specs.declared.why.Damage.{Damage}
+use Rattle.base_commands.specs.declared.command.Item.{Item}
+use Rattle.plans_kinds.specs.declared.proposal.Proposal.{Proposal}
+use Rattle.pages_sublists.specs.declared.why.Damage.{Damage}
 use Rattle.query_eval.specs.declared.answer.Answer.{Answer}
 use Rattle.query_eval.specs.declared.spans.SpanAnswer.{SpanAnswer}
-use Rattle.archive_state.specs.declared.verdict.Verdict.{Verdict}
-use Rattle.archive_state.specs.Steps.{Reply, Accepted, Refused, Found, Spanned, Version, Proposed, Planned, Verified}
+use Rattle.model_archive.specs.declared.verdict.Verdict.{Verdict}
+use Rattle.model_archive.specs.Steps.{Reply, Accepted, Refused, Found, Spanned, Version, Proposed, Planned, Verified}
 use Rattle.archive_core.specs.States.{ArchiveState, AreInStepBy}
 use Rattle.archive_core.specs.Stored.{Store, IsSameStore, Spoils, StoreStep, TellsNoEntry}
 use Rattle.archive_core.specs.Changing.{KeepsBy, LeadsBy}
-use Rattle.plan_shelf.specs.declared.readying.PlanReport.{PlanReport}
-use Rattle.plan_shelf.specs.Readying.{summary_of}
+use Rattle.archive_plans.specs.declared.readying.PlanReport.{PlanReport}
+use Rattle.archive_plans.specs.Readying.{summary_of}
 use Rattle.archive_core.specs.declared.error.ChangeError.{ChangeError}
 use Rattle.archive_core.specs.declared.error.ChangeError.TheVariants as changes
 use Rattle.archive_core.specs.declared.error.AskError.{AskError}
 use Rattle.archive_core.specs.declared.error.AskError.TheVariants as asks
 use Rattle.archive_check.specs.declared.error.VerifyError.{VerifyError}
 use Rattle.archive_check.specs.declared.error.VerifyError.TheVariants as checks
-use Rattle.archive_replay.specs.declared.error.Declined.{Declined}
-use Rattle.archive_replay.specs.declared.error.Declined.TheVariants as declines
-use Rattle.archive_replay.specs.declared.error.ReadError.{ReadError}
-use Rattle.archive_replay.specs.declared.error.ReadError.TheVariants as reads
+use Rattle.archive_entries.specs.declared.error.Declined.{Declined}
+use Rattle.archive_entries.specs.declared.error.Declined.TheVariants as declines
+use Rattle.archive_entries.specs.declared.error.ReadError.{ReadError}
+use Rattle.archive_entries.specs.declared.error.ReadError.TheVariants as reads
 
 -- how a call ends: by a reply, for want of memory, by a fault of the disk, or at a sublist that is damaged
 pub data Ending : Type 0 where

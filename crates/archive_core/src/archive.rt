@@ -1,51 +1,51 @@
 //! The archive in hand, and its changes.
 ghost use Rattle.std.specs.Prelude.{◌≡◌, ◌⊎◌, ◌↔◌, ◌+◌, ◌<◌, ◌≤◌, ◌^◌, ◌++◌, [], ◌∷◌, ℕ, List, length, get_or, Option, Some, None, Ok, Err, true, false, IsTrue, IfOk, IfErr, OnOk, IsOk, IsErrOf};
 ghost use Rattle.machine_model.specs.Calls.{OnlyReads};
-ghost use Rattle.sublist_store.specs.Fetching.{IfDamaged, IfFailed};
-ghost use Rattle.archive_state.specs.declared.stored.StoredPlan.{StoredPlan as PlainStored};
-ghost use Rattle.archive_state.specs.Chosen.{GathersOf, pieces_chosen};
+ghost use Rattle.pages_sublists.specs.Fetching.{IfDamaged, IfFailed};
+ghost use Rattle.model_archive.specs.declared.stored.StoredPlan.{StoredPlan as PlainStored};
+ghost use Rattle.model_archive.specs.Chosen.{GathersOf, pieces_chosen};
 ghost use Rattle.machine_model.specs.Causes.{Rose};
-ghost use Rattle.time_base.specs.Limits.{limit_of};
-ghost use Rattle.gate_journal.specs.InStep.{IsInStep};
-ghost use Rattle.gate_journal.specs.Crash.{Appends, KeepsPages};
-ghost use Rattle.archive_state.specs.Histories.{History};
-ghost use Rattle.archive_state.specs.Steps.{Planned, Plans, Refused, arrival_refusal, deletion_refusal};
-ghost use Rattle.archive_state.specs.Plans.{live_extents};
-ghost use Rattle.record_codec.specs.declared.plan.PlanEntry.{PlanEntry};
+ghost use Rattle.base_types.specs.Limits.{limit_of};
+ghost use Rattle.journal_gates.specs.InStep.{IsInStep};
+ghost use Rattle.journal_gates.specs.Crash.{Appends, KeepsPages};
+ghost use Rattle.model_archive.specs.Histories.{History};
+ghost use Rattle.model_archive.specs.Steps.{Planned, Plans, Refused, arrival_refusal, deletion_refusal};
+ghost use Rattle.model_archive.specs.Plans.{live_extents};
+ghost use Rattle.journal_entries.specs.declared.plan.PlanEntry.{PlanEntry};
 ghost use Rattle.archive_core.specs.Storing.{IsDraft, IsStoredAs, IsStoredBy};
-ghost use Rattle.plan_shelf.specs.Readying.{IsFull, tells_of};
+ghost use Rattle.archive_plans.specs.Readying.{IsFull, tells_of};
 ghost use Rattle.archive_core.specs.Answering.{HasAsked};
 ghost use Rattle.archive_core.specs.States.{StandsFor, CacheStands, IsSameButCache, AreInStepBy, Reaches, with_entry};
 ghost use Rattle.archive_core.specs.Changing.{KeepsBy, LeadsBy};
 ghost use Rattle.archive_core.specs.Stored.{Store};
 ghost use Rattle.archive_core.specs.Takes.{TakesBy, changed, planned};
-ghost use Rattle.plan_shelf.specs.Readying.{summary_of};
-ghost use Rattle.record_codec.specs.declared.entry.Entry.{Entry};
+ghost use Rattle.archive_plans.specs.Readying.{summary_of};
+ghost use Rattle.journal_entries.specs.declared.entry.Entry.{Entry};
 ghost use Rattle.archive_core.specs.Adding.{Adds, GivesUp, IsMore, IsSpent};
 ghost use Rattle.archive_core.specs.After.{AfterChange, IsDone};
-ghost use Rattle.archive_replay.specs.Entries.{IsNext, IsPrepared, document_of, text_of, change_refusal};
-ghost use Rattle.version_index.specs.Indexes.{IsPreparedFor, state_of};
-ghost use Rattle.record_codec.specs.declared.entry.Entry.TheVariants as entries;
-ghost use Rattle.commands.specs.declared.command.Command.TheVariants as commands;
-ghost use Rattle.commands.specs.declared.command.Item.TheVariants as items;
-ghost use Rattle.commands.specs.declared.text.Text.TheVariants as texts;
+ghost use Rattle.archive_entries.specs.Entries.{IsNext, IsPrepared, document_of, text_of, change_refusal};
+ghost use Rattle.lists_index.specs.Indexes.{IsPreparedFor, state_of};
+ghost use Rattle.journal_entries.specs.declared.entry.Entry.TheVariants as entries;
+ghost use Rattle.base_commands.specs.declared.command.Command.TheVariants as commands;
+ghost use Rattle.base_commands.specs.declared.command.Item.TheVariants as items;
+ghost use Rattle.base_commands.specs.declared.text.Text.TheVariants as texts;
 
 use crate::error::ChangeError;
 use crate::storing::write_ready;
-use archive_replay::{
+use archive_entries::{
     Declined, Prepared, TEXT_AT, full_journal, note, placed, prepare_arrival, prepare_deletion,
 };
-use archive_state::Refusal;
-use commands::{Kind, Phrase};
-use gate_journal::{Frame, Journal};
+use archive_plans::{Draft, PlanReport, Shelf, make_ready};
+use base_commands::{Kind, Phrase};
+use base_types::{DocId, Fraction, Span, Time, Which};
+use journal_gates::{Frame, Journal};
+use lists_index::Index;
+use lists_versions::Directory;
 use machine_model::Disk;
-use plan_shelf::{Draft, PlanReport, Shelf, make_ready};
+use model_archive::Refusal;
+use pages_sublists::{FetchError, Gathered};
 use std::alloc::Global;
 use std::marker::Model;
-use sublist_store::{FetchError, Gathered};
-use time_base::{DocId, Fraction, Span, Time, Which};
-use version_index::Index;
-use version_store::Directory;
 
 /// An archive in hand.
 #[derive(Drop)]
@@ -60,9 +60,9 @@ pub struct Archive {
 
 impl Model for Archive {
     ghost use Rattle.std.specs.Prelude.{◌+◌, ◌≤◌, IsTrue};
-    ghost use Rattle.archive_state.specs.Histories.{History};
+    ghost use Rattle.model_archive.specs.Histories.{History};
     ghost use Rattle.archive_core.specs.States.{ArchiveState, StandsFor};
-    ghost use Rattle.version_index.specs.Indexes.{state_of};
+    ghost use Rattle.lists_index.specs.Indexes.{state_of};
 
     ghost Value = { ArchiveState };
 

@@ -6,26 +6,26 @@ ghost use Rattle.query_lang.specs.Meaning.{words_of};
 ghost use Rattle.query_eval.specs.Answers.{IsAnswer};
 ghost use Rattle.query_eval.specs.Asked.{read_of};
 ghost use Rattle.query_eval.specs.Found.{told};
-ghost use Rattle.archive_state.specs.Histories.{History, text_at};
-ghost use Rattle.archive_state.specs.Plans.{is_another};
-ghost use Rattle.archive_state.specs.Chosen.{AreChosen, IsMadeAt};
+ghost use Rattle.model_archive.specs.Histories.{History, text_at};
+ghost use Rattle.model_archive.specs.Plans.{is_another};
+ghost use Rattle.model_archive.specs.Chosen.{AreChosen, IsMadeAt};
 ghost use Rattle.archive_core.specs.After.{AfterFetching, AfterQuestion, Fetches};
 ghost use Rattle.archive_core.specs.States.{StandsFor, AreInStepBy, Reaches};
 ghost use Rattle.archive_core.specs.Stored.{Store};
 ghost use Rattle.archive_core.specs.Takes.{TakesBy, found, version_shown};
-ghost use Rattle.commands.specs.declared.command.Command.TheVariants as commands;
-ghost use Rattle.commands.specs.declared.command.Item.TheVariants as items;
+ghost use Rattle.base_commands.specs.declared.command.Command.TheVariants as commands;
+ghost use Rattle.base_commands.specs.declared.command.Item.TheVariants as items;
 
 use crate::archive::Archive;
 use crate::error::{AskError, asked};
-use archive_replay::{ReadError, read_text};
-use commands::Phrase;
+use archive_entries::{ReadError, read_text};
+use base_commands::Phrase;
+use base_types::{DocId, Key, Span, Time};
 use machine_model::Disk;
+use pages_sublists::FetchError;
 use query_eval::{Answer, Part, answer_by_hits, answer_by_living_hits, answer_from};
 use query_lang::Query;
 use std::alloc::{AllocError, Global};
-use sublist_store::FetchError;
-use time_base::{DocId, Key, Span, Time};
 
 impl Archive {
     /// What a query finds as of a time: the rows of the documents alive then that match, and how many

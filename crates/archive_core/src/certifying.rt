@@ -1,28 +1,27 @@
 //! The certificate of a plan that is stored.
 ghost use Rattle.std.specs.Prelude.{◌≡◌, ◌<◌, ◌≤◌, ◌^◌, length, All, IfOk, IsErrOf, Some};
 ghost use Rattle.machine_model.specs.States.{DiskState};
-ghost use Rattle.stored_plans.specs.Plans.{IsFitPlan};
-ghost use Rattle.archive_state.specs.Histories.{History};
-ghost use Rattle.archive_state.specs.Plans.{plan_of};
-ghost use Rattle.archive_state.specs.Steps.{Certifies, IsCertificate, Proposed, Refused, CertifiesLive, CertifiesPlan};
+ghost use Rattle.plans_kinds.specs.Plans.{IsFitPlan};
+ghost use Rattle.model_archive.specs.Histories.{History};
+ghost use Rattle.model_archive.specs.Plans.{plan_of};
+ghost use Rattle.model_archive.specs.Steps.{Certifies, IsCertificate, Proposed, Refused, CertifiesLive, CertifiesPlan};
 ghost use Rattle.archive_core.specs.States.{StandsFor, AreInStepBy};
 ghost use Rattle.archive_core.specs.Stored.{Store};
 ghost use Rattle.archive_core.specs.Takes.{TakesBy, proposed};
-ghost use Rattle.commands.specs.declared.command.Command.TheVariants as commands;
-ghost use Rattle.commands.specs.declared.command.Item.TheVariants as items;
+ghost use Rattle.base_commands.specs.declared.command.Command.TheVariants as commands;
+ghost use Rattle.base_commands.specs.declared.command.Item.TheVariants as items;
 
 use crate::archive::Archive;
 use crate::planning::planned;
-use archive_replay::{Declined, are_many};
-use archive_state::Refusal;
-use commands::{Kind, Phrase};
-use elementary::Table;
-use fold_tokens::one_term;
-use proposals::Proposal;
-use record_codec::PlanEntry;
+use archive_entries::{Declined, are_many};
+use base_commands::{Kind, Phrase};
+use base_types::{Key, Posting};
+use journal_entries::PlanEntry;
+use model_archive::Refusal;
+use plans_kinds::{Proposal, partition_of};
+use plans_partitions::Table;
 use std::alloc::{AllocError, Global};
-use stored_plans::partition_of;
-use time_base::{Key, Posting};
+use text_words::one_term;
 
 impl Archive {
     /// The stored plan of a word, if it keeps to a guarantee: its segments with their sizes, its space, and

@@ -2,18 +2,18 @@
 ghost use Rattle.std.specs.Prelude.{IfOk, IsErrOf};
 ghost use Rattle.machine_model.specs.Causes.{Rose};
 ghost use Rattle.machine_model.specs.Calls.{OnlyReads};
-ghost use Rattle.archive_state.specs.Histories.{History};
+ghost use Rattle.model_archive.specs.Histories.{History};
 ghost use Rattle.archive_check.specs.Checked.{IsChecked};
 ghost use Rattle.archive_core.specs.States.{StandsFor, AreInStepBy, Reaches};
 ghost use Rattle.archive_core.specs.Stored.{Store};
 ghost use Rattle.archive_core.specs.Takes.{TakesBy, verified};
-ghost use Rattle.commands.specs.declared.command.Command.TheVariants as commands;
-ghost use Rattle.commands.specs.declared.command.Item.TheVariants as items;
+ghost use Rattle.base_commands.specs.declared.command.Command.TheVariants as commands;
+ghost use Rattle.base_commands.specs.declared.command.Item.TheVariants as items;
 
 use crate::archive::Archive;
 use archive_check::{VerifyError, verify};
-use archive_state::Verdict;
 use machine_model::Disk;
+use model_archive::Verdict;
 use std::alloc::Global;
 
 impl Archive {

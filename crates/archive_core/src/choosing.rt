@@ -1,20 +1,20 @@
 //! Which postings are read for a query.
 ghost use Rattle.std.specs.Prelude.{◌≡◌, ◌<◌, ◌+◌, ◌^◌, ◌++◌, ◌↔◌, length, IfOk, OnOk, IsErrOf, IsTrue};
-ghost use Rattle.archive_state.specs.Histories.{History};
-ghost use Rattle.archive_state.specs.Plans.{plan_of};
-ghost use Rattle.archive_state.specs.Chosen.{AreChosen, IsChosenOf, IsDamagedFor, IsTailFor, pieces_chosen};
+ghost use Rattle.model_archive.specs.Histories.{History};
+ghost use Rattle.model_archive.specs.Plans.{plan_of};
+ghost use Rattle.model_archive.specs.Chosen.{AreChosen, IsChosenOf, IsDamagedFor, IsTailFor, pieces_chosen};
 ghost use Rattle.archive_core.specs.After.{AfterFetching, Fetches};
 ghost use Rattle.archive_core.specs.Answering.{HasAsked};
 ghost use Rattle.archive_core.specs.States.{StandsFor, CacheStands, Reaches};
 
 use crate::archive::Archive;
+use base_types::{Key, NOW, Posting, Span, Time};
+use lists_index::ListPart;
+use lists_postings::clip;
 use machine_model::Disk;
-use postings::clip;
+use pages_sublists::{Damage, FetchError, Gathered};
 use query_eval::Part;
 use std::alloc::{AllocError, Global};
-use sublist_store::{Damage, FetchError, Gathered};
-use time_base::{Key, NOW, Posting, Span, Time};
-use version_index::ListPart;
 
 /// The most postings of a part. Pages have no more bytes, and a list no more postings, so more are
 /// never read.

@@ -4,10 +4,10 @@ ghost use Rattle.archive_core.specs.declared.error.ChangeError.{ChangeError};
 ghost use Rattle.archive_core.specs.declared.error.AskError.{AskError};
 ghost use Rattle.archive_core.specs.Causes.{ask_error_of_fetch, ask_error_of_query, asked_of};
 
-use archive_state::Refusal;
+use model_archive::Refusal;
+use pages_sublists::{Damage, FetchError};
 use query_lang::QueryError;
 use std::alloc::AllocError;
-use sublist_store::{Damage, FetchError};
 
 /// Why a query was not answered. Nothing was changed but which pages are kept.
 #[derive(Clone, Copy, Debug, PartialEq, Eq)]

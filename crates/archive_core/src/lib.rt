@@ -20,7 +20,7 @@ mod storing;
 mod windows;
 
 pub use archive::Archive;
-pub use archive_replay::LoadError;
+pub use archive_entries::LoadError;
+pub use archive_plans::PlanReport;
 pub use error::{AskError, ChangeError};
 pub use laws::an_archive_in_step_stands;
-pub use plan_shelf::PlanReport;

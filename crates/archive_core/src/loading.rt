@@ -3,20 +3,20 @@ ghost use Rattle.std.specs.Prelude.{◌≡◌, ◌<◌, ◌≤◌, [], ℕ, List
 ghost use Rattle.machine_model.specs.Areas.{Bytes};
 ghost use Rattle.machine_model.specs.Causes.{Rose};
 ghost use Rattle.machine_model.specs.Calls.{OnlyReads, Syncs};
-ghost use Rattle.gate_journal.specs.Heads.{AreInRow, LiesBefore, heads_of};
-ghost use Rattle.gate_journal.specs.Spelled.{EachSpells, Spells};
-ghost use Rattle.gate_journal.specs.Crash.{KeepsBodies, KeepsPages};
-ghost use Rattle.archive_state.specs.Histories.{History};
-ghost use Rattle.archive_state.specs.Stands.{Stands, EachStands, IsNotArchive, bodies_of};
+ghost use Rattle.journal_gates.specs.Heads.{AreInRow, LiesBefore, heads_of};
+ghost use Rattle.journal_gates.specs.Spelled.{EachSpells, Spells};
+ghost use Rattle.journal_gates.specs.Crash.{KeepsBodies, KeepsPages};
+ghost use Rattle.model_archive.specs.Histories.{History};
+ghost use Rattle.model_archive.specs.Stands.{Stands, EachStands, IsNotArchive, bodies_of};
 ghost use Rattle.archive_core.specs.States.{StandsFor, AreInStep, AreInStepBy, Reaches};
 ghost use Rattle.archive_core.specs.Changing.{KeepsHistory};
 ghost use Rattle.archive_core.specs.Stored.{Store};
 
 use crate::archive::Archive;
-use archive_replay::{LoadError, Replayed, replay};
-use gate_journal::{Head, Journal};
+use archive_entries::{LoadError, Replayed, replay};
+use archive_plans::Shelf;
+use journal_gates::{Head, Journal};
 use machine_model::{Area, Disk};
-use plan_shelf::Shelf;
 use std::alloc::Global;
 
 impl Archive {

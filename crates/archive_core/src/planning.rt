@@ -1,34 +1,33 @@
 //! What is planned for a word.
 ghost use Rattle.std.specs.Prelude.{◌≡◌, ◌↔◌, ◌<◌, ◌≤◌, ◌^◌, ℕ, List, length, drop, slice_index, All, IfOk, IsErrOf, IsTrue, Some};
-ghost use Rattle.time_base.specs.declared.posting.Posting.{Posting as PlainPosting};
-ghost use Rattle.elementary.specs.Counts.{Tabulates};
-ghost use Rattle.elementary.specs.Partitions.{IsFitting, IsLeast, AreBest, widest};
+ghost use Rattle.base_types.specs.declared.posting.Posting.{Posting as PlainPosting};
+ghost use Rattle.plans_partitions.specs.Counts.{Tabulates};
+ghost use Rattle.plans_partitions.specs.Partitions.{IsFitting, IsLeast, AreBest, widest};
 ghost use Rattle.machine_model.specs.States.{DiskState};
-ghost use Rattle.fold_tokens.specs.Terms.{one_term as term_of};
-ghost use Rattle.proposals.specs.Proposals.{IsProposal};
-ghost use Rattle.record_codec.specs.PlanSpelling.{IsWord};
-ghost use Rattle.archive_state.specs.Histories.{History};
-ghost use Rattle.archive_state.specs.Planning.{IsKnown, IsListUpTo, OfBoundaries, OfPhrase, OfWord, last_second};
-ghost use Rattle.archive_state.specs.Steps.{Proposed, Proposes, Refused, spelled_key};
+ghost use Rattle.text_words.specs.Terms.{one_term as term_of};
+ghost use Rattle.plans_kinds.specs.Proposals.{IsProposal};
+ghost use Rattle.journal_entries.specs.PlanSpelling.{IsWord};
+ghost use Rattle.model_archive.specs.Histories.{History};
+ghost use Rattle.model_archive.specs.Planning.{IsKnown, IsListUpTo, OfBoundaries, OfPhrase, OfWord, last_second};
+ghost use Rattle.model_archive.specs.Steps.{Proposed, Proposes, Refused, spelled_key};
 ghost use Rattle.archive_core.specs.States.{StandsFor, AreInStepBy};
 ghost use Rattle.archive_core.specs.Sealing.{IsSealed};
 ghost use Rattle.archive_core.specs.Stored.{Store};
 ghost use Rattle.archive_core.specs.Takes.{TakesBy, proposed};
-ghost use Rattle.commands.specs.declared.command.Command.TheVariants as commands;
-ghost use Rattle.commands.specs.declared.command.Kind.{Kind};
-ghost use Rattle.commands.specs.declared.command.Item.TheVariants as items;
+ghost use Rattle.base_commands.specs.declared.command.Command.TheVariants as commands;
+ghost use Rattle.base_commands.specs.declared.command.Kind.{Kind};
+ghost use Rattle.base_commands.specs.declared.command.Item.TheVariants as items;
 
 use crate::archive::Archive;
-use archive_replay::{Declined, are_many, list_up_to};
-use archive_state::Refusal;
-use commands::Phrase;
-use elementary::{Partition, Table};
-use fold_tokens::one_term;
-use guarantee_planner::{PlanError, plan};
-use plan_certificate::Certificate;
-use proposals::Proposal;
+use archive_entries::{Declined, are_many, list_up_to};
+use base_commands::Phrase;
+use base_types::{Fraction, Key, Posting, Time};
+use model_archive::Refusal;
+use plans_guarantee::{Certificate, PlanError, plan};
+use plans_kinds::Proposal;
+use plans_partitions::{Partition, Table};
 use std::alloc::{AllocError, Global};
-use time_base::{Fraction, Key, Posting, Time};
+use text_words::one_term;
 
 /// A word with its list up to the last time.
 #[derive(Drop)]

@@ -4,24 +4,24 @@ ghost use Rattle.query_lang.specs.Meaning.{words_of};
 ghost use Rattle.query_eval.specs.Asked.{read_of};
 ghost use Rattle.query_eval.specs.Found.{told};
 ghost use Rattle.query_eval.specs.Spans.{IsSpanAnswer};
-ghost use Rattle.archive_state.specs.Histories.{History, text_at};
-ghost use Rattle.archive_state.specs.Chosen.{AreChosen, IsMadeOver};
+ghost use Rattle.model_archive.specs.Histories.{History, text_at};
+ghost use Rattle.model_archive.specs.Chosen.{AreChosen, IsMadeOver};
 ghost use Rattle.archive_core.specs.After.{AfterFetching, AfterQuestion, Fetches};
 ghost use Rattle.archive_core.specs.States.{StandsFor, AreInStepBy, Reaches};
 ghost use Rattle.archive_core.specs.Stored.{Store};
 ghost use Rattle.archive_core.specs.Takes.{TakesBy, spanned};
-ghost use Rattle.commands.specs.declared.command.Command.TheVariants as commands;
-ghost use Rattle.commands.specs.declared.command.Item.TheVariants as items;
+ghost use Rattle.base_commands.specs.declared.command.Command.TheVariants as commands;
+ghost use Rattle.base_commands.specs.declared.command.Item.TheVariants as items;
 
 use crate::archive::Archive;
 use crate::error::{AskError, asked};
-use commands::Phrase;
+use base_commands::Phrase;
+use base_types::Span;
 use machine_model::Disk;
+use pages_sublists::FetchError;
 use query_eval::{Part, SpanAnswer, answer_over, answer_over_hits, docs_met};
 use query_lang::Query;
 use std::alloc::{AllocError, Global};
-use sublist_store::FetchError;
-use time_base::Span;
 
 impl Archive {
     /// What a query finds over a window of time: for each document the longest spans inside it in which

@@ -1,9 +1,9 @@
 -- What is told of a sample that was carried out.
 use Rattle.std.specs.Prelude.{ℕ, List, [], ◌∷◌, ◌++◌, length, sum_by, codes}
 use Rattle.std.specs.Fmt.{decimal}
-use Rattle.archive_state.specs.declared.verdict.Verdict.{Verdict}
-use Rattle.archive_state.specs.Replies.{reply_text}
-use Rattle.archive_state.specs.Steps.{Reply, Accepted, Refused, Found, Spanned, Version, Proposed, Planned, Verified}
+use Rattle.model_archive.specs.declared.verdict.Verdict.{Verdict}
+use Rattle.model_archive.specs.Replies.{reply_text}
+use Rattle.model_archive.specs.Steps.{Reply, Accepted, Refused, Found, Spanned, Version, Proposed, Planned, Verified}
 use Rattle.archive_replies.specs.declared.tally.Tally.{Tally}
 
 -- what counts for none

@@ -1,16 +1,16 @@
 //! A page on which replies are written.
 ghost use Rattle.std.specs.Prelude.{◌≡◌, ◌+◌, ◌≤◌, [], ◌++◌, length, codes, decimal, Some, None, IfOk, OnOk, OnErr};
 ghost use Rattle.archive_replies.specs.Pages.{reply_room};
-ghost use Rattle.archive_state.specs.Replies.{cost_text, detail_text, end_text, node_text, reply_text, row_text, segment_text, space_text, span_text, which_text};
-ghost use Rattle.archive_state.specs.Steps.{Accepted, Refused, Found, Spanned, Version, Proposed, Planned};
+ghost use Rattle.model_archive.specs.Replies.{cost_text, detail_text, end_text, node_text, reply_text, row_text, segment_text, space_text, span_text, which_text};
+ghost use Rattle.model_archive.specs.Steps.{Accepted, Refused, Found, Spanned, Version, Proposed, Planned};
 
-use archive_state::Refusal;
+use base_types::{Span, Which};
 use itoa::Buffer;
-use proposals::{Node, Segment};
+use model_archive::Refusal;
+use plans_kinds::{Node, Segment};
 use query_eval::{Row, SpanRow};
 use std::alloc::{AllocError, Global};
 use std::marker::Model;
-use time_base::{Span, Which};
 
 /// The bytes that a page has room for at least: more than the longest reply that takes no memory,
 /// and than any line of an answer.

@@ -3,7 +3,7 @@ ghost use Rattle.std.specs.Prelude.{◌≡◌, ◌+◌, ◌≤◌, ◌++◌, OnO
 ghost use Rattle.archive_replies.specs.Tallies.{sample_text, tally_text};
 
 use crate::page::ReplyPage;
-use archive_state::Verdict;
+use model_archive::Verdict;
 use std::alloc::AllocError;
 
 /// The most bytes of both lines: five names and five numbers, and the line of a verdict.

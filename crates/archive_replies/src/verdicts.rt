@@ -1,13 +1,13 @@
 //! The line of what a check tells.
 ghost use Rattle.std.specs.Prelude.{◌≡◌, ◌+◌, ◌<◌, ◌≤◌, ◌++◌, codes, OnOk};
-ghost use Rattle.archive_state.specs.Replies.{byte_text, digit_text, reply_text, verdict_text};
-ghost use Rattle.archive_state.specs.Steps.{Verified};
+ghost use Rattle.model_archive.specs.Replies.{byte_text, digit_text, reply_text, verdict_text};
+ghost use Rattle.model_archive.specs.Steps.{Verified};
 ghost use Rattle.archive_replies.specs.Findings.{bad_digest_text};
 
 use crate::page::ReplyPage;
-use archive_state::Verdict;
+use base_types::Key;
+use model_archive::Verdict;
 use std::alloc::AllocError;
-use time_base::Key;
 
 /// The most bytes of the line with its end: that of a byte that differs, of a word of 255 bytes.
 const MOST_LINE_BYTES: usize = 312;

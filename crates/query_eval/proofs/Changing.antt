@@ -6,9 +6,9 @@ use Rattle.std.proofs.lemmas.Bool.{cases_lt}
 use Rattle.std.proofs.lemmas.Bool.Decides.{nat_tests}
 use Rattle.std.proofs.lemmas.List.Elements.{All-head, All-tail, Contains-get_or, Contains-push_cases}
 use Rattle.std.proofs.lemmas.List.Sorted.{Contains-permutation, IsPermutation-sym}
-use Rattle.stretches.specs.Events.{ChangesAt, NoneIn}
-use Rattle.stretches.specs.declared.event.Event.{Event}
-use Rattle.stretches.proofs.Elements.{filter-from}
+use Rattle.lists_postings.specs.Events.{ChangesAt, NoneIn}
+use Rattle.lists_postings.specs.declared.event.Event.{Event}
+use Rattle.lists_postings.proofs.Elements.{filter-from}
 use Rattle.query_lang.specs.Grammar.{Query}
 use Rattle.query_lang.specs.Meaning.{matches, score, words_of}
 use Rattle.query_lang.proofs.Deciding.{agreeing, matches-same, score-same}

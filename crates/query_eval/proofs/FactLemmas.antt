@@ -5,10 +5,10 @@ use Rattle.std.specs.Str.{bytes_eq}
 use Rattle.std.proofs.Common.{ap, ap₂, sym, ◌∙◌, subst}
 use Rattle.std.proofs.lemmas.List.Elements.{filter-append, filter_map-append}
 use Rattle.std.proofs.lemmas.List.Folds.{list_any-append}
-use Rattle.time_base.specs.declared.posting.Posting.{Posting}
-use Rattle.postings.specs.Lists.{holds}
-use Rattle.stretches.specs.Kinds.{is_alive}
-use Rattle.stretches.specs.declared.life.Life.{Life}
+use Rattle.base_types.specs.declared.posting.Posting.{Posting}
+use Rattle.lists_postings.specs.Lists.{holds}
+use Rattle.lists_postings.specs.Kinds.{is_alive}
+use Rattle.lists_postings.specs.declared.life.Life.{Life}
 use Rattle.query_lang.specs.Grammar.{Query}
 use Rattle.query_lang.specs.Meaning.{words_of}
 use Rattle.query_eval.specs.Facts.{life_fact, word_fact, facts_of, of_doc, covers, hits_now, alive_now, score_if, TellWords, IsScored}

@@ -10,11 +10,11 @@ use Rattle.std.specs.List.{filter_map, cons_option, AllByRecursion, IsDistinct}
 use Rattle.std.specs.List.Sorted.{IsPermutation}
 use Rattle.std.specs.Ordering.{is_lt, nat_cmp, ordering_then}
 use Rattle.std.specs.Str.{bytes_eq}
-use Rattle.time_base.specs.declared.ids.DocId.{DocId}
-use Rattle.time_base.specs.declared.posting.Posting.{Posting}
-use Rattle.fold_tokens.proofs.CountLemmas.{itself}
-use Rattle.postings.specs.Lists.{holds, rows_at, frequency}
-use Rattle.postings.proofs.Order.{Heads, next-cons}
+use Rattle.base_types.specs.declared.ids.DocId.{DocId}
+use Rattle.base_types.specs.declared.posting.Posting.{Posting}
+use Rattle.text_words.proofs.CountLemmas.{itself}
+use Rattle.lists_postings.specs.Lists.{holds, rows_at, frequency}
+use Rattle.lists_postings.proofs.Order.{Heads, next-cons}
 use Rattle.query_lang.specs.Grammar.{Query}
 use Rattle.query_lang.specs.Meaning.{matches, words_of, weight, score}
 use Rattle.query_lang.proofs.Deciding.{agreeing, matches-same, score-same}
@@ -24,7 +24,7 @@ use Rattle.query_eval.specs.Hits.{hit_of, hits_in, gathered, is_of, hits_of, fou
 use Rattle.query_eval.specs.declared.answer.Row.{Row}
 use Rattle.query_eval.specs.declared.hit.Hit.{Hit}
 use Rattle.query_eval.specs.declared.part.Part.{Part}
-use Rattle.stretches.proofs.Elements.{here, later, here-or-later, none}
+use Rattle.lists_postings.proofs.Elements.{here, later, here-or-later, none}
 use Rattle.query_eval.proofs.Ranks.{same-row, in-order, in_order}
 
 -- a place of a list by any default

@@ -1,7 +1,7 @@
 -- What an answer depends on: the documents with a word, the frequencies of the words.
 use Rattle.std.proofs.Common.{◌≡◌, ◌⊎◌, ◌↔◌, ℕ, zero, suc, ◌<◌, ◌≤◌, true, false, List, [], ◌∷◌, length, get_or, All, sym, ◌∙◌, arith, inl, inr}
 use Rattle.std.proofs.lemmas.Bool.{cases_lt}
-use Rattle.time_base.specs.declared.ids.DocId.{DocId}
+use Rattle.base_types.specs.declared.ids.DocId.{DocId}
 use Rattle.query_lang.specs.Grammar.{Query}
 use Rattle.query_lang.specs.Meaning.{matches, score, words_of}
 use Rattle.query_lang.proofs.Deciding.{agreeing, matches-same, score-same}

@@ -3,14 +3,14 @@ use Rattle.std.proofs.Common.{◌≡◌, ◌⊎◌, ◌↔◌, ℕ, ◌+◌, ◌
 use Rattle.std.proofs.lemmas.Bool.{eq-eqb}
 use Rattle.std.proofs.lemmas.Bool.Decides.{eqb_tells}
 use Rattle.std.proofs.lemmas.List.Elements.{All-nil, All-cons, All-head, All-tail, All-append, All-filter, All-contains}
-use Rattle.time_base.specs.declared.ids.DocId.{DocId}
-use Rattle.time_base.specs.declared.posting.Posting.{Posting}
-use Rattle.postings.specs.Lists.{rows_at}
+use Rattle.base_types.specs.declared.ids.DocId.{DocId}
+use Rattle.base_types.specs.declared.posting.Posting.{Posting}
+use Rattle.lists_postings.specs.Lists.{rows_at}
 use Rattle.query_eval.specs.Found.{told, HasHit}
 use Rattle.query_eval.specs.Hits.{hit_of, hits_in, gathered, is_of, hits_of, found, Tell}
 use Rattle.query_eval.specs.declared.hit.Hit.{Hit}
 use Rattle.query_eval.specs.declared.part.Part.{Part}
-use Rattle.stretches.proofs.Elements.{here, later, here-or-later, none}
+use Rattle.lists_postings.proofs.Elements.{here, later, here-or-later, none}
 
 -- a hit is of one of so many words, and counts something
 record Counts (count : ℕ) (h : Hit) : Type 0 where

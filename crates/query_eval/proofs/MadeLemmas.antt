@@ -4,14 +4,14 @@ use Rattle.std.proofs.lemmas.List.{map-append, length-drop, length-take-le, get_
 use Rattle.std.proofs.lemmas.List.Elements.{filter_map-append, Contains-get_or, Contains-append_left, Contains-append_right, Contains-append_cases}
 use Rattle.std.proofs.Math.Seq.{take-add}
 use Rattle.std.specs.List.{filter_map}
-use Rattle.time_base.specs.declared.ids.DocId.{DocId}
+use Rattle.base_types.specs.declared.ids.DocId.{DocId}
 use Rattle.query_lang.specs.Grammar.{Query}
 use Rattle.query_lang.specs.Meaning.{words_of}
 use Rattle.query_eval.specs.Found.{row_of}
 use Rattle.query_eval.specs.Hits.{found, hits_of, AreMade}
 use Rattle.query_eval.specs.declared.answer.Row.{Row}
 use Rattle.query_eval.specs.declared.hit.Hit.{Hit}
-use Rattle.stretches.proofs.Elements.{here, here-or-later, none}
+use Rattle.lists_postings.proofs.Elements.{here, here-or-later, none}
 use Rattle.query_eval.proofs.FoundLemmas.{row-is}
 use Rattle.query_eval.proofs.HasHitLemmas.{of-from, document-in, document-from}
 

@@ -6,10 +6,10 @@ use Rattle.std.proofs.lemmas.Bool.Decides.{nat_tests, eqb_tells}
 use Rattle.std.proofs.lemmas.List.Elements.{Contains-append_left, Contains-append_right, Contains-append_cases}
 use Rattle.std.proofs.lemmas.List.Kept.{Contains-from_dedup}
 use Rattle.std.proofs.lemmas.List.Sorted.{Contains-permutation, IsPermutation-sym}
-use Rattle.time_base.specs.declared.ids.DocId.{DocId}
-use Rattle.time_base.specs.declared.posting.Posting.{Posting}
-use Rattle.postings.specs.Lists.{EachNext, holds, meets, sublist, frequency}
-use Rattle.stretches.proofs.Elements.{here, later, here-or-later, none, filter-in, filter-from, map-in, map-from}
+use Rattle.base_types.specs.declared.ids.DocId.{DocId}
+use Rattle.base_types.specs.declared.posting.Posting.{Posting}
+use Rattle.lists_postings.specs.Lists.{EachNext, holds, meets, sublist, frequency}
+use Rattle.lists_postings.proofs.Elements.{here, later, here-or-later, none, filter-in, filter-from, map-in, map-from}
 use Rattle.query_eval.specs.Found.{told}
 use Rattle.query_eval.specs.Met.{IsMet, met_in, all_met}
 use Rattle.query_eval.specs.SpanLaws.{HitsAreMet}

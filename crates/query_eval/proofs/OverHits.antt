@@ -4,12 +4,12 @@ use Rattle.std.specs.List.{IsDistinct}
 use Rattle.std.specs.Str.{bytes_eq}
 use Rattle.std.proofs.Common.{arith, ap, ap₂, sym, ◌∙◌, subst}
 use Rattle.std.proofs.lemmas.List.Elements.{filter-append}
-use Rattle.time_base.specs.declared.ids.DocId.{DocId}
-use Rattle.time_base.specs.declared.posting.Posting.{Posting}
-use Rattle.postings.specs.Lists.{holds}
-use Rattle.stretches.specs.Stretches.{AreStretches}
-use Rattle.stretches.proofs.Elements.{here}
-use Rattle.stretches.proofs.Windows.{stretches-same}
+use Rattle.base_types.specs.declared.ids.DocId.{DocId}
+use Rattle.base_types.specs.declared.posting.Posting.{Posting}
+use Rattle.lists_postings.specs.Lists.{holds}
+use Rattle.lists_postings.specs.Stretches.{AreStretches}
+use Rattle.lists_postings.proofs.Elements.{here}
+use Rattle.lists_postings.proofs.StretchWindows.{stretches-same}
 use Rattle.query_lang.specs.Grammar.{Query}
 use Rattle.query_lang.specs.Meaning.{matches, score, words_of}
 use Rattle.query_eval.specs.Facts.{word_fact, facts_of, of_doc, hits_now, alive_now, score_if, IsScored}

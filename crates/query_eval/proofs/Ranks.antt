@@ -2,8 +2,8 @@
 use Rattle.std.specs.Prelude.{◌≡◌, ◌⊎◌, ◌↔◌, List, [], ◌∷◌, Contains}
 use Rattle.std.proofs.Common.{arith, ap, sym, ◌∙◌, subst, inl, inr}
 use Rattle.std.proofs.lemmas.Bool.{cases_lt}
-use Rattle.stretches.proofs.Elements.{here, later, here-or-later, one_order as one_list}
-use Rattle.postings.proofs.Order.{Heads, next-tail, next-cons, next-later}
+use Rattle.lists_postings.proofs.Elements.{here, later, here-or-later, one_order as one_list}
+use Rattle.lists_postings.proofs.Order.{Heads, next-tail, next-cons, next-later}
 use Rattle.query_eval.specs.Answers.{RanksBefore, AreRanked}
 use Rattle.query_eval.specs.declared.answer.Row.{Row}
 

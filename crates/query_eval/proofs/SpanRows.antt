@@ -2,11 +2,11 @@
 use Rattle.std.specs.Prelude.{◌≡◌, ℕ, ◌<◌, ◌&&◌, Bool, true, false, if◌then◌else◌, List, [], length, get_or, Some, None}
 use Rattle.std.proofs.Common.{ap, refl, sym, ◌∙◌}
 use Rattle.std.proofs.lemmas.Bool.{cases_eq}
-use Rattle.time_base.proofs.Equal.{same_span}
-use Rattle.time_base.specs.declared.ids.DocId.{DocId}
-use Rattle.stretches.specs.Laws.{IsPlain, AreMade}
-use Rattle.stretches.proofs.Existence.{each-has}
-use Rattle.stretches.proofs.Windows.{stretches-same}
+use Rattle.base_types.proofs.Equal.{same_span}
+use Rattle.base_types.specs.declared.ids.DocId.{DocId}
+use Rattle.lists_postings.specs.StretchLaws.{IsPlain, AreMade}
+use Rattle.lists_postings.proofs.StretchExistence.{each-has}
+use Rattle.lists_postings.proofs.StretchWindows.{stretches-same}
 use Rattle.query_lang.specs.Grammar.{Query}
 use Rattle.query_lang.specs.Meaning.{matches, score, words_of}
 use Rattle.query_eval.specs.Facts.{score_if}

@@ -1,7 +1,7 @@
 -- What the answer to a query is.
 use Rattle.std.specs.Prelude.{◌≡◌, ◌⊎◌, ◌↔◌, ℕ, ◌<◌, true, List, Contains}
-use Rattle.time_base.specs.declared.ids.DocId.{DocId}
-use Rattle.postings.specs.Lists.{EachNext}
+use Rattle.base_types.specs.declared.ids.DocId.{DocId}
+use Rattle.lists_postings.specs.Lists.{EachNext}
 use Rattle.query_lang.specs.Grammar.{Query}
 use Rattle.query_lang.specs.Meaning.{matches, score}
 use Rattle.query_eval.specs.declared.answer.Row.{Row}

@@ -1,9 +1,9 @@
 -- What is known of documents over time, and what it says at a time.
 use Rattle.std.specs.Prelude.{◌≡◌, ◌<◌, ◌≤◌, ℕ, ◌+◌, ◌==◌, ◌&&◌, Bool, true, if◌then◌else◌, nat_le, nat_lt, max, List, [], ◌∷◌, ◌++◌, length, get_or, filter, map, Contains, Option, Some, None}
 use Rattle.std.specs.List.{filter_map, list_any}
-use Rattle.time_base.specs.declared.posting.Posting.{Posting}
-use Rattle.stretches.specs.declared.event.Event.{Event}
-use Rattle.stretches.specs.declared.life.Life.{Life}
+use Rattle.base_types.specs.declared.posting.Posting.{Posting}
+use Rattle.lists_postings.specs.declared.event.Event.{Event}
+use Rattle.lists_postings.specs.declared.life.Life.{Life}
 use Rattle.query_lang.specs.Grammar.{Query}
 use Rattle.query_lang.specs.Meaning.{matches, score, words_of}
 use Rattle.query_eval.specs.Hits.{hit_of, found}

@@ -3,8 +3,8 @@ use Rattle.std.specs.Prelude.{◌≡◌, ℕ, ◌<◌, ◌&&◌, ◌==◌, Bool,
 use Rattle.std.specs.List.Sorted.{IsSortedBy}
 use Rattle.std.specs.Ordering.{is_lt, nat_cmp, ordering_then}
 use Rattle.std.specs.Str.{bytes_eq}
-use Rattle.time_base.specs.declared.ids.DocId.{DocId}
-use Rattle.postings.specs.Lists.{frequency}
+use Rattle.base_types.specs.declared.ids.DocId.{DocId}
+use Rattle.lists_postings.specs.Lists.{frequency}
 use Rattle.query_lang.specs.Grammar.{Query}
 use Rattle.query_lang.specs.Meaning.{matches, score}
 use Rattle.query_eval.specs.declared.answer.Row.{Row}

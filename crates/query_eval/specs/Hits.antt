@@ -1,9 +1,9 @@
 -- What hits say of a document.
 use Rattle.std.specs.Prelude.{◌≡◌, ◌↔◌, ◌<◌, ◌≤◌, nat_le, nat_lt, ℕ, ◌==◌, ◌+◌, Bool, true, if◌then◌else◌, List, [], ◌∷◌, ◌++◌, length, get_or, filter, map, Contains}
 use Rattle.std.specs.List.{filter_map}
-use Rattle.time_base.specs.declared.ids.DocId.{DocId}
-use Rattle.time_base.specs.declared.posting.Posting.{Posting}
-use Rattle.postings.specs.Lists.{rows_at}
+use Rattle.base_types.specs.declared.ids.DocId.{DocId}
+use Rattle.base_types.specs.declared.posting.Posting.{Posting}
+use Rattle.lists_postings.specs.Lists.{rows_at}
 use Rattle.query_lang.specs.Grammar.{Query}
 use Rattle.query_lang.specs.Meaning.{words_of}
 use Rattle.query_eval.specs.Found.{row_of}

@@ -1,6 +1,6 @@
 -- What follows from the definition of answers.
 use Rattle.std.specs.Prelude.{◌≡◌, ℕ, ◌<◌, Bool, true, false, List, [], length, get_or, All, Contains}
-use Rattle.time_base.specs.declared.ids.DocId.{DocId}
+use Rattle.base_types.specs.declared.ids.DocId.{DocId}
 use Rattle.query_lang.specs.Grammar.{Query}
 use Rattle.query_lang.specs.Meaning.{matches, words_of}
 use Rattle.query_eval.specs.Answers.{IsAnswer}

@@ -1,8 +1,8 @@
 -- The documents that have a posting in a window of time.
 use Rattle.std.specs.Prelude.{◌≡◌, ℕ, true, List, [], ◌∷◌, ◌++◌, map, Contains}
-use Rattle.time_base.specs.declared.ids.DocId.{DocId}
-use Rattle.time_base.specs.declared.posting.Posting.{Posting}
-use Rattle.postings.specs.Lists.{meets, sublist}
+use Rattle.base_types.specs.declared.ids.DocId.{DocId}
+use Rattle.base_types.specs.declared.posting.Posting.{Posting}
+use Rattle.lists_postings.specs.Lists.{meets, sublist}
 use Rattle.query_eval.specs.declared.part.Part.{Part}
 
 -- a posting of one of the parts is the document's, and has a time in [a, b)

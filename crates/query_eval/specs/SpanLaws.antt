@@ -1,7 +1,7 @@
 -- What follows from the definition of answers over a window.
 use Rattle.std.specs.Prelude.{◌≡◌, ◌↔◌, ℕ, ◌^◌, ◌<◌, ◌≤◌, Bool, true, false, List, [], length, get_or, Contains}
-use Rattle.time_base.specs.declared.ids.DocId.{DocId}
-use Rattle.stretches.specs.Stretches.{IsLongest}
+use Rattle.base_types.specs.declared.ids.DocId.{DocId}
+use Rattle.lists_postings.specs.Stretches.{IsLongest}
 use Rattle.query_lang.specs.Grammar.{Query}
 use Rattle.query_lang.specs.Meaning.{matches, words_of}
 use Rattle.query_eval.specs.Found.{HasHit}

@@ -1,7 +1,7 @@
 -- What the answer to a query over a window of time is.
 use Rattle.std.specs.Prelude.{ℕ, ◌&&◌, Bool, if◌then◌else◌, List, Option, Some, None}
-use Rattle.time_base.specs.declared.ids.DocId.{DocId}
-use Rattle.stretches.specs.Stretches.{Kind, AreStretches}
+use Rattle.base_types.specs.declared.ids.DocId.{DocId}
+use Rattle.lists_postings.specs.Stretches.{Kind, AreStretches}
 use Rattle.query_lang.specs.Grammar.{Query}
 use Rattle.query_lang.specs.Meaning.{matches, score}
 use Rattle.query_eval.specs.declared.spans.SpanRow.{SpanRow}

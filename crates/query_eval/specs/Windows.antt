@@ -1,8 +1,8 @@
 -- The part of a list in a window of time.
 use Rattle.std.specs.Prelude.{ℕ, List}
-use Rattle.time_base.specs.declared.posting.Posting.{Posting}
-use Rattle.postings.specs.Clips.{IsClip}
-use Rattle.postings.specs.Lists.{IsList, IsCoalesced, SameRows}
+use Rattle.base_types.specs.declared.posting.Posting.{Posting}
+use Rattle.lists_postings.specs.Clips.{IsClip}
+use Rattle.lists_postings.specs.Lists.{IsList, IsCoalesced, SameRows}
 
 -- What stands in [a, b) of a list: its postings there, cut to it, with the same rows at each time and coalesced.
 pub record IsWindow (a b : ℕ) (list window : List Posting) : Type 0 where

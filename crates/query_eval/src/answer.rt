@@ -1,5 +1,5 @@
 //! Answers to queries.
-use time_base::DocId;
+use base_types::DocId;
 
 /// A document that matches a query.
 #[derive(Clone, Copy, Debug, PartialEq, Eq)]

@@ -3,8 +3,8 @@ ghost use Rattle.std.specs.Prelude.{Ok, IfOk, IsErrOf};
 ghost use Rattle.query_eval.specs.Asked.{Asks, AsksFront, AsksToFault, asked_when};
 
 use crate::part::{EvalError, Lists, Part};
+use base_types::{Key, Span, Time};
 use std::alloc::{AllocError, Global};
-use time_base::{Key, Span, Time};
 
 /// Which part of a list is asked for.
 #[derive(Clone, Copy, Debug)]

@@ -1,15 +1,15 @@
 //! What is known of documents over time: when they are alive, and when they have the words.
 ghost use Rattle.std.specs.Prelude.{◌≡◌, ◌⊎◌, ◌<◌, ◌≤◌, ◌++◌, true, false, ℕ, nat_le, nat_lt, length, map, filter, Contains, IfOk, OnOk};
 ghost use Rattle.std.specs.List.Sorted.{IsNonDecreasingBy, IsPartitionPoint};
-ghost use Rattle.stretches.specs.Events.{AreInOrder};
-ghost use Rattle.stretches.specs.declared.event.Event.{Event as EventValue};
+ghost use Rattle.lists_postings.specs.Events.{AreInOrder};
+ghost use Rattle.lists_postings.specs.declared.event.Event.{Event as EventValue};
 ghost use Rattle.query_eval.specs.Facts.{life_fact, word_fact, facts_of, of_doc, AreEvents};
 
 use crate::hit::Hit;
 use crate::part::Part;
+use base_types::{DocId, Posting, Span, Time};
+use lists_postings::{Event, Life, sort_events};
 use std::alloc::{AllocError, Global};
-use stretches::{Event, Life, sort_events};
-use time_base::{DocId, Posting, Span, Time};
 
 /// That a document is alive in a span, or has a word so often, or both.
 #[derive(Clone, Copy, Debug)]

@@ -9,16 +9,16 @@ ghost use Rattle.query_eval.specs.Found.{told, HasHit, AnswersAs, row_of, once, 
 ghost use Rattle.query_eval.specs.Hits.{found, Tell, AreMade};
 ghost use Rattle.query_eval.specs.declared.answer.Row.{Row as RowValue};
 ghost use Rattle.query_eval.specs.declared.part.Part.{Part as PartValue};
-ghost use Rattle.time_base.specs.declared.ids.DocId.{DocId as DocValue};
+ghost use Rattle.base_types.specs.declared.ids.DocId.{DocId as DocValue};
 
 use crate::answer::{Answer, Row};
 use crate::asking::{When, parts_when};
 use crate::hit::{Hit, count_words, end_of, group_of, hits_at};
 use crate::part::{EvalError, Lists, Part};
+use base_types::{DocId, Time};
 use query_lang::{Pile, Query};
 use std::alloc::{AllocError, Global};
 use std::cmp::Reverse;
-use time_base::{DocId, Time};
 
 /// The row of a document by its hits, where it matches. Costs the query's length, or nothing where
 /// there is no hit.

@@ -5,8 +5,8 @@ ghost use Rattle.query_eval.specs.Hits.{hits_of, found, is_before, is_up_to, is_
 ghost use Rattle.query_eval.specs.declared.hit.Hit.{Hit as HitValue};
 
 use crate::part::Part;
+use base_types::{DocId, Posting, Time};
 use std::alloc::{AllocError, Global};
-use time_base::{DocId, Posting, Time};
 
 /// A word in a document.
 #[derive(Clone, Copy, Debug, PartialEq, Eq)]

@@ -1,12 +1,12 @@
 //! The documents that have a posting in a window of time.
 ghost use Rattle.std.specs.Prelude.{◌≡◌, ◌↔◌, ◌++◌, ◌<◌, Contains, IfOk, OnOk};
-ghost use Rattle.postings.specs.Lists.{EachNext};
+ghost use Rattle.lists_postings.specs.Lists.{EachNext};
 ghost use Rattle.query_eval.specs.Met.{IsMet, all_met, met_in};
-ghost use Rattle.time_base.specs.declared.ids.DocId.{DocId as DocValue};
+ghost use Rattle.base_types.specs.declared.ids.DocId.{DocId as DocValue};
 
 use crate::part::Part;
+use base_types::{DocId, Posting, Span};
 use std::alloc::{AllocError, Global};
-use time_base::{DocId, Posting, Span};
 
 /// Puts the document of each posting behind others that has a time in the span.
 fn note_docs(docs: &mut Vec<DocId>, list: &[Posting], span: Span) -> Result<(), AllocError>

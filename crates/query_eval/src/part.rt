@@ -1,11 +1,11 @@
 //! Parts of lists, and where they come from.
 ghost use Rattle.std.specs.Prelude.{◌≡◌, ◌≤◌, ◌^◌, ℕ, List, Result, true, All, IfOk};
-ghost use Rattle.postings.specs.Lists.{holds, rows_at};
+ghost use Rattle.lists_postings.specs.Lists.{holds, rows_at};
 ghost use Rattle.query_eval.specs.Windows.{IsWindow};
 ghost use Rattle.query_eval.specs.declared.part.EvalError.{EvalError};
 
+use base_types::{Key, Posting, Span, Time};
 use std::alloc::AllocError;
-use time_base::{Key, Posting, Span, Time};
 
 /// The part of a word's list that was asked for.
 #[derive(Debug, Drop)]
@@ -24,7 +24,7 @@ pub struct Part {
 /// say, so that a caller who knows more of a value knows more of its parts.
 pub trait Lists {
     ghost use Rattle.query_eval.specs.declared.part.Part.{Part};
-    ghost use Rattle.time_base.specs.declared.posting.Posting.{Posting};
+    ghost use Rattle.base_types.specs.declared.posting.Posting.{Posting};
 
     /// Why a list was not had.
     type Fault;

@@ -1,12 +1,12 @@
 //! Answers to queries over a window of time.
 ghost use Rattle.std.specs.Prelude.{◌≡◌, ◌⊎◌, ◌+◌, ◌<◌, ◌≤◌, ℕ, Bool, true, false, List, Ok, Some, None, Option, length, drop, slice_index_or, IfOk, OnOk, IsErrOf, MatchOption};
 ghost use Rattle.std.specs.List.Sorted.{IsNonDecreasingBy};
-ghost use Rattle.stretches.specs.Events.{end_of};
-ghost use Rattle.stretches.specs.Kinds.{is_alive};
-ghost use Rattle.stretches.specs.Stretches.{AreStretches};
-ghost use Rattle.stretches.specs.declared.event.Event.{Event as EventValue};
+ghost use Rattle.lists_postings.specs.Events.{end_of};
+ghost use Rattle.lists_postings.specs.Kinds.{is_alive};
+ghost use Rattle.lists_postings.specs.Stretches.{AreStretches};
+ghost use Rattle.lists_postings.specs.declared.event.Event.{Event as EventValue};
 ghost use Rattle.query_lang.specs.Meaning.{matches, words_of};
-ghost use Rattle.time_base.specs.declared.ids.DocId.{DocId as DocValue};
+ghost use Rattle.base_types.specs.declared.ids.DocId.{DocId as DocValue};
 ghost use Rattle.query_eval.specs.Asked.{Asks, AsksFront, AsksToFault, read_of};
 ghost use Rattle.query_eval.specs.Facts.{alive_now, hits_now, score_if, IsScored, TellWords};
 ghost use Rattle.query_eval.specs.Found.{told, HasHit};
@@ -18,10 +18,10 @@ use crate::facts::{Fact, events_of, facts_by_doc, group_of};
 use crate::found::{read_of, row_by};
 use crate::hit::Hit;
 use crate::part::{EvalError, Lists, Part};
+use base_types::{DocId, Span, Time};
+use lists_postings::{Event, Life, Stretch, end_of, note};
 use query_lang::{Pile, Query};
 use std::alloc::{AllocError, Global};
-use stretches::{Event, Life, Stretch, end_of, note};
-use time_base::{DocId, Span, Time};
 
 /// A document that matches a query with one score for some time.
 #[derive(Clone, Copy, Debug, PartialEq, Eq)]

@@ -5,7 +5,7 @@ use Rattle.std.proofs.lemmas.List.Folds.{list_any-append}
 use Rattle.std.proofs.lemmas.List.Sums.{sum_by-cons}
 use Rattle.std.specs.List.{list_any}
 use Rattle.std.specs.Str.{bytes_eq}
-use Rattle.fold_tokens.proofs.CountLemmas.{same, itself, member-with_all}
+use Rattle.text_words.proofs.CountLemmas.{same, itself, member-with_all}
 use Rattle.query_lang.specs.Grammar.{Query, Has, Lacks, Both, Either}
 use Rattle.query_lang.specs.Meaning.{matches, terms_of, keys_of, occurring, words_of, weight, score}
 use Rattle.query_lang.specs.declared.term.Term.{Term}

@@ -8,9 +8,9 @@ use Rattle.std.proofs.lemmas.Bool.Decides.{eqb_tells}
 use Rattle.std.proofs.lemmas.Map.Keys.{apart_from_distinct}
 use Rattle.std.specs.List.{list_any, IsDistinct}
 use Rattle.std.specs.Str.{bytes_eq}
-use Rattle.fold_tokens.specs.Words.{entered, with_all, distinct}
-use Rattle.fold_tokens.proofs.CountLemmas.{same, itself, IsDistinct-distinct}
-use Rattle.fold_tokens.proofs.WordLemmas.{with_all-front}
+use Rattle.text_words.specs.Words.{entered, with_all, distinct}
+use Rattle.text_words.proofs.CountLemmas.{same, itself, IsDistinct-distinct}
+use Rattle.text_words.proofs.WordLemmas.{with_all-front}
 use Rattle.query_lang.specs.declared.op.Op.{Op}
 use Rattle.query_lang.specs.declared.op.Op.TheVariants.{Push, Negate, Conjoin, Disjoin}
 use Rattle.query_lang.specs.declared.op.Spot.{Spot}

@@ -1,7 +1,7 @@
 -- What a query finds in a text, by how often each word occurs there.
 use Rattle.std.specs.Prelude.{ℕ, ◌*◌, max, ◌||◌, ◌&&◌, Bool, true, false, not, nat_lt, if◌then◌else◌, List, [], ◌∷◌, ◌++◌, map, sum_by}
 use Rattle.std.specs.Str.{bytes_eq}
-use Rattle.fold_tokens.specs.Words.{distinct}
+use Rattle.text_words.specs.Words.{distinct}
 use Rattle.query_lang.specs.declared.term.Term.{Term}
 use Rattle.query_lang.specs.Grammar.{Query, Has, Lacks, Both, Either}
 

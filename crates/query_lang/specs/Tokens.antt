@@ -1,7 +1,7 @@
 -- The tokens of a query's text.
 use Rattle.std.specs.Prelude.{ℕ, ◌+◌, ◌-◌, ◌*◌, ◌&&◌, nat_le, Bool, ◌==◌, if◌then◌else◌, List, [], ◌∷◌, ◌++◌, length, map, Option, Some, None, codes}
 use Rattle.std.specs.Str.{bytes_eq, is_utf8}
-use Rattle.fold_tokens.specs.Terms.{one_term}
+use Rattle.text_words.specs.Terms.{one_term}
 use Rattle.query_lang.specs.declared.term.Term.{Term}
 use Rattle.query_lang.specs.declared.token.Token.{Token}
 use Rattle.query_lang.specs.declared.token.Token.TheVariants.{Word, Wordless, And, Or, Not, Open, Close}

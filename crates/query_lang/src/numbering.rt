@@ -1,15 +1,15 @@
 //! The distinct words of operators, and their places among these.
 ghost use Rattle.std.specs.Prelude.{◌≡◌, [], ◌∷◌, ◌<◌, length, All, get_or, IfOk, OnOk};
-ghost use Rattle.fold_tokens.specs.Words.{entered, with_all, distinct};
+ghost use Rattle.text_words.specs.Words.{entered, with_all, distinct};
 ghost use Rattle.query_lang.specs.Meaning.{keys_of};
 ghost use Rattle.query_lang.specs.Numbered.{IsPlaced, named_by, named};
 ghost use Rattle.query_lang.specs.Postfix.{pushed};
 
 use crate::op::{Op, Spot};
 use crate::term::Term;
+use base_types::Key;
 use indexmap::IndexSet;
 use std::alloc::{AllocError, Global};
-use time_base::Key;
 
 /// The place of a word among words, behind which it is put where it is none of them.
 fn place_of(words: &mut IndexSet<Key>, key: &Key) -> Result<usize, AllocError>

@@ -16,10 +16,10 @@ use crate::pile::Pile;
 use crate::reader::laid_of;
 use crate::term::Term;
 use crate::token::tokens_of;
+use base_types::Key;
 use indexmap::IndexSet;
 use std::alloc::{AllocError, Global};
 use std::marker::Model;
-use time_base::Key;
 
 /// The most bytes of a query's text.
 pub const MOST_QUERY_BYTES: usize = 4096;

@@ -1,8 +1,8 @@
 //! Words of queries.
 ghost use Rattle.std.specs.Prelude.{◌≡◌, IfOk};
 
+use base_types::Key;
 use std::alloc::AllocError;
-use time_base::Key;
 
 /// A word of a query, with how much it weighs.
 #[derive(Debug, Drop)]

@@ -3,10 +3,10 @@ ghost use Rattle.std.specs.Prelude.{◌≡◌, ◌+◌, ◌-◌, ◌≤◌, ◌<
 ghost use Rattle.query_lang.specs.Tokens.{role, token_of, closed, tokens_from, tokens, key_of, weight_from, parted, weighted, term_of};
 
 use crate::term::Term;
-use fold_tokens::one_term;
+use base_types::Key;
 use std::alloc::{AllocError, Global};
 use std::str;
-use time_base::Key;
+use text_words::one_term;
 
 /// The most that a word may weigh.
 const MOST_WEIGHT: u32 = 1_000;

@@ -9,35 +9,35 @@ use Rattle.std.proofs.lemmas.List.Elements.{All-nil, All-cons}
 use Rattle.ucd_category.proofs.Computing.{ucd_category}
 use Rattle.unicode_normalization.proofs.Computing.{unicode_normalization}
 use Rattle.caseless.proofs.Computing.{caseless}
-use Rattle.time_base.specs.declared.ids.DocId.{DocId}
-use Rattle.time_base.specs.declared.time.Span.{Span}
-use Rattle.time_base.specs.declared.time.Time.{Time}
-use Rattle.record_codec.specs.declared.entry.Entry.TheVariants as entries
+use Rattle.base_types.specs.declared.ids.DocId.{DocId}
+use Rattle.base_types.specs.declared.time.Span.{Span}
+use Rattle.base_types.specs.declared.time.Time.{Time}
+use Rattle.journal_entries.specs.declared.entry.Entry.TheVariants as entries
 use Rattle.query_lang.specs.Grammar.{Query, Has, Both, Lacks, IsRead}
 use Rattle.query_lang.specs.Machine.{read}
 use Rattle.query_lang.specs.Tokens.{term_of}
 use Rattle.query_lang.proofs.ReadingLaws.{is_read}
-use Rattle.archive_state.specs.declared.refusal.Refusal.TheVariants as refusals
-use Rattle.time_base.specs.declared.posting.Posting.{Posting}
-use Rattle.fold_tokens.specs.Terms.{occurrences}
-use Rattle.version_store.specs.Changes.{valid_at}
-use Rattle.postings.specs.Lists.{frequency}
+use Rattle.model_archive.specs.declared.refusal.Refusal.TheVariants as refusals
+use Rattle.base_types.specs.declared.posting.Posting.{Posting}
+use Rattle.text_words.specs.Terms.{occurrences}
+use Rattle.lists_versions.specs.Changes.{valid_at}
+use Rattle.lists_postings.specs.Lists.{frequency}
 use Rattle.query_eval.specs.Answers.{IsRow}
 use Rattle.query_eval.specs.Spans.{row_kind, scored_at}
 use Rattle.query_eval.specs.declared.answer.Row.{Row}
 use Rattle.query_eval.specs.declared.spans.SpanRow.{SpanRow}
-use Rattle.stretches.proofs.Elements.{here, here-or-later, none}
+use Rattle.lists_postings.proofs.Elements.{here, here-or-later, none}
 use Rattle.query_eval.proofs.Ranks.{same-row}
 use Rattle.query_lang.specs.Meaning.{matches, score}
-use Rattle.stretches.specs.Stretches.{IsLongest}
-use Rattle.archive_state.specs.Histories.{History, text_at}
-use Rattle.archive_state.specs.Answers.{frequency_at, IsAnswerAt, IsSpanAnswerAt, IsWordList}
-use Rattle.commands.specs.declared.command.Command.TheVariants.{Arrive, Between, Find, Show}
-use Rattle.commands.specs.declared.command.Item.TheVariants.{Command}
-use Rattle.commands.specs.declared.text.Text.TheVariants.{Bytes}
-use Rattle.archive_state.specs.Steps.{Accepted, Refused, Found, Spanned, Version, Step}
-use Rattle.archive_state.specs.Replies.{reply_text}
-use Rattle.archive_state.specs.Worlds.{World, world_of}
+use Rattle.lists_postings.specs.Stretches.{IsLongest}
+use Rattle.model_archive.specs.Histories.{History, text_at}
+use Rattle.model_archive.specs.Answers.{frequency_at, IsAnswerAt, IsSpanAnswerAt, IsWordList}
+use Rattle.base_commands.specs.declared.command.Command.TheVariants.{Arrive, Between, Find, Show}
+use Rattle.base_commands.specs.declared.command.Item.TheVariants.{Command}
+use Rattle.base_commands.specs.declared.text.Text.TheVariants.{Bytes}
+use Rattle.model_archive.specs.Steps.{Accepted, Refused, Found, Spanned, Version, Step}
+use Rattle.model_archive.specs.Replies.{reply_text}
+use Rattle.model_archive.specs.Worlds.{World, world_of}
 
 abbrev doc : ℕ → DocId
 doc n = record { 0 = n }

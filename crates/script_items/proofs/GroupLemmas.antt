@@ -1,9 +1,9 @@
 -- What parts make goes on, and in which front of them all items are whole.
 use Rattle.std.specs.Prelude.{◌≡◌, ◌-◌, Bool, true, false, cond, nat_le, List, [], ◌∷◌, ◌++◌, Option, Some, None, refl}
 use Rattle.std.proofs.Common.{sym, ap, subst, ◌∙◌, append_assoc, append-nil}
-use Rattle.commands.specs.declared.command.Item.{Item}
-use Rattle.commands.specs.declared.command.Command.TheVariants as commands
-use Rattle.commands.specs.declared.command.Item.TheVariants as items
+use Rattle.base_commands.specs.declared.command.Item.{Item}
+use Rattle.base_commands.specs.declared.command.Command.TheVariants as commands
+use Rattle.base_commands.specs.declared.command.Item.TheVariants as items
 use Rattle.script_read.specs.declared.part.Part.{Part}
 use Rattle.script_read.specs.declared.part.Part.TheVariants as parts
 use Rattle.script_items.specs.Groups.{Begun, Made, makes, with_item, with_items, member, batch_of}

@@ -1,7 +1,7 @@
 -- Runs of items join.
 use Rattle.std.specs.Prelude.{ℕ, Bool, List, ◌++◌, None}
 use Rattle.std.proofs.Common.{ap, ◌∙◌}
-use Rattle.commands.specs.declared.command.Item.{Item}
+use Rattle.base_commands.specs.declared.command.Item.{Item}
 use Rattle.script_read.specs.Reading.{MayFollow}
 use Rattle.script_read.proofs.Joins as parted
 use Rattle.script_read.proofs.RunLemmas as run

@@ -3,14 +3,14 @@ use Rattle.std.specs.Prelude.{◌≡◌, ℕ, ◌+◌, ◌<◌, ◌≤◌, ◌^�
 use Rattle.std.proofs.Common.{arith, ap, subst, length-append}
 use Rattle.std.proofs.lemmas.Bool.{leb-false}
 use Rattle.std.proofs.lemmas.List.Elements.{All-nil, All-cons, All-append, All-head, All-tail}
-use Rattle.commands.specs.Batches.{item_bytes, texts_bytes}
-use Rattle.commands.specs.Documents.{HasDocument, HaveDocuments, MemberHasDocument}
-use Rattle.commands.specs.declared.batch.BatchItem.{BatchItem}
-use Rattle.commands.specs.declared.batch.BatchItems.TheVariants.{Items as Kept, TooLong}
-use Rattle.commands.specs.declared.command.Command.{Command}
-use Rattle.commands.specs.declared.command.Command.TheVariants as commands
-use Rattle.commands.specs.declared.command.Item.{Item}
-use Rattle.commands.specs.declared.command.Item.TheVariants as items
+use Rattle.base_commands.specs.Batches.{item_bytes, texts_bytes}
+use Rattle.base_commands.specs.Documents.{HasDocument, HaveDocuments, MemberHasDocument}
+use Rattle.base_commands.specs.declared.batch.BatchItem.{BatchItem}
+use Rattle.base_commands.specs.declared.batch.BatchItems.TheVariants.{Items as Kept, TooLong}
+use Rattle.base_commands.specs.declared.command.Command.{Command}
+use Rattle.base_commands.specs.declared.command.Command.TheVariants as commands
+use Rattle.base_commands.specs.declared.command.Item.{Item}
+use Rattle.base_commands.specs.declared.command.Item.TheVariants as items
 use Rattle.script_read.specs.Parts.{IsPartInRange}
 use Rattle.script_read.specs.declared.part.Part.{Part}
 use Rattle.script_read.specs.declared.part.Part.TheVariants as parts

@@ -1,7 +1,7 @@
 -- What a run of calls of a reader gives.
 use Rattle.std.specs.Prelude.{◌≡◌, ℕ, Bool, true, false, List, [], ◌++◌, Option, Some, None, Result, Ok, Err, refl}
 use Rattle.std.proofs.Common.{arith, sym, ◌∙◌, subst, append_assoc, append-nil, length-append}
-use Rattle.commands.specs.declared.command.Item.{Item}
+use Rattle.base_commands.specs.declared.command.Item.{Item}
 use Rattle.script_read.specs.declared.first.First.TheVariants.{Broken, More}
 use Rattle.script_read.specs.declared.error.ScriptError.{ScriptError}
 use Rattle.script_read.specs.declared.error.ScriptError.TheVariants as errors

@@ -1,14 +1,14 @@
 -- The items of a script by its parts: the line of a batch and the next parts, so many, are one item.
 use Rattle.std.specs.Prelude.{◌≡◌, ℕ, nat_lt, nat_le, ◌-◌, if◌then◌else◌, List, [], ◌∷◌, ◌++◌, Option, Some, None}
-use Rattle.commands.specs.Batches.{texts_bytes}
-use Rattle.commands.specs.declared.batch.BatchItem.{BatchItem}
-use Rattle.commands.specs.declared.batch.BatchItem.TheVariants as members
-use Rattle.commands.specs.declared.batch.BatchItems.{BatchItems}
-use Rattle.commands.specs.declared.batch.BatchItems.TheVariants.{Items, TooLong}
-use Rattle.commands.specs.declared.command.Command.{Command}
-use Rattle.commands.specs.declared.command.Command.TheVariants as commands
-use Rattle.commands.specs.declared.command.Item.{Item}
-use Rattle.commands.specs.declared.command.Item.TheVariants as items
+use Rattle.base_commands.specs.Batches.{texts_bytes}
+use Rattle.base_commands.specs.declared.batch.BatchItem.{BatchItem}
+use Rattle.base_commands.specs.declared.batch.BatchItem.TheVariants as members
+use Rattle.base_commands.specs.declared.batch.BatchItems.{BatchItems}
+use Rattle.base_commands.specs.declared.batch.BatchItems.TheVariants.{Items, TooLong}
+use Rattle.base_commands.specs.declared.command.Command.{Command}
+use Rattle.base_commands.specs.declared.command.Command.TheVariants as commands
+use Rattle.base_commands.specs.declared.command.Item.{Item}
+use Rattle.base_commands.specs.declared.command.Item.TheVariants as items
 use Rattle.script_read.specs.declared.part.Part.{Part}
 use Rattle.script_read.specs.declared.part.Part.TheVariants as parts
 

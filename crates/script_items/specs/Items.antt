@@ -1,6 +1,6 @@
 -- The items of a script: those that its parts make. The words are those of the parts (`Rattle.script_read.specs.Items`), one layer up.
 use Rattle.std.specs.Prelude.{◌≡◌, ℕ, ◌+◌, Bool, true, List, [], length, Option, Some, None}
-use Rattle.commands.specs.declared.command.Item.{Item}
+use Rattle.base_commands.specs.declared.command.Item.{Item}
 use Rattle.script_read.specs.declared.part.Part.{Part}
 use Rattle.script_read.specs.declared.first.First.{First}
 use Rattle.script_read.specs.declared.first.First.TheVariants.{Whole, Broken, More, End}

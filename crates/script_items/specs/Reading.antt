@@ -1,7 +1,7 @@
 -- What a reader of items holds, what its answers say, and what a run of calls reads. The words are those of the reader of parts
 -- (`Rattle.script_read.specs.Reading`), one layer up.
 use Rattle.std.specs.Prelude.{◌≡◌, ℕ, ◌+◌, ◌<◌, ◌^◌, Bool, true, false, List, [], ◌∷◌, ◌++◌, length, Option, Some, None, Result, Ok, Err}
-use Rattle.commands.specs.declared.command.Item.{Item}
+use Rattle.base_commands.specs.declared.command.Item.{Item}
 use Rattle.script_read.specs.declared.part.Part.{Part}
 use Rattle.script_read.specs.declared.first.First.TheVariants.{Broken, More, End}
 use Rattle.script_read.specs.declared.error.ScriptError.{ScriptError}

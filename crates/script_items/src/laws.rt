@@ -1,7 +1,7 @@
 //! What holds of items whatever is read.
 ghost use Rattle.std.specs.Prelude.{◌≡◌, ◌++◌, ℕ, Bool, List, Option, All};
-ghost use Rattle.commands.specs.declared.command.Item.{Item};
-ghost use Rattle.commands.specs.Documents.{HasDocument};
+ghost use Rattle.base_commands.specs.declared.command.Item.{Item};
+ghost use Rattle.base_commands.specs.Documents.{HasDocument};
 ghost use Rattle.script_read.specs.declared.part.Part.{Part as PlainPart};
 ghost use Rattle.script_items.specs.Groups.{Begun, makes, with_items};
 ghost use Rattle.script_items.specs.Items.{Items};

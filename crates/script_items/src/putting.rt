@@ -1,12 +1,12 @@
 //! One part more of a script.
 ghost use Rattle.std.specs.Prelude.{◌≡◌, ◌<◌, ◌^◌, Option, Some, None, OnOk};
-ghost use Rattle.commands.specs.Batches.{item_bytes};
+ghost use Rattle.base_commands.specs.Batches.{item_bytes};
 ghost use Rattle.script_items.specs.Groups.{Begun, member};
 ghost use Rattle.script_items.specs.Putting.{Holds, HasRoom, IsPut, IsCounted};
 
 use crate::gathering::Gathering;
 use crate::member::member_of;
-use commands::{Command, Item};
+use base_commands::{Command, Item};
 use script_read::Part;
 use std::alloc::{AllocError, Global};
 

@@ -11,7 +11,7 @@ ghost use Rattle.script_items.specs.Reading.{ReaderState, fresh, taken, StandsFo
 
 use crate::gathering::Gathering;
 use crate::putting::{put, reserve};
-use commands::Item;
+use base_commands::Item;
 use machine_model::Source;
 use script_read::{Part, Reader as PartReader, ScriptError};
 use std::alloc::{AllocError, Global};

@@ -6,8 +6,8 @@ use Rattle.std.proofs.lemmas.List.{take-append-le, drop-append-le}
 use Rattle.std.proofs.Math.Seq.{take-append-add}
 use Rattle.std.proofs.lemmas.List.Folds.{prefix_len-append}
 use Rattle.std.proofs.lemmas.List.Sums.{prefix_len-le-length}
-use Rattle.commands.specs.declared.text.Text.TheVariants.{Bytes, TooLong}
-use Rattle.commands.specs.declared.command.Command.TheVariants.{Arrive}
+use Rattle.base_commands.specs.declared.text.Text.TheVariants.{Bytes, TooLong}
+use Rattle.base_commands.specs.declared.command.Command.TheVariants.{Arrive}
 use Rattle.script_read.specs.declared.part.Part.{Part}
 use Rattle.script_read.specs.Parts.{told}
 use Rattle.script_read.specs.declared.line.Meaning.{Meaning}

@@ -4,13 +4,13 @@ use Rattle.std.specs.List.{position_or_len}
 use Rattle.std.proofs.Common.{◌≤◌, ◌-◌, arith, length-take, ltb-true, subst, sym}
 use Rattle.std.proofs.lemmas.Bool.Decides.{nat_tests}
 use Rattle.std.proofs.lemmas.List.Elements.{All-nil, All-cons}
-use Rattle.time_base.specs.declared.ids.DocId.{DocId}
-use Rattle.time_base.specs.declared.time.Time.{Time}
-use Rattle.commands.specs.declared.command.Command.{Command}
-use Rattle.commands.specs.declared.command.Command.TheVariants.{Arrive, Delete, Plan, Begin, Format, Propose, Find, Between, Show, Certificate, Verify, Top, Best, Approx, Rough, Share}
-use Rattle.commands.specs.declared.command.Item.TheVariants as items
-use Rattle.commands.specs.declared.text.Text.TheVariants.{Bytes, TooLong}
-use Rattle.commands.specs.Batches.{text_bytes}
+use Rattle.base_types.specs.declared.ids.DocId.{DocId}
+use Rattle.base_types.specs.declared.time.Time.{Time}
+use Rattle.base_commands.specs.declared.command.Command.{Command}
+use Rattle.base_commands.specs.declared.command.Command.TheVariants.{Arrive, Delete, Plan, Begin, Format, Propose, Find, Between, Show, Certificate, Verify, Top, Best, Approx, Rough, Share}
+use Rattle.base_commands.specs.declared.command.Item.TheVariants as items
+use Rattle.base_commands.specs.declared.text.Text.TheVariants.{Bytes, TooLong}
+use Rattle.base_commands.specs.Batches.{text_bytes}
 use Rattle.script_read.specs.declared.part.Part.{Part}
 use Rattle.script_read.specs.declared.part.Part.TheVariants as parts
 use Rattle.script_read.specs.declared.passing.Over.{Over}

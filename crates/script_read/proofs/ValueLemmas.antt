@@ -1,18 +1,18 @@
--- Values that constructors of `time_base` and `commands` answer are those of the definitions.
+-- Values that constructors of `base_types` and `base_commands` answer are those of the definitions.
 use Rattle.std.specs.Prelude.{◌≡◌, ℕ, ◌*◌, ◌<◌, ◌≤◌, ◌^◌, ◌↔◌, Bool, true, false, nat_lt, nat_le, Option, Some, None, IsSome, IfSome, refl}
 use Rattle.std.proofs.Common.{ap, sym, ◌∙◌, ltb-true, lt-ltb, le-leb}
 use Rattle.std.proofs.lemmas.Bool.{leb-true}
-use Rattle.time_base.specs.declared.time.Time.{Time}
-use Rattle.time_base.specs.declared.time.Span.{Span}
-use Rattle.time_base.specs.declared.fraction.Fraction.{Fraction}
-use Rattle.time_base.specs.declared.tolerance.Tolerance.{Tolerance}
-use Rattle.time_base.specs.Times.{time_by, time_of}
-use Rattle.time_base.proofs.Equal.{same_span, same_fraction, same_tolerance}
-use Rattle.time_base.proofs.TimeLemmas.{time_of-seconds}
-use Rattle.commands.specs.declared.count.TopCount.{TopCount}
-use Rattle.commands.specs.declared.count.BestCount.{BestCount}
-use Rattle.commands.specs.declared.share.ShareFraction.{ShareFraction}
-use Rattle.commands.proofs.Equal.{same_top, same_best, same_share}
+use Rattle.base_types.specs.declared.time.Time.{Time}
+use Rattle.base_types.specs.declared.time.Span.{Span}
+use Rattle.base_types.specs.declared.fraction.Fraction.{Fraction}
+use Rattle.base_types.specs.declared.tolerance.Tolerance.{Tolerance}
+use Rattle.base_types.specs.Times.{time_by, time_of}
+use Rattle.base_types.proofs.Equal.{same_span, same_fraction, same_tolerance}
+use Rattle.base_types.proofs.TimeLemmas.{time_of-seconds}
+use Rattle.base_commands.specs.declared.count.TopCount.{TopCount}
+use Rattle.base_commands.specs.declared.count.BestCount.{BestCount}
+use Rattle.base_commands.specs.declared.share.ShareFraction.{ShareFraction}
+use Rattle.base_commands.proofs.Equal.{same_top, same_best, same_share}
 use Rattle.script_read.specs.Values.{fraction_by, fraction_of, span_by, span_of, where_so, where_both, tolerance_of, top_count_of, best_count_of, share_fraction_of}
 
 -- what `Time::new` answers is the time of so many seconds

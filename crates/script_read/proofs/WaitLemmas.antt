@@ -2,7 +2,7 @@
 use Rattle.std.specs.Prelude.{◌≡◌, ℕ, ◌+◌, ◌-◌, ◌<◌, ◌≤◌, min, Bool, true, false, nat_lt, if◌then◌else◌, ◌==◌, ◌&&◌, List, [], ◌∷◌, length, take, drop, Some, refl}
 use Rattle.std.specs.List.{position_or_len}
 use Rattle.std.proofs.Common.{arith, sym, ◌∙◌, ltb-true, le-ltb, length-take, length-drop}
-use Rattle.commands.specs.declared.command.Command.TheVariants.{Arrive}
+use Rattle.base_commands.specs.declared.command.Command.TheVariants.{Arrive}
 use Rattle.script_read.specs.declared.part.Part.{Part}
 use Rattle.script_read.specs.Parts.{told}
 use Rattle.script_read.specs.declared.line.Meaning.{Meaning}

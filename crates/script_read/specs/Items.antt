@@ -2,9 +2,9 @@
 -- `first_by` are for any function `say` that gives a line one of them.
 use Rattle.std.specs.Prelude.{◌≡◌, ℕ, ◌+◌, ◌-◌, Bool, true, false, nat_lt, if◌then◌else◌, ◌==◌, ◌&&◌, List, [], ◌∷◌, length, take, drop, slice_index, Option, Some, None, filter_map}
 use Rattle.std.specs.List.{position_or_len}
-use Rattle.commands.specs.declared.text.Text.{Text}
-use Rattle.commands.specs.declared.text.Text.TheVariants.{Bytes, TooLong}
-use Rattle.commands.specs.declared.command.Command.TheVariants.{Arrive}
+use Rattle.base_commands.specs.declared.text.Text.{Text}
+use Rattle.base_commands.specs.declared.text.Text.TheVariants.{Bytes, TooLong}
+use Rattle.base_commands.specs.declared.command.Command.TheVariants.{Arrive}
 use Rattle.script_read.specs.declared.part.Part.{Part}
 use Rattle.script_read.specs.Parts.{told}
 use Rattle.script_read.specs.declared.line.Meaning.{Meaning}

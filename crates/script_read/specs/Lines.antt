@@ -1,12 +1,12 @@
 -- What the lines of a script say.
 use Rattle.std.specs.Prelude.{ℕ, ◌^◌, Bool, true, false, ◌&&◌, ◌||◌, ◌==◌, not, slice_index, if◌then◌else◌, List, Option, Some, None, option_map, codes, bytes_eq}
-use Rattle.time_base.specs.declared.ids.DocId.{DocId}
-use Rattle.time_base.specs.declared.time.Time.{Time}
-use Rattle.time_base.specs.declared.time.Span.{Span}
-use Rattle.commands.specs.declared.command.Command.{Command}
-use Rattle.commands.specs.declared.command.Command.TheVariants.{Delete, Plan, Begin, Format, Propose, Find, Between, Show, Certificate, Verify, Top, Best, Approx, Rough, Share}
-use Rattle.commands.specs.declared.command.Kind.{Kind}
-use Rattle.commands.specs.declared.command.Kind.TheVariants.{Guarantee, Uniform, Since}
+use Rattle.base_types.specs.declared.ids.DocId.{DocId}
+use Rattle.base_types.specs.declared.time.Time.{Time}
+use Rattle.base_types.specs.declared.time.Span.{Span}
+use Rattle.base_commands.specs.declared.command.Command.{Command}
+use Rattle.base_commands.specs.declared.command.Command.TheVariants.{Delete, Plan, Begin, Format, Propose, Find, Between, Show, Certificate, Verify, Top, Best, Approx, Rough, Share}
+use Rattle.base_commands.specs.declared.command.Kind.{Kind}
+use Rattle.base_commands.specs.declared.command.Kind.TheVariants.{Guarantee, Uniform, Since}
 use Rattle.script_read.specs.declared.part.Part.TheVariants as parts
 use Rattle.script_read.specs.Parts.{told, no_command}
 use Rattle.script_read.specs.Words.{word, after_word, is_blank, phrase}

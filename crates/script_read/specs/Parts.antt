@@ -1,11 +1,11 @@
 -- The parts of a script.
 use Rattle.std.specs.Prelude.{◌<◌, ◌≤◌, ◌^◌}
-use Rattle.commands.specs.Batches.{text_bytes}
-use Rattle.commands.specs.Documents.{HasDocument}
-use Rattle.commands.specs.declared.command.Command.{Command}
-use Rattle.commands.specs.declared.command.Command.TheVariants.{Arrive}
-use Rattle.commands.specs.declared.command.Item.{Item}
-use Rattle.commands.specs.declared.command.Item.TheVariants as items
+use Rattle.base_commands.specs.Batches.{text_bytes}
+use Rattle.base_commands.specs.Documents.{HasDocument}
+use Rattle.base_commands.specs.declared.command.Command.{Command}
+use Rattle.base_commands.specs.declared.command.Command.TheVariants.{Arrive}
+use Rattle.base_commands.specs.declared.command.Item.{Item}
+use Rattle.base_commands.specs.declared.command.Item.TheVariants as items
 use Rattle.script_read.specs.declared.part.Part.{Part}
 use Rattle.script_read.specs.declared.part.Part.TheVariants as parts
 

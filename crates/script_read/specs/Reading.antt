@@ -1,8 +1,8 @@
 -- What a reader holds, what its answers say, and what a run of calls reads.
 use Rattle.std.specs.Prelude.{◌≡◌, ℕ, ◌+◌, ◌-◌, ◌*◌, ◌<◌, ◌≤◌, ◌^◌, Bool, true, false, ◌==◌, nat_lt, if◌then◌else◌, List, [], ◌∷◌, ◌++◌, length, take, drop, Option, Some, None, Result, Ok, Err}
 use Rattle.std.specs.List.{position_or_len}
-use Rattle.commands.specs.declared.text.Text.TheVariants.{TooLong}
-use Rattle.commands.specs.declared.command.Command.TheVariants.{Arrive}
+use Rattle.base_commands.specs.declared.text.Text.TheVariants.{TooLong}
+use Rattle.base_commands.specs.declared.command.Command.TheVariants.{Arrive}
 use Rattle.script_read.specs.declared.part.Part.{Part}
 use Rattle.script_read.specs.Parts.{told}
 use Rattle.script_read.specs.declared.line.Meaning.{Meaning}

@@ -4,18 +4,18 @@ use Rattle.std.specs.Str.{is_utf8, chars}
 use lib.Utf8.{encode}
 use Rattle.std.proofs.Common.{ltb-true}
 use Rattle.std.proofs.lemmas.Bool.{leb-true}
-use Rattle.time_base.specs.declared.ids.DocId.{DocId}
-use Rattle.time_base.specs.declared.fraction.Fraction.{Fraction}
-use Rattle.time_base.specs.declared.time.Time.{Time}
-use Rattle.time_base.specs.declared.tolerance.Tolerance.{Tolerance}
-use Rattle.commands.specs.declared.count.BestCount.{BestCount}
-use Rattle.commands.specs.declared.count.TopCount.{TopCount}
-use Rattle.commands.specs.declared.share.ShareFraction.{ShareFraction}
-use Rattle.commands.specs.declared.text.Text.TheVariants.{Bytes}
-use Rattle.commands.specs.declared.command.Command.TheVariants.{Arrive, Find, Verify, Begin, Format, Top, Best, Approx, Rough, Share}
+use Rattle.base_types.specs.declared.ids.DocId.{DocId}
+use Rattle.base_types.specs.declared.fraction.Fraction.{Fraction}
+use Rattle.base_types.specs.declared.time.Time.{Time}
+use Rattle.base_types.specs.declared.tolerance.Tolerance.{Tolerance}
+use Rattle.base_commands.specs.declared.count.BestCount.{BestCount}
+use Rattle.base_commands.specs.declared.count.TopCount.{TopCount}
+use Rattle.base_commands.specs.declared.share.ShareFraction.{ShareFraction}
+use Rattle.base_commands.specs.declared.text.Text.TheVariants.{Bytes}
+use Rattle.base_commands.specs.declared.command.Command.TheVariants.{Arrive, Find, Verify, Begin, Format, Top, Best, Approx, Rough, Share}
 use Rattle.script_read.specs.declared.part.Part.TheVariants as parts
 use Rattle.script_read.specs.Parts.{told, no_command}
-use Rattle.commands.specs.declared.command.Kind.TheVariants.{Guarantee, Uniform, Since}
+use Rattle.base_commands.specs.declared.command.Kind.TheVariants.{Guarantee, Uniform, Since}
 use Rattle.script_read.specs.declared.first.First.TheVariants.{Whole, Broken, More, End}
 use Rattle.script_read.specs.Dates.{date, day_number}
 use Rattle.script_read.specs.Values.{fraction, tolerance, top_count, best_count, share_fraction, texts}

@@ -3,15 +3,15 @@ use Rattle.std.specs.Prelude.{◌≡◌, ℕ, zero, suc, ◌+◌, ◌*◌, ◌^�
 use Rattle.std.specs.Str.{is_utf8}
 use Rattle.std.proofs.Common.{ltb-true}
 use Rattle.std.proofs.lemmas.Bool.{leb-true}
-use Rattle.time_base.specs.declared.ids.DocId.{DocId}
-use Rattle.time_base.specs.declared.time.Time.{Time}
-use Rattle.time_base.specs.declared.time.Span.{Span}
-use Rattle.time_base.specs.declared.fraction.Fraction.{Fraction}
-use Rattle.time_base.specs.declared.tolerance.Tolerance.{Tolerance}
-use Rattle.time_base.specs.Times.{time_of}
-use Rattle.commands.specs.declared.count.TopCount.{TopCount}
-use Rattle.commands.specs.declared.count.BestCount.{BestCount}
-use Rattle.commands.specs.declared.share.ShareFraction.{ShareFraction}
+use Rattle.base_types.specs.declared.ids.DocId.{DocId}
+use Rattle.base_types.specs.declared.time.Time.{Time}
+use Rattle.base_types.specs.declared.time.Span.{Span}
+use Rattle.base_types.specs.declared.fraction.Fraction.{Fraction}
+use Rattle.base_types.specs.declared.tolerance.Tolerance.{Tolerance}
+use Rattle.base_types.specs.Times.{time_of}
+use Rattle.base_commands.specs.declared.count.TopCount.{TopCount}
+use Rattle.base_commands.specs.declared.count.BestCount.{BestCount}
+use Rattle.base_commands.specs.declared.share.ShareFraction.{ShareFraction}
 use Rattle.script_read.specs.Words.{word, after_word, is_blank}
 use Rattle.script_read.specs.Numbers.{number}
 use Rattle.script_read.specs.Dates.{date}

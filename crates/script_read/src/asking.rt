@@ -5,7 +5,7 @@ ghost use Rattle.script_read.specs.Lines.{proposing, finding, spanning, showing,
 use crate::changing::version;
 use crate::values::{fraction, text, time, window};
 use crate::words::{is_blank, is_named, next_word, phrase};
-use commands::Command;
+use base_commands::Command;
 use std::alloc::{AllocError, Global};
 
 fn finding(alloc: Global, words: &[u8]) -> Result<Option<Command>, AllocError>

@@ -4,9 +4,9 @@ ghost use Rattle.script_read.specs.Lines.{version, deletion, weighting, kind, pl
 
 use crate::values::{document, fraction, text, time};
 use crate::words::{is_blank, is_named, next_word};
-use commands::{Command, Kind};
+use base_commands::{Command, Kind};
+use base_types::{DocId, Time};
 use std::alloc::{AllocError, Global};
-use time_base::{DocId, Time};
 
 /// A document and a time, and nothing else.
 pub(crate) fn version(words: &[u8]) -> Option<(DocId, Time)>

@@ -6,9 +6,9 @@ ghost use Rattle.script_read.specs.Items.{without_cr, text_at, short, text_end, 
 
 use crate::line::{Meaning, meaning_of};
 use crate::part::Part;
-use commands::{Command, Content, Item, MOST_TEXT_BYTES, Text};
+use base_commands::{Command, Content, Item, MOST_TEXT_BYTES, Text};
+use base_types::{DocId, Time};
 use std::alloc::{AllocError, Global};
-use time_base::{DocId, Time};
 
 /// The most bytes of a line, without its end.
 pub(crate) const MOST_LINE_BYTES: usize = 4096;

@@ -25,7 +25,7 @@ mod shares;
 mod values;
 mod words;
 
-pub use commands::{Command, Content, Item, Kind, Phrase, Text};
+pub use base_commands::{Command, Content, Item, Kind, Phrase, Text};
 pub use error::ScriptError;
 pub use laws::parts_are_in_range;
 pub use part::Part;

@@ -8,9 +8,9 @@ use crate::part::Part;
 use crate::reporting::report;
 use crate::values::{document, time};
 use crate::words::{is_blank, is_named, next_word, number_below};
-use commands::{Command, Item};
+use base_commands::{Command, Item};
+use base_types::{DocId, Time};
 use std::alloc::{AllocError, Global};
-use time_base::{DocId, Time};
 
 /// What a line says.
 #[derive(Debug, Drop)]

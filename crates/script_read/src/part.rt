@@ -1,5 +1,5 @@
 //! The parts of a script.
-use commands::Item;
+use base_commands::Item;
 
 /// A part of a script: an item, or the line of a batch, to which the next parts belong.
 #[derive(Debug, Drop)]

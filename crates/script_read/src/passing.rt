@@ -6,9 +6,9 @@ ghost use Rattle.script_read.specs.Reading.{AsksFor, IsSmall, IsWithinText, long
 use crate::first::{First, MOST_LINE_BYTES, line_length, short, text_end, without_cr};
 use crate::line::{Meaning, meaning_of};
 use crate::part::Part;
-use commands::{Command, Item, MOST_TEXT_BYTES, Text};
+use base_commands::{Command, Item, MOST_TEXT_BYTES, Text};
+use base_types::{DocId, Time};
 use std::alloc::{AllocError, Global};
-use time_base::{DocId, Time};
 
 /// A text above the limit that is being passed over.
 #[derive(Clone, Copy, Debug)]

@@ -5,7 +5,7 @@ ghost use Rattle.script_read.specs.Lines.{top_rows, best_rows, approximating, ro
 use crate::shares::{share_fraction, share_words};
 use crate::values::{best_count, text, time, tolerance, top_count};
 use crate::words::{is_blank, is_named, next_word, phrase};
-use commands::Command;
+use base_commands::Command;
 use std::alloc::{AllocError, Global};
 
 fn top_rows(alloc: Global, words: &[u8]) -> Result<Option<Command>, AllocError>

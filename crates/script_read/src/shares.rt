@@ -4,9 +4,9 @@ ghost use Rattle.script_read.specs.Values.{share_fraction_of, share_fraction, sh
 
 use crate::values::{fraction, text};
 use crate::words::{is_blank, next_word};
-use commands::{MOST_SHARE_WORDS, ShareFraction, ShareWords};
+use base_commands::{MOST_SHARE_WORDS, ShareFraction, ShareWords};
+use base_types::Fraction;
 use std::alloc::{AllocError, Global};
-use time_base::Fraction;
 
 fn within(fraction: Fraction) -> Option<ShareFraction>
     ensures { result ≡ share_fraction_of fraction }

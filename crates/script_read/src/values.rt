@@ -7,9 +7,9 @@ ghost use Rattle.script_read.specs.Lines.{window};
 
 use crate::dates::date_seconds;
 use crate::words::number_below;
-use commands::{BestCount, Phrase, TopCount};
+use base_commands::{BestCount, Phrase, TopCount};
+use base_types::{DocId, Fraction, NOW, Span, Time, Tolerance};
 use std::alloc::{AllocError, Global};
-use time_base::{DocId, Fraction, NOW, Span, Time, Tolerance};
 
 /// The document that a word names. Costs the word's length.
 pub(crate) fn document(word: &[u8]) -> Option<DocId>

@@ -1,4 +1,4 @@
-//! The tests of the lowest crates: of `time_base`, `commands` and `machine_mem`.
+//! The tests of the lowest crates: of `base_types`, `base_commands` and `machine_mem`.
 //!
 //! They stand apart since a library with tests inside is proved twice, once with them.
 #![tactic(auto)]

@@ -1,5 +1,5 @@
-//! The tests of lists and what they are made of: of `postings`, `coalesce`, `tail_lists`, `word_lists`,
-//! `version_store` and `version_index`.
+//! The tests of lists and what they are made of: of `lists_postings`, `lists_postings`, `lists_tails`, `word_lists`,
+//! `lists_versions` and `lists_index`.
 //!
 //! They stand apart since a library with tests inside is proved twice, once with them.
 #![tactic(auto)]

@@ -1,4 +1,4 @@
-//! The tests of what stands in pages: of `page_store`, `page_cache`, `sublist_codec` and `sublist_store`.
+//! The tests of what stands in pages: of `pages_area`, `pages_area`, `pages_codec` and `pages_sublists`.
 //!
 //! They stand apart since a library with tests inside is proved twice, once with them. What a test wants
 //! is worked out from the formats, by counting pages and bytes.

@@ -1,11 +1,11 @@
 //! Replies as bytes.
 use archive_replies::{ReplyPage, Summary, Tally};
-use archive_state::{Refusal, Verdict};
-use proposals::{Node, Segment};
+use base_types::{DocId, Key, Span, Time, Which};
+use model_archive::{Refusal, Verdict};
+use plans_kinds::{Node, Segment};
 use query_eval::{Row, SpanRow};
 use std::alloc::Global;
 use std::process::Abort;
-use time_base::{DocId, Key, Span, Time, Which};
 
 #[test]
 fn accepted_commands_are_answered_by_the_number_of_entries(rt: HostRuntime) {

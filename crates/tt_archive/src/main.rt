@@ -2,19 +2,19 @@
 //!
 //! It opens `archive.journal` and `archive.pages`, makes a machine of them and of the standard
 //! streams (`machine_files::open_machine`), whose long work is told of on standard error, and calls
-//! `archive_shell::run` on it. What it promises is that call's contract. Here stand only the words,
+//! `run_script::run` on it. What it promises is that call's contract. Here stand only the words,
 //! the status line and the exit status.
 #![tactic(auto)]
 
 ghost use Rattle.std.specs.Prelude.{◌≡◌, Err, IfOk, IfErr};
 ghost use Rattle.std.specs.Process.{exit_status};
-ghost use Rattle.archive_shell.specs.Statuses.{code_of};
+ghost use Rattle.run_script.specs.Statuses.{code_of};
 ghost use Rattle.machine_files.specs.Opening.{open_code};
 
-use archive_shell::{Status, refusal_of, run};
 use machine_files::{
     ArgumentsError, OpenError, OpenLine, Progress, arguments, finish, open_machine,
 };
+use run_script::{Status, refusal_of, run};
 use std::process::ExitCode;
 
 fn main(rt: HostRuntime) -> ExitCode {

@@ -1,19 +1,19 @@
 //! The program `tt_verify`: an audit of the archive in the working folder, by which nothing is written.
 //!
 //! It opens `archive.journal` and `archive.pages` to read them alone, makes a machine of them and of
-//! the standard streams (`machine_files::open_to_read`), and calls `archive_audit::audit` on it. What
+//! the standard streams (`machine_files::open_to_read`), and calls `run_audit::audit` on it. What
 //! it promises is that call's contract. Here stand only the words, the status line and the exit status.
 #![tactic(auto)]
 
 ghost use Rattle.std.specs.Prelude.{◌≡◌, Err, IfOk, IfErr};
 ghost use Rattle.std.specs.Process.{exit_status};
-ghost use Rattle.archive_audit.specs.Statuses.{code_of};
+ghost use Rattle.run_audit.specs.Statuses.{code_of};
 ghost use Rattle.machine_files.specs.Opening.{open_code};
 
-use archive_audit::{AuditStatus, are_refused, audit};
 use machine_files::{
     ArgumentsError, OpenError, OpenLine, Progress, arguments, finish, open_to_read,
 };
+use run_audit::{AuditStatus, are_refused, audit};
 use std::process::ExitCode;
 
 fn main(rt: HostRuntime) -> ExitCode {

@@ -5,12 +5,12 @@ use Rattle.std.specs.Ordering.{nat_cmp, is_lt}
 use Rattle.std.proofs.Common.{arith, sym, ◌∙◌}
 use Rattle.std.proofs.lemmas.Bool.Decides.{nat_tests}
 use Rattle.std.proofs.lemmas.List.Elements.{filter_agree, All-nil, All-cons, Contains-append_right}
-use Rattle.time_base.specs.declared.ids.DocId.{DocId}
-use Rattle.time_base.specs.declared.time.Time.{Time}
-use Rattle.version_store.specs.declared.change.Change.{Change}
-use Rattle.version_store.specs.Changes.{changes_of}
-use Rattle.postings.specs.Lists.{EachNext}
-use Rattle.postings.proofs.Order.{next-later, next-tail}
+use Rattle.base_types.specs.declared.ids.DocId.{DocId}
+use Rattle.base_types.specs.declared.time.Time.{Time}
+use Rattle.lists_versions.specs.declared.change.Change.{Change}
+use Rattle.lists_versions.specs.Changes.{changes_of}
+use Rattle.lists_postings.specs.Lists.{EachNext}
+use Rattle.lists_postings.proofs.Order.{next-later, next-tail}
 
 -- two numbers of which neither is less
 tie : (m n : ℕ) → (not (is_lt (nat_cmp m n)) && not (is_lt (nat_cmp n m))) ≡ (n == m)

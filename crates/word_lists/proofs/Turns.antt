@@ -7,12 +7,12 @@ use Rattle.std.proofs.lemmas.Bool.Decides.{eqb_tells}
 use Rattle.std.proofs.lemmas.List.{take_more, take-append-drop, get_or-take, length-take}
 use Rattle.std.proofs.lemmas.List.Elements.{filter-append, All-append, All-nil, All-cons, All-pop, All-weaker, All-from_get_or}
 use Rattle.std.proofs.Math.Seq.{drop-cons}
-use Rattle.time_base.specs.declared.posting.Posting.{Posting}
-use Rattle.version_store.specs.declared.change.Change.{Change}
-use Rattle.version_store.specs.Changes.{changes_of}
-use Rattle.version_store.specs.Laws.{HeldAsChangesCome}
-use Rattle.postings.specs.ListsOf.{IsListOf}
-use Rattle.tail_lists.specs.Turns.{IsTurned, turned_one}
+use Rattle.base_types.specs.declared.posting.Posting.{Posting}
+use Rattle.lists_versions.specs.declared.change.Change.{Change}
+use Rattle.lists_versions.specs.Changes.{changes_of}
+use Rattle.lists_versions.specs.Laws.{HeldAsChangesCome}
+use Rattle.lists_postings.specs.ListsOf.{IsListOf}
+use Rattle.lists_tails.specs.Turns.{IsTurned, turned_one}
 use Rattle.word_lists.specs.Frequencies.{frequency_by, RiseByDocument}
 use Rattle.word_lists.specs.Steps.{frequency_before}
 use Rattle.word_lists.proofs.Sorted.{rise-front}

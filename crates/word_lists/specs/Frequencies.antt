@@ -1,9 +1,9 @@
 -- How often documents have a word, by the changes that say so.
 use Rattle.std.specs.Prelude.{ℕ, ◌<◌, List, unwrap_or}
-use Rattle.time_base.specs.declared.ids.DocId.{DocId}
-use Rattle.version_store.specs.declared.change.Change.{Change}
-use Rattle.version_store.specs.Changes.{changes_of, held_at}
-use Rattle.postings.specs.Lists.{EachNext}
+use Rattle.base_types.specs.declared.ids.DocId.{DocId}
+use Rattle.lists_versions.specs.declared.change.Change.{Change}
+use Rattle.lists_versions.specs.Changes.{changes_of, held_at}
+use Rattle.lists_postings.specs.Lists.{EachNext}
 
 -- how often a document has the word at a time, where each change holds that of its version; 0 where the document isn't alive then
 abbrev pub frequency_by : List (Change ℕ) → ℕ → ℕ → ℕ

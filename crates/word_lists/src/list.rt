@@ -1,17 +1,17 @@
 //! The list of a word from changes.
 ghost use Rattle.std.specs.Prelude.{◌≡◌, ◌^◌, ◌<◌, ◌≤◌, ◌+◌, length, IfOk, OnOk, unwrap_or};
 ghost use Rattle.std.specs.List.Sorted.{IsNonDecreasingBy};
-ghost use Rattle.time_base.specs.declared.ids.DocId.{DocId as Document};
-ghost use Rattle.version_store.specs.Changes.{changes_of};
-ghost use Rattle.postings.specs.ListsOf.{IsListOf};
-ghost use Rattle.tail_lists.specs.Turns.{IsTurned};
+ghost use Rattle.base_types.specs.declared.ids.DocId.{DocId as Document};
+ghost use Rattle.lists_versions.specs.Changes.{changes_of};
+ghost use Rattle.lists_postings.specs.ListsOf.{IsListOf};
+ghost use Rattle.lists_tails.specs.Turns.{IsTurned};
 ghost use Rattle.word_lists.specs.Frequencies.{frequency_by, RiseByDocument};
 ghost use Rattle.word_lists.specs.Steps.{frequency_before};
 
+use base_types::{DocId, Posting};
+use lists_tails::Tail;
+use lists_versions::{Change, held_as_changes_come};
 use std::alloc::{AllocError, Global};
-use tail_lists::Tail;
-use time_base::{DocId, Posting};
-use version_store::{Change, held_as_changes_come};
 
 /// The word's list from how often each version has it; a tombstone holds nothing. The changes are
 /// those of all documents, in which each document's come in the order of time. It has at most a

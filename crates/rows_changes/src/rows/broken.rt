@@ -1,8 +1,8 @@
 //! Scripts that are broken: the place, and what was carried out before it.
-use archive_rig::{
+use rows_rig::{
     FIRST_JOURNAL, FIRST_SCRIPT, NEW_JOURNAL, join, make_machine, read_journal, run_on,
 };
-use archive_shell::Status;
+use run_script::Status;
 use std::alloc::Global;
 use std::process::Abort;
 

@@ -1,7 +1,7 @@
 //! Deletions, by the calls of an archive in hand.
-use archive_rig::{expect_changes, made, read_journal, refused, three_changes};
-use archive_state::Refusal;
-use time_base::Time;
+use base_types::Time;
+use model_archive::Refusal;
+use rows_rig::{expect_changes, made, read_journal, refused, three_changes};
 
 #[test]
 fn a_deleted_document_may_come_again(rt: HostRuntime) {

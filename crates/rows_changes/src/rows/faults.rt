@@ -1,7 +1,7 @@
 //! Each device call of a run failing once, in turn.
-use archive_rig::{FIRST_JOURNAL, expect_shown, make_machine, run_on};
-use archive_shell::Status;
 use machine_mem::{CallKind, Fault};
+use rows_rig::{FIRST_JOURNAL, expect_shown, make_machine, run_on};
+use run_script::Status;
 use std::alloc::Global;
 use std::process::Abort;
 

@@ -1,6 +1,6 @@
 //! Journals that are no archive's, and journals that are new whatever their bytes are.
-use archive_rig::{FIRST_JOURNAL, NEW_JOURNAL, count_on, join, make_machine, read_journal, run_on};
-use archive_shell::Status;
+use rows_rig::{FIRST_JOURNAL, NEW_JOURNAL, count_on, join, make_machine, read_journal, run_on};
+use run_script::Status;
 use std::alloc::Global;
 use std::process::Abort;
 

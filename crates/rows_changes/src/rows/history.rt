@@ -1,10 +1,10 @@
 //! What a stop may leave of changes made by the calls of an archive in hand.
-use archive_rig::{
+use machine_mem::{Fill, MemMachine, Tail};
+use model_archive::Refusal;
+use rows_rig::{
     expect_change, expect_changes, expect_entries, load_image, made, pick_image, refused,
     three_changes,
 };
-use archive_state::Refusal;
-use machine_mem::{Fill, MemMachine, Tail};
 use std::alloc::Global;
 use std::process::Abort;
 

@@ -1,5 +1,5 @@
 //! Lines of the input: what is skipped, what is no command, dates, and texts of any bytes.
-use archive_rig::{FIRST_SCRIPT, Row, expect_rows, join};
+use rows_rig::{FIRST_SCRIPT, Row, expect_rows, join};
 
 #[test]
 fn a_line_that_is_no_command_is_refused_and_the_run_goes_on(rt: HostRuntime) {

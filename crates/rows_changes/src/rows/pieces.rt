@@ -1,10 +1,10 @@
 //! The input in pieces of any size: the same replies, the same status and the same journal.
-use archive_rig::{
+use machine_mem::{CallKind, Fault};
+use rows_rig::{
     FIRST_SCRIPT, MIXED_JOURNAL, MIXED_REPLIES, MIXED_SCRIPT, join, make_machine, read_journal,
     run_on,
 };
-use archive_shell::Status;
-use machine_mem::{CallKind, Fault};
+use run_script::Status;
 use std::alloc::Global;
 use std::process::Abort;
 

@@ -1,12 +1,12 @@
 //! What a stop may leave of a run that stores plans: after each device call, and within the load that
 //! follows.
-use archive_rig::{
+use machine_mem::{MemMachine, Tail};
+use machine_model::Image;
+use rows_rig::{
     EXTRAS, FILLS, FOUR_CHANGES, Row, disk_after, expect_entries, load_image, machine_after,
     machine_on, new_disk, pick_image, run_on, whole_images,
 };
-use archive_shell::Status;
-use machine_mem::{MemMachine, Tail};
-use machine_model::Image;
+use run_script::Status;
 use std::alloc::Global;
 use std::process::Abort;
 

@@ -1,9 +1,9 @@
 //! Scripts with their replies, their statuses and the journals that they leave.
-use archive_rig::{
+use machine_model::Area;
+use rows_rig::{
     FIRST_JOURNAL, FIRST_SCRIPT, NEW_JOURNAL, count_on, make_machine, read_journal, run_on,
 };
-use archive_shell::{Status, run};
-use machine_model::Area;
+use run_script::{Status, run};
 use std::alloc::Global;
 use std::process::Abort;
 

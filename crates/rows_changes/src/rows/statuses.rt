@@ -1,6 +1,6 @@
 //! The program's exit statuses and the lines that it prints of them.
-use archive_shell::Status;
-use sublist_store::{Damage, Why};
+use pages_sublists::{Damage, Why};
+use run_script::Status;
 
 #[test]
 fn each_status_has_its_code_and_its_line(rt: HostRuntime) {

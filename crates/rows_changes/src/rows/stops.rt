@@ -1,10 +1,10 @@
 //! What a stop may leave: after each device call of a run, and where a call of it fails.
-use archive_rig::{
+use machine_mem::{CallKind, Fault, Fill, MemMachine, Picked, Tail};
+use rows_rig::{
     EXTRAS, FILLS, FIRST_SCRIPT, MIXED_ENDS, MIXED_JOURNAL, MIXED_REPLIES, MIXED_SCRIPT,
     expect_entries, expect_shown, load_image, make_machine, pick_entries, pick_image, run_on,
 };
-use archive_shell::Status;
-use machine_mem::{CallKind, Fault, Fill, MemMachine, Picked, Tail};
+use run_script::Status;
 use std::alloc::Global;
 use std::process::Abort;
 

@@ -1,13 +1,13 @@
 //! Audits, which read alone: what they tell of a disk, and that they leave it as it is.
 use crate::rows::disks::{expect_told, put_byte};
 use crate::rows::journals::two_words_journal;
-use archive_audit::{AuditStatus, audit};
-use archive_rig::{
+use machine_mem::{CallKind, Fault};
+use machine_model::{Area, Image};
+use rows_rig::{
     FIRST_LIFE, Plan, UNIFORM, copy_image, disk_with, first_disk, first_segments, machine_on,
     new_disk, pages_of, plan_of_v, read_image, segment_at,
 };
-use machine_mem::{CallKind, Fault};
-use machine_model::{Area, Image};
+use run_audit::{AuditStatus, audit};
 use std::alloc::Global;
 use std::process::Abort;
 

@@ -1,10 +1,10 @@
 //! Sublists with bytes that changed: the first is told, with what was found there and what is wanted.
 use crate::rows::disks::{expect_told, put_byte};
-use archive_rig::{
+use rows_rig::{
     CLIPPED_LIVES, LIFE_OF_1, LIVES_OF_1_AND_2, Row, Sublist, copy_image, disk_after, disk_with,
     expect_on, first_disk, first_segments, machine_on, plan_of_v, run_on, segment_at,
 };
-use archive_shell::Status;
+use run_script::Status;
 
 /// Document 1 has the word twice in [10, 40): the bytes of once, with 02 as bytes 6 and 15.
 const TWICE: Sublist<'static> = Sublist {

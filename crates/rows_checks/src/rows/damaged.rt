@@ -1,14 +1,14 @@
 //! Sublists that aren't what the entries of their plans say, and the run's end where one is read.
-use archive_rig::{
+use machine_model::Image;
+use pages_sublists::{Damage, Why};
+use rows_rig::{
     CLIPPED_LIVES, FIRST_CERTIFICATE, FIRST_LIFE, GAP_RECORDS, LIFE_OF_1, LIFE_OF_3, NOTHING, Row,
     Sublist, copy_image, disk_after, disk_with, expect_on, first_disk, first_segments, journal_of,
     machine_on, pages_of, plan_of_v, plan_record, read_image, run_on, segment_at,
 };
-use archive_shell::Status;
-use machine_model::Image;
+use run_script::Status;
 use std::alloc::Global;
 use std::process::Abort;
-use sublist_store::{Damage, Why};
 
 /// What the first sublist has when its byte 3 is 01.
 const DIGEST_OF_CHANGED: &[u8] = b"\x85\xb1\x24\x22\x89\x5c\x18\x80\xce\x78\x26\x98\xd4\xbd\x51\x6a\

@@ -1,6 +1,6 @@
 //! What a check tells of a disk, and bytes put in its Pages.
-use archive_rig::{Row, expect_on};
 use machine_model::Image;
+use rows_rig::{Row, expect_on};
 use std::alloc::Global;
 use std::process::Abort;
 

@@ -1,7 +1,7 @@
 //! Reads that fail while an archive is checked.
-use archive_rig::{copy_image, first_disk, machine_on, read_image, run_on};
-use archive_shell::Status;
 use machine_mem::{CallKind, Fault};
+use rows_rig::{copy_image, first_disk, machine_on, read_image, run_on};
+use run_script::Status;
 
 // Each read of the load and of the check in turn: nothing is told then, and the disk is as it was.
 #[test]

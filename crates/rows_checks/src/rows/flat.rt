@@ -1,6 +1,6 @@
 //! Flat sublists are checked too, by the 24 bytes of each posting.
 use crate::rows::disks::{expect_told, put_byte};
-use archive_rig::flat_disk;
+use rows_rig::flat_disk;
 
 #[test]
 fn flat_sublists_are_checked_by_their_layout(rt: HostRuntime) {

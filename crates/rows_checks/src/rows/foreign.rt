@@ -1,12 +1,12 @@
 //! Disks that are no archive's for their plans, and the place where that shows.
 use crate::rows::journals::{HEADER, two_words_journal};
-use archive_rig::{
+use machine_model::Image;
+use rows_rig::{
     CLIPPED_LIFE_OF_1, CLIPPED_LIVES, FIRST_LIFE, FOUR_END, FOUR_RECORDS, LIFE_OF_1,
     LIVES_OF_1_AND_2, Plan, Row, copy_image, expect_on, expect_status, first_disk, first_segments,
     journal_of, pages_of, plan_of_v, plan_record, segment_at,
 };
-use archive_shell::Status;
-use machine_model::Image;
+use run_script::Status;
 use std::alloc::{AllocError, Global};
 
 // The sublists lie in pages 0, 1 and 2, and the last has 18 bytes.

@@ -1,5 +1,5 @@
 //! Journals with plans of one word or two, as the formats spell them.
-use archive_rig::{FIRST_LIFE, Plan, plan_of_v, plan_record, segment_at};
+use rows_rig::{FIRST_LIFE, Plan, plan_of_v, plan_record, segment_at};
 use std::alloc::{AllocError, Global};
 
 /// The journal's header.

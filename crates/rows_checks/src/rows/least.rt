@@ -1,6 +1,6 @@
 //! Plans that take more space than they have to.
 use crate::rows::disks::{expect_told, put_byte};
-use archive_rig::{
+use rows_rig::{
     LIFE_OF_1, LIVES_OF_1_AND_2, Plan, Row, UNIFORM, disk_with, expect_on, first_segments,
     plan_of_v, segment_at,
 };

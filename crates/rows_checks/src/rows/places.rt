@@ -1,6 +1,6 @@
 //! What plans leave in the journal and in Pages.
 use crate::rows::journals::{FOURTH_ARRIVES, THIRD_ARRIVES, THIRD_ENDS, two_words_journal};
-use archive_rig::{
+use rows_rig::{
     FIRST_LIFE, FIRST_PLAN, FOUR_CHANGES, FOUR_RECORDS, GAP_CHANGES, GAP_RECORDS, LIFE_OF_1,
     LIFE_OF_3, LIVES_OF_1_AND_2, NOTHING, Plan, Row, Segment, disk_after, expect_entry,
     expect_held, expect_left, first_disk, first_segments, gap_segments, new_disk, plan_of_v,

@@ -1,6 +1,6 @@
 //! A page with forty versions and two hundred notes, as a collection may have them: plans of twelve words,
 //! questions by them, and the check.
-use archive_rig::{Row, disk_after, new_disk};
+use rows_rig::{Row, disk_after, new_disk};
 use std::alloc::{AllocError, Global};
 use std::process::Abort;
 

@@ -1,7 +1,7 @@
 //! Samples that are made by `--generate SEED --count COUNT`, and words that ask for nothing.
-use archive_rig::{FOUR_CHANGES, disk_after_all, machine_on, new_disk, read_image, run_with};
-use archive_shell::Status;
 use machine_model::Image;
+use rows_rig::{FOUR_CHANGES, disk_after_all, machine_on, new_disk, read_image, run_with};
+use run_script::Status;
 use std::alloc::Global;
 use std::process::Abort;
 

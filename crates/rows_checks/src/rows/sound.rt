@@ -1,6 +1,6 @@
 //! Archives whose plans are as they should be.
 use crate::rows::disks::expect_told;
-use archive_rig::{
+use rows_rig::{
     FIRST_CERTIFICATE, FIRST_PLAN, FOUR_CHANGES, Row, disk_after_all, expect_on, first_disk, join,
     new_disk,
 };

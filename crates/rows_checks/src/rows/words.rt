@@ -1,6 +1,6 @@
 //! Archives with plans of several words: words come in the order in which the texts have them first.
 use crate::rows::disks::{expect_told, put_byte};
-use archive_rig::{Row, disk_after, new_disk};
+use rows_rig::{Row, disk_after, new_disk};
 
 // The texts have `b` first. Its sublist, of the later plan, begins in page 1.
 #[test]

@@ -1,6 +1,6 @@
 //! An archive with a plan whose sublists are flat, 24 bytes a posting: it is read, and new plans are in
 //! blocks. A program that knows the formats alone made its files.
-use archive_rig::{
+use rows_rig::{
     FIRST_CERTIFICATE, FLAT, FOUR_RECORDS, LIFE_OF_1, LIVES_OF_1_AND_2, Plan, Row, disk_after,
     expect_held, expect_on, flat_disk, flat_segments, journal_of, plan_of_v, plan_record,
     segment_at,

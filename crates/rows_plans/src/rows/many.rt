@@ -1,8 +1,8 @@
 //! Plans of thousands of segments.
-use archive_rig::{
+use machine_model::Image;
+use rows_rig::{
     Row, Sublist, disk_after, expect_held, expect_on, many_lives, new_disk, segment_at,
 };
-use machine_model::Image;
 use std::alloc::Global;
 use std::process::Abort;
 

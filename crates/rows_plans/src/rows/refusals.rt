@@ -1,6 +1,6 @@
 //! What can't be planned or certified, and why.
-use archive_rig::{FIRST_JOURNAL, Row, disk_after, expect_on, first_disk, new_disk};
 use machine_model::Image;
+use rows_rig::{FIRST_JOURNAL, Row, disk_after, expect_on, first_disk, new_disk};
 
 // The word of the one text arrived at the last time.
 #[test]

@@ -1,5 +1,5 @@
 //! What is answered: plans, their certificates, and questions of planned words.
-use archive_rig::{
+use rows_rig::{
     FIRST_CERTIFICATE, FIRST_PLAN, FOUR_CHANGES, Row, disk_after_all, expect_on, first_disk,
     new_disk,
 };

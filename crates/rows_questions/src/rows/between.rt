@@ -1,5 +1,5 @@
 //! What is found over a window of time.
-use archive_rig::{Row, expect_rows};
+use rows_rig::{Row, expect_rows};
 
 #[test]
 fn what_is_found_over_a_window_is_its_longest_spans_there(rt: HostRuntime) {

@@ -1,5 +1,5 @@
 //! What is found as of a time.
-use archive_rig::{FIRST_JOURNAL, Row, expect_changes, expect_rows, join, made, read_journal};
+use rows_rig::{FIRST_JOURNAL, Row, expect_changes, expect_rows, join, made, read_journal};
 use std::alloc::Global;
 use std::process::Abort;
 

@@ -1,8 +1,8 @@
 //! What is proposed for a word.
 ghost use Rattle.std.specs.Prelude.{◌≤◌, ◌^◌};
 
-use archive_rig::{Row, expect_rows};
 use itoa::Buffer;
+use rows_rig::{Row, expect_rows};
 use std::alloc::Global;
 use std::process::Abort;
 

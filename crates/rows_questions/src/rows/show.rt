@@ -1,6 +1,6 @@
 //! Texts that are shown, and what a question leaves.
-use archive_rig::{FIRST_JOURNAL, Row, expect_rows, make_machine, read_journal, run_on};
-use archive_shell::Status;
+use rows_rig::{FIRST_JOURNAL, Row, expect_rows, make_machine, read_journal, run_on};
+use run_script::Status;
 
 #[test]
 fn a_deleted_document_has_no_text_and_no_words(rt: HostRuntime) {

@@ -1,7 +1,7 @@
 //! What a script may ask for.
-use commands::{Command, Content, Item, Phrase, Text};
+use base_commands::{Command, Content, Item, Phrase, Text};
+use base_types::{DocId, Time};
 use std::test::Fail;
-use time_base::{DocId, Time};
 
 #[test]
 fn a_phrase_is_utf8_of_at_most_4096_bytes(rt: HostRuntime) -> Result<(), Fail> {

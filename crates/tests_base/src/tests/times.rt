@@ -1,7 +1,7 @@
 //! Times, spans, fractions, keys and extents.
+use base_types::{DocId, Extent, Fraction, Key, Posting, Span, Time, WordId};
 use std::collections::HashMap;
 use std::test::Fail;
-use time_base::{DocId, Extent, Fraction, Key, Posting, Span, Time, WordId};
 
 #[test]
 fn constructors_give_none_from_their_limits_on(rt: HostRuntime) {

@@ -1,11 +1,11 @@
 //! The list of a word, from the changes of documents.
 ghost use Rattle.std.specs.Prelude.{◌≡◌, ◌<◌, ◌^◌};
-ghost use Rattle.postings.specs.Lists.{EachNext};
+ghost use Rattle.lists_postings.specs.Lists.{EachNext};
 
 use crate::tests::given::posting;
+use base_types::{DocId, NOW, Posting, Time};
+use lists_versions::Change;
 use std::alloc::{AllocError, Global};
-use time_base::{DocId, NOW, Posting, Time};
-use version_store::Change;
 use word_lists::list_of;
 
 /// A change at so many seconds, to a text that has the word so often, or a deletion.

@@ -1,7 +1,7 @@
 //! Postings for the tests.
 ghost use Rattle.std.specs.Prelude.{◌<◌, ◌≤◌, ◌^◌};
 
-use time_base::{DocId, Posting, Span};
+use base_types::{DocId, Posting, Span};
 
 /// A posting of a document.
 pub(crate) fn posting(doc: u32, from: u64, to: u64, tf: u32) -> Posting

@@ -1,18 +1,18 @@
 //! The index of all versions, kept up by changes or made at once.
 ghost use Rattle.std.specs.Prelude.{◌≡◌, ◌+◌, ◌<◌, ◌^◌, ◌*◌, ◌↔◌, ℕ, List, [], ◌∷◌, ◌++◌, length, option_map, IfSome, IsTrue};
-ghost use Rattle.version_store.specs.declared.change.Change.{Change};
-ghost use Rattle.version_index.specs.Indexing.{ComesLater};
-ghost use Rattle.version_index.specs.Loads.{Loads};
+ghost use Rattle.lists_versions.specs.declared.change.Change.{Change};
+ghost use Rattle.lists_index.specs.Indexing.{ComesLater};
+ghost use Rattle.lists_index.specs.Loads.{Loads};
 
 mod trims;
 
 use crate::tests::given::posting;
-use fold_tokens::NumberError;
+use base_types::{DocId, Key, NOW, Posting, Span, Time};
+use lists_index::{Index, Loader};
 use std::alloc::{AllocError, Global};
 use std::process::Abort;
 use std::str;
-use time_base::{DocId, Key, NOW, Posting, Span, Time};
-use version_index::{Index, Loader};
+use text_words::NumberError;
 
 /// Whether a text is short enough to be measured.
 fn is_short(text: Option<&str>) -> bool

@@ -1,11 +1,10 @@
 //! The shortest list of the same rows.
 ghost use Rattle.std.specs.Prelude.{IfSome};
-ghost use Rattle.postings.specs.Lists.{IsList};
+ghost use Rattle.lists_postings.specs.Lists.{IsList};
 
-use coalesce::coalesce;
-use postings::merge_distinct;
+use base_types::{DocId, NOW, Posting, Span};
+use lists_postings::{coalesce, merge_distinct};
 use std::alloc::Global;
-use time_base::{DocId, NOW, Posting, Span};
 
 /// The list of one document's postings by start, end and frequency.
 fn listed(alloc: Global, parts: &[(u64, u64, u32)]) -> Option<Vec<Posting>>

@@ -1,6 +1,6 @@
 //! What a list shows at a time and over a span, and lists that are merged.
-use postings::{MergeError, as_of, clip, merge_distinct, overlap};
-use time_base::{DocId, NOW, Posting, Span, Time};
+use base_types::{DocId, NOW, Posting, Span, Time};
+use lists_postings::{MergeError, as_of, clip, merge_distinct, overlap};
 
 fn posting(doc: u32, from: u64, to: u64) -> Option<Posting> {
     let span = Span::new(from, to)?;

@@ -1,11 +1,11 @@
 //! Lists that are kept up while documents change, and trimmed.
 ghost use Rattle.std.specs.Prelude.{IfOk};
-ghost use Rattle.tail_lists.specs.Weights.{AreWeights};
+ghost use Rattle.lists_tails.specs.Weights.{AreWeights};
 
+use base_types::{DocId, NOW, Posting, Span, Time, WordId};
+use lists_tails::{Tail, Tails, Turn, Weight};
 use std::alloc::{AllocError, Global};
 use std::process::Abort;
-use tail_lists::{Tail, Tails, Turn, Weight};
-use time_base::{DocId, NOW, Posting, Span, Time, WordId};
 
 /// The posting of that document, start, end and frequency.
 fn posting(doc: u32, from: u64, to: u64, tf: u32) -> Option<Posting> {

@@ -1,8 +1,8 @@
 //! Which version is valid at a time, and what may come next.
+use base_types::{DocId, NOW, Span, TextPlace, Time};
+use lists_versions::{Directory, VersionRefusal};
 use std::alloc::AllocError;
 use std::process::Abort;
-use time_base::{DocId, NOW, Span, TextPlace, Time};
-use version_store::{Directory, VersionRefusal};
 
 fn time(rt: &impl Abort, seconds: u64) -> Time {
     Time::new(seconds).expect(rt, "a time")

@@ -1,8 +1,8 @@
 //! Pages that are taken and given back, and extents that cannot be live.
-use page_store::{LiveError, Pages, TakeError};
+use base_types::Extent;
+use pages_area::{LiveError, Pages, TakeError};
 use std::alloc::{AllocError, Global};
 use std::test::Fail;
-use time_base::Extent;
 
 /// The first pages that takes give, with one extent given back in between.
 fn firsts(alloc: Global) -> Result<[u32; 5], TakeError> {

@@ -1,12 +1,12 @@
 //! What is read through the cache, and which pages it keeps.
 ghost use Rattle.std.specs.Prelude.{length};
 
+use base_types::Extent;
 use machine_mem::{CallKind, Fault, MemMachine};
 use machine_model::{Area, Disk, Image};
-use page_cache::{PageCache, PageError};
+use pages_area::{PageCache, PageError};
 use std::alloc::{AllocError, Global};
 use std::process::Abort;
-use time_base::Extent;
 
 /// A machine without input, with these bytes in Pages.
 fn machine_with(rt: &impl Abort, alloc: Global, pages: Vec<u8>, faults: &[Fault]) -> MemMachine {

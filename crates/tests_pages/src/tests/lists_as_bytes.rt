@@ -1,10 +1,10 @@
 //! Lists as bytes in both layouts, and bytes that spell no list.
-ghost use Rattle.postings.specs.Lists.{IsList};
+ghost use Rattle.lists_postings.specs.Lists.{IsList};
 
+use base_types::Posting;
+use pages_codec::{Frames, ListError, decode_blocks, decode_list, encode_blocks, encode_list};
 use std::alloc::Global;
 use std::process::Abort;
-use sublist_codec::{Frames, ListError, decode_blocks, decode_list, encode_blocks, encode_list};
-use time_base::Posting;
 
 /// The place that a reading names.
 fn place(read: Result<Vec<Posting>, ListError>) -> Option<u64> {

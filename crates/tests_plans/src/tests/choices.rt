@@ -1,10 +1,10 @@
 //! Plans that were worked out by hand.
 use super::given::posting;
-use commands::Kind;
-use plan_choice::{Choice, ChoiceError, choose};
+use base_commands::Kind;
+use base_types::{Fraction, Posting, Time};
+use plans_choice::{Choice, ChoiceError, choose};
 use std::alloc::Global;
 use std::process::Abort;
-use time_base::{Fraction, Posting, Time};
 
 /// The kind that asks for each second from this one on.
 fn since(rt: &impl Abort, at: u64) -> Kind {

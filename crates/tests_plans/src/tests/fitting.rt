@@ -1,10 +1,10 @@
 //! Plans that are fit and plans that aren't, worked out by hand.
 use super::given::posting;
-use commands::Kind;
+use base_commands::Kind;
+use base_types::{Fraction, Posting, Time};
+use plans_kinds::{is_fit, partition_of};
 use std::alloc::Global;
 use std::process::Abort;
-use stored_plans::{is_fit, partition_of};
-use time_base::{Fraction, Posting, Time};
 
 /// The times of so many seconds.
 fn times(rt: &impl Abort, alloc: Global, seconds: &[u64]) -> Vec<Time> {

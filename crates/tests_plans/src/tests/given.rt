@@ -1,8 +1,8 @@
 //! Lists, tables and factors for the tests.
-use elementary::Table;
+use base_types::{DocId, Fraction, Posting, Span, Time};
+use plans_partitions::Table;
 use std::alloc::Global;
 use std::process::Abort;
-use time_base::{DocId, Fraction, Posting, Span, Time};
 
 /// A number of documents, and the times from which and before which they are alive.
 pub(crate) type Alike = (u32, u64, u64);

@@ -3,11 +3,11 @@ ghost use Rattle.std.specs.Prelude.{◌≡◌, length};
 ghost use Rattle.query_lang.specs.Meaning.{words_of};
 
 use super::given::{listed, read};
+use base_types::{DocId, NOW, Posting, Time};
 use query_eval::{Part, Row, answer_by_hits, answer_by_living_hits, answer_from};
 use query_lang::Query;
 use std::alloc::Global;
 use std::process::Abort;
-use time_base::{DocId, NOW, Posting, Time};
 
 /// The list of a word: red or blue.
 fn list_of(rt: &impl Abort, alloc: Global, word: &str) -> Vec<Posting> {

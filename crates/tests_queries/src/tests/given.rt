@@ -1,8 +1,8 @@
 //! Queries and postings for the tests.
+use base_types::{DocId, Posting, Span};
 use query_lang::Query;
 use std::alloc::Global;
 use std::process::Abort;
-use time_base::{DocId, Posting, Span};
 
 /// The query that a text spells, which has to be short.
 pub(crate) fn read(rt: &impl Abort, alloc: Global, text: &str) -> Query {

@@ -3,13 +3,13 @@ ghost use Rattle.std.specs.Prelude.{◌≡◌, length};
 ghost use Rattle.query_lang.specs.Meaning.{words_of};
 
 use super::given::read;
+use base_types::{DocId, Posting, Span, Time};
+use lists_postings::Life;
 use query_eval::{Part, answer_from, answer_over, docs_met};
 use query_lang::Query;
 use std::alloc::{AllocError, Global};
 use std::process::Abort;
 use std::string::String;
-use stretches::Life;
-use time_base::{DocId, Posting, Span, Time};
 
 /// The documents are 0, 1 and 2, and the seconds those below this one.
 const DOCS: u32 = 3;

@@ -2,11 +2,11 @@
 ghost use Rattle.std.specs.Prelude.{◌≡◌, []};
 
 use super::given::{listed, read};
+use base_types::{DocId, Key, NOW, Posting, Span, Time};
+use lists_postings::Life;
 use query_eval::{Lists, Part, SpanRow, answer_between, answer_over, answer_over_hits, docs_met};
 use std::alloc::{AllocError, Global};
 use std::process::Abort;
-use stretches::Life;
-use time_base::{DocId, Key, NOW, Posting, Span, Time};
 
 fn life(rt: &impl Abort, doc: u32, from: u64, to: u64) -> Life {
     Life {

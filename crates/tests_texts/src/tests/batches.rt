@@ -2,7 +2,7 @@
 ghost use Rattle.std.specs.Prelude.{◌^◌, ◌<◌};
 
 use crate::tests::scripts::in_words;
-use commands::{BatchItem, BatchItems, Command, Text};
+use base_commands::{BatchItem, BatchItems, Command, Text};
 use machine_model::{Failed, Source};
 use script_items::{Item, Reader, ScriptError};
 use std::alloc::Global;

@@ -1,5 +1,5 @@
 //! Words of a command line that ask for something, and words that do not.
-use program_words::{SampleNumbers, Task, WordsError, read_words};
+use run_words::{SampleNumbers, Task, WordsError, read_words};
 use std::alloc::Global;
 use std::process::Abort;
 

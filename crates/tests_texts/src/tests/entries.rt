@@ -1,10 +1,10 @@
 //! Entries as bytes, and bytes that spell none.
-use record_codec::{
+use base_types::{DocId, Time};
+use journal_entries::{
     CodecError, Entry, VersionText, decode, encode, encode_arrival, encode_deletion,
 };
 use std::alloc::Global;
 use std::process::Abort;
-use time_base::{DocId, Time};
 
 /// Document 7 arrives at time 10 with the text `red a`.
 const ARRIVAL: [u8; 18] = [

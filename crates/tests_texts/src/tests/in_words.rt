@@ -1,9 +1,9 @@
 //! Commands in words.
-use commands::{BatchItems, Command, Kind, Phrase, ShareFraction, ShareWords, Text};
+use base_commands::{BatchItems, Command, Kind, Phrase, ShareFraction, ShareWords, Text};
+use base_types::{DocId, Fraction, Span, Time};
 use std::alloc::Global;
 use std::process::Abort;
 use std::str;
-use time_base::{DocId, Fraction, Span, Time};
 
 /// A word in a string of its own.
 pub(crate) fn owned(rt: &impl Abort, alloc: Global, word: &str) -> String {

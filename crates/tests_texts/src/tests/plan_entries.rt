@@ -1,7 +1,7 @@
 //! Stored plans as bytes, and bytes that spell none.
 use super::entries::named;
-use commands::Kind;
-use record_codec::{Entry, Layout, Place, PlanEntry, decode, encode, encode_plan};
+use base_commands::Kind;
+use journal_entries::{Entry, Layout, Place, PlanEntry, decode, encode, encode_plan};
 use std::alloc::Global;
 use std::process::Abort;
 

@@ -1,6 +1,6 @@
 //! A whole sample against a table that another program made, and the ends of samples.
 use crate::tests::in_words::command_in_words;
-use sample_commands::{MOST_CHANGES, Sample};
+use base_sample::{MOST_CHANGES, Sample};
 use std::alloc::Global;
 use std::process::Abort;
 

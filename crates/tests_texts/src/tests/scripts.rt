@@ -298,7 +298,7 @@ const TOO_LONG: [&str; 4] = [
 
 #[test]
 fn a_text_above_the_limit_is_passed_over(rt: HostRuntime) {
-    let bytes = commands::MOST_TEXT_BYTES + 1;
+    let bytes = base_commands::MOST_TEXT_BYTES + 1;
     let script = around(&rt, rt.alloc(), "arrive 7 10 4194305\n", bytes, "\r\n");
     expect_answers(&rt, rt.alloc(), script.as_slice(), 65536, &TOO_LONG);
 }

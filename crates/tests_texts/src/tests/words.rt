@@ -1,10 +1,10 @@
 //! The words of texts, how often they occur, their numbers, and texts weighed by them.
 ghost use Rattle.std.specs.Prelude.{◌≡◌, ◌∷◌, [], IfOk};
 
-use fold_tokens::{NumberError, Places, Vocabulary, Weighed, occurrences, one_term, terms};
+use base_types::{Key, WordId};
 use std::alloc::{AllocError, Global};
 use std::process::Abort;
-use time_base::{Key, WordId};
+use text_words::{NumberError, Places, Vocabulary, Weighed, occurrences, one_term, terms};
 
 /// Shows a term with its count behind those that are shown.
 fn show(rt: &impl Abort, alloc: Global, out: &mut String, term: &str, count: u32) {

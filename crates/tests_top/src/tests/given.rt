@@ -1,10 +1,10 @@
 //! Postings and questions for the tests.
 
 use super::shelf::{Fault, Shelf, Word};
-use block_top::{Row, TopError, top_rows};
+use base_types::{DocId, Posting, Span, Time};
+use query_top::{Row, TopError, top_rows};
 use std::alloc::Global;
 use std::process::Abort;
-use time_base::{DocId, Posting, Span, Time};
 
 /// The posting of that document, start, end and frequency.
 pub(crate) fn posting(rt: &impl Abort, doc: u32, from: u64, to: u64, tf: u32) -> Posting {

@@ -3,9 +3,9 @@ ghost use Rattle.std.specs.Prelude.{◌<◌};
 
 use super::given::{assert_rows, posting, shelf, top};
 use super::shelf::Word;
+use base_types::{Posting, Time};
 use std::alloc::Global;
 use std::process::Abort;
-use time_base::{Posting, Time};
 
 /// Numbers that look random: a linear congruential generator, with Knuth's multiplier for 64 bits.
 #[derive(Drop)]

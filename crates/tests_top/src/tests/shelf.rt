@@ -1,9 +1,9 @@
 //! Words whose blocks lie in memory.
 
-use block_top::Blocks;
+use base_types::Posting;
+use pages_codec::BlockHead;
+use query_top::Blocks;
 use std::alloc::{AllocError, Global};
-use sublist_codec::BlockHead;
-use time_base::Posting;
 
 /// What there is of a word.
 #[derive(Drop)]

@@ -1,10 +1,10 @@
 //! First rows that were worked out by hand, and how many blocks are opened for them.
 use super::given::{assert_found, assert_rows, posting, shelf, top};
 use super::shelf::{Fault, Shelf, Word};
-use block_top::TopError;
+use base_types::{NOW, Posting};
+use query_top::TopError;
 use std::alloc::Global;
 use std::process::Abort;
-use time_base::{NOW, Posting};
 
 /// One posting of each of these documents from 10 on, as frequent as is said of the first and of the others.
 fn run(rt: &impl Abort, alloc: Global, from: u32, to: u32, first: u32, rest: u32) -> Vec<Posting> {

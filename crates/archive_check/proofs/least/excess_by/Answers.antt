@@ -1,6 +1,6 @@
 use Rattle.std.proofs.Common.{◌-◌, ℕ, List, length, ap, sym, subst, arith}
 use Rattle.std.specs.Prelude.{slice_index}
-use Rattle.elementary.proofs.Tables.{some_time}
+use Rattle.plans_partitions.proofs.Tables.{some_time}
 use Rattle.archive_check.specs.Checking.{IsBeaten}
 use Rattle.archive_check.proofs.LeastLemmas.{beaten}
 use Rattle.archive_check.proofs.least.excess_by.Goals as goal

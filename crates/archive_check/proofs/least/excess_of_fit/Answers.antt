@@ -1,6 +1,6 @@
 use Rattle.std.proofs.Common.{◌∷◌, ◌++◌, [], length, ap, arith}
 use Rattle.std.proofs.lemmas.List.{length-append, length-map}
-use Rattle.stored_plans.proofs.PlanLemmas.{narrow_cuts}
+use Rattle.plans_kinds.proofs.PlanLemmas.{narrow_cuts}
 use Rattle.archive_check.proofs.LeastLemmas.{fit_told}
 use Rattle.archive_check.proofs.least.excess_of_fit.Goals as goal
 

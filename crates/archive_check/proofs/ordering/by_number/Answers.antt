@@ -1,4 +1,4 @@
-use Rattle.version_index.specs.Indexes.{state_of}
+use Rattle.lists_index.specs.Indexes.{state_of}
 use Rattle.archive_check.proofs.OrderLemmas.{ranked_stand}
 use Rattle.archive_check.proofs.ordering.by_number.Goals as goal
 

@@ -1,5 +1,5 @@
 use Rattle.std.proofs.Common.{◌∙◌}
-use Rattle.version_index.specs.Indexes.{state_of}
+use Rattle.lists_index.specs.Indexes.{state_of}
 use Rattle.archive_check.proofs.OrderLemmas.{no_place}
 use Rattle.archive_check.proofs.ordering.place_of.Goals as goal
 

@@ -1,7 +1,7 @@
 -- The plans so far have their places.
 use Rattle.std.specs.Prelude.{◌≡◌, map, take, All}
-use Rattle.version_index.specs.Indexes.{state_of}
-use Rattle.archive_state.specs.Orders.{place_of}
+use Rattle.lists_index.specs.Indexes.{state_of}
+use Rattle.model_archive.specs.Orders.{place_of}
 use Rattle.archive_check.proofs.ordering.placed.Given as goal
 
 abbrev pub invariant-loop-stored : goal.invariant-loop-stored

@@ -1,6 +1,6 @@
 use Rattle.std.proofs.Common.{rules}
 use Rattle.std.proofs.lemmas.List.Sorted.{IsNonDecreasingBy-from_sort_by_key, answers_always}
-use Rattle.archive_state.proofs.Sorting.{stable-of}
+use Rattle.model_archive.proofs.Sorting.{stable-of}
 use Rattle.archive_check.proofs.ordering.sort_by_place.Goals as goal
 
 pub returns-clause-sorted : goal.returns-clause-sorted

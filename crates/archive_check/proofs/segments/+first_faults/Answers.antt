@@ -1,14 +1,14 @@
 use Rattle.std.proofs.Common.{◌≡◌, ◌<◌, ◌/◌, List, ℕ, Option, None, length, All, sym, subst, arith, rules}
 use Rattle.std.specs.Prelude.{IfSome, MatchOption}
 use Rattle.std.proofs.lemmas.List.Elements.{All-take, All-drop}
-use Rattle.record_codec.specs.declared.place.Place.{Place}
-use Rattle.postings.specs.Lists.{sublist}
-use Rattle.page_store.specs.Live.{IsInside}
-use Rattle.page_store.specs.Ranges.{bytes_in}
-use Rattle.checked_lists.specs.Layouts.{spelling_in}
-use Rattle.sublist_store.specs.Segments.{seconds}
-use Rattle.sublist_store.specs.Preparing.{spellings}
-use Rattle.sublist_store.proofs.SpellLemmas.{serves_or}
+use Rattle.journal_entries.specs.declared.place.Place.{Place}
+use Rattle.lists_postings.specs.Lists.{sublist}
+use Rattle.pages_area.specs.Live.{IsInside}
+use Rattle.pages_area.specs.Ranges.{bytes_in}
+use Rattle.pages_checked.specs.Layouts.{spelling_in}
+use Rattle.pages_sublists.specs.Segments.{seconds}
+use Rattle.pages_sublists.specs.Preparing.{spellings}
+use Rattle.pages_sublists.proofs.SpellLemmas.{serves_or}
 use Rattle.archive_check.specs.declared.segments.Wrong.{Wrong}
 use Rattle.archive_check.specs.Verdicts.{DifferAt}
 use Rattle.archive_check.specs.Digests.{HasDigest}

@@ -1,5 +1,5 @@
-use Rattle.version_store.specs.Changes.{mapped}
-use Rattle.archive_replay.specs.Texts.{text_in}
+use Rattle.lists_versions.specs.Changes.{mapped}
+use Rattle.archive_entries.specs.Texts.{text_in}
 use Rattle.archive_check.proofs.TextLemmas.{bad_new, keeps_behind, keeps_text}
 use Rattle.archive_check.proofs.texts.earlier_bad.Goals as goal
 

@@ -1,10 +1,10 @@
 use Rattle.std.proofs.Common.{◌∷◌, ◌++◌, [], ℕ, List, take, subst}
 use Rattle.std.proofs.lemmas.List.{take_all}
 use Rattle.machine_model.proofs.MomentLemmas.{reads_join}
-use Rattle.version_store.specs.declared.change.Change.{Change}
-use Rattle.version_store.specs.Changes.{mapped}
-use Rattle.time_base.specs.declared.text_place.TextPlace.{TextPlace}
-use Rattle.archive_replay.specs.Texts.{text_in}
+use Rattle.lists_versions.specs.declared.change.Change.{Change}
+use Rattle.lists_versions.specs.Changes.{mapped}
+use Rattle.base_types.specs.declared.text_place.TextPlace.{TextPlace}
+use Rattle.archive_entries.specs.Texts.{text_in}
 use Rattle.archive_check.specs.Verdicts.{with_texts, IsFirstBad}
 use Rattle.archive_check.proofs.SegmentLemmas.{journal_on}
 use Rattle.archive_check.proofs.TextLemmas.{bad_one, next_text}

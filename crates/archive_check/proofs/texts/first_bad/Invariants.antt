@@ -1,8 +1,8 @@
 -- The first so far that isn't UTF-8.
 use Rattle.std.specs.Prelude.{◌∷◌, take}
 use Rattle.machine_model.specs.Calls.{OnlyReads}
-use Rattle.version_store.specs.Changes.{mapped}
-use Rattle.archive_replay.specs.Texts.{text_in}
+use Rattle.lists_versions.specs.Changes.{mapped}
+use Rattle.archive_entries.specs.Texts.{text_in}
 use Rattle.archive_check.specs.Verdicts.{with_texts, IsText, IsFirstBad}
 use Rattle.archive_check.proofs.texts.first_bad.Given as goal
 

@@ -1,6 +1,6 @@
 use Rattle.std.proofs.Common.{ℕ, List, subst}
 use Rattle.machine_model.proofs.MomentLemmas.{reads_join}
-use Rattle.version_index.specs.Loads.{loaded}
+use Rattle.lists_index.specs.Loads.{loaded}
 use Rattle.archive_check.specs.Checking.{IsLoadedBehind}
 use Rattle.archive_check.proofs.SegmentLemmas.{journal_on}
 use Rattle.archive_check.proofs.TextLemmas.{comes_behind, loaded_more}

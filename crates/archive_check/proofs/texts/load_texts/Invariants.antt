@@ -1,7 +1,7 @@
 -- The texts so far are loaded.
 use Rattle.std.specs.Prelude.{take}
 use Rattle.machine_model.specs.Calls.{OnlyReads}
-use Rattle.version_index.specs.Loads.{loaded}
+use Rattle.lists_index.specs.Loads.{loaded}
 use Rattle.archive_check.specs.Checking.{AreAllLoaded}
 use Rattle.archive_check.proofs.texts.load_texts.Given as goal
 

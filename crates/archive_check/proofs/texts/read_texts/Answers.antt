@@ -1,8 +1,8 @@
 use Rattle.std.proofs.Common.{◌≡◌, ◌∙◌, ◌∷◌, ◌+◌, suc, ℕ, List, Option, drop, subst, ap, arith}
 use Rattle.std.specs.Prelude.{MatchOption}
-use Rattle.version_index.specs.Loads.{loaded}
-use Rattle.version_store.specs.Changes.{mapped}
-use Rattle.archive_replay.specs.Texts.{text_in}
+use Rattle.lists_index.specs.Loads.{loaded}
+use Rattle.lists_versions.specs.Changes.{mapped}
+use Rattle.archive_entries.specs.Texts.{text_in}
 use Rattle.archive_check.specs.Verdicts.{with_texts, IsText, IsFirstBad}
 use Rattle.archive_check.specs.Checking.{AreAllLoaded, IsStopped}
 use Rattle.archive_check.proofs.SegmentLemmas.{journal_on}

@@ -1,13 +1,13 @@
 use Rattle.std.proofs.Common.{◌<◌, ℕ, List, length, subst, arith, rules}
 use Rattle.std.specs.Prelude.{IfOk}
 use Rattle.std.proofs.lemmas.List.Sorted.{length_permutation}
-use Rattle.time_base.specs.declared.text_place.TextPlace.{TextPlace}
-use Rattle.version_store.specs.declared.change.Change.{Change}
-use Rattle.version_index.specs.Words.{words_in}
+use Rattle.base_types.specs.declared.text_place.TextPlace.{TextPlace}
+use Rattle.lists_versions.specs.declared.change.Change.{Change}
+use Rattle.lists_index.specs.Words.{words_in}
 use Rattle.archive_check.specs.declared.texts.Texts.{Texts}
 use Rattle.archive_check.specs.Checking.{AreRead, TellsAll}
 use Rattle.archive_check.specs.Verdicts.{with_texts}
-use Rattle.archive_state.proofs.OrderLemmas.{put_in_order, are_put, are_moved}
+use Rattle.model_archive.proofs.OrderLemmas.{put_in_order, are_put, are_moved}
 use Rattle.archive_check.proofs.SegmentLemmas.{pages_on}
 use Rattle.archive_check.proofs.verifying.check.Goals as goal
 

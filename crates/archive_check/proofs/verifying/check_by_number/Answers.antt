@@ -1,14 +1,14 @@
 use Rattle.std.proofs.Common.{◌≡◌, List, ℕ, map, All, sym, subst}
 use Rattle.std.proofs.lemmas.List.Sorted.{All-permutation}
-use Rattle.version_index.specs.Indexes.{state_of}
-use Rattle.archive_state.specs.declared.stored.StoredPlan.{StoredPlan}
+use Rattle.lists_index.specs.Indexes.{state_of}
+use Rattle.model_archive.specs.declared.stored.StoredPlan.{StoredPlan}
 use Rattle.archive_check.specs.declared.ordering.Ranked.{Ranked}
-use Rattle.archive_state.specs.Orders.{AreByNumber}
+use Rattle.model_archive.specs.Orders.{AreByNumber}
 use Rattle.archive_check.specs.declared.digests.Digests.TheVariants.{Asked}
 use Rattle.archive_check.specs.Verdicts.{LiesInside, Says}
 use Rattle.archive_check.specs.Checking.{DigestsTold, TellsAll}
 use Rattle.archive_check.proofs.DigestLemmas.{told_both}
-use Rattle.archive_state.proofs.OrderLemmas.{are_moved}
+use Rattle.model_archive.proofs.OrderLemmas.{are_moved}
 use Rattle.archive_check.proofs.OrderLemmas.{each_ranked}
 use Rattle.archive_check.proofs.verifying.check_by_number.Goals as goal
 

@@ -2,8 +2,8 @@ use Rattle.std.proofs.Common.{◌≡◌, ℕ, List, Option, None, map, subst}
 use Rattle.std.specs.Prelude.{MatchOption}
 use Rattle.std.proofs.lemmas.List.Elements.{All-more}
 use Rattle.machine_model.proofs.MomentLemmas.{reads_join}
-use Rattle.archive_state.specs.declared.stored.StoredPlan.{StoredPlan}
-use Rattle.archive_state.specs.declared.verdict.Verdict.{Verdict}
+use Rattle.model_archive.specs.declared.stored.StoredPlan.{StoredPlan}
+use Rattle.model_archive.specs.declared.verdict.Verdict.{Verdict}
 use Rattle.archive_check.specs.Verdicts.{IsSound}
 use Rattle.archive_check.specs.Checking.{IsFaultOf, AreAltered}
 use Rattle.archive_check.proofs.DigestLemmas.{altered_more, fault_unsound}

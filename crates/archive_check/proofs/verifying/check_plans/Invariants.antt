@@ -1,9 +1,9 @@
 -- The plans so far are sound, and of them the first digest is known that is wrong.
 use Rattle.std.specs.Prelude.{◌≡◌, List, ℕ, All, length, map, take, sum_by}
 use Rattle.machine_model.specs.Calls.{OnlyReads}
-use Rattle.version_store.specs.declared.change.Change.{Change}
-use Rattle.version_index.specs.Indexes.{state_of, Indexes}
-use Rattle.archive_state.specs.declared.stored.StoredPlan.{StoredPlan}
+use Rattle.lists_versions.specs.declared.change.Change.{Change}
+use Rattle.lists_index.specs.Indexes.{state_of, Indexes}
+use Rattle.model_archive.specs.declared.stored.StoredPlan.{StoredPlan}
 use Rattle.archive_check.specs.declared.digests.Digests.TheVariants.{Asked}
 use Rattle.archive_check.specs.Verdicts.{IsSound}
 use Rattle.archive_check.specs.Checking.{AreFirstAltered}

@@ -1,11 +1,11 @@
 use Rattle.std.proofs.Common.{◌^◌, ℕ, List, sym, subst}
 use Rattle.std.proofs.lemmas.Result.{IfOk-weaker}
-use Rattle.time_base.specs.declared.posting.Posting.{Posting}
-use Rattle.postings.specs.Lists.{IsList}
-use Rattle.postings.specs.ListsOf.{IsListOf}
-use Rattle.version_store.specs.declared.change.Change.{Change}
-use Rattle.version_index.specs.Words.{frequency_in}
-use Rattle.version_index.specs.Indexes.{state_of, Indexes}
+use Rattle.base_types.specs.declared.posting.Posting.{Posting}
+use Rattle.lists_postings.specs.Lists.{IsList}
+use Rattle.lists_postings.specs.ListsOf.{IsListOf}
+use Rattle.lists_versions.specs.declared.change.Change.{Change}
+use Rattle.lists_index.specs.Words.{frequency_in}
+use Rattle.lists_index.specs.Indexes.{state_of, Indexes}
 use Rattle.archive_check.specs.Verdicts.{IsPlanned}
 use Rattle.archive_check.proofs.verifying.list_of.Goals as goal
 

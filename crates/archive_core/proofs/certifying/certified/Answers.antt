@@ -1,7 +1,7 @@
 use Rattle.std.proofs.Common.{◌≡◌, ℕ, List, length, map, Option, IfSome, ◌++◌, ◌∷◌, [], ap, subst, ◌∙◌, arith}
 use Rattle.std.specs.List.Sorted.{IsStrictlyIncreasing}
-use Rattle.time_base.specs.declared.time.Time.{Time}
-use Rattle.proposals.specs.Proposals.{AreNodes}
+use Rattle.base_types.specs.declared.time.Time.{Time}
+use Rattle.plans_kinds.specs.Proposals.{AreNodes}
 use Rattle.archive_core.proofs.PlanLemmas.{certified_by, few_fit}
 use Rattle.archive_core.proofs.certifying.certified.Goals as goal
 

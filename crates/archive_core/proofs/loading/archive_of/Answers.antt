@@ -1,17 +1,17 @@
 use Rattle.std.proofs.Common.{ℕ, List, arith, sym, subst, subst₂}
 use Rattle.std.proofs.lemmas.Result.{err_from_is_err_and}
-use Rattle.page_store.specs.Live.{AreLive}
-use Rattle.gate_journal.specs.Spelled.{Spells}
-use Rattle.gate_journal.proofs.LoadLemmas.{exit_is}
-use Rattle.archive_state.specs.declared.stored.StoredPlan.{StoredPlan}
-use Rattle.archive_state.specs.Histories.{History}
-use Rattle.archive_state.specs.Histories as histories
-use Rattle.archive_state.proofs.HistoryLemmas.{end_of-least}
-use Rattle.archive_state.proofs.StandsLemmas.{loaded_is_archive}
-use Rattle.version_index.specs.Indexes.{state_of, Indexes}
-use Rattle.plan_shelf.specs.Shelves.{extents_all}
+use Rattle.pages_area.specs.Live.{AreLive}
+use Rattle.journal_gates.specs.Spelled.{Spells}
+use Rattle.journal_gates.proofs.LoadLemmas.{exit_is}
+use Rattle.model_archive.specs.declared.stored.StoredPlan.{StoredPlan}
+use Rattle.model_archive.specs.Histories.{History}
+use Rattle.model_archive.specs.Histories as histories
+use Rattle.model_archive.proofs.HistoryLemmas.{end_of-least}
+use Rattle.model_archive.proofs.StandsLemmas.{loaded_is_archive}
+use Rattle.lists_index.specs.Indexes.{state_of, Indexes}
+use Rattle.archive_plans.specs.Shelves.{extents_all}
 use Rattle.archive_core.specs.States.{StandsFor}
-use Rattle.archive_replay.specs.Replaying.{IsReplayed}
+use Rattle.archive_entries.specs.Replaying.{IsReplayed}
 use Rattle.archive_core.proofs.AddLemmas.{stands_replayed, bad_archive, bad_shelf, pages_long}
 use Rattle.archive_core.proofs.loading.archive_of.Given.{Over}
 use Rattle.archive_core.proofs.loading.archive_of.Goals as goal

@@ -1,5 +1,5 @@
 use Rattle.std.proofs.Common.{arith, ℕ, List, length, inr, ap, subst, ◌∙◌}
-use Rattle.proposals.specs.Proposals.{AreNodes}
+use Rattle.plans_kinds.specs.Proposals.{AreNodes}
 use Rattle.archive_core.proofs.PlanLemmas.{few_cuts, proposal_is}
 use Rattle.archive_core.proofs.planning.least_plan.Goals as goal
 

@@ -1,11 +1,11 @@
 use Rattle.std.proofs.Common.{ℕ, List, length, All, inl, inr, sym, subst}
 use Rattle.machine_model.specs.declared.area.Area.TheVariants.{Pages}
-use Rattle.gate_journal.specs.InStep.{IsInStep}
-use Rattle.page_store.specs.Live.{IsInside}
-use Rattle.record_codec.specs.declared.place.Place.{Place}
-use Rattle.page_cache.specs.Caches.{StandsFor as IsCacheOf}
-use Rattle.page_store.specs.Wrote.{ranges_of}
-use Rattle.sublist_store.specs.Preparing.{pieces}
+use Rattle.journal_gates.specs.InStep.{IsInStep}
+use Rattle.pages_area.specs.Live.{IsInside}
+use Rattle.journal_entries.specs.declared.place.Place.{Place}
+use Rattle.pages_area.specs.Caches.{StandsFor as IsCacheOf}
+use Rattle.pages_area.specs.Wrote.{ranges_of}
+use Rattle.pages_sublists.specs.Preparing.{pieces}
 use Rattle.archive_core.proofs.AddLemmas.{step_stays}
 use Rattle.archive_core.proofs.ByReadsLemmas.{begun, on_err, one_pages, pieces_inside, put_down}
 use Rattle.archive_core.specs.Storing.{IsPutDown}

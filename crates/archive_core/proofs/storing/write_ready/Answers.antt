@@ -1,9 +1,9 @@
 use Rattle.std.proofs.Common.{All, sym, subst}
-use Rattle.page_cache.specs.Caches.{StandsFor as IsCacheOf}
-use Rattle.page_store.specs.Runs.{IsTaken}
-use Rattle.sublist_store.specs.Caching.{SublistsState}
-use Rattle.sublist_store.specs.Preparing.{extents}
-use Rattle.plan_shelf.specs.Shelves.{extents_all}
+use Rattle.pages_area.specs.Caches.{StandsFor as IsCacheOf}
+use Rattle.pages_area.specs.Runs.{IsTaken}
+use Rattle.pages_sublists.specs.Caching.{SublistsState}
+use Rattle.pages_sublists.specs.Preparing.{extents}
+use Rattle.archive_plans.specs.Shelves.{extents_all}
 use Rattle.archive_core.proofs.CacheLemmas.{kept_apart}
 use Rattle.archive_core.proofs.storing.write_ready.Goals as goal
 

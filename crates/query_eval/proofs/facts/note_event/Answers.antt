@@ -1,6 +1,6 @@
 use Rattle.std.proofs.Common.{Contains, refl, sym, subst}
 use Rattle.std.proofs.lemmas.List.Elements.{Contains-push}
-use Rattle.stretches.specs.declared.event.Event.{Event}
+use Rattle.lists_postings.specs.declared.event.Event.{Event}
 use Rattle.query_eval.proofs.facts.note_event.Goals as goal
 
 pub returns-in_ok-push-clause-there : goal.returns-in_ok-push-clause-there

@@ -1,6 +1,6 @@
 use Rattle.std.proofs.Common.{rules}
 use Rattle.std.proofs.lemmas.List.Sorted.{IsNonDecreasingBy-from_sort_by_key, answers_always}
-use Rattle.stretches.proofs.Stable.{stable-of}
+use Rattle.lists_postings.proofs.Stable.{stable-of}
 use Rattle.query_eval.proofs.facts.sort_by_doc.Goals as goal
 
 pub returns-clause-sorted : goal.returns-clause-sorted

@@ -1,6 +1,6 @@
 use Rattle.std.proofs.Common.{true, refl, rules}
 use Rattle.std.proofs.lemmas.Result.{IfOk-weaker}
-use Rattle.time_base.specs.declared.ids.DocId.{DocId}
+use Rattle.base_types.specs.declared.ids.DocId.{DocId}
 use Rattle.query_lang.specs.Meaning.{words_of}
 use Rattle.query_eval.specs.Found.{told, HasHit}
 use Rattle.query_eval.proofs.GivenLemmas.{same_alive}

@@ -1,6 +1,6 @@
 use Rattle.std.proofs.Common.{◌≡◌, ℕ, ap, ◌∙◌, true, filter}
-use Rattle.time_base.specs.declared.ids.DocId.{DocId}
-use Rattle.fold_tokens.proofs.CountLemmas.{IsDistinct-distinct}
+use Rattle.base_types.specs.declared.ids.DocId.{DocId}
+use Rattle.text_words.proofs.CountLemmas.{IsDistinct-distinct}
 use Rattle.query_lang.specs.Meaning.{words_of, occurring}
 use Rattle.query_eval.specs.Found.{told, HasHit}
 use Rattle.query_eval.specs.Hits.{is_of, gathered}

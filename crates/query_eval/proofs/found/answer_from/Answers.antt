@@ -1,5 +1,5 @@
 use Rattle.std.proofs.Common.{ap, ◌∙◌, filter}
-use Rattle.fold_tokens.proofs.CountLemmas.{IsDistinct-distinct}
+use Rattle.text_words.proofs.CountLemmas.{IsDistinct-distinct}
 use Rattle.query_lang.specs.Meaning.{words_of, occurring}
 use Rattle.query_eval.specs.Found.{told}
 use Rattle.query_eval.specs.Hits.{is_of}

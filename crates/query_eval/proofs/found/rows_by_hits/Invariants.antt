@@ -1,5 +1,5 @@
 use Rattle.std.proofs.Common.{◌≤◌, ◌-◌, Bool, length, take}
-use Rattle.time_base.specs.declared.ids.DocId.{DocId}
+use Rattle.base_types.specs.declared.ids.DocId.{DocId}
 use Rattle.query_eval.specs.Found.{AnswersAs}
 use Rattle.query_eval.specs.Hits.{IsCut, AreMade}
 use Rattle.query_eval.proofs.found.rows_by_hits.Given as goal

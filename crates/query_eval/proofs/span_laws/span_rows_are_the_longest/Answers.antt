@@ -1,4 +1,4 @@
-use Rattle.stretches.proofs.Longest.{exactly}
+use Rattle.lists_postings.proofs.Longest.{exactly}
 use Rattle.query_eval.specs.Spans.{row_kind, scored_at}
 use Rattle.query_eval.proofs.SpanRows.{plain-rows}
 use Rattle.query_eval.proofs.span_laws.span_rows_are_the_longest.Goals as goal

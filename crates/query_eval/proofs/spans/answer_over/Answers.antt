@@ -1,7 +1,7 @@
 use Rattle.std.proofs.Common.{ap, ◌∙◌, arith, filter}
-use Rattle.fold_tokens.proofs.CountLemmas.{IsDistinct-distinct}
+use Rattle.text_words.proofs.CountLemmas.{IsDistinct-distinct}
 use Rattle.query_lang.specs.Meaning.{words_of, occurring}
-use Rattle.stretches.specs.Kinds.{is_alive}
+use Rattle.lists_postings.specs.Kinds.{is_alive}
 use Rattle.query_eval.specs.Facts.{of_doc}
 use Rattle.query_eval.specs.Found.{told}
 use Rattle.query_eval.specs.Spans.{scored_at}

@@ -1,5 +1,5 @@
 use Rattle.std.proofs.Common.{ap, ◌∙◌, arith, filter}
-use Rattle.fold_tokens.proofs.CountLemmas.{IsDistinct-distinct}
+use Rattle.text_words.proofs.CountLemmas.{IsDistinct-distinct}
 use Rattle.query_lang.specs.Meaning.{occurring}
 use Rattle.query_eval.specs.Facts.{of_doc}
 use Rattle.query_eval.proofs.OverHits.{scored_by_hits, hits-score, hits-answer}

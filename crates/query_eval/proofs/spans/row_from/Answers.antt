@@ -1,5 +1,5 @@
 use Rattle.std.proofs.Common.{◌+◌, ap, sym, ◌∙◌, inr, drop}
-use Rattle.stretches.specs.Events.{end_of}
+use Rattle.lists_postings.specs.Events.{end_of}
 use Rattle.query_eval.proofs.FactLemmas.{scored-by}
 use Rattle.query_eval.proofs.FoundLemmas.{get-any}
 use Rattle.query_eval.proofs.spans.row_from.Goals as goal

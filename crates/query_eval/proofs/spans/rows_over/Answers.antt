@@ -1,6 +1,6 @@
 use Rattle.std.proofs.Common.{◌∙◌, arith, ap}
-use Rattle.stretches.proofs.Laid.{laid-longest}
-use Rattle.stretches.proofs.Pieces.{begin, finish, put, pass}
+use Rattle.lists_postings.proofs.Laid.{laid-longest}
+use Rattle.lists_postings.proofs.Pieces.{begin, finish, put, pass}
 use Rattle.query_eval.specs.Spans.{row_kind}
 use Rattle.query_eval.proofs.FactLemmas.{if-some, if-none}
 use Rattle.query_eval.proofs.Changing.{events-change}

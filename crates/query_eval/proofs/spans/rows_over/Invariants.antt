@@ -1,6 +1,6 @@
 use Rattle.std.proofs.Common.{◌≡◌, ℕ, Option, drop, length}
-use Rattle.stretches.specs.Events.{done}
-use Rattle.stretches.specs.Laid.{AreLaid}
+use Rattle.lists_postings.specs.Events.{done}
+use Rattle.lists_postings.specs.Laid.{AreLaid}
 use Rattle.query_lang.specs.Meaning.{words_of}
 use Rattle.query_eval.specs.Facts.{IsScored}
 use Rattle.query_eval.specs.Spans.{row_kind}

@@ -1,6 +1,6 @@
 use Rattle.std.proofs.Common.{[], sym, ◌∙◌}
 use Rattle.std.proofs.lemmas.Option.{get_or_from_slice_get}
-use Rattle.fold_tokens.proofs.CountLemmas.{same}
+use Rattle.text_words.proofs.CountLemmas.{same}
 use Rattle.query_lang.proofs.numbering.place_of.Goals as goal
 
 pub returns-clause-place : goal.returns-clause-place

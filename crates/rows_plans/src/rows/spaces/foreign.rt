@@ -1,11 +1,11 @@
 //! Disks with plans under a space bound that no archive wrote: which of them are an archive's, and the place
 //! where it shows of the others.
 use crate::rows::spaces::plans::{BY_ONE, BY_THREE, BY_TWO, QUESTIONS, plan_of};
-use archive_rig::{
+use rows_rig::{
     CLIPPED_LIVES, FOUR_END, LIFE_OF_1, LIVES_OF_1_AND_2, NOTHING, Plan, Row, SINCE_30, UNIFORM,
     disk_with, expect_on, expect_status, first_segments, segment_at,
 };
-use archive_shell::Status;
+use run_script::Status;
 use std::alloc::Global;
 use std::process::Abort;
 

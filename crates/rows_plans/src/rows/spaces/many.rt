@@ -1,5 +1,5 @@
 //! Lists with as many boundaries as may all be cuts, and with more.
-use archive_rig::{Row, disk_after, expect_on, many_lives, new_disk};
+use rows_rig::{Row, disk_after, expect_on, many_lives, new_disk};
 use std::alloc::Global;
 use std::process::Abort;
 

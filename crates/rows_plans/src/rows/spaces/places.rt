@@ -1,6 +1,6 @@
 //! What plans under a space bound leave in the journal and in Pages.
 use crate::rows::spaces::plans::{four_disk, plan_of};
-use archive_rig::{
+use rows_rig::{
     FOUR_CHANGES, FOUR_RECORDS, GAP_CHANGES, GAP_RECORDS, GUARANTEE, LIFE_OF_1, LIVES_OF_1_AND_2,
     Row, SINCE_30, UNIFORM, disk_after, disk_after_all, expect_entry, expect_left, first_segments,
     gap_segments, plan_record, segment_at,

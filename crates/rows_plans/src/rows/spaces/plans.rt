@@ -3,8 +3,8 @@
 //! The word's list is document 1 in [10, 40) and document 2 in [20, 30), so the boundaries are 10, 20, 30 and
 //! 40. A segment has 2 postings, but [10, 20) and [30, 40) have 1. So one segment takes 2, two take 3, and
 //! three take 4.
-use archive_rig::{BLOCKS, FOUR_CHANGES, Plan, Row, Segment, disk_after_all, new_disk};
 use machine_model::Image;
+use rows_rig::{BLOCKS, FOUR_CHANGES, Plan, Row, Segment, disk_after_all, new_disk};
 use std::alloc::Global;
 use std::process::Abort;
 

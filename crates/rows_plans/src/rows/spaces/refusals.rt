@@ -1,6 +1,6 @@
 //! What can't be planned under a space bound, and why.
 use crate::rows::spaces::plans::four_disk;
-use archive_rig::{FIRST_PLAN, Row, disk_after, expect_on, new_disk};
+use rows_rig::{FIRST_PLAN, Row, disk_after, expect_on, new_disk};
 
 #[test]
 fn what_can_not_be_planned_is_refused_in_order(rt: HostRuntime) {

@@ -1,6 +1,6 @@
 //! Plans that take the place of plans of another kind, and lists that go on.
 use crate::rows::spaces::plans::{BY_ONE, QUESTIONS, four_disk, planned_disk};
-use archive_rig::{Row, disk_after_all, expect_on, new_disk};
+use rows_rig::{Row, disk_after_all, expect_on, new_disk};
 
 /// A plan with the bound 1/1 behind the four changes.
 const ONE_SEGMENT: Row<'static> = Row {

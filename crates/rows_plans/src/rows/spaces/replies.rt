@@ -1,7 +1,7 @@
 //! What is answered: plans under a space bound, and questions of their words.
 use crate::rows::spaces::plans::{BY_ONE, BY_THREE, BY_TWO, QUESTIONS, WITHOUT_A_PLAN, four_disk};
-use archive_rig::{Row, disk_after, disk_after_all, expect_on, join, new_disk};
 use machine_model::Image;
+use rows_rig::{Row, disk_after, disk_after_all, expect_on, join, new_disk};
 use std::alloc::Global;
 use std::process::Abort;
 

@@ -1,13 +1,13 @@
 //! What a stop may leave of a run that stores a plan under a space bound: after each device call, and within
 //! the load that follows.
 use crate::rows::spaces::plans::{four_disk, planned_disk};
-use archive_rig::{
+use machine_mem::{MemMachine, Tail};
+use machine_model::Image;
+use rows_rig::{
     EXTRAS, FILLS, Row, copy_image, expect_entries, machine_after, machine_on, pick_image, run_on,
     whole_images,
 };
-use archive_shell::Status;
-use machine_mem::{MemMachine, Tail};
-use machine_model::Image;
+use run_script::Status;
 use std::alloc::Global;
 use std::process::Abort;
 

@@ -4,7 +4,7 @@
 use crate::rows::cache::steps::{
     BOTH, ONE, Step, expect_same, expect_steps, find_15, find_25, find_35, over, step_of,
 };
-use archive_rig::{FIRST_CERTIFICATE, first_disk, flat_disk};
+use rows_rig::{FIRST_CERTIFICATE, first_disk, flat_disk};
 
 #[test]
 fn a_sublist_is_read_once(rt: HostRuntime) {

@@ -1,9 +1,7 @@
 //! Sublists that aren't what the entries of their plans say, asked for where other pages are kept.
 use crate::rows::cache::steps::{Step, expect_same, find_25, find_35, run_steps, step_of};
-use archive_rig::{
-    LIFE_OF_1, Sublist, disk_with, first_segments, plan_of_v, read_image, segment_at,
-};
 use machine_model::Image;
+use rows_rig::{LIFE_OF_1, Sublist, disk_with, first_segments, plan_of_v, read_image, segment_at};
 use std::alloc::Global;
 use std::process::Abort;
 

@@ -1,9 +1,9 @@
 //! Reads that fail, which end a run only where a page that isn't kept is asked for.
 use crate::rows::cache::steps::{BOTH, ONE};
-use archive_rig::{copy_image, first_disk, machine_on, run_on};
-use archive_shell::Status;
 use machine_mem::{CallKind, Fault};
 use machine_model::Image;
+use rows_rig::{copy_image, first_disk, machine_on, run_on};
+use run_script::Status;
 use std::alloc::Global;
 use std::process::Abort;
 

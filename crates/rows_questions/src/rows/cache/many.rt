@@ -1,7 +1,7 @@
 //! More pages than are kept, and sublists of more than one page.
 use crate::rows::cache::steps::{Step, expect_run, expect_same, step_of};
-use archive_rig::{Row, disk_after, many_lives, new_disk};
 use machine_model::Image;
+use rows_rig::{Row, disk_after, many_lives, new_disk};
 use std::alloc::Global;
 use std::process::Abort;
 

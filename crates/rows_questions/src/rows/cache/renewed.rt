@@ -2,7 +2,7 @@
 use crate::rows::cache::steps::{
     Step, expect_same, expect_steps, find_15, find_25, find_35, step_of,
 };
-use archive_rig::{Row, disk_after, first_disk, flat_disk, new_disk};
+use rows_rig::{Row, disk_after, first_disk, flat_disk, new_disk};
 
 /// A step of a script that reads nothing of Pages.
 fn change<'a>(script: &'a [u8], replies: &'a [u8]) -> Step<'a> {

@@ -1,8 +1,8 @@
 //! Scripts in steps, and how many bytes of Pages each reads.
-use archive_rig::{copy_image, machine_on, read_image, run_on};
-use archive_shell::Status;
 use machine_mem::MemMachine;
 use machine_model::{Area, Image};
+use rows_rig::{copy_image, machine_on, read_image, run_on};
+use run_script::Status;
 use std::alloc::Global;
 use std::process::Abort;
 

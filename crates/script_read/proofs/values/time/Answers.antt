@@ -1,6 +1,6 @@
 use Rattle.std.proofs.Common.{◌∙◌, ap, sym}
 use Rattle.std.specs.Prelude.{option_and_then}
-use Rattle.time_base.specs.Times.{time_of}
+use Rattle.base_types.specs.Times.{time_of}
 use Rattle.script_read.proofs.ValueLemmas.{time_of_new}
 use Rattle.script_read.proofs.values.time.Goals as goal
 

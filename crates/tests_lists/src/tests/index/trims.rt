@@ -1,10 +1,10 @@
 //! Lists that are trimmed. What is wanted is worked out by hand, from the changes at 10, 20, 30, ..
 //! seconds.
 use super::{commit, committed, expect_part, is_short, key, loaded, posting, time_at};
+use base_types::{DocId, Key, NOW, Posting, Time};
+use lists_index::Index;
 use std::alloc::Global;
 use std::process::Abort;
-use time_base::{DocId, Key, NOW, Posting, Time};
-use version_index::Index;
 
 /// Cut to the times from so many seconds on, the word's list is this.
 fn expect_trimmed(

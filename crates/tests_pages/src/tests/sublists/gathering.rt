@@ -3,13 +3,13 @@ use super::given::{
     BOTH, FIRST, cuts, docs_of, gather_between, gather_blocks, machine_with, no_sublists, pages_of,
     places_of, posting, store_between, time,
 };
+use base_types::Time;
+use journal_entries::{Layout, Place};
 use machine_mem::MemMachine;
 use machine_model::Area;
-use record_codec::{Layout, Place};
+use pages_sublists::{Damage, FetchError, Sublists, Why};
 use std::alloc::Global;
 use std::process::Abort;
-use sublist_store::{Damage, FetchError, Sublists, Why};
-use time_base::Time;
 
 /// Windows: their ends, the documents that are found, the postings that are read, and the bytes in
 /// blocks and flat.

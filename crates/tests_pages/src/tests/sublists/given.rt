@@ -1,21 +1,21 @@
 //! Lists, machines and stores for the tests.
 ghost use Rattle.std.specs.Prelude.{◌≡◌, [], ◌*◌, ◌+◌, ◌^◌, ◌≤◌, true, All, sum_by, length};
-ghost use Rattle.record_codec.specs.declared.place.Place.{Place as PlainPlace};
-ghost use Rattle.postings.specs.Lists.{IsList};
-ghost use Rattle.page_store.specs.Live.{IsInside};
-ghost use Rattle.page_store.specs.Taken.{HasTaken};
-ghost use Rattle.page_cache.specs.Laws.{LieIn};
-ghost use Rattle.sublist_store.specs.Preparing.{extents};
+ghost use Rattle.journal_entries.specs.declared.place.Place.{Place as PlainPlace};
+ghost use Rattle.lists_postings.specs.Lists.{IsList};
+ghost use Rattle.pages_area.specs.Live.{IsInside};
+ghost use Rattle.pages_area.specs.Taken.{HasTaken};
+ghost use Rattle.pages_area.specs.CacheLaws.{LieIn};
+ghost use Rattle.pages_sublists.specs.Preparing.{extents};
 
+use base_types::{DocId, Extent, Posting, Span, Time};
+use journal_entries::{Layout, Place};
+use lists_postings::merge_distinct;
 use machine_mem::{Fault, MemMachine};
 use machine_model::{Area, Disk, Failed, Image};
-use postings::merge_distinct;
-use record_codec::{Layout, Place};
+use pages_sublists::{FetchError, Gathered, Sublists};
 use sha2::{Digest, Sha256};
 use std::alloc::Global;
 use std::process::Abort;
-use sublist_store::{FetchError, Gathered, Sublists};
-use time_base::{DocId, Extent, Posting, Span, Time};
 
 /// A posting of frequency 1.
 pub(crate) fn posting(rt: &impl Abort, doc: u32, from: u64, to: u64) -> Posting {

@@ -1,23 +1,23 @@
 //! Pages that are kept, and bytes that were checked.
 ghost use Rattle.std.specs.Prelude.{◌≡◌, IfOk};
-ghost use Rattle.postings.specs.Lists.{IsList};
-ghost use Rattle.page_store.specs.Taken.{HasTaken};
-ghost use Rattle.page_cache.specs.Laws.{LieIn};
-ghost use Rattle.sublist_store.specs.Preparing.{extents};
+ghost use Rattle.lists_postings.specs.Lists.{IsList};
+ghost use Rattle.pages_area.specs.Taken.{HasTaken};
+ghost use Rattle.pages_area.specs.CacheLaws.{LieIn};
+ghost use Rattle.pages_sublists.specs.Preparing.{extents};
 
 use super::given::{
     BOTH, FIRST, bytes_of, cuts, docs_of, documents, extents_of, fetch_on, gather_blocks,
     machine_with, no_sublists, pages_of, places_of, time,
 };
+use base_types::{Extent, Posting};
+use journal_entries::{Layout, Place};
 use machine_mem::MemMachine;
 use machine_model::{Area, Disk};
-use record_codec::{Layout, Place};
+use pages_sublists::{Damage, FetchError, Sublists, Why};
 use sha2::{Digest, Sha256};
 use std::alloc::Global;
 use std::process::Abort;
 use std::test::Fail;
-use sublist_store::{Damage, FetchError, Sublists, Why};
-use time_base::{Extent, Posting};
 
 /// A machine whose pages hold the block of document 1, that of both, and the first again.
 fn machine_of_three(rt: &impl Abort, alloc: Global) -> MemMachine {

@@ -1,21 +1,21 @@
 //! Sublists that are prepared and written.
 ghost use Rattle.std.specs.Prelude.{List};
-ghost use Rattle.time_base.specs.declared.extent.Extent.{Extent as PlainExtent};
-ghost use Rattle.page_store.specs.Taken.{HasTaken};
+ghost use Rattle.base_types.specs.declared.extent.Extent.{Extent as PlainExtent};
+ghost use Rattle.pages_area.specs.Taken.{HasTaken};
 
 use super::given::{
     BOTH, BOTH_DIGEST, FIRST, FIRST_DIGEST, bytes_of, extents_of, gather_blocks, machine_with,
     no_sublists, pages_of, read_pages, store_all, time, two_documents,
 };
+use base_types::Extent;
+use journal_entries::Layout;
 use machine_mem::{CallKind, Fault};
 use machine_model::Failed;
-use page_store::{LiveError, TakeError};
-use record_codec::Layout;
+use pages_area::{LiveError, TakeError};
+use pages_sublists::{FetchError, Sublists};
 use std::alloc::Global;
 use std::process::Abort;
 use std::test::Fail;
-use sublist_store::{FetchError, Sublists};
-use time_base::Extent;
 
 #[test]
 fn the_sublists_of_two_documents_lie_in_three_pages(rt: HostRuntime) {

@@ -3,12 +3,11 @@ ghost use Rattle.std.specs.Prelude.{◌<◌, length};
 
 use super::given::Numbers;
 use crate::tests::given::{factor, listed, table_of};
-use elementary::Table;
-use guarantee_planner::plan;
-use plan_certificate::check;
+use base_types::Fraction;
+use plans_guarantee::{check, plan};
+use plans_partitions::Table;
 use std::alloc::Global;
 use std::process::Abort;
-use time_base::Fraction;
 
 /// The least space up to boundary `k`, and where the last segment of a partition that takes it begins,
 /// by trying the segments from each boundary before; the last one of several that take as little.

@@ -1,9 +1,8 @@
 //! Plans of small lists beside the least space that trying every set of cuts finds.
 use super::given::Numbers;
 use crate::tests::given::{factor, listed, table_of};
-use guarantee_planner::plan;
-use plan_certificate::check;
-use time_base::{Fraction, Posting};
+use base_types::{Fraction, Posting};
+use plans_guarantee::{check, plan};
 
 /// How many postings have a time in `[from, to)`.
 fn size(list: &[Posting], from: u64, to: u64) -> u64 {

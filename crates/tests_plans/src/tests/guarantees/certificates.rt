@@ -1,7 +1,7 @@
 //! What `check` takes for a certificate, and what not.
 use super::given::{FIVE, cut_at};
 use crate::tests::given::{factor, listed, table_of};
-use plan_certificate::{Certificate, check};
+use plans_guarantee::{Certificate, check};
 
 #[test]
 fn certificates_pass_exactly_where_they_certify(rt: HostRuntime) {

@@ -2,7 +2,7 @@
 ghost use Rattle.std.specs.Prelude.{◌<◌};
 
 use crate::tests::given::Alike;
-use elementary::Partition;
+use plans_partitions::Partition;
 use std::alloc::Global;
 use std::process::Abort;
 

@@ -1,8 +1,8 @@
 //! Tables and partitions of two documents that overlap.
 use super::given::cut_at;
 use crate::tests::given::{OVERLAP, factor, listed, table_of};
-use elementary::Partition;
-use time_base::Time;
+use base_types::Time;
+use plans_partitions::Partition;
 
 #[test]
 fn a_table_counts_its_list(rt: HostRuntime) {

@@ -1,10 +1,9 @@
 //! Plans that were worked out by hand.
 use super::given::FIVE;
 use crate::tests::given::{OVERLAP, factor, listed, table_of};
-use guarantee_planner::{PlanError, WIDEST, plan};
-use plan_certificate::check;
+use base_types::{DocId, Posting, Span};
+use plans_guarantee::{PlanError, WIDEST, check, plan};
 use std::process::Abort;
-use time_base::{DocId, Posting, Span};
 
 #[test]
 fn plans_are_those_worked_out_by_hand(rt: HostRuntime) {

@@ -2,11 +2,11 @@
 ghost use Rattle.std.specs.Prelude.{◌<◌};
 
 use crate::tests::given::{Alike, factor, listed, table_of};
-use elementary::Table;
-use space_planner::{Load, front, plan};
+use base_types::Span;
+use plans_partitions::Table;
+use plans_space::{Load, front, plan};
 use std::alloc::Global;
 use std::process::Abort;
-use time_base::Span;
 
 /// Moves a seed on, by Marsaglia's shifts for 64 bits, and answers a number below `end`.
 fn below(seed: &mut u64, end: u64) -> u64

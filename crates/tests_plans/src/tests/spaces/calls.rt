@@ -2,9 +2,9 @@
 ghost use Rattle.std.specs.Prelude.{◌≤◌, ◌^◌};
 
 use crate::tests::given::{OVERLAP, factor, listed, table_of};
-use space_planner::{Load, front, plan};
+use base_types::Span;
+use plans_space::{Load, front, plan};
 use std::cell::RefCell;
-use time_base::Span;
 
 /// The span's seconds; notes the call, if there is memory.
 fn noted(calls: &RefCell<Vec<Span>>, span: Span) -> u64

@@ -1,7 +1,7 @@
 //! Plans that were worked out by hand.
 use crate::tests::given::{Alike, OVERLAP, factor, listed, table_of};
-use space_planner::{Load, front, plan};
-use time_base::Span;
+use base_types::Span;
+use plans_space::{Load, front, plan};
 
 #[test]
 fn plans_of_two_overlapping_documents(rt: HostRuntime) {

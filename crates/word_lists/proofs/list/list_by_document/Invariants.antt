@@ -1,5 +1,5 @@
 use Rattle.std.proofs.Common.{◌≤◌, ◌^◌, take, length}
-use Rattle.postings.specs.ListsOf.{IsListOf}
+use Rattle.lists_postings.specs.ListsOf.{IsListOf}
 use Rattle.word_lists.specs.Frequencies.{frequency_by}
 use Rattle.word_lists.proofs.Turns.{EndIn}
 use Rattle.word_lists.proofs.list.list_by_document.Given as goal

@@ -1,7 +1,7 @@
 use Rattle.std.proofs.Common.{Result, inl, subst}
-use Rattle.archive_replay.specs.Entries.{IsPrepared}
-use Rattle.archive_replay.specs.declared.preparing.Prepared.{Prepared}
-use Rattle.archive_replay.specs.declared.error.Declined.{Declined}
+use Rattle.archive_entries.specs.Entries.{IsPrepared}
+use Rattle.archive_entries.specs.declared.preparing.Prepared.{Prepared}
+use Rattle.archive_entries.specs.declared.error.Declined.{Declined}
 use Rattle.archive_core.proofs.AddLemmas.{adds_entry, adds_none, pages_nowhere}
 use Rattle.archive_core.proofs.ByReadsLemmas.{adds_by, keeps_leads, keeps_nowhere}
 use Rattle.archive_core.proofs.archive.Archive.add.Goals as goal

@@ -1,7 +1,7 @@
 use Rattle.std.proofs.Common.{◌≡◌, List, ℕ, All, true, is_some, sym, ap, subst, ◌∙◌, rules}
-use Rattle.archive_state.specs.Plans.{is_another}
+use Rattle.model_archive.specs.Plans.{is_another}
 use Rattle.archive_core.proofs.AnswerLemmas.{by_alive, by_hits, by_unplanned}
-use Rattle.version_store.specs.Changes.{alive, held_at}
+use Rattle.lists_versions.specs.Changes.{alive, held_at}
 use Rattle.archive_core.proofs.archive.Archive.answer_by.Goals as goal
 
 pub returns-then-matches_without_words-clause-rows : goal.returns-then-matches_without_words-clause-rows

@@ -1,5 +1,5 @@
 use Rattle.std.proofs.Common.{rules, Err, ap}
-use Rattle.sublist_store.specs.declared.why.FetchError.{FetchError}
+use Rattle.pages_sublists.specs.declared.why.FetchError.{FetchError}
 use Rattle.archive_core.proofs.ChosenLemmas.{handed, first_damage}
 use Rattle.archive_core.proofs.archive.Archive.answer_of.Goals as goal
 

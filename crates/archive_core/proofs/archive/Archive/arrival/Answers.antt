@@ -1,5 +1,5 @@
 use Rattle.std.proofs.Common.{ap, sym, subst, ◌∙◌}
-use Rattle.version_index.specs.Indexes.{IndexState}
+use Rattle.lists_index.specs.Indexes.{IndexState}
 use Rattle.archive_core.specs.States.{ArchiveState, StandsFor}
 use Rattle.archive_core.proofs.archive.Archive.arrival.Goals as goal
 

@@ -1,9 +1,9 @@
 use Rattle.std.proofs.Common.{ap}
-use Rattle.commands.specs.declared.command.Command.TheVariants as commands
-use Rattle.commands.specs.declared.command.Item.TheVariants as items
-use Rattle.commands.specs.declared.text.Text.TheVariants as texts
-use Rattle.record_codec.specs.declared.entry.Entry.TheVariants as entries
-use Rattle.archive_state.specs.Steps.{arrival_refusal}
+use Rattle.base_commands.specs.declared.command.Command.TheVariants as commands
+use Rattle.base_commands.specs.declared.command.Item.TheVariants as items
+use Rattle.base_commands.specs.declared.text.Text.TheVariants as texts
+use Rattle.journal_entries.specs.declared.entry.Entry.TheVariants as entries
+use Rattle.model_archive.specs.Steps.{arrival_refusal}
 use Rattle.archive_core.proofs.TakeLemmas.{entry_by}
 use Rattle.archive_core.proofs.archive.Archive.arrive.Goals as goal
 

@@ -1,4 +1,4 @@
-use Rattle.archive_state.specs.Steps.{Certifies}
+use Rattle.model_archive.specs.Steps.{Certifies}
 use Rattle.archive_core.proofs.TakeLemmas.{proposal_by}
 use Rattle.archive_core.proofs.archive.Archive.certificate.Goals as goal
 

@@ -1,8 +1,8 @@
 use Rattle.std.proofs.Common.{inl, inr, ap, sym, ◌∙◌}
 use Rattle.std.proofs.lemmas.Result.{IfOk-weaker}
-use Rattle.fold_tokens.specs.Terms.{one_term}
-use Rattle.archive_state.specs.declared.refusal.Refusal.TheVariants as refusals
-use Rattle.archive_state.specs.Steps.{Refused}
+use Rattle.text_words.specs.Terms.{one_term}
+use Rattle.model_archive.specs.declared.refusal.Refusal.TheVariants as refusals
+use Rattle.model_archive.specs.Steps.{Refused}
 use Rattle.archive_core.proofs.PlanLemmas.{one_why, not_both, term_certifies}
 use Rattle.archive_core.proofs.archive.Archive.certificate_of.Goals as goal
 

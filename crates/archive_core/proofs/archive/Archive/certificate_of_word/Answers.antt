@@ -1,10 +1,10 @@
 use Rattle.std.proofs.Common.{Option, ap, sym, subst, ◌∙◌}
-use Rattle.commands.specs.declared.command.Kind.TheVariants.{Guarantee, Uniform, Since}
-use Rattle.archive_state.specs.declared.refusal.Refusal.TheVariants as refusals
-use Rattle.archive_state.specs.Plans.{plan_of}
-use Rattle.archive_state.specs.Steps.{CertifiesLive, Refused}
-use Rattle.record_codec.specs.declared.plan.PlanEntry.{PlanEntry}
-use Rattle.plan_shelf.specs.Shelves.{ShelfState}
+use Rattle.base_commands.specs.declared.command.Kind.TheVariants.{Guarantee, Uniform, Since}
+use Rattle.model_archive.specs.declared.refusal.Refusal.TheVariants as refusals
+use Rattle.model_archive.specs.Plans.{plan_of}
+use Rattle.model_archive.specs.Steps.{CertifiesLive, Refused}
+use Rattle.journal_entries.specs.declared.plan.PlanEntry.{PlanEntry}
+use Rattle.archive_plans.specs.Shelves.{ShelfState}
 use Rattle.archive_core.proofs.PlanLemmas.{one_why, found_live, none_live, live_as}
 use Rattle.archive_core.proofs.archive.Archive.certificate_of_word.Goals as goal
 

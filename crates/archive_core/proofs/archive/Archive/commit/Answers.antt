@@ -1,23 +1,23 @@
 use Rattle.std.proofs.Common.{◌≡◌, ◌+◌, ◌++◌, ◌∷◌, [], ℕ, List, All, length, Err, true, false, refl, ap, ap₂, sym, subst, ◌∙◌, arith, rules}
 use Rattle.machine_model.specs.declared.area.Area.TheVariants.{Journal, Pages}
-use Rattle.page_store.specs.Live.{IsInside}
-use Rattle.time_base.specs.declared.ids.DocId.{DocId}
-use Rattle.time_base.specs.declared.text_place.TextPlace.{TextPlace}
-use Rattle.time_base.specs.declared.time.Time.{Time}
-use Rattle.version_store.specs.declared.change.Change.{Change}
-use Rattle.gate_journal.specs.Crash.{Appends}
-use Rattle.gate_journal.specs.State.{JournalState}
-use Rattle.gate_journal.specs.declared.error.AppendError.{AppendError}
-use Rattle.gate_journal.specs.declared.error.AppendError.TheVariants as appends
-use Rattle.version_index.specs.Indexes.{state_of}
-use Rattle.version_index.specs.Indexing.{IndexValue, AreIndexed}
-use Rattle.version_index.specs.Measuring.{IsMeasured}
-use Rattle.archive_replay.specs.Entries.{IsHeld}
+use Rattle.pages_area.specs.Live.{IsInside}
+use Rattle.base_types.specs.declared.ids.DocId.{DocId}
+use Rattle.base_types.specs.declared.text_place.TextPlace.{TextPlace}
+use Rattle.base_types.specs.declared.time.Time.{Time}
+use Rattle.lists_versions.specs.declared.change.Change.{Change}
+use Rattle.journal_gates.specs.Crash.{Appends}
+use Rattle.journal_gates.specs.State.{JournalState}
+use Rattle.journal_gates.specs.declared.error.AppendError.{AppendError}
+use Rattle.journal_gates.specs.declared.error.AppendError.TheVariants as appends
+use Rattle.lists_index.specs.Indexes.{state_of}
+use Rattle.lists_index.specs.Indexing.{IndexValue, AreIndexed}
+use Rattle.lists_index.specs.Measuring.{IsMeasured}
+use Rattle.archive_entries.specs.Entries.{IsHeld}
 use Rattle.archive_core.specs.Adding.{IsMore}
 use Rattle.archive_core.specs.States.{ArchiveState, StandsFor}
-use Rattle.plan_shelf.specs.Shelves.{extents_all}
+use Rattle.archive_plans.specs.Shelves.{extents_all}
 use Rattle.archive_core.proofs.CacheLemmas.{cached_on}
-use Rattle.gate_journal.proofs.InStepLemmas.{step_at}
+use Rattle.journal_gates.proofs.InStepLemmas.{step_at}
 use Rattle.archive_core.proofs.AddLemmas.{appends_nowhere, inside_on, pages_nowhere, stands_more}
 use Rattle.archive_core.proofs.archive.Archive.commit.Given.{Over}
 use Rattle.archive_core.proofs.archive.Archive.commit.Goals as goal

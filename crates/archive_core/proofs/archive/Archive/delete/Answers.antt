@@ -1,8 +1,8 @@
 use Rattle.std.proofs.Common.{ap}
-use Rattle.commands.specs.declared.command.Command.TheVariants as commands
-use Rattle.commands.specs.declared.command.Item.TheVariants as items
-use Rattle.record_codec.specs.declared.entry.Entry.TheVariants as entries
-use Rattle.archive_state.specs.Steps.{deletion_refusal}
+use Rattle.base_commands.specs.declared.command.Command.TheVariants as commands
+use Rattle.base_commands.specs.declared.command.Item.TheVariants as items
+use Rattle.journal_entries.specs.declared.entry.Entry.TheVariants as entries
+use Rattle.model_archive.specs.Steps.{deletion_refusal}
 use Rattle.archive_core.proofs.TakeLemmas.{entry_by}
 use Rattle.archive_core.proofs.archive.Archive.delete.Goals as goal
 

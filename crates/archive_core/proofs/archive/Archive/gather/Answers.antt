@@ -1,6 +1,6 @@
 use Rattle.std.proofs.Common.{◌≡◌, ◌<◌, length, ap, subst, sym}
-use Rattle.version_index.specs.Indexes.{state_of}
-use Rattle.plan_shelf.specs.Shelves.{ShelfState}
+use Rattle.lists_index.specs.Indexes.{state_of}
+use Rattle.archive_plans.specs.Shelves.{ShelfState}
 use Rattle.archive_core.specs.States.{ArchiveState, IsSameButCache, Reaches}
 use Rattle.archive_core.proofs.CacheLemmas.{stands_but_cache}
 use Rattle.archive_core.proofs.ChosenLemmas.{readable}

@@ -1,5 +1,5 @@
 use Rattle.std.proofs.Common.{◌≡◌, All, take, true}
-use Rattle.archive_state.specs.Plans.{is_another}
+use Rattle.model_archive.specs.Plans.{is_another}
 use Rattle.archive_core.proofs.archive.Archive.is_any_planned.Given as goal
 
 abbrev pub invariant-loop-word : goal.invariant-loop-word

@@ -1,6 +1,6 @@
 use Rattle.std.proofs.Common.{sym, subst}
-use Rattle.version_index.specs.Indexes.{IndexState, Indexes}
-use Rattle.archive_state.specs.Histories.{changes}
+use Rattle.lists_index.specs.Indexes.{IndexState, Indexes}
+use Rattle.model_archive.specs.Histories.{changes}
 use Rattle.archive_core.proofs.PlanLemmas.{known_is, known_there}
 use Rattle.archive_core.proofs.archive.Archive.knows.Goals as goal
 

@@ -1,10 +1,10 @@
 use Rattle.std.proofs.Common.{◌^◌, List, sym, subst}
-use Rattle.time_base.specs.declared.posting.Posting.{Posting}
-use Rattle.postings.specs.ListsOf.{IsListOf}
-use Rattle.version_index.specs.Indexes.{IndexState, Indexes}
-use Rattle.archive_state.specs.Histories.{changes}
-use Rattle.archive_state.specs.Answers.{frequency_at}
-use Rattle.archive_replay.proofs.IndexLemmas.{word_list}
+use Rattle.base_types.specs.declared.posting.Posting.{Posting}
+use Rattle.lists_postings.specs.ListsOf.{IsListOf}
+use Rattle.lists_index.specs.Indexes.{IndexState, Indexes}
+use Rattle.model_archive.specs.Histories.{changes}
+use Rattle.model_archive.specs.Answers.{frequency_at}
+use Rattle.archive_entries.proofs.IndexLemmas.{word_list}
 use Rattle.archive_core.proofs.archive.Archive.list_until.Goals as goal
 
 pub returns-clause-list : goal.returns-clause-list

@@ -1,10 +1,10 @@
 use Rattle.std.proofs.Common.{◌≡◌, ℕ, ◌∙◌, List, [], length, inl, ap, refl, sym, subst}
 use Rattle.std.proofs.lemmas.Result.{IfOk-weaker, err_from_is_err_and}
 use Rattle.machine_model.specs.declared.area.Area.TheVariants.{Pages}
-use Rattle.gate_journal.specs.Spelled.{Spells}
-use Rattle.gate_journal.proofs.LoadLemmas.{kept_reads, sync_reads}
-use Rattle.archive_state.specs.Stands.{bodies_of}
-use Rattle.archive_state.proofs.StandsLemmas.{stands_is_archive}
+use Rattle.journal_gates.specs.Spelled.{Spells}
+use Rattle.journal_gates.proofs.LoadLemmas.{kept_reads, sync_reads}
+use Rattle.model_archive.specs.Stands.{bodies_of}
+use Rattle.model_archive.proofs.StandsLemmas.{stands_is_archive}
 use Rattle.archive_core.proofs.AddLemmas.{history_loaded, pages_reads, journal_exit, IfOk-both}
 use Rattle.archive_core.specs.States.{Reaches}
 use Rattle.archive_core.proofs.ByReadsLemmas.{loaded_by}

@@ -1,16 +1,16 @@
 use Rattle.std.proofs.Common.{◌≡◌, List, All, true, Err, None, get_or, ap, sym, subst, ◌∙◌}
-use Rattle.time_base.specs.declared.posting.Posting.{Posting}
-use Rattle.sublist_store.specs.declared.why.Damage.{Damage}
-use Rattle.archive_state.specs.declared.stored.StoredPlan.{StoredPlan}
-use Rattle.archive_state.specs.Chosen.{GathersOf, IsTailFor}
-use Rattle.archive_state.specs.Histories.{changes}
-use Rattle.archive_state.specs.Plans.{is_another}
-use Rattle.plan_shelf.specs.Shelves.{ShelfState}
-use Rattle.version_index.specs.Indexes.{IndexState, Indexes}
+use Rattle.base_types.specs.declared.posting.Posting.{Posting}
+use Rattle.pages_sublists.specs.declared.why.Damage.{Damage}
+use Rattle.model_archive.specs.declared.stored.StoredPlan.{StoredPlan}
+use Rattle.model_archive.specs.Chosen.{GathersOf, IsTailFor}
+use Rattle.model_archive.specs.Histories.{changes}
+use Rattle.model_archive.specs.Plans.{is_another}
+use Rattle.archive_plans.specs.Shelves.{ShelfState}
+use Rattle.lists_index.specs.Indexes.{IndexState, Indexes}
 use Rattle.archive_core.proofs.CacheLemmas.{asked_by, nothing_asked, stands_but_cache}
 use Rattle.archive_core.proofs.ChosenLemmas.{damage_of, handed, planned_chosen, planned_is, unplanned_is, whole_chosen}
-use Rattle.archive_replay.specs.Live.{IsPlanAt}
-use Rattle.archive_replay.proofs.IndexLemmas.{word_list}
+use Rattle.archive_entries.specs.Live.{IsPlanAt}
+use Rattle.archive_entries.proofs.IndexLemmas.{word_list}
 use Rattle.archive_core.proofs.archive.Archive.part_of.Goals as goal
 
 pub returns-in_default-clause-chosen : goal.returns-in_default-clause-chosen

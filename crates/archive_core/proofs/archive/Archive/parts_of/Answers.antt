@@ -2,10 +2,10 @@ use Rattle.std.proofs.Common.{arith, rules, ◌≡◌, ℕ, ◌+◌, ◌++◌, �
 use Rattle.std.proofs.lemmas.List.{take_more, take-append-drop, length_push}
 use Rattle.machine_model.specs.States.{DiskState}
 use Rattle.query_eval.specs.declared.part.Part.{Part}
-use Rattle.archive_state.specs.Plans.{plan_of}
-use Rattle.archive_state.specs.Chosen.{AreChosen, IsChosenOf, IsDamagedFor, pieces_chosen, pieces_for}
+use Rattle.model_archive.specs.Plans.{plan_of}
+use Rattle.model_archive.specs.Chosen.{AreChosen, IsChosenOf, IsDamagedFor, pieces_chosen, pieces_for}
 use Rattle.archive_core.specs.Answering.{HasAsked}
-use Rattle.sublist_store.specs.declared.why.FetchError.{FetchError}
+use Rattle.pages_sublists.specs.declared.why.FetchError.{FetchError}
 use Rattle.archive_core.proofs.CacheLemmas.{asked_joins, but_cache_joins, pieces_more, stands_but_cache}
 use Rattle.archive_core.proofs.ChosenLemmas.{chosen_more, handed, reaches_on, reads_join}
 use Rattle.archive_core.proofs.archive.Archive.parts_of.Goals as goal

@@ -1,7 +1,7 @@
 use Rattle.std.proofs.Common.{◌≡◌, length, take}
 use Rattle.machine_model.specs.Calls.{OnlyReads}
-use Rattle.archive_state.specs.Histories.{History}
-use Rattle.archive_state.specs.Chosen.{AreChosen, pieces_for}
+use Rattle.model_archive.specs.Histories.{History}
+use Rattle.model_archive.specs.Chosen.{AreChosen, pieces_for}
 use Rattle.archive_core.specs.Answering.{HasAsked}
 use Rattle.archive_core.specs.States.{StandsFor, CacheStands, IsSameButCache, Reaches}
 use Rattle.archive_core.proofs.archive.Archive.parts_of.Given as goal

@@ -1,11 +1,11 @@
 use Rattle.std.proofs.Common.{◌+◌, ◌∷◌, [], ◌++◌, Err, refl, ap, inr, sym, subst}
 use Rattle.std.proofs.lemmas.Result.{IfOk-weaker}
-use Rattle.record_codec.specs.declared.entry.Entry.TheVariants as entries
-use Rattle.commands.specs.declared.command.Command.TheVariants as commands
-use Rattle.commands.specs.declared.command.Item.TheVariants as items
-use Rattle.archive_state.specs.Steps.{Planned, Plans, Refused, Summary}
+use Rattle.journal_entries.specs.declared.entry.Entry.TheVariants as entries
+use Rattle.base_commands.specs.declared.command.Command.TheVariants as commands
+use Rattle.base_commands.specs.declared.command.Item.TheVariants as items
+use Rattle.model_archive.specs.Steps.{Planned, Plans, Refused, Summary}
 use Rattle.archive_core.specs.States.{CacheStands, StandsFor}
-use Rattle.plan_shelf.specs.declared.readying.PlanReport.{PlanReport}
+use Rattle.archive_plans.specs.declared.readying.PlanReport.{PlanReport}
 use Rattle.archive_core.proofs.AddLemmas.{given_up_cached, given_up_never, given_up_refused}
 use Rattle.archive_core.proofs.ByReadsLemmas.{still_by, stocks_same}
 use Rattle.archive_core.proofs.StoreLemmas.{plan_by, plans_full, plans_stored, plans_refused}

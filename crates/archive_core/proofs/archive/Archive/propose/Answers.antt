@@ -1,8 +1,8 @@
 use Rattle.std.proofs.Common.{◌≡◌, ap, refl}
 use Rattle.std.proofs.lemmas.Result.{IfOk-weaker}
-use Rattle.proposals.specs.Proposals.{IsProposal}
-use Rattle.commands.specs.declared.command.Kind.TheVariants.{Guarantee}
-use Rattle.archive_state.specs.Steps.{Proposed, Proposes, Refused}
+use Rattle.plans_kinds.specs.Proposals.{IsProposal}
+use Rattle.base_commands.specs.declared.command.Kind.TheVariants.{Guarantee}
+use Rattle.model_archive.specs.Steps.{Proposed, Proposes, Refused}
 use Rattle.archive_core.proofs.AskedLemmas.{error_told, none_answered}
 use Rattle.archive_core.proofs.PlanLemmas.{phrase_refused, told_of_boundaries}
 use Rattle.archive_core.proofs.TakeLemmas.{proposal_by}

@@ -1,6 +1,6 @@
 use Rattle.std.proofs.Common.{◌≡◌, List, ℕ, Option, Some, ap, sym, subst, ◌∙◌}
-use Rattle.fold_tokens.specs.Terms.{one_term}
-use Rattle.archive_state.specs.Planning.{OfPhrase}
+use Rattle.text_words.specs.Terms.{one_term}
+use Rattle.model_archive.specs.Planning.{OfPhrase}
 use Rattle.archive_core.proofs.PlanLemmas.{spelled_same, term_spelled}
 use Rattle.archive_core.proofs.archive.Archive.sealed.Goals as goal
 

@@ -1,9 +1,9 @@
 use Rattle.std.proofs.Common.{arith, ℕ, [], ap, refl, sym, subst, ◌∙◌, inl}
 use Rattle.std.specs.Prelude.{vec_len}
-use Rattle.version_store.specs.Changes.{last_time}
-use Rattle.archive_state.specs.Answers.{frequency_at}
-use Rattle.archive_state.specs.Planning.{IsListUpTo, last_second}
-use Rattle.archive_state.specs.declared.refusal.Refusal.TheVariants as refusals
+use Rattle.lists_versions.specs.Changes.{last_time}
+use Rattle.model_archive.specs.Answers.{frequency_at}
+use Rattle.model_archive.specs.Planning.{IsListUpTo, last_second}
+use Rattle.model_archive.specs.declared.refusal.Refusal.TheVariants as refusals
 use Rattle.archive_core.proofs.PlanLemmas.{last_second_is, one_why, not_both, nothing_sealed, none_before, no_second, none_left}
 use Rattle.archive_core.proofs.archive.Archive.sealed_list.Goals as goal
 

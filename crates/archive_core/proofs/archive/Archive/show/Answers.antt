@@ -2,8 +2,8 @@ use Rattle.std.proofs.Common.{◌≡◌, ℕ, Ok, Some, None, refl, ap, sym, ◌
 use Rattle.std.specs.Option.{option_map}
 use Rattle.std.specs.Prelude.{Vec}
 use Rattle.std.specs.declared.alloc.Global.{Global}
-use Rattle.version_store.specs.Changes.{held_at}
-use Rattle.archive_replay.specs.Texts.{text_in}
+use Rattle.lists_versions.specs.Changes.{held_at}
+use Rattle.archive_entries.specs.Texts.{text_in}
 use Rattle.archive_core.proofs.AskedLemmas.{none_answered}
 use Rattle.archive_core.proofs.TakeLemmas.{show_by}
 use Rattle.archive_core.proofs.TextLemmas.{text_is, found_lies}

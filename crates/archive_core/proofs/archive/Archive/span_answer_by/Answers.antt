@@ -1,14 +1,14 @@
 use Rattle.std.proofs.Common.{◌≡◌, ◌<◌, ◌≤◌, ℕ, sym, subst, ◌∙◌, ◌↔◌, List, All, true, Contains, IsTrue, IsSome, is_some}
-use Rattle.time_base.specs.declared.ids.DocId.{DocId}
+use Rattle.base_types.specs.declared.ids.DocId.{DocId}
 use Rattle.query_lang.specs.Meaning.{words_of}
 use Rattle.query_eval.specs.Found.{told}
-use Rattle.time_base.specs.declared.text_place.TextPlace.{TextPlace}
-use Rattle.stretches.specs.Kinds.{is_alive}
-use Rattle.stretches.specs.declared.life.Life.{Life}
-use Rattle.version_store.specs.declared.change.Change.{Change}
-use Rattle.version_store.specs.Changes.{held_at}
-use Rattle.archive_state.specs.Histories.{text_at}
-use Rattle.archive_state.specs.Plans.{is_another}
+use Rattle.base_types.specs.declared.text_place.TextPlace.{TextPlace}
+use Rattle.lists_postings.specs.Kinds.{is_alive}
+use Rattle.lists_postings.specs.declared.life.Life.{Life}
+use Rattle.lists_versions.specs.declared.change.Change.{Change}
+use Rattle.lists_versions.specs.Changes.{held_at}
+use Rattle.model_archive.specs.Histories.{text_at}
+use Rattle.model_archive.specs.Plans.{is_another}
 use Rattle.archive_core.proofs.SpanLemmas.{by_lives, by_met, hits_alive}
 use Rattle.archive_core.proofs.archive.Archive.span_answer_by.Goals as goal
 

@@ -1,17 +1,17 @@
 use Rattle.std.proofs.Common.{ℕ, ◌+◌, List, ◌∷◌, [], ◌++◌, true, inl, inr, refl, ap, sym, subst, ◌∙◌, arith, rules}
 use Rattle.machine_model.specs.declared.area.Area.TheVariants.{Journal, Pages}
-use Rattle.record_codec.specs.declared.entry.Entry.TheVariants as entries
-use Rattle.version_index.specs.Indexes.{seen, state_of}
-use Rattle.page_cache.specs.Caches.{Kept, StandsFor as IsCacheOf}
-use Rattle.page_store.specs.Taken.{HasTaken}
-use Rattle.archive_state.specs.declared.stored.StoredPlan.{StoredPlan}
-use Rattle.archive_state.specs.Histories.{History}
-use Rattle.archive_state.specs.Plans.{with_plan, live_extents}
+use Rattle.journal_entries.specs.declared.entry.Entry.TheVariants as entries
+use Rattle.lists_index.specs.Indexes.{seen, state_of}
+use Rattle.pages_area.specs.Caches.{Kept, StandsFor as IsCacheOf}
+use Rattle.pages_area.specs.Taken.{HasTaken}
+use Rattle.model_archive.specs.declared.stored.StoredPlan.{StoredPlan}
+use Rattle.model_archive.specs.Histories.{History}
+use Rattle.model_archive.specs.Plans.{with_plan, live_extents}
 use Rattle.archive_core.specs.Adding.{HasSameShelf}
-use Rattle.archive_state.specs.Stands.{bodies_of}
+use Rattle.model_archive.specs.Stands.{bodies_of}
 use Rattle.archive_core.specs.States.{ArchiveState, StandsFor, AreInStepBy, with_entry}
-use Rattle.plan_shelf.specs.Shelves.{extents_all}
-use Rattle.plan_shelf.specs.Readying.{IsFull, summary_of, tells_of}
+use Rattle.archive_plans.specs.Shelves.{extents_all}
+use Rattle.archive_plans.specs.Readying.{IsFull, summary_of, tells_of}
 use Rattle.archive_core.proofs.AddLemmas.{bodies_more, given_up_cached, given_up_refused, inside_on}
 use Rattle.archive_core.proofs.ByReadsLemmas.{all_same, begun_keeps, put_there, same_as}
 use Rattle.archive_core.proofs.CacheLemmas.{cached_on}

@@ -1,7 +1,7 @@
 use Rattle.std.proofs.Common.{inr, sym, subst, arith}
-use Rattle.version_index.specs.Indexes.{IndexState, Indexes}
-use Rattle.archive_state.specs.Histories.{changes}
-use Rattle.archive_replay.proofs.IndexLemmas.{word_list}
+use Rattle.lists_index.specs.Indexes.{IndexState, Indexes}
+use Rattle.model_archive.specs.Histories.{changes}
+use Rattle.archive_entries.proofs.IndexLemmas.{word_list}
 use Rattle.archive_core.proofs.ChosenLemmas.{cut_tail}
 use Rattle.archive_core.proofs.archive.Archive.tail_of.Goals as goal
 

@@ -1,7 +1,7 @@
 use Rattle.std.proofs.Common.{get_or, ap, ◌∙◌}
 use Rattle.std.proofs.lemmas.List.{get_or_default}
 use Rattle.std.proofs.lemmas.Result.{IfOk-weaker}
-use Rattle.plan_shelf.specs.Shelves.{ShelfState}
+use Rattle.archive_plans.specs.Shelves.{ShelfState}
 use Rattle.archive_check.proofs.LawLemmas.{loaded_in_order}
 use Rattle.archive_core.proofs.ChosenLemmas.{readable}
 use Rattle.archive_core.proofs.TakeLemmas.{verify_by}

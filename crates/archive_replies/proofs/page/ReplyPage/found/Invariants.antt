@@ -1,6 +1,6 @@
 use Rattle.std.proofs.Common.{◌≡◌, take}
 use Rattle.std.specs.List.{flat_map}
-use Rattle.archive_state.specs.Replies.{row_text}
+use Rattle.model_archive.specs.Replies.{row_text}
 use Rattle.archive_replies.proofs.page.ReplyPage.found.Given as goal
 
 abbrev pub invariant-loop-row : goal.invariant-loop-row

@@ -1,6 +1,6 @@
 use Rattle.std.proofs.Common.{◌≡◌, ◌++◌, take}
 use Rattle.std.specs.List.{flat_map}
-use Rattle.archive_state.specs.Replies.{node_text, segment_text}
+use Rattle.model_archive.specs.Replies.{node_text, segment_text}
 use Rattle.archive_replies.proofs.page.ReplyPage.proposed.Given as goal
 
 abbrev pub invariant-loop-segment : goal.invariant-loop-segment

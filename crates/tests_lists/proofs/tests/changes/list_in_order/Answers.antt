@@ -1,8 +1,8 @@
 use Rattle.std.specs.Prelude.{ℕ, ◌<◌, ◌==◌, Bool, true, false, cond, List, [], ◌∷◌, filter, All}
 use Rattle.std.proofs.Common.{arith}
 use Rattle.std.proofs.lemmas.List.Elements.{All-nil, All-cons, All-head, All-weaker, All-filter}
-use Rattle.version_store.specs.declared.change.Change.{Change}
-use Rattle.postings.specs.Lists.{EachNext}
+use Rattle.lists_versions.specs.declared.change.Change.{Change}
+use Rattle.lists_postings.specs.Lists.{EachNext}
 use Rattle.tests_lists.proofs.tests.changes.list_in_order.Goals as goal
 
 -- each comes later than the one before it

@@ -1,8 +1,8 @@
 use Rattle.std.proofs.Common.{◌≡◌, ℕ, List, [], ◌∷◌, ◌++◌, ◌+◌, ◌*◌, ◌<◌, ◌==◌, All, arith}
 use Rattle.std.proofs.lemmas.List.Elements.{All-filter, All-weaker, All-append, All-cons, All-nil}
-use Rattle.version_store.specs.declared.change.Change.{Change}
-use Rattle.version_index.specs.Indexing.{ComesLater}
-use Rattle.version_index.specs.Loads.{Loads}
+use Rattle.lists_versions.specs.declared.change.Change.{Change}
+use Rattle.lists_index.specs.Indexing.{ComesLater}
+use Rattle.lists_index.specs.Loads.{Loads}
 use Rattle.tests_lists.proofs.tests.index.loaded.Goals as goal
 
 -- the next change comes 10 seconds later than the one before it

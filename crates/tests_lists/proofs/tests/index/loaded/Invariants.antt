@@ -1,6 +1,6 @@
 use Rattle.std.proofs.Common.{ℕ, List, ◌+◌, ◌*◌, ◌<◌, All}
-use Rattle.version_store.specs.declared.change.Change.{Change}
-use Rattle.version_index.specs.Loads.{Loads}
+use Rattle.lists_versions.specs.declared.change.Change.{Change}
+use Rattle.lists_index.specs.Loads.{Loads}
 use Rattle.tests_lists.proofs.tests.index.loaded.Given as goal
 
 abbrev pub invariant-loop-i : goal.invariant-loop-i

@@ -1,4 +1,4 @@
-use Rattle.postings.specs.Lists.{IsList}
+use Rattle.lists_postings.specs.Lists.{IsList}
 use Rattle.tests_lists.proofs.tests.joins.listed.Given as goal
 
 abbrev pub invariant-loop-from : goal.invariant-loop-from

@@ -1,4 +1,4 @@
-use Rattle.tail_lists.specs.Weights.{AreWeights}
+use Rattle.lists_tails.specs.Weights.{AreWeights}
 use Rattle.tests_lists.proofs.tests.tails.passed.Given as goal
 
 abbrev pub invariant-loop-at : goal.invariant-loop-at

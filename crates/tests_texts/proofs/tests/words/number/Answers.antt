@@ -1,5 +1,5 @@
 use Rattle.std.proofs.Common.{[]}
-use Rattle.fold_tokens.proofs.NumberingLemmas.{may_number}
+use Rattle.text_words.proofs.NumberingLemmas.{may_number}
 use Rattle.tests_texts.proofs.tests.words.number.Goals as goal
 
 pub number-requires : goal.number-requires

@@ -2,8 +2,8 @@ use Rattle.std.proofs.Common.{arith, sum_by, ◌+◌, ◌++◌, [], ◌∷◌, L
 use Rattle.std.proofs.lemmas.List.{take_more}
 use Rattle.std.proofs.lemmas.List.Elements.{All-nil, All-cons, All-append}
 use Rattle.std.proofs.lemmas.List.Sums.{sum_by-append}
-use Rattle.record_codec.specs.declared.place.Place.{Place}
-use Rattle.page_store.specs.Live.{IsInside}
+use Rattle.journal_entries.specs.declared.place.Place.{Place}
+use Rattle.pages_area.specs.Live.{IsInside}
 use Rattle.tests_pages.proofs.tests.sublists.given.fit.Goals as goal
 
 pub loop-place-preserved : goal.loop-place-preserved

@@ -1,6 +1,6 @@
 use Rattle.std.specs.Prelude.{◌≡◌, ◌≤◌, ◌^◌, All, sum_by, take}
-use Rattle.record_codec.specs.declared.place.Place.{Place}
-use Rattle.page_store.specs.Live.{IsInside}
+use Rattle.journal_entries.specs.declared.place.Place.{Place}
+use Rattle.pages_area.specs.Live.{IsInside}
 use Rattle.tests_pages.proofs.tests.sublists.given.fit.Given as goal
 
 abbrev pub invariant-loop-place : goal.invariant-loop-place

@@ -1,7 +1,7 @@
 use Rattle.std.proofs.Common.{List, sym, subst, ◌∙◌}
-use Rattle.record_codec.specs.declared.place.Place.{Place}
-use Rattle.page_cache.specs.Laws.{LieIn}
-use Rattle.sublist_store.specs.Preparing.{extents}
+use Rattle.journal_entries.specs.declared.place.Place.{Place}
+use Rattle.pages_area.specs.CacheLaws.{LieIn}
+use Rattle.pages_sublists.specs.Preparing.{extents}
 use Rattle.tests_pages.proofs.tests.sublists.keeping.pages_that_are_written_anew_are_read_anew.Goals as goal
 
 pub replaced-requires-2-clause-lie : goal.replaced-requires-2-clause-lie

@@ -1,13 +1,13 @@
 use Rattle.std.proofs.Common.{[], ◌++◌, List, ap, sym, subst, ◌∙◌}
 use Rattle.std.proofs.lemmas.List.{append-nil}
-use Rattle.time_base.specs.declared.extent.Extent.{Extent}
-use Rattle.record_codec.specs.declared.place.Place.{Place}
-use Rattle.page_store.specs.Taken.{HasTaken}
-use Rattle.page_cache.specs.Caches.{Kept}
-use Rattle.page_cache.specs.Laws.{LieIn}
-use Rattle.sublist_store.specs.Preparing.{extents}
-use Rattle.sublist_store.specs.Caching.{without_all}
-use Rattle.sublist_store.proofs.KeptLemmas.{kept_apart, lie_behind, lie_without}
+use Rattle.base_types.specs.declared.extent.Extent.{Extent}
+use Rattle.journal_entries.specs.declared.place.Place.{Place}
+use Rattle.pages_area.specs.Taken.{HasTaken}
+use Rattle.pages_area.specs.Caches.{Kept}
+use Rattle.pages_area.specs.CacheLaws.{LieIn}
+use Rattle.pages_sublists.specs.Preparing.{extents}
+use Rattle.pages_sublists.specs.Caching.{without_all}
+use Rattle.pages_sublists.proofs.KeptLemmas.{kept_apart, lie_behind, lie_without}
 use Rattle.tests_pages.proofs.tests.sublists.keeping.replaced.Goals as goal
 
 pub write-requires-clause-unkept : goal.write-requires-clause-unkept

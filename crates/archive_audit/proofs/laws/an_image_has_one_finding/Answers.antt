@@ -1,5 +1,0 @@
-use Rattle.archive_audit.proofs.AuditLemmas.{one_finding_on}
-use Rattle.archive_audit.proofs.laws.an_image_has_one_finding.Goals as goal
-
-pub returns : goal.returns
-returns c = one_finding_on

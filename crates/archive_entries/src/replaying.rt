@@ -1,0 +1,320 @@
+//! Going over the entries of a loaded journal.
+ghost use Rattle.std.specs.Prelude.{◌≡◌, ◌↔◌, ◌+◌, ◌<◌, ◌≤◌, ◌^◌, [], ℕ, List, length, option_map, All, Some, None, IsTrue, IfOk, OnOk, IsErrOf};
+ghost use Rattle.machine_model.specs.Causes.{Rose};
+ghost use Rattle.machine_model.specs.Calls.{OnlyReads};
+ghost use Rattle.journal_gates.specs.Records.{first_gate, gate_bytes};
+ghost use Rattle.journal_gates.specs.Heads.{AreInRow, heads_of};
+ghost use Rattle.journal_gates.specs.Spelled.{Spells};
+ghost use Rattle.journal_gates.specs.Bodies.{BodiesState};
+ghost use Rattle.journal_entries.specs.Spelling.{IsEntry, spelling};
+ghost use Rattle.journal_entries.specs.declared.entry.Entry.{Entry as PlainEntry};
+ghost use Rattle.journal_entries.specs.declared.entry.Entry.TheVariants as entries;
+ghost use Rattle.model_archive.specs.Histories.{History, changes, end_of};
+ghost use Rattle.archive_entries.specs.Entries.{Makes, text_of};
+ghost use Rattle.lists_index.specs.Indexes.{state_of, Indexes};
+ghost use Rattle.lists_index.specs.Loads.{Loads, loaded};
+ghost use Rattle.model_archive.specs.Stands.{bodies_of};
+ghost use Rattle.archive_entries.specs.Live.{EachOnce};
+ghost use Rattle.archive_entries.specs.Replaying.{IsReached, IsGoneOver, IsFaulty, IsReplayed, IsReplaying, IsNextBad, IsBadAmong, IsFitIn, IsFirstUnfit, IsTimely};
+
+use crate::change::{TEXT_AT, may_come, note, placed};
+use crate::error::LoadError;
+use crate::lists::{are_many, list_up_to};
+use crate::live::live_of;
+use base_types::Time;
+use journal_entries::{CodecError, Entry, PlanEntry, decode};
+use journal_gates::{Head, Journal};
+use lists_index::{Index, Loader};
+use lists_versions::{Change, Directory};
+use machine_model::Disk;
+use model_archive::StoredPlan;
+use plans_kinds::is_fit;
+use std::alloc::{AllocError, Global};
+use text_words::NumberError;
+
+/// What the entries of a journal make.
+#[derive(Drop)]
+pub struct Replayed {
+    /// Their changes, with the places of the texts.
+    pub directory: Directory,
+    /// The index of their texts.
+    pub index: Index,
+    /// The live plans.
+    pub plans: Vec<StoredPlan>,
+}
+
+/// What was met so far.
+#[derive(Drop)]
+struct Met {
+    directory: Directory,
+    loader: Loader,
+    plans: Vec<StoredPlan>,
+}
+
+impl Met {
+    /// Nothing yet.
+    fn new(alloc: Global) -> Result<Met, AllocError>
+        ensures changes { IfOk result (λ m. m.directory.changes ≡ []) }
+        ensures loads { IfOk result (λ m. Loads m.loader []) }
+        ensures plans { IfOk result (λ m. m.plans.items ≡ []) }
+    {
+        Ok(Met {
+            directory: Directory::new(alloc)?,
+            loader: Loader::new(alloc)?,
+            plans: Vec::new(alloc),
+        })
+    }
+}
+
+/// The directory, the index and the live plans of the entries that lie where these heads say.
+///
+/// `NotArchive`: an entry is cut short, is not allowed, or may not come after those before it, which shows
+/// at that place. `Failed`: the disk failed. `Memory`: there was none.
+/// It reads the bodies in pieces of 64 KiB or a whole body, and costs time in their lengths, two look-ups
+/// an entry, n log n in the words' counts and in the postings of each planned word, and a look at the live
+/// plans for each plan.
+pub fn replay<D: Disk>(
+    alloc: Global,
+    disk: &mut D,
+    journal: &Journal,
+    heads: &[Head],
+) -> Result<Replayed, LoadError>
+    requires reached { journal.now.end ≤ (D.disk disk.old).reach.journal }
+    requires row { AreInRow first_gate heads.now journal.now.end }
+    ensures only { D.Disk.only disk.old disk.new }
+    ensures same { OnlyReads (D.disk disk.old) (D.disk disk.new) }
+    ensures unread { D.disk_tells → (D.disk disk.new).bytes_read.pages ≡ (D.disk disk.old).bytes_read.pages }
+    ensures failed { IsErrOf result LoadError.Failed → Rose (D.disk disk.old).faults (D.disk disk.new).faults }
+    ensures stands { IfOk result (λ r. (h : History) × IsReplayed h heads.now r.directory.changes r.plans.items × Indexes (state_of r.index) (changes h)) }
+    ensures counted { IfOk result (λ r. (h : History) → IsReplayed h heads.now r.directory.changes r.plans.items → (journal.now.end ≡ end_of h) × (length heads.now ≡ length h)) }
+    ensures once { IfOk result (λ r. EachOnce r.plans.items) }
+    ensures found { D.disk_tells → (bodies : List (List ℕ)) → heads.now ≡ heads_of first_gate bodies → Spells (D.disk disk.old).holds.journal bodies →
+        IfOk result (λ r. (h : History) × IsReplayed h heads.now r.directory.changes r.plans.items × Indexes (state_of r.index) (changes h) × (bodies_of h ≡ bodies)) }
+    ensures bad { D.disk_tells → (bodies : List (List ℕ)) → heads.now ≡ heads_of first_gate bodies → Spells (D.disk disk.old).holds.journal bodies →
+        (at : ℕ) → IsErrOf result (LoadError.NotArchive at) → IsBadAmong bodies at }
+{
+    let mut met = Met::new(alloc)?;
+    let fault = go_over(alloc, disk, journal, heads, &mut met)?;
+    let Met {
+        directory,
+        loader,
+        plans,
+    } = met;
+    let index = loader.finish(alloc)?;
+    if let Some(at) = first_unfit(alloc, &index, &plans)? {
+        return Err(LoadError::NotArchive { at });
+    }
+    if let Some(at) = fault {
+        return Err(LoadError::NotArchive { at });
+    }
+    let plans = live_of(alloc, plans)?;
+    Ok(Replayed {
+        directory,
+        index,
+        plans,
+    })
+}
+
+/// Goes over the entries, up to the first that shows by itself that this is no archive: the place where it
+/// does, if there is one.
+fn go_over<D: Disk>(
+    alloc: Global,
+    disk: &mut D,
+    journal: &Journal,
+    heads: &[Head],
+    met: &mut Met,
+) -> Result<Option<u64>, LoadError>
+    requires reached { journal.now.end ≤ (D.disk disk.old).reach.journal }
+    requires row { AreInRow first_gate heads.now journal.now.end }
+    requires changes { met.old.directory.changes ≡ [] }
+    requires loads { Loads met.old.loader [] }
+    requires plans { met.old.plans.items ≡ [] }
+    ensures only { D.Disk.only disk.old disk.new }
+    ensures same { OnlyReads (D.disk disk.old) (D.disk disk.new) }
+    ensures unread { D.disk_tells → (D.disk disk.new).bytes_read.pages ≡ (D.disk disk.old).bytes_read.pages }
+    ensures failed { IsErrOf result LoadError.Failed → Rose (D.disk disk.old).faults (D.disk disk.new).faults }
+    ensures fair { (at : ℕ) → IsErrOf result (LoadError.NotArchive at) → ⊥ }
+    ensures reached { IfOk result (λ fault. (reader : BodiesState) × ((r : IsReplaying D.disk_tells (D.disk disk.old).holds.journal heads.now reader met.new.directory.changes met.new.plans.items (loaded met.new.loader))
+        × (fault ≡ None → reader.left ≡ [])
+        × ((at : ℕ) → fault ≡ Some at → D.disk_tells → (bodies : List (List ℕ)) → heads.now ≡ heads_of first_gate bodies → Spells (D.disk disk.old).holds.journal bodies → IsNextBad r.history bodies at))) }
+{
+    let mut bodies = journal.bodies(alloc, heads);
+    while let Some(head) = bodies.next(disk)? {
+        match apply(alloc, met, &head, bodies.body(&head)) {
+            Ok(()) => {}
+            Err(LoadError::NotArchive { at }) => return Ok(Some(at)),
+            Err(LoadError::Failed | LoadError::Memory) => return Err(LoadError::Memory),
+        }
+    }
+    Ok(None)
+}
+
+/// Adds an entry, by its head and its body.
+fn apply(alloc: Global, met: &mut Met, head: &Head, body: &[u8]) -> Result<(), LoadError>
+    requires place { head.now.body ≡ head.now.gate + gate_bytes }
+    requires within { head.now.body + head.now.bytes < 2 ^ 40 }
+    requires len { length body.now ≡ head.now.bytes }
+    ensures fair { IsErrOf result LoadError.Failed → ⊥ }
+    ensures more { (h : History) → IsReached head.now.gate h met.old.directory.changes met.old.plans.items → Loads met.old.loader (changes h) →
+        OnOk result (IsGoneOver head.now.gate h body.now met.new.directory.changes met.new.plans.items (loaded met.new.loader)) }
+    ensures bad { (h : History) → IsReached head.now.gate h met.old.directory.changes met.old.plans.items → Loads met.old.loader (changes h) →
+        (at : ℕ) → IsErrOf result (LoadError.NotArchive at) → IsFaulty head.now.gate h body.now at }
+    // Where it isn't added, what was met is as it was.
+    ensures kept { (at : ℕ) → IsErrOf result (LoadError.NotArchive at) → (met.new.directory.changes ≡ met.old.directory.changes) × (met.new.plans.items ≡ met.old.plans.items) × (loaded met.new.loader ≡ loaded met.old.loader) }
+{
+    match decode(alloc, body) {
+        Ok(entry) => apply_entry(alloc, met, head, entry),
+        Err(CodecError::Memory) => Err(LoadError::Memory),
+        Err(CodecError::Form { at }) => Err(LoadError::NotArchive { at: head.body + at }),
+    }
+}
+
+/// Adds an entry that is spelled.
+fn apply_entry(alloc: Global, met: &mut Met, head: &Head, entry: Entry) -> Result<(), LoadError>
+    requires place { head.now.body ≡ head.now.gate + gate_bytes }
+    requires within { head.now.body + head.now.bytes < 2 ^ 40 }
+    requires ranges { IsEntry entry }
+    requires long { length (spelling entry) ≡ head.now.bytes }
+    ensures fair { IsErrOf result LoadError.Failed → ⊥ }
+    ensures more { (h : History) → IsReached head.now.gate h met.old.directory.changes met.old.plans.items → Loads met.old.loader (changes h) →
+        OnOk result (IsGoneOver head.now.gate h (spelling entry) met.new.directory.changes met.new.plans.items (loaded met.new.loader)) }
+    ensures bad { (h : History) → IsReached head.now.gate h met.old.directory.changes met.old.plans.items → Loads met.old.loader (changes h) →
+        (at : ℕ) → IsErrOf result (LoadError.NotArchive at) → IsFaulty head.now.gate h (spelling entry) at }
+    ensures kept { (at : ℕ) → IsErrOf result (LoadError.NotArchive at) → (met.new.directory.changes ≡ met.old.directory.changes) × (met.new.plans.items ≡ met.old.plans.items) × (loaded met.new.loader ≡ loaded met.old.loader) }
+{
+    match entry {
+        Entry::Arrive { doc, at, text } => {
+            let text = text.as_str();
+            let change = Change {
+                doc,
+                at,
+                held: Some(text.len() as u32),
+            };
+            apply_change(alloc, met, head, change, Some(text))
+        }
+        Entry::Delete { doc, at } => {
+            let change = Change {
+                doc,
+                at,
+                held: None,
+            };
+            apply_change(alloc, met, head, change, None)
+        }
+        Entry::Planned(plan) => apply_plan(met, head, plan),
+    }
+}
+
+/// Adds a change of a document, which an entry makes.
+fn apply_change(
+    alloc: Global,
+    met: &mut Met,
+    head: &Head,
+    change: Change<u32>,
+    text: Option<&str>,
+) -> Result<(), LoadError>
+    requires place { head.now.body ≡ head.now.gate + gate_bytes }
+    requires within { head.now.body + head.now.bytes < 2 ^ 40 }
+    requires makes { (entry : PlainEntry) × IsEntry entry × Makes entry change × (option_map (λ t. t.now) text ≡ text_of entry) × (length (spelling entry) ≡ head.now.bytes) }
+    ensures fair { IsErrOf result LoadError.Failed → ⊥ }
+    ensures more { (h : History) (entry : PlainEntry) → IsReached head.now.gate h met.old.directory.changes met.old.plans.items → Loads met.old.loader (changes h) →
+        IsEntry entry → Makes entry change → option_map (λ t. t.now) text.entry ≡ text_of entry →
+        OnOk result (IsGoneOver head.now.gate h (spelling entry) met.new.directory.changes met.new.plans.items (loaded met.new.loader)) }
+    ensures bad { (h : History) (entry : PlainEntry) → IsReached head.now.gate h met.old.directory.changes met.old.plans.items → Loads met.old.loader (changes h) →
+        IsEntry entry → Makes entry change → option_map (λ t. t.now) text.entry ≡ text_of entry →
+        (at : ℕ) → IsErrOf result (LoadError.NotArchive at) → IsFaulty head.now.gate h (spelling entry) at }
+    ensures kept { (at : ℕ) → IsErrOf result (LoadError.NotArchive at) → (met.new.directory.changes ≡ met.old.directory.changes) × (met.new.plans.items ≡ met.old.plans.items) × (loaded met.new.loader ≡ loaded met.old.loader) }
+{
+    match may_come(&met.directory, change) {
+        Ok(()) => {}
+        Err(_) => return Err(LoadError::NotArchive { at: head.gate }),
+    }
+    match met.loader.add(alloc, change.doc, change.at, text) {
+        Ok(()) => {}
+        Err(NumberError::Full) => return Err(LoadError::NotArchive { at: head.gate }),
+        Err(NumberError::Memory) => return Err(LoadError::Memory),
+    }
+    met.directory.reserve(change.doc)?;
+    note(&mut met.directory, placed(change, head.body + TEXT_AT));
+    Ok(())
+}
+
+/// Adds a plan, whose list is tested when all lists are there.
+fn apply_plan(met: &mut Met, head: &Head, plan: PlanEntry) -> Result<(), LoadError>
+    requires ranges { IsEntry (entries.Planned plan) }
+    requires long { length (spelling (entries.Planned plan)) ≡ head.now.bytes }
+    ensures fair { IsErrOf result LoadError.Failed → ⊥ }
+    ensures more { (h : History) → IsReached head.now.gate h met.old.directory.changes met.old.plans.items → Loads met.old.loader (changes h) →
+        OnOk result (IsGoneOver head.now.gate h (spelling (entries.Planned plan)) met.new.directory.changes met.new.plans.items (loaded met.new.loader)) }
+    ensures bad { (h : History) → IsReached head.now.gate h met.old.directory.changes met.old.plans.items →
+        (at : ℕ) → IsErrOf result (LoadError.NotArchive at) → IsFaulty head.now.gate h (spelling (entries.Planned plan)) at }
+    ensures kept { (at : ℕ) → IsErrOf result (LoadError.NotArchive at) → (met.new.directory.changes ≡ met.old.directory.changes) × (met.new.plans.items ≡ met.old.plans.items) × (loaded met.new.loader ≡ loaded met.old.loader) }
+{
+    if !is_timely(&met.directory, &plan) {
+        return Err(LoadError::NotArchive { at: head.gate });
+    }
+    met.plans.reserve(1)?;
+    met.plans.push_reserved(StoredPlan {
+        gate: head.gate,
+        plan,
+    });
+    Ok(())
+}
+
+/// Whether a plan's horizon isn't later than the last time. Constant cost.
+fn is_timely(directory: &Directory, plan: &PlanEntry) -> bool
+    ensures { IsTrue result ↔ IsTimely directory.now.changes plan.now }
+{
+    match directory.last() {
+        Some(last) => is_by(plan.horizon, last),
+        None => false,
+    }
+}
+
+/// Whether a time isn't later than another.
+fn is_by(at: Time, last: Time) -> bool
+    ensures { IsTrue result ↔ (at.seconds ≤ last.seconds) }
+{
+    at.seconds() <= last.seconds()
+}
+
+/// The gate of the first plan that doesn't keep the bound of its kind for its word's list. It costs
+/// `n log n` in the postings of each plan's word, and the plan's cuts.
+fn first_unfit(alloc: Global, index: &Index, plans: &[StoredPlan]) -> Result<Option<u64>, LoadError>
+    ensures fair { IsErrOf result LoadError.Failed → ⊥ }
+    ensures only_memory { (at : ℕ) → IsErrOf result (LoadError.NotArchive at) → ⊥ }
+    ensures none { IfOk result (λ o. o ≡ None → (h : History) → Indexes (state_of index.now) (changes h) → All (IsFitIn h) plans.now) }
+    ensures first { IfOk result (λ o. (at : ℕ) → o ≡ Some at → (h : History) → Indexes (state_of index.now) (changes h) → IsFirstUnfit h plans.now at) }
+{
+    for stored in plans {
+        if !fits(alloc, index, stored)? {
+            return Ok(Some(stored.gate));
+        }
+    }
+    Ok(None)
+}
+
+/// Whether a plan keeps the bound of its kind, for its word's list up to its horizon.
+fn fits(alloc: Global, index: &Index, stored: &StoredPlan) -> Result<bool, LoadError>
+    ensures fair { IsErrOf result LoadError.Failed → ⊥ }
+    ensures only_memory { (at : ℕ) → IsErrOf result (LoadError.NotArchive at) → ⊥ }
+    ensures fits { IfOk result (λ b. (h : History) → Indexes (state_of index.now) (changes h) → (IsTrue b ↔ IsFitIn h stored.now)) }
+{
+    let plan = &stored.plan;
+    let whole = index.list(alloc, &plan.word)?;
+    let list = list_up_to(alloc, &whole, plan.horizon)?;
+    if list.is_empty() {
+        return Ok(false);
+    }
+    if are_many(&list) {
+        return Err(LoadError::Memory);
+    }
+    let fit = is_fit(
+        alloc,
+        &list,
+        plan.kind,
+        plan.fraction,
+        plan.cuts.as_slice(),
+        plan.horizon,
+    )?;
+    Ok(fit)
+}

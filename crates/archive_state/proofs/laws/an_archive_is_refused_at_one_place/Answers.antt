@@ -1,5 +1,0 @@
-use Rattle.archive_state.proofs.StandsLemmas.{not_archive_once}
-use Rattle.archive_state.proofs.laws.an_archive_is_refused_at_one_place.Goals as goal
-
-pub returns : goal.returns
-returns c = record { one_place = not_archive_once }

@@ -1,6 +1,0 @@
-use Rattle.archive_state.proofs.CertifyingLemmas.{certified_least}
-use Rattle.archive_state.proofs.VerifyLemmas.{good_is_sound}
-use Rattle.archive_state.proofs.laws.good_plans_are_least_and_sound.Goals as goal
-
-pub returns : goal.returns
-returns c = record { certified = certified_least; sound = good_is_sound }

@@ -1,5 +1,0 @@
-use Rattle.archive_state.proofs.BoundLemmas.{holders_are_documents, planned_bounded}
-use Rattle.archive_state.proofs.laws.planned_reads_are_bounded.Goals as goal
-
-pub returns : goal.returns
-returns c = record { postings = planned_bounded; documents = holders_are_documents }

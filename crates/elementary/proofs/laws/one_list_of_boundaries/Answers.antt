@@ -1,5 +1,0 @@
-use Rattle.elementary.proofs.Ordering.{one_list_of_boundaries}
-use Rattle.elementary.proofs.laws.one_list_of_boundaries.Goals as goal
-
-pub returns : goal.returns
-returns c = one_list_of_boundaries

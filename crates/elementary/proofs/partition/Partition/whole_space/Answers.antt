@@ -1,4 +1,0 @@
-use Rattle.elementary.proofs.partition.Partition.whole_space.Goals as goal
-
-pub returns-clause-value : goal.returns-clause-value
-returns-clause-value c list horizon t = rw c.cuts.ensures.value at (c.space_between.ensures.value list horizon t)

@@ -1,6 +1,0 @@
-use Rattle.std.proofs.Common.{ℕ, ◌*◌, ◌<◌, ◌≤◌}
-use Rattle.elementary.specs.Counts.{alive_in}
-use Rattle.elementary.proofs.partition.is_admissible_between.Given as goal
-
-abbrev pub invariant-loop-i : goal.invariant-loop-i
-invariant-loop-i l = (m : ℕ) → l.j ≤ m → m < l.i → l.size * l.factor.under ≤ l.factor.over * alive_in l.table m

@@ -1,5 +1,0 @@
-pub mod Boundaries
-pub mod Counts
-pub mod Laws
-pub mod Partitions
-pub mod Reaches

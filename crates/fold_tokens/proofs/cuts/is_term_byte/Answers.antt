@@ -1,6 +1,0 @@
-use Rattle.std.proofs.Common.{◌∙◌}
-use Rattle.fold_tokens.proofs.CutLemmas.{term_byte}
-use Rattle.fold_tokens.proofs.cuts.is_term_byte.Goals as goal
-
-pub returns : goal.returns
-returns c = c.is_ascii_alphanumeric.ensures.value ∙ term_byte c.args.byte

@@ -1,6 +1,0 @@
-use Rattle.fold_tokens.proofs.CountLemmas.{member-with_all, IsDistinct-distinct}
-use Rattle.fold_tokens.proofs.WordLemmas.{distinct-front}
-use Rattle.fold_tokens.proofs.laws.distinct_keys_stand_in_order.Goals as goal
-
-pub returns : goal.returns
-returns c = record { same = λ word found. member-with_all word _ found; once = IsDistinct-distinct; order = distinct-front }

@@ -1,5 +1,0 @@
-use Rattle.fold_tokens.proofs.RunLemmas.{runs-stretch, runs-parted}
-use Rattle.fold_tokens.proofs.laws.runs_are_maximal_stretches.Goals as goal
-
-pub returns : goal.returns
-returns c = record { stretch = runs-stretch; parted = runs-parted }

@@ -1,8 +1,0 @@
-use Rattle.std.proofs.Common.{arith}
-use Rattle.guarantee_planner.proofs.Ways.{count_more}
-use Rattle.guarantee_planner.proofs.steps.count_back.Goals as goal
-
-pub loop-at-preserved : goal.loop-at-preserved
-loop-at-preserved c =
-    let falls = c.requires.falling c.loop-at.at in
-    record { inside = grind arith; room = grind arith; way = grind (arith, count_more) }

@@ -1,0 +1,64 @@
+//! Reading an entry.
+ghost use Rattle.std.specs.Prelude.{◌≡◌, ◌≢◌, ℕ, IfOk};
+ghost use Rattle.journal_entries.specs.declared.entry.Entry.{Entry};
+ghost use Rattle.journal_entries.specs.Spelling.{spelling, IsEntry};
+ghost use Rattle.journal_entries.specs.Reading.{arrive_at, delete_at, entry_at};
+ghost use Rattle.journal_entries.specs.Fields.{Gives};
+ghost use Rattle.journal_entries.specs.Decoding.{Decodes, IsReadAs};
+
+use crate::entry::Entry;
+use crate::error::CodecError;
+use crate::fields::{FieldError, change_at, end_at, fault, text_at};
+use crate::plan_reading::plan_at;
+use crate::tags::{ARRIVE, DELETE, PLANNED};
+use std::alloc::Global;
+
+#[tactic(auto, unfolding(crate::specs::Reading::arrive_at))]
+fn arrive_at(alloc: Global, bytes: &[u8]) -> Result<Entry, FieldError>
+    ensures { Gives (λ e. e) result (arrive_at bytes.now) }
+{
+    let (doc, at, rest) = change_at(bytes)?;
+    let text = text_at(alloc, rest)?;
+    Ok(Entry::Arrive { doc, at, text })
+}
+
+#[tactic(auto, unfolding(crate::specs::Reading::delete_at))]
+fn delete_at(bytes: &[u8]) -> Result<Entry, FieldError>
+    ensures { Gives (λ e. e) result (delete_at bytes.now) }
+{
+    let (doc, at, rest) = change_at(bytes)?;
+    end_at(rest)?;
+    Ok(Entry::Delete { doc, at })
+}
+
+#[tactic(auto, unfolding(crate::specs::Reading::entry_at))]
+fn entry_at(alloc: Global, bytes: &[u8]) -> Result<Entry, FieldError>
+    ensures { Gives (λ e. e) result (entry_at bytes.now) }
+{
+    match bytes {
+        [ARRIVE, rest @ ..] => arrive_at(alloc, rest),
+        [DELETE, rest @ ..] => delete_at(rest),
+        [PLANNED, rest @ ..] => Ok(Entry::Planned(plan_at(alloc, rest)?)),
+        _ => Err(fault(bytes)),
+    }
+}
+
+/// The entry that a body spells. Costs the body's length; a text is copied once.
+pub fn decode(alloc: Global, body: &[u8]) -> Result<Entry, CodecError>
+    // What is read is spelled so.
+    ensures found { IfOk result (λ e. IsEntry e × (body.now ≡ spelling e)) }
+    // What is spelled so is read, unless memory ran out.
+    ensures only { (e : Entry) → IsEntry e → body.now ≡ spelling e → IsReadAs e result }
+    // Where a place is named, no entry is spelled.
+    ensures nothing { (at : ℕ) → result ≡ Err (CodecError.Form at) → (e : Entry) → IsEntry e → body.now ≢ spelling e }
+    // Which place is named.
+    ensures exact { Decodes body.now result }
+{
+    match entry_at(alloc, body) {
+        Ok(entry) => Ok(entry),
+        Err(FieldError::Memory) => Err(CodecError::Memory),
+        Err(FieldError::Form { left }) => Err(CodecError::Form {
+            at: body.len() as u64 - left,
+        }),
+    }
+}

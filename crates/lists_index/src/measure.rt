@@ -1,0 +1,159 @@
+//! A text by the numbers of its words.
+ghost use Rattle.std.specs.Prelude.{◌≡◌, ℕ, ◌+◌, ◌<◌, ◌≤◌, ◌^◌, ◌++◌, List, Option, length, map, option_map, nat_eq, All, Err, IfOk, OnOk, IfSome, IsSome};
+ghost use Rattle.std.specs.List.{IsDistinct};
+ghost use Rattle.text_words.specs.Words.{counted, known_of, fresh_of, weight_at};
+ghost use Rattle.lists_tails.specs.Weights.{weight_of};
+ghost use Rattle.lists_index.specs.Words.{keys_held};
+ghost use Rattle.lists_index.specs.Measuring.{numbered, words_with, IsParted, IsMeasured};
+
+use crate::weights::Weights;
+use base_types::{Key, MOST_WORDS, WordId};
+use lists_tails::Weight;
+use std::alloc::{AllocError, Global};
+use text_words::{NumberError, Places, Vocabulary, Weighed};
+
+/// What a text has, by the numbers that its words have once the fresh ones are numbered.
+#[derive(Drop)]
+pub(crate) struct Measured {
+    /// The words that have no number yet, in the order of their numbers.
+    pub(crate) fresh: Vec<Key>,
+    /// How often the text has each of its words.
+    pub(crate) weights: Weights,
+}
+
+/// A text's words: the counts of those with a number by number, and the others apart from theirs.
+#[derive(Drop)]
+struct Parted {
+    known: Vec<(u32, u32)>,
+    fresh: Vec<Key>,
+    counts: Vec<u32>,
+}
+
+/// The words of a text with their counts; none of a deletion.
+fn weigh_held(
+    alloc: Global,
+    vocabulary: &Vocabulary,
+    places: &mut Places,
+    text: Option<&str>,
+) -> Result<Weighed, AllocError>
+    requires { IfSome text (λ t. length t.now < 2 ^ 32) }
+    ensures known { IfOk result (λ w. w.known.items ≡ known_of vocabulary.now.words (counted (keys_held (option_map (λ t. t.now) text.entry)))) }
+    ensures fresh { IfOk result (λ w. w.fresh.items ≡ fresh_of vocabulary.now.words (counted (keys_held (option_map (λ t. t.now) text.entry)))) }
+{
+    match text {
+        Some(text) => vocabulary.weigh(alloc, places, text),
+        None => Ok(Weighed {
+            known: Vec::new(alloc),
+            fresh: Vec::new(alloc),
+        }),
+    }
+}
+
+/// The fresh words apart from their counts.
+fn part(alloc: Global, weighed: Weighed) -> Result<Parted, AllocError>
+    ensures { IfOk result (λ p. (words : List (List ℕ)) (held : Option (List ℕ))
+        → weighed.known.items ≡ known_of words (counted (keys_held held))
+        → weighed.fresh.items ≡ fresh_of words (counted (keys_held held))
+        → IsParted words held p.known.items p.fresh.items p.counts.items) }
+{
+    let Weighed { known, fresh } = weighed;
+    let mut keys = Vec::new(alloc);
+    let mut counts = Vec::new(alloc);
+    for (key, count) in fresh {
+        keys.push(key)?;
+        counts.push(count)?;
+    }
+    Ok(Parted {
+        known,
+        fresh: keys,
+        counts,
+    })
+}
+
+/// The counts of known words, and behind them those of fresh ones by the numbers from `words` on.
+fn number_counts(
+    known: Vec<(u32, u32)>,
+    words: u32,
+    fresh: &[u32],
+) -> Result<Vec<(u32, u32)>, AllocError>
+    requires { words + length fresh.now ≤ 2 ^ 20 }
+    ensures { IfOk result (λ counts. counts.items ≡ known.items ++ numbered words fresh.now) }
+{
+    let mut counts = known;
+    for i in 0..fresh.len() {
+        counts.push((words + i as u32, fresh[i]))?;
+    }
+    Ok(counts)
+}
+
+/// A word's weight.
+fn weight(number: u32, count: u32) -> Weight
+    requires word { number < 2 ^ 20 }
+    requires some { 1 ≤ count }
+    ensures word { result.word.number ≡ number }
+    ensures count { result.tf ≡ count }
+{
+    Weight {
+        word: WordId { number },
+        tf: count,
+    }
+}
+
+/// The weights by these counts of words.
+fn weights_by(alloc: Global, counts: Vec<(u32, u32)>) -> Result<Weights, AllocError>
+    requires once { IsDistinct nat_eq (map (λ p. p.0) counts.items) }
+    requires occur { All (λ p. (p.0 < 2 ^ 20) × (1 ≤ p.1)) counts.items }
+    ensures { IfOk result (λ weights. (w : ℕ) → weight_of w weights ≡ weight_at w counts.items) }
+{
+    let mut counts = counts;
+    counts.sort_unstable_by_key(|p| p.0);
+    let mut items = Vec::with_capacity(alloc, counts.len())?;
+    for &(number, count) in &counts {
+        items.push(weight(number, count))?;
+    }
+    Ok(Weights::new(items))
+}
+
+/// Measures a text, or nothing for a deletion. The text is read once.
+pub(crate) fn measure(
+    alloc: Global,
+    vocabulary: &Vocabulary,
+    places: &mut Places,
+    text: Option<&str>,
+) -> Result<Measured, NumberError>
+    requires { IfSome text (λ t. length t.now < 2 ^ 32) }
+    ensures measured { IfOk result (λ m. IsMeasured vocabulary.now.words (option_map (λ t. t.now) text.entry) m.fresh.items m.weights) }
+    ensures fits { OnOk result (length (words_with vocabulary.now.words (option_map (λ t. t.now) text.entry)) ≤ 2 ^ 20) }
+    ensures full { result ≡ Err NumberError.Full → 2 ^ 20 < length (words_with vocabulary.now.words (option_map (λ t. t.now) text.entry)) }
+    ensures some { result ≡ Err NumberError.Full → IsSome text.entry }
+{
+    let words = vocabulary.len();
+    let weighed = weigh_held(alloc, vocabulary, places, text)?;
+    let parted = part(alloc, weighed)?;
+    let Parted {
+        known,
+        fresh,
+        counts,
+    } = parted;
+    if MOST_WORDS < u64::from(words) + counts.len() as u64 {
+        return Err(NumberError::Full);
+    }
+    let counts = number_counts(known, words, &counts)?;
+    let weights = weights_by(alloc, counts)?;
+    Ok(Measured { fresh, weights })
+}
+
+/// The words of a text, or of nothing for a deletion, that have no number. The text is read once.
+pub(crate) fn fresh_keys(
+    alloc: Global,
+    vocabulary: &Vocabulary,
+    places: &mut Places,
+    text: Option<&str>,
+) -> Result<Vec<Key>, AllocError>
+    requires { IfSome text (λ t. length t.now < 2 ^ 32) }
+    ensures { IfOk result (λ keys. keys.items ≡ map (λ e. e.0) (fresh_of vocabulary.now.words (counted (keys_held (option_map (λ t. t.now) text.entry))))) }
+{
+    let weighed = weigh_held(alloc, vocabulary, places, text)?;
+    let parted = part(alloc, weighed)?;
+    Ok(parted.fresh)
+}

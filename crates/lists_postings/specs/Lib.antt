@@ -1,0 +1,14 @@
+pub mod Clips
+pub mod Coalescing
+pub mod Events
+pub mod Joins
+pub mod Kinds
+pub mod Laid
+pub mod Laws
+pub mod Lists
+pub mod ListsOf
+pub mod Placings
+pub mod Sizes
+pub mod StretchLaws
+pub mod Stretches
+pub mod Unions

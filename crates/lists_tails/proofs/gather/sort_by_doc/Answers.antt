@@ -1,0 +1,20 @@
+use Rattle.std.proofs.Common.{rules}
+use Rattle.std.proofs.lemmas.List.Sorted.{IsNonDecreasingBy-from_sort_by_key, answers_always}
+use Rattle.lists_postings.proofs.Stable.{stable-of}
+use Rattle.lists_tails.proofs.Gathered.{sorted-open}
+use Rattle.lists_tails.proofs.gather.sort_by_doc.Goals as goal
+
+pub returns-clause-sorted : goal.returns-clause-sorted
+returns-clause-sorted c = IsNonDecreasingBy-from_sort_by_key (λ x. x.doc.0) _ c.in_ok-sort_by_key.ensures.sorted (λ a r q k. search rules)
+
+pub returns-clause-stable : goal.returns-clause-stable
+returns-clause-stable c = stable-of (λ x. x.doc.0) c.args.turns.now.items c.sort_by_key.new.self.items (c.sort_by_key.ensures.stable (λ x. x.doc.0) (answers_always _ _ _ (λ f a r g h. search rules)))
+
+pub returns-in_err-sort_by_key-clause-stable : goal.returns-in_err-sort_by_key-clause-stable
+returns-in_err-sort_by_key-clause-stable c = stable-of (λ x. x.doc.0) c.args.turns.now.items c.sort_by_key.new.self.items (c.sort_by_key.ensures.stable (λ x. x.doc.0) (answers_always _ _ _ (λ f a r g h. search rules)))
+
+pub returns-clause-open : goal.returns-clause-open
+returns-clause-open c = sorted-open c.args.turns.now.items c.sort_by_key.new.self.items (stable-of (λ x. x.doc.0) c.args.turns.now.items c.sort_by_key.new.self.items (c.sort_by_key.ensures.stable (λ x. x.doc.0) (answers_always _ _ _ (λ f a r g h. search rules))))
+
+pub returns-in_err-sort_by_key-clause-open : goal.returns-in_err-sort_by_key-clause-open
+returns-in_err-sort_by_key-clause-open c = sorted-open c.args.turns.now.items c.sort_by_key.new.self.items (stable-of (λ x. x.doc.0) c.args.turns.now.items c.sort_by_key.new.self.items (c.sort_by_key.ensures.stable (λ x. x.doc.0) (answers_always _ _ _ (λ f a r g h. search rules))))

@@ -1,0 +1,427 @@
+-- Each item has one outcome: from a legal history to a legal one.
+use Rattle.std.proofs.Common.{subst, sym, ◌≡◌, ℕ, ◌+◌, ◌<◌, ◌≤◌, ◌^◌, Bool, true, false, not, nat_lt, List, [], ◌∷◌, ◌++◌, length, All, Contains, Option, Some, None, IsSome, is_some, Result, Ok, Err, refl, ap, arith, unwrap_or, ◌∙◌, inl, inr}
+use Rattle.std.specs.Str.{is_utf8}
+use Rattle.std.specs.Option.{option_map}
+use Rattle.std.proofs.lemmas.Bool.{cases_lt, ltb-false}
+use Rattle.std.proofs.lemmas.Str.{IsUtf8-from_is_utf8}
+use Rattle.std.proofs.lemmas.List.Elements.{All-nil, All-cons, All-head, All-tail, All-weaker}
+use Rattle.base_types.specs.declared.fraction.Fraction.{Fraction}
+use Rattle.base_types.specs.declared.ids.DocId.{DocId}
+use Rattle.base_types.specs.declared.time.Span.{Span}
+use Rattle.base_types.specs.declared.time.Time.{Time}
+use Rattle.base_types.specs.declared.posting.Posting.{Posting}
+use Rattle.lists_postings.proofs.Existence.{each_has_a_list}
+use Rattle.lists_postings.proofs.Clipping.{one_list_of}
+use Rattle.plans_kinds.specs.declared.proposal.Node.{Node}
+use Rattle.plans_kinds.proofs.Pieces.{each_has_a_proposal, differ_in_segments}
+use Rattle.text_words.specs.Terms.{occurrences, one_term}
+use Rattle.text_words.proofs.FrequencyLemmas.{occurrences-le}
+use Rattle.lists_versions.specs.declared.change.Change.{Change}
+use Rattle.lists_versions.specs.Changes.{valid_at}
+use Rattle.lists_versions.specs.Changes as changed
+use Rattle.lists_versions.proofs.Alive.{alive-has}
+use Rattle.lists_versions.specs.Tests.{first_of, when}
+use Rattle.lists_versions.proofs.Holding.{held_has}
+use Rattle.lists_versions.proofs.Latest.{changes_of-none}
+use Rattle.journal_entries.specs.Spelling.{most_text}
+use Rattle.journal_entries.specs.declared.entry.Entry.{Entry}
+use Rattle.journal_entries.specs.declared.entry.Entry.TheVariants as entries
+use Rattle.query_lang.specs.Grammar.{Query}
+use Rattle.query_lang.specs.Machine.{read}
+use Rattle.query_lang.specs.Meaning.{words_of}
+use Rattle.query_lang.specs.Tokens.{term_of}
+use Rattle.query_lang.proofs.ReadingLaws.{is_read, one_reading}
+use Rattle.query_eval.specs.Spans.{row_kind, scored_at}
+use Rattle.query_eval.specs.declared.answer.Row.{Row}
+use Rattle.query_eval.specs.declared.spans.SpanRow.{SpanRow}
+use Rattle.query_eval.proofs.FoundLemmas.{each-answer}
+use Rattle.query_eval.proofs.GivenLemmas.{same_alive, one_answer}
+use Rattle.query_eval.proofs.SpanRows.{each-window, plain-rows}
+use Rattle.lists_postings.proofs.Longest as longest
+use Rattle.model_archive.specs.declared.refusal.Refusal.{Refusal}
+use Rattle.model_archive.specs.declared.refusal.Refusal.TheVariants as refusals
+use Rattle.plans_kinds.specs.Plans.{IsFitFor}
+use Rattle.model_archive.specs.Histories.{History, changes, text_at, entry_refusal}
+use Rattle.model_archive.specs.Legal.{EachMayCome, IsLegal, IsLegalEntry, IsLoadable}
+use Rattle.journal_entries.specs.declared.plan.PlanEntry.{PlanEntry}
+use Rattle.pages_sublists.specs.Segments.{seconds}
+use Rattle.pages_sublists.specs.Gathering.{stored_size}
+use Rattle.model_archive.specs.Answers.{frequency_at, IsWordList}
+use Rattle.model_archive.specs.Chosen.{IsReadFor, IsReadOf, IsTailFor}
+use Rattle.model_archive.specs.Plans.{plan_of}
+use Rattle.base_commands.specs.Documents.{HasDocument}
+use Rattle.base_commands.specs.declared.command.Command.{Command}
+use Rattle.base_commands.specs.declared.command.Command.TheVariants as commands
+use Rattle.base_commands.specs.declared.command.Item.{Item}
+use Rattle.base_commands.specs.declared.command.Item.TheVariants as items
+use Rattle.base_commands.specs.declared.command.Kind.{Kind}
+use Rattle.base_commands.specs.declared.command.Kind.TheVariants.{Guarantee}
+use Rattle.base_commands.specs.declared.text.Text.TheVariants as texts
+use Rattle.model_archive.specs.Steps.{Reply, Accepted, Refused, Found, Spanned, Version, Proposed, Planned, Verified, Summary, Adds, Declines, IsRepliedBy, IsReplied, Finds, FindsBy, Spans, SpansBy, Proposes, ProposesPlan, Plans, StoresPlan, spelled_key, CarriesOut, Step, too_long, bad_text, full_journal, arrival_refusal, deletion_refusal}
+use Rattle.model_archive.specs.Runs.{Outcome, IsRun}
+use Rattle.model_archive.specs.Worlds.{World, world_of}
+use Rattle.model_archive.proofs.HistoryLemmas.{legal-push, loadable-push, entry_loads}
+use Rattle.model_archive.proofs.StoringLemmas.{plan_outcome, plans_keep}
+use Rattle.model_archive.proofs.ToldLemmas.{plans_alike}
+use Rattle.model_archive.proofs.CertifyingLemmas.{each_certifies, one_certifies}
+use Rattle.model_archive.proofs.VerifyLemmas.{each_verdict, one_verdict}
+use Rattle.model_archive.proofs.PlanningLemmas.{each_phrase, one_phrase, last_in_time}
+use Rattle.model_archive.specs.Choices.{IsChoice, IsStoring, SameButSegments, SamePlanned}
+use Rattle.model_archive.specs.Planning.{last_second, IsListUpTo}
+
+-- where no test finds a cause, the first finds none, nor do the others
+none_found : {W : Type 0} (o : Option W) (tests : List (Option W)) → first_of (o ∷ tests) ≡ None → (o ≡ None) × (first_of tests ≡ None)
+none_found None tests none = (refl, none)
+none_found (Some why) tests none = absurd cc
+
+no_cause : {W : Type 0} (test : Bool) (why : W) → when test why ≡ None → test ≡ false
+no_cause true why none = absurd cc
+no_cause false why none = refl
+
+is_true : (b : Bool) → not b ≡ false → b ≡ true
+is_true true is = refl
+is_true false is = absurd cc
+
+-- an entry that isn't refused is legal
+pub arrival_legal : (h : History) (doc : DocId) (at : Time) (text : List ℕ) → doc.0 < 2 ^ 32 → arrival_refusal h doc at text ≡ None → IsLegalEntry h (entries.Arrive doc at text)
+arrival_legal h doc at text fits none =
+    let one = none_found (too_long text) (bad_text text ∷ entry_refusal h (entries.Arrive doc at text) ∷ full_journal h (entries.Arrive doc at text) ∷ []) none in
+    let two = none_found (bad_text text) (entry_refusal h (entries.Arrive doc at text) ∷ full_journal h (entries.Arrive doc at text) ∷ []) one.1 in
+    let three = none_found (entry_refusal h (entries.Arrive doc at text)) (full_journal h (entries.Arrive doc at text) ∷ []) two.1 in
+    record {
+      ranges = (
+        fits,
+        at.before_now,
+        ltb-false most_text (length text) (no_cause (nat_lt most_text (length text)) (refusals.TooLong most_text) one.0),
+        IsUtf8-from_is_utf8 text (is_true (is_utf8 text) (no_cause (not (is_utf8 text)) _ two.0)),
+      );
+      allowed = three.0;
+      planned = tt;
+    }
+
+pub deletion_legal : (h : History) (doc : DocId) (at : Time) → doc.0 < 2 ^ 32 → deletion_refusal h doc at ≡ None → IsLegalEntry h (entries.Delete doc at)
+deletion_legal h doc at fits none =
+    let one = none_found (entry_refusal h (entries.Delete doc at)) (full_journal h (entries.Delete doc at) ∷ []) none in
+    record { ranges = (fits, at.before_now); allowed = one.0; planned = tt }
+
+-- whether an entry is refused or not, there is an outcome
+pub adds_outcome : (h : History) (e : Entry) (refusal : Option Refusal) → (outcome : Outcome Reply History) × Adds h e refusal outcome.reply outcome.next
+adds_outcome h e None = (record { reply = Accepted (length (h ++ e ∷ [])); next = h ++ e ∷ [] }, (refl, refl))
+adds_outcome h e (Some why) = (record { reply = Refused why; next = h }, (refl, refl))
+
+-- a change of a legal history
+record IsModest (word : List ℕ) (c : Change (List ℕ)) : Type 0 where
+  numbered : c.doc.0 < 2 ^ 32
+  few : unwrap_or (option_map (occurrences word) c.held) 0 < 2 ^ 32
+
+modest : (word : List ℕ) (before h : History) → EachMayCome IsFitFor before h → All (IsModest word) (changes h)
+modest word before [] legal = All-nil (IsModest word)
+modest word before (entries.Arrive doc at text ∷ h) legal =
+    let ranges = legal.0.ranges in
+    All-cons (IsModest word) _ (changes h) (record { numbered = ranges.0; few = omega (arith, occurrences-le word text, ranges.2) }) (modest word (before ++ entries.Arrive doc at text ∷ []) h legal.1)
+modest word before (entries.Delete doc at ∷ h) legal =
+    All-cons (IsModest word) _ (changes h) (record { numbered = legal.0.ranges.0; few = omega arith }) (modest word (before ++ entries.Delete doc at ∷ []) h legal.1)
+modest word before (entries.Planned plan ∷ h) legal = modest word (before ++ entries.Planned plan ∷ []) h legal.1
+
+frequency_few : (h : History) (word : List ℕ) (doc : DocId) (t : ℕ) → IsLoadable h → frequency_at h word doc t < 2 ^ 32
+frequency_few h word doc t legal =
+    let P : Option (List ℕ) → Type 0 = λ held. unwrap_or (option_map (occurrences word) held) 0 < 2 ^ 32 in
+    held_has P doc t (changes h) (omega arith) (All-weaker (IsModest word) (λ c. P c.held) (λ c is. is.few) (changes h) (modest word [] h legal))
+
+-- no document beyond the numbers is ever alive
+text_none : (h : History) (doc : DocId) (t : ℕ) → IsLoadable h → 2 ^ 32 ≤ doc.0 → text_at h doc t ≡ None
+text_none h doc t legal far =
+    let none = changes_of-none doc (changes h) (All-weaker (IsModest []) (λ c. c.doc.0 ≡ doc.0 → ⊥) (λ c is e. omega (arith, is.numbered, far, e)) (changes h) (modest [] [] h legal)) in
+    ap (λ (cs : List (Change (List ℕ))). valid_at t cs) none
+
+frequency_none : (h : History) (word : List ℕ) (d t : ℕ) → IsLoadable h → 2 ^ 32 ≤ d → frequency_at h word (record { 0 = d }) t ≡ 0
+frequency_none h word d t legal far = ap (λ (held : Option (List ℕ)). unwrap_or (option_map (occurrences word) held) 0) (text_none h (record { 0 = d }) t legal far)
+
+-- each word has a list
+pub each_word_list : (h : History) (word : List ℕ) → IsLoadable h → (list : List Posting) × IsWordList h word list
+each_word_list h word legal =
+    each_has_a_list (λ d t. frequency_at h word (record { 0 = d }) t) 0 (2 ^ 40) (omega arith) (λ d t. frequency_few h word (record { 0 = d }) t legal) (λ d t far. frequency_none h word d t legal far)
+
+-- whatever has a word is alive
+pub has_word : (word : List ℕ) (held : Option (List ℕ)) → 0 < unwrap_or (option_map (occurrences word) held) 0 → IsSome held
+has_word word None some = absurd (omega (arith, some))
+has_word word (Some text) some = refl
+
+-- each word has a list up to each time
+each_list_up_to : (h : History) (word : List ℕ) (last : ℕ) → last ≤ 2 ^ 40 → IsLoadable h → (list : List Posting) × IsListUpTo h word last list
+each_list_up_to h word last in_time legal =
+    each_has_a_list (λ d t. frequency_at h word (record { 0 = d }) t) 0 last in_time (λ d t. frequency_few h word (record { 0 = d }) t legal) (λ d t far. frequency_none h word d t legal far)
+
+-- and one from each time on
+each_tail : (h : History) (word : List ℕ) (b horizon : ℕ) → IsLoadable h → (tail : List Posting) × IsTailFor h word b horizon tail
+each_tail h word b horizon legal = elim (cases_lt horizon b) [
+  | inl past ↦
+      let tail = each_has_a_list (λ d t. frequency_at h word (record { 0 = d }) t) horizon (2 ^ 40) (omega arith) (λ d t. frequency_few h word (record { 0 = d }) t legal) (λ d t far. frequency_none h word d t legal far) in
+      (tail.0, inl (past, tail.1))
+  | inr within ↦ ([], inr (within, refl))
+]
+
+-- each query is answered at each time
+each_read_of : (h : History) (word : List ℕ) (a b : ℕ) (plan : Option PlanEntry) → IsLoadable h → (n : ℕ) × IsReadOf h word plan a b n
+each_read_of h word a b None legal = let list = each_word_list h word legal in (length list.0, (list.0, list.1, refl))
+each_read_of h word a b (Some plan) legal =
+    let sealed = each_list_up_to h word plan.horizon.seconds (omega (arith, plan.horizon.before_now)) legal in
+    let tail = each_tail h word b plan.horizon.seconds legal in
+    (stored_size a b plan.horizon.seconds sealed.0 (seconds plan.cuts) + length tail.0, (sealed.0, tail.0, sealed.1, tail.1, refl))
+
+each_read : (h : History) (a b : ℕ) (words : List (List ℕ)) → IsLoadable h → (n : ℕ) × IsReadFor h a b words n
+each_read h a b [] legal = (0, refl)
+each_read h a b (word ∷ words) legal =
+    let one = each_read_of h word a b (plan_of h word) legal in
+    let more = each_read h a b words legal in
+    (one.0 + more.0, (one.0, more.0, one.1, more.1, refl))
+
+-- whatever each query is answered, each text is
+each_replied : (Finds : Query → Reply → Type 0) → ((query : Query) → (reply : Reply) × Finds query reply) → (query : Result Query ℕ) → (reply : Reply) × IsRepliedBy Finds query reply
+each_replied Finds each (Err place) = (Refused (refusals.BadQuery place), refl)
+each_replied Finds each (Ok query) = each query
+
+each_text : (Finds : Query → Reply → Type 0) → ((query : Query) → (reply : Reply) × Finds query reply) → (text : List ℕ) → (reply : Reply) × IsReplied Finds text reply
+each_text Finds each text =
+    let found = each_replied Finds each (read term_of text) in
+    (found.0, (read term_of text, is_read term_of text, found.1))
+
+each_found : (h : History) (at : Time) → IsLoadable h → (query : Query) → (reply : Reply) × FindsBy h at query reply
+each_found h at loads query =
+    let often = λ (doc : DocId) (word : List ℕ). frequency_at h word doc at.seconds in
+    let given = each-answer (changed.alive at.seconds (changes h)) often query in
+    let read = each_read h at.seconds (at.seconds + 1) (words_of query) loads in
+    let answer = same_alive (λ doc. IsSome (text_at h doc at.seconds)) (λ doc. Contains (changed.alive at.seconds (changes h)) doc) often query given.0 (λ doc. alive-has at.seconds (changes h) doc) given.1 in
+    (Found given.0 read.0, (given.0, read.0, answer, read.1, refl))
+
+pub each_finds : (h : History) (at : Time) (text : List ℕ) → IsLoadable h → (reply : Reply) × Finds h at text reply
+each_finds h at text loads = each_text (FindsBy h at) (each_found h at loads) text
+
+each_spanned : (h : History) (span : Span) → IsLoadable h → (query : Query) → (reply : Reply) × SpansBy h span query reply
+each_spanned h span loads query =
+    let given = each-window (λ doc t. is_some (text_at h doc t)) (λ doc t word. frequency_at h word doc t) query (2 ^ 32) span.from span.to span.in_time
+    (λ doc t far. ap is_some (text_none h doc t loads far)) in
+    let read = each_read h span.from span.to (words_of query) loads in
+    (Spanned given.0 read.0, (given.0, read.0, given.1, read.1, refl))
+
+pub each_spans : (h : History) (span : Span) (text : List ℕ) → IsLoadable h → (reply : Reply) × Spans h span text reply
+each_spans h span text loads = each_text (SpansBy h span) (each_spanned h span loads) text
+
+-- each proposal is answered
+pub each_proposes : (h : History) (phrase : List ℕ) (factor : Fraction) → IsLoadable h → (reply : Reply) × Proposes h phrase factor reply
+each_proposes h phrase factor loads =
+    each_phrase Guarantee h (λ (r : Reply) why. r ≡ Refused why) (λ (r : Reply) word list. ProposesPlan factor (last_second h) list r) (λ why. (Refused why, refl))
+    (λ word. each_list_up_to h word (last_second h) (last_in_time h) loads)
+    (λ word list is some narrow.
+    let early = All-weaker (λ (p : Posting). (0 ≤ p.span.from) × (p.span.to ≤ last_second h)) (λ (p : Posting). p.span.to ≤ last_second h) (λ p in_it. in_it.1) list is.inside in
+    let (segments, (nodes, (total, proposal))) = each_has_a_proposal list factor (last_second h) (last_in_time h) early in
+    (Proposed segments nodes total, (segments, nodes, total, proposal, refl)))
+    (one_term phrase)
+
+pub each_plans : (h : History) (phrase : List ℕ) (kind : Kind) (factor : Fraction) → IsLoadable h → (outcome : Outcome Reply History) × Plans h phrase kind factor outcome.reply outcome.next
+each_plans h phrase kind factor loads =
+    each_phrase kind h (λ (r : Outcome Reply History) why. Declines h why r.reply r.next) (λ (r : Outcome Reply History) word list. StoresPlan h kind factor word list r.reply r.next)
+    (λ why. (record { reply = Refused why; next = h }, (refl, refl)))
+    (λ word. each_list_up_to h word (last_second h) (last_in_time h) loads)
+    (λ word list is some narrow. plan_outcome h kind factor word list is some narrow)
+    (spelled_key (one_term phrase))
+
+declines_outcome : (h : History) (why : Refusal) → (outcome : Outcome Reply History) × Declines h why outcome.reply outcome.next
+declines_outcome h why = (record { reply = Refused why; next = h }, (refl, refl))
+
+each_command : (h : History) (c : Command) → IsLoadable h → (outcome : Outcome Reply History) × CarriesOut h c outcome.reply outcome.next
+each_command h (commands.Arrive doc at (texts.Bytes text)) loads = adds_outcome h (entries.Arrive doc at text) (arrival_refusal h doc at text)
+each_command h (commands.Arrive doc at (texts.TooLong bytes)) loads = declines_outcome h (refusals.TooLong most_text)
+each_command h (commands.Delete doc at) loads = adds_outcome h (entries.Delete doc at) (deletion_refusal h doc at)
+each_command h (commands.Find at expr) loads =
+    let found = each_finds h at expr loads in
+    (record { reply = found.0; next = h }, (refl, found.1))
+each_command h (commands.Show doc at) loads = (record { reply = Version (text_at h doc at.seconds); next = h }, (refl, refl))
+each_command h (commands.Plan word kind fraction) loads = each_plans h word kind fraction loads
+each_command h (commands.Propose word fraction) loads =
+    let proposed = each_proposes h word fraction loads in
+    (record { reply = proposed.0; next = h }, (refl, proposed.1))
+each_command h (commands.Between span expr) loads =
+    let found = each_spans h span expr loads in
+    (record { reply = found.0; next = h }, (refl, found.1))
+each_command h (commands.Certificate word) loads =
+    let certified = each_certifies h word loads in
+    (record { reply = certified.0; next = h }, (refl, certified.1))
+each_command h commands.Verify loads =
+    let (verdict, verifies) = each_verdict h loads in
+    (record { reply = Verified verdict; next = h }, (refl, (verdict, verifies, refl)))
+each_command h to_come loads = declines_outcome h refusals.Line
+
+-- what came of a history, as the state that has it
+in_world : (P : Reply → History → Type 0) → (outcome : Outcome Reply History) × P outcome.reply outcome.next → (outcome : Outcome Reply World) × P outcome.reply outcome.next.history
+in_world P came = (record { reply = came.0.reply; next = world_of came.0.next }, came.1)
+
+pub each_outcome : (w : World) (item : Item) → IsLoadable w.history → (outcome : Outcome Reply World) × Step w item outcome.reply outcome.next
+each_outcome w (items.Command c) loads = in_world (CarriesOut w.history c) (each_command w.history c loads)
+each_outcome w items.Line loads = in_world (Declines w.history refusals.Line) (declines_outcome w.history refusals.Line)
+
+-- and what is so of a history, and stays so with a legal entry more, is so of what a command leads to
+adds_keep : (P : History → Type 0) → ((h : History) (e : Entry) → P h → IsLegalEntry h e → P (h ++ e ∷ []))
+    → (h : History) (e : Entry) (refusal : Option Refusal) (reply : Reply) (next : History) → P h → (refusal ≡ None → IsLegalEntry h e) → Adds h e refusal reply next → P next
+adds_keep P push h e None reply next is entry adds = subst P (sym adds.0) (push h e is (entry refl))
+adds_keep P push h e (Some why) reply next is entry adds = subst P (sym adds.0) is
+
+stays : (P : History → Type 0) (h next : History) → P h → next ≡ h → P next
+stays P h next is same = subst P (sym same) is
+
+pub command_keeps : (P : History → Type 0) → ((h : History) (e : Entry) → P h → IsLegalEntry h e → P (h ++ e ∷ []))
+    → (h : History) (c : Command) (reply : Reply) (next : History) → P h → HasDocument (items.Command c) → CarriesOut h c reply next → P next
+command_keeps P push h (commands.Arrive doc at (texts.Bytes text)) reply next is range step = adds_keep P push h (entries.Arrive doc at text) (arrival_refusal h doc at text) reply next is (arrival_legal h doc at text range) step
+command_keeps P push h (commands.Arrive doc at (texts.TooLong bytes)) reply next is range step = stays P h next is step.0
+command_keeps P push h (commands.Delete doc at) reply next is range step = adds_keep P push h (entries.Delete doc at) (deletion_refusal h doc at) reply next is (deletion_legal h doc at range) step
+command_keeps P push h (commands.Find at expr) reply next is range step = stays P h next is step.0
+command_keeps P push h (commands.Show doc at) reply next is range step = stays P h next is step.0
+command_keeps P push h (commands.Plan word kind fraction) reply next is range step = plans_keep P push h word kind fraction reply next is step
+command_keeps P push h (commands.Propose word fraction) reply next is range step = stays P h next is step.0
+command_keeps P push h (commands.Between span expr) reply next is range step = stays P h next is step.0
+command_keeps P push h (commands.Certificate word) reply next is range step = stays P h next is step.0
+command_keeps P push h commands.Verify reply next is range step = stays P h next is step.0
+command_keeps P push h to_come reply next is range step = stays P h next is step.0
+
+-- so every outcome leads from a legal history to a legal one,
+pub step_legal : (w : World) (item : Item) (reply : Reply) (next : World) → IsLegal w.history → HasDocument item → Step w item reply next → IsLegal next.history
+step_legal w (items.Command c) reply next legal range step = command_keeps IsLegal legal-push w.history c reply next.history legal range step
+step_legal w items.Line reply next legal range step = stays IsLegal w.history next.history legal step.0
+
+-- and from one that loads to one that loads
+pub step_loads : (w : World) (item : Item) (reply : Reply) (next : World) → IsLoadable w.history → HasDocument item → Step w item reply next → IsLoadable next.history
+step_loads w (items.Command c) reply next loads range step = command_keeps IsLoadable (λ h e is legal. loadable-push h e is (entry_loads h e legal)) w.history c reply next.history loads range step
+step_loads w items.Line reply next loads range step = stays IsLoadable w.history next.history loads step.0
+
+-- a run goes on over any items whose documents are in range
+pub run_on : (w : World) (events : List Item) → IsLoadable w.history → All HasDocument events → (outcomes : List (Outcome Reply World)) × IsRun Step w events outcomes
+run_on w [] loads range = ([], tt)
+run_on w (item ∷ events) loads range =
+    let outcome = each_outcome w item loads in
+    let next = step_loads w item outcome.0.reply outcome.0.next loads (All-head HasDocument item events range) outcome.1 in
+    let further = run_on outcome.0.next events next (All-tail HasDocument item events range) in
+    (outcome.0 ∷ further.0, (outcome.1, further.1))
+
+-- an outcome is the only one
+abbrev IsOne : Reply → Reply → History → History → Type 0
+IsOne reply other next then = (reply ≡ other) × (next ≡ then)
+
+one_adds : (h : History) (e : Entry) (refusal : Option Refusal) (reply other : Reply) (next then : History) → Adds h e refusal reply next → Adds h e refusal other then → IsOne reply other next then
+one_adds h e None reply other next then a b = let same : next ≡ then = a.0 ∙ sym b.0 in (a.1 ∙ ap (λ (g : History). Accepted (length g)) same ∙ sym b.1, same)
+one_adds h e (Some why) reply other next then a b = (a.1 ∙ sym b.1, a.0 ∙ sym b.0)
+
+one_tail : (h : History) (word : List ℕ) (b horizon : ℕ) (one other : List Posting) → IsTailFor h word b horizon one → IsTailFor h word b horizon other → one ≡ other
+one_tail h word b horizon one other (inl (past, x)) (inl (again, y)) = one_list_of (λ d t. frequency_at h word (record { 0 = d }) t) horizon (2 ^ 40) one other x y
+one_tail h word b horizon one other (inl (past, x)) (inr (within, y)) = absurd (omega (arith, past, within))
+one_tail h word b horizon one other (inr (within, x)) (inl (past, y)) = absurd (omega (arith, past, within))
+one_tail h word b horizon one other (inr (within, x)) (inr (again, y)) = x ∙ sym y
+
+one_read_of : (h : History) (word : List ℕ) (a b : ℕ) (plan : Option PlanEntry) (one other : ℕ) → IsReadOf h word plan a b one → IsReadOf h word plan a b other → one ≡ other
+one_read_of h word a b None one other x y =
+    let list = one_list_of (λ d t. frequency_at h word (record { 0 = d }) t) 0 (2 ^ 40) x.0 y.0 x.1 y.1 in
+    x.2 ∙ ap length list ∙ sym y.2
+one_read_of h word a b (Some plan) one other x y =
+    let f = λ (d t : ℕ). frequency_at h word (record { 0 = d }) t in
+    let sealed = one_list_of f 0 plan.horizon.seconds x.0 y.0 x.2 y.2 in
+    omega (
+      arith,
+      x.4,
+      y.4,
+      ap (λ (l : List Posting). stored_size a b plan.horizon.seconds l (seconds plan.cuts)) sealed,
+      ap length (one_tail h word b plan.horizon.seconds x.1 y.1 x.3 y.3),
+    )
+
+one_read : (h : History) (a b : ℕ) (words : List (List ℕ)) (one other : ℕ) → IsReadFor h a b words one → IsReadFor h a b words other → one ≡ other
+one_read h a b [] one other x y = x ∙ sym y
+one_read h a b (word ∷ words) one other x y =
+    omega (arith, x.4, y.4, one_read_of h word a b (plan_of h word) x.0 y.0 x.2 y.2, one_read h a b words x.1 y.1 x.3 y.3)
+
+-- where a query is answered one way, so is a text
+abbrev IsOnly : (Query → Reply → Type 0) → Type 0
+IsOnly Finds = (query : Query) (reply other : Reply) → Finds query reply → Finds query other → reply ≡ other
+
+one_replied : (Finds : Query → Reply → Type 0) → IsOnly Finds → (query : Result Query ℕ) (reply other : Reply) → IsRepliedBy Finds query reply → IsRepliedBy Finds query other → reply ≡ other
+one_replied Finds one (Err place) reply other a b = a ∙ sym b
+one_replied Finds one (Ok query) reply other a b = one query reply other a b
+
+one_text : (Finds : Query → Reply → Type 0) → IsOnly Finds → (text : List ℕ) (reply other : Reply) → IsReplied Finds text reply → IsReplied Finds text other → reply ≡ other
+one_text Finds one text reply other a b =
+    let F : Result Query ℕ → Type 0 = λ q. IsRepliedBy Finds q reply in
+    one_replied Finds one b.0 reply other (subst F (one_reading term_of text a.0 b.0 a.1 b.1) a.2) b.2
+
+one_found : (h : History) (at : Time) → IsOnly (FindsBy h at)
+one_found h at query reply other a b =
+    let rows = one_answer (λ doc. IsSome (text_at h doc at.seconds)) (λ doc word. frequency_at h word doc at.seconds) query a.0 b.0 a.2 b.2 in
+    let read = one_read h at.seconds (at.seconds + 1) (words_of query) a.1 b.1 a.3 b.3 in
+    a.4 ∙ ap (λ (r : List Row). Found r a.1) rows ∙ ap (λ (n : ℕ). Found b.0 n) read ∙ sym b.4
+
+one_finds : (h : History) (at : Time) (text : List ℕ) (reply other : Reply) → Finds h at text reply → Finds h at text other → reply ≡ other
+one_finds h at text = one_text (FindsBy h at) (one_found h at) text
+
+one_spanned : (h : History) (span : Span) → IsOnly (SpansBy h span)
+one_spanned h span query reply other a b =
+    let rows = longest.one row_kind plain-rows (scored_at (λ doc t. is_some (text_at h doc t)) (λ doc t word. frequency_at h word doc t) query) span.from span.to a.0 b.0 a.2 b.2 in
+    let read = one_read h span.from span.to (words_of query) a.1 b.1 a.3 b.3 in
+    a.4 ∙ ap (λ (r : List SpanRow). Spanned r a.1) rows ∙ ap (λ (n : ℕ). Spanned b.0 n) read ∙ sym b.4
+
+one_spans : (h : History) (span : Span) (text : List ℕ) (reply other : Reply) → Spans h span text reply → Spans h span text other → reply ≡ other
+one_spans h span text = one_text (SpansBy h span) (one_spanned h span) text
+
+one_proposes : (h : History) (phrase : List ℕ) (factor : Fraction) (reply other : Reply) → Proposes h phrase factor reply → Proposes h phrase factor other → SameButSegments reply other
+one_proposes h phrase factor reply other =
+    one_phrase Guarantee h (SameButSegments reply other) (λ why. reply ≡ Refused why) (λ why. other ≡ Refused why) (λ word list. ProposesPlan factor (last_second h) list reply) (λ word list. ProposesPlan factor (last_second h) list other)
+    (λ why a b. inl (a ∙ sym b))
+    (λ word list a b.
+    let same = differ_in_segments list factor (last_second h) a.0 b.0 a.1 b.1 a.2 b.2 a.3 b.3 in
+    inr (a.0, b.0, a.1, a.2, a.4, b.4 ∙ ap (λ (ns : List Node). Proposed b.0 ns b.2) (sym same.0) ∙ ap (λ (n : ℕ). Proposed b.0 a.1 n) (sym same.1)))
+    (one_term phrase)
+
+one_stays : (h : History) (reply other : Reply) (next then : History) → next ≡ h → then ≡ h → reply ≡ other → IsOne reply other next then
+one_stays h reply other next then a b same = (same, a ∙ sym b)
+
+one_declines : (h : History) (why : Refusal) (reply other : Reply) (next then : History) → Declines h why reply next → Declines h why other then → IsOne reply other next then
+one_declines h why reply other next then a b = one_stays h reply other next then a.0 b.0 (a.1 ∙ sym b.1)
+
+same_outcome : {reply other : Reply} {next then : World} → (reply ≡ other) × (next ≡ then) → SameButSegments reply other × (next ≡ then)
+same_outcome one = (inl one.0, one.1)
+
+one_command : (h : History) (c : Command) (reply other : Reply) (next then : History) → (IsChoice (items.Command c) → ⊥) → CarriesOut h c reply next → CarriesOut h c other then → IsOne reply other next then
+one_command h (commands.Arrive doc at (texts.Bytes text)) reply other next then free a b = one_adds h (entries.Arrive doc at text) (arrival_refusal h doc at text) reply other next then a b
+one_command h (commands.Arrive doc at (texts.TooLong bytes)) reply other next then free a b = one_declines h (refusals.TooLong most_text) reply other next then a b
+one_command h (commands.Delete doc at) reply other next then free a b = one_adds h (entries.Delete doc at) (deletion_refusal h doc at) reply other next then a b
+one_command h (commands.Find at expr) reply other next then free a b = one_stays h reply other next then a.0 b.0 (one_finds h at expr reply other a.1 b.1)
+one_command h (commands.Show doc at) reply other next then free a b = one_stays h reply other next then a.0 b.0 (a.1 ∙ sym b.1)
+one_command h (commands.Plan word kind fraction) reply other next then free a b = absurd (free tt)
+one_command h (commands.Propose word fraction) reply other next then free a b = absurd (free tt)
+one_command h (commands.Between span expr) reply other next then free a b = one_stays h reply other next then a.0 b.0 (one_spans h span expr reply other a.1 b.1)
+one_command h (commands.Certificate word) reply other next then free a b = one_stays h reply other next then a.0 b.0 (one_certifies h word reply other a.1 b.1)
+one_command h commands.Verify reply other next then free a b =
+    one_stays h reply other next then a.0 b.0 (a.1.2 ∙ ap Verified (one_verdict h a.1.0 b.1.0 a.1.1 b.1.1) ∙ sym b.1.2)
+one_command h to_come reply other next then free a b = one_declines h refusals.Line reply other next then a b
+
+pub one_outcome_only : (w : World) (item : Item) (reply other : Reply) (next then : World) → (IsChoice item → ⊥) → Step w item reply next → Step w item other then → (reply ≡ other) × (next ≡ then)
+one_outcome_only w (items.Command c) reply other next then free a b = let one = one_command w.history c reply other next.history then.history free a b in (one.0, ap world_of one.1)
+one_outcome_only w items.Line reply other next then free a b = let one = one_declines w.history refusals.Line reply other next.history then.history a b in (one.0, ap world_of one.1)
+
+-- also where it may choose what is proposed, but for the segments
+pub one_but_segments : (w : World) (item : Item) (reply other : Reply) (next then : World) → (IsStoring item → ⊥) → Step w item reply next → Step w item other then → SameButSegments reply other × (next ≡ then)
+one_but_segments w (items.Command (commands.Propose word fraction)) reply other next then free a b = (one_proposes w.history word fraction reply other a.1 b.1, ap world_of (a.0 ∙ sym b.0))
+one_but_segments w (items.Command (commands.Plan word kind fraction)) reply other next then free a b = absurd (free tt)
+one_but_segments w item reply other next then free a b = same_outcome (one_outcome_only w item reply other next then (λ x. x) a b)
+
+-- what is told of two plans that an item may store
+told_same : {one other : Summary} {next then : World} → SameButSegments (Planned one) (Planned other) × (next ≡ then) → SamePlanned one other
+told_same {one = one} {other = other} (inl same, on) =
+    let here : one ≡ other = cc in
+    record {
+      length = ap (λ (s : Summary). s.length) here;
+      full = ap (λ (s : Summary). s.full) here;
+      horizon = ap (λ (s : Summary). s.horizon) here;
+      cost = ap (λ (s : Summary). s.cost) here;
+      space = λ none. ap (λ (s : Summary). s.space) here;
+    }
+told_same {one = one} (inr (segments, others, nodes, total, is, are), on) = absurd cc
+
+pub planned_alike : (w : World) (item : Item) (one other : Summary) (next then : World) → Step w item (Planned one) next → Step w item (Planned other) then → SamePlanned one other
+planned_alike w (items.Command (commands.Plan word kind fraction)) one other next then a b = plans_alike w.history word kind fraction one other next.history then.history a b
+planned_alike w item one other next then a b = told_same (one_but_segments w item (Planned one) (Planned other) next then (λ x. x) a b)

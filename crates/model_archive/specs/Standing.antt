@@ -1,0 +1,26 @@
+-- Where a run stands, as a recursion on its outcomes. This is what a loop over events carries; what `Reopens` says of an image follows
+-- from it.
+use Rattle.std.specs.Prelude.{◌≡◌, ◌⊎◌, List, [], ◌∷◌, ◌++◌, ℕ}
+use Rattle.machine_model.specs.Areas.{Bytes}
+use Rattle.machine_model.specs.States.{DiskState}
+use Rattle.machine_model.specs.Moments.{LeavesOnly, GoesOn}
+use Rattle.machine_model.specs.Pushes.{IsPrefix}
+use Rattle.model_archive.specs.Runs.{Outcome}
+
+-- An image, with the bytes that the run has shown then: at the state before the outcomes with nothing shown, at the next state with a
+-- part of the first reply shown, or further on.
+abbrev pub StandsAlong : {S R : Type 0} → (R → List ℕ) → (S → Bytes → Type 0) → S → List (Outcome R S) → Bytes → List ℕ → Type 0
+StandsAlong text stands state [] image shown = stands state image × (shown ≡ [])
+StandsAlong text stands state (outcome ∷ outcomes) image shown = (stands state image × (shown ≡ []))
+    ⊎ ((stands outcome.next image × IsPrefix shown (text outcome.reply))
+    ⊎ ((rest : List ℕ) × (shown ≡ text outcome.reply ++ rest) × StandsAlong text stands outcome.next outcomes image rest))
+
+-- the state after all outcomes
+abbrev pub last_state : {S R : Type 0} → S → List (Outcome R S) → S
+last_state state [] = state
+last_state state (outcome ∷ outcomes) = last_state outcome.next outcomes
+
+-- Outcomes that were carried out: each image left since the start stands by what was shown of the run then.
+pub record Carried {S R : Type 0} (text : R → List ℕ) (stands : S → Bytes → Type 0) (state : S) (outcomes : List (Outcome R S)) (before : List ℕ) (old new : DiskState) : Type 0 where
+  pub goes_on : GoesOn old new
+  pub images : LeavesOnly old new (λ image beside. (shown : List ℕ) × (beside ≡ before ++ shown) × StandsAlong text stands state outcomes image shown)

@@ -1,0 +1,237 @@
+-- The machine that an archive is: what an item of the input does to a history, and what is replied.
+use Rattle.std.specs.Prelude.{◌≡◌, ◌⊎◌, ℕ, ◌+◌, nat_lt, not, if◌then◌else◌, List, [], ◌∷◌, ◌++◌, length, Option, Some, None, Result, Ok, Err}
+use Rattle.std.specs.List.{AllZip}
+use Rattle.std.specs.Str.{is_utf8}
+use Rattle.std.specs.Str.Lossy.{utf8_valid_len}
+use Rattle.base_types.specs.Limits.{limit_of}
+use Rattle.base_types.specs.declared.fraction.Fraction.{Fraction}
+use Rattle.base_types.specs.declared.ids.DocId.{DocId}
+use Rattle.base_types.specs.declared.posting.Posting.{Posting}
+use Rattle.base_types.specs.declared.time.Span.{Span}
+use Rattle.base_types.specs.declared.time.Time.{Time}
+use Rattle.base_types.specs.declared.which.Which.TheVariants.{Journal, Pages}
+use Rattle.base_commands.specs.declared.command.Command.{Command}
+use Rattle.base_commands.specs.declared.command.Command.TheVariants as commands
+use Rattle.base_commands.specs.declared.command.Item.{Item}
+use Rattle.base_commands.specs.declared.command.Item.TheVariants as items
+use Rattle.base_commands.specs.declared.command.Kind.{Kind}
+use Rattle.base_commands.specs.declared.command.Kind.TheVariants.{Guarantee, Uniform, Since}
+use Rattle.base_commands.specs.declared.text.Text.{Text}
+use Rattle.base_commands.specs.declared.text.Text.TheVariants as texts
+use Rattle.lists_versions.specs.Tests.{first_of, when}
+use Rattle.journal_entries.specs.Spelling.{most_text}
+use Rattle.journal_entries.specs.declared.entry.Entry.{Entry}
+use Rattle.journal_entries.specs.declared.entry.Entry.TheVariants as entries
+use Rattle.journal_entries.specs.declared.place.Layout.TheVariants.{Blocks}
+use Rattle.journal_entries.specs.declared.place.Place.{Place}
+use Rattle.journal_entries.specs.declared.plan.PlanEntry.{PlanEntry}
+use Rattle.pages_area.specs.Placing.{ArePlaced, HaveNoRoom}
+use Rattle.pages_sublists.specs.Preparing.{IsFor, extents, sizes, spellings}
+use Rattle.pages_sublists.specs.Segments.{seconds}
+use Rattle.plans_kinds.specs.Plans.{IsGoodPlan, IsCostOf, later, plan_space}
+use Rattle.text_words.specs.Terms.{one_term}
+use Rattle.plans_kinds.specs.Proposals.{IsProposal, IsShown}
+use Rattle.plans_kinds.specs.declared.proposal.Node.{Node}
+use Rattle.plans_kinds.specs.declared.proposal.Segment.{Segment}
+use Rattle.query_lang.specs.Grammar.{Query, IsRead}
+use Rattle.query_lang.specs.Meaning.{words_of}
+use Rattle.query_lang.specs.Tokens.{term_of}
+use Rattle.query_eval.specs.declared.answer.Row.{Row}
+use Rattle.query_eval.specs.declared.spans.SpanRow.{SpanRow}
+use Rattle.model_archive.specs.declared.refusal.Refusal.{Refusal}
+use Rattle.model_archive.specs.declared.refusal.Refusal.TheVariants as refusals
+use Rattle.model_archive.specs.declared.verdict.Verdict.{Verdict}
+use Rattle.model_archive.specs.Histories.{History, entry_refusal, end_of, text_at}
+use Rattle.model_archive.specs.Answers.{IsAnswerAt, IsSpanAnswerAt}
+use Rattle.model_archive.specs.Chosen.{IsReadFor}
+use Rattle.model_archive.specs.Planning.{OfPhrase, OfTerm, IsListUpTo, last_second}
+use Rattle.model_archive.specs.Plans.{live_extents, plan_of}
+use Rattle.model_archive.specs.Verifying.{Verifies}
+use Rattle.model_archive.specs.Worlds.{World}
+
+-- what is told of a plan that is stored: how many entries the history has now, how many segments the plan has, how many postings their sublists
+-- have together, how many postings the word's list has up to the horizon, and the horizon in seconds; and of a plan under a space bound, what its
+-- reads are expected to cost, in postings read if the times are asked for as its load says
+pub record Summary : Type 0 where
+  pub length : ℕ
+  pub segments : ℕ
+  pub space : ℕ
+  pub full : ℕ
+  pub horizon : ℕ
+  pub cost : Option ℕ
+
+-- what an item is answered
+pub data Reply : Type 0 where
+  -- it is carried out, and the history has so many entries now
+  Accepted : ℕ → Reply
+  -- it is refused, and nothing changes
+  Refused : Refusal → Reply
+  -- the rows that match, and how many postings were read for them
+  Found : List Row → ℕ → Reply
+  -- the same of a window of time
+  Spanned : List SpanRow → ℕ → Reply
+  -- the text, if the document is alive then
+  Version : Option (List ℕ) → Reply
+  -- the segments of a plan with their sizes, the boundaries with the least space up to each, and the plan's space
+  Proposed : List Segment → List Node → ℕ → Reply
+  -- a plan is stored
+  Planned : Summary → Reply
+  -- the archive was checked by its texts
+  Verified : Verdict → Reply
+
+-- the text has more bytes than a text may have
+abbrev pub too_long : List ℕ → Option Refusal
+too_long text = when (nat_lt most_text (length text)) (refusals.TooLong most_text)
+
+-- the text isn't UTF-8
+abbrev pub bad_text : List ℕ → Option Refusal
+bad_text text = when (not (is_utf8 text)) (refusals.BadText (utf8_valid_len text))
+
+-- the journal would pass its limit
+abbrev pub full_journal : History → Entry → Option Refusal
+full_journal history entry = when (nat_lt (limit_of Journal) (end_of (history ++ entry ∷ []))) (refusals.Full Journal (limit_of Journal))
+
+-- why an arrival is refused: the first cause in order
+abbrev pub arrival_refusal : History → DocId → Time → List ℕ → Option Refusal
+arrival_refusal history doc at text = let entry = entries.Arrive doc at text in
+    first_of (too_long text ∷ bad_text text ∷ entry_refusal history entry ∷ full_journal history entry ∷ [])
+
+-- why a deletion is refused: the first cause in order
+abbrev pub deletion_refusal : History → DocId → Time → Option Refusal
+deletion_refusal history doc at = let entry = entries.Delete doc at in
+    first_of (entry_refusal history entry ∷ full_journal history entry ∷ [])
+
+-- an entry that is accepted comes behind the history; one that is refused changes nothing
+abbrev pub Adds : History → Entry → Option Refusal → Reply → History → Type 0
+Adds old entry None reply new = (new ≡ old ++ entry ∷ []) × (reply ≡ Accepted (length new))
+Adds old entry (Some why) reply new = (new ≡ old) × (reply ≡ Refused why)
+
+-- what a query is answered; or the place at which a text is told to be none
+abbrev pub IsRepliedBy : (Query → Reply → Type 0) → Result Query ℕ → Reply → Type 0
+IsRepliedBy Finds (Ok query) reply = Finds query reply
+IsRepliedBy Finds (Err place) reply = reply ≡ Refused (refusals.BadQuery place)
+
+-- what a text is answered, as it is read
+abbrev pub IsReplied : (Query → Reply → Type 0) → List ℕ → Reply → Type 0
+IsReplied Finds text reply = (query : Result Query ℕ) × IsRead term_of text query × IsRepliedBy Finds query reply
+
+-- what is found at a time by a query, in rows and postings read
+abbrev pub FindsBy : History → Time → Query → Reply → Type 0
+FindsBy history at query reply =
+    (rows : List Row) × (read : ℕ) × IsAnswerAt history at.seconds query rows × IsReadFor history at.seconds (at.seconds + 1) (words_of query) read × (reply ≡ Found rows read)
+
+-- the same by a text
+abbrev pub Finds : History → Time → List ℕ → Reply → Type 0
+Finds history at text reply = IsReplied (FindsBy history at) text reply
+
+-- what is found over a window of time by a query, in rows and postings read
+abbrev pub SpansBy : History → Span → Query → Reply → Type 0
+SpansBy history span query reply =
+    (rows : List SpanRow) × (read : ℕ) × IsSpanAnswerAt history span.from span.to query rows × IsReadFor history span.from span.to (words_of query) read × (reply ≡ Spanned rows read)
+
+-- the same by a text
+abbrev pub Spans : History → Span → List ℕ → Reply → Type 0
+Spans history span text reply = IsReplied (SpansBy history span) text reply
+
+-- any least plan of a list is proposed
+abbrev pub ProposesPlan : Fraction → ℕ → List Posting → Reply → Type 0
+ProposesPlan factor horizon list reply =
+    (segments : List Segment) × (nodes : List Node) × (total : ℕ) × IsProposal list factor horizon segments nodes total × (reply ≡ Proposed segments nodes total)
+
+-- what is proposed for a phrase: it is refused, or a least plan of its word's list up to the last time is told
+abbrev pub Proposes : History → List ℕ → Fraction → Reply → Type 0
+Proposes history phrase factor reply =
+    OfPhrase Guarantee history (one_term phrase) (λ why. reply ≡ Refused why) (λ word list. ProposesPlan factor (last_second history) list reply)
+
+-- the stored plan of a list, as it is certified: the partition by its cuts is shown, with the least space up to each boundary
+abbrev pub IsCertificate : List Posting → Fraction → List Time → ℕ → List Segment → List Node → ℕ → Type 0
+IsCertificate list factor [] h segments nodes total = ⊥
+IsCertificate list factor (f ∷ cuts) h segments nodes total = IsShown list factor h f.seconds (later cuts h) segments nodes total
+
+-- what is certified of a live plan, by its kind: only one that keeps to a guarantee has a certificate
+abbrev pub CertifiesPlan : History → PlanEntry → Kind → Reply → Type 0
+CertifiesPlan history plan Guarantee reply = (list : List Posting) × IsListUpTo history plan.word plan.horizon.seconds list
+    × ((segments : List Segment) × (nodes : List Node) × (total : ℕ) × IsCertificate list plan.fraction plan.cuts plan.horizon.seconds segments nodes total × (reply ≡ Proposed segments nodes total))
+CertifiesPlan history plan Uniform reply = reply ≡ Refused refusals.NoPlan
+CertifiesPlan history plan (Since at) reply = reply ≡ Refused refusals.NoPlan
+
+-- what is certified of a word's live plan, if it has one
+abbrev pub CertifiesLive : History → Option PlanEntry → Reply → Type 0
+CertifiesLive history None reply = reply ≡ Refused refusals.NoPlan
+CertifiesLive history (Some plan) reply = CertifiesPlan history plan plan.kind reply
+
+-- what is certified for a phrase: it is refused, or its word's live plan is certified
+abbrev pub Certifies : History → List ℕ → Reply → Type 0
+Certifies history phrase reply = OfTerm history (one_term phrase) (λ why. reply ≡ Refused why) (λ word. CertifiesLive history (plan_of history word) reply)
+
+-- a command that is refused changes nothing
+abbrev pub Declines : History → Refusal → Reply → History → Type 0
+Declines old why reply new = (new ≡ old) × (reply ≡ Refused why)
+
+-- the entry of a plan that is stored: its sublists are in blocks
+abbrev pub in_blocks : List ℕ → Kind → Fraction → Time → List Time → List Place → PlanEntry
+in_blocks word kind factor horizon cuts places =
+    record { word = word; layout = Blocks; kind = kind; fraction = factor; horizon = horizon; cuts = cuts; places = places }
+
+-- a plan's entry comes behind the history; or it is refused, as with it the journal would pass its limit
+abbrev pub AddsPlan : History → PlanEntry → Option Refusal → List Posting → Reply → History → Type 0
+AddsPlan old plan None list reply new =
+    (new ≡ old ++ entries.Planned plan ∷ []) × ((cost : Option ℕ) × IsCostOf plan.kind list plan.cuts plan.horizon.seconds cost × (reply ≡ Planned (record {
+      length = length new;
+      segments = length plan.cuts;
+      space = plan_space list plan.cuts plan.horizon.seconds;
+      full = length list;
+      horizon = plan.horizon.seconds;
+      cost = cost;
+    })))
+AddsPlan old plan (Some why) list reply new = Declines old why reply new
+
+-- A plan with these cuts is stored: each segment's sublist takes the lowest run of pages that no live place and no earlier segment has. Where
+-- there is no such run, it is refused.
+abbrev pub StoresCuts : History → List ℕ → Kind → Fraction → Time → List Time → List Posting → Reply → History → Type 0
+StoresCuts old word kind factor horizon cuts list reply new = let bytes = spellings Blocks list (seconds cuts) horizon.seconds in
+    (HaveNoRoom (live_extents old) (sizes bytes) × Declines old (refusals.Full Pages (limit_of Pages)) reply new)
+    ⊎ ((places : List Place) × ArePlaced (live_extents old) (sizes bytes) (extents places) × AllZip IsFor places bytes
+    × (let plan = in_blocks word kind factor horizon cuts places in AddsPlan old plan (full_journal old (entries.Planned plan)) list reply new))
+
+-- any plan of a word's list up to the last time that is what its kind promises is stored, if there is room for it
+pub record StoresPlan (old : History) (kind : Kind) (factor : Fraction) (word : List ℕ) (list : List Posting) (reply : Reply) (new : History) : Type 0 where
+  pub horizon : Time
+  pub horizon_is : horizon.seconds ≡ last_second old
+  pub cuts : List Time
+  pub good : IsGoodPlan kind list factor cuts horizon.seconds
+  pub stores : StoresCuts old word kind factor horizon cuts list reply new
+
+-- A term's key, if it is UTF-8, as an entry's word has to be. (A key encodes what Unicode's tables give, so each should be. That isn't proved of
+-- the tables, so it is asked here; a phrase whose key weren't UTF-8 would be refused as NotOneTerm.)
+abbrev pub spelled_key : Option (List ℕ) → Option (List ℕ)
+spelled_key None = None
+spelled_key (Some key) = if is_utf8 key then Some key else None
+
+-- what becomes of a phrase that is to be planned: it is refused, or a plan of its word's list is stored that is what its kind promises
+abbrev pub Plans : History → List ℕ → Kind → Fraction → Reply → History → Type 0
+Plans old phrase kind factor reply new =
+    OfPhrase kind old (spelled_key (one_term phrase)) (λ why. Declines old why reply new) (λ word list. StoresPlan old kind factor word list reply new)
+
+-- a version arrives, with a text that was held, or with one that is too long to be
+abbrev pub Arrives : History → DocId → Time → Text → Reply → History → Type 0
+Arrives old doc at (texts.Bytes text) reply new = Adds old (entries.Arrive doc at text) (arrival_refusal old doc at text) reply new
+Arrives old doc at (texts.TooLong bytes) reply new = Declines old (refusals.TooLong most_text) reply new
+
+-- from the old history, the archive may give this reply to the command and go on to the new one; a command to come is refused as a line that is none
+abbrev pub CarriesOut : History → Command → Reply → History → Type 0
+CarriesOut old (commands.Arrive doc at text) reply new = Arrives old doc at text reply new
+CarriesOut old (commands.Delete doc at) reply new = Adds old (entries.Delete doc at) (deletion_refusal old doc at) reply new
+CarriesOut old (commands.Find at expr) reply new = (new ≡ old) × Finds old at expr reply
+CarriesOut old (commands.Show doc at) reply new = (new ≡ old) × (reply ≡ Version (text_at old doc at.seconds))
+CarriesOut old (commands.Plan word kind fraction) reply new = Plans old word kind fraction reply new
+CarriesOut old (commands.Propose word fraction) reply new = (new ≡ old) × Proposes old word fraction reply
+CarriesOut old (commands.Between span expr) reply new = (new ≡ old) × Spans old span expr reply
+CarriesOut old (commands.Certificate word) reply new = (new ≡ old) × Certifies old word reply
+CarriesOut old commands.Verify reply new = (new ≡ old) × ((verdict : Verdict) × Verifies old verdict × (reply ≡ Verified verdict))
+CarriesOut old to_come reply new = Declines old refusals.Line reply new
+
+-- The step of the machine, over an item of the input: a command is carried out, and a line that is none is refused.
+abbrev pub Step : World → Item → Reply → World → Type 0
+Step old (items.Command command) reply new = CarriesOut old.history command reply new.history
+Step old items.Line reply new = Declines old.history refusals.Line reply new.history

@@ -1,8 +1,0 @@
-use Rattle.std.proofs.Common.{arith}
-use Rattle.std.proofs.lemmas.List.{length-take}
-use Rattle.page_cache.specs.Caches.{without_page}
-use Rattle.page_cache.proofs.CacheLemmas.{distinct-asking}
-use Rattle.page_cache.proofs.laws.few_are_kept.Goals as goal
-
-pub returns : goal.returns
-returns c = λ k cache distinct. (distinct-asking 1024 k cache distinct, omega (arith, length-take 1023 (without_page k.page cache)))

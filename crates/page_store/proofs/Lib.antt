@@ -1,8 +1,0 @@
-mod EdgeLemmas
-mod CountLemmas
-pub mod StayLemmas
-pub mod PlacingLemmas
-pub mod TakenLemmas
-pub mod ChangeLemmas
-pub mod WroteLemmas
-pub mod OrderLemmas

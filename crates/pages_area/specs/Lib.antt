@@ -1,0 +1,14 @@
+pub mod CacheLaws
+pub mod Caches
+pub mod Causes
+pub mod Crash
+pub mod Edges
+pub mod Inside
+pub mod Live
+pub mod Pieces
+pub mod Placing
+pub mod Ranges
+pub mod Rows
+pub mod Runs
+pub mod Taken
+pub mod Wrote

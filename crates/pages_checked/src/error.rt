@@ -1,0 +1,30 @@
+//! Why bytes aren't checked.
+ghost use Rattle.std.specs.Prelude.{◌≡◌};
+ghost use Rattle.pages_checked.specs.declared.error.CheckError.{CheckError};
+
+use std::alloc::AllocError;
+
+/// Why bytes aren't checked.
+#[derive(Clone, Copy, Debug)]
+pub enum CheckError {
+    /// Their SHA-256 is this one.
+    Digest {
+        /// What the bytes have.
+        got: [u8; 32],
+    },
+    /// They spell no list.
+    Form {
+        /// The offset of the first fault.
+        at: u64,
+    },
+    /// There was no memory.
+    Memory,
+}
+
+impl From<AllocError> for CheckError {
+    ghost from_gives = { λ _ e. e ≡ CheckError.Memory };
+
+    fn from(_: AllocError) -> CheckError {
+        CheckError::Memory
+    }
+}

@@ -1,2 +1,0 @@
-pub mod Proved
-mod Cheapest

@@ -1,3 +1,0 @@
-pub mod Certificates
-pub mod Edges
-pub mod Lefts

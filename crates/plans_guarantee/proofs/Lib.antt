@@ -1,0 +1,4 @@
+mod Cheapest
+pub mod Proved
+mod Settling
+mod Ways

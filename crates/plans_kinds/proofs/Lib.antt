@@ -1,0 +1,4 @@
+mod CapLemmas
+pub mod GoodLemmas
+pub mod Pieces
+pub mod PlanLemmas

@@ -1,0 +1,5 @@
+pub mod Laws
+pub mod Plans
+pub mod ProposalLaws
+pub mod Proposals
+pub mod Steps

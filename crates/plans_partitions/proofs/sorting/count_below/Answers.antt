@@ -1,0 +1,10 @@
+use Rattle.std.proofs.Common.{rules, nat_lt}
+use Rattle.std.proofs.lemmas.List.Sorted.{IsNonDecreasingBy-from_sort, IsPartitionPoint-from_clause, IsPartitionedBy-ltb}
+use Rattle.plans_partitions.proofs.Sums.{count_split}
+use Rattle.plans_partitions.proofs.sorting.count_below.Goals as goal
+
+pub returns : goal.returns
+returns c =
+    count_split (λ x. nat_lt x c.args.t) c.args.numbers.now c.partition_point.result c.partition_point.ensures.bound
+    (IsPartitionPoint-from_clause (λ x. nat_lt x c.args.t) c.args.numbers.now c.partition_point.result c.partition_point.ensures.partitioned
+    (IsPartitionedBy-ltb (λ x. x) c.args.numbers.now c.args.t (IsNonDecreasingBy-from_sort (λ x. x) c.args.numbers.now c.requires)) (λ a r q k. search rules))

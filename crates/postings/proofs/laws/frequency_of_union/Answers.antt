@@ -1,5 +1,0 @@
-use Rattle.postings.proofs.Merged.{frequency_of_union}
-use Rattle.postings.proofs.laws.frequency_of_union.Goals as goal
-
-pub returns : goal.returns
-returns c = frequency_of_union

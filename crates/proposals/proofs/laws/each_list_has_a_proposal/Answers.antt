@@ -1,5 +1,0 @@
-use Rattle.proposals.proofs.Pieces.{each_has_a_proposal}
-use Rattle.proposals.proofs.laws.each_list_has_a_proposal.Goals as goal
-
-pub returns : goal.returns
-returns c = each_has_a_proposal

@@ -1,7 +1,0 @@
-use Rattle.std.proofs.Common.{◌≡◌, ◌-◌}
-use Rattle.record_codec.specs.PlanReading.{segments_at}
-use Rattle.record_codec.proofs.SegmentLemmas.{with_front}
-use Rattle.record_codec.proofs.plan_reading.segments_at.Given as goal
-
-abbrev pub invariant-loop : goal.invariant-loop
-invariant-loop l = with_front l.cuts.items l.places.items (segments_at (l.count - l.counter) l.least l.horizon l.rest) ≡ segments_at l.count 0 l.horizon l.bytes

@@ -1,6 +1,0 @@
-use Rattle.std.proofs.Common.{take, All}
-use Rattle.record_codec.specs.PlanSpelling.{IsDigest}
-use Rattle.record_codec.proofs.plan_writing.digests_fit.Given as goal
-
-abbrev pub invariant-loop-place : goal.invariant-loop-place
-invariant-loop-place l = All (λ place. IsDigest place.digest) (take l.place-index l.places)

@@ -1,0 +1,195 @@
+-- An item answered and its reply shown: what a call of the archive did, what is written of it, and what is shown of that.
+use Rattle.std.proofs.Common.{◌≡◌, ℕ, ◌+◌, ◌<◌, ◌≤◌, List, [], ◌++◌, length, All, None, Result, Ok, Err, refl, inl, inr, ap, subst, sym, ◌∙◌, arith, append_assoc}
+use Rattle.std.proofs.lemmas.List.{append-nil, append_cancel_left, length-append}
+use Rattle.machine_model.specs.Areas.{Bytes}
+use Rattle.machine_model.specs.Images.{MayLeave}
+use Rattle.machine_model.specs.Pushes.{IsPrefix, IsSameBeside, OnlyShows}
+use Rattle.machine_model.specs.States.{DiskState}
+use Rattle.base_types.specs.declared.ids.DocId.{DocId}
+use Rattle.base_types.specs.declared.time.Time.{Time}
+use Rattle.base_commands.specs.declared.command.Command.TheVariants as commands
+use Rattle.base_commands.specs.declared.command.Item.{Item}
+use Rattle.base_commands.specs.declared.command.Item.TheVariants as items
+use Rattle.base_commands.specs.declared.text.Text.TheVariants as texts
+use Rattle.journal_entries.specs.Spelling.{most_text}
+use Rattle.model_archive.specs.declared.refusal.Refusal.{Refusal}
+use Rattle.model_archive.specs.declared.refusal.Refusal.TheVariants as refusals
+use Rattle.model_archive.specs.Histories.{History}
+use Rattle.model_archive.specs.Plans.{live_extents}
+use Rattle.model_archive.specs.Replies.{reply_text}
+use Rattle.model_archive.specs.Runs.{Outcome}
+use Rattle.model_archive.specs.Stands.{bodies_of}
+use Rattle.model_archive.specs.Steps.{Reply, Accepted, Refused, Version}
+use Rattle.model_archive.proofs.RunLemmas.{one_outcome}
+use Rattle.journal_gates.specs.InStep.{IsInStep}
+use Rattle.journal_gates.specs.Spelled.{Spells}
+use Rattle.archive_core.specs.Changing.{KeepsBy, LeadsBy}
+use Rattle.archive_core.specs.States.{ArchiveState, AreInStepBy}
+use Rattle.archive_core.specs.Stored.{Store, HasSame, IsSameStore, StandsBy, StoreStep}
+use Rattle.archive_core.specs.Takes.{Ending, Replied, Starved, Faulted, Spoiled, TakesBy}
+use Rattle.archive_core.proofs.ByReadsLemmas.{keeps_leads, keeps_nowhere, stands_by, stocks_none}
+use Rattle.run_script.specs.Outcomes.{AnswersTo, CarriesOut, IsAnswered, IsShown, Passes, Writes}
+use Rattle.run_script.specs.Statuses.{stop_of_halt}
+use Rattle.run_script.specs.declared.stop.Halt.{Halt}
+use Rattle.run_script.specs.declared.stop.Halt.TheVariants as halts
+use Rattle.run_script.specs.declared.stop.Stop.{Stop}
+use Rattle.run_script.specs.declared.stop.Stop.TheVariants as stops
+
+-- where an outcome leaves the history and Pages as they are, each image stands for what was before it
+stands_back : (s next : Store) (image : Bytes) → IsSameStore s next → StandsBy next image → StandsBy s image
+stands_back s next image (history, pages) stands = record {
+  spelled = subst (λ (h : History). Spells image.journal (bodies_of h)) history stands.spelled;
+  same = subst (λ (h : History). All (HasSame s.pages image.pages) (live_extents h)) history (subst (λ (ps : List ℕ). All (HasSame ps image.pages) (live_extents next.history)) pages stands.same);
+}
+
+leads_back : (s next : Store) (old new : DiskState) → IsSameStore s next → LeadsBy s next old new → KeepsBy s old new
+leads_back s next old new same leads = record {
+  goes_on = leads.goes_on;
+  images = λ image beside left. let was = leads.images image beside left in (elim was.0 [ inl before ↦ before | inr after ↦ stands_back s next image same after ], was.1);
+}
+
+-- an item that a call took is answered by what is written of the call's end
+answers_so : (s : Store) (item : Item) (ending : Ending) (result : Result (Unit {0}) Halt) (old new : DiskState) (archive : ArchiveState) (page : List ℕ)
+    → TakesBy s item ending old new archive → Writes ending result page → AnswersTo s item result old new archive page
+answers_so s item (Replied reply) result old new archive page (next, comes, in_step) (inl is) = rw is.0 (reply, next, comes.step, comes.leads, in_step, is.1)
+answers_so s item (Replied reply) result old new archive page (next, comes, in_step) (inr (none, tells)) = rw none (leads_back s next old new (comes.still tells) comes.leads)
+answers_so s item Starved result old new archive page keeps is = rw is keeps
+answers_so s item Faulted result old new archive page (inl keeps) is = rw is (inl keeps)
+answers_so s item Faulted result old new archive page (inr (reply, next, comes)) is = rw is (inr (reply, next, comes.step, comes.leads))
+answers_so s item (Spoiled damage) result old new archive page spoiled is = rw is spoiled
+
+pub answers_by : (s : Store) (item : Item) (ending : Ending) (result : Result (Unit {0}) Halt) (old new : DiskState) (archive : ArchiveState) (page : List ℕ)
+    → TakesBy s item ending old new archive → Writes ending result page → IsAnswered s item result old new archive page
+answers_by s item ending result old new archive page takes writes = record { came = answers_so s item ending result old new archive page takes writes }
+
+-- an item that is refused without a call
+pub refused_by : (s : Store) (item : Item) (why : Refusal) (result : Result (Unit {0}) Halt) (d : DiskState) (archive : ArchiveState) (page : List ℕ)
+    → StoreStep s item (Refused why) s → AreInStepBy d archive s → result ≡ Ok tt → page ≡ reply_text (Refused why) → IsAnswered s item result d d archive page
+refused_by s item why result d archive page step in_step goes_on written = record { came = rw goes_on (Refused why, s, step, keeps_leads s s d d (keeps_nowhere d archive s in_step), in_step, written) }
+
+-- an arrival whose text was too long to be held
+pub too_long_by : (s : Store) (doc : DocId) (at : Time) (bytes : ℕ) (result : Result (Unit {0}) Halt) (d : DiskState) (archive : ArchiveState) (page : List ℕ)
+    → AreInStepBy d archive s → result ≡ Ok tt → page ≡ reply_text (Refused (refusals.TooLong most_text)) → IsAnswered s (items.Command (commands.Arrive doc at (texts.TooLong bytes))) result d d archive page
+too_long_by s doc at bytes result d archive page in_step goes_on written =
+    refused_by s (items.Command (commands.Arrive doc at (texts.TooLong bytes))) (refusals.TooLong most_text) result d archive page ((refl, refl), stocks_none s in_step.live) in_step goes_on written
+
+-- no reply is empty
+pub some_bytes : (r : Reply) → 1 ≤ length (reply_text r)
+some_bytes (Accepted n) = omega arith
+some_bytes (Version None) = omega arith
+some_bytes r = omega (arith, length-append {A = ℕ})
+
+-- ---- pushes
+
+-- they change no image
+pub same_images : (old new : DiskState) → IsSameBeside old new → (image : Bytes) → MayLeave new.now image → MayLeave old.now image
+same_images old new same image allowed = λ area. rw (same.stable, same.pending) at (allowed area)
+
+-- so a journal stays in step over them
+journal_beside : (old new : DiskState) (end : ℕ) (bodies : List (List ℕ)) → IsSameBeside old new → IsInStep old end bodies → IsInStep new end bodies
+journal_beside old new end bodies same step = record {
+  gate = step.gate;
+  shut = step.shut;
+  fit = step.fit;
+  end_is = step.end_is;
+  images = λ image allowed. step.images image (same_images old new same image allowed);
+}
+
+-- and so does an archive
+in_step_beside : (old new : DiskState) (archive : ArchiveState) (s : Store) → IsSameBeside old new → AreInStepBy old archive s → AreInStepBy new archive s
+in_step_beside old new archive s same in_step =
+    let was : AreInStepBy (record new { past = old.past; now = old.now }) archive s = subst (λ (d : DiskState). AreInStepBy d archive s) (sym same.same) in_step in
+    record {
+      stands = in_step.stands;
+      journal = journal_beside old new archive.end (bodies_of s.history) same in_step.journal;
+      pages_are = was.pages_are;
+      kept_are = in_step.kept_are;
+      read_is = was.read_is;
+      live = in_step.live;
+      same = λ image allowed. in_step.same image (same_images old new same image allowed);
+      cached = was.cached;
+    }
+
+-- ---- a reply shown
+
+-- the run was stopped before the reply
+pub cut_short : (s : Store) (item : Item) (halt : Halt) (stop : Stop) (before : List ℕ) (old new : DiskState) (archive_now : ArchiveState) (page : List ℕ)
+    → IsAnswered s item (Err halt) old new archive_now page → stop ≡ stop_of_halt halt → old.now.beside ≡ before → CarriesOut s item (Err stop) before before old new archive_now
+cut_short s item halt stop before old new archive_now page answered is beside = rw is (go halt answered.came)
+  where
+    go : (h : Halt) → AnswersTo s item (Err h) old new archive_now page → CarriesOut s item (Err (stop_of_halt h)) before before old new archive_now
+    go halts.Disk (inl keeps) = inl (keeps, refl)
+    go halts.Disk (inr (reply, next, step, leads)) = inr (
+      [],
+      record {
+        outcome = record { reply = reply; next = next };
+        step = step;
+        carried = record {
+          goes_on = leads.goes_on;
+          images = λ image other left. let was = leads.images image other left in
+              ([], was.1 ∙ beside ∙ sym (append-nil before), elim was.0 [ inl still ↦ inl (still, refl) | inr after ↦ inr (inl (after, (reply_text reply, refl))) ]);
+        };
+        shown_is = sym (append-nil before);
+        front = (reply_text reply, refl);
+      },
+      omega (arith, some_bytes reply),
+    )
+    go (halts.Damaged damage) (keeps, spoils, pages) = ((keeps, refl), spoils)
+    go halts.Memory keeps = (keeps, refl)
+
+-- by the disk alone
+pub halted_passes : (s : Store) (item : Item) (halt : Halt) (stop : Stop) (old new : DiskState) (archive_now : ArchiveState) (page : List ℕ) → IsAnswered s item (Err halt) old new archive_now page → stop ≡ stop_of_halt halt → Passes s item (Err stop) new archive_now
+halted_passes s item halt stop old new archive_now page answered is = rw is (go halt answered.came)
+  where
+    go : (h : Halt) → AnswersTo s item (Err h) old new archive_now page → Passes s item (Err (stop_of_halt h)) new archive_now
+    go halts.Disk came = tt
+    go (halts.Damaged damage) (keeps, spoils, pages) = (spoils, pages)
+    go halts.Memory came = tt
+
+pub answered_passes : (s : Store) (item : Item) (old mid new : DiskState) (archive_now : ArchiveState) (page : List ℕ) → IsAnswered s item (Ok tt) old mid archive_now page → IsSameBeside mid new → Passes s item (Ok tt) new archive_now
+answered_passes s item old mid new archive_now page answered same =
+    let (reply, next, step, leads, in_step, page_is) = answered.came in (reply, next, step, in_step_beside mid new archive_now next same in_step)
+
+-- what is known of the end of a show: all of the page was shown, or a part
+abbrev pub ShownTo : List ℕ → List ℕ → List ℕ → Result (Unit {0}) Stop → Type 0
+ShownTo before after page (Ok done) = after ≡ before ++ page
+ShownTo before after page (Err stops.Sink) = length after < length before + length page
+ShownTo before after page (Err stop) = ⊥
+
+shown_so : (s : Store) (item : Item) (result : Result (Unit {0}) Stop) (before after : List ℕ) (old mid new : DiskState) (archive_now : ArchiveState) (page : List ℕ)
+    → AnswersTo s item (Ok tt) old mid archive_now page → old.now.beside ≡ before → OnlyShows mid new before after → IsSameBeside mid new
+    → IsPrefix after (before ++ page) → ShownTo before after page result → CarriesOut s item result before after old new archive_now
+shown_so s item result before after old mid new archive_now page (reply, next, step, leads, in_step, page_is) beside shows same front to = go result to
+  where
+    outcome : Outcome Reply Store
+    outcome = record { reply = reply; next = next }
+
+    grows : List ℕ
+    grows = shows.grows.0
+
+    grown : IsPrefix after (before ++ reply_text reply)
+    grown = rw page_is at front
+
+    still : AreInStepBy new archive_now next
+    still = in_step_beside mid new archive_now next same in_step
+
+    is : IsShown s item grows before after old new
+    is = record {
+      outcome = outcome;
+      step = step;
+      carried = one_outcome reply_text StandsBy s outcome before after old mid new leads.goes_on
+          (λ image other left. let was = leads.images image other left in (was.0, was.1 ∙ beside)) shows (stands_by mid archive_now next in_step) grown;
+      shown_is = shows.grows.1;
+      front = (grown.0, append_cancel_left before (reply_text reply) (grows ++ grown.0) (grown.1 ∙ ap (λ (l : List ℕ). l ++ grown.0) shows.grows.1 ∙ append_assoc before grows grown.0));
+    }
+
+    go : (r : Result (Unit {0}) Stop) → ShownTo before after page r → CarriesOut s item r before after old new archive_now
+    go (Ok done) all = (grows, is, append_cancel_left before grows (reply_text reply) (sym shows.grows.1 ∙ all ∙ ap (λ (t : List ℕ). before ++ t) page_is), still)
+    go (Err stops.Sink) short = ((grows, is, omega (arith, short, ap length page_is, ap length shows.grows.1, length-append before grows)), stands_by new archive_now next still)
+    go (Err stop) never = absurd never
+
+-- the reply was shown, or a front of it
+pub carried_out : (s : Store) (item : Item) (result : Result (Unit {0}) Stop) (before after : List ℕ) (old mid new : DiskState) (archive_now : ArchiveState) (page : List ℕ)
+    → IsAnswered s item (Ok tt) old mid archive_now page → old.now.beside ≡ before → OnlyShows mid new before after → IsSameBeside mid new
+    → IsPrefix after (before ++ page) → ShownTo before after page result → CarriesOut s item result before after old new archive_now
+carried_out s item result before after old mid new archive_now page answered beside shows same front to = shown_so s item result before after old mid new archive_now page answered.came beside shows same front to

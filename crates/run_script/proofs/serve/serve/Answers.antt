@@ -1,0 +1,50 @@
+use Rattle.std.proofs.Common.{[], ◌++◌, arith}
+use Rattle.model_archive.specs.Standing.{last_state}
+use Rattle.run_script.proofs.PullLemmas.{ends_later, later_joins, left_joins, none_passed, passed_joins, spoiled_joins}
+use Rattle.run_script.proofs.serve.serve.Goals as goal
+
+pub items-init : goal.items-init
+items-init g c = record {
+  later = record { source = omega arith; sink = omega arith; disk = omega arith };
+  left = record { ready = c.requires.ready; cached = λ told stands. stands };
+  pulling = λ source_tells began start. start;
+  passed = λ disk_tells s start. none_passed _ s _ _ _ _ start;
+  serving = λ source_tells sink_tells disk_tells s start. ([], g.met.M.Machine.asked_laws.of_disk c.args.machine.now c.args.machine.now (g.met.M.Disk.only_same c.args.machine.now), start);
+}
+
+pub items-preserved : goal.items-preserved
+items-preserved g c =
+    let was = c.items.invariant in
+    let now = c.in-Ok.ensures in
+    record {
+      later = later_joins _ _ _ was.later now.later;
+      left = left_joins _ _ _ _ _ _ _ was.left now.left;
+      pulling = λ source_tells began start. now.pulls source_tells _ (was.pulling source_tells began start);
+      passed = λ disk_tells s start.
+          let so_far = was.passed disk_tells s start in
+          passed_joins _ s _ _ _ _ _ _ _ _ _ _ so_far (now.passes disk_tells (last_state s so_far.outcomes) so_far.in_step);
+      serving = λ source_tells sink_tells disk_tells s start.
+          let so_far = was.serving source_tells sink_tells disk_tells s start in
+          let next = now.goes_on source_tells sink_tells disk_tells s _ so_far.0 so_far.2 in
+          (so_far.0 ++ next.0, g.met.M.Machine.asked_laws.join _ _ _ so_far.0 next.0 so_far.1 next.1, next.2);
+    }
+
+pub returns-in-Err-clause-ends : goal.returns-in-Err-clause-ends
+returns-in-Err-clause-ends g c = λ source_tells began start. c.in-Err.ensures.pulls source_tells _ (c.items.invariant.pulling source_tells began start)
+
+pub returns-in-Err-clause-served : goal.returns-in-Err-clause-served
+returns-in-Err-clause-served g c = λ source_tells sink_tells disk_tells s start.
+    let so_far = c.items.invariant.serving source_tells sink_tells disk_tells s start in
+    let next = c.in-Err.ensures.goes_on source_tells sink_tells disk_tells s _ so_far.0 so_far.2 in
+    (so_far.0 ++ next.0, g.met.M.Machine.asked_laws.join _ _ _ so_far.0 next.0 so_far.1 next.1, next.2)
+
+pub returns-in-Err-clause-later : goal.returns-in-Err-clause-later
+returns-in-Err-clause-later g c = later_joins _ _ _ c.items.invariant.later c.in-Err.ensures.later
+
+pub returns-in-Err-clause-cause : goal.returns-in-Err-clause-cause
+returns-in-Err-clause-cause g c = ends_later _ _ _ _ c.items.invariant.later c.in-Err.ensures.cause
+
+pub returns-in-Err-clause-spoiled : goal.returns-in-Err-clause-spoiled
+returns-in-Err-clause-spoiled g c = λ disk_tells s start d is.
+    let so_far = c.items.invariant.passed disk_tells s start in
+    spoiled_joins _ s _ _ _ _ _ _ _ _ d so_far (c.in-Err.ensures.passes disk_tells (last_state s so_far.outcomes) so_far.in_step d is)

@@ -1,0 +1,47 @@
+-- What the words of the command line ask for, the program's name left out.
+use Rattle.std.specs.Prelude.{◌≡◌, true, List, [], map, Option, Some, None, IsSomeAnd, codes}
+use Rattle.std.specs.declared.alloc.Global.{Global}
+use Rattle.std.specs.declared.string.String.{String}
+use Rattle.std.specs.String.{string_bytes}
+use Rattle.clap.specs.Words.{App, Rule, Text, fault_of, first_of, matches_of, new_app, new_rule, with_rule}
+use Rattle.clap.specs.Simple.{on_top}
+use Rattle.clap.specs.declared.builder.action.ArgAction.TheVariants.{Set}
+use Rattle.run_words.specs.declared.task.Task.{Task}
+use Rattle.run_words.specs.declared.task.Task.TheVariants.{Script, Generate}
+use Rattle.run_words.specs.Numbers.{WritesNumber}
+
+-- the words as texts, each the list of its bytes
+abbrev pub texts : List (String Global) → List Text
+texts = map string_bytes
+
+-- The option `--name VALUE`: it may be given once or not at all, with one value.
+abbrev pub option : Text → Rule
+option name = record (new_rule name) { long = Some name; action = Some Set }
+
+-- The program's command: the two options, and whatever `clap` adds to each command. Its first word is no program's name.
+abbrev pub command : App
+command =
+    let bare = on_top (λ s. record s { no_binary_name = true }) (new_app (codes "tt_archive")) in
+    with_rule (with_rule bare (option (codes "generate"))) (option (codes "count"))
+
+-- The command takes the words: its parse fails at no step of them, and no word asks for help.
+unfoldable pub AreTaken : List Text → Type 0
+AreTaken words = fault_of command words ≡ []
+
+-- the value that the words give an option, where they give it
+unfoldable pub given : Text → List Text → Option Text
+given name words = first_of name (matches_of command words)
+
+-- Two options of these values ask for this: neither is given, or both are, and they write the numbers of the sample. (Each sample has a count
+-- from 1 to 100,000.)
+abbrev pub AskFor : Option Text → Option Text → Task → Type 0
+AskFor seed count Script = (seed ≡ None) × (count ≡ None)
+AskFor seed count (Generate sample) = IsSomeAnd seed (λ text. WritesNumber text sample.seed) × IsSomeAnd count (λ text. WritesNumber text sample.count)
+
+-- The words ask for this.
+abbrev pub AreWords : List Text → Task → Type 0
+AreWords words task = AreTaken words × AskFor (given (codes "generate") words) (given (codes "count") words) task
+
+-- The words ask for nothing.
+abbrev pub AreNoWords : List Text → Type 0
+AreNoWords words = (task : Task) → AreWords words task → ⊥

@@ -1,0 +1,20 @@
+//! What holds of words by their definition. The functions do nothing when they run.
+ghost use Rattle.run_words.specs.Laws.{NoWordsAskForTheScript, OneOptionAsksForNothing, PlainFormsAsk, WordsAskForOneThing, WordsAskOrDoNot};
+
+/// Words ask for one thing at most.
+pub fn words_ask_for_one_thing()
+    ensures { WordsAskForOneThing }
+{}
+
+/// Any words ask for something or for nothing.
+pub fn words_ask_or_do_not()
+    ensures { WordsAskOrDoNot }
+{}
+
+/// No words ask for the script; both options in a plain form for what their values ask for, whatever
+/// texts these are; and one option alone for nothing.
+pub fn plain_forms()
+    ensures none { NoWordsAskForTheScript }
+    ensures both { PlainFormsAsk }
+    ensures one { OneOptionAsksForNothing }
+{}

@@ -1,4 +1,0 @@
-use Rattle.space_planner.proofs.judging.+walk.Given as goal
-
-abbrev pub decreases-walk : goal.decreases-walk
-decreases-walk l = l.at

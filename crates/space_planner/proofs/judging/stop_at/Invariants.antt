@@ -1,5 +1,0 @@
-use Rattle.std.specs.Prelude.{◌≡◌, ◌<◌, ℕ, slice_index}
-use Rattle.space_planner.proofs.judging.stop_at.Given as goal
-
-abbrev pub invariant-loop-j : goal.invariant-loop-j
-invariant-loop-j l = (i : ℕ) → i < l.j → slice_index l.times (slice_index l.places i) ≡ l.cut → ⊥

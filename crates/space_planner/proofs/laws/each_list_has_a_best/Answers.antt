@@ -1,5 +1,0 @@
-use Rattle.space_planner.proofs.ThereIsABest.{each_has_a_best}
-use Rattle.space_planner.proofs.laws.each_list_has_a_best.Goals as goal
-
-pub returns : goal.returns
-returns c = each_has_a_best

@@ -1,9 +1,0 @@
-use Rattle.std.proofs.Common.{arith}
-use Rattle.space_planner.proofs.CellLemmas.{cells_more}
-use Rattle.space_planner.proofs.settling.settle.Goals as goal
-
-pub loop-i-preserved : goal.loop-i-preserved
-loop-i-preserved c = record {
-  some = omega arith;
-  cells = rw c.in_ok-append.ensures.items (cells_more _ _ _ _ _ _ _ _ c.loop-i.invariant.some c.loop-i.invariant.cells c.in_ok-legs.ensures.charge c.in_ok-legs.ensures.cost c.in_ok-legs.ensures.small c.in_ok-legs.ensures.costs_long (rw c.deref.ensures.value at c.in_ok-next.ensures));
-}

@@ -1,6 +1,0 @@
-use Rattle.std.proofs.Common.{arith, refl}
-use Rattle.space_planner.proofs.LeastLemmas.{least_more}
-use Rattle.space_planner.proofs.steps.lower_by.Goals as goal
-
-pub returns : goal.returns
-returns c k l h = rw (c.loop-c.invariant.lowered k (omega arith)) (least_more _ c.args.j _ _ refl h)

@@ -1,3 +1,0 @@
-mod CapLemmas
-pub mod GoodLemmas
-pub mod PlanLemmas

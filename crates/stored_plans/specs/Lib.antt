@@ -1,3 +1,0 @@
-pub mod Laws
-pub mod Plans
-pub mod Steps

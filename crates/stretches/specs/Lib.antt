@@ -1,5 +1,0 @@
-pub mod Events
-pub mod Kinds
-pub mod Laid
-pub mod Laws
-pub mod Stretches

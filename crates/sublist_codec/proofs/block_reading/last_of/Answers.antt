@@ -1,6 +1,0 @@
-use Rattle.sublist_codec.specs.Fields.{seen}
-use Rattle.sublist_codec.proofs.BlockLemmas.{last_is}
-use Rattle.sublist_codec.proofs.block_reading.last_of.Goals as goal
-
-pub returns-in-Some : goal.returns-in-Some
-returns-in-Some c = let a = c.in-Some.ensures.cases in last_is (seen c.args.before) c.args.block.now c.in-Some.field-0-1.now c.in-Some.last.now a.0

@@ -1,4 +1,0 @@
-use Rattle.sublist_codec.proofs.numbers.+put_bytes.Given as goal
-
-abbrev pub decreases-put_bytes : goal.decreases-put_bytes
-decreases-put_bytes l = l.most

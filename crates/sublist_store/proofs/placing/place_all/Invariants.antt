@@ -1,6 +1,0 @@
-use Rattle.std.specs.Prelude.{take}
-use Rattle.sublist_store.proofs.PlaceLemmas.{ArePlacedSoFar}
-use Rattle.sublist_store.proofs.placing.place_all.Given as goal
-
-abbrev pub invariant-loop-spelling : goal.invariant-loop-spelling
-invariant-loop-spelling l = ArePlacedSoFar l.fn.pages l.pages (take l.spelling-index l.spellings) l.places.items

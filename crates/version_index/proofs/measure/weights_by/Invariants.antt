@@ -1,6 +1,0 @@
-use Rattle.std.proofs.Common.{◌≡◌, take}
-use Rattle.version_index.specs.Measuring.{pairs_of}
-use Rattle.version_index.proofs.measure.weights_by.Given as goal
-
-abbrev pub invariant-loop-number : goal.invariant-loop-number
-invariant-loop-number l = pairs_of l.items.items ≡ take l.number-index l.number-items
