@@ -102,7 +102,7 @@ after_fetching {T} tells text phrase from to IsMade query r fetched d e x y same
     told_so (Ok answer) then made asked = then answer made asked
     told_so (Err error) then made asked = tt
 
--- ---- a query is a step of the abstract machine, with the cache that it leaves
+-- ---- a query is a step of the abstract archive, with the cache that it leaves
 
 -- ---- by what reads give
 

@@ -1,4 +1,4 @@
--- Where the pages hold what the history's plans need, a step by what reads give is the machine's.
+-- Where the pages hold what the history's plans need, a step by what reads give is the abstract archive's.
 use Rattle.std.proofs.Common.{◌≡◌, ◌⊎◌, ℕ, ◌+◌, List, [], ◌∷◌, ◌++◌, Option, Some, None, Result, Ok, Err, inl, inr, refl, ap, sym, subst}
 use Rattle.machine_model.specs.Areas.{Bytes}
 use Rattle.machine_model.specs.States.{DiskState}

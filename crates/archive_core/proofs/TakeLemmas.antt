@@ -1,4 +1,4 @@
--- A call that carries out an item is a step of the abstract machine.
+-- A call that carries out an item is a step of the abstract archive.
 use Rattle.std.proofs.Common.{◌≡◌, ◌⊎◌, ℕ, List, [], ◌∷◌, length, Option, Result, Ok, Err, OnOk, IfOk, refl, inl, inr, ap, subst, sym, ◌∙◌, arith, length-append}
 use Rattle.std.specs.Option.{option_map}
 use Rattle.machine_model.specs.Images.{MayLeave}

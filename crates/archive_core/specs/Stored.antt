@@ -1,5 +1,5 @@
 -- An archive by what reads give: what an item of the input does to it, and what is replied. Nothing is asked of what lies in Pages: where it holds what
--- the history's plans need, this is the machine's step over the history.
+-- the history's plans need, this is the abstract archive's step over the history.
 use Rattle.std.specs.Prelude.{◌≡◌, ℕ, ◌+◌, List, [], ◌∷◌, ◌++◌, length, All, Result, Ok, Err}
 use Rattle.machine_model.specs.Areas.{Bytes}
 use Rattle.machine_model.specs.Images.{MayLeave}

@@ -1,4 +1,4 @@
--- What a call of the archive does for an item of the input: a step of the abstract machine, and what it leaves.
+-- What a call of the archive does for an item of the input: a step of the abstract archive, and what it leaves.
 use Rattle.std.specs.Prelude.{◌≡◌, ◌⊎◌, ℕ, List, Option, Result, Ok, Err}
 use Rattle.std.specs.Option.{option_map}
 use Rattle.machine_model.specs.States.{DiskState}

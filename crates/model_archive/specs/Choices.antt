@@ -1,4 +1,4 @@
--- What the abstract machine is free to choose: which least plan it proposes, and which least or best plan it stores.
+-- What the abstract archive is free to choose: which least plan it proposes, and which least or best plan it stores.
 use Rattle.std.specs.Prelude.{◌≡◌, ◌⊎◌, ℕ, List, None}
 use Rattle.base_commands.specs.declared.command.Command.TheVariants as commands
 use Rattle.base_commands.specs.declared.command.Item.{Item}

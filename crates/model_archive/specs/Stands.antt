@@ -27,7 +27,7 @@ pub record Stands (history : History) (image : Bytes) : Type 0 where
   pub loadable : IsLoadable history
   pub held : HoldsPlans history image.pages
 
--- an image stands for a state of the abstract machine: by the state's history
+-- an image stands for a state of the abstract archive: by the state's history
 abbrev pub StandsIn : World → Bytes → Type 0
 StandsIn world image = Stands world.history image
 

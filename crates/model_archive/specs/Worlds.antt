@@ -1,4 +1,4 @@
--- The state of the abstract machine.
+-- The state of the abstract archive.
 use Rattle.model_archive.specs.Histories.{History}
 
 -- The state of the machine that an archive is: what it goes on from. Today that is the history alone; what else it is to remember between two items

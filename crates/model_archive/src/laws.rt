@@ -24,7 +24,7 @@ pub fn a_history_is_legal_entry_by_entry()
     ensures end { (h : History) → end_of h ≡ length (front (bodies_of h)) + 1 }
 {}
 
-/// The abstract machine never gets stuck, and chooses nothing but which least plan it proposes, and
+/// The abstract archive never gets stuck, and chooses nothing but which least plan it proposes, and
 /// which least or best plan it stores. From a history that loads each item has an outcome. It is the only
 /// one where no plan is asked for; two outcomes that propose a plan differ in its segments alone; and where
 /// two outcomes of one item each store a plan, their replies are the same but for the number of segments

@@ -1,4 +1,4 @@
--- The commands of a sample, one after another: one run of the abstract machine, which goes on where it was ended early.
+-- The commands of a sample, one after another: one run of the abstract archive, which goes on where it was ended early.
 use Rattle.std.proofs.Common.{◌≡◌, ◌⊎◌, ℕ, ◌≤◌, List, [], ◌∷◌, ◌++◌, length, map, All, Option, Some, None, Ok, Err, IsSome, refl, inl, inr, ap, subst, sym, ◌∙◌, arith, append_assoc, length-append}
 use Rattle.std.proofs.lemmas.List.{append-nil, map-append}
 use Rattle.std.proofs.lemmas.List.Elements.{All-head, All-tail}
@@ -82,7 +82,7 @@ ends_on w outcomes further new archive errors.Failed ends = tt
 ends_on w outcomes further new archive (errors.Damaged damage) ends = ends
 ends_on w outcomes further new archive errors.Memory ends = still_among (λ s. EachStands new s.history) w outcomes further ends
 
--- A sample that was ended early: the abstract machine goes on over the commands that were not reached.
+-- A sample that was ended early: the abstract archive goes on over the commands that were not reached.
 ended_early : (w : World) (commands done rest : List Command) (outcomes : List (Outcome Reply World)) (old new : DiskState) (archive : ArchiveState) (error : FillError)
     → commands ≡ done ++ rest → IsRun Step w (map items.Command done) outcomes → IsLoadable (last_state w outcomes).history → All HasDocument (map items.Command rest)
     → Fills w outcomes old new → EndsFilled w outcomes new archive (Err error) → IsFilled w.history commands (Err error) old new archive

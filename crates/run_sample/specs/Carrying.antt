@@ -60,7 +60,7 @@ EndsIn before outcome new archive_now (Err errors.Failed) = Unit {0}
 EndsIn before outcome new archive_now (Err (errors.Damaged damage)) = ⊥
 EndsIn before outcome new archive_now (Err errors.Memory) = EachStands new before
 
--- One command carried out: it has an outcome of the abstract machine. Each image left since the start stands for the history before the outcome or after it.
+-- One command carried out: it has an outcome of the abstract archive. Each image left since the start stands for the history before the outcome or after it.
 pub record CarriesOut (history : History) (command : Command) (result : Result Note FillError) (old new : DiskState) (archive_now : ArchiveState) : Type 0 where
   pub outcome : Outcome Reply World
   pub step : Step (world_of history) (items.Command command) outcome.reply outcome.next

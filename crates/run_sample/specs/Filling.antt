@@ -44,7 +44,7 @@ EndsFilled world outcomes new archive_now (Err errors.Failed) = Unit {0}
 EndsFilled world outcomes new archive_now (Err (errors.Damaged damage)) = ⊥
 EndsFilled world outcomes new archive_now (Err errors.Memory) = (j : ℕ) × (j ≤ length outcomes) × EachStands new (state_after world outcomes j).history
 
--- One run of the abstract machine from the history over these commands, carried out up to the result.
+-- One run of the abstract archive from the history over these commands, carried out up to the result.
 pub record IsFilled (history : History) (commands : List Command) (result : Result Report FillError) (old new : DiskState) (archive_now : ArchiveState) : Type 0 where
   pub outcomes : List (Outcome Reply World)
   pub run : IsRun Step (world_of history) (map items.Command commands) outcomes

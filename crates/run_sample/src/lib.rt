@@ -4,7 +4,7 @@
 //! counted (`specs/Filling.antt`). No reply is written: the counts and the verdict of the check that
 //! comes last are all that is told.
 //!
-//! To the layer above it promises that the commands have one run of the abstract machine, of which
+//! To the layer above it promises that the commands have one run of the abstract archive, of which
 //! the counts and the verdict are, and that at any moment each image left stands for a history of
 //! that run.
 #![tactic(auto)]

@@ -1,4 +1,4 @@
--- On a disk that stands for a history, a run by what reads give is the machine's, which goes on over the items that weren't reached.
+-- On a disk that stands for a history, a run by what reads give is the abstract archive's, which goes on over the items that weren't reached.
 use Rattle.std.proofs.Common.{◌≡◌, ◌⊎◌, ℕ, ◌<◌, ◌≤◌, List, [], ◌∷◌, ◌++◌, length, map, All, inl, inr, refl, ap, sym, subst, ◌∙◌, arith, append_assoc}
 use Rattle.std.proofs.lemmas.List.{append-nil, length-append, map-append}
 use Rattle.std.proofs.lemmas.List.Elements.{All-cons, All-head, All-nil, All-tail, All-weaker}
@@ -114,7 +114,7 @@ all_front : (P : Item → Type 0) (xs ys : List Item) → All P (xs ++ ys) → A
 all_front P [] ys all = (All-nil P, all)
 all_front P (x ∷ xs) ys all = let more = all_front P xs ys (All-tail P x (xs ++ ys) all) in (All-cons P x xs (All-head P x (xs ++ ys) all) more.0, more.1)
 
--- a run by what reads give, and the machine's over all its items
+-- a run by what reads give, and the abstract archive's over all its items
 record IsRunOn (s : Store) (status : Status) (reached behind : List Item) (outcomes : List (Outcome Reply Store)) : Type 0 where
   pub further : List (Outcome Reply World)
   pub run : IsRun Step (world_of s.history) (reached ++ behind) (map bare outcomes ++ further)

@@ -125,7 +125,7 @@ pub record Headline {S : Type 0} (step : S → Item → Reply → S → Type 0) 
   -- where memory ran out, each image stands for the state after just as many outcomes as the bytes shown acknowledge
   pub starved : EachOf stands old.disk state → status ≡ Memory → (k : ℕ) × IsAcknowledged reply_text ran.outcomes ran.shown k × EachOf stands new.disk (state_after state ran.outcomes k)
 
--- On a disk that stands for a history: one run of the abstract machine over all items of the bytes pulled; and no sublist is damaged.
+-- On a disk that stands for a history: one run of the abstract archive over all items of the bytes pulled; and no sublist is damaged.
 pub record StandingRun (history : History) (status : Status) (old new : MachineState) (pulls : List Pull) : Type 0 where
   pub headline : Headline Step StandsIn (world_of history) status old new pulls
   pub over_all : headline.ran.behind ≡ []

@@ -1,4 +1,4 @@
--- One item carried out: an outcome of the abstract machine, and what it leaves.
+-- One item carried out: an outcome of the abstract archive, and what it leaves.
 use Rattle.std.specs.Prelude.{◌≡◌, ◌⊎◌, ◌<◌, List, [], ◌∷◌, ◌++◌, ℕ, length, Result, Ok, Err, IsTrue}
 use Rattle.machine_model.specs.Areas.{Both}
 use Rattle.machine_model.specs.States.{DiskState}

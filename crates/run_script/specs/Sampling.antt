@@ -1,4 +1,4 @@
--- What a run of the program with the words of a sample is: one run of the abstract machine over the sample's commands, the two lines that are
+-- What a run of the program with the words of a sample is: one run of the abstract archive over the sample's commands, the two lines that are
 -- shown of it, and what each image left at any moment stands for.
 use Rattle.std.specs.Prelude.{◌≡◌, ◌⊎◌, ℕ, ◌≤◌, List, [], ◌++◌, length, map}
 use Rattle.machine_model.specs.Areas.{Bytes}
@@ -41,7 +41,7 @@ pub record Reached (outcomes : List (Outcome Reply World)) (before : List ℕ) (
   pub holds : StandsIn (state_after (world_of []) outcomes j) image
   pub shown : (beside ≡ before) ⊎ (j ≡ length outcomes)
 
--- One run of the abstract machine from the empty history over the commands of a sample, and what was shown of it.
+-- One run of the abstract archive from the empty history over the commands of a sample, and what was shown of it.
 pub record Sampled (seed count : ℕ) (status : Status) (output output_now : SinkState) (old new : DiskState) : Type 0 where
   pub outcomes : List (Outcome Reply World)
   pub run : IsRun Step (world_of []) (map items.Command (sample_of seed count)) outcomes

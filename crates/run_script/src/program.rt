@@ -76,7 +76,7 @@ pub fn run<M: Machine>(alloc: Global, words: &[String], machine: &mut M) -> Stat
     ensures left_alone { M.disk_tells → (at : ℕ) → IsNotArchive (M.disk machine.old).holds at →
         (M.source machine.new ≡ M.source machine.old) × (M.sink machine.new ≡ M.sink machine.old)
         × Syncs (M.disk machine.old) (M.disk machine.new) }
-    // Where the bytes stand for a history: one run of the abstract machine over the items of the bytes pulled, what is shown of it and when, what each
+    // Where the bytes stand for a history: one run of the abstract archive over the items of the bytes pulled, what is shown of it and when, what each
     // image left at any moment stands for, and where the input was.
     ensures headline { M.source_tells → M.sink_tells → M.disk_tells → AreWords (texts words.now) tasks.Script → (h : History) → Stands h (M.disk machine.old).holds →
         (pulls : List Pull) × M.asked machine.old pulls machine.new
@@ -114,7 +114,7 @@ pub fn run<M: Machine>(alloc: Global, words: &[String], machine: &mut M) -> Stat
         (M.sink machine.new ≡ M.sink machine.old) × KeepsHistory h (M.disk machine.old) (M.disk machine.new) }
     ensures unwritten { M.disk_tells → (numbers : PlainNumbers) → AreWords (texts words.now) (tasks.Generate numbers) → (bodies : List (List ℕ)) → EachSpells (M.disk machine.old) bodies → 1 ≤ length bodies →
         (M.sink machine.new ≡ M.sink machine.old) × KeepsBodies bodies (M.disk machine.old) (M.disk machine.new) }
-    // From an archive without entries: one run of the abstract machine over the sample's commands, the lines that are shown of it, and what each
+    // From an archive without entries: one run of the abstract archive over the sample's commands, the lines that are shown of it, and what each
     // image left at any moment stands for.
     ensures sampled { M.sink_tells → M.disk_tells → (numbers : PlainNumbers) → AreWords (texts words.now) (tasks.Generate numbers) → Stands [] (M.disk machine.old).holds →
         Sampled numbers.seed numbers.count result (M.sink machine.old) (M.sink machine.new) (M.disk machine.old) (M.disk machine.new) }
