@@ -1,5 +1,6 @@
 -- What a check finds that asks digests too: those in the journal are held against the bytes that stand in Pages, after all else is right.
 use Rattle.std.specs.Prelude.{◌≡◌, ℕ, List, ◌∷◌, ◌++◌, length, All}
+use Rattle.journal_gates.specs.Records.{first_gate}
 use Rattle.sha2.specs.Sha256.{sha256}
 use Rattle.machine_model.specs.Areas.{Bytes}
 use Rattle.base_types.specs.declared.text_place.TextPlace.{TextPlace}
@@ -74,4 +75,4 @@ IsFinding journal changes pages plans finding = Finds finding (with_texts journa
 
 -- what is found of a history's live plans by the bytes of an image: texts are read where the history's entries lie, and sublists where its plans say
 abbrev pub IsExamined : History → Bytes → Finding → Type 0
-IsExamined history image finding = (changes : List (Change TextPlace)) × ArePlaced 16 history changes × IsFinding image.journal changes image.pages (live_plans history) finding
+IsExamined history image finding = (changes : List (Change TextPlace)) × ArePlaced first_gate history changes × IsFinding image.journal changes image.pages (live_plans history) finding

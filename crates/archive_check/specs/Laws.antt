@@ -1,5 +1,6 @@
 -- What holds of verdicts and of what a check asks for.
 use Rattle.std.specs.Prelude.{◌≡◌, ℕ, List, [], length, All}
+use Rattle.journal_gates.specs.Records.{first_gate}
 use Rattle.machine_model.specs.Areas.{Bytes}
 use Rattle.base_types.specs.declared.text_place.TextPlace.{TextPlace}
 use Rattle.lists_versions.specs.declared.change.Change.{Change}
@@ -23,7 +24,7 @@ use Rattle.archive_check.specs.Digests.{HasDigests, IsFinding, IsExamined}
 
 -- The changes of a history that loads come in the order that a check asks for.
 abbrev pub LoadedChangesAreInOrder : Type 0
-LoadedChangesAreInOrder = (history : History) (changes : List (Change TextPlace)) → IsLoadable history → ArePlaced 16 history changes → AreInOrder changes
+LoadedChangesAreInOrder = (history : History) (changes : List (Change TextPlace)) → IsLoadable history → ArePlaced first_gate history changes → AreInOrder changes
 
 -- Of some plans there is one verdict at most.
 abbrev pub OneVerdict : Type 0

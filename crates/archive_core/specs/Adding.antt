@@ -1,5 +1,6 @@
 -- How an entry is added to an archive in hand.
 use Rattle.std.specs.Prelude.{◌≡◌, ◌⊎◌, ℕ, ◌+◌, List, [], ◌∷◌, ◌++◌, length, Option, Some, None, Result, Err, IsOk, IfOk, false}
+use Rattle.journal_gates.specs.Records.{gate_bytes}
 use Rattle.base_types.specs.declared.ids.DocId.{DocId}
 use Rattle.base_types.specs.declared.text_place.TextPlace.{TextPlace}
 use Rattle.lists_versions.specs.declared.change.Change.{Change}
@@ -21,7 +22,7 @@ use Rattle.lists_index.specs.declared.prepared.Prepared.{Prepared as Words}
 
 -- an archive with one entry more, which makes this change and has this spelling; its words were prepared
 pub record IsMore (old new : ArchiveState) (change : Change ℕ) (body : List ℕ) (words : Words) : Type 0 where
-  pub end_is : new.end ≡ old.end + 5 + length body
+  pub end_is : new.end ≡ old.end + gate_bytes + length body
   pub length_is : new.length ≡ old.length + 1
   pub held : Option TextPlace
   pub held_is : IsHeld (old.end + 17) change.held held

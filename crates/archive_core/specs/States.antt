@@ -1,5 +1,6 @@
 -- What an archive in hand is, and when it and its disk stand for a history.
 use Rattle.std.specs.Prelude.{◌≡◌, ℕ, ◌≤◌, Bool, List, [], ◌∷◌, ◌++◌, length, All}
+use Rattle.journal_gates.specs.Records.{first_gate}
 use Rattle.machine_model.specs.Areas.{Both, Bytes}
 use Rattle.machine_model.specs.Images.{MayLeave}
 use Rattle.machine_model.specs.States.{DiskState}
@@ -35,7 +36,7 @@ pub record StandsFor (archive : ArchiveState) (history : History) : Type 0 where
   pub loadable : IsLoadable history
   pub end_is : archive.end ≡ end_of history
   pub length_is : archive.length ≡ length history
-  pub changes_are : ArePlaced 16 history archive.changes
+  pub changes_are : ArePlaced first_gate history archive.changes
   pub index_is : Indexes archive.index (changes history)
   pub plans_are : archive.shelf.plans ≡ live_plans history
   pub pages_are : HasTaken archive.shelf.pages (live_extents history)

@@ -1,5 +1,6 @@
 //! The archive in hand, and its changes.
 ghost use Rattle.std.specs.Prelude.{◌≡◌, ◌⊎◌, ◌↔◌, ◌+◌, ◌<◌, ◌≤◌, ◌^◌, ◌++◌, [], ◌∷◌, ℕ, List, length, get_or, Option, Some, None, Ok, Err, true, false, IsTrue, IfOk, IfErr, OnOk, IsOk, IsErrOf};
+ghost use Rattle.journal_gates.specs.Records.{gate_bytes, new_bytes};
 ghost use Rattle.machine_model.specs.Calls.{OnlyReads};
 ghost use Rattle.pages_sublists.specs.Fetching.{IfDamaged, IfFailed};
 ghost use Rattle.model_archive.specs.declared.stored.StoredPlan.{StoredPlan as PlainStored};
@@ -69,7 +70,7 @@ impl Model for Archive {
     ghost view = { λ a. record { end = a.journal.end; live = a.live; length = a.entries; changes = a.directory.changes; index = state_of a.index; shelf = a.shelf } };
 
     // It stands for a history, which it shows on any disk.
-    ghost invariant = { λ a. (IsTrue a.live → IsTrue a.journal.live) × (a.entries + 17 ≤ a.journal.end)
+    ghost invariant = { λ a. (IsTrue a.live → IsTrue a.journal.live) × (a.entries + new_bytes ≤ a.journal.end)
         × ((h : History) × StandsFor (record { end = a.journal.end; live = a.live; length = a.entries; changes = a.directory.changes; index = state_of a.index; shelf = a.shelf }) h) };
 }
 
@@ -83,7 +84,7 @@ impl Archive {
         shelf: Shelf,
         entries: u64,
     ) -> Archive
-        requires few { entries + 17 ≤ journal.end }
+        requires few { entries + new_bytes ≤ journal.end }
         requires stands { (h : History) × StandsFor (record { end = journal.end; live = journal.live; length = entries; changes = directory.changes; index = state_of index; shelf = shelf }) h }
         ensures { result ≡ record { end = journal.end; live = journal.live; length = entries; changes = directory.changes; index = state_of index; shelf = shelf } }
     {
@@ -397,8 +398,8 @@ impl Archive {
         ensures failed { IsErrOf result ChangeError.Failed → Rose (D.disk disk.old).faults (D.disk disk.new).faults }
         ensures within { Reaches (D.disk disk.new).reach self.new }
         ensures live { IsTrue self.new.live ↔ IsDone result }
-        ensures refused { (why : Refusal) → IsErrOf result (ChangeError.Refused why) → (why ≡ Refusal.Full Which.Journal (limit_of Which.Journal)) × (limit_of Which.Journal < self.old.end + 5 + length prepared.body.items) }
-        ensures allowed { (IsOk result ⊎ IsErrOf result ChangeError.Failed) → self.old.end + 5 + length prepared.body.items ≤ limit_of Which.Journal }
+        ensures refused { (why : Refusal) → IsErrOf result (ChangeError.Refused why) → (why ≡ Refusal.Full Which.Journal (limit_of Which.Journal)) × (limit_of Which.Journal < self.old.end + gate_bytes + length prepared.body.items) }
+        ensures allowed { (IsOk result ⊎ IsErrOf result ChangeError.Failed) → self.old.end + gate_bytes + length prepared.body.items ≤ limit_of Which.Journal }
         ensures same { (why : Refusal) → IsErrOf result (ChangeError.Refused why) → (self.new ≡ self.old) × (disk.new ≡ disk.old) }
         // All memory is taken before the first call of the disk.
         ensures memory { IsErrOf result ChangeError.Memory → disk.new ≡ disk.old }

@@ -1,5 +1,6 @@
 //! Loading an archive.
 ghost use Rattle.std.specs.Prelude.{◌≡◌, ◌<◌, ◌≤◌, [], ℕ, List, length, All, IsTrue, IfOk, OnOk, IsErrOf};
+ghost use Rattle.journal_gates.specs.Records.{first_gate, new_bytes};
 ghost use Rattle.machine_model.specs.Areas.{Bytes};
 ghost use Rattle.machine_model.specs.Causes.{Rose};
 ghost use Rattle.machine_model.specs.Calls.{OnlyReads, Syncs};
@@ -54,7 +55,7 @@ impl Archive {
         // No byte of Pages is read.
         ensures unread { D.disk_tells → (D.disk disk.new).bytes_read.pages ≡ (D.disk disk.old).bytes_read.pages }
         // A journal that isn't new is synced and read, and nothing else.
-        ensures longer { D.disk_tells → 17 < length (D.disk disk.old).holds.journal → Syncs (D.disk disk.old) (D.disk disk.new) }
+        ensures longer { D.disk_tells → new_bytes < length (D.disk disk.old).holds.journal → Syncs (D.disk disk.old) (D.disk disk.new) }
         ensures pages { D.disk_tells → KeepsPages (D.disk disk.old) (D.disk disk.new) }
     {
         let (journal, heads) = Journal::load(alloc, disk)?;
@@ -70,7 +71,7 @@ fn archive_of<D: Disk>(
     heads: &[Head],
 ) -> Result<Archive, LoadError>
     requires reached { journal.end ≤ (D.disk disk.old).reach.journal }
-    requires row { AreInRow 16 heads.now journal.end }
+    requires row { AreInRow first_gate heads.now journal.end }
     requires inside { All (LiesBefore journal.end) heads.now }
     ensures only { D.Disk.only disk.old disk.new }
     ensures same { OnlyReads (D.disk disk.old) (D.disk disk.new) }
@@ -82,12 +83,12 @@ fn archive_of<D: Disk>(
     ensures within { IfOk result (λ a. Reaches (D.disk disk.new).reach a) }
     ensures stands { IfOk result (λ a. (h : History) × StandsFor a h) }
     // Where the journal spells the bodies that lie there: what it answers is so of any image that spells them and whose pages are as long.
-    ensures not_archive { D.disk_tells → (bodies : List (List ℕ)) → heads.now ≡ heads_of 16 bodies → Spells (D.disk disk.old).holds.journal bodies →
+    ensures not_archive { D.disk_tells → (bodies : List (List ℕ)) → heads.now ≡ heads_of first_gate bodies → Spells (D.disk disk.old).holds.journal bodies →
         (image : Bytes) → Spells image.journal bodies → length image.pages ≡ (D.disk disk.old).reach.pages →
         (at : ℕ) → IsErrOf result (LoadError.NotArchive at) → IsNotArchive image at }
-    ensures found { D.disk_tells → (bodies : List (List ℕ)) → heads.now ≡ heads_of 16 bodies → Spells (D.disk disk.old).holds.journal bodies →
+    ensures found { D.disk_tells → (bodies : List (List ℕ)) → heads.now ≡ heads_of first_gate bodies → Spells (D.disk disk.old).holds.journal bodies →
         IfOk result (λ a. (h : History) × (StandsFor a h × (bodies_of h ≡ bodies))) }
-    ensures exact { D.disk_tells → (bodies : List (List ℕ)) → heads.now ≡ heads_of 16 bodies → Spells (D.disk disk.old).holds.journal bodies →
+    ensures exact { D.disk_tells → (bodies : List (List ℕ)) → heads.now ≡ heads_of first_gate bodies → Spells (D.disk disk.old).holds.journal bodies →
         (image : Bytes) → Spells image.journal bodies → length image.pages ≡ (D.disk disk.old).reach.pages →
         OnOk result ((at : ℕ) → IsNotArchive image at → ⊥) }
 {

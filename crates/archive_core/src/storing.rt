@@ -1,5 +1,6 @@
 //! Plans that are stored.
 ghost use Rattle.std.specs.Prelude.{ℕ, ◌≡◌, ◌+◌, ◌-◌, ◌<◌, ◌≤◌, ◌^◌, ◌++◌, ◌∷◌, [], List, length, All, IsTrue, IfOk, OnOk, OnErr, IsErrOf};
+ghost use Rattle.journal_gates.specs.Records.{gate_bytes};
 ghost use Rattle.machine_model.specs.Causes.{Rose};
 ghost use Rattle.std.specs.Prelude.{Some};
 ghost use Rattle.base_types.specs.declared.extent.Extent.{Extent as PlainExtent};
@@ -104,7 +105,7 @@ pub(crate) fn write_ready<D: Disk>(
     ready: Ready,
 ) -> Result<PlanReport, Failed>
     requires live { IsTrue journal.old.live }
-    requires fits { journal.old.end + 5 + length ready.frame ≤ 2 ^ 40 }
+    requires fits { journal.old.end + gate_bytes + length ready.frame ≤ 2 ^ 40 }
     requires room { 1 ≤ shelf.old.room }
     requires places { ready.stored.plan.places ≡ ready.prepared.places }
     requires taken { HasTaken shelf.old.pages (extents ready.prepared.places ++ extents_all shelf.old.plans) }
@@ -112,7 +113,7 @@ pub(crate) fn write_ready<D: Disk>(
     ensures failed { OnErr result (Rose (D.disk disk.old).faults (D.disk disk.new).faults) }
     ensures report { IfOk result (λ r. r ≡ ready.report) }
     ensures live { OnOk result (IsTrue journal.new.live) }
-    ensures end { OnOk result (journal.new.end ≡ journal.old.end + 5 + length ready.frame) }
+    ensures end { OnOk result (journal.new.end ≡ journal.old.end + gate_bytes + length ready.frame) }
     ensures reached { OnOk result (journal.new.end ≤ (D.disk disk.new).reach.journal) }
     ensures inside { OnOk result (All (λ (p : PlainPlace). IsInside (D.disk disk.new).reach.pages p.extent) ready.prepared.places) }
     ensures plans { OnOk result (shelf.new.plans ≡ with_plan shelf.old.plans ready.stored) }
@@ -151,13 +152,13 @@ fn put_down<D: Disk>(
     prepared: &Prepared,
 ) -> Result<(), Failed>
     requires live { IsTrue journal.old.live }
-    requires fits { journal.old.end + 5 + length frame.now ≤ 2 ^ 40 }
+    requires fits { journal.old.end + gate_bytes + length frame.now ≤ 2 ^ 40 }
     requires taken { (live : List PlainExtent) × HasTaken sublists.now.pages (extents prepared.now.places ++ live) }
     requires unkept { All (λ k. IsTaken (extents prepared.now.places) k.page → ⊥) sublists.now.cache }
     ensures only { D.Disk.only disk.old disk.new }
     ensures failed { OnErr result (Rose (D.disk disk.old).faults (D.disk disk.new).faults) }
     ensures live { OnOk result (IsTrue journal.new.live) }
-    ensures end { OnOk result (journal.new.end ≡ journal.old.end + 5 + length frame.now) }
+    ensures end { OnOk result (journal.new.end ≡ journal.old.end + gate_bytes + length frame.now) }
     ensures reached { OnOk result (journal.new.end ≤ (D.disk disk.new).reach.journal) }
     ensures inside { OnOk result (All (λ (p : PlainPlace). IsInside (D.disk disk.new).reach.pages p.extent) prepared.now.places) }
     ensures spent { OnErr result (journal.new.end ≡ journal.old.end) }

@@ -1,5 +1,6 @@
 -- How a plan is made ready to be stored.
 use Rattle.std.specs.Prelude.{◌≡◌, ◌⊎◌, ℕ, ◌+◌, ◌-◌, ◌<◌, ◌≤◌, List, length}
+use Rattle.journal_gates.specs.Records.{gate_bytes}
 use Rattle.std.specs.List.{AllZip}
 use Rattle.base_types.specs.Limits.{limit_of}
 use Rattle.base_types.specs.declared.extent.Extent.{Extent}
@@ -54,7 +55,7 @@ pub record IsReady (draft : Draft) (end count : ℕ) (ready : Ready) : Type 0 wh
   pub spelled : ready.prepared.spellings ≡ bytes_of draft
   pub each : AllZip IsFor ready.prepared.places (bytes_of draft)
   pub framed : ready.frame ≡ plan_spelling ready.stored.plan
-  pub fits : end + 5 + length ready.frame ≤ limit_of Journal
+  pub fits : end + gate_bytes + length ready.frame ≤ limit_of Journal
   pub told : summary_of ready.report ≡ tells_of draft (count + 1)
 
 -- why a draft isn't stored: the pages have no run for a sublist, or the journal has no room for its entry
@@ -62,4 +63,4 @@ abbrev pub IsFull : Draft → List Extent → ℕ → Refusal → Type 0
 IsFull draft taken end why =
     (HaveNoRoom taken (sizes (bytes_of draft)) × (why ≡ refusals.Full Pages (limit_of Pages)))
     ⊎ ((places : List Place) × (HasPlaces draft taken places
-    × (limit_of Journal < end + 5 + length (plan_spelling (plan_with draft places))) × (why ≡ refusals.Full Journal (limit_of Journal))))
+    × (limit_of Journal < end + gate_bytes + length (plan_spelling (plan_with draft places))) × (why ≡ refusals.Full Journal (limit_of Journal))))

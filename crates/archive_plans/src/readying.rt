@@ -1,5 +1,6 @@
 //! Plans that are made ready to be stored.
 ghost use Rattle.std.specs.Prelude.{◌≡◌, ◌+◌, ◌<◌, ◌≤◌, ◌^◌, ◌++◌, List, length, IfOk, OnOk, OnErr, IsErrOf};
+ghost use Rattle.journal_gates.specs.Records.{gate_bytes, new_bytes};
 ghost use Rattle.base_types.specs.Limits.{limit_of};
 ghost use Rattle.base_types.specs.declared.extent.Extent.{Extent as PlainExtent};
 ghost use Rattle.pages_area.specs.Taken.{HasTaken};
@@ -88,7 +89,7 @@ pub fn make_ready(
     requires taken { (taken : List PlainExtent) × HasTaken shelf.old.pages taken }
     requires good { IsGoodPlan draft.kind draft.list.items draft.factor draft.cuts.items draft.horizon.seconds }
     requires space { draft.space ≡ plan_space draft.list.items draft.cuts.items draft.horizon.seconds }
-    requires low { 17 ≤ end }
+    requires low { new_bytes ≤ end }
     requires high { end ≤ 2 ^ 40 }
     requires few { count < 2 ^ 40 }
     ensures plans { shelf.new.plans ≡ shelf.old.plans }
@@ -164,8 +165,8 @@ fn spell_entry(alloc: Global, end: u64, draft: Draft, places: &[Place]) -> Resul
     requires high { end ≤ 2 ^ 40 }
     ensures plan { IfOk result (λ s. s.plan ≡ plan_with draft places.now) }
     ensures frame { IfOk result (λ s. s.frame ≡ plan_spelling s.plan) }
-    ensures fits { IfOk result (λ s. end + 5 + length s.frame ≤ limit_of Which.Journal) }
-    ensures full { (why : Refusal) → IsErrOf result (Declined.Refused why) → (limit_of Which.Journal < end + 5 + length (plan_spelling (plan_with draft places.now))) × (why ≡ Refusal.Full Which.Journal (limit_of Which.Journal)) }
+    ensures fits { IfOk result (λ s. end + gate_bytes + length s.frame ≤ limit_of Which.Journal) }
+    ensures full { (why : Refusal) → IsErrOf result (Declined.Refused why) → (limit_of Which.Journal < end + gate_bytes + length (plan_spelling (plan_with draft places.now))) × (why ≡ Refusal.Full Which.Journal (limit_of Which.Journal)) }
 {
     let places = Vec::from_slice(alloc, places)?;
     let plan = PlanEntry {

@@ -1,5 +1,6 @@
 -- An archive that is opened to be audited.
 use Rattle.std.specs.Prelude.{◌≡◌, ◌≤◌}
+use Rattle.journal_gates.specs.Records.{first_gate}
 use Rattle.machine_model.specs.Areas.{Both}
 use Rattle.std.specs.Prelude.{ℕ}
 use Rattle.pages_area.specs.Live.{AreLive}
@@ -15,6 +16,6 @@ pub record IsOpened (history : History) (reach : Both ℕ) (opened : Opened) : T
   pub loadable : IsLoadable history
   pub end_is : opened.journal.end ≡ end_of history
   pub within : opened.journal.end ≤ reach.journal
-  pub placed : ArePlaced 16 history opened.directory.changes
+  pub placed : ArePlaced first_gate history opened.directory.changes
   pub plans_are : opened.shelf.plans ≡ live_plans history
   pub live : AreLive (live_extents history) reach.pages

@@ -1,5 +1,6 @@
 //! An archive that is opened to be audited.
 ghost use Rattle.std.specs.Prelude.{◌≡◌, ◌≤◌, [], ℕ, List, length, All, IfOk, IfSome, OnOk, IsErrOf, MatchOption};
+ghost use Rattle.journal_gates.specs.Records.{first_gate};
 ghost use Rattle.machine_model.specs.Areas.{Bytes};
 ghost use Rattle.machine_model.specs.Causes.{Rose};
 ghost use Rattle.machine_model.specs.Calls.{OnlyReads};
@@ -56,19 +57,19 @@ fn opened_by<D: Disk>(
     heads: &[Head],
 ) -> Result<Opened, LoadError>
     requires reached { journal.end ≤ (D.disk disk.old).reach.journal }
-    requires row { AreInRow 16 heads.now journal.end }
+    requires row { AreInRow first_gate heads.now journal.end }
     requires inside { All (LiesBefore journal.end) heads.now }
     ensures only { D.Disk.only disk.old disk.new }
     ensures same { OnlyReads (D.disk disk.old) (D.disk disk.new) }
     ensures failed { IsErrOf result LoadError.Failed → Rose (D.disk disk.old).faults (D.disk disk.new).faults }
     ensures opened { IfOk result (λ a. (h : History) × IsOpened h (D.disk disk.new).reach a) }
     // Where the journal spells the bodies that lie there: what it answers is so of any image that spells them and whose pages are as long.
-    ensures not_archive { D.disk_tells → (bodies : List (List ℕ)) → heads.now ≡ heads_of 16 bodies → Spells (D.disk disk.old).holds.journal bodies →
+    ensures not_archive { D.disk_tells → (bodies : List (List ℕ)) → heads.now ≡ heads_of first_gate bodies → Spells (D.disk disk.old).holds.journal bodies →
         (image : Bytes) → Spells image.journal bodies → length image.pages ≡ (D.disk disk.old).reach.pages →
         (at : ℕ) → IsErrOf result (LoadError.NotArchive at) → IsNotArchive image at }
-    ensures found { D.disk_tells → (bodies : List (List ℕ)) → heads.now ≡ heads_of 16 bodies → Spells (D.disk disk.old).holds.journal bodies →
+    ensures found { D.disk_tells → (bodies : List (List ℕ)) → heads.now ≡ heads_of first_gate bodies → Spells (D.disk disk.old).holds.journal bodies →
         IfOk result (λ a. (h : History) × (IsOpened h (D.disk disk.new).reach a × (bodies_of h ≡ bodies))) }
-    ensures exact { D.disk_tells → (bodies : List (List ℕ)) → heads.now ≡ heads_of 16 bodies → Spells (D.disk disk.old).holds.journal bodies →
+    ensures exact { D.disk_tells → (bodies : List (List ℕ)) → heads.now ≡ heads_of first_gate bodies → Spells (D.disk disk.old).holds.journal bodies →
         (image : Bytes) → Spells image.journal bodies → length image.pages ≡ (D.disk disk.old).reach.pages →
         OnOk result ((at : ℕ) → IsNotArchive image at → ⊥) }
 {
