@@ -67,8 +67,7 @@ abbrev pub AreChosen : History → List ℕ → ℕ → ℕ → List (List ℕ) 
 AreChosen history pages a b [] [] = Unit {0}
 AreChosen history pages a b (word ∷ words) (part ∷ parts) =
     IsChosenOf history pages word (plan_of history word) a b part.list.items part.read × AreChosen history pages a b words parts
-AreChosen history pages a b [] (part ∷ parts) = ⊥
-AreChosen history pages a b (word ∷ words) [] = ⊥
+AreChosen history pages a b words parts = ⊥
 
 -- this is damaged of what is read for a word over [a, b): it has a plan, and what is gathered from the plan's places tells it
 pub record IsDamagedFor (history : History) (pages : List ℕ) (word : List ℕ) (a b : ℕ) (damage : Damage) : Type 0 where

@@ -36,8 +36,7 @@ changes history = flat_map acts history
 -- the keys of the words of an entry's text, each as often as it occurs
 abbrev pub entry_keys : Entry → List (List ℕ)
 entry_keys (Arrive doc at text) = keys text
-entry_keys (Delete doc at) = []
-entry_keys (Planned plan) = []
+entry_keys other = []
 
 -- the distinct words of all texts, in the order of first occurrence
 abbrev pub vocabulary : History → List (List ℕ)

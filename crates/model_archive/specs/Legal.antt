@@ -5,7 +5,7 @@ use Rattle.base_types.specs.declared.posting.Posting.{Posting}
 use Rattle.plans_kinds.specs.Plans.{Asks, IsGoodPlan, IsFitFor}
 use Rattle.journal_entries.specs.Spelling.{IsEntry}
 use Rattle.journal_entries.specs.declared.entry.Entry.{Entry}
-use Rattle.journal_entries.specs.declared.entry.Entry.TheVariants.{Arrive, Delete, Planned}
+use Rattle.journal_entries.specs.declared.entry.Entry.TheVariants.{Planned}
 use Rattle.journal_entries.specs.declared.plan.PlanEntry.{PlanEntry}
 use Rattle.model_archive.specs.Histories.{History, entry_refusal}
 use Rattle.model_archive.specs.Planning.{IsListUpTo, last_second}
@@ -21,9 +21,8 @@ pub record MayBePlanned (Good : Asks) (before : History) (plan : PlanEntry) : Ty
 
 -- where the entry is a plan, it may come; nothing is asked of a change here
 abbrev pub IfPlanned : Asks → History → Entry → Type 0
-IfPlanned Good before (Arrive doc at text) = Unit {0}
-IfPlanned Good before (Delete doc at) = Unit {0}
 IfPlanned Good before (Planned plan) = MayBePlanned Good before plan
+IfPlanned Good before change = Unit {0}
 
 -- an entry may come after a history: its fields are in their ranges, nothing refuses it, and if it is a plan, it may come
 pub record MayCome (Good : Asks) (before : History) (entry : Entry) : Type 0 where

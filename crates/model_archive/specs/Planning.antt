@@ -4,7 +4,7 @@
 use Rattle.std.specs.Prelude.{◌⊎◌, ℕ, ◌<◌, ◌≤◌, List, [], ◌∷◌, length, Contains, Option, Some, None, option_map, unwrap_or}
 use Rattle.base_types.specs.declared.posting.Posting.{Posting}
 use Rattle.base_commands.specs.declared.command.Kind.{Kind}
-use Rattle.base_commands.specs.declared.command.Kind.TheVariants.{Guarantee, Uniform, Since}
+use Rattle.base_commands.specs.declared.command.Kind.TheVariants.{Guarantee}
 use Rattle.lists_postings.specs.ListsOf.{IsListOf}
 use Rattle.plans_partitions.specs.Boundaries.{AreBoundaries}
 use Rattle.plans_partitions.specs.Partitions.{widest}
@@ -34,8 +34,7 @@ OfBoundaries h list Refuses GoesOn =
 -- a list that isn't empty, by the plan's kind: under a space bound it may have any number of boundaries
 abbrev pub OfWidth : Kind → ℕ → List Posting → (Refusal → Type 0) → Type 0 → Type 0
 OfWidth Guarantee h list Refuses GoesOn = OfBoundaries h list Refuses GoesOn
-OfWidth Uniform h list Refuses GoesOn = GoesOn
-OfWidth (Since at) h list Refuses GoesOn = GoesOn
+OfWidth space h list Refuses GoesOn = GoesOn
 
 -- a list: refused where it is empty, or its boundaries are too many
 abbrev pub OfList : Kind → ℕ → List Posting → (Refusal → Type 0) → Type 0 → Type 0

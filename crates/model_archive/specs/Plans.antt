@@ -26,9 +26,8 @@ with_plan live stored = filter (is_another stored.plan.word) live ++ stored ∷ 
 
 -- the live plans after one entry more, whose gate lies at this place of the journal
 abbrev pub with_entry : ℕ → List StoredPlan → Entry → List StoredPlan
-with_entry gate live (Arrive doc at text) = live
-with_entry gate live (Delete doc at) = live
 with_entry gate live (Planned plan) = with_plan live (record { gate = gate; plan = plan })
+with_entry gate live change = live
 
 -- the live plans after more entries, of which the first has its gate at this place; an entry takes a gate, a length and its spelling
 abbrev pub live_after : ℕ → List StoredPlan → History → List StoredPlan

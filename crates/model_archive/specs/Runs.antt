@@ -15,8 +15,7 @@ pub record Outcome (R S : Type 0) : Type 0 where
 abbrev pub IsRun : {S E R : Type 0} → (S → E → R → S → Type 0) → S → List E → List (Outcome R S) → Type 0
 IsRun step state [] [] = Unit {0}
 IsRun step state (event ∷ events) (outcome ∷ outcomes) = step state event outcome.reply outcome.next × IsRun step outcome.next events outcomes
-IsRun step state [] (outcome ∷ outcomes) = ⊥
-IsRun step state (event ∷ events) [] = ⊥
+IsRun step state events outcomes = ⊥
 
 -- the state after so many outcomes
 abbrev pub state_after : {S R : Type 0} → S → List (Outcome R S) → ℕ → S

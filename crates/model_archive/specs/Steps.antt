@@ -15,7 +15,7 @@ use Rattle.base_commands.specs.declared.command.Command.TheVariants as commands
 use Rattle.base_commands.specs.declared.command.Item.{Item}
 use Rattle.base_commands.specs.declared.command.Item.TheVariants as items
 use Rattle.base_commands.specs.declared.command.Kind.{Kind}
-use Rattle.base_commands.specs.declared.command.Kind.TheVariants.{Guarantee, Uniform, Since}
+use Rattle.base_commands.specs.declared.command.Kind.TheVariants.{Guarantee}
 use Rattle.base_commands.specs.declared.text.Text.{Text}
 use Rattle.base_commands.specs.declared.text.Text.TheVariants as texts
 use Rattle.lists_versions.specs.Tests.{first_of, when}
@@ -152,8 +152,7 @@ IsCertificate list factor (f ∷ cuts) h segments nodes total = IsShown list fac
 abbrev pub CertifiesPlan : History → PlanEntry → Kind → Reply → Type 0
 CertifiesPlan history plan Guarantee reply = (list : List Posting) × IsListUpTo history plan.word plan.horizon.seconds list
     × ((segments : List Segment) × (nodes : List Node) × (total : ℕ) × IsCertificate list plan.fraction plan.cuts plan.horizon.seconds segments nodes total × (reply ≡ Proposed segments nodes total))
-CertifiesPlan history plan Uniform reply = reply ≡ Refused refusals.NoPlan
-CertifiesPlan history plan (Since at) reply = reply ≡ Refused refusals.NoPlan
+CertifiesPlan history plan other reply = reply ≡ Refused refusals.NoPlan
 
 -- what is certified of a word's live plan, if it has one
 abbrev pub CertifiesLive : History → Option PlanEntry → Reply → Type 0

@@ -9,7 +9,7 @@ use Rattle.plans_kinds.specs.Plans.{IsLeastPlan, plan_space}
 use Rattle.journal_entries.specs.declared.plan.PlanEntry.{PlanEntry}
 use Rattle.model_archive.specs.declared.stored.StoredPlan.{StoredPlan}
 use Rattle.model_archive.specs.declared.verdict.Verdict.{Verdict}
-use Rattle.model_archive.specs.declared.verdict.Verdict.TheVariants.{Sound, Differs, NotLeast, BadText}
+use Rattle.model_archive.specs.declared.verdict.Verdict.TheVariants.{Sound, NotLeast}
 use Rattle.model_archive.specs.Histories.{History, vocabulary}
 use Rattle.model_archive.specs.Orders.{AreByNumber}
 use Rattle.model_archive.specs.Planning.{IsListUpTo}
@@ -48,8 +48,7 @@ pub record IsFirstToWaste (word : List ℕ) (taken least : ℕ) (history : Histo
 abbrev pub Judges : History → List StoredPlan → Verdict → Type 0
 Judges history plans (Sound words segments) = All (λ s. TakesLeast history s.plan) plans × (words ≡ length (live_plans history)) × (segments ≡ segments_of (live_plans history))
 Judges history plans (NotLeast word taken least) = IsFirstToWaste word taken least history plans
-Judges history plans (Differs word segment place found wanted) = ⊥
-Judges history plans (BadText doc at) = ⊥
+Judges history plans other = ⊥
 
 -- what is told of a history: its live plans are judged by the numbers of their words
 abbrev pub Verifies : History → Verdict → Type 0

@@ -25,7 +25,7 @@ use Rattle.model_archive.specs.Worlds.{world_of}
 use Rattle.archive_core.specs.Stored.{Store, Spoils, StandsBy, StoreStep}
 use Rattle.pages_sublists.specs.declared.why.Damage.{Damage}
 use Rattle.run_script.specs.declared.status.Status.{Status}
-use Rattle.run_script.specs.declared.status.Status.TheVariants.{Done, Usage, NotArchive, Disk, Source, Sink, Script, Damaged, Budget, NotEmpty, Memory}
+use Rattle.run_script.specs.declared.status.Status.TheVariants.{Done, NotArchive, Disk, Source, Sink, Script, Damaged, Budget, Memory}
 
 -- the statuses before which each whole item of the bytes pulled is carried out and its reply shown
 abbrev pub CarriesOutAll : Status → Type 0
@@ -33,13 +33,7 @@ CarriesOutAll Done = Unit {0}
 CarriesOutAll Source = Unit {0}
 CarriesOutAll (Script at) = Unit {0}
 CarriesOutAll Budget = Unit {0}
-CarriesOutAll Usage = ⊥
-CarriesOutAll (NotArchive at) = ⊥
-CarriesOutAll Disk = ⊥
-CarriesOutAll Sink = ⊥
-CarriesOutAll (Damaged damage) = ⊥
-CarriesOutAll (NotEmpty length) = ⊥
-CarriesOutAll Memory = ⊥
+CarriesOutAll other = ⊥
 
 -- the statuses of an event that may end a run before its input is gone over: a fault of the disk or the sink, want of memory, and a damaged sublist
 abbrev pub EndsEarly : Status → Type 0

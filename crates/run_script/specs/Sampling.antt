@@ -17,7 +17,7 @@ use Rattle.run_sample.specs.Filling.{IsReport, replies_of}
 use Rattle.run_sample.specs.declared.report.Report.{Report}
 use Rattle.pages_sublists.specs.declared.why.Damage.{Damage}
 use Rattle.run_script.specs.declared.status.Status.{Status}
-use Rattle.run_script.specs.declared.status.Status.TheVariants.{Done, Usage, NotArchive, Disk, Source, Sink, Script, Damaged, Budget, NotEmpty, Memory}
+use Rattle.run_script.specs.declared.status.Status.TheVariants.{Done, Disk, Sink, Damaged, Memory}
 
 -- the statuses with which the carrying out of a sample may end
 abbrev pub EndsSample : Status → Type 0
@@ -26,12 +26,7 @@ EndsSample Disk = Unit {0}
 EndsSample Sink = Unit {0}
 EndsSample (Damaged damage) = Unit {0}
 EndsSample Memory = Unit {0}
-EndsSample Usage = ⊥
-EndsSample (NotArchive at) = ⊥
-EndsSample Source = ⊥
-EndsSample (Script at) = ⊥
-EndsSample Budget = ⊥
-EndsSample (NotEmpty length) = ⊥
+EndsSample other = ⊥
 
 -- An image that was left, with the bytes shown then: it stands for the state after some of the outcomes, and once a byte of the lines was shown,
 -- after all of them.
