@@ -73,7 +73,7 @@ fn excess_of_fit(
 }
 
 /// The partition of a plan's cuts, which are boundaries of the table; whatever else can't be is answered
-/// as want of memory.
+/// as out of memory.
 fn partition_on(
     alloc: Global,
     table: &Table,

@@ -57,7 +57,7 @@ pub(crate) struct Tested {
 /// keeps to a guarantee and may be loaded for its list. The first fault is the verdict; where a text
 /// isn't UTF-8, that is. Without plans nothing is read. Nothing is changed.
 ///
-/// `Failed`: the disk failed. `Memory`: there was none, or the texts that were read have more than 2^20
+/// `Failed`: the disk failed. `Memory`: an allocation failed, or the texts that were read have more than 2^20
 /// words, which those of no archive have.
 /// It reads each text and each sublist once, and holds the index of all words beside one text or one
 /// sublist. It costs time in the texts, `n log n` in the words' counts and in the plans, and for each

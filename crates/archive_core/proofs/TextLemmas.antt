@@ -1,4 +1,4 @@
--- Texts by their places: what a place of an archive in hand holds, and that it lies in front of the journal's end.
+-- Texts by their places: what a place of an open archive holds, and that it lies in front of the journal's end.
 use Rattle.std.proofs.Common.{◌≡◌, ℕ, ◌+◌, ◌≤◌, List, [], ◌∷◌, length, map, sum_by, All, Option, Some, None, ap, subst, sym, ◌∙◌, arith}
 use Rattle.std.specs.Option.{option_map}
 use Rattle.std.proofs.lemmas.List.Elements.{All-nil, All-cons, All-head, All-tail, All-append}

@@ -1,4 +1,4 @@
--- How an entry is added to an archive in hand.
+-- How an entry is added to an open archive.
 use Rattle.std.specs.Prelude.{◌≡◌, ◌⊎◌, ℕ, ◌+◌, List, [], ◌∷◌, ◌++◌, length, Option, Some, None, Result, Err, IsOk, IfOk, false}
 use Rattle.journal_gates.specs.Records.{gate_bytes}
 use Rattle.base_types.specs.declared.ids.DocId.{DocId}
@@ -46,7 +46,7 @@ pub record IsSpent (old new : ArchiveState) : Type 0 where
   pub shelf_is : HasSameShelf old.shelf new.shelf
   pub live_is : new.live ≡ false
 
--- what an archive in hand says of an entry that was to be added, for the history that it stood for
+-- what an open archive says of an entry that was to be added, for the history that it stood for
 pub record Adds (history : History) (entry : Entry) (refusal : Option Refusal) (result : Result ℕ ChangeError) (new : ArchiveState) : Type 0 where
   pub refused : (why : Refusal) → result ≡ Err (changes.Refused why) → refusal ≡ Some why
   pub allowed : IsOk result ⊎ (result ≡ Err changes.Failed) → refusal ≡ None

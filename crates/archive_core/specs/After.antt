@@ -1,4 +1,4 @@
--- What holds after each call that changes an archive in hand, after each query, and after sublists were fetched for one, whatever it is for.
+-- What holds after each call that changes an open archive, after each query, and after sublists were fetched for one, whatever it is for.
 use Rattle.std.specs.Prelude.{◌≡◌, ◌⊎◌, ◌↔◌, List, ℕ, Result, Err, IfOk, OnOk, IsOk, IsTrue}
 use Rattle.machine_model.specs.Calls.{OnlyReads}
 use Rattle.machine_model.specs.Causes.{Rose}

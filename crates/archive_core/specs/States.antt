@@ -1,4 +1,4 @@
--- What an archive in hand is, and when it and its disk stand for a history.
+-- What an open archive is, and when it and its disk stand for a history.
 use Rattle.std.specs.Prelude.{◌≡◌, ℕ, ◌≤◌, Bool, List, [], ◌∷◌, ◌++◌, length, All}
 use Rattle.journal_gates.specs.Records.{first_gate}
 use Rattle.machine_model.specs.Areas.{Both, Bytes}
@@ -21,7 +21,7 @@ use Rattle.archive_plans.specs.Shelves.{ShelfState, extents_all}
 use Rattle.model_archive.specs.Stands.{bodies_of}
 use Rattle.archive_core.specs.Stored.{Store, HasSame}
 
--- an archive in hand: where its journal ends, whether it may be changed, how many entries it has, the changes of documents with
+-- an open archive: where its journal ends, whether it may be changed, how many entries it has, the changes of documents with
 -- the places of the texts, the index of the texts, and the live plans with the free pages and the pages that are kept
 pub record ArchiveState : Type 0 where
   pub end : ℕ
@@ -31,7 +31,7 @@ pub record ArchiveState : Type 0 where
   pub index : IndexState
   pub shelf : ShelfState
 
--- an archive in hand stands for a history
+-- an open archive stands for a history
 pub record StandsFor (archive : ArchiveState) (history : History) : Type 0 where
   pub loadable : IsLoadable history
   pub end_is : archive.end ≡ end_of history
@@ -41,11 +41,11 @@ pub record StandsFor (archive : ArchiveState) (history : History) : Type 0 where
   pub plans_are : archive.shelf.plans ≡ live_plans history
   pub pages_are : HasTaken archive.shelf.pages (live_extents history)
 
--- a disk of these lengths reaches as far as an archive in hand: what it may read is there
+-- a disk of these lengths reaches as far as an open archive: what it may read is there
 abbrev pub Reaches : Both ℕ → ArchiveState → Type 0
 Reaches reach archive = (archive.end ≤ reach.journal) × All (IsInside reach.pages) (extents_all archive.shelf.plans)
 
--- the pages that an archive in hand keeps are as reads of its disk give them
+-- the pages that an open archive keeps are as reads of its disk give them
 abbrev pub CacheStands : DiskState → ArchiveState → Type 0
 CacheStands d archive = IsCacheOf archive.shelf.cache d.holds.pages
 
@@ -53,7 +53,7 @@ CacheStands d archive = IsCacheOf archive.shelf.cache d.holds.pages
 abbrev pub IsSameButCache : ArchiveState → ArchiveState → Type 0
 IsSameButCache old new = new ≡ record old { shelf = record (old.shelf) { cache = new.shelf.cache } }
 
--- what a disk is that an archive in hand may change, by what reads give, whatever lies in Pages: all images have the history's journal, and in each live place the bytes that reads give
+-- what a disk is that an open archive may change, by what reads give, whatever lies in Pages: all images have the history's journal, and in each live place the bytes that reads give
 pub record AreInStepBy (d : DiskState) (archive : ArchiveState) (store : Store) : Type 0 where
   pub stands : StandsFor archive store.history
   pub journal : IsInStep d archive.end (bodies_of store.history)
@@ -64,7 +64,7 @@ pub record AreInStepBy (d : DiskState) (archive : ArchiveState) (store : Store) 
   pub same : (image : Bytes) → MayLeave d.now image → All (HasSame store.pages image.pages) (live_extents store.history)
   pub cached : CacheStands d archive
 
--- and an archive in hand and its disk are in step with a history: the pages hold what its live plans need
+-- and an open archive and its disk are in step with a history: the pages hold what its live plans need
 pub record AreInStep (d : DiskState) (archive : ArchiveState) (history : History) : Type 0 where
   pub store : Store
   pub history_is : store.history ≡ history

@@ -1,4 +1,4 @@
-//! The archive in hand, and its changes.
+//! The open archive, and its changes.
 ghost use Rattle.std.specs.Prelude.{◌≡◌, ◌⊎◌, ◌↔◌, ◌+◌, ◌<◌, ◌≤◌, ◌^◌, ◌++◌, [], ◌∷◌, ℕ, List, length, get_or, Option, Some, None, Ok, Err, true, false, IsTrue, IfOk, IfErr, OnOk, IsOk, IsErrOf};
 ghost use Rattle.journal_gates.specs.Records.{gate_bytes, new_bytes};
 ghost use Rattle.machine_model.specs.Calls.{OnlyReads};
@@ -48,7 +48,7 @@ use pages_sublists::{FetchError, Gathered};
 use std::alloc::Global;
 use std::marker::Model;
 
-/// An archive in hand.
+/// An open archive.
 #[derive(Drop)]
 pub struct Archive {
     journal: Journal,
@@ -188,7 +188,7 @@ impl Archive {
         requires within { Reaches (D.disk disk.old).reach self.old }
         ensures only { D.Disk.only disk.old disk.new }
         ensures after { AfterChange D.disk_tells ((self.new ≡ self.old) × (disk.new ≡ disk.old)) (disk.new ≡ disk.old) result (D.disk disk.old) (D.disk disk.new) self.old self.new }
-        // On any disk: a refusal is the first cause in order, comes wherever there is one (but for want of memory), and changes nothing; at Ok
+        // On any disk: a refusal is the first cause in order, comes wherever there is one (unless memory runs out), and changes nothing; at Ok
         // the archive stands for the history with the new entry, and answers how many entries there are.
         ensures adds { (h : History) → StandsFor self.old h → Adds h (entries.Arrive doc at text.now) (arrival_refusal h doc at text.now) result self.new }
         // In step by what reads give, whatever lies in Pages, it is a step; each image left since stands for what was before it or after it.
@@ -220,7 +220,7 @@ impl Archive {
         requires within { Reaches (D.disk disk.old).reach self.old }
         ensures only { D.Disk.only disk.old disk.new }
         ensures after { AfterChange D.disk_tells ((self.new ≡ self.old) × (disk.new ≡ disk.old)) (disk.new ≡ disk.old) result (D.disk disk.old) (D.disk disk.new) self.old self.new }
-        // On any disk: a refusal is the first cause in order, comes wherever there is one (but for want of memory), and changes nothing; at Ok
+        // On any disk: a refusal is the first cause in order, comes wherever there is one (unless memory runs out), and changes nothing; at Ok
         // the archive stands for the history with the new entry, and answers how many entries there are.
         ensures adds { (h : History) → StandsFor self.old h → Adds h (entries.Delete doc at) (deletion_refusal h doc at) result self.new }
         // In step by what reads give, whatever lies in Pages, it is a step; each image left since stands for what was before it or after it.
@@ -255,7 +255,7 @@ impl Archive {
         requires within { Reaches (D.disk disk.old).reach self.old }
         ensures only { D.Disk.only disk.old disk.new }
         ensures after { AfterChange D.disk_tells (disk.new ≡ disk.old) (disk.new ≡ disk.old) result (D.disk disk.old) (D.disk disk.new) self.old self.new }
-        // On any disk, whatever history it stood for: a refusal has its cause there, and comes wherever there is one (but for want of memory); at Ok
+        // On any disk, whatever history it stood for: a refusal has its cause there, and comes wherever there is one (unless memory runs out); at Ok
         // the archive stands for a history with a plan that may be stored.
         ensures refused { (h : History) → StandsFor self.old h → (why : Refusal) → IsErrOf result (ChangeError.Refused why) → Plans h word.now kind factor (Refused why) h × StandsFor self.new h }
         ensures stores { (h : History) → StandsFor self.old h → IfOk result (λ r. (next : History) × (Plans h word.now kind factor (Planned (summary_of r)) next × StandsFor self.new next)) }

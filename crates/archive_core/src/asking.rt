@@ -123,7 +123,7 @@ impl Archive {
     /// The text of the document's version that is alive at the time; None exactly where the document
     /// isn't alive then. Nothing is changed.
     ///
-    /// `Failed`: the disk failed. `Memory`: there was none.
+    /// `Failed`: the disk failed. `Memory`: an allocation failed.
     /// Costs what a look-up in the directory does, and one read of the text's length.
     pub fn show<D: Disk>(
         &self,

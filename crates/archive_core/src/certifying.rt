@@ -29,7 +29,7 @@ impl Archive {
     /// is least. Nothing is changed, and no disk is asked.
     ///
     /// `Refused`: for the first cause in order, the phrase isn't one term, no text has the word, or it has
-    /// no stored plan that keeps to a guarantee. `Memory`: there was none.
+    /// no stored plan that keeps to a guarantee. `Memory`: an allocation failed.
     /// Costs `n log n` in the word's postings, and memory in them.
     pub fn certificate(&self, alloc: Global, word: &Phrase) -> Result<Proposal, Declined>
         // Whatever history it stands for, what is told is the stored plan, and a refusal comes exactly where that history has the cause (but for
@@ -89,7 +89,7 @@ impl Archive {
 }
 
 /// The certificate of a plan of a list. Whatever can't be, as that the list has too many boundaries, is
-/// answered as want of memory.
+/// answered as out of memory.
 fn certified(alloc: Global, list: &[Posting], plan: &PlanEntry) -> Result<Proposal, AllocError>
     requires some { 0 < length list.now }
     requires few { length list.now < 2 ^ 38 }

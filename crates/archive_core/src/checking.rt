@@ -22,7 +22,7 @@ impl Archive {
     /// least one; where a text isn't UTF-8, that is told. Of what is in memory it uses only where texts
     /// and sublists lie, and no digest is asked. Nothing is changed.
     ///
-    /// `Failed`: the disk failed. `Memory`: there was none.
+    /// `Failed`: the disk failed. `Memory`: an allocation failed.
     /// Without plans nothing is read. Else each text and each sublist is read once, and the lists of all
     /// words are made anew; it costs what `archive_check::verify` does.
     pub fn verify<D: Disk>(&self, alloc: Global, disk: &mut D) -> Result<Verdict, VerifyError>

@@ -111,7 +111,7 @@ fn whole_part(part: ListPart) -> Part
     }
 }
 
-/// What was gathered, and a tail behind it. More than can be there is answered as want of memory.
+/// What was gathered, and a tail behind it. More than can be there is answered as out of memory.
 fn with_tail(stored: Gathered, tail: &[Posting]) -> Result<Part, AllocError>
     ensures list { IfOk result (λ part. part.list.items ≡ stored.list.items ++ tail.now) }
     ensures read { IfOk result (λ part. part.read ≡ stored.read + length tail.now) }

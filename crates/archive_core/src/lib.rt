@@ -1,6 +1,6 @@
 //! The archive: a history of documents on any disk, safe at any stop.
 //!
-//! An archive in hand stands for a history (`specs/States.antt`). Each call that changes it leaves
+//! An open archive stands for a history (`specs/States.antt`). Each call that changes it leaves
 //! images that stand for the history before it or for that and the new entry, and after Ok for the
 //! latter alone (`specs/Changing.antt`); a refused call changes nothing. A load gives the history
 //! for which the images of its disk stand. An archive can be opened to read alone: then no image changes.

@@ -28,7 +28,7 @@ impl Archive {
     /// differs from the header, an open gate whose record lies past the end, the first field of an
     /// entry that is cut short or not allowed, the gate of an entry that may not come after those
     /// before it, or the gate of the plan of the first live place that lies outside Pages or shares a
-    /// page with an earlier one. `Failed`: the disk failed. `Memory`: there was none.
+    /// page with an earlier one. `Failed`: the disk failed. `Memory`: an allocation failed.
     /// Costs time in the length of the journal, which is read in pieces of 64 KiB or a whole body,
     /// two look-ups an entry, the words of all texts, n log n in their counts and in the postings of
     /// each plan's word, and a search among free runs for each live place. No page is read.

@@ -43,7 +43,7 @@ impl Archive {
     /// no disk is asked.
     ///
     /// `Refused`: for the first cause in order, the phrase isn't one term, no text has the word, it has no
-    /// posting before the last time, or its list has too many boundaries. `Memory`: there was none.
+    /// posting before the last time, or its list has too many boundaries. `Memory`: an allocation failed.
     /// Costs `n log n` in the word's postings, and memory in them.
     pub fn propose(
         &self,
@@ -51,7 +51,7 @@ impl Archive {
         word: &Phrase,
         factor: Fraction,
     ) -> Result<Proposal, Declined>
-        // Whatever history it stands for: a refusal comes exactly where that has the cause (but for want of memory), and what is proposed is
+        // Whatever history it stands for: a refusal comes exactly where that has the cause (unless memory runs out), and what is proposed is
         // of it.
         ensures refused { (h : History) → StandsFor self.now h → (why : Refusal) → IsErrOf result (Declined.Refused why) → Proposes h word.now factor (Refused why) }
         ensures proposes { (h : History) → StandsFor self.now h → IfOk result (λ p. Proposes h word.now factor (Proposed p.segments.items p.nodes.items p.space)) }

@@ -46,7 +46,7 @@ fn full_words() -> Refusal
 ///
 /// `Refused`: for the first cause in order, the text is too long, isn't UTF-8, the time lies before the
 /// last one, the document's latest change has this time, or the documents, the versions or the words are
-/// full; the journal's room isn't asked. `Memory`: there was none.
+/// full; the journal's room isn't asked. `Memory`: an allocation failed.
 /// Costs the text's words and a look-up.
 pub fn prepare_arrival(
     alloc: Global,
@@ -92,7 +92,7 @@ pub fn prepare_arrival(
 ///
 /// `Refused`: for the first cause in order, the time lies before the last one, the document has no version
 /// or its latest is a tombstone, its latest version has this time, or the versions are full; the journal's
-/// room isn't asked. `Memory`: there was none.
+/// room isn't asked. `Memory`: an allocation failed.
 /// Costs a look-up.
 pub fn prepare_deletion(
     alloc: Global,

@@ -69,7 +69,7 @@ impl Met {
 /// The directory, the index and the live plans of the entries that lie where these heads say.
 ///
 /// `NotArchive`: an entry is cut short, is not allowed, or may not come after those before it, which shows
-/// at that place. `Failed`: the disk failed. `Memory`: there was none.
+/// at that place. `Failed`: the disk failed. `Memory`: an allocation failed.
 /// It reads the bodies in pieces of 64 KiB or a whole body, and costs time in their lengths, two look-ups
 /// an entry, n log n in the words' counts and in the postings of each planned word, and a look at the live
 /// plans for each plan.

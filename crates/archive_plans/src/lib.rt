@@ -1,4 +1,4 @@
-//! The live plans in hand, and the pages that hold their sublists.
+//! The live plans of an open archive, and the pages that hold their sublists.
 //!
 //! A `Shelf` has of each word one plan at most, and knows which pages are free: those of no live plan
 //! and of no plan that is being stored (`specs/Shelves.antt`). Each page that it keeps to be read once

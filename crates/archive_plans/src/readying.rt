@@ -76,7 +76,7 @@ pub struct Ready {
 /// Takes the pages of a draft's sublists and spells its entry, if the journal, which ends there behind so
 /// many entries, has room for it. Where there is none, or no memory, the pages are free again.
 ///
-/// `Refused`: Pages have no run that is long enough, or the journal has no room. `Memory`: there was none.
+/// `Refused`: Pages have no run that is long enough, or the journal has no room. `Memory`: an allocation failed.
 /// Costs what `Shelf::prepare` does, and the entry's length.
 pub fn make_ready(
     alloc: Global,

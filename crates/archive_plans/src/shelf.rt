@@ -57,7 +57,7 @@ impl Shelf {
     /// The shelf of these live plans, in Pages of so many bytes. No page is kept yet.
     ///
     /// `NotArchive`: a place lies outside Pages or shares a page with an earlier one, which shows at the
-    /// gate of the first such place's plan. `Memory`: there was none. It is never `Failed`.
+    /// gate of the first such place's plan. `Memory`: an allocation failed. Never `Failed`.
     /// Costs their segments, and a search among the free runs for each.
     pub fn of(alloc: Global, plans: Vec<StoredPlan>, reach: u64) -> Result<Shelf, LoadError>
         requires once { EachOnce plans.items }

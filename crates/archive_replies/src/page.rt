@@ -92,7 +92,7 @@ impl ReplyPage {
     }
 
     /// Writes the rows that a query found, and that so many postings were read for them, in place of
-    /// what the page held. It takes memory; an error means that there was none, and leaves a part of
+    /// what the page held. It takes memory; an error means that memory ran out, and leaves a part of
     /// the reply. The cost is linear in the rows.
     pub fn found(&mut self, rows: &[Row], read: u64) -> Result<(), AllocError>
         ensures { OnOk result (self.new.bytes ≡ reply_text (Found rows.now read)) }
@@ -105,7 +105,7 @@ impl ReplyPage {
     }
 
     /// Writes the rows that a query found over a window of time, and that so many postings were read
-    /// for them, in place of what the page held. It takes memory; an error means that there was none,
+    /// for them, in place of what the page held. It takes memory; an error means that memory ran out,
     /// and leaves a part of the reply. The cost is linear in the rows.
     pub fn spanned(&mut self, rows: &[SpanRow], read: u64) -> Result<(), AllocError>
         ensures { OnOk result (self.new.bytes ≡ reply_text (Spanned rows.now read)) }
@@ -118,7 +118,7 @@ impl ReplyPage {
     }
 
     /// Writes the segments and the boundaries of a plan, and the space that it takes, in place of what
-    /// the page held. It takes memory; an error means that there was none, and leaves a part of the
+    /// the page held. It takes memory; an error means that memory ran out, and leaves a part of the
     /// reply. The cost is linear in both.
     pub fn proposed(
         &mut self,

@@ -14,7 +14,7 @@ const MOST_LINE_BYTES: usize = 312;
 
 impl ReplyPage {
     /// Writes what a check told, in place of what the page held. It takes memory where a line before
-    /// was shorter than the longest that there is; an error means that there was none, and leaves the
+    /// was shorter than the longest that there is; an error means that memory ran out, and leaves the
     /// page empty. The cost is linear in the word.
     pub fn verified(&mut self, verdict: &Verdict) -> Result<(), AllocError>
         ensures { OnOk result (self.new.bytes ≡ reply_text (Verified verdict.now)) }

@@ -1,4 +1,4 @@
-//! Changes, by the calls of an archive in hand.
+//! Changes, by the calls of an open archive.
 ghost use Rattle.std.specs.Prelude.{IsTrue, OnOk};
 ghost use Rattle.archive_core.specs.States.{Reaches};
 ghost use Rattle.machine_mem.specs.Meaning.{disk_state};

@@ -2,7 +2,7 @@
 //! what a stop may leave of one.
 //!
 //! A row is a test of one of the crates above, and says what it wants. The rig tries it: `expect_rows`
-//! and `expect_on` run scripts, `expect_changes` makes changes of an archive in hand, and
+//! and `expect_on` run scripts, `expect_changes` makes changes of an open archive, and
 //! `expect_entries` and `expect_shown` load images that a stop may leave. What comes otherwise is a
 //! `RowError` that says where. Each run is held to have had its memory, so a program that always gave
 //! up for want of it would pass no row. Journals with plans and their sublists are spelled here by the

@@ -1,6 +1,6 @@
 //! A sample carried out on an archive.
 //!
-//! The commands of a sample go to an archive in hand one after another, and what comes of them is
+//! The commands of a sample go to an open archive one after another, and what comes of them is
 //! counted (`specs/Filling.antt`). No reply is written: the counts and the verdict of the check that
 //! comes last are all that is told.
 //!

@@ -21,7 +21,7 @@ fn main(rt: HostRuntime) -> ExitCode {
     ended(&rt, run_here(&rt))
 }
 
-/// The exit status of a run, or of files that were not opened, so that there was none. Its line is
+/// The exit status of a run, or of files that were not opened, so that nothing ran. Its line is
 /// printed unless the status is `Done` (tested). It is 11 only where another program is at work.
 fn ended<R: Eprint>(rt: &R, end: Result<Status, OpenError>) -> ExitCode
     ensures run { IfOk end (λ s. exit_status result ≡ code_of s) }

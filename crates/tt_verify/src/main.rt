@@ -20,7 +20,7 @@ fn main(rt: HostRuntime) -> ExitCode {
     ended(&rt, audit_here(&rt))
 }
 
-/// The exit status of an audit, or of files that were not opened, so that there was none. Its line is
+/// The exit status of an audit, or of files that were not opened, so that nothing ran. Its line is
 /// printed unless the status is `Sound` (tested). It is 11 only where another program is at work.
 fn ended<R: Eprint>(rt: &R, end: Result<AuditStatus, OpenError>) -> ExitCode
     ensures audit { IfOk end (λ s. exit_status result ≡ code_of s) }

@@ -1,4 +1,4 @@
-//! Deletions, by the calls of an archive in hand.
+//! Deletions, by the calls of an open archive.
 use base_types::Time;
 use model_archive::Refusal;
 use rows_rig::{expect_changes, made, read_journal, refused, three_changes};

@@ -1,4 +1,4 @@
-//! What a stop may leave of changes made by the calls of an archive in hand.
+//! What a stop may leave of changes made by the calls of an open archive.
 use machine_mem::{Fill, MemMachine, Tail};
 use model_archive::Refusal;
 use rows_rig::{
