@@ -1,6 +1,6 @@
 pub mod Clipping
 pub mod Coalesced
-mod Coalescing
+mod Joins
 pub mod Counts
 pub mod Elements
 pub mod Existence

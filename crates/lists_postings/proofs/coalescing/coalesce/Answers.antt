@@ -1,5 +1,5 @@
 use Rattle.std.proofs.Common.{◌+◌, drop}
-use Rattle.lists_postings.proofs.Coalescing.{step-join, step-push, next-left, finish-shortest}
+use Rattle.lists_postings.proofs.Joins.{step-join, step-push, next-left, finish-shortest}
 use Rattle.lists_postings.proofs.coalescing.coalesce.Goals as goal
 use Rattle.lists_postings.proofs.coalescing.coalesce.Goals.{then-continues, else-continues+in_ok-push}
 
