@@ -2,12 +2,12 @@
 use Rattle.std.specs.Prelude.{◌≡◌, ◌≢◌, ℕ, List}
 use Rattle.sha2.specs.Sha256.{sha256}
 use Rattle.journal_entries.specs.declared.place.Layout.{Layout}
-use Rattle.pages_checked.specs.Layouts.{IsFault}
+use Rattle.pages_checked.specs.Layouts.{SpellsNone}
 use Rattle.pages_checked.specs.declared.error.CheckError.{CheckError}
 use Rattle.pages_checked.specs.declared.error.CheckError.TheVariants.{Digest, Form, Memory}
 
 -- the digest differs, or else no list is spelled; nothing of want of memory
 abbrev pub IsUnchecked : Layout → List ℕ → List ℕ → CheckError → Type 0
 IsUnchecked layout digest bytes (Digest got) = (got ≡ sha256 bytes) × (digest ≢ got)
-IsUnchecked layout digest bytes (Form at) = (digest ≡ sha256 bytes) × IsFault layout bytes at
+IsUnchecked layout digest bytes Form = (digest ≡ sha256 bytes) × SpellsNone layout bytes
 IsUnchecked layout digest bytes Memory = Unit {0}

@@ -65,7 +65,7 @@ impl Checked {
         }
         let list = match decoded(alloc, layout, bytes) {
             Ok(list) => list,
-            Err(ListError::Form { at }) => return Err(CheckError::Form { at }),
+            Err(ListError::Form { .. }) => return Err(CheckError::Form),
             Err(ListError::Memory) => return Err(CheckError::Memory),
         };
         let bytes = match Vec::from_slice(alloc, bytes) {

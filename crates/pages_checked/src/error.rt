@@ -13,10 +13,7 @@ pub enum CheckError {
         got: [u8; 32],
     },
     /// They spell no list.
-    Form {
-        /// The offset of the first fault.
-        at: u64,
-    },
+    Form,
     /// There was no memory.
     Memory,
 }

@@ -2,7 +2,7 @@
 ghost use Rattle.std.specs.Prelude.{◌≡◌, IfOk, IfErr};
 ghost use Rattle.lists_postings.specs.Lists.{IsList};
 ghost use Rattle.pages_codec.specs.Decoding.{OrMemory};
-ghost use Rattle.pages_checked.specs.Layouts.{spelling_in, Spells, IsFault};
+ghost use Rattle.pages_checked.specs.Layouts.{spelling_in, Spells, SpellsNone};
 
 use base_types::Posting;
 use journal_entries::Layout;
@@ -16,7 +16,7 @@ pub(crate) fn decoded(
     bytes: &[u8],
 ) -> Result<Vec<Posting>, ListError>
     ensures found { IfOk result (λ v. Spells layout bytes.now v.items) }
-    ensures fault { IfErr result (OrMemory (IsFault layout bytes.now)) }
+    ensures nothing { IfErr result (OrMemory (λ _. SpellsNone layout bytes.now)) }
 {
     match layout {
         Layout::Flat => decode_list(alloc, bytes),

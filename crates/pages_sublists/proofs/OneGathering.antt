@@ -1,5 +1,5 @@
 -- Bytes lead to one answer.
-use Rattle.std.proofs.Common.{◌≡◌, ◌⊎◌, ℕ, ◌+◌, true, false, List, [], ◌∷◌, ◌++◌, length, drop, get_or, All, Err, inl, inr, ap, sym, subst, ◌∙◌}
+use Rattle.std.proofs.Common.{◌≡◌, ◌⊎◌, ℕ, ◌+◌, true, false, List, [], ◌∷◌, ◌++◌, length, drop, get_or, All, Err, inl, inr, refl, ap, sym, subst, ◌∙◌}
 use Rattle.std.proofs.lemmas.List.Elements.{All-head, All-tail}
 use Rattle.base_types.specs.declared.posting.Posting.{Posting}
 use Rattle.journal_entries.specs.declared.place.Layout.{Layout}
@@ -11,7 +11,7 @@ use Rattle.pages_codec.specs.Layouts.{IsLayout}
 use Rattle.pages_codec.proofs.LayoutLemmas.{layout_of}
 use Rattle.pages_codec.proofs.FlatLemmas.{flat_codec}
 use Rattle.pages_codec.proofs.BlockCodec.{block_codec}
-use Rattle.pages_checked.specs.Layouts.{Spells, IsFault}
+use Rattle.pages_checked.specs.Layouts.{Spells}
 use Rattle.pages_sublists.specs.Fetching.{IsFetched, IsFirstAstray, belongs}
 use Rattle.pages_sublists.specs.Gathering.{Chosen, ListOrDamage, Joins, Parts, Refuses, Gathers, bytes_of}
 use Rattle.pages_sublists.specs.Laws.{OneCause, NoCauseAgainstFetched, OneFetched, OneGathering, AreClashes}
@@ -22,14 +22,6 @@ use Rattle.pages_sublists.proofs.UnionLemmas.{one_union, union_or_clash}
 one_list : (layout : Layout) (bytes : List ℕ) (a b : List Posting) → Spells layout bytes a → Spells layout bytes b → a ≡ b
 one_list Flat bytes a b one two = let law : IsLayout spelling list_at = layout_of spelling list_at flat_codec in law.one_list a b one.ordered two.ordered (sym one.is ∙ two.is)
 one_list Blocks bytes a b one two = let law : IsLayout block_spelling blocks_at = layout_of block_spelling blocks_at block_codec in law.one_list a b one.ordered two.ordered (sym one.is ∙ two.is)
-
-one_fault : (layout : Layout) (bytes : List ℕ) (a b : ℕ) → IsFault layout bytes a → IsFault layout bytes b → a ≡ b
-one_fault Flat bytes a b one two = let law : IsLayout spelling list_at = layout_of spelling list_at flat_codec in law.one_fault bytes a b one two
-one_fault Blocks bytes a b one two = let law : IsLayout block_spelling blocks_at = layout_of block_spelling blocks_at block_codec in law.one_fault bytes a b one two
-
-no_list : (layout : Layout) (bytes : List ℕ) (at : ℕ) (list : List Posting) → IsFault layout bytes at → Spells layout bytes list → ⊥
-no_list Flat bytes at list fault spells = let law : IsLayout spelling list_at = layout_of spelling list_at flat_codec in law.no_list bytes at list fault spells.ordered spells.is
-no_list Blocks bytes at list fault spells = let law : IsLayout block_spelling blocks_at = layout_of block_spelling blocks_at block_codec in law.no_list bytes at list fault spells.ordered spells.is
 
 all_behind : (P : Posting → Type 0) (xs ys : List Posting) → All P (xs ++ ys) → All P ys
 all_behind P [] ys all = all
@@ -53,18 +45,18 @@ one_astray f g h a b p q same one two = first_one f g h one.front two.front one.
 
 pub one_cause : OneCause
 one_cause layout digest f g h bytes (Digest k x) (Digest j y) a b = ap (λ (l : List ℕ). Digest l x) (a.0 ∙ sym b.0) ∙ ap (λ (l : List ℕ). Digest j l) (a.1 ∙ sym b.1)
-one_cause layout digest f g h bytes (Digest k x) (Form at) a b = absurd (a.2 (a.0 ∙ b.0 ∙ sym a.1))
+one_cause layout digest f g h bytes (Digest k x) Form a b = absurd (a.2 (a.0 ∙ b.0 ∙ sym a.1))
 one_cause layout digest f g h bytes (Digest k x) (Astray p) a b = absurd (a.2 (a.0 ∙ b.1.digest_is ∙ sym a.1))
-one_cause layout digest f g h bytes (Form at) (Digest k x) a b = absurd (b.2 (b.0 ∙ a.0 ∙ sym b.1))
-one_cause layout digest f g h bytes (Form at) (Form to) a b = ap (λ (n : ℕ). Form n) (one_fault layout bytes at to a.1 b.1)
-one_cause layout digest f g h bytes (Form at) (Astray p) a b = absurd (no_list layout bytes at b.0 a.1 b.1.spelled)
+one_cause layout digest f g h bytes Form (Digest k x) a b = absurd (b.2 (b.0 ∙ a.0 ∙ sym b.1))
+one_cause layout digest f g h bytes Form Form a b = refl
+one_cause layout digest f g h bytes Form (Astray p) a b = absurd (a.1 b.0 b.1.spelled)
 one_cause layout digest f g h bytes (Astray p) (Digest k x) a b = absurd (b.2 (b.0 ∙ a.1.digest_is ∙ sym b.1))
-one_cause layout digest f g h bytes (Astray p) (Form at) a b = absurd (no_list layout bytes at a.0 b.1 a.1.spelled)
+one_cause layout digest f g h bytes (Astray p) Form a b = absurd (b.1 a.0 a.1.spelled)
 one_cause layout digest f g h bytes (Astray p) (Astray q) a b = ap (λ (x : Posting). Astray x) (one_astray f g h a.0 b.0 p q (one_list layout bytes a.0 b.0 a.1.spelled b.1.spelled) a.2 b.2)
 one_cause layout digest f g h bytes (Digest k x) (Clash p q) a b = absurd b
 one_cause layout digest f g h bytes (Digest k x) Bare a b = absurd b
-one_cause layout digest f g h bytes (Form at) (Clash p q) a b = absurd b
-one_cause layout digest f g h bytes (Form at) Bare a b = absurd b
+one_cause layout digest f g h bytes Form (Clash p q) a b = absurd b
+one_cause layout digest f g h bytes Form Bare a b = absurd b
 one_cause layout digest f g h bytes (Astray r) (Clash p q) a b = absurd b
 one_cause layout digest f g h bytes (Astray r) Bare a b = absurd b
 one_cause layout digest f g h bytes (Clash p q) other a b = absurd a
@@ -72,7 +64,7 @@ one_cause layout digest f g h bytes Bare other a b = absurd a
 
 pub no_cause : NoCauseAgainstFetched
 no_cause layout digest f g h bytes list (Digest k x) fetched a = a.2 (a.0 ∙ fetched.checked.digest_is ∙ sym a.1)
-no_cause layout digest f g h bytes list (Form at) fetched a = no_list layout bytes at list a.1 fetched.checked.spelled
+no_cause layout digest f g h bytes list Form fetched a = a.1 list fetched.checked.spelled
 no_cause layout digest f g h bytes list (Astray p) fetched a =
     let same : a.0 ≡ list = one_list layout bytes a.0 list a.1.spelled fetched.checked.spelled in
     let G : Posting → Type 0 = λ q. belongs f g h q ≡ true in

@@ -4,7 +4,7 @@ use Rattle.sha2.specs.Sha256.{sha256}
 use Rattle.base_types.specs.declared.posting.Posting.{Posting}
 use Rattle.journal_entries.specs.declared.place.Layout.{Layout}
 use Rattle.lists_postings.specs.Lists.{meets}
-use Rattle.pages_checked.specs.Layouts.{IsFault}
+use Rattle.pages_checked.specs.Layouts.{SpellsNone}
 use Rattle.pages_checked.specs.Checking.{IsChecked}
 use Rattle.pages_sublists.specs.declared.why.Why.{Why}
 use Rattle.pages_sublists.specs.declared.why.Why.TheVariants.{Digest, Form, Astray, Clash, Bare}
@@ -32,7 +32,7 @@ pub record IsFetched (layout : Layout) (digest : List ℕ) (f g h : ℕ) (bytes 
 -- why a fetch is refused: the first cause in order
 abbrev pub Explains : Layout → List ℕ → (f g h : ℕ) → List ℕ → Why → Type 0
 Explains layout digest f g h bytes (Digest kept got) = (kept ≡ digest) × (got ≡ sha256 bytes) × (kept ≢ got)
-Explains layout digest f g h bytes (Form at) = (digest ≡ sha256 bytes) × IsFault layout bytes at
+Explains layout digest f g h bytes Form = (digest ≡ sha256 bytes) × SpellsNone layout bytes
 Explains layout digest f g h bytes (Astray p) = (list : List Posting) × IsChecked layout digest bytes list × IsFirstAstray f g h list p
 Explains layout digest f g h bytes (Clash one other) = ⊥
 Explains layout digest f g h bytes Bare = ⊥

@@ -111,8 +111,8 @@ fn sifted(
             let why = Why::Digest { stored, got };
             Err(FetchError::Damaged(Damage { page, why }))
         }
-        Err(CheckError::Form { at }) => {
-            let why = Why::Form { at };
+        Err(CheckError::Form) => {
+            let why = Why::Form;
             Err(FetchError::Damaged(Damage { page, why }))
         }
         Err(CheckError::Memory) => Err(FetchError::Memory),

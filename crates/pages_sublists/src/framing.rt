@@ -36,8 +36,8 @@ fn framed(alloc: Global, place: &Place, bytes: Vec<u8>) -> Result<Frames, FetchE
     }
     match Frames::read(alloc, bytes) {
         Ok(frames) => Ok(frames),
-        Err(ListError::Form { at }) => {
-            let why = Why::Form { at };
+        Err(ListError::Form { .. }) => {
+            let why = Why::Form;
             Err(FetchError::Damaged(Damage { page, why }))
         }
         Err(ListError::Memory) => Err(FetchError::Memory),
@@ -105,8 +105,8 @@ pub fn opened(
             }
             Ok(list)
         }
-        Err(ListError::Form { at }) => {
-            let why = Why::Form { at };
+        Err(ListError::Form { .. }) => {
+            let why = Why::Form;
             Err(FetchError::Damaged(Damage { page, why }))
         }
         Err(ListError::Memory) => Err(FetchError::Memory),

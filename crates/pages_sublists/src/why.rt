@@ -11,10 +11,7 @@ use std::alloc::AllocError;
 #[derive(Clone, Copy, Debug, PartialEq, Eq)]
 pub enum Why {
     /// They spell no list.
-    Form {
-        /// The offset of the first fault.
-        at: u64,
-    },
+    Form,
     /// Their SHA-256 isn't the one that the place keeps.
     Digest {
         /// What the place keeps.

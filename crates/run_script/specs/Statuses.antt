@@ -32,7 +32,7 @@ code_of Memory = 12
 
 -- what is told of why a sublist is damaged
 abbrev pub why_text : Why → List ℕ
-why_text (Form at) = codes "form"
+why_text Form = codes "form"
 why_text (Digest stored got) = codes "digest"
 why_text (Astray posting) = codes "astray"
 why_text (Clash one other) = codes "clash"

@@ -154,7 +154,7 @@ fn word_of(why: &Why) -> &'static str
     ensures { result.now ≡ why_text why.now }
 {
     match why {
-        Why::Form { .. } => "form",
+        Why::Form => "form",
         Why::Digest { .. } => "digest",
         Why::Astray { .. } => "astray",
         Why::Clash { .. } => "clash",

@@ -143,7 +143,7 @@ fn each_refusal_of_a_segment_names_its_place(rt: HostRuntime) {
     let shorter = "010003000000010000000100000001010a14";
     let no_frequency = "010003000000010000000100000001000a1e";
     let later = "010003000000010000000100000001010b1d";
-    let form = Why::Form { at: 15 };
+    let form = Why::Form;
     let with_shorter = clash(&rt, 10, 30);
     let with_later = clash(&rt, 11, 40);
     for (pieces, window, page, why) in [
