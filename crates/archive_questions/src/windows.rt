@@ -1,8 +1,7 @@
 //! What an archive is asked over a window of time.
 ghost use Rattle.std.specs.Prelude.{◌≡◌, ℕ, List, length, is_some, IfOk};
 ghost use Rattle.query_lang.specs.Meaning.{words_of};
-ghost use Rattle.query_eval.specs.Asked.{read_of};
-ghost use Rattle.query_eval.specs.Found.{told};
+ghost use Rattle.query_eval.specs.Found.{told, read_of};
 ghost use Rattle.query_eval.specs.Spans.{IsSpanAnswer};
 ghost use Rattle.model_archive.specs.Histories.{History, text_at};
 ghost use Rattle.model_archive.specs.Chosen.{AreChosen, IsMadeOver};

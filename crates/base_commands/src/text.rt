@@ -39,14 +39,6 @@ impl Content {
     {
         self.bytes.as_slice()
     }
-
-    /// The bytes as a `Vec`, of which nothing is copied. Constant cost.
-    pub fn into_vec(self) -> Vec<u8>
-        ensures value { result.items ≡ self }
-        ensures short { vec_len result ≤ 4194304 }
-    {
-        self.bytes
-    }
 }
 
 /// The text of a version that arrives.

@@ -3,7 +3,7 @@ use Rattle.std.specs.Prelude.{ℕ, ◌^◌, ◌<◌, ◌≤◌, List, ◌∷◌,
 use Rattle.std.specs.Int.{w32, w64, to_be_bytes}
 use Rattle.journal_entries.specs.declared.entry.Entry.{Entry}
 use Rattle.journal_entries.specs.declared.entry.Entry.TheVariants.{Arrive, Delete, Planned}
-use Rattle.journal_entries.specs.PlanSpelling.{plan_spelling, IsWellCut, IsPlanEntry}
+use Rattle.journal_entries.specs.PlanSpelling.{plan_spelling, IsPlanEntry}
 
 -- the most bytes of a version's text
 abbrev pub most_text : ℕ
@@ -20,9 +20,3 @@ abbrev pub IsEntry : Entry → Type 0
 IsEntry (Arrive doc at text) = (doc.0 < 2 ^ 32) × (at.seconds < 2 ^ 40) × (length text ≤ most_text) × IsUtf8 text
 IsEntry (Delete doc at) = (doc.0 < 2 ^ 32) × (at.seconds < 2 ^ 40)
 IsEntry (Planned plan) = IsPlanEntry plan
-
--- the text of an entry has no more bytes than a text may have; a plan is well cut
-abbrev pub CanBeSpelled : Entry → Type 0
-CanBeSpelled (Arrive doc at text) = length text ≤ most_text
-CanBeSpelled (Delete doc at) = Unit {0}
-CanBeSpelled (Planned plan) = IsWellCut plan

@@ -1,5 +1,5 @@
 //! Texts of versions.
-ghost use Rattle.std.specs.Prelude.{◌≡◌, string_bytes, IfOk};
+ghost use Rattle.std.specs.Prelude.{◌≡◌, IfOk};
 
 use std::alloc::{AllocError, Global};
 use std::marker::Model;
@@ -22,13 +22,6 @@ impl Model for VersionText {
 }
 
 impl VersionText {
-    /// The text of a `String`. Constant cost.
-    pub fn new(content: String) -> VersionText
-        ensures { result ≡ string_bytes content }
-    {
-        VersionText { content }
-    }
-
     /// A copy of a text. Costs the text's length.
     pub fn copy_of(alloc: Global, text: &str) -> Result<VersionText, AllocError>
         ensures { IfOk result (λ t. t ≡ text.now) }
@@ -42,12 +35,5 @@ impl VersionText {
         ensures { result.now ≡ self.now }
     {
         self.content.as_str()
-    }
-
-    /// The text as a `String`. Constant cost.
-    pub fn into_string(self) -> String
-        ensures { string_bytes result ≡ self }
-    {
-        self.content
     }
 }

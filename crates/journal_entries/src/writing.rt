@@ -1,10 +1,8 @@
 //! Spelling an entry.
 ghost use Rattle.std.specs.Prelude.{◌≡◌, ◌<◌, ◌≤◌, ◌^◌, length, IfOk};
 ghost use Rattle.journal_entries.specs.declared.entry.Entry.TheVariants.{Arrive, Delete};
-ghost use Rattle.journal_entries.specs.Spelling.{spelling, IsEntry, CanBeSpelled};
+ghost use Rattle.journal_entries.specs.Spelling.{spelling, IsEntry};
 
-use crate::entry::Entry;
-use crate::plan_writing::encode_plan;
 use crate::tags::{ARRIVE, CHANGE_BYTES, DELETE};
 use crate::text::MOST_TEXT_BYTES;
 use base_types::{DocId, Time};
@@ -42,19 +40,4 @@ pub fn encode_deletion(alloc: Global, doc: DocId, at: Time) -> Result<Vec<u8>, A
     out.extend_from_slice(&doc.0.to_be_bytes())?;
     out.extend_from_slice(&at.seconds().to_be_bytes())?;
     Ok(out)
-}
-
-/// The spelling of an entry. Costs its length.
-pub fn encode(alloc: Global, entry: &Entry) -> Result<Vec<u8>, AllocError>
-    requires { CanBeSpelled entry.now }
-    ensures in_range { IsEntry entry.now }
-    ensures spelled { IfOk result (λ v. v.items ≡ spelling entry.now) }
-    ensures at_least { IfOk result (λ v. 13 ≤ length v.items) }
-    ensures at_most { IfOk result (λ v. length v.items < 2 ^ 32) }
-{
-    match entry {
-        Entry::Arrive { doc, at, text } => encode_arrival(alloc, *doc, *at, text.as_str()),
-        Entry::Delete { doc, at } => encode_deletion(alloc, *doc, *at),
-        Entry::Planned(plan) => encode_plan(alloc, plan),
-    }
 }

@@ -1,6 +1,4 @@
 mod WordSteps
-mod HorizonSteps
-mod Trimming
 mod Steps
 mod Keeping
 mod Measures

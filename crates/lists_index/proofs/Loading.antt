@@ -13,14 +13,12 @@ use Rattle.lists_tails.specs.Acts.{LetsTurn, frequency_after, open_after, AreInO
 use Rattle.lists_tails.specs.Gathered.{act_of, acts_of}
 use Rattle.lists_tails.specs.Turns.{turned_one, AreTails}
 use Rattle.lists_tails.specs.Weights.{AreWeights, weight_of}
-use Rattle.lists_postings.specs.ListsOf.{IsListOf}
 use Rattle.lists_tails.proofs.Followed.{list-same}
 use Rattle.lists_index.specs.Words.{keys_in, words_in, count_of, often}
 use Rattle.lists_index.specs.Indexing.{AreIndexed, ComesLater}
 use Rattle.lists_index.specs.Loads.{Loaded, AreLoaded}
 use Rattle.lists_index.specs.Measuring.{IsMeasured}
 use Rattle.lists_index.proofs.WordSteps.{words_in-push}
-use Rattle.lists_index.proofs.HorizonSteps.{kept-whole}
 use Rattle.lists_index.proofs.Steps.{often-turned, open-on}
 
 pub acts-push : (turns : List Turn) (x : Turn) → acts_of (turns ++ x ∷ []) ≡ act_of x ∷ acts_of turns
@@ -72,10 +70,10 @@ added law old new changes c x fresh doc at m words_are turns_are up few h early 
     each w = m.weights_are w ∙ ap (λ (ws : List (List ℕ)). count_of (slice_get ws w) c.held) (sym m.fresh_are ∙ after)
 
 -- the tails and the weights that the turns make are those of the changes
-pub finished : (value : Loaded) (tails : ℕ → List Posting) (newest : ℕ → ℕ → ℕ) (changes : List (Change (List ℕ))) → AreTails (frequency_after (acts_of value.turns)) (λ w. 0) tails → ((w d : ℕ) → newest d w ≡ open_after (acts_of value.turns) w d)
-    → AreLoaded value changes → AreIndexed (λ word. 0) (record { words = value.words; tails = tails; newest = newest }) changes
+pub finished : (value : Loaded) (tails : ℕ → List Posting) (newest : ℕ → ℕ → ℕ) (changes : List (Change (List ℕ))) → AreTails (frequency_after (acts_of value.turns)) tails → ((w d : ℕ) → newest d w ≡ open_after (acts_of value.turns) w d)
+    → AreLoaded value changes → AreIndexed (record { words = value.words; tails = tails; newest = newest }) changes
 finished value tails newest changes t n h = record {
   words_are = h.words_are;
-  tails_are = λ w m. subst (λ a. IsListOf (often changes w) a (2 ^ 40) (tails w)) (sym (kept-whole (slice_get value.words w))) (list-same (frequency_after (acts_of value.turns) w) (often changes w) 0 (2 ^ 40) (tails w) (h.frequency_is w) (t w m));
+  tails_are = λ w m. list-same (frequency_after (acts_of value.turns) w) (often changes w) 0 (2 ^ 40) (tails w) (h.frequency_is w) (t w m);
   open_are = λ d w s before. n w d ∙ h.open_are d w s before;
 }

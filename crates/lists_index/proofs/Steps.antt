@@ -9,13 +9,10 @@ use Rattle.lists_versions.specs.Changes.{changes_of, held_at}
 use Rattle.lists_versions.specs.Laws.{HeldAsChangesCome}
 use Rattle.text_words.specs.Words.{with_all}
 use Rattle.lists_tails.specs.Turns.{turned_one, IsTurned}
-use Rattle.lists_postings.specs.ListsOf.{IsListOf}
 use Rattle.lists_tails.proofs.Followed.{list-same}
 use Rattle.lists_index.specs.Words.{keys_in, words_in, count_of, often}
-use Rattle.lists_index.specs.Horizons.{kept_from}
 use Rattle.lists_index.specs.Indexing.{IndexValue, AreOpen, AreIndexed, ComesLater}
 use Rattle.lists_index.proofs.WordSteps.{words_in-push, words-kept}
-use Rattle.lists_index.proofs.HorizonSteps.{kept-early, kept-later}
 
 module _ (law : HeldAsChangesCome (List ℕ)) (changes : List (Change (List ℕ))) (c : Change (List ℕ)) (early : ComesLater changes c) (weights : ℕ → ℕ) (weights_are : (w : ℕ) → weights w ≡ count_of (slice_get (words_in (changes ++ c ∷ [])) w) c.held) where
   not_later : (t : ℕ) → c.at.seconds ≤ t + 1 → All (λ d. d.at.seconds ≤ t) (changes_of c.doc changes)
@@ -79,19 +76,14 @@ pub record IsChanged (c : Change (List ℕ)) (weights : ℕ → ℕ) (old new : 
   pub turned : (w : ℕ) → IsTurned c.doc.0 c.at.seconds (old.newest c.doc.0 w) (weights w) (old.tails w) (new.tails w)
   pub open_are : (d w : ℕ) → new.newest d w ≡ cond (d == c.doc.0) (weights w) (old.newest d w)
 
--- what was the index of some changes, and is so changed, is the index of the changes with one more, from the same horizons on
-pub goes_on : HeldAsChangesCome (List ℕ) → (horizon : List ℕ → ℕ) (changes : List (Change (List ℕ))) (c : Change (List ℕ)) (weights : ℕ → ℕ) (old new : IndexValue)
-    → ((word : List ℕ) → horizon word ≤ c.at.seconds) → AreIndexed horizon old changes → ComesLater changes c → IsChanged c weights old new → AreIndexed horizon new (changes ++ c ∷ [])
-goes_on law horizon changes c weights old new behind stands early x = record {
+-- what was the index of some changes, and is so changed, is the index of the changes with one more
+pub goes_on : HeldAsChangesCome (List ℕ) → (changes : List (Change (List ℕ))) (c : Change (List ℕ)) (weights : ℕ → ℕ) (old new : IndexValue)
+    → AreIndexed old changes → ComesLater changes c → IsChanged c weights old new → AreIndexed new (changes ++ c ∷ [])
+goes_on law changes c weights old new stands early x = record {
   words_are = words;
   tails_are = λ w m.
-      let from : ℕ = kept_from horizon (slice_get (words_in (changes ++ c ∷ [])) w) in
-      let was : IsListOf (often changes w) (kept_from horizon (slice_get (words_in changes) w)) (2 ^ 40) (old.tails w) =
-      subst (λ (ws : List (List ℕ)). IsListOf (often changes w) (kept_from horizon (slice_get ws w)) (2 ^ 40) (old.tails w)) stands.words_are (stands.tails_are w m) in
-      let now : IsListOf (often (changes ++ c ∷ []) w) from (2 ^ 40) (new.tails w) =
-      list-same _ _ from (2 ^ 40) (new.tails w) (often-turned law changes c early weights weights_are w)
-      (x.turned w (often changes w) from (kept-early horizon c.at.seconds behind (slice_get (words_in (changes ++ c ∷ [])) w)) (λ t le. sym (stands.open_are c.doc.0 w t (not_later law changes c early weights weights_are t le))) (kept-later horizon changes c w (old.tails w) was)) in
-      subst (λ (ws : List (List ℕ)). IsListOf (often (changes ++ c ∷ []) w) (kept_from horizon (slice_get ws w)) (2 ^ 40) (new.tails w)) (sym words) now;
+      list-same _ _ 0 (2 ^ 40) (new.tails w) (often-turned law changes c early weights weights_are w)
+      (x.turned w (often changes w) 0 (omega arith) (λ t le. sym (stands.open_are c.doc.0 w t (not_later law changes c early weights weights_are t le))) (stands.tails_are w m));
   open_are = open-on law changes c early weights weights_are old.newest new.newest x.open_are stands.open_are;
 }
   where

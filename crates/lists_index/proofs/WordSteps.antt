@@ -74,15 +74,6 @@ in_none word (c ∷ changes) n =
 pub never-had : (changes : List (Change (List ℕ))) (word : List ℕ) (d t : ℕ) → list_any (bytes_eq word) (words_in changes) ≡ false → frequency_in changes word d t ≡ 0
 never-had changes word d t n = held_has (λ o. count_held word o ≡ 0) (record { 0 = d }) t changes refl (in_none word changes (sym (member-with_all word [] (flat_map keys_in changes)) ∙ n))
 
--- a number has the same word when a change comes, or had none
-pub word-either : (changes : List (Change (List ℕ))) (c : Change (List ℕ)) (w : ℕ) → (slice_get (words_in (changes ++ c ∷ [])) w ≡ slice_get (words_in changes) w) ⊎ (slice_get (words_in changes) w ≡ None)
-word-either changes c w =
-    let f = fresh (words_in changes) (keys_in c) in
-    elim (at (IsNew (words_in changes)) (words_in changes) f.0 w f.2) [
-      | inl same ↦ inl (ap (λ (ws : List (List ℕ)). slice_get ws w) (words_in-push changes c ∙ f.1) ∙ same)
-      | inr x ↦ inr x.2
-    ]
-
 -- the texts that were there have each word as often by its number when a change comes
 pub words-kept : (changes : List (Change (List ℕ))) (c : Change (List ℕ)) (w d t : ℕ) → count_of (slice_get (words_in (changes ++ c ∷ [])) w) (held_at (record { 0 = d }) t changes) ≡ often changes w d t
 words-kept changes c w d t =

@@ -37,13 +37,9 @@ state_of index = record {
 abbrev pub seen : IndexState → IndexValue
 seen index = record { words = index.words; tails = tail_of index.tails; newest = λ d w. weight_of w (newest_of index.newest d) }
 
--- it is the index of these changes, with the list of each word from the word's horizon on
-abbrev pub IndexesFrom : (List ℕ → ℕ) → IndexState → List (Change (List ℕ)) → Type 0
-IndexesFrom horizon index changes = AreIndexed horizon (seen index) changes
-
--- it is the index of these changes, with whole lists
+-- it is the index of these changes
 abbrev pub Indexes : IndexState → List (Change (List ℕ)) → Type 0
-Indexes index changes = IndexesFrom (λ word. 0) index changes
+Indexes index changes = AreIndexed (seen index) changes
 
 -- there is room for the change: it may be committed, without memory
 pub record HasRoom (index : IndexState) (change : Prepared) : Type 0 where

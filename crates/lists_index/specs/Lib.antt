@@ -1,5 +1,4 @@
 pub mod Words
-pub mod Horizons
 pub mod Indexing
 pub mod Newest
 pub mod Turned

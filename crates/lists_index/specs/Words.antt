@@ -30,17 +30,13 @@ count_held word held = unwrap_or (option_map (occurrences word) held) 0
 abbrev pub frequency_in : List (Change (List ℕ)) → List ℕ → ℕ → ℕ → ℕ
 frequency_in changes word d t = count_held word (held_at (record { 0 = d }) t changes)
 
--- the list of a word from the time h on: that of its frequency at these times
-abbrev pub IsListFrom : List (Change (List ℕ)) → List ℕ → ℕ → List Posting → Type 0
-IsListFrom changes word h list = IsListOf (frequency_in changes word) h (2 ^ 40) list
-
--- the list of a word: that from 0 on
+-- the list of a word: that of its frequency
 abbrev pub IsWordList : List (Change (List ℕ)) → List ℕ → List Posting → Type 0
-IsWordList changes word list = IsListFrom changes word 0 list
+IsWordList changes word list = IsListOf (frequency_in changes word) 0 (2 ^ 40) list
 
--- what the list of a word from the time h on has in [a, b), and the length of that list
-abbrev pub IsPartFrom : List (Change (List ℕ)) → List ℕ → ℕ → ℕ → ℕ → List Posting → ℕ → Type 0
-IsPartFrom changes word h a b rows whole = (list : List Posting) × IsListFrom changes word h list × (rows ≡ sublist a b list) × (whole ≡ length list)
+-- what the list of a word has in [a, b), and the length of that list
+abbrev pub IsWordPart : List (Change (List ℕ)) → List ℕ → ℕ → ℕ → List Posting → ℕ → Type 0
+IsWordPart changes word a b rows whole = (list : List Posting) × IsWordList changes word list × (rows ≡ sublist a b list) × (whole ≡ length list)
 
 -- how often a text has the word of a number, if there is one
 abbrev pub count_of : Option (List ℕ) → Option (List ℕ) → ℕ

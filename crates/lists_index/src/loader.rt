@@ -84,7 +84,7 @@ impl Loader {
         Ok(())
     }
 
-    /// The index of the changes that were added, with whole lists. For n weights in all it costs n log n.
+    /// The index of the changes that were added. For n weights in all it costs n log n.
     pub fn finish(self, alloc: Global) -> Result<Index, AllocError>
         requires { (changes : List (Change (List ℕ))) × Loads self changes }
         ensures { IfOk result (λ index. (changes : List (Change (List ℕ))) → Loads self changes → Indexes (state_of index) changes) }

@@ -1,11 +1,11 @@
 //! The lists of all words, and how many turns they took.
-ghost use Rattle.std.specs.Prelude.{◌≡◌, ◌≢◌, ℕ, ◌+◌, ◌<◌, ◌≤◌, ◌^◌, ◌↔◌, [], length, All, IfOk, OnOk, IsTrue};
+ghost use Rattle.std.specs.Prelude.{◌≡◌, ℕ, ◌+◌, ◌<◌, ◌≤◌, ◌^◌, ◌↔◌, length, All, IfOk, OnOk, IsTrue};
 ghost use Rattle.std.specs.List.Sorted.{IsPermutation};
 ghost use Rattle.lists_postings.specs.Lists.{sublist};
 ghost use Rattle.lists_tails.specs.Acts.{frequency_after, open_after, AreInOrder};
 ghost use Rattle.lists_tails.specs.Gathered.{acts_of};
-ghost use Rattle.lists_tails.specs.Tails.{tail_of, room_of, HaveRoom};
-ghost use Rattle.lists_tails.specs.Turns.{AreTails, IsTurned, IsTrimmed};
+ghost use Rattle.lists_tails.specs.Tails.{tail_of, HaveRoom};
+ghost use Rattle.lists_tails.specs.Turns.{AreTails, IsTurned};
 ghost use Rattle.lists_tails.specs.Weights.{AreWeights, weight_of};
 
 use crate::part::ListPart;
@@ -17,7 +17,7 @@ use std::marker::Model;
 /// The most turns. Lists of so many postings have no memory.
 pub(crate) const MOST_TURNS: u64 = 1 << 40;
 
-/// The list of each word from a time on, and how many turns of documents they took: no list has
+/// The list of each word, and how many turns of documents they took: no list has
 /// more postings.
 #[derive(Drop)]
 pub(crate) struct WordTails {
@@ -38,22 +38,12 @@ impl Model for WordTails {
 }
 
 impl WordTails {
-    /// An empty list for each word.
-    pub(crate) fn new(alloc: Global) -> WordTails
-        ensures { (w : ℕ) → tail_of result.tails w ≡ [] }
-    {
-        WordTails {
-            tails: Tails::new(alloc),
-            turns: 0,
-        }
-    }
-
     /// The lists after all turns of a history, which are given in the order of time.
     pub(crate) fn gather(alloc: Global, turns: &mut Vec<Turn>) -> Result<WordTails, AllocError>
         requires in_order { AreInOrder (acts_of turns.old.items) }
         requires ascending { All (λ x. AreWeights x.weights.items) turns.old.items }
         requires few { length turns.old.items ≤ 2 ^ 40 }
-        ensures tails { IfOk result (λ t. AreTails (frequency_after (acts_of turns.old.items)) (λ w. 0) (tail_of t.tails)) }
+        ensures tails { IfOk result (λ t. AreTails (frequency_after (acts_of turns.old.items)) (tail_of t.tails)) }
         ensures permutation { IsPermutation turns.old.items turns.new.items }
         ensures open { (w d : ℕ) → open_after (acts_of turns.new.items) w d ≡ open_after (acts_of turns.old.items) w d }
     {
@@ -115,15 +105,5 @@ impl WordTails {
     {
         self.tails.turn(doc, at, old, new);
         self.turns += 1;
-    }
-
-    /// Cuts the word's list to the times from `h` on. It takes no memory.
-    pub(crate) fn trim(&mut self, word: WordId, h: Time)
-        ensures trimmed { IsTrimmed h.seconds (tail_of self.old.tails word.number) (tail_of self.new.tails word.number) }
-        ensures others { (w : ℕ) → w ≢ word.number → tail_of self.new.tails w ≡ tail_of self.old.tails w }
-        ensures room { (w : ℕ) → room_of self.old.tails w ≤ room_of self.new.tails w }
-        ensures turns { self.new.turns ≡ self.old.turns }
-    {
-        self.tails.trim(word, h);
     }
 }

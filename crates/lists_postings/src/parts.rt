@@ -17,14 +17,19 @@ pub fn as_of(alloc: Global, list: &[Posting], t: Time) -> Result<Vec<Posting>, A
         .collect(alloc)
 }
 
-/// The sublist for the span: the postings that have a time in it, uncut, in the list's order. One
-/// pass over the list.
-pub fn overlap(alloc: Global, list: &[Posting], span: Span) -> Result<Vec<Posting>, AllocError>
-    ensures sublist { IfOk result (λ v. v.items ≡ sublist span.from span.to list.now) }
+/// The sublist between two times in seconds: the postings that have a time from the first on and before
+/// the other, uncut, in the list's order. One pass over the list.
+pub fn overlap(
+    alloc: Global,
+    list: &[Posting],
+    from: u64,
+    to: u64,
+) -> Result<Vec<Posting>, AllocError>
+    ensures sublist { IfOk result (λ v. v.items ≡ sublist from to list.now) }
     ensures ordered { IfOk result (λ v. IsList list.now → IsList v.items) }
 {
     list.iter()
-        .filter(|p| p.span.from < span.to && span.from < p.span.to)
+        .filter(|p| p.span.from < to && from < p.span.to)
         .copied()
         .collect(alloc)
 }

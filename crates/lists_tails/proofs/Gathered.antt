@@ -11,14 +11,13 @@ use Rattle.lists_postings.specs.ListsOf.{IsListOf}
 use Rattle.lists_tails.specs.declared.document.Turn.{Turn}
 use Rattle.lists_tails.specs.Turns.{turned_one, IsTurned}
 use Rattle.lists_tails.specs.Weights.{weight_of}
-use Rattle.lists_tails.specs.Acts.{Act, Turns, Trims, LetsTurn, frequency_after, open_after, AreInOrder}
+use Rattle.lists_tails.specs.Acts.{Act, Turns, LetsTurn, frequency_after, open_after, AreInOrder}
 use Rattle.lists_tails.specs.Gathered.{act_of, acts_of, is_of}
 use Rattle.lists_tails.proofs.Followed.{turned-away, open-here, open-away, steady, list-same}
 
--- trims, and the turns of document d
+-- the turns of document d
 abbrev pub is_act_of : ℕ → Act → Bool
 is_act_of d (Turns doc at new) = doc == d
-is_act_of d (Trims word h) = true
 
 kept-here : (doc at : ℕ) (new : ℕ → ℕ) (acts : List Act) (d : ℕ) → doc ≡ d → filter (is_act_of d) (Turns doc at new ∷ acts) ≡ Turns doc at new ∷ filter (is_act_of d) acts
 kept-here doc at new acts d e = grind (arith, nat_tests)
@@ -33,7 +32,6 @@ frequency-kept (Turns doc at new ∷ acts) w d t = elim (cases_eq doc d) [
   | inl e ↦ ap (λ z. frequency_after z w d t) (kept-here doc at new acts d e) ∙ ap {B = ℕ} (λ z. cond (d == doc && nat_le at t) (new w) z) (frequency-kept acts w d t)
   | inr n ↦ ap (λ z. frequency_after z w d t) (kept-away doc at new acts d n) ∙ frequency-kept acts w d t ∙ sym (turned-away (frequency_after acts) doc at new w d t (λ u. n (sym u)))
 ]
-frequency-kept (Trims word h ∷ acts) w d t = frequency-kept acts w d t
 
 -- and so are the weights that it has open
 open-kept : (acts : List Act) (w d : ℕ) → open_after (filter (is_act_of d) acts) w d ≡ open_after acts w d
@@ -42,7 +40,6 @@ open-kept (Turns doc at new ∷ acts) w d = elim (cases_eq doc d) [
   | inl e ↦ ap (λ z. open_after z w d) (kept-here doc at new acts d e) ∙ open-here doc at new (filter (is_act_of d) acts) w d (sym e) ∙ sym (open-here doc at new acts w d (sym e))
   | inr n ↦ ap (λ z. open_after z w d) (kept-away doc at new acts d n) ∙ open-kept acts w d ∙ sym (open-away doc at new acts w d (λ u. n (sym u)))
 ]
-open-kept (Trims word h ∷ acts) w d = open-kept acts w d
 
 -- acts are in order exactly where those of each document are
 order-kept : (acts : List Act) (d : ℕ) → AreInOrder acts → AreInOrder (filter (is_act_of d) acts)
@@ -51,7 +48,6 @@ order-kept (Turns doc at new ∷ acts) d o = elim (cases_eq doc d) [
   | inl e ↦ subst AreInOrder (sym (kept-here doc at new acts d e)) (All-filter (is_act_of d) (LetsTurn doc at) acts o.0, order-kept acts d o.1)
   | inr n ↦ subst AreInOrder (sym (kept-away doc at new acts d n)) (order-kept acts d o.1)
 ]
-order-kept (Trims word h ∷ acts) d o = order-kept acts d o
 
 lets : (acts : List Act) (doc at : ℕ) → All (LetsTurn doc at) (filter (is_act_of doc) acts) → All (LetsTurn doc at) acts
 lets [] doc at a = a
@@ -61,8 +57,6 @@ lets (Turns d s new ∷ acts) doc at a = elim (cases_eq d doc) [
       All-cons (LetsTurn doc at) (Turns d s new) acts (All-head (LetsTurn doc at) (Turns d s new) (filter (is_act_of doc) acts) b) (lets acts doc at (All-tail (LetsTurn doc at) (Turns d s new) (filter (is_act_of doc) acts) b))
   | inr n ↦ All-cons (LetsTurn doc at) (Turns d s new) acts (λ u. absurd (n u)) (lets acts doc at (subst (All (LetsTurn doc at)) (kept-away d s new acts doc n) a))
 ]
-lets (Trims word h ∷ acts) doc at a =
-    All-cons (LetsTurn doc at) (Trims word h) acts (All-head (LetsTurn doc at) (Trims word h) (filter (is_act_of doc) acts) a) (lets acts doc at (All-tail (LetsTurn doc at) (Trims word h) (filter (is_act_of doc) acts) a))
 
 order-from : (acts : List Act) → ((d : ℕ) → AreInOrder (filter (is_act_of d) acts)) → AreInOrder acts
 order-from [] h = tt
@@ -73,7 +67,6 @@ order-from (Turns doc at new ∷ acts) h = (lets acts doc at (subst AreInOrder (
       | inl e ↦ (subst AreInOrder (kept-here doc at new acts d e) (h d)).1
       | inr n ↦ subst AreInOrder (kept-away doc at new acts d n) (h d)
     ]
-order-from (Trims word h ∷ acts) k = order-from acts k
 
 -- a document's acts are those of its turns
 filter-reverse : {X : Type 0} (p : X → Bool) (xs : List X) → filter p (reverse xs) ≡ reverse (filter p xs)
@@ -116,7 +109,6 @@ acts-more turns k x l = ap acts_of (take_more turns k x l) ∙ ap (λ z. reverse
 order-rest : (xs ys : List Act) → AreInOrder (xs ++ ys) → AreInOrder ys
 order-rest [] ys o = o
 order-rest (Turns doc at new ∷ xs) ys o = order-rest xs ys o.1
-order-rest (Trims word h ∷ xs) ys o = order-rest xs ys o
 
 order-take : (turns : List Turn) (k : ℕ) → AreInOrder (acts_of turns) → AreInOrder (acts_of (take k turns))
 order-take turns k o = order-rest (acts_of (drop k turns)) (acts_of (take k turns)) (subst AreInOrder (ap acts_of (sym (take-append-drop k turns)) ∙ ap (λ z. reverse z) (map-append act_of (take k turns) (drop k turns)) ∙ reverse-append (map act_of (take k turns)) (map act_of (drop k turns))) o)

@@ -11,7 +11,7 @@ use Rattle.lists_tails.specs.declared.weight.Weight.{Weight}
 use Rattle.lists_tails.specs.States.{TailState}
 use Rattle.lists_tails.specs.Blocks.{held_in}
 use Rattle.lists_tails.specs.Tails.{tail_of, room_of, HaveRoom}
-use Rattle.lists_tails.specs.Turns.{IsTurned, IsTrimmed}
+use Rattle.lists_tails.specs.Turns.{IsTurned}
 use Rattle.lists_tails.proofs.Passed.{turned-same, turned-never}
 
 -- what has room is there
@@ -27,13 +27,6 @@ written R was tails w x y v l e r =
 
 pub turned-at : (doc at old new : ℕ) (was tails : List TailState) (w : ℕ) (x y : TailState) → tails ≡ was → w < length tails → x ≡ get_or tails w x → IsTurned doc at old new x.list y.list → IsTurned doc at old new (tail_of was w) (tail_of (set tails w y) w)
 turned-at doc at old new was tails w x y v l e h = written (IsTurned doc at old new) was tails w x y v l e h
-
-pub trimmed-at : (h : ℕ) (was tails : List TailState) (w : ℕ) (x y : TailState) → tails ≡ was → w < length tails → x ≡ get_or tails w x → IsTrimmed h x.list y.list → IsTrimmed h (tail_of was w) (tail_of (set tails w y) w)
-trimmed-at h was tails w x y v l e t = written (IsTrimmed h) was tails w x y v l e t
-
--- an empty tail is cut to an empty one
-pub trimmed-none : (h : ℕ) → IsTrimmed h [] []
-trimmed-none h g a i = record { ordered = i.ordered; coalesced = i.coalesced; inside = λ k d l. absurd (omega (arith, l)); same = λ d t x y. i.same d t (omega (arith, x)) y }
 
 -- room for words stays where there is no less room
 pub room-kept : (weights : List Weight) (was now : List TailState) → ((w : ℕ) → room_of was w ≤ room_of now w) → HaveRoom weights was → HaveRoom weights now

@@ -6,7 +6,6 @@ mod Holding
 mod Located
 mod Open
 mod Passed
-mod Trimmed
 mod Turned
 mod Within
 mod Words

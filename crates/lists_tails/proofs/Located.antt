@@ -1,15 +1,15 @@
 -- A turn in one block of a list, by the block in which the document turns.
-use Rattle.std.specs.Prelude.{◌≡◌, ℕ, zero, suc, ◌+◌, ◌<◌, ◌≤◌, Bool, true, false, List, [], ◌∷◌, ◌++◌, length, get_or, set, take, drop, All, filter, cond, refl}
-use Rattle.std.specs.List.{remove, AllZip}
+use Rattle.std.specs.Prelude.{◌≡◌, ℕ, zero, suc, ◌+◌, ◌<◌, ◌≤◌, Bool, true, false, List, [], ◌∷◌, ◌++◌, length, get_or, set, take, drop, All, filter, refl}
+use Rattle.std.specs.List.{remove}
 use Rattle.std.proofs.Common.{arith, ap, sym, ◌∙◌, subst, inl, inr, append_assoc}
 use Rattle.std.proofs.lemmas.Bool.Decides.{nat_tests}
-use Rattle.std.proofs.lemmas.List.{append-nil, take-append-drop, take_more, take_more_set, length-drop, get_or-drop, length-append}
-use Rattle.std.proofs.lemmas.List.Elements.{Contains-get_or, All-nil, filter-append, length_all_zip}
+use Rattle.std.proofs.lemmas.List.{append-nil, take-append-drop, take_more, length-drop, get_or-drop, length-append}
+use Rattle.std.proofs.lemmas.List.Elements.{Contains-get_or, All-nil, filter-append}
 use Rattle.base_types.specs.declared.posting.Posting.{Posting}
 use Rattle.lists_postings.specs.Lists.{ComesBefore, IsList}
 use Rattle.lists_postings.proofs.Order.{before-trans, next-later}
 use Rattle.lists_tails.specs.Turns.{IsTurned}
-use Rattle.lists_tails.specs.Blocks.{joined, AreFilled, starts_up_to, IsBlockOf, IsSetIn, IsTurnedWithin, is_filled}
+use Rattle.lists_tails.specs.Blocks.{joined, AreFilled, starts_up_to, IsBlockOf, IsSetIn, IsTurnedWithin}
 use Rattle.lists_tails.proofs.Turned.{next-back}
 use Rattle.lists_tails.proofs.Blocked.{Block, across, joined-at, joined-set, joined-append}
 
@@ -103,41 +103,12 @@ pub joined-more : (blocks : List Block) (i : ℕ) (x : Block) → i < length blo
 joined-more blocks i x l e =
     ap joined (take_more blocks i x l) ∙ joined-append (take i blocks) (get_or blocks i x ∷ []) ∙ ap (λ w. joined (take i blocks) ++ (w.items ++ [])) (sym e) ∙ ap (λ w. joined (take i blocks) ++ w) (append-nil x.items)
 
-pub joined-push : (blocks : List Block) (x : Block) → joined (blocks ++ x ∷ []) ≡ joined blocks ++ x.items
-joined-push blocks x = joined-append blocks (x ∷ []) ∙ ap (λ w. joined blocks ++ w) (append-nil x.items)
-
 -- what a test keeps of the blocks
 pub kept-more : (p : Posting → Bool) (front : List Posting) (blocks : List Block) (i : ℕ) (x : Block) (rows more : List Posting) → i < length blocks → x ≡ get_or blocks i x
     → rows ≡ filter p (front ++ joined (take i blocks)) → more ≡ rows ++ filter p x.items → more ≡ filter p (front ++ joined (take (i + 1) blocks))
 kept-more p front blocks i x rows more l e a b =
     b ∙ ap (λ w. w ++ filter p x.items) a ∙ sym (filter-append p (front ++ joined (take i blocks)) x.items)
     ∙ ap (filter p) (append_assoc front (joined (take i blocks)) x.items ∙ ap (λ w. front ++ w) (sym (joined-more blocks i x l e)))
-
-pub zip-join : {X : Type 0} (R : X → X → Type 0) (a b c d : List X) → AllZip R a b → AllZip R c d → AllZip R (a ++ c) (b ++ d)
-zip-join R [] [] c d z w = w
-zip-join R [] (y ∷ b) c d z w = absurd z
-zip-join R (x ∷ a) [] c d z w = absurd z
-zip-join R (x ∷ a) (y ∷ b) c d z w = (z.0, zip-join R a b c d z.1 w)
-
-pub joined-filled : (blocks : List Block) → joined (filter (λ b. is_filled b.items) blocks) ≡ joined blocks
-joined-filled [] = refl
-joined-filled (b ∷ blocks) = go b.items (is_filled b.items) refl refl (joined-filled blocks)
-  where
-    go : (w : List Posting) (z : Bool) → w ≡ b.items → is_filled w ≡ z → joined (filter (λ b. is_filled b.items) blocks) ≡ joined blocks → joined (filter (λ b. is_filled b.items) (b ∷ blocks)) ≡ b.items ++ joined blocks
-    go [] z e f r = ap (λ v. joined (cond (is_filled v) (b ∷ filter (λ b. is_filled b.items) blocks) (filter (λ b. is_filled b.items) blocks))) (sym e) ∙ r ∙ ap (λ v. v ++ joined blocks) e
-    go (p ∷ w) z e f r = ap (λ v. joined (cond (is_filled v) (b ∷ filter (λ b. is_filled b.items) blocks) (filter (λ b. is_filled b.items) blocks))) (sym e) ∙ ap (λ v. b.items ++ v) r
-
-pub filled-is : (list : List Posting) → is_filled list ≡ true → 0 < length list
-filled-is [] e = absurd (cc)
-filled-is (p ∷ list) e = omega arith
-
-pub length-kept : (p : Posting → Bool) (list : List Posting) → length (filter p list) ≤ length list
-length-kept p [] = omega arith
-length-kept p (x ∷ list) = go (p x) (length-kept p list)
-  where
-    go : (b : Bool) → length (filter p list) ≤ length list → length (cond b (x ∷ filter p list) (filter p list)) ≤ length (x ∷ list)
-    go true h = omega (arith, h)
-    go false h = omega (arith, h)
 
 pub gathered-more : (front : List Posting) (blocks : List Block) (i : ℕ) (x : Block) (list more : List Posting) → i < length blocks → x ≡ get_or blocks i x
     → list ≡ front ++ joined (take i blocks) → more ≡ list ++ x.items → more ≡ front ++ joined (take (i + 1) blocks)
@@ -151,17 +122,3 @@ pub length-part : (blocks : List Block) (i : ℕ) → length (joined (take i blo
 length-part blocks i =
     let e = ap length (ap joined (sym (take-append-drop i blocks)) ∙ joined-append (take i blocks) (drop i blocks)) ∙ length-append (joined (take i blocks)) (joined (drop i blocks)) in
     omega (arith, e)
-
-pub each-more : (R : Posting → Posting → Type 0) (p : Posting → Bool) (was now : List Block) (i : ℕ) (x y : Block) → i < length was → i < length now → x ≡ get_or was i x
-    → AllZip R (filter p (joined (take i was))) (joined (take i now)) → AllZip R (filter p x.items) y.items → AllZip R (filter p (joined (take (i + 1) was))) (joined (take (i + 1) (set now i y)))
-each-more R p was now i x y l m e a b =
-    let f : filter p (joined (take (i + 1) was)) ≡ filter p (joined (take i was)) ++ filter p x.items = ap (filter p) (joined-more was i x l e) ∙ filter-append p (joined (take i was)) x.items in
-    let g : joined (take (i + 1) (set now i y)) ≡ joined (take i now) ++ y.items = ap joined (take_more_set now i y m) ∙ joined-push (take i now) y in
-    subst (λ z. AllZip R z (joined (take (i + 1) (set now i y)))) (sym f) (subst (λ z. AllZip R (filter p (joined (take i was)) ++ filter p x.items) z) (sym g)
-    (zip-join R (filter p (joined (take i was))) (joined (take i now)) (filter p x.items) y.items a b))
-
-pub zip-whole : (R : Posting → Posting → Type 0) (p : Posting → Bool) (a b c d : List Posting) → AllZip R (filter p a) b → AllZip R (filter p c) d → AllZip R (filter p (a ++ c)) (b ++ d)
-zip-whole R p a b c d z w = subst (λ v. AllZip R v (b ++ d)) (sym (filter-append p a c)) (zip-join R (filter p a) b (filter p c) d z w)
-
-pub zip-shorter : (R : Posting → Posting → Type 0) (p : Posting → Bool) (a b : List Posting) → AllZip R (filter p a) b → length b ≤ length a
-zip-shorter R p a b z = omega (arith, length_all_zip R (filter p a) b z, length-kept p a)

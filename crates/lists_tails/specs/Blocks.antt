@@ -16,11 +16,6 @@ joined (b ∷ blocks) = b.items ++ joined blocks
 abbrev pub AreFilled : List (Vec Posting Global) → Type 0
 AreFilled blocks = All (λ b. 0 < length b.items) blocks
 
--- The list has a posting.
-abbrev pub is_filled : List Posting → Bool
-is_filled [] = false
-is_filled (p ∷ list) = true
-
 -- The list's first posting, where there is one, is of a document up to doc.
 abbrev pub starts_up_to : ℕ → List Posting → Bool
 starts_up_to doc [] = true

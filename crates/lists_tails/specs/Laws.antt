@@ -1,13 +1,12 @@
--- What follows from the definitions of turns and trims.
+-- What follows from the definition of turns.
 use Rattle.std.specs.Prelude.{◌≡◌, ℕ, ◌≤◌, List, ◌∷◌, ◌++◌, All}
 use Rattle.base_types.specs.declared.posting.Posting.{Posting}
 use Rattle.lists_tails.specs.Turns.{AreTails}
-use Rattle.lists_tails.specs.Acts.{Act, Turns, IsNoTurn, frequency_after, horizon_after, AreInOrder, Make}
+use Rattle.lists_tails.specs.Acts.{Act, Turns, IsNoTurn, frequency_after, AreInOrder, Make}
 
--- Whatever turns and trims make of empty tails, each tail is the list of the frequency that the turns define, from the
--- greatest time to which its word is trimmed.
+-- Whatever turns make of empty tails, each tail is the list of the frequency that they define.
 abbrev pub TailsOfActs : Type 0
-TailsOfActs = (acts : List Act) (tails : ℕ → List Posting) → AreInOrder acts → Make acts tails → AreTails (frequency_after acts) (horizon_after acts) tails
+TailsOfActs = (acts : List Act) (tails : ℕ → List Posting) → AreInOrder acts → Make acts tails → AreTails (frequency_after acts) tails
 
 -- The frequency that the turns define is what the document's last turn up to the time gave the word.
 abbrev pub FrequencyOfLastTurn : Type 0

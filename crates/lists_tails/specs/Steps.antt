@@ -1,5 +1,5 @@
 -- The postings of a document that a turn closes and opens, and where they stand.
-use Rattle.std.specs.Prelude.{◌≡◌, ℕ, ◌<◌, ◌≤◌, ◌^◌, Bool, nat_lt, max, List, length, get_or, take, drop, All}
+use Rattle.std.specs.Prelude.{◌≡◌, ℕ, ◌<◌, ◌≤◌, ◌^◌, List, length, take, drop, All}
 use Rattle.base_types.specs.declared.posting.Posting.{Posting}
 
 -- q is open from the time at on, in document doc with the frequency n.
@@ -21,20 +21,3 @@ pub record IsPlace (doc : ℕ) (list : List Posting) (k : ℕ) : Type 0 where
   pub inside : k ≤ length list
   pub before : All (λ p. p.doc.0 ≤ doc) (take k list)
   pub after : All (λ p. doc < p.doc.0) (drop k list)
-
--- The posting is not over at the time h.
-abbrev pub is_open_at : ℕ → Posting → Bool
-is_open_at h p = nat_lt h p.span.to
-
--- q is p, begun no sooner than h.
-pub record IsStartedAt (h : ℕ) (p q : Posting) : Type 0 where
-  pub doc : q.doc.0 ≡ p.doc.0
-  pub tf : q.tf ≡ p.tf
-  pub from : q.span.from ≡ max p.span.from h
-  pub to : q.span.to ≡ p.span.to
-
--- The first i of the postings that were there are begun no sooner than h, and the others stand as they were.
-pub record IsStarting (h i : ℕ) (was now : List Posting) : Type 0 where
-  pub long : length now ≡ length was
-  pub done : (k : ℕ) (d : Posting) → k < i → k < length was → h < (get_or was k d).span.to → IsStartedAt h (get_or was k d) (get_or now k d)
-  pub left : (k : ℕ) (d : Posting) → i ≤ k → get_or now k d ≡ get_or was k d

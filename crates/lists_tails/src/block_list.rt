@@ -1,11 +1,10 @@
 //! A list in blocks.
 ghost use Rattle.std.specs.Prelude.{◌≡◌, ◌≢◌, ◌+◌, ◌<◌, ◌≤◌, ◌^◌, [], length, IfOk, OnOk};
-ghost use Rattle.lists_postings.specs.Lists.{rows_at, sublist};
-ghost use Rattle.lists_tails.specs.Turns.{IsTurned, IsTrimmed};
+ghost use Rattle.lists_postings.specs.Lists.{sublist};
+ghost use Rattle.lists_tails.specs.Turns.{IsTurned};
 
-use crate::blocks::{BLOCK, flatten, reserve_block, reserve_one, spread};
-use crate::parts::{collect_all, collect_at, collect_in, count};
-use crate::trim::trim_blocks;
+use crate::blocks::{BLOCK, reserve_block, reserve_one};
+use crate::parts::{collect_all, collect_in, count};
 use crate::turn::turn_blocks;
 use base_types::{DocId, Posting, Span, Time};
 use std::alloc::{AllocError, Global};
@@ -59,13 +58,6 @@ impl BlockList {
         collect_all(alloc, &self.first, &self.later)
     }
 
-    /// The postings that hold `t`, in the list's order. One pass over the tail.
-    pub(crate) fn rows_at(&self, alloc: Global, t: Time) -> Result<Vec<Posting>, AllocError>
-        ensures { IfOk result (λ rows. rows.items ≡ rows_at t.seconds self.now.list) }
-    {
-        collect_at(alloc, &self.first, &self.later, t)
-    }
-
     /// The postings that have a time in the span, uncut, in the list's order. One pass over the
     /// tail.
     pub(crate) fn rows_in(&self, alloc: Global, span: Span) -> Result<Vec<Posting>, AllocError>
@@ -75,8 +67,7 @@ impl BlockList {
     }
 
     /// Makes room for one turn of any document, so that it takes no memory. Its cost is constant on
-    /// average over the turns; an `Err` leaves the list as it was. A tail for which room was made
-    /// by `reserve_postings` stands in blocks once that room is used, for one pass over it.
+    /// average over the turns; an `Err` leaves the list as it was.
     pub(crate) fn reserve_turn(&mut self) -> Result<(), AllocError>
         ensures room { OnOk result (1 ≤ self.new.room) }
         ensures same { self.new.list ≡ self.old.list }
@@ -86,25 +77,7 @@ impl BlockList {
         if self.later.is_empty() && (free || self.first.len() < BLOCK) {
             return reserve_one(&mut self.first);
         }
-        reserve_block(&mut self.later, &mut self.spare)?;
-        if self.first.len() > BLOCK {
-            return spread(&mut self.first, &mut self.later);
-        }
-        Ok(())
-    }
-
-    /// Makes room for that many postings, so that as many turns take no memory. The postings then
-    /// stand in one block: for a tail that is filled in order. One pass over a tail in blocks; an
-    /// `Err` leaves the list as it was.
-    pub(crate) fn reserve_postings(&mut self, count: usize) -> Result<(), AllocError>
-        ensures room { OnOk result (count ≤ self.new.room) }
-        ensures same { self.new.list ≡ self.old.list }
-        ensures kept { self.old.room ≤ self.new.room }
-    {
-        if !self.later.is_empty() {
-            flatten(&mut self.first, &mut self.later)?;
-        }
-        self.first.reserve(count)
+        reserve_block(&mut self.later, &mut self.spare)
     }
 
     /// At `at` the document passes from the frequency `old` of the word to `new`, where 0 is for a
@@ -132,14 +105,5 @@ impl BlockList {
                 new,
             );
         }
-    }
-
-    /// Cuts the tail to the times from `h` on. No memory. One pass over the tail.
-    pub(crate) fn trim(&mut self, h: Time)
-        ensures trimmed { IsTrimmed h.seconds self.old.list self.new.list }
-        ensures shorter { length self.new.list ≤ length self.old.list }
-        ensures room { self.old.room ≤ self.new.room }
-    {
-        trim_blocks(&mut self.first, &mut self.later, h);
     }
 }

@@ -1,14 +1,13 @@
 //! Blocks of postings: the search for a document's block, and room in it.
-ghost use Rattle.std.specs.Prelude.{◌≡◌, ◌≢◌, ◌⊎◌, ℕ, [], IfOk, OnOk, OnErr, ◌+◌, ◌-◌, ◌<◌, ◌≤◌, ◌++◌, true, length, take, drop, get_or, vec_len, vec_capacity, Vec};
+ghost use Rattle.std.specs.Prelude.{◌≡◌, ◌≢◌, ◌⊎◌, ℕ, OnOk, ◌+◌, ◌<◌, ◌≤◌, ◌++◌, true, length, take, drop, get_or, vec_len, vec_capacity, Vec};
 ghost use Rattle.std.specs.List.{insert};
 ghost use Rattle.std.specs.declared.alloc.Global.{Global as Heap};
 ghost use Rattle.lists_postings.specs.Lists.{IsList};
 ghost use Rattle.base_types.specs.declared.posting.Posting.{Posting as Row};
 ghost use Rattle.lists_tails.specs.Blocks.{joined, AreFilled, starts_up_to, IsBlockOf, IsDivided, IsAdded, spare_room};
 
-use crate::parts::collect_all;
 use base_types::{DocId, Posting};
-use std::alloc::{AllocError, Global};
+use std::alloc::AllocError;
 use std::mem::{replace, swap};
 
 /// How many postings a block has room for, where there is more than one block.
@@ -230,70 +229,4 @@ pub(crate) fn reserve_block(
     spare.clear();
     spare.reserve_exact(BLOCK)?;
     later.reserve(1)
-}
-
-/// Lets a long first block stand in several.
-pub(crate) fn spread(
-    first: &mut Vec<Posting>,
-    later: &mut Vec<Vec<Posting>>,
-) -> Result<(), AllocError>
-    requires long { 512 < vec_len first.old }
-    ensures same { first.new.items ++ joined later.new.items ≡ first.old.items ++ joined later.old.items }
-    ensures filled { AreFilled later.old.items → AreFilled later.new.items }
-    ensures place { OnOk result (vec_len later.new < vec_capacity later.new) }
-    ensures err { OnErr result ((first.new ≡ first.old) × (later.new ≡ later.old)) }
-{
-    let alloc = *first.allocator();
-    let (front, back) = first.split_at(BLOCK);
-    let head = Vec::from_slice(alloc, front)?;
-    let mut blocks = blocks_of(alloc, back)?;
-    blocks.reserve(later.len().saturating_add(1))?;
-    append_blocks(&mut blocks, later);
-    *first = head;
-    *later = blocks;
-    Ok(())
-}
-
-/// Moves the later blocks behind the others, for which there is room.
-fn append_blocks(blocks: &mut Vec<Vec<Posting>>, later: &mut Vec<Vec<Posting>>)
-    requires room { vec_len blocks.old + vec_len later.old ≤ vec_capacity blocks.old }
-    ensures items { blocks.new.items ≡ blocks.old.items ++ later.old.items }
-    ensures len { vec_len blocks.new ≡ vec_len blocks.old + vec_len later.old }
-    ensures capacity { vec_capacity blocks.old ≤ vec_capacity blocks.new }
-{
-    blocks.append(later).ok();
-}
-
-/// The list in blocks.
-fn blocks_of(alloc: Global, list: &[Posting]) -> Result<Vec<Vec<Posting>>, AllocError>
-    ensures { IfOk result (λ blocks. (joined blocks.items ≡ list.now) × AreFilled blocks.items) }
-{
-    let mut blocks = Vec::new(alloc);
-    let mut rest = list;
-    'blocks: while !rest.is_empty() {
-        let (front, back) = rest.split_at(rest.len().min(BLOCK));
-        let mut block = Vec::with_capacity(alloc, BLOCK)?;
-        block.extend_from_slice(front)?;
-        blocks.push(block)?;
-        rest = back;
-    }
-    Ok(blocks)
-}
-
-/// Lets all blocks stand in the first one.
-pub(crate) fn flatten(
-    first: &mut Vec<Posting>,
-    later: &mut Vec<Vec<Posting>>,
-) -> Result<(), AllocError>
-    ensures same { first.new.items ++ joined later.new.items ≡ first.old.items ++ joined later.old.items }
-    ensures ok { OnOk result (later.new.items ≡ []) }
-    ensures capacity { vec_capacity later.new ≡ vec_capacity later.old }
-    ensures len { vec_len later.new ≤ vec_len later.old }
-    ensures err { OnErr result ((first.new ≡ first.old) × (later.new ≡ later.old)) }
-{
-    let alloc = *first.allocator();
-    let list = collect_all(alloc, first, later.as_slice())?;
-    *first = list;
-    later.clear();
-    Ok(())
 }

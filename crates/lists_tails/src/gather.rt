@@ -21,7 +21,7 @@ impl Tails {
     pub fn gather(alloc: Global, turns: &mut Vec<Turn>) -> Result<Tails, AllocError>
         requires in_order { AreInOrder (acts_of turns.old.items) }
         requires ascending { All (λ x. AreWeights x.weights.items) turns.old.items }
-        ensures tails { IfOk result (λ tails. AreTails (frequency_after (acts_of turns.old.items)) (λ w. 0) (tail_of tails)) }
+        ensures tails { IfOk result (λ tails. AreTails (frequency_after (acts_of turns.old.items)) (tail_of tails)) }
         ensures short { IfOk result (λ tails. (w : ℕ) → length (tail_of tails w) ≤ length turns.old.items) }
         ensures permutation { IsPermutation turns.old.items turns.new.items }
         ensures sorted { OnOk result (IsNonDecreasingBy (λ x. x.doc.0) turns.new.items) }

@@ -1,9 +1,8 @@
-//! What holds of any turns and trims by their definitions, for whoever proves something over tails.
+//! What holds of any turns by their definitions, for whoever proves something over tails.
 //! The functions do nothing when they run.
 ghost use Rattle.lists_tails.specs.Laws.{TailsOfActs, FrequencyOfLastTurn, FrequencyOfNoTurn};
 
-/// After any turns and trims each tail is the list of the frequency that the turns define, from the
-/// greatest time to which its word was trimmed.
+/// After any turns each tail is the list of the frequency that they define.
 pub fn tails_of_acts()
     ensures { TailsOfActs }
 {}

@@ -1,10 +1,9 @@
-//! The tail of each word's list: the postings from the word's horizon on, kept in memory while
-//! documents change.
+//! The tail of each word: its list, kept in memory while documents change.
 //!
-//! A tail is the coalesced list of a frequency from a time on. Contracts quantify over that
-//! frequency: whatever it was before a turn, the tail is the list of the frequency turned after it.
-//! A turn changes one document in one word's tail by a search and one move within a block of the
-//! tail, and takes no memory.
+//! A tail is the coalesced list of a frequency. Contracts quantify over that frequency: whatever it
+//! was before a turn, the tail is the list of the frequency turned after it. A turn changes one
+//! document in one word's tail by a search and one move within a block of the tail, and takes no
+//! memory.
 #![tactic(auto)]
 
 mod block_list;
@@ -16,7 +15,6 @@ mod parts;
 mod passing;
 mod tail;
 mod tails;
-mod trim;
 mod turn;
 mod weight;
 

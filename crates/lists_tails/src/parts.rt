@@ -1,9 +1,9 @@
 //! The postings of a tail's blocks, as one list.
 ghost use Rattle.std.specs.Prelude.{◌≡◌, ◌++◌, ◌<◌, ◌^◌, length, IfOk, OnOk};
-ghost use Rattle.lists_postings.specs.Lists.{rows_at, sublist};
+ghost use Rattle.lists_postings.specs.Lists.{sublist};
 ghost use Rattle.lists_tails.specs.Blocks.{joined};
 
-use base_types::{Posting, Span, Time};
+use base_types::{Posting, Span};
 use std::alloc::{AllocError, Global};
 
 /// How many postings the blocks have, below 2^64.
@@ -33,23 +33,6 @@ pub(crate) fn collect_all(
     Ok(list)
 }
 
-/// The postings of all blocks that hold `t`.
-pub(crate) fn collect_at(
-    alloc: Global,
-    first: &Vec<Posting>,
-    later: &[Vec<Posting>],
-    t: Time,
-) -> Result<Vec<Posting>, AllocError>
-    ensures { IfOk result (λ rows. rows.items ≡ rows_at t.seconds (first.now.items ++ joined later.now)) }
-{
-    let mut rows = Vec::new(alloc);
-    push_at(&mut rows, first.as_slice(), t)?;
-    for block in later {
-        push_at(&mut rows, block.as_slice(), t)?;
-    }
-    Ok(rows)
-}
-
 /// The postings of all blocks that have a time in the span.
 pub(crate) fn collect_in(
     alloc: Global,
@@ -65,13 +48,6 @@ pub(crate) fn collect_in(
         push_in(&mut rows, block.as_slice(), span)?;
     }
     Ok(rows)
-}
-
-/// Appends the list's postings that hold `t`.
-fn push_at(rows: &mut Vec<Posting>, list: &[Posting], t: Time) -> Result<(), AllocError>
-    ensures { OnOk result (rows.new.items ≡ rows.old.items ++ rows_at t.seconds list.now) }
-{
-    rows.extend(list.iter().filter(|p| p.span.holds(t)).copied())
 }
 
 /// Appends the list's postings that have a time in the span.

@@ -1,15 +1,14 @@
 //! One word's tail.
 ghost use Rattle.std.specs.Prelude.{◌≡◌, ◌≢◌, ◌+◌, ◌<◌, ◌≤◌, ◌^◌, [], length, IfOk, OnOk};
-ghost use Rattle.lists_postings.specs.Lists.{rows_at, sublist};
-ghost use Rattle.lists_tails.specs.Turns.{IsTurned, IsTrimmed};
+ghost use Rattle.lists_postings.specs.Lists.{sublist};
+ghost use Rattle.lists_tails.specs.Turns.{IsTurned};
 
 use crate::block_list::BlockList;
 use base_types::{DocId, Posting, Span, Time};
 use std::alloc::{AllocError, Global};
 use std::marker::Model;
 
-/// One word's tail: its postings from the word's horizon on. Contracts see its list, and how many
-/// more postings fit in without memory.
+/// One word's tail: its list. Contracts see it, and how many more postings fit in without memory.
 ///
 /// The list stands in blocks, so that a turn moves postings within one block alone. A tail that was
 /// never asked to make room has none, and is 16 bytes in place of the 24 of an empty vector.
@@ -59,16 +58,6 @@ impl Tail {
         }
     }
 
-    /// The postings that hold `t`, in the list's order. One pass over the tail.
-    pub fn rows_at(&self, alloc: Global, t: Time) -> Result<Vec<Posting>, AllocError>
-        ensures { IfOk result (λ rows. rows.items ≡ rows_at t.seconds self.now.list) }
-    {
-        match &self.blocks {
-            Some(blocks) => blocks.rows_at(alloc, t),
-            None => Ok(Vec::new(alloc)),
-        }
-    }
-
     /// The postings that have a time in the span, uncut, in the list's order. One pass over the
     /// tail.
     pub fn rows_in(&self, alloc: Global, span: Span) -> Result<Vec<Posting>, AllocError>
@@ -81,8 +70,7 @@ impl Tail {
     }
 
     /// Makes room for one turn of any document, so that it takes no memory. Its cost is constant on
-    /// average over the turns; an `Err` leaves the list as it was. A tail for which room was made
-    /// by `reserve_postings` stands in blocks once that room is used, for one pass over it.
+    /// average over the turns; an `Err` leaves the list as it was.
     pub fn reserve_turn(&mut self) -> Result<(), AllocError>
         ensures room { OnOk result (1 ≤ self.new.room) }
         ensures same { self.new.list ≡ self.old.list }
@@ -93,23 +81,6 @@ impl Tail {
         }
         let mut blocks = BlockList::new(self.alloc);
         blocks.reserve_turn()?;
-        self.blocks = Some(Box::new(self.alloc, blocks)?);
-        Ok(())
-    }
-
-    /// Makes room for that many postings, so that as many turns take no memory. The postings then
-    /// stand in one block: for a tail that is filled in order. One pass over a tail in blocks; an
-    /// `Err` leaves the list as it was.
-    pub fn reserve_postings(&mut self, count: usize) -> Result<(), AllocError>
-        ensures room { OnOk result (count ≤ self.new.room) }
-        ensures same { self.new.list ≡ self.old.list }
-        ensures kept { self.old.room ≤ self.new.room }
-    {
-        if let Some(blocks) = &mut self.blocks {
-            return blocks.reserve_postings(count);
-        }
-        let mut blocks = BlockList::new(self.alloc);
-        blocks.reserve_postings(count)?;
         self.blocks = Some(Box::new(self.alloc, blocks)?);
         Ok(())
     }
@@ -130,17 +101,6 @@ impl Tail {
     {
         if let Some(blocks) = &mut self.blocks {
             blocks.turn(doc, at, old, new);
-        }
-    }
-
-    /// Cuts the tail to the times from `h` on. No memory. One pass over the tail.
-    pub fn trim(&mut self, h: Time)
-        ensures trimmed { IsTrimmed h.seconds self.old.list self.new.list }
-        ensures shorter { length self.new.list ≤ length self.old.list }
-        ensures room { self.old.room ≤ self.new.room }
-    {
-        if let Some(blocks) = &mut self.blocks {
-            blocks.trim(h);
         }
     }
 }

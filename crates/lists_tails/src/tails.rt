@@ -1,7 +1,7 @@
 //! The tails of all words.
 ghost use Rattle.std.specs.Prelude.{◌≡◌, ◌≢◌, ℕ, ◌+◌, ◌≤◌, ◌<◌, ◌^◌, [], length, IfOk, OnOk};
-ghost use Rattle.lists_postings.specs.Lists.{rows_at, sublist};
-ghost use Rattle.lists_tails.specs.Turns.{IsTurned, IsTrimmed};
+ghost use Rattle.lists_postings.specs.Lists.{sublist};
+ghost use Rattle.lists_tails.specs.Turns.{IsTurned};
 ghost use Rattle.lists_tails.specs.Tails.{held_of, tail_of, room_of, HaveRoom};
 ghost use Rattle.lists_tails.specs.Weights.{AreWeights, weight_of};
 
@@ -59,17 +59,6 @@ impl Tails {
         }
     }
 
-    /// The postings of the word's tail that hold `t`, in order. One pass over the tail; an `Err`
-    /// means that memory ran out.
-    pub fn rows_at(&self, alloc: Global, word: WordId, t: Time) -> Result<Vec<Posting>, AllocError>
-        ensures { IfOk result (λ rows. rows.items ≡ rows_at t.seconds (tail_of self.now word.number)) }
-    {
-        match self.tails.get(word.number as usize) {
-            Some(tail) => tail.rows_at(alloc, t),
-            None => Ok(Vec::new(alloc)),
-        }
-    }
-
     /// The postings of the word's tail that have a time in the span, uncut, in order. One pass over
     /// the tail; an `Err` means that memory ran out.
     pub fn rows_in(
@@ -100,19 +89,6 @@ impl Tails {
         Ok(())
     }
 
-    /// Makes room for that many postings of the word, so that as many turns take no memory: for
-    /// tails that are filled in order. One pass over a tail that stands in blocks, and a word's
-    /// place for each word up to it; otherwise constant on average. An `Err` leaves the tails as
-    /// they were.
-    pub fn reserve_postings(&mut self, word: WordId, count: usize) -> Result<(), AllocError>
-        ensures room_for { OnOk result (count ≤ room_of self.new word.number) }
-        ensures same { (w : ℕ) → tail_of self.new w ≡ tail_of self.old w }
-        ensures room { (w : ℕ) → room_of self.old w ≤ room_of self.new w }
-    {
-        self.reserve_place(word)?;
-        self.tails[word.number as usize].reserve_postings(count)
-    }
-
     /// At `at` the document passes from the weights `old` to `new`, both in ascending order of the
     /// words. A word with one frequency in both keeps its posting, and a posting that would be empty
     /// is dropped. No memory. For each weight the place is found by the logarithm of the tail's
@@ -136,19 +112,6 @@ impl Tails {
             self.turn_word(word, doc, at, before, after);
             lost = less;
             gained = fewer;
-        }
-    }
-
-    /// Cuts the word's tail to the times from `h` on. No memory. One pass over the word's tail.
-    pub fn trim(&mut self, word: WordId, h: Time)
-        ensures trimmed { IsTrimmed h.seconds (tail_of self.old word.number) (tail_of self.new word.number) }
-        ensures shorter { length (tail_of self.new word.number) ≤ length (tail_of self.old word.number) }
-        ensures others { (w : ℕ) → w ≢ word.number → held_of self.new w ≡ held_of self.old w }
-        ensures room { (w : ℕ) → room_of self.old w ≤ room_of self.new w }
-    {
-        let place = word.number as usize;
-        if place < self.tails.len() {
-            self.tails[place].trim(h);
         }
     }
 

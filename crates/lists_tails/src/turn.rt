@@ -64,7 +64,7 @@ fn put(list: &mut Vec<Posting>, place: usize, q: Posting)
 }
 
 /// Writes the posting at that place.
-pub(crate) fn write(list: &mut Vec<Posting>, place: usize, q: Posting)
+fn write(list: &mut Vec<Posting>, place: usize, q: Posting)
     requires { place < vec_len list.old }
     ensures items { list.new.items ≡ slice_set list.old.items place q }
     ensures len { vec_len list.new ≡ vec_len list.old }

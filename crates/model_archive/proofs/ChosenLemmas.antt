@@ -15,8 +15,7 @@ use Rattle.lists_postings.proofs.StretchWindows.{stretches-same}
 use Rattle.query_lang.specs.Grammar.{Query}
 use Rattle.query_lang.specs.Meaning.{matches, score, words_of}
 use Rattle.query_lang.proofs.Deciding.{agreeing, matches-same, score-same}
-use Rattle.query_eval.specs.Asked.{read_of}
-use Rattle.query_eval.specs.Found.{told}
+use Rattle.query_eval.specs.Found.{told, read_of}
 use Rattle.query_eval.specs.Spans.{row_kind, scored_at}
 use Rattle.query_eval.specs.declared.part.Part.{Part}
 use Rattle.query_eval.proofs.GivenLemmas.{only_words_matter}

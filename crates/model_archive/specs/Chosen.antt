@@ -16,8 +16,7 @@ use Rattle.query_lang.specs.Grammar.{Query, IsRead}
 use Rattle.query_lang.specs.Meaning.{words_of}
 use Rattle.query_lang.specs.Tokens.{term_of}
 use Rattle.query_eval.specs.Answers.{IsAnswer}
-use Rattle.query_eval.specs.Asked.{read_of}
-use Rattle.query_eval.specs.Found.{told}
+use Rattle.query_eval.specs.Found.{told, read_of}
 use Rattle.query_eval.specs.Spans.{IsSpanAnswer}
 use Rattle.query_eval.specs.declared.answer.Row.{Row}
 use Rattle.query_eval.specs.declared.part.Part.{Part}

@@ -1,5 +1,5 @@
 //! The cache: asking for a page, for all pages of an extent, and giving pages back.
-ghost use Rattle.std.specs.Prelude.{◌≡◌, ◌+◌, ◌*◌, ◌<◌, ◌≤◌, ◌==◌, ⊤, ℕ, [], length, take, drop, IsTrue, IsOk, IfOk, IfErr, OnOk, OnErr, Contains};
+ghost use Rattle.std.specs.Prelude.{◌≡◌, ◌+◌, ◌*◌, ◌<◌, ◌≤◌, ⊤, ℕ, [], length, take, drop, IsTrue, IsOk, IfOk, IfErr, OnOk, OnErr, Contains};
 ghost use Rattle.machine_model.specs.Areas.{replaced};
 ghost use Rattle.machine_model.specs.Calls.{OnlyReads};
 ghost use Rattle.machine_model.specs.Causes.{Rose};
@@ -140,12 +140,5 @@ impl PageCache {
         ensures distinct { AreDistinct self.now }
     {
         self.kept.len()
-    }
-
-    /// Whether no page is kept. Constant cost.
-    pub fn is_empty(&self) -> bool
-        ensures { result ≡ (length self.now == 0) }
-    {
-        self.kept.is_empty()
     }
 }

@@ -1,8 +1,7 @@
 //! The bytes of extents.
-ghost use Rattle.std.specs.Prelude.{◌≡◌, ◌∷◌, [], ◌+◌, ◌*◌, ◌≤◌, max, length, OnOk, OnErr};
-ghost use Rattle.machine_model.specs.Areas.{replaced};
+ghost use Rattle.std.specs.Prelude.{◌≡◌, ◌∷◌, [], ◌+◌, ◌*◌, ◌≤◌, max, length, OnOk};
 ghost use Rattle.machine_model.specs.Causes.{HasCause};
-ghost use Rattle.pages_area.specs.Ranges.{range_of, bytes_in};
+ghost use Rattle.pages_area.specs.Ranges.{range_of};
 ghost use Rattle.pages_area.specs.Wrote.{Wrote, reach_with};
 ghost use Rattle.pages_area.specs.Crash.{ChangesOnly};
 
@@ -52,28 +51,5 @@ impl Pages {
         }
         disk.write(Area::Pages, start(extent), bytes)?;
         Ok(())
-    }
-
-    /// Reads the bytes of an extent. With no bytes no device is called. Takes no memory.
-    pub fn read_extent<D: Disk>(
-        &self,
-        disk: &mut D,
-        extent: Extent,
-        buf: &mut [u8],
-    ) -> Result<(), Failed>
-        requires long { length buf.old ≡ extent.bytes }
-        requires inside { extent.first * 4096 + extent.bytes ≤ (D.disk disk.old).reach.pages }
-        ensures only { D.Disk.only disk.old disk.new }
-        ensures cause { HasCause (D.disk disk.old).faults (D.disk disk.new).faults result }
-        ensures bytes { D.disk_tells → OnOk result (buf.new ≡ bytes_in extent (D.disk disk.old).holds.pages) }
-        // Exactly these bytes were read.
-        ensures count { D.disk_tells → OnOk result ((D.disk disk.new).bytes_read ≡ replaced (D.disk disk.old).bytes_read Area.Pages ((D.disk disk.old).bytes_read.pages + extent.bytes)) }
-        ensures failed { D.disk_tells → OnErr result ((D.disk disk.new).bytes_read ≡ (D.disk disk.old).bytes_read) }
-        ensures same { D.disk disk.new ≡ record (D.disk disk.old) { faults = (D.disk disk.new).faults; bytes_read = (D.disk disk.new).bytes_read } }
-    {
-        if buf.is_empty() {
-            return Ok(());
-        }
-        disk.read(Area::Pages, start(extent), buf)
     }
 }

@@ -1,10 +1,9 @@
 -- What was fetched and then joined is what is gathered.
-use Rattle.std.proofs.Common.{◌≡◌, ℕ, ◌+◌, List, [], ◌∷◌, ◌++◌, length, false, Ok, Err, Result, OnOk, IfErr, inl, inr, refl, ap, sym, subst, ◌∙◌, arith, add-zero}
+use Rattle.std.proofs.Common.{◌≡◌, ℕ, ◌+◌, List, [], ◌∷◌, ◌++◌, length, Ok, Err, Result, OnOk, IfErr, inl, inr, refl, ap, sym, subst, ◌∙◌, arith, add-zero}
 use Rattle.std.proofs.lemmas.List.Sums.{sum_by-cons}
 use Rattle.base_types.specs.declared.posting.Posting.{Posting}
 use Rattle.journal_entries.specs.declared.place.Layout.{Layout}
 use Rattle.lists_postings.specs.Unions.{IsUnion}
-use Rattle.pages_sublists.specs.Fetching.{Explains}
 use Rattle.pages_sublists.specs.Gathering.{Chosen, Joins, Refuses, Gathers, ListOrDamage, bytes_of}
 use Rattle.pages_sublists.specs.Joining.{Paged, size_of_all, JoinInTurn, IsFound, AreFetched, RefusesAlone, StopsAt}
 use Rattle.pages_sublists.specs.declared.why.Why.{Why}
@@ -84,11 +83,6 @@ gathers_clash layout h pages (c ∷ all) (l ∷ lists) rest union n d fetched (i
 refuses : (layout : Layout) (h : ℕ) (pages : List ℕ) (c : Chosen) (union : List Posting) (why : Why) → RefusesAlone layout h (bytes_of c pages) c why → Refuses layout h pages c union why
 refuses layout h pages c union why (inl explained) = inl explained
 refuses layout h pages c union why (inr (list, (fetched, bare))) = inr (list, (fetched, inl bare))
-
--- where a list may be empty, the bytes themselves are refused
-pub explained : (layout : Layout) (h : ℕ) (bytes : List ℕ) (c : Chosen) (why : Why) → c.first ≡ false → RefusesAlone layout h bytes c why → Explains layout c.place.digest c.from c.to h bytes why
-explained layout h bytes c why late (inl is) = is
-explained layout h bytes c why late (inr (list, (fetched, (bare, told)))) = let first = bare.0 in absurd (cc)
 
 -- the segment behind the lists is refused
 pub gathers_stop : (layout : Layout) (h : ℕ) (pages : List ℕ) (all : List Chosen) (lists : List Paged) (rest : List Chosen) (joined : List Posting) (d : Damage)

@@ -8,6 +8,7 @@ ghost use Rattle.pages_sublists.specs.Preparing.{Serves, IsEarliest, IsLatest, I
 
 use base_types::{Posting, Time};
 use journal_entries::Layout;
+use lists_postings::overlap;
 use pages_checked::encoded;
 use std::alloc::{AllocError, Global};
 
@@ -73,7 +74,7 @@ pub fn narrowed(
     if met(list, reach) > list.len() / 2 {
         return Ok(None);
     }
-    Ok(Some(sublist(alloc, list, reach.from, reach.to)?))
+    Ok(Some(overlap(alloc, list, reach.from, reach.to)?))
 }
 
 /// The bytes of the sublist of the segment from `from` to `to`, in seconds. One pass over the list.
@@ -87,17 +88,6 @@ pub fn sublist_bytes(
     requires { IsList list.now }
     ensures { IfOk result (λ v. v.items ≡ spelling_in layout (sublist from to list.now)) }
 {
-    let part = sublist(alloc, list, from, to)?;
+    let part = overlap(alloc, list, from, to)?;
     encoded(alloc, layout, &part)
-}
-
-/// The postings that have a time in a segment.
-fn sublist(alloc: Global, list: &[Posting], from: u64, to: u64) -> Result<Vec<Posting>, AllocError>
-    ensures sublist { IfOk result (λ v. v.items ≡ sublist from to list.now) }
-    ensures ordered { IfOk result (λ v. IsList list.now → IsList v.items) }
-{
-    list.iter()
-        .filter(|p| p.span.from < to && from < p.span.to)
-        .copied()
-        .collect(alloc)
 }

@@ -1,8 +1,8 @@
 //! Sublists in pages.
-ghost use Rattle.std.specs.Prelude.{◌≡◌, [], ◌+◌, ◌*◌, ◌≤◌, ℕ, List, length, IfOk, OnOk, OnErr, IfErr};
+ghost use Rattle.std.specs.Prelude.{◌≡◌, [], ◌+◌, ◌*◌, ◌≤◌, ℕ, List, IfOk, OnOk, IfErr};
 ghost use Rattle.base_types.specs.declared.extent.Extent.{Extent as PlainExtent};
 ghost use Rattle.machine_model.specs.Areas.{replaced};
-ghost use Rattle.machine_model.specs.Causes.{HasCause, Rose};
+ghost use Rattle.machine_model.specs.Causes.{Rose};
 ghost use Rattle.pages_area.specs.Ranges.{bytes_in};
 ghost use Rattle.pages_area.specs.Runs.{IsPageOf, IsTaken};
 ghost use Rattle.pages_area.specs.Taken.{HasTaken};
@@ -10,15 +10,14 @@ ghost use Rattle.pages_area.specs.Live.{AreLive, IsRefused};
 ghost use Rattle.pages_area.specs.Caches.{after_asking_all, missed_by_all, StandsFor};
 ghost use Rattle.pages_area.specs.CacheLaws.{LieIn};
 ghost use Rattle.pages_sublists.specs.Caching.{pieces_at};
-ghost use Rattle.pages_sublists.specs.Fetching.{IsFetched, Explains, IfDamaged, IfFailed};
+ghost use Rattle.pages_sublists.specs.Fetching.{IfDamaged, IfFailed};
 ghost use Rattle.pages_sublists.specs.Framing.{IsFramed, IsUnframed};
 
-use crate::fetching::{Bounds, Segment, fetch_one};
 use crate::framing::frames_of;
 use crate::why::FetchError;
-use base_types::{Extent, Posting, Span, Time};
-use journal_entries::{Layout, Place};
-use machine_model::{Area, Disk, Failed};
+use base_types::Extent;
+use journal_entries::Place;
+use machine_model::{Area, Disk};
 use pages_area::{LiveError, PageCache, Pages};
 use pages_checked::Checker;
 use pages_codec::Frames;
@@ -62,81 +61,6 @@ impl Sublists {
             checker,
             cache,
         })
-    }
-
-    /// Reads the bytes of a place from the disk, whatever is kept. With no bytes no device is called.
-    /// Takes no memory.
-    pub fn read_place<D: Disk>(
-        &self,
-        disk: &mut D,
-        place: &Place,
-        buf: &mut [u8],
-    ) -> Result<(), Failed>
-        requires long { length buf.old ≡ place.now.extent.bytes }
-        requires inside { place.now.extent.first * 4096 + place.now.extent.bytes ≤ (D.disk disk.old).reach.pages }
-        ensures only { D.Disk.only disk.old disk.new }
-        ensures cause { HasCause (D.disk disk.old).faults (D.disk disk.new).faults result }
-        ensures bytes { D.disk_tells → OnOk result (buf.new ≡ bytes_in place.now.extent (D.disk disk.old).holds.pages) }
-        // Exactly these bytes were read.
-        ensures count { D.disk_tells → OnOk result ((D.disk disk.new).bytes_read ≡ replaced (D.disk disk.old).bytes_read Area.Pages ((D.disk disk.old).bytes_read.pages + place.now.extent.bytes)) }
-        ensures failed { D.disk_tells → OnErr result ((D.disk disk.new).bytes_read ≡ (D.disk disk.old).bytes_read) }
-        ensures same { D.disk disk.new ≡ record (D.disk disk.old) { faults = (D.disk disk.new).faults; bytes_read = (D.disk disk.new).bytes_read } }
-    {
-        self.pages.read_extent(disk, place.extent, buf)
-    }
-
-    /// Reads the bytes of a place, and gives the list that they spell in the layout, which is that of
-    /// a segment below a horizon. Pages that are kept are not read again. It costs a pass over the
-    /// bytes, and their digest where they weren't checked before.
-    pub fn fetch<D: Disk>(
-        &mut self,
-        alloc: Global,
-        disk: &mut D,
-        layout: Layout,
-        place: &Place,
-        span: Span,
-        horizon: Time,
-    ) -> Result<Vec<Posting>, FetchError>
-        requires inside { place.now.extent.first * 4096 + place.now.extent.bytes ≤ (D.disk disk.old).reach.pages }
-        ensures only { D.Disk.only disk.old disk.new }
-        ensures failed { IfErr result (IfFailed (Rose (D.disk disk.old).faults (D.disk disk.new).faults)) }
-        ensures same { D.disk disk.new ≡ record (D.disk disk.old) { faults = (D.disk disk.new).faults; bytes_read = (D.disk disk.new).bytes_read } }
-        ensures pages { self.new.pages ≡ self.old.pages }
-        // The pages of the place were asked for, in order.
-        ensures asked { D.disk_tells → StandsFor self.old.cache (D.disk disk.old).holds.pages
-            → OnOk result (self.new.cache ≡ after_asking_all (pieces_at (D.disk disk.old).holds.pages place.now.extent) self.old.cache) }
-        // Exactly what was missed of them was read.
-        ensures count { D.disk_tells → StandsFor self.old.cache (D.disk disk.old).holds.pages
-            → OnOk result ((D.disk disk.new).bytes_read ≡ replaced (D.disk disk.old).bytes_read Area.Pages ((D.disk disk.old).bytes_read.pages
-            + missed_by_all (pieces_at (D.disk disk.old).holds.pages place.now.extent) self.old.cache)) }
-        // The bytes that reads give have the digest and spell the list, of which each posting belongs there.
-        ensures found { D.disk_tells → StandsFor self.old.cache (D.disk disk.old).holds.pages → IfOk result (λ v. IsFetched layout place.now.digest span.from span.to horizon.seconds (bytes_in place.now.extent (D.disk disk.old).holds.pages) v.items) }
-        // Of the causes the first is named, with the first page of the place.
-        ensures damaged { D.disk_tells → StandsFor self.old.cache (D.disk disk.old).holds.pages
-            → IfErr result (IfDamaged (λ d. (d.page ≡ place.now.extent.first) × Explains layout place.now.digest span.from span.to horizon.seconds (bytes_in place.now.extent (D.disk disk.old).holds.pages) d.why)) }
-        ensures stays { D.disk_tells → StandsFor self.old.cache (D.disk disk.old).holds.pages → StandsFor self.new.cache (D.disk disk.new).holds.pages }
-        // Whatever is answered, what is kept lies in the extents that are taken, where the place does.
-        ensures lie { (taken : List PlainExtent) → ((p : ℕ) → IsPageOf place.now.extent p → IsTaken taken p) → LieIn taken self.old.cache → LieIn taken self.new.cache }
-    {
-        let bounds = Bounds {
-            from: span.from,
-            to: span.to,
-            horizon: horizon.seconds,
-        };
-        // A list without a posting is fetched like any other.
-        let segment = Segment {
-            bounds,
-            first: false,
-        };
-        fetch_one(
-            &mut self.cache,
-            &mut self.checker,
-            alloc,
-            disk,
-            layout,
-            place,
-            segment,
-        )
     }
 
     /// Reads the bytes of a place that is spelled in blocks, and gives the headers of these. Pages that are

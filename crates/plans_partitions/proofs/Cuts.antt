@@ -1,5 +1,5 @@
 -- Cuts by their places.
-use Rattle.std.proofs.Common.{arith, sym, subst, nat_eq, ◌≡◌, ◌↔◌, ℕ, ◌+◌, ◌-◌, ◌<◌, ◌≤◌, nat_le, Bool, IsTrue, true, false, List, drop, length, slice_index, All, Contains, leb-true, leb-false}
+use Rattle.std.proofs.Common.{arith, sym, subst, nat_eq, ◌≡◌, ◌↔◌, ℕ, ◌+◌, ◌-◌, ◌<◌, ◌≤◌, Bool, IsTrue, List, drop, length, slice_index, All, Contains}
 use Rattle.std.specs.List.Sorted.{IsStrictlyIncreasing}
 use Rattle.std.proofs.lemmas.List.{at_drop_more, at_drop_all}
 use Rattle.std.proofs.lemmas.Bool.Decides.{nat_tests}
@@ -13,12 +13,6 @@ use Rattle.plans_partitions.proofs.Places.{place_of, rises}
 use Rattle.plans_partitions.proofs.Tables.{admissible_from_counts, counts_from_admissible}
 
 -- what a test of two numbers tells
-pub le_from : (a b : ℕ) → nat_le a b ≡ true → a ≤ b
-le_from = leb-true
-
-pub lt_from_not : (a b : ℕ) → nat_le a b ≡ false → b < a
-lt_from_not = leb-false
-
 pub eq_from : (a b : ℕ) → IsTrue (nat_eq a b) → a ≡ b
 eq_from a b h = grind (arith, nat_tests)
 

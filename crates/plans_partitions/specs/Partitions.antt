@@ -58,12 +58,6 @@ pub record IsPartition (cuts : List ℕ) : Type 0 where
   pub many : 2 ≤ length cuts
   pub ascending : IsStrictlyIncreasing cuts
 
--- The time lies in segment k.
-pub record IsInSegment (cuts : List ℕ) (t k : ℕ) : Type 0 where
-  pub inside : k + 1 < length cuts
-  pub from : slice_index cuts k ≤ t
-  pub to : t < slice_index cuts (k + 1)
-
 -- The cuts are among the times, from their first to their last.
 pub record IsFitting (times cuts : List ℕ) : Type 0 where
   pub first : slice_index cuts 0 ≡ slice_index times 0

@@ -1,14 +1,14 @@
 //! Partitions of a time line into segments.
-ghost use Rattle.std.specs.Prelude.{◌≡◌, ◌⊎◌, ℕ, ◌+◌, ◌-◌, ◌*◌, ◌<◌, ◌≤◌, ◌^◌, ◌↔◌, List, drop, length, slice_index, All, Contains, IsTrue, IsSome, IfSome, IsNone, IfOk};
+ghost use Rattle.std.specs.Prelude.{◌≡◌, ℕ, ◌+◌, ◌-◌, ◌*◌, ◌<◌, ◌≤◌, ◌^◌, ◌↔◌, List, drop, length, slice_index, All, Contains, IsTrue, IsSome, IfSome, IfOk};
 ghost use Rattle.std.specs.List.Sorted.{IsStrictlyIncreasing};
 ghost use Rattle.base_types.specs.declared.posting.Posting.{Posting};
 ghost use Rattle.plans_partitions.specs.Counts.{Tabulates, AdmissibleBetween};
 ghost use Rattle.lists_postings.specs.Sizes.{size};
-ghost use Rattle.plans_partitions.specs.Partitions.{IsPartition, IsInSegment, IsFitting, Covers, space, sizes};
+ghost use Rattle.plans_partitions.specs.Partitions.{IsPartition, IsFitting, Covers, space, sizes};
 
-use crate::sorting::{first_after, first_from, is_at};
+use crate::sorting::{first_from, is_at};
 use crate::table::Table;
-use base_types::{Fraction, Time};
+use base_types::Fraction;
 use std::alloc::{AllocError, Global};
 use std::marker::Model;
 
@@ -60,15 +60,6 @@ impl Partition {
         ensures some { 1 ≤ result }
     {
         self.cuts.len() - 1
-    }
-
-    /// The number of the segment that holds the time, the first being 0; None before the first cut and
-    /// from the last on. Costs the logarithm of the cuts.
-    pub fn segment_of(&self, t: Time) -> Option<usize>
-        ensures some { IfSome result (IsInSegment self.now t.seconds) }
-        ensures none { IsNone result ↔ ((t.seconds < slice_index self.now 0) ⊎ (slice_index self.now (length self.now - 1) ≤ t.seconds)) }
-    {
-        segment_in(&self.cuts, t.seconds())
     }
 
     /// Whether the cuts are boundaries of the table, from its first to its last. Costs time in the
@@ -130,23 +121,6 @@ fn ascends(numbers: &[u64]) -> bool
         }
     }
     true
-}
-
-/// The place of the last cut that isn't after `t`, where another cut follows it.
-fn segment_in(cuts: &[u64], t: u64) -> Option<usize>
-    requires ascending { IsStrictlyIncreasing cuts.now }
-    requires many { 2 ≤ length cuts.now }
-    ensures some { IfSome result (IsInSegment cuts.now t) }
-    ensures none { IsNone result ↔ ((t < slice_index cuts.now 0) ⊎ (slice_index cuts.now (length cuts.now - 1) ≤ t)) }
-{
-    let next = first_after(cuts, t);
-    if next == 0 {
-        return None;
-    }
-    if next == cuts.len() {
-        return None;
-    }
-    Some(next - 1)
 }
 
 /// Whether all cuts are among the times, of which the first is the first cut. Costs time in both.

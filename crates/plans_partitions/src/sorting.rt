@@ -65,16 +65,6 @@ pub(crate) fn first_from(numbers: &[u64], at: usize, t: u64) -> usize
     place
 }
 
-/// The place of the first of the ascending numbers that is above `t`.
-pub(crate) fn first_after(numbers: &[u64], t: u64) -> usize
-    requires { IsStrictlyIncreasing numbers.now }
-    ensures inside { result ≤ length numbers.now }
-    ensures below { (k : ℕ) → k < result → slice_index numbers.now k ≤ t }
-    ensures above { (k : ℕ) → result ≤ k → k < length numbers.now → t < slice_index numbers.now k }
-{
-    numbers.partition_point(|x| *x <= t)
-}
-
 /// Whether `t` stands at a place of the numbers.
 pub(crate) fn is_at(numbers: &[u64], place: usize, t: u64) -> bool
     ensures { IsTrue result ↔ ((place < length numbers.now) × (slice_index numbers.now place ≡ t)) }

@@ -1,4 +1,3 @@
-mod CallLemmas
 pub mod FoundLemmas
 pub mod GivenLemmas
 mod HitLemmas

@@ -1,5 +1,5 @@
 -- What the parts of lists that were had say of documents, and the rows that come of it.
-use Rattle.std.specs.Prelude.{◌≡◌, ℕ, ◌<◌, ◌&&◌, ◌==◌, Bool, if◌then◌else◌, List, [], ◌∷◌, length, get_or, Option, Some, None}
+use Rattle.std.specs.Prelude.{◌≡◌, ℕ, ◌<◌, ◌&&◌, ◌==◌, Bool, if◌then◌else◌, List, [], ◌∷◌, length, get_or, Option, Some, None, sum_by}
 use Rattle.std.specs.List.Sorted.{IsSortedBy}
 use Rattle.std.specs.Ordering.{is_lt, nat_cmp, ordering_then}
 use Rattle.std.specs.Str.{bytes_eq}
@@ -21,6 +21,10 @@ pub record HasHit (words : List (List ℕ)) (parts : List Part) (t : ℕ) (doc :
   pub place : ℕ
   pub within : place < length words
   pub some : 0 < told words parts t doc.0 (get_or words place [])
+
+-- how many postings were read for some parts
+abbrev pub read_of : List Part → ℕ
+read_of parts = sum_by (λ p. p.read) parts
 
 -- what is answered of a document is what this test says
 abbrev pub AnswersAs : (DocId → Bool → Type 0) → (DocId → Bool) → Type 0

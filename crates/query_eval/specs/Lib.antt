@@ -1,5 +1,4 @@
 pub mod Answers
-pub mod Asked
 pub mod Facts
 pub mod Found
 pub mod Hits
@@ -7,4 +6,3 @@ pub mod Laws
 pub mod Met
 pub mod SpanLaws
 pub mod Spans
-pub mod Windows

@@ -1,20 +1,17 @@
 //! Answers to queries over any lists.
-ghost use Rattle.std.specs.Prelude.{option_to_list, ◌++◌, OnOk, ◌≡◌, ◌<◌, ◌≤◌, ◌+◌, ◌∷◌, if◌then◌else◌, true, drop, filter, ℕ, Bool, List, [], Ok, length, map, Contains, IfOk, IsErrOf};
+ghost use Rattle.std.specs.Prelude.{option_to_list, ◌++◌, OnOk, ◌≡◌, ◌<◌, ◌≤◌, ◌+◌, ◌∷◌, if◌then◌else◌, true, drop, filter, ℕ, Bool, List, [], Ok, length, map, Contains, IfOk};
 ghost use Rattle.std.specs.List.{filter_map, slice_index_or};
 ghost use Rattle.std.specs.List.Sorted.{IsNonDecreasingBy, IsPermutation};
 ghost use Rattle.query_lang.specs.Meaning.{words_of};
 ghost use Rattle.query_eval.specs.Answers.{IsAnswer};
-ghost use Rattle.query_eval.specs.Asked.{Asks, AsksFront, AsksToFault, read_of};
-ghost use Rattle.query_eval.specs.Found.{told, HasHit, AnswersAs, row_of, once, AreSorted};
+ghost use Rattle.query_eval.specs.Found.{told, HasHit, read_of, AnswersAs, row_of, once, AreSorted};
 ghost use Rattle.query_eval.specs.Hits.{found, Tell, AreMade};
 ghost use Rattle.query_eval.specs.declared.answer.Row.{Row as RowValue};
-ghost use Rattle.query_eval.specs.declared.part.Part.{Part as PartValue};
 ghost use Rattle.base_types.specs.declared.ids.DocId.{DocId as DocValue};
 
 use crate::answer::{Answer, Row};
-use crate::asking::{When, parts_when};
 use crate::hit::{Hit, count_words, end_of, group_of, hits_at};
-use crate::part::{EvalError, Lists, Part};
+use crate::part::Part;
 use base_types::{DocId, Time};
 use query_lang::{Pile, Query};
 use std::alloc::{AllocError, Global};
@@ -312,44 +309,4 @@ pub fn answer_by_living_hits<F: Fn(DocId) -> bool>(
     let hits = all.as_slice();
     let answer = answer_over(alloc, query, parts, hits, is_alive)?;
     Ok(answer)
-}
-
-/// The parts of the lists of a query's distinct words at a time, one call of `at` for each in order.
-pub fn parts_at<L: Lists>(
-    alloc: Global,
-    query: &Query,
-    t: Time,
-    lists: &mut L,
-) -> Result<Vec<Part>, EvalError<L::Fault>>
-    ensures asked { IfOk result (λ parts. Asks (λ x w r y. L.asked_at x w t.seconds r y) lists.old (words_of query.now) parts.items lists.new) }
-    ensures many { IfOk result (λ parts. length parts.items ≡ length (words_of query.now)) }
-    ensures fault { (e : _) → IsErrOf result (EvalError.Lists e) → AsksToFault (λ x w r y. L.asked_at x w t.seconds r y) lists.old (words_of query.now) e lists.new }
-    ensures memory { IsErrOf result EvalError.Memory → AsksFront (λ x w r y. L.asked_at x w t.seconds r y) lists.old (words_of query.now) lists.new }
-{
-    parts_when(alloc, lists, query.words(), When::At(t))
-}
-
-/// What the query finds at a time among these documents in the lists, which are asked for one part
-/// for each distinct word, in order. Costs what `answer_from` does.
-pub fn answer_at<L: Lists>(
-    alloc: Global,
-    query: &Query,
-    t: Time,
-    lists: &mut L,
-    alive: &[DocId],
-) -> Result<Answer, EvalError<L::Fault>>
-    ensures rows { IfOk result (λ a. (parts : List PartValue) × Asks (λ x w r y. L.asked_at x w t.seconds r y) lists.old (words_of query.now) parts lists.new
-        × IsAnswer (λ doc. Contains alive.now doc) (λ doc. told (words_of query.now) parts t.seconds doc.0) query.now a.rows.items
-        × (a.read ≡ read_of parts)) }
-    ensures fault { (e : _) → IsErrOf result (EvalError.Lists e) → AsksToFault (λ x w r y. L.asked_at x w t.seconds r y) lists.old (words_of query.now) e lists.new }
-    ensures memory { IsErrOf result EvalError.Memory → AsksFront (λ x w r y. L.asked_at x w t.seconds r y) lists.old (words_of query.now) lists.new }
-{
-    let parts = match parts_at(alloc, query, t, lists) {
-        Ok(parts) => parts,
-        Err(e) => return Err(e),
-    };
-    match answer_from(alloc, query, t, &parts, alive) {
-        Ok(answer) => Ok(answer),
-        Err(_) => Err(EvalError::Memory),
-    }
 }

@@ -1,5 +1,5 @@
 //! Answers to queries over a window of time.
-ghost use Rattle.std.specs.Prelude.{◌≡◌, ◌⊎◌, ◌+◌, ◌<◌, ◌≤◌, ℕ, Bool, true, false, List, Ok, Some, None, Option, length, drop, slice_index_or, IfOk, OnOk, IsErrOf, MatchOption};
+ghost use Rattle.std.specs.Prelude.{◌≡◌, ◌⊎◌, ◌+◌, ◌<◌, ◌≤◌, ℕ, Bool, true, false, List, Ok, Some, None, Option, length, drop, slice_index_or, IfOk, OnOk, MatchOption};
 ghost use Rattle.std.specs.List.Sorted.{IsNonDecreasingBy};
 ghost use Rattle.lists_postings.specs.Events.{end_of};
 ghost use Rattle.lists_postings.specs.Kinds.{is_alive};
@@ -7,17 +7,14 @@ ghost use Rattle.lists_postings.specs.Stretches.{AreStretches};
 ghost use Rattle.lists_postings.specs.declared.event.Event.{Event as EventValue};
 ghost use Rattle.query_lang.specs.Meaning.{matches, words_of};
 ghost use Rattle.base_types.specs.declared.ids.DocId.{DocId as DocValue};
-ghost use Rattle.query_eval.specs.Asked.{Asks, AsksFront, AsksToFault, read_of};
 ghost use Rattle.query_eval.specs.Facts.{alive_now, hits_now, score_if, IsScored, TellWords};
-ghost use Rattle.query_eval.specs.Found.{told, HasHit};
+ghost use Rattle.query_eval.specs.Found.{told, HasHit, read_of};
 ghost use Rattle.query_eval.specs.Spans.{row_kind, IsSpanAnswer};
-ghost use Rattle.query_eval.specs.declared.part.Part.{Part as PartValue};
 
-use crate::asking::{When, parts_when};
 use crate::facts::{Fact, events_of, facts_by_doc, group_of};
 use crate::found::{read_of, row_by};
 use crate::hit::Hit;
-use crate::part::{EvalError, Lists, Part};
+use crate::part::Part;
 use base_types::{DocId, Span, Time};
 use lists_postings::{Event, Life, Stretch, end_of, note};
 use query_lang::{Pile, Query};
@@ -235,46 +232,4 @@ pub fn answer_over_hits(
         rows,
         read: read_of(parts),
     })
-}
-
-/// The parts of the lists of a query's distinct words in a window, one call of `between` for each in
-/// order.
-pub fn parts_between<L: Lists>(
-    alloc: Global,
-    query: &Query,
-    span: Span,
-    lists: &mut L,
-) -> Result<Vec<Part>, EvalError<L::Fault>>
-    ensures asked { IfOk result (λ parts. Asks (λ x w r y. L.asked_between x w span.from span.to r y) lists.old (words_of query.now) parts.items lists.new) }
-    ensures many { IfOk result (λ parts. length parts.items ≡ length (words_of query.now)) }
-    ensures fault { (e : _) → IsErrOf result (EvalError.Lists e) → AsksToFault (λ x w r y. L.asked_between x w span.from span.to r y) lists.old (words_of query.now) e lists.new }
-    ensures memory { IsErrOf result EvalError.Memory → AsksFront (λ x w r y. L.asked_between x w span.from span.to r y) lists.old (words_of query.now) lists.new }
-{
-    parts_when(alloc, lists, query.words(), When::Within(span))
-}
-
-/// What the query finds in a window of time in the lists, which are asked for one part for each
-/// distinct word, in order; `lives` are the lives of documents, in any order. Costs what
-/// `answer_over` does.
-pub fn answer_between<L: Lists>(
-    alloc: Global,
-    query: &Query,
-    span: Span,
-    lists: &mut L,
-    lives: &[Life],
-) -> Result<SpanAnswer, EvalError<L::Fault>>
-    ensures rows { IfOk result (λ a. (parts : List PartValue) × Asks (λ x w r y. L.asked_between x w span.from span.to r y) lists.old (words_of query.now) parts lists.new
-        × IsSpanAnswer (λ doc t. is_alive lives.now doc.0 t) (λ doc t. told (words_of query.now) parts t doc.0) query.now span.from span.to a.rows.items
-        × (a.read ≡ read_of parts)) }
-    ensures fault { (e : _) → IsErrOf result (EvalError.Lists e) → AsksToFault (λ x w r y. L.asked_between x w span.from span.to r y) lists.old (words_of query.now) e lists.new }
-    ensures memory { IsErrOf result EvalError.Memory → AsksFront (λ x w r y. L.asked_between x w span.from span.to r y) lists.old (words_of query.now) lists.new }
-{
-    let parts = match parts_between(alloc, query, span, lists) {
-        Ok(parts) => parts,
-        Err(e) => return Err(e),
-    };
-    match answer_over(alloc, query, span, &parts, lives) {
-        Ok(answer) => Ok(answer),
-        Err(_) => Err(EvalError::Memory),
-    }
 }

@@ -1,5 +1,4 @@
 //! The tests, by what they try.
-mod changes;
 mod given;
 mod index;
 mod joins;

@@ -12,15 +12,12 @@
 
 mod counts;
 mod cuts;
-mod frequency;
 mod guesses;
 mod laws;
 mod runs;
 mod vocabulary;
 mod weigh;
 
-pub use counts::terms;
-pub use frequency::occurrences;
 pub use laws::{
     a_word_occurs_at_most_once_a_byte, counts_are_frequencies, distinct_keys_stand_in_order,
     fresh_words_get_the_next_numbers, keys_match_without_case, runs_are_maximal_stretches,

@@ -38,6 +38,6 @@ fn a_text_has_bytes_of_any_value(rt: HostRuntime) -> Result<(), Fail> {
     else {
         return Err("an arrival is an arrival")?;
     };
-    assert_eq!(rt; content.into_vec().as_slice(), [0xC3, 0x28].as_slice());
+    assert_eq!(rt; content.as_slice(), [0xC3, 0x28].as_slice());
     Ok(())
 }

@@ -4,8 +4,6 @@ ghost use Rattle.lists_versions.specs.declared.change.Change.{Change};
 ghost use Rattle.lists_index.specs.Indexing.{ComesLater};
 ghost use Rattle.lists_index.specs.Loads.{Loads};
 
-mod trims;
-
 use crate::tests::given::posting;
 use base_types::{DocId, Key, NOW, Posting, Span, Time};
 use lists_index::{Index, Loader};
@@ -74,7 +72,7 @@ fn committed(
 ) -> Result<Index, AllocError>
     requires { length rows.now < 1000 }
 {
-    let mut index = Index::new(alloc)?;
+    let mut index = Loader::new(alloc)?.finish(alloc)?;
     for i in 0..rows.len() {
         let (doc, text) = rows[i];
         commit(rt, alloc, &mut index, DocId(doc), time_at(i), text);
@@ -294,7 +292,7 @@ fn there_may_be_2_to_the_20_words_and_no_more(rt: HostRuntime) {
     let more = distinct_words(alloc, (1 << 20) + 1).expect(&rt, "memory");
     let most = str::from_utf8(&most).expect(&rt, "a text");
     let more = str::from_utf8(&more).expect(&rt, "a text");
-    let mut index = Index::new(alloc).expect(&rt, "memory");
+    let mut index = committed(&rt, alloc, &[]).expect(&rt, "memory");
     assert_eq!(rt;
         refusal(&rt, alloc, &mut index, more),
         Some(NumberError::Full)

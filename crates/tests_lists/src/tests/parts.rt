@@ -25,7 +25,9 @@ fn a_span_holds_its_start_and_not_its_end(rt: HostRuntime) {
         [second, open].as_slice()
     );
     assert_eq!(rt;
-        overlap(alloc, &list, span).expect(&rt, "memory").as_slice(),
+        overlap(alloc, &list, 12, 20)
+            .expect(&rt, "memory")
+            .as_slice(),
         [first, open].as_slice()
     );
     let cut = posting(1, 12, 20).expect(&rt, "the posting [12, 20)");

@@ -1,4 +1,4 @@
-//! Lists that are kept up while documents change, and trimmed.
+//! Lists that are kept up while documents change.
 ghost use Rattle.std.specs.Prelude.{IfOk};
 ghost use Rattle.lists_tails.specs.Weights.{AreWeights};
 
@@ -30,14 +30,8 @@ fn weights(alloc: Global, word: WordId, tf: u32) -> Result<Vec<Weight>, AllocErr
     Ok(vec![in alloc; Weight { word, tf }]?)
 }
 
-/// The tails after document 7 has the word so often from those times on, and a trim.
-fn passed(
-    rt: &impl Abort,
-    alloc: Global,
-    word: WordId,
-    turns: &[(u64, u32)],
-    horizon: u64,
-) -> Tails {
+/// The tails after document 7 has the word so often from those times on.
+fn passed(rt: &impl Abort, alloc: Global, word: WordId, turns: &[(u64, u32)]) -> Tails {
     let mut tails = Tails::new(alloc);
     let mut old = Vec::new(alloc);
     for (at, tf) in turns {
@@ -47,7 +41,6 @@ fn passed(
         tails.turn(DocId(7), at, &old, &new);
         old = new;
     }
-    tails.trim(word, Time::new(horizon).expect(rt, "a horizon"));
     tails
 }
 
@@ -62,32 +55,21 @@ fn listed(rt: &impl Abort, alloc: Global, parts: &[(u64, u64, u32)]) -> Vec<Post
 }
 
 #[test]
-fn one_document_turns_and_its_tail_is_trimmed(rt: HostRuntime) {
+fn one_document_turns(rt: HostRuntime) {
     let alloc = rt.alloc();
     let word = WordId::new(3).expect(&rt, "a word");
-    for (turns, horizon, wanted) in [
+    for (turns, wanted) in [
         // three versions of one frequency
-        (&[(10, 1), (20, 1), (30, 1)][..], 0, &[(10, NOW, 1)][..]),
+        (&[(10, 1), (20, 1), (30, 1)][..], &[(10, NOW, 1)][..]),
         // a gap
-        (
-            &[(10, 1), (20, 0), (30, 1)],
-            0,
-            &[(10, 20, 1), (30, NOW, 1)],
-        ),
+        (&[(10, 1), (20, 0), (30, 1)], &[(10, 20, 1), (30, NOW, 1)]),
         // another frequency between
         (
             &[(10, 1), (20, 2), (30, 1)],
-            0,
             &[(10, 20, 1), (20, 30, 2), (30, NOW, 1)],
         ),
-        // trims before, at and after a boundary
-        (&[(10, 1), (20, 2)], 19, &[(19, 20, 1), (20, NOW, 2)]),
-        (&[(10, 1), (20, 2)], 20, &[(20, NOW, 2)]),
-        (&[(10, 1), (20, 2)], 21, &[(21, NOW, 2)]),
-        // nothing is left
-        (&[(10, 1), (20, 0)], 20, &[]),
     ] {
-        let tails = passed(&rt, alloc, word, turns, horizon);
+        let tails = passed(&rt, alloc, word, turns);
         let list = listed(&rt, alloc, wanted);
         assert_eq!(rt;
             tails.to_list(alloc, word).expect(&rt, "memory").as_slice(),
@@ -100,12 +82,12 @@ fn one_document_turns_and_its_tail_is_trimmed(rt: HostRuntime) {
 fn a_posting_that_would_be_empty_is_dropped(rt: HostRuntime) {
     let alloc = rt.alloc();
     let word = WordId::new(0).expect(&rt, "a word");
-    let horizon = Time::new(40).expect(&rt, "40");
-    let mut tails = passed(&rt, alloc, word, &[(10, 1)], 40);
+    let first = Time::new(0).expect(&rt, "0");
+    let mut tails = passed(&rt, alloc, word, &[(0, 1)]);
     let once = weights(alloc, word, 1).expect(&rt, "memory");
     let none = Vec::new(alloc);
     tails.reserve_turn(&none).expect(&rt, "memory");
-    tails.turn(DocId(7), horizon, &once, &none);
+    tails.turn(DocId(7), first, &once, &none);
     assert_eq!(rt; tails.len(word), 0);
 }
 
@@ -194,15 +176,6 @@ fn a_long_tail_stands_in_blocks(rt: HostRuntime) {
     let word = WordId::new(2).expect(&rt, "a word");
     let tails = many(&rt, alloc, word, 3000);
     assert_eq!(rt; tails.len(word), 3000);
-    let before = Time::new(9).expect(&rt, "9");
-    let after = Time::new(10).expect(&rt, "10");
-    assert_eq!(rt;
-        tails
-            .rows_at(alloc, word, before)
-            .expect(&rt, "memory")
-            .len(),
-        0
-    );
     let ahead = Span::new(5, 10).expect(&rt, "before the first");
     assert_eq!(rt;
         tails
@@ -212,14 +185,7 @@ fn a_long_tail_stands_in_blocks(rt: HostRuntime) {
         0
     );
     let around = Span::new(5, 11).expect(&rt, "over the first");
-    assert_eq!(rt;
-        tails
-            .rows_in(alloc, word, around)
-            .expect(&rt, "memory")
-            .len(),
-        3000
-    );
-    let rows = tails.rows_at(alloc, word, after).expect(&rt, "memory");
+    let rows = tails.rows_in(alloc, word, around).expect(&rt, "memory");
     assert_eq!(rt; rows.len(), 3000);
     for (i, row) in rows.iter().enumerate() {
         assert_eq!(rt; row.doc.0 as usize, i);
@@ -227,14 +193,13 @@ fn a_long_tail_stands_in_blocks(rt: HostRuntime) {
 }
 
 #[test]
-fn a_tail_with_room_for_many_comes_to_stand_in_blocks(rt: HostRuntime) {
+fn a_tail_that_is_filled_in_order_stands_in_blocks(rt: HostRuntime) {
     let alloc = rt.alloc();
     let word = WordId::new(2).expect(&rt, "a word");
     let none = Vec::new(alloc);
     let once = weights(alloc, word, 1).expect(&rt, "memory");
     let at = Time::new(10).expect(&rt, "10");
     let mut tails = Tails::new(alloc);
-    tails.reserve_postings(word, 1500).expect(&rt, "memory");
     for doc in 0..1500 {
         tails.reserve_turn(&once).expect(&rt, "memory");
         tails.turn(DocId(doc), at, &none, &once);
@@ -242,15 +207,14 @@ fn a_tail_with_room_for_many_comes_to_stand_in_blocks(rt: HostRuntime) {
     let later = Time::new(20).expect(&rt, "20");
     tails.turn(DocId(700), later, &once, &none);
     assert_eq!(rt; tails.len(word), 1500);
+    let from_then = Span::new(20, NOW).expect(&rt, "from 20 on");
     assert_eq!(rt;
         tails
-            .rows_at(alloc, word, later)
+            .rows_in(alloc, word, from_then)
             .expect(&rt, "memory")
             .len(),
         1499
     );
-    tails.trim(word, later);
-    assert_eq!(rt; tails.len(word), 1499);
 }
 
 #[test]

@@ -1,11 +1,9 @@
 //! The answer to a query over a window.
-ghost use Rattle.std.specs.Prelude.{◌≡◌, []};
-
 use super::given::{listed, read};
-use base_types::{DocId, Key, NOW, Posting, Span, Time};
+use base_types::{DocId, NOW, Posting, Span};
 use lists_postings::Life;
-use query_eval::{Lists, Part, SpanRow, answer_between, answer_over, answer_over_hits, docs_met};
-use std::alloc::{AllocError, Global};
+use query_eval::{Part, SpanRow, answer_over, answer_over_hits, docs_met};
+use std::alloc::Global;
 use std::process::Abort;
 
 fn life(rt: &impl Abort, doc: u32, from: u64, to: u64) -> Life {
@@ -141,61 +139,19 @@ fn rows_are_the_longest_spans_of_one_score(rt: HostRuntime) {
     }
 }
 
-/// That document 1 has a word twice over these times.
-fn twice(span: Span) -> Posting
-    ensures { result.span ≡ span }
-{
-    Posting {
-        doc: DocId(1),
-        span,
-        tf: 2,
-    }
-}
-
-/// Lists in which document 1 has each word twice at each time that is asked for.
-#[derive(Drop)]
-struct Everywhere {
-    alloc: Global,
-}
-
-impl Lists for Everywhere {
-    type Fault = AllocError;
-
-    ghost lists_tell = { ⊥ };
-
-    ghost whole = { λ s word. [] };
-
-    ghost asked_at = { λ x word t answer y. Unit {0} };
-
-    ghost asked_between = { λ x word from to answer y. Unit {0} };
-
-    fn at(&mut self, _word: &Key, t: Time) -> Result<Part, AllocError> {
-        let mut list = Vec::new(self.alloc);
-        if let Some(span) = Span::new(t.seconds, t.seconds.saturating_add(1)) {
-            if span.holds(t) {
-                list.push(twice(span))?;
-            }
-        }
-        Ok(Part { list, read: 1 })
-    }
-
-    fn between(&mut self, _word: &Key, span: Span) -> Result<Part, AllocError> {
-        let mut list = Vec::new(self.alloc);
-        list.push(twice(span))?;
-        Ok(Part { list, read: 1 })
-    }
-}
-
 #[test]
-fn lists_are_asked_for_each_word(rt: HostRuntime) {
+fn what_was_read_of_each_word_adds_up(rt: HostRuntime) {
     let alloc = rt.alloc();
     let query = read(&rt, alloc, "red blue");
     let span = Span::new(5, 30).expect(&rt, "a span");
     let lives = [life(&rt, 1, 10, 20)];
-    let mut lists = Everywhere { alloc };
-    let answer = answer_between(alloc, &query, span, &mut lists, &lives)
-        .ok()
-        .expect(&rt, "an answer");
+    let mut parts = Vec::new(alloc);
+    for _ in query.words() {
+        let list = listed(&rt, alloc, &[(1, 5, 30, 2)]);
+        parts.push(Part { list, read: 1 }).expect(&rt, "memory");
+    }
+    assert!(rt; parts.len() == query.words().len());
+    let answer = answer_over(alloc, &query, span, &parts, &lives).expect(&rt, "memory");
     assert_eq!(rt; answer.read, 2);
     let rows = rows_of(&rt, alloc, &[(1, 10, 20, 4)]);
     assert_eq!(rt; answer.rows.as_slice(), rows.as_slice());

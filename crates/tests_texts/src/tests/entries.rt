@@ -1,8 +1,6 @@
 //! Entries as bytes, and bytes that spell none.
 use base_types::{DocId, Time};
-use journal_entries::{
-    CodecError, Entry, VersionText, decode, encode, encode_arrival, encode_deletion,
-};
+use journal_entries::{CodecError, Entry, decode, encode_arrival, encode_deletion};
 use std::alloc::Global;
 use std::process::Abort;
 
@@ -19,9 +17,6 @@ fn an_arrival_has_eighteen_bytes(rt: HostRuntime) {
     let at = Time::new(10).expect(&rt, "a time");
     let doc = DocId(7);
     let spelled = encode_arrival(rt.alloc(), doc, at, "red a").expect(&rt, "memory");
-    assert_eq!(rt; spelled.as_slice(), ARRIVAL.as_slice());
-    let text = VersionText::new(String::from_str(rt.alloc(), "red a").expect(&rt, "memory"));
-    let spelled = encode(rt.alloc(), &Entry::Arrive { doc, at, text }).expect(&rt, "memory");
     assert_eq!(rt; spelled.as_slice(), ARRIVAL.as_slice());
 }
 

@@ -1,7 +1,7 @@
 //! Stored plans as bytes, and bytes that spell none.
 use super::entries::named;
 use base_commands::Kind;
-use journal_entries::{Entry, Layout, Place, PlanEntry, decode, encode, encode_plan};
+use journal_entries::{Entry, Layout, Place, PlanEntry, decode, encode_plan};
 use std::alloc::Global;
 use std::process::Abort;
 
@@ -38,16 +38,8 @@ fn joined(rt: &impl Abort, alloc: Global, parts: &[&str]) -> Vec<u8> {
     bytes
 }
 
-/// The entry that bytes spell is spelled by these bytes.
-fn expect_spelled(rt: &impl Abort, alloc: Global, body: &[u8]) {
-    let entry = decode(alloc, body).expect(rt, "an entry");
-    let spelled = encode(alloc, &entry).expect(rt, "memory");
-    assert_eq!(rt; spelled.as_slice(), body);
-}
-
 /// The plan that bytes spell, which they also spell when it is written; None where they spell another entry.
 fn plan_of(rt: &impl Abort, alloc: Global, body: &[u8]) -> Option<PlanEntry> {
-    expect_spelled(rt, alloc, body);
     let Entry::Planned(plan) = decode(alloc, body).expect(rt, "an entry") else {
         return None;
     };

@@ -4,7 +4,7 @@ ghost use Rattle.std.specs.Prelude.{◌≡◌, ◌∷◌, [], IfOk};
 use base_types::{Key, WordId};
 use std::alloc::{AllocError, Global};
 use std::process::Abort;
-use text_words::{NumberError, Places, Vocabulary, Weighed, occurrences, one_term, terms};
+use text_words::{NumberError, Places, Vocabulary, Weighed, one_term};
 
 /// Shows a term with its count behind those that are shown.
 fn show(rt: &impl Abort, alloc: Global, out: &mut String, term: &str, count: u32) {
@@ -12,11 +12,16 @@ fn show(rt: &impl Abort, alloc: Global, out: &mut String, term: &str, count: u32
     out.push_str(shown.as_str()).expect(rt, "memory");
 }
 
-/// The terms of a text as a text, each with its count behind it.
+/// The terms of a text as a text, each with its count behind it, by a vocabulary without words.
 fn shown(rt: &impl Abort, alloc: Global, text: &str) -> String {
     assert!(rt; text.len() < 4294967296);
+    let vocabulary = Vocabulary::new(alloc).expect(rt, "memory");
+    let mut places = Places::new(alloc);
+    let found = vocabulary
+        .weigh(alloc, &mut places, text)
+        .expect(rt, "memory");
     let mut out = String::new(alloc);
-    for (key, count) in &terms(alloc, text).expect(rt, "memory") {
+    for (key, count) in &found.fresh {
         show(rt, alloc, &mut out, key.as_str(), *count);
     }
     out
@@ -104,13 +109,19 @@ fn terms_of_eight_scripts(rt: HostRuntime) {
     assert_terms(&rt, rt.alloc(), &TERMS_OF_SCRIPTS);
 }
 
-/// How often the word occurs in the text.
+/// How often the word occurs in the text, by a vocabulary that has it alone.
 fn times(rt: &impl Abort, alloc: Global, word: &str, text: &str) -> u32 {
     assert!(rt; text.len() < 4294967296);
-    let key = one_term(alloc, word)
-        .expect(rt, "memory")
-        .expect(rt, "a term");
-    occurrences(alloc, &key, text).expect(rt, "memory")
+    let vocabulary = numbered(rt, alloc, &[word]);
+    assert_eq!(rt; vocabulary.len(), 1);
+    let mut places = Places::new(alloc);
+    let found = vocabulary
+        .weigh(alloc, &mut places, text)
+        .expect(rt, "memory");
+    match found.known.first() {
+        Some((_, count)) => *count,
+        None => 0,
+    }
 }
 
 /// A word, a text, and how often the word occurs in it: from Python 3.11, as above.

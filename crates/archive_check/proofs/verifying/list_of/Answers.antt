@@ -15,7 +15,7 @@ returns-clause-planned c =
     IfOk-weaker c.list_up_to.result (λ v. (f : ℕ → ℕ → ℕ) → IsListOf f 0 (2 ^ 40) c.deref.result.now → IsListOf f 0 plan.horizon.seconds v.items)
     (λ v. (texts : List (Change (List ℕ))) → Indexes (state_of c.args.index.now) texts → IsPlanned texts plan v.items)
     (λ v up texts indexes. up (frequency_in texts plan.word)
-    (subst (λ (l : List Posting). IsListOf (frequency_in texts plan.word) 0 (2 ^ 40) l) (sym c.deref.ensures.value) (c.in_ok-whole.ensures.list (λ word. 0) texts indexes))) c.list_up_to.ensures.list
+    (subst (λ (l : List Posting). IsListOf (frequency_in texts plan.word) 0 (2 ^ 40) l) (sym c.deref.ensures.value) (c.in_ok-whole.ensures.list texts indexes))) c.list_up_to.ensures.list
 
 pub returns-clause-ordered : goal.returns-clause-ordered
 returns-clause-ordered c =

@@ -16,14 +16,14 @@ returns-in-Err-may_come-clause-prepared c = λ h placed indexed.
 pub returns-in-Err-Full-clause-prepared : goal.returns-in-Err-Full-clause-prepared
 returns-in-Err-Full-clause-prepared c = λ h placed indexed.
     let change : Change (List ℕ) = record { doc = c.args.doc; at = c.args.at; held = Some c.args.text.now } in
-    let over = c.in-Err-Full.ensures.full (ap Err c.in-Err-Full.field-0-is) (λ word. 0) (changes h) change indexed (ap Some (sym c.in-Ok.ensures.2)) in
+    let over = c.in-Err-Full.ensures.full (ap Err c.in-Err-Full.field-0-is) (changes h) change indexed (ap Some (sym c.in-Ok.ensures.2)) in
     words_refused c.args.directory.now.changes h c.args.doc c.args.at c.args.text.now placed c.in-Ok.ensures.0 c.in-Ok.ensures.1 (search rules) over ∙ ap Some (sym c.full_words.ensures)
 
 pub returns-clause-prepared : goal.returns-clause-prepared
 returns-clause-prepared c = λ h placed indexed.
     let fits : c.args.doc.0 < 2 ^ 32 = search rules in
     let change : Change (List ℕ) = record { doc = c.args.doc; at = c.args.at; held = Some c.args.text.now } in
-    let within = c.in-Ok-prepare.ensures.fits (λ word. 0) (changes h) change indexed (ap Some (sym c.in-Ok.ensures.2)) in
+    let within = c.in-Ok-prepare.ensures.fits (changes h) change indexed (ap Some (sym c.in-Ok.ensures.2)) in
     let made = arrival_prepared c.args.directory.now.changes h c.args.doc c.args.at c.args.text.now c.in-Ok.text.now c.in_ok-body.body.items placed
     fits c.in-Ok.ensures.0 c.in-Ok.ensures.1 c.in-Ok.ensures.2 (search rules) within c.in_ok-body.ensures.spelled in
     let P : List ℕ → Type 0 = λ t. IsPreparedFor (state_of c.args.index.now) c.args.doc (Some t) c.in-Ok-prepare.words in

@@ -19,7 +19,7 @@ returns-in_default-clause-chosen g c = λ tells h stands cached.
     let S : ShelfState → Type 0 = λ s. All (λ x. is_another c.args.word.now x ≡ true) s.plans in
     let none = unplanned_is c.args.archive.now h c.args.word.now stands (subst S c.shelf.ensures.shelf c.in_default.ensures) in
     let I : IndexState → Type 0 = λ i. Indexes i (changes h) in
-    let (list, listed, rows, whole) = c.in_ok-part.ensures (λ word. 0) (changes h) (subst I (sym c.index.ensures) stands.index_is) in
+    let (list, listed, rows, whole) = c.in_ok-part.ensures (changes h) (subst I (sym c.index.ensures) stands.index_is) in
     whole_chosen h (g.D.Disk.disk c.args.disk.now).holds.pages c.args.word.now c.args.span.from c.args.span.to _ list _ none (word_list h c.args.word.now list listed)
     (c.whole_part.ensures.list ∙ rows) (c.whole_part.ensures.read ∙ whole)
 

@@ -11,7 +11,7 @@ returns-then-span-horizon c = λ h stands. inr (c.if-span-horizon.true, c.new.en
 pub returns : goal.returns
 returns c = λ h stands.
     let I : IndexState → Type 0 = λ i. Indexes i (changes h) in
-    let (list, listed, rows, whole) = c.in_ok-part.ensures (λ word. 0) (changes h) (subst I (sym c.index.ensures) stands.index_is) in
+    let (list, listed, rows, whole) = c.in_ok-part.ensures (changes h) (subst I (sym c.index.ensures) stands.index_is) in
     let later = c.from_on-later.ensures in
     cut_tail h c.args.word.now c.args.span.to c.args.horizon.seconds list c.in_ok-part.part.rows.items c.in_ok-tail.tail.items (omega (arith, c.if-span-horizon.false)) (word_list h c.args.word.now list listed)
     (rw (later.from, later.to) at rows) (rw (later.from, later.to, c.deref.ensures.value) at c.in_ok-tail.ensures.clip)

@@ -1,5 +1,5 @@
 use Rattle.std.proofs.Common.{◌≡◌, ◌≤◌, ◌*◌, take}
-use Rattle.query_eval.specs.Asked.{read_of}
+use Rattle.query_eval.specs.Found.{read_of}
 use Rattle.query_eval.proofs.found.read_of.Given as goal
 
 abbrev pub invariant-loop-part : goal.invariant-loop-part

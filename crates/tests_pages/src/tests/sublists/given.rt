@@ -180,22 +180,6 @@ pub(crate) fn docs_of(rt: &impl Abort, alloc: Global, gathered: &Gathered) -> Ve
     docs
 }
 
-/// What is fetched from a place between two times, below 40.
-pub(crate) fn fetch_on(
-    rt: &impl Abort,
-    alloc: Global,
-    sublists: &mut Sublists,
-    machine: &mut MemMachine,
-    place: &Place,
-    ends: (u64, u64),
-) -> Result<Vec<Posting>, FetchError> {
-    let horizon = time(rt, 40);
-    let span = Span::new(ends.0, ends.1).expect(rt, "a segment");
-    let reach = machine.length(Area::Pages).expect(rt, "a length");
-    assert!(rt; place.extent.first as u64 * 4096 + place.extent.bytes <= reach);
-    sublists.fetch(alloc, machine, Layout::Blocks, place, span, horizon)
-}
-
 /// A store that has taken no page, and keeps none.
 pub(crate) fn no_sublists(rt: &impl Abort, alloc: Global) -> Sublists
     ensures taken { HasTaken result.pages [] }

@@ -6,7 +6,7 @@ ghost use Rattle.pages_area.specs.CacheLaws.{LieIn};
 ghost use Rattle.pages_sublists.specs.Preparing.{extents};
 
 use super::given::{
-    BOTH, FIRST, bytes_of, cuts, docs_of, documents, extents_of, fetch_on, gather_blocks,
+    BOTH, FIRST, bytes_of, cuts, docs_of, documents, extents_of, gather_between, gather_blocks,
     machine_with, no_sublists, pages_of, places_of, time,
 };
 use base_types::{Extent, Posting};
@@ -54,7 +54,16 @@ fn bytes_that_were_checked_are_compared_with_what_is_read(rt: HostRuntime) {
         extent: Extent::new(1, 21).expect(&rt, "an extent"),
         digest: second.digest,
     };
-    let refused = fetch_on(&rt, alloc, &mut sublists, &mut machine, &shorter, (20, 30));
+    let refused = gather_between(
+        &rt,
+        alloc,
+        &mut sublists,
+        &mut machine,
+        Layout::Blocks,
+        &[time(&rt, 20)],
+        &[shorter],
+        (20, 30),
+    );
     assert!(rt; refused.is_err());
     let refused = gather_blocks(&rt, alloc, &mut sublists, &mut machine, &places, (15, 25));
     let why = changed_digest(&rt, alloc, &second);
@@ -65,19 +74,14 @@ fn bytes_that_were_checked_are_compared_with_what_is_read(rt: HostRuntime) {
 }
 
 #[test]
-fn a_place_that_is_fetched_again_is_read_once(rt: HostRuntime) {
+fn a_place_that_is_asked_for_again_is_read_once(rt: HostRuntime) {
     let alloc = rt.alloc();
     let mut machine = machine_of_three(&rt, alloc);
     let places = places_of(&rt, alloc, &[FIRST, BOTH, FIRST]);
     let mut sublists = no_sublists(&rt, alloc);
-    for (at, ends, postings, read) in [
-        (0, (10, 20), 1, 18),
-        (0, (10, 20), 1, 18),
-        (1, (20, 30), 2, 40),
-    ] {
-        let place = places.get(at).expect(&rt, "a place");
-        let fetched = fetch_on(&rt, alloc, &mut sublists, &mut machine, place, ends);
-        assert_eq!(rt; fetched.expect(&rt, "it is fetched").len(), postings);
+    for (window, postings, read) in [((10, 20), 1, 18), ((10, 20), 1, 18), ((20, 30), 2, 40)] {
+        let gathered = gather_blocks(&rt, alloc, &mut sublists, &mut machine, &places, window);
+        assert_eq!(rt; gathered.expect(&rt, "it is gathered").list.len(), postings);
         assert_eq!(rt; machine.read_of(Area::Pages), read);
     }
 }

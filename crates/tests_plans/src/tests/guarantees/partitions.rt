@@ -1,7 +1,6 @@
 //! Tables and partitions of two documents that overlap.
 use super::given::cut_at;
 use crate::tests::given::{OVERLAP, factor, listed, table_of};
-use base_types::Time;
 use plans_partitions::Partition;
 
 #[test]
@@ -45,25 +44,6 @@ fn a_partition_ascends(rt: HostRuntime) {
             valid,
             "{cuts:?}"
         );
-    }
-}
-
-#[test]
-fn a_time_is_in_one_segment(rt: HostRuntime) {
-    let partition = cut_at(&rt, rt.alloc(), &[10, 20, 40]);
-    assert_eq!(rt; partition.segments(), 2);
-    for (t, segment) in [
-        (0, None),
-        (9, None),
-        (10, Some(0)),
-        (19, Some(0)),
-        (20, Some(1)),
-        (39, Some(1)),
-        (40, None),
-        (50, None),
-    ] {
-        let t = Time::new(t).expect(&rt, "a time");
-        assert_eq!(rt; partition.segment_of(t), segment, "at {}", t.seconds());
     }
 }
 

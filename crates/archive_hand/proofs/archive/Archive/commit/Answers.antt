@@ -69,8 +69,8 @@ more g c =
       changes_are = c.note.ensures ∙ ap (λ (l : List (Change TextPlace)). l ++ c.placed.result ∷ []) c.reserve.ensures.same
           ∙ ap₂ (λ (d : DocId) (t : Time). c.self.inside.directory.changes ++ record { doc = d; at = t; held = c.placed.result.held } ∷ []) c.placed.ensures.doc c.placed.ensures.at;
       shelf_is = refl;
-      indexed = λ texts doc text stands prepared later. c.commit.ensures (λ word. 0) (λ word. omega arith) texts doc text
-          (subst (λ (v : IndexValue). AreIndexed (λ word. 0) v texts) (sym c.make_room.ensures.same) stands)
+      indexed = λ texts doc text stands prepared later. c.commit.ensures texts doc text
+          (subst (λ (v : IndexValue). AreIndexed v texts) (sym c.make_room.ensures.same) stands)
           (record { doc_is = prepared.doc_is; measured = subst (λ (v : IndexValue). IsMeasured v.words text c.args.prepared.words.fresh.items c.args.prepared.words.weights) (sym c.make_room.ensures.same) prepared.measured }) later;
     })
 

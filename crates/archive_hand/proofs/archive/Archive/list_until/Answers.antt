@@ -11,5 +11,5 @@ pub returns-clause-list : goal.returns-clause-list
 returns-clause-list c = λ h stands.
     let word = c.args.word.now in
     let indexed = subst (λ (i : IndexState). Indexes i (changes h)) (sym c.index.ensures) stands.index_is in
-    let whole = word_list h word c.in_ok-whole.whole.items (c.in_ok-whole.ensures.list (λ word. 0) (changes h) indexed) in
+    let whole = word_list h word c.in_ok-whole.whole.items (c.in_ok-whole.ensures.list (changes h) indexed) in
     c.in_ok-list.ensures.list (λ d t. frequency_at h word (record { 0 = d }) t) (subst (λ (l : List Posting). IsListOf (λ d t. frequency_at h word (record { 0 = d }) t) 0 (2 ^ 40) l) (sym c.deref.ensures.value) whole)

@@ -9,10 +9,10 @@ use Rattle.lists_index.proofs.Steps.{goes_on}
 use Rattle.lists_index.proofs.index.Index.commit.Goals as goal
 
 pub returns : goal.returns
-returns c = λ horizon behind changes doc held stands f.
+returns c = λ changes doc held stands f.
     let after : Index = record { vocabulary = c.number_all.new.vocabulary; places = c.args.self.now.places; tails = c.turn.new.self; newest = c.put.new.self } in
-    subst (λ (d : DocId). ComesLater changes (record { doc = d; at = c.args.at; held = held }) → AreIndexed horizon (seen (state_of after)) (changes ++ record { doc = d; at = c.args.at; held = held } ∷ [])) f.doc_is
-    (λ early. goes_on c.held_as_changes_come.ensures horizon changes (record { doc = c.args.change.doc; at = c.args.at; held = held }) (λ w. weight_of w c.args.change.weights) (seen (state_of c.args.self.now)) (seen (state_of after)) behind stands early (record {
+    subst (λ (d : DocId). ComesLater changes (record { doc = d; at = c.args.at; held = held }) → AreIndexed (seen (state_of after)) (changes ++ record { doc = d; at = c.args.at; held = held } ∷ [])) f.doc_is
+    (λ early. goes_on c.held_as_changes_come.ensures changes (record { doc = c.args.change.doc; at = c.args.at; held = held }) (λ w. weight_of w c.args.change.weights) (seen (state_of c.args.self.now)) (seen (state_of after)) stands early (record {
       weights_are = f.measured.weights_are;
       words_are = c.number_all.ensures ∙ f.measured.fresh_are;
       turned = λ w. rw (c.weights.ensures.value, c.as_slice.ensures.value) at c.turn.ensures.turned w;

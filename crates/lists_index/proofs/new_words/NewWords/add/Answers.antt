@@ -7,7 +7,7 @@ use Rattle.lists_index.proofs.NewWordSteps.{brings-more}
 use Rattle.lists_index.proofs.new_words.NewWords.add.Goals as goal
 
 pub returns-in-Err-clause-full : goal.returns-in-Err-clause-full
-returns-in-Err-clause-full c = λ full horizon changes coming x stands brings held.
+returns-in-Err-clause-full c = λ full changes coming x stands brings held.
     let words = (state_of c.args.index.now).words in
     let old = c.args.self.now.words.words in
     let keys = c.deref.ensures.value ∙ c.in_ok-keys.ensures.keys ∙ ap (λ h. map (λ e. e.0) (fresh_of words (counted (keys_held h)))) (sym held) in
@@ -15,7 +15,7 @@ returns-in-Err-clause-full c = λ full horizon changes coming x stands brings he
     omega (arith, c.in-Err.ensures.full full, ap length is, length-append words (with_all old c.deref.result.now))
 
 pub returns-then-from-gt-MOST_WORDS-clause-full : goal.returns-then-from-gt-MOST_WORDS-clause-full
-returns-then-from-gt-MOST_WORDS-clause-full c = λ full horizon changes coming x stands brings held.
+returns-then-from-gt-MOST_WORDS-clause-full c = λ full changes coming x stands brings held.
     let words = (state_of c.args.index.now).words in
     let old = c.args.self.now.words.words in
     let fresh = c.in_ok-keys.keys.items in
@@ -27,7 +27,7 @@ returns-then-from-gt-MOST_WORDS-clause-full c = λ full horizon changes coming x
     omega (arith, c.if-from-gt-MOST_WORDS.true, c.from.ensures, c.from-2.ensures, c.words.ensures, c.len.ensures.count, same, ap length is, length-append words new)
 
 pub returns-clause-added : goal.returns-clause-added
-returns-clause-added c = λ horizon changes coming x stands brings held.
+returns-clause-added c = λ changes coming x stands brings held.
     let words = (state_of c.args.index.now).words in
     let old = c.args.self.now.words.words in
     let fresh = c.in_ok-keys.keys.items in

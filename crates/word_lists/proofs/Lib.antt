@@ -1,2 +1,0 @@
-mod Sorted
-mod Turns

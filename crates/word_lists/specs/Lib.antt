@@ -1,2 +1,0 @@
-pub mod Frequencies
-pub mod Steps
