@@ -1,5 +1,5 @@
 -- What is read is spelled so, and what is spelled so is read.
-use Rattle.std.specs.Prelude.{◌≡◌, ℕ, zero, suc, ◌-◌, ◌^◌, ◌<◌, ◌≤◌, List, [], ◌∷◌, ◌++◌, length, Result, Ok, Err, refl}
+use Rattle.std.specs.Prelude.{◌≡◌, ℕ, zero, suc, ◌^◌, ◌<◌, ◌≤◌, List, [], ◌∷◌, ◌++◌, length, Ok, Err, refl}
 use Rattle.std.proofs.Common.{sym, ap, subst, ◌∙◌, arith}
 use Rattle.std.specs.Int.{w32, w64, to_be_bytes}
 use Rattle.journal_entries.specs.declared.entry.Entry.{Entry}
@@ -7,11 +7,12 @@ use Rattle.journal_entries.specs.declared.entry.Entry.TheVariants.{Arrive, Delet
 use Rattle.journal_entries.specs.Spelling.{spelling, IsEntry}
 use Rattle.base_types.specs.Reading.{◌>>=◌}
 use Rattle.journal_entries.specs.FieldReading.{end_at}
-use Rattle.journal_entries.specs.Reading.{change_at, text_at, arrive_at, delete_at, entry_at, IsFault}
+use Rattle.journal_entries.specs.Reading.{change_at, text_at, arrive_at, delete_at, entry_at}
 use Rattle.journal_entries.specs.PlanReading.{plan_at}
 use Rattle.base_types.proofs.Readings.{bind_ok, ok_is, Within, Within-more, Within-next, Within-err}
 use Rattle.base_types.proofs.Bytes.{IsBytes}
-use Rattle.journal_entries.proofs.FieldLemmas.{change_takes, change_again, change_within, text_at-ok, text_takes, text_within, end_takes, end_within}
+use Rattle.journal_entries.proofs.ChangeLemmas.{change_field}
+use Rattle.journal_entries.proofs.FieldLemmas.{text_at-ok, text_takes, text_within, end_takes, end_within}
 use Rattle.journal_entries.proofs.PlanLemmas.{plan_takes, plan_again, plan_within, plan_short, plan_long}
 
 IsBytes-rest : (b : ℕ) (bytes : List ℕ) → IsBytes (b ∷ bytes) → IsBytes bytes
@@ -21,20 +22,20 @@ arrive_takes : (bytes : List ℕ) (e : Entry) → IsBytes bytes → arrive_at by
 unfolding arrive_at
 arrive_takes bytes e fits r =
     let c = bind_ok (change_at bytes) _ e r in
-    let t = bind_ok (text_at c.0.2) _ e c.2 in
-    let change = change_takes bytes c.0 fits c.1 in
-    let text = text_takes c.0.2 t.0 t.1 in
-    let whole = change.0 ∙ ap (λ (rest : List ℕ). to_be_bytes w32 c.0.0.0 ++ (to_be_bytes w64 c.0.1.seconds ++ rest)) text.0 in
-    subst (λ (y : Entry). IsEntry y × (1 ∷ bytes ≡ spelling y)) (ok_is (Arrive c.0.0 c.0.1 t.0) e t.2) ((change.1, c.0.1.before_now, text.1, text.2), ap (λ (rest : List ℕ). 1 ∷ rest) whole)
+    let t = bind_ok (text_at c.0.1) _ e c.2 in
+    let change = change_field.takes bytes c.0 fits c.1 in
+    let text = text_takes c.0.1 t.0 t.1 in
+    let whole = change.0.parts ∙ ap (λ (rest : List ℕ). to_be_bytes w32 c.0.0.0.0 ++ (to_be_bytes w64 c.0.0.1.seconds ++ rest)) text.0 in
+    subst (λ (y : Entry). IsEntry y × (1 ∷ bytes ≡ spelling y)) (ok_is (Arrive c.0.0.0 c.0.0.1 t.0) e t.2) ((change.1, c.0.0.1.before_now, text.1, text.2), ap (λ (rest : List ℕ). 1 ∷ rest) whole)
 
 delete_takes : (bytes : List ℕ) (e : Entry) → IsBytes bytes → delete_at bytes ≡ Ok e → IsEntry e × (2 ∷ bytes ≡ spelling e)
 unfolding delete_at
 delete_takes bytes e fits r =
     let c = bind_ok (change_at bytes) _ e r in
-    let t = bind_ok (end_at c.0.2) _ e c.2 in
-    let change = change_takes bytes c.0 fits c.1 in
-    let whole = change.0 ∙ ap (λ (rest : List ℕ). to_be_bytes w32 c.0.0.0 ++ (to_be_bytes w64 c.0.1.seconds ++ rest)) (end_takes c.0.2 t.0 t.1) in
-    subst (λ (y : Entry). IsEntry y × (2 ∷ bytes ≡ spelling y)) (ok_is (Delete c.0.0 c.0.1) e t.2) ((change.1, c.0.1.before_now), ap (λ (rest : List ℕ). 2 ∷ rest) whole)
+    let t = bind_ok (end_at c.0.1) _ e c.2 in
+    let change = change_field.takes bytes c.0 fits c.1 in
+    let whole = change.0.parts ∙ ap (λ (rest : List ℕ). to_be_bytes w32 c.0.0.0.0 ++ (to_be_bytes w64 c.0.0.1.seconds ++ rest)) (end_takes c.0.1 t.0 t.1) in
+    subst (λ (y : Entry). IsEntry y × (2 ∷ bytes ≡ spelling y)) (ok_is (Delete c.0.0.0 c.0.0.1) e t.2) ((change.1, c.0.0.1.before_now), ap (λ (rest : List ℕ). 2 ∷ rest) whole)
 
 planned_takes : (bytes : List ℕ) (e : Entry) → IsBytes bytes → (plan_at bytes >>= λ plan. Ok (Planned plan)) ≡ Ok e → IsEntry e × (3 ∷ bytes ≡ spelling e)
 planned_takes bytes e fits r =
@@ -54,26 +55,22 @@ entry_takes (suc (suc (suc (suc tag))) ∷ bytes) e fits r = absurd cc
 -- what is spelled so is read
 pub entry_again : (e : Entry) → IsEntry e → entry_at (spelling e) ≡ Ok e
 unfolding entry_at arrive_at delete_at
-entry_again (Arrive doc at text) fits = rw (change_again doc at text fits.0, text_at-ok text text refl fits.2 fits.3) refl
-entry_again (Delete doc at) fits = rw (change_again doc at [] fits.0) refl
+entry_again (Arrive doc at text) fits = rw (change_field.again (doc, at) text fits.0, text_at-ok text text refl fits.2 fits.3) refl
+entry_again (Delete doc at) fits = rw (change_field.again (doc, at) [] fits.0) refl
 entry_again (Planned plan) fits = let again = plan_again plan fits in rw (again.1, again.2) refl
 
-entry_within : (bytes : List ℕ) → Within (λ _. 0) (length bytes) (entry_at bytes)
+pub entry_within : (bytes : List ℕ) → Within (λ _. 0) (length bytes) (entry_at bytes)
 unfolding entry_at arrive_at delete_at
 entry_within [] = omega arith
 entry_within (zero ∷ bytes) = omega arith
-entry_within (suc zero ∷ bytes) = Within-more (λ _. 0) (length bytes) (length (1 ∷ bytes)) _ (omega arith) (Within-next (λ x. length x.2) (λ _. 0) (length bytes) (change_at bytes) _ (change_within bytes) (λ c. Within-next (λ _. 0) (λ _. 0) (length c.2) (text_at c.2) _ (text_within c.2) (λ t. omega arith)))
-entry_within (suc (suc zero) ∷ bytes) = Within-more (λ _. 0) (length bytes) (length (2 ∷ bytes)) _ (omega arith) (Within-next (λ x. length x.2) (λ _. 0) (length bytes) (change_at bytes) _ (change_within bytes) (λ c. Within-next (λ _. 0) (λ _. 0) (length c.2) (end_at c.2) _ (end_within c.2) (λ t. omega arith)))
+entry_within (suc zero ∷ bytes) = Within-more (λ _. 0) (length bytes) (length (1 ∷ bytes)) _ (omega arith) (Within-next (λ x. length x.1) (λ _. 0) (length bytes) (change_at bytes) _ (change_field.within bytes) (λ c. Within-next (λ _. 0) (λ _. 0) (length c.1) (text_at c.1) _ (text_within c.1) (λ t. omega arith)))
+entry_within (suc (suc zero) ∷ bytes) = Within-more (λ _. 0) (length bytes) (length (2 ∷ bytes)) _ (omega arith) (Within-next (λ x. length x.1) (λ _. 0) (length bytes) (change_at bytes) _ (change_field.within bytes) (λ c. Within-next (λ _. 0) (λ _. 0) (length c.1) (end_at c.1) _ (end_within c.1) (λ t. omega arith)))
 entry_within (suc (suc (suc zero)) ∷ bytes) = Within-more (λ _. 0) (length bytes) (length (3 ∷ bytes)) _ (omega arith) (Within-next (λ _. 0) (λ _. 0) (length bytes) (plan_at bytes) _ (plan_within bytes) (λ plan. omega arith))
 entry_within (suc (suc (suc (suc tag))) ∷ bytes) = omega arith
 
 -- what is left at a fault is no more than there was
 pub entry_left : (bytes : List ℕ) (left : ℕ) → entry_at bytes ≡ Err left → left ≤ length bytes
 entry_left bytes left e = Within-err (λ _. 0) (length bytes) (entry_at bytes) left (entry_within bytes) e
-
--- a failure's fault, by its offset
-pub fault_at : (bytes : List ℕ) (left : ℕ) → entry_at bytes ≡ Err left → IsFault bytes (length bytes - left)
-fault_at bytes left e = let le = entry_left bytes left e in (left, omega arith, e)
 
 -- what is read as an entry spells no other
 pub entry_only : (bytes : List ℕ) (a b : Entry) → entry_at bytes ≡ Ok a → IsEntry b → bytes ≡ spelling b → a ≡ b
@@ -86,14 +83,6 @@ entry_none bytes left e fails fits same = let read = ap entry_at same ∙ entry_
 -- two entries with one spelling are one
 pub one_entry : (a b : Entry) → IsEntry a → IsEntry b → spelling a ≡ spelling b → a ≡ b
 one_entry a b p q same = entry_only (spelling a) a b (entry_again a p) q same
-
--- bytes that spell nothing have a fault
-pub a_fault : (bytes : List ℕ) → IsBytes bytes → ((e : Entry) → IsEntry e → bytes ≡ spelling e → ⊥) → (at : ℕ) × IsFault bytes at
-a_fault bytes fits none = go (entry_at bytes) refl
-  where
-    go : (r : Result Entry ℕ) → entry_at bytes ≡ r → (at : ℕ) × IsFault bytes at
-    go (Ok e) is = let found = entry_takes bytes e fits is in absurd (none e found.0 found.1)
-    go (Err left) is = (length bytes - left, fault_at bytes left is)
 
 -- ---- how long it is
 

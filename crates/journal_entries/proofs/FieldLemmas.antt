@@ -1,21 +1,19 @@
 -- A field that is read is the field that was written, and what was written is read again.
-use Rattle.std.specs.Prelude.{◌≡◌, ℕ, ◌+◌, ◌^◌, ◌<◌, ◌≤◌, Bool, true, false, cond, nat_lt, nat_le, ◌&&◌, List, [], ◌∷◌, ◌++◌, length, take, drop, Option, Some, None, Ok, Err, IsUtf8, refl}
-use Rattle.std.proofs.Common.{sym, ap, subst, ◌∙◌, arith}
-use Rattle.std.specs.Int.{Width, w32, w64, byte_len, from_be_bytes, to_be_bytes}
+use Rattle.std.specs.Prelude.{◌≡◌, ℕ, ◌^◌, ◌<◌, ◌≤◌, Bool, true, false, cond, nat_lt, nat_le, ◌&&◌, List, [], ◌∷◌, ◌++◌, length, take, drop, Some, Ok, Err, IsUtf8, refl}
+use Rattle.std.proofs.Common.{sym, ap, arith}
+use Rattle.std.specs.Int.{Width, w64, byte_len, from_be_bytes, to_be_bytes}
 use Rattle.std.specs.Str.{is_utf8}
 use Rattle.std.proofs.lemmas.Bool.{ltb-true, ltb-false, le-ltb, leb-true, le-leb, and_parts, and_right, cond-false, false_from_ne_true}
 use Rattle.std.proofs.lemmas.List.{take_at, drop_at, take-append-drop, length-append, length-take, length-drop}
 use Rattle.std.proofs.lemmas.Str.{IsUtf8-from_is_utf8, is_utf8-from_IsUtf8}
-use Rattle.base_types.specs.declared.ids.DocId.{DocId}
 use Rattle.base_types.specs.declared.time.Time.{Time}
 use Rattle.base_types.specs.Times.{time_by, time_of}
 use Rattle.base_types.proofs.TimeLemmas.{time_of-seconds}
 use Rattle.journal_entries.specs.Spelling.{most_text}
-use Rattle.base_types.specs.Reading.{◌>>=◌, value_or}
-use Rattle.journal_entries.specs.FieldReading.{number_at, doc_at, time_at, end_at}
-use Rattle.journal_entries.specs.Reading.{change_at, text_at}
-use Rattle.base_types.proofs.Bytes.{IsBytes, IsBytes-take, IsBytes-drop, IsWide, wide32, wide64}
-use Rattle.base_types.proofs.Readings.{bind_ok, ok_is, value_or-ok, Within, Within-then, Within-next}
+use Rattle.journal_entries.specs.FieldReading.{number_at, time_at, end_at}
+use Rattle.journal_entries.specs.Reading.{text_at}
+use Rattle.base_types.proofs.Bytes.{IsBytes, IsBytes-take, IsBytes-drop, IsWide}
+use Rattle.base_types.proofs.Readings.{Within}
 use Rattle.journal_entries.proofs.Steps.{test_ok, guard_ok}
 
 -- what a reader took from the front
@@ -60,54 +58,6 @@ seconds-time_of n t = go (nat_lt n (2 ^ 40)) refl
 -- a time is read from its seconds
 pub time_at-some : (bytes rest : List ℕ) (n : ℕ) (t : Time) → number_at w64 bytes ≡ Ok (n, rest) → t.seconds ≡ n → time_at bytes ≡ Ok (t, rest)
 time_at-some bytes rest n t e s = rw (e, ← s, time_of-seconds t.seconds t.before_now) refl
-
-time_takes : (bytes : List ℕ) (x : Time × List ℕ) → IsBytes bytes → time_at bytes ≡ Ok x → Takes bytes (to_be_bytes w64 x.0.seconds) x.1
-time_takes bytes x fits e =
-    let n = bind_ok (number_at w64 bytes) _ x e in
-    let t = bind_ok (value_or (length bytes) (time_of n.0.0)) _ x n.2 in
-    let taken = number_takes w64 (2 ^ 64) wide64 bytes n.0.0 n.0.1 fits n.1 in
-    let seconds = seconds-time_of n.0.0 t.0 (value_or-ok (length bytes) (time_of n.0.0) t.0 t.1) in
-    subst (λ (y : Time × List ℕ). Takes bytes (to_be_bytes w64 y.0.seconds) y.1) (ok_is (t.0, n.0.1) x t.2) (subst (λ (k : ℕ). Takes bytes (to_be_bytes w64 k) n.0.1) (sym seconds) taken.0)
-
-time_within : (bytes : List ℕ) → Within (λ x. length x.1) (length bytes) (time_at bytes)
-time_within bytes = Within-then (λ x. length x.1) (λ x. length x.1) (length bytes) (number_at w64 bytes) _ (number_within w64 bytes) (λ n le. go n (time_of n.0) le)
-  where
-    go : (n : ℕ × List ℕ) (o : Option Time) → length n.1 ≤ length bytes → Within (λ (x : Time × List ℕ). length x.1) (length bytes) (value_or (length bytes) o >>= λ t. Ok (t, n.1))
-    go n (Some t) le = le
-    go n None le = omega arith
-
--- ---- the document and the time of a change
-
-doc_takes : (bytes : List ℕ) (x : DocId × List ℕ) → IsBytes bytes → doc_at bytes ≡ Ok x → Takes bytes (to_be_bytes w32 x.0.0) x.1 × (x.0.0 < 2 ^ 32)
-doc_takes bytes x fits e =
-    let n = bind_ok (number_at w32 bytes) _ x e in
-    subst (λ (y : DocId × List ℕ). Takes bytes (to_be_bytes w32 y.0.0) y.1 × (y.0.0 < 2 ^ 32)) (ok_is (record { 0 = n.0.0 }, n.0.1) x n.2) (number_takes w32 (2 ^ 32) wide32 bytes n.0.0 n.0.1 fits n.1)
-
-doc_within : (bytes : List ℕ) → Within (λ x. length x.1) (length bytes) (doc_at bytes)
-doc_within bytes = Within-then (λ x. length x.1) (λ x. length x.1) (length bytes) (number_at w32 bytes) _ (number_within w32 bytes) (λ n le. le)
-
-pub change_takes : (bytes : List ℕ) (x : DocId × Time × List ℕ) → IsBytes bytes → change_at bytes ≡ Ok x → (bytes ≡ to_be_bytes w32 x.0.0 ++ (to_be_bytes w64 x.1.seconds ++ x.2)) × (x.0.0 < 2 ^ 32)
-unfolding change_at
-change_takes bytes x fits e =
-    let d = bind_ok (doc_at bytes) _ x e in
-    let t = bind_ok (time_at d.0.1) _ x d.2 in
-    let doc = doc_takes bytes d.0 fits d.1 in
-    let at = time_takes d.0.1 t.0 doc.0.rest_fits t.1 in
-    let both = doc.0.parts ∙ ap (λ (rest : List ℕ). to_be_bytes w32 d.0.0.0 ++ rest) at.parts in
-    subst (λ (y : DocId × Time × List ℕ). (bytes ≡ to_be_bytes w32 y.0.0 ++ (to_be_bytes w64 y.1.seconds ++ y.2)) × (y.0.0 < 2 ^ 32)) (ok_is (d.0.0, t.0.0, t.0.1) x t.2) (both, doc.1)
-
-pub change_again : (d : DocId) (t : Time) (rest : List ℕ) → d.0 < 2 ^ 32 → change_at (to_be_bytes w32 d.0 ++ (to_be_bytes w64 t.seconds ++ rest)) ≡ Ok (d, t, rest)
-unfolding change_at
-change_again d t rest lt =
-    let doc = number_again w32 (2 ^ 32) wide32 d.0 (to_be_bytes w64 t.seconds ++ rest) lt in
-    let at = time_at-some (to_be_bytes w64 t.seconds ++ rest) rest t.seconds t (number_again w64 (2 ^ 64) wide64 t.seconds rest (omega (arith, t.before_now))) refl in
-    rw (doc, at) refl
-
-pub change_within : (bytes : List ℕ) → Within (λ x. length x.2) (length bytes) (change_at bytes)
-unfolding change_at
-change_within bytes =
-    Within-next (λ x. length x.1) (λ x. length x.2) (length bytes) (doc_at bytes) _ (doc_within bytes) (λ d.
-    Within-then (λ x. length x.1) (λ x. length x.2) (length d.1) (time_at d.1) _ (time_within d.1) (λ t le. le))
 
 -- ---- texts, and the end
 

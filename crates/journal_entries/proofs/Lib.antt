@@ -4,5 +4,9 @@ mod FieldCodec
 mod NumberLemmas
 mod PlanFieldLemmas
 mod SegmentLemmas
+mod ChangeLemmas
+mod Stops
+mod FieldStops
 mod PlanLemmas
 pub mod EntryLemmas
+pub mod FaultLemmas

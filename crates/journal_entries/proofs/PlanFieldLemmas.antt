@@ -1,6 +1,7 @@
 -- Each field of a plan is read as it is spelled.
 use Rattle.std.specs.Prelude.{◌≡◌, ℕ, zero, suc, ◌+◌, ◌^◌, ◌<◌, ◌≤◌, Bool, true, false, cond, nat_lt, nat_le, ◌&&◌, List, [], ◌∷◌, ◌++◌, length, take, drop, Some, None, Ok, Err, All, IsUtf8, refl}
 use Rattle.std.specs.Int.{w32, w64, to_be_bytes}
+use Rattle.std.specs.List.{concat}
 use Rattle.std.specs.Str.{is_utf8}
 use Rattle.std.proofs.Common.{sym, ap, subst, ◌∙◌, arith}
 use Rattle.std.proofs.lemmas.Bool.{le-leb, leb-true, lt-ltb, ltb-true, ltb-false, le-ltb, and_parts, and_right, cond-false, false_from_ne_true}
@@ -18,7 +19,8 @@ use Rattle.journal_entries.specs.declared.place.Layout.{Layout}
 use Rattle.journal_entries.specs.declared.place.Layout.TheVariants.{Flat, Blocks}
 use Rattle.journal_entries.specs.declared.place.Place.{Place}
 use Rattle.journal_entries.specs.Numbers.{fraction_of, extent_of}
-use Rattle.journal_entries.specs.PlanSpelling.{layout_byte, kind_bytes, segment_bytes, IsDigest, IsWord}
+use Rattle.journal_entries.specs.PlanSpelling.{layout_byte, kind_fields, IsDigest, IsWord}
+use Rattle.journal_entries.specs.PlanBytes.{kind_bytes, segment_bytes}
 use Rattle.journal_entries.specs.FieldReading.{number_at, time_at}
 use Rattle.journal_entries.specs.PlanReading.{named_at, if_within, number_in, layout_at, kind_at, fraction_at, word_at, key_at, extent_at, digest_at, place_at, cut_at, segment_at}
 use Rattle.base_types.proofs.Readings.{bind_ok, ok_is, Within, Within-more, Within-then}
@@ -110,12 +112,17 @@ kind_within (suc (suc zero) ∷ bytes) = omega arith
 kind_within (suc (suc (suc zero)) ∷ bytes) = Within-more (λ x. length x.1) (length bytes) (length (3 ∷ bytes)) _ (omega arith) (Within-then (λ x. length x.1) (λ x. length x.1) (length bytes) (time_at bytes) _ (time_field.within bytes) (λ t le. le))
 kind_within (suc (suc (suc (suc n))) ∷ bytes) = omega arith
 
+pub kind_is : (k : Kind) → concat (kind_fields k) ≡ kind_bytes k
+kind_is Guarantee = refl
+kind_is Uniform = refl
+kind_is (Since at) = refl
+
 pub kind_field : IsField Kind kind_at kind_bytes (λ _. Unit {0})
 kind_field = record { takes = kind_takes; again = λ k rest fits. kind_again k rest; within = kind_within }
 
 -- ---- the fraction
 
-under_field : (over : ℕ) → IsField Fraction (named_at w32 (fraction_of over)) (λ f. to_be_bytes w32 f.under) (λ f. f.over ≡ over)
+pub under_field : (over : ℕ) → IsField Fraction (named_at w32 (fraction_of over)) (λ f. to_be_bytes w32 f.under) (λ f. f.over ≡ over)
 under_field over = named Fraction w32 (2 ^ 32) wide32 (fraction_of over) (λ f. f.under) (λ f. f.over ≡ over)
     (λ n f lt e. (let is = fraction_of-is over n f e in (is.1, is.0)))
     (λ f fits. (omega (arith, f.at_least_one, f.in_range), fraction_of-some over f.under f fits refl))
@@ -157,7 +164,7 @@ key_again : (word rest : List ℕ) → IsWord word → key_at (length word ∷ (
 unfolding key_at
 key_again word rest fits = rw (word_again word rest (length word) refl fits.2, lt-ltb 0 (length word) fits.0) refl
 
-word_within : (len : ℕ) (bytes : List ℕ) → Within (λ x. length x.1) (length bytes) (word_at len bytes)
+pub word_within : (len : ℕ) (bytes : List ℕ) → Within (λ x. length x.1) (length bytes) (word_at len bytes)
 word_within len bytes = go (nat_le len (length bytes) && is_utf8 (take len bytes))
   where
     go : (b : Bool) → Within (λ (x : List ℕ × List ℕ). length x.1) (length bytes) (cond b (Ok (take len bytes, drop len bytes)) (Err (length bytes)))
@@ -178,12 +185,12 @@ key_field = record { takes = key_takes; again = key_again; within = key_within }
 
 -- ---- where a sublist lies
 
-length_field : (first : ℕ) → IsField Extent (named_at w64 (extent_of first)) (λ e. to_be_bytes w64 e.bytes) (λ e. e.first ≡ first)
+pub length_field : (first : ℕ) → IsField Extent (named_at w64 (extent_of first)) (λ e. to_be_bytes w64 e.bytes) (λ e. e.first ≡ first)
 length_field first = named Extent w64 (2 ^ 64) wide64 (extent_of first) (λ e. e.bytes) (λ e. e.first ≡ first)
     (λ n x lt e. (let is = extent_of-is first n x e in (is.1, is.0)))
     (λ x fits. (x.sized, extent_of-some first x.bytes x fits refl))
 
-extent_field : IsField Extent extent_at (λ e. to_be_bytes w32 e.first ++ to_be_bytes w64 e.bytes) (λ _. Unit {0})
+pub extent_field : IsField Extent extent_at (λ e. to_be_bytes w32 e.first ++ to_be_bytes w64 e.bytes) (λ _. Unit {0})
 unfolding extent_at
 extent_field = both ℕ Extent Extent (λ first e. e) (number_in 0 268435456) (λ n. to_be_bytes w32 n) (λ n. (0 ≤ n) × (n ≤ 268435456))
     (λ first. named_at w64 (extent_of first)) (λ e. to_be_bytes w64 e.bytes) (λ first e. e.first ≡ first)
@@ -220,13 +227,13 @@ digest_within bytes = go (nat_lt (length bytes) 32)
     go true = omega arith
     go false = omega (arith, length-drop 32 bytes)
 
-digest_field : IsField (List ℕ) digest_at (λ d. d) IsDigest
+pub digest_field : IsField (List ℕ) digest_at (λ d. d) IsDigest
 digest_field = record { takes = digest_takes; again = digest_again; within = digest_within }
 
-abbrev place_bytes : Place → List ℕ
+abbrev pub place_bytes : Place → List ℕ
 place_bytes p = to_be_bytes w32 p.extent.first ++ (to_be_bytes w64 p.extent.bytes ++ p.digest)
 
-place_field : IsField Place place_at place_bytes (λ p. IsDigest p.digest)
+pub place_field : IsField Place place_at place_bytes (λ p. IsDigest p.digest)
 unfolding place_at
 place_field = both Extent (List ℕ) Place (λ e d. record { extent = e; digest = d }) extent_at (λ e. to_be_bytes w32 e.first ++ to_be_bytes w64 e.bytes) (λ _. Unit {0})
     (λ _. digest_at) (λ d. d) (λ _ d. IsDigest d) place_bytes (λ p. IsDigest p.digest)
@@ -261,7 +268,7 @@ cut_within least horizon bytes =
     go t true le = le
     go t false le = omega arith
 
-cut_field : (least : ℕ) (horizon : Time) → IsField Time (cut_at least horizon) (λ cut. to_be_bytes w64 cut.seconds) (IsCut least horizon)
+pub cut_field : (least : ℕ) (horizon : Time) → IsField Time (cut_at least horizon) (λ cut. to_be_bytes w64 cut.seconds) (IsCut least horizon)
 cut_field least horizon = record { takes = cut_takes least horizon; again = cut_again least horizon; within = cut_within least horizon }
 
 abbrev pub IsSegment : ℕ → Time → Time × Place → Type 0

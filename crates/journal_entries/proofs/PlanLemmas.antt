@@ -3,23 +3,36 @@ use Rattle.std.specs.Prelude.{◌≡◌, ℕ, ◌^◌, ◌<◌, ◌≤◌, List,
 use Rattle.std.specs.Int.{w32, w64, to_be_bytes}
 use Rattle.std.proofs.Common.{sym, ap, subst, ◌∙◌, arith}
 use Rattle.std.proofs.lemmas.List.{append-nil, length-append}
+use Rattle.std.proofs.lemmas.List.Folds.{concat-append}
 use Rattle.base_commands.specs.declared.command.Kind.{Kind}
 use Rattle.base_commands.specs.declared.command.Kind.TheVariants.{Guarantee, Uniform, Since}
 use Rattle.base_types.specs.declared.time.Time.{Time}
 use Rattle.journal_entries.specs.declared.place.Place.{Place}
 use Rattle.journal_entries.specs.declared.plan.PlanEntry.{PlanEntry}
-use Rattle.journal_entries.specs.PlanSpelling.{most_segments, layout_byte, kind_bytes, segments_bytes, plan_spelling, kind_length, plan_length, IsWord, IsPlanEntry}
+use Rattle.journal_entries.specs.PlanSpelling.{most_segments, layout_byte, kind_fields, segments_fields, plan_spelling, IsWord, IsPlanEntry}
+use Rattle.journal_entries.specs.PlanBytes.{kind_bytes, segments_bytes, plan_bytes, kind_length, plan_length}
 use Rattle.journal_entries.specs.FieldReading.{time_at, end_at}
 use Rattle.journal_entries.specs.PlanReading.{number_in, layout_at, kind_at, fraction_at, key_at, segments_at, plan_at}
 use Rattle.base_types.proofs.Readings.{bind_ok, ok_is, Within, Within-next}
 use Rattle.base_types.proofs.Bytes.{IsBytes}
 use Rattle.journal_entries.proofs.FieldLemmas.{end_takes, end_within}
 use Rattle.journal_entries.proofs.FieldCodec.{IsField}
-use Rattle.journal_entries.proofs.PlanFieldLemmas.{time_field, number_field, layout_field, kind_field, fraction_field, key_field}
-use Rattle.journal_entries.proofs.SegmentLemmas.{increasing, rising, AreSegments, segments_field, segments_length}
+use Rattle.journal_entries.proofs.PlanFieldLemmas.{time_field, number_field, layout_field, kind_is, kind_field, fraction_field, key_field}
+use Rattle.journal_entries.proofs.SegmentLemmas.{increasing, rising, AreSegments, segments_field, segments_are, segments_length}
 
 count_field : IsField ℕ (number_in 1 most_segments) (λ n. to_be_bytes w32 n) (λ n. (1 ≤ n) × (n ≤ most_segments))
 count_field = number_field 1 most_segments (omega arith)
+
+-- ---- the bytes of the fields
+
+spelling_is : (p : PlanEntry) → plan_spelling p ≡ plan_bytes p
+unfolding plan_spelling plan_bytes
+spelling_is p =
+    let behind : List (List ℕ) = to_be_bytes w32 p.fraction.over ∷ to_be_bytes w32 p.fraction.under ∷ to_be_bytes w64 p.horizon.seconds
+    ∷ (length p.word ∷ []) ∷ p.word ∷ to_be_bytes w32 (length p.cuts) ∷ segments_fields p.cuts p.places in
+    let front = λ (kind segments : List ℕ). 3 ∷ layout_byte p.layout ∷ (kind ++ (to_be_bytes w32 p.fraction.over ++ (to_be_bytes w32 p.fraction.under ++ (to_be_bytes w64 p.horizon.seconds
+    ++ (length p.word ∷ (p.word ++ (to_be_bytes w32 (length p.cuts) ++ segments))))))) in
+    ap (λ (xs : List ℕ). 3 ∷ layout_byte p.layout ∷ xs) (concat-append (kind_fields p.kind) behind) ∙ (λ i. front (kind_is p.kind i) (segments_are p.cuts p.places i))
 
 -- ---- what is read is spelled so
 
@@ -27,7 +40,7 @@ count_field = number_field 1 most_segments (omega arith)
 spelled_so : (p : PlanEntry) (b0 b1 b2 b3 b4 b5 b6 b7 : List ℕ) (count : ℕ) → length p.cuts ≡ count → b0 ≡ layout_byte p.layout ∷ b1 → b1 ≡ kind_bytes p.kind ++ b2
     → b2 ≡ to_be_bytes w32 p.fraction.over ++ (to_be_bytes w32 p.fraction.under ++ b3) → b3 ≡ to_be_bytes w64 p.horizon.seconds ++ b4 → b4 ≡ length p.word ∷ (p.word ++ b5) → b5 ≡ to_be_bytes w32 count ++ b6
     → b6 ≡ segments_bytes p.cuts p.places ++ b7 → b7 ≡ [] → 3 ∷ b0 ≡ plan_spelling p
-unfolding plan_spelling
+unfolding plan_bytes
 spelled_so p b0 b1 b2 b3 b4 b5 b6 b7 count len layout kind fraction horizon word counted segments end =
     let segs = segments_bytes p.cuts p.places in
     let r6 : b6 ≡ segs = segments ∙ ap (λ (xs : List ℕ). segs ++ xs) end ∙ append-nil segs in
@@ -36,7 +49,7 @@ spelled_so p b0 b1 b2 b3 b4 b5 b6 b7 count len layout kind fraction horizon word
     let r3 = horizon ∙ ap (λ (xs : List ℕ). to_be_bytes w64 p.horizon.seconds ++ xs) r4 in
     let r2 = fraction ∙ ap (λ (xs : List ℕ). to_be_bytes w32 p.fraction.over ++ (to_be_bytes w32 p.fraction.under ++ xs)) r3 in
     let r1 = kind ∙ ap (λ (xs : List ℕ). kind_bytes p.kind ++ xs) r2 in
-    ap (λ (xs : List ℕ). 3 ∷ xs) layout ∙ ap (λ (xs : List ℕ). 3 ∷ layout_byte p.layout ∷ xs) r1
+    ap (λ (xs : List ℕ). 3 ∷ xs) layout ∙ ap (λ (xs : List ℕ). 3 ∷ layout_byte p.layout ∷ xs) r1 ∙ sym (spelling_is p)
 
 fits_so : (p : PlanEntry) (count : ℕ) → IsWord p.word → (1 ≤ count) × (count ≤ most_segments) → AreSegments count 0 p.horizon (p.cuts, p.places) → IsPlanEntry p
 fits_so p count word within segments = record {
@@ -79,7 +92,7 @@ plan_takes bytes p fits r =
 
 -- a spelling is the tag, and bytes that are read as the plan
 pub plan_again : (p : PlanEntry) → IsPlanEntry p → (bytes : List ℕ) × (plan_spelling p ≡ 3 ∷ bytes) × (plan_at bytes ≡ Ok p)
-unfolding plan_at plan_spelling
+unfolding plan_at plan_bytes
 plan_again p fits =
     let cut = fits.well_cut in
     let segs = segments_bytes p.cuts p.places in
@@ -106,7 +119,7 @@ plan_again p fits =
       count_field.again (length p.cuts) segs (cut.some, cut.most),
       read,
     ) refl in
-    (bytes, refl, again)
+    (bytes, spelling_is p, again)
 
 -- ---- where it fails
 
@@ -130,12 +143,12 @@ kind_bytes-length Uniform = refl
 kind_bytes-length (Since at) = refl
 
 pub spelling_length : (p : PlanEntry) → IsPlanEntry p → length (plan_spelling p) ≡ plan_length p
-unfolding plan_spelling
+unfolding plan_bytes
 spelling_length p fits =
     let segs = segments_bytes p.cuts p.places in
     let counted = to_be_bytes w32 (length p.cuts) ++ segs in
     let front = to_be_bytes w32 p.fraction.over ++ (to_be_bytes w32 p.fraction.under ++ (to_be_bytes w64 p.horizon.seconds ++ (length p.word ∷ (p.word ++ counted)))) in
-    omega (arith, length-append (kind_bytes p.kind) front, length-append p.word counted, kind_bytes-length p.kind, segments_length p.cuts p.places fits.well_cut.places fits.digests)
+    ap length (spelling_is p) ∙ omega (arith, length-append (kind_bytes p.kind) front, length-append p.word counted, kind_bytes-length p.kind, segments_length p.cuts p.places fits.well_cut.places fits.digests)
 
 kind_short : (k : Kind) → kind_length k ≤ 9
 kind_short Guarantee = omega arith
@@ -164,9 +177,9 @@ pub record IsWritten (p : PlanEntry) (out : List ℕ) : Type 0 where
   pub at_most : length out < 2 ^ 32
 
 pub written : (p : PlanEntry) (none front out : List ℕ) (cuts : List Time) (places : List Place) → IsPlanEntry p
-    → cuts ≡ p.cuts → places ≡ p.places → none ≡ [] → front ++ segments_bytes p.cuts p.places ≡ none ++ plan_spelling p → out ≡ front ++ segments_bytes cuts places → IsWritten p out
+    → cuts ≡ p.cuts → places ≡ p.places → none ≡ [] → front ++ segments_bytes p.cuts p.places ≡ none ++ plan_bytes p → out ≡ front ++ segments_bytes cuts places → IsWritten p out
 written p none front out cuts places fits c d n f o =
-    let same : out ≡ plan_spelling p = o ∙ (λ i. front ++ segments_bytes (c i) (d i)) ∙ f ∙ ap (λ (xs : List ℕ). xs ++ plan_spelling p) n in
+    let same : out ≡ plan_spelling p = o ∙ (λ i. front ++ segments_bytes (c i) (d i)) ∙ f ∙ ap (λ (xs : List ℕ). xs ++ plan_bytes p) n ∙ sym (spelling_is p) in
     let long = plan_long p fits in
     let short = plan_short p fits in
     let as_long = ap (λ (xs : List ℕ). length xs) same in

@@ -1,5 +1,6 @@
 -- Segments one after another: how they are read, and how their cuts ascend.
 use Rattle.std.specs.Prelude.{◌≡◌, ℕ, zero, suc, ◌+◌, ◌-◌, ◌*◌, ◌<◌, ◌≤◌, List, [], ◌∷◌, ◌++◌, length, take, get_or, slice_index, Result, Ok, Err, All, refl}
+use Rattle.std.specs.List.{concat}
 use Rattle.std.specs.List.Sorted.{IsStrictlyIncreasing}
 use Rattle.std.proofs.Common.{sym, ap, subst, ◌∙◌, arith, append_assoc}
 use Rattle.std.proofs.lemmas.List.{append-nil, take_more, length-append, length-take}
@@ -9,7 +10,8 @@ use Rattle.journal_entries.specs.declared.place.Place.{Place}
 use Rattle.journal_entries.specs.declared.fields.FieldError.{FieldError}
 use Rattle.journal_entries.specs.declared.fields.FieldError.TheVariants.{Form, Memory}
 use Rattle.journal_entries.specs.Fields.{Fails}
-use Rattle.journal_entries.specs.PlanSpelling.{segment_bytes, segments_bytes, cut_seconds, IsDigest}
+use Rattle.journal_entries.specs.PlanSpelling.{segments_fields, cut_seconds, IsDigest}
+use Rattle.journal_entries.specs.PlanBytes.{segment_bytes, segments_bytes}
 use Rattle.base_types.specs.Reading.{◌>>=◌}
 use Rattle.journal_entries.specs.PlanReading.{segment_at, segments_at}
 use Rattle.base_types.proofs.Readings.{ok_is}
@@ -156,6 +158,11 @@ is_done cuts places count i least horizon bytes total le so_far =
     sym so_far ∙ one
 
 -- ---- how they are spelled
+
+pub segments_are : (cuts : List Time) (places : List Place) → concat (segments_fields cuts places) ≡ segments_bytes cuts places
+segments_are [] places = refl
+segments_are (c ∷ cuts) [] = refl
+segments_are (c ∷ cuts) (p ∷ places) = ap (λ (xs : List ℕ). segment_bytes c p ++ xs) (segments_are cuts places)
 
 segments_push : (cuts : List Time) (places : List Place) (cut : Time) (place : Place) → length places ≡ length cuts → segments_bytes (cuts ++ cut ∷ []) (places ++ place ∷ []) ≡ segments_bytes cuts places ++ segment_bytes cut place
 segments_push [] [] cut place e = append-nil (segment_bytes cut place)

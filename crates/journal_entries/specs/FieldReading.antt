@@ -1,5 +1,5 @@
--- Reading the fields of an entry from left to right. It fails with the number of bytes left where
--- the field begins that is cut short or not allowed, or at the first surplus byte.
+-- How the code reads the fields of an entry, from left to right. It fails with the number of bytes left where the field begins that is cut short
+-- or not allowed, or at the first surplus byte.
 use Rattle.std.specs.Prelude.{ℕ, ◌+◌, List, [], ◌∷◌, length, take, drop, Result, Ok, Err, nat_lt, if◌then◌else◌}
 use Rattle.std.specs.Int.{Width, w32, w64, byte_len, from_be_bytes}
 use Rattle.base_types.specs.Reading.{◌>>=◌, value_or}

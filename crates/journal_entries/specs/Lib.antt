@@ -1,8 +1,10 @@
 pub mod FieldReading
 pub mod PlanSpelling
+pub mod PlanBytes
 pub mod Numbers
 pub mod PlanReading
 pub mod Spelling
 pub mod Reading
 pub mod Fields
 pub mod Decoding
+pub mod Faults

@@ -1,4 +1,4 @@
--- Fractions and extents made from numbers.
+-- Fractions and extents that the code makes from numbers.
 use Rattle.std.specs.Prelude.{◌≡◌, ℕ, ◌+◌, ◌/◌, ◌^◌, Bool, true, false, nat_lt, nat_le, ◌&&◌, Option, Some, None, refl}
 use Rattle.std.proofs.Common.{ltb-true}
 use Rattle.std.proofs.lemmas.Bool.{leb-true, and_parts}

@@ -1,4 +1,4 @@
--- Reading a plan from left to right, in the steps of `FieldReading`.
+-- How the code reads a plan, from left to right, in the steps of `FieldReading`.
 use Rattle.std.specs.Prelude.{ℕ, zero, suc, ◌+◌, List, [], ◌∷◌, length, take, drop, Option, Some, None, Result, Ok, Err, nat_lt, nat_le, ◌&&◌, if◌then◌else◌}
 use Rattle.std.specs.Int.{Width, w32, w64}
 use Rattle.std.specs.Str.{is_utf8}

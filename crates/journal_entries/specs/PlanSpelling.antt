@@ -1,6 +1,7 @@
 -- How a plan that is stored is spelled in the journal.
-use Rattle.std.specs.Prelude.{◌≡◌, ℕ, ◌+◌, ◌*◌, ◌<◌, ◌≤◌, List, [], ◌∷◌, ◌++◌, length, map, All, IsUtf8}
+use Rattle.std.specs.Prelude.{◌≡◌, ℕ, ◌<◌, ◌≤◌, List, [], ◌∷◌, ◌++◌, length, map, All, IsUtf8}
 use Rattle.std.specs.Int.{w32, w64, to_be_bytes}
+use Rattle.std.specs.List.{concat}
 use Rattle.std.specs.List.Sorted.{IsStrictlyIncreasing}
 use Rattle.base_commands.specs.declared.command.Kind.{Kind}
 use Rattle.base_commands.specs.declared.command.Kind.TheVariants.{Guarantee, Uniform, Since}
@@ -14,43 +15,34 @@ use Rattle.journal_entries.specs.declared.plan.PlanEntry.{PlanEntry}
 abbrev pub most_segments : ℕ
 most_segments = 1048575
 
--- ---- the bytes
+-- ---- the fields
 
 abbrev pub layout_byte : Layout → ℕ
 layout_byte Flat = 1
 layout_byte Blocks = 2
 
--- the kind, and the time since which it asks
-abbrev pub kind_bytes : Kind → List ℕ
-kind_bytes Guarantee = 1 ∷ []
-kind_bytes Uniform = 2 ∷ []
-kind_bytes (Since at) = 3 ∷ to_be_bytes w64 at.seconds
+-- the kind, and behind it the time since which it asks
+abbrev pub kind_fields : Kind → List (List ℕ)
+kind_fields Guarantee = (1 ∷ []) ∷ []
+kind_fields Uniform = (2 ∷ []) ∷ []
+kind_fields (Since at) = (3 ∷ []) ∷ to_be_bytes w64 at.seconds ∷ []
 
--- the 52 bytes of a segment: its left cut, and the place of its sublist
-abbrev pub segment_bytes : Time → Place → List ℕ
-segment_bytes cut place = to_be_bytes w64 cut.seconds ++ (to_be_bytes w32 place.extent.first ++ (to_be_bytes w64 place.extent.bytes ++ place.digest))
+-- the four fields of each segment: its left cut, and the place of its sublist
+abbrev pub segments_fields : List Time → List Place → List (List ℕ)
+segments_fields [] places = []
+segments_fields (cut ∷ cuts) [] = []
+segments_fields (cut ∷ cuts) (place ∷ places) =
+    to_be_bytes w64 cut.seconds ∷ to_be_bytes w32 place.extent.first ∷ to_be_bytes w64 place.extent.bytes ∷ place.digest ∷ segments_fields cuts places
 
--- the bytes of segments, one after another
-abbrev pub segments_bytes : List Time → List Place → List ℕ
-segments_bytes [] places = []
-segments_bytes (cut ∷ cuts) [] = []
-segments_bytes (cut ∷ cuts) (place ∷ places) = segment_bytes cut place ++ segments_bytes cuts places
+-- the fields of a plan, from its tag on, where `count` is written as the number of its segments
+abbrev pub plan_fields : ℕ → PlanEntry → List (List ℕ)
+plan_fields count p =
+    (3 ∷ []) ∷ (layout_byte p.layout ∷ []) ∷ (kind_fields p.kind ++ (to_be_bytes w32 p.fraction.over ∷ to_be_bytes w32 p.fraction.under ∷ to_be_bytes w64 p.horizon.seconds
+    ∷ (length p.word ∷ []) ∷ p.word ∷ to_be_bytes w32 count ∷ segments_fields p.cuts p.places))
 
--- the bytes of a plan: the tag, the fields, and the segments
+-- the bytes of a plan: those of its fields
 unfoldable pub plan_spelling : PlanEntry → List ℕ
-plan_spelling p =
-    3 ∷ layout_byte p.layout ∷ (kind_bytes p.kind ++ (to_be_bytes w32 p.fraction.over ++ (to_be_bytes w32 p.fraction.under ++ (to_be_bytes w64 p.horizon.seconds
-    ++ (length p.word ∷ (p.word ++ (to_be_bytes w32 (length p.cuts) ++ segments_bytes p.cuts p.places)))))))
-
--- how many bytes a kind takes
-abbrev pub kind_length : Kind → ℕ
-kind_length Guarantee = 1
-kind_length Uniform = 1
-kind_length (Since at) = 9
-
--- how many bytes a plan takes
-abbrev pub plan_length : PlanEntry → ℕ
-plan_length p = 23 + kind_length p.kind + length p.word + 52 * length p.cuts
+plan_spelling p = concat (plan_fields (length p.cuts) p)
 
 -- ---- what has a spelling
 

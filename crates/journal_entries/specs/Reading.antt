@@ -1,6 +1,6 @@
--- Reading an entry from left to right. It fails with the number of bytes left where the field
--- begins that is cut short or not allowed, or at the first surplus byte.
-use Rattle.std.specs.Prelude.{◌≡◌, ℕ, zero, suc, ◌+◌, List, [], ◌∷◌, length, Result, Ok, Err, nat_le, ◌&&◌, if◌then◌else◌}
+-- How the code reads an entry, from left to right. It fails with the number of bytes left where the field begins that is cut short or not
+-- allowed, or at the first surplus byte: proofs show that this is where the bytes are at fault (`Faults`).
+use Rattle.std.specs.Prelude.{ℕ, zero, suc, ◌+◌, List, [], ◌∷◌, length, Result, Ok, Err, nat_le, ◌&&◌, if◌then◌else◌}
 use Rattle.std.specs.Str.{is_utf8}
 use Rattle.base_types.specs.declared.ids.DocId.{DocId}
 use Rattle.base_types.specs.declared.time.Time.{Time}
@@ -19,25 +19,25 @@ text_at bytes =
     else Err (length bytes)
 
 -- the document and the time of a change, and the bytes after them
-unfoldable pub change_at : List ℕ → Result (DocId × Time × List ℕ) ℕ
+unfoldable pub change_at : List ℕ → Result ((DocId × Time) × List ℕ) ℕ
 change_at bytes = do
   doc ← doc_at bytes
   at ← time_at doc.1
-  Ok (doc.0, at.0, at.1)
+  Ok ((doc.0, at.0), at.1)
 
 -- an arrival, from behind its tag
 unfoldable pub arrive_at : List ℕ → Result Entry ℕ
 arrive_at bytes = do
   change ← change_at bytes
-  text ← text_at change.2
-  Ok (Arrive change.0 change.1 text)
+  text ← text_at change.1
+  Ok (Arrive change.0.0 change.0.1 text)
 
 -- a deletion, from behind its tag
 unfoldable pub delete_at : List ℕ → Result Entry ℕ
 delete_at bytes = do
   change ← change_at bytes
-  end ← end_at change.2
-  Ok (Delete change.0 change.1)
+  end ← end_at change.1
+  Ok (Delete change.0.0 change.0.1)
 
 -- an entry that takes all the bytes
 unfoldable pub entry_at : List ℕ → Result Entry ℕ
@@ -49,7 +49,3 @@ entry_at (suc (suc (suc zero)) ∷ bytes) = do
   plan ← plan_at bytes
   Ok (Planned plan)
 entry_at (suc (suc (suc (suc tag))) ∷ bytes) = Err (length bytes + 1)
-
--- the reading of these bytes fails at this offset
-abbrev pub IsFault : List ℕ → ℕ → Type 0
-IsFault bytes at = (left : ℕ) × (at + left ≡ length bytes) × (entry_at bytes ≡ Err left)

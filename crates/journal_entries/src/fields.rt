@@ -96,7 +96,7 @@ pub fn time_at(bytes: &[u8]) -> Result<(Time, &[u8]), FieldError>
 /// The document and the time of a change, and the bytes behind them.
 #[tactic(auto, unfolding(crate::specs::Reading::change_at))]
 pub fn change_at(bytes: &[u8]) -> Result<(DocId, Time, &[u8]), FieldError>
-    ensures { Gives (λ x. (x.0, x.1, x.2.now)) result (change_at bytes.now) }
+    ensures { Gives (λ x. ((x.0, x.1), x.2.now)) result (change_at bytes.now) }
 {
     let (doc, rest) = doc_at(bytes)?;
     let (at, rest) = time_at(rest)?;

@@ -1,10 +1,15 @@
 //! What holds of spellings whatever is read or written.
-ghost use Rattle.std.specs.Prelude.{◌≡◌, ◌≢◌, ℕ, ◌<◌, ◌≤◌, ◌^◌, List, All, length};
+ghost use Rattle.std.specs.Prelude.{◌≡◌, ◌≢◌, ℕ, ◌<◌, ◌≤◌, ◌^◌, List, ◌++◌, All, length};
+ghost use Rattle.std.specs.List.{concat};
+ghost use Rattle.base_types.specs.declared.ids.DocId.{DocId};
+ghost use Rattle.base_types.specs.declared.time.Time.{Time};
 ghost use Rattle.journal_entries.specs.declared.entry.Entry.{Entry};
+ghost use Rattle.journal_entries.specs.declared.entry.Entry.TheVariants.{Arrive, Delete, Planned};
 ghost use Rattle.journal_entries.specs.Spelling.{spelling, IsEntry};
-ghost use Rattle.journal_entries.specs.Reading.{IsFault};
+ghost use Rattle.journal_entries.specs.Faults.{fields, IsBegunPlan, IsFault};
 ghost use Rattle.journal_entries.specs.declared.plan.PlanEntry.{PlanEntry};
-ghost use Rattle.journal_entries.specs.PlanSpelling.{plan_spelling, plan_length, IsPlanEntry};
+ghost use Rattle.journal_entries.specs.PlanSpelling.{plan_spelling, IsPlanEntry};
+ghost use Rattle.journal_entries.specs.PlanBytes.{plan_length};
 
 /// Spellings and entries match one to one, and what is no spelling has one fault. Does nothing.
 pub fn spelling_laws()
@@ -19,6 +24,15 @@ pub fn spelling_laws()
     // The journal's length of a record holds a spelling's.
     ensures at_least { (e : Entry) → IsEntry e → 13 ≤ length (spelling e) }
     ensures at_most { (e : Entry) → IsEntry e → length (spelling e) < 2 ^ 32 }
+{}
+
+/// The fields of an entry are its spelling, up to an arrival's text. Does nothing.
+pub fn field_laws()
+    ensures arrived { (count : ℕ) (doc : DocId) (at : Time) (text : List ℕ) → spelling (Arrive doc at text) ≡ concat (fields count (Arrive doc at text)) ++ text }
+    ensures deleted { (count : ℕ) (doc : DocId) (at : Time) → spelling (Delete doc at) ≡ concat (fields count (Delete doc at)) }
+    ensures planned { (p : PlanEntry) → spelling (Planned p) ≡ concat (fields (length p.cuts) (Planned p)) }
+    // A plan of which no segment is missing is begun.
+    ensures begun { (p : PlanEntry) → IsPlanEntry p → IsBegunPlan (length p.cuts) p }
 {}
 
 /// How long the spellings of plans are. Does nothing.

@@ -3,8 +3,8 @@
 //! Each entry has one spelling (`specs/Spelling.antt`, `specs/PlanSpelling.antt`): a tag byte, and
 //! fields with numbers big-endian; an arrival ends with a text to the end of the body, a plan with
 //! its segments. Contracts see an entry as a plain value and a text as its bytes. What is decoded
-//! is spelled by exactly the bytes that were given, and bytes that spell no entry are refused at
-//! the first field that is wrong (`specs/Reading.antt`, `specs/PlanReading.antt`).
+//! is spelled by exactly the bytes that were given, and bytes that spell no entry are refused
+//! behind the longest front with which an entry begins (`specs/Faults.antt`).
 #![tactic(auto)]
 
 mod entry;
@@ -23,7 +23,7 @@ mod writing;
 
 pub use entry::Entry;
 pub use error::CodecError;
-pub use laws::{plan_laws, spelling_laws};
+pub use laws::{field_laws, plan_laws, spelling_laws};
 pub use place::{Layout, Place};
 pub use plan::{Listed, PlanEntry};
 pub use plan_writing::encode_plan;

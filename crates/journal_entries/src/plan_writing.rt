@@ -1,6 +1,7 @@
 //! Spelling a plan.
 ghost use Rattle.std.specs.Prelude.{◌≡◌, ◌<◌, ◌≤◌, ◌^◌, ◌++◌, length, All, OnOk, IfOk};
-ghost use Rattle.journal_entries.specs.PlanSpelling.{layout_byte, kind_bytes, segment_bytes, segments_bytes, plan_spelling, plan_length, IsDigest, IsWellCut, IsPlanEntry};
+ghost use Rattle.journal_entries.specs.PlanSpelling.{layout_byte, plan_spelling, IsDigest, IsWellCut, IsPlanEntry};
+ghost use Rattle.journal_entries.specs.PlanBytes.{kind_bytes, segment_bytes, segments_bytes, plan_bytes, plan_length};
 
 use crate::place::{Layout, Place};
 use crate::plan::PlanEntry;
@@ -62,10 +63,10 @@ fn put_kind(out: &mut Vec<u8>, kind: Kind) -> Result<(), AllocError>
 }
 
 /// Adds what stands in front of the segments.
-#[tactic(auto, unfolding(crate::specs::PlanSpelling::plan_spelling))]
+#[tactic(auto, unfolding(crate::specs::PlanBytes::plan_bytes))]
 fn put_front(out: &mut Vec<u8>, plan: &PlanEntry) -> Result<(), AllocError>
     requires { IsWellCut plan.now }
-    ensures { OnOk result (out.new.items ++ segments_bytes plan.now.cuts plan.now.places ≡ out.old.items ++ plan_spelling plan.now) }
+    ensures { OnOk result (out.new.items ++ segments_bytes plan.now.cuts plan.now.places ≡ out.old.items ++ plan_bytes plan.now) }
 {
     let word = plan.word.as_str();
     out.push(PLANNED)?;

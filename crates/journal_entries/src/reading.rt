@@ -1,10 +1,11 @@
 //! Reading an entry.
-ghost use Rattle.std.specs.Prelude.{◌≡◌, ◌≢◌, ℕ, IfOk};
+ghost use Rattle.std.specs.Prelude.{◌≡◌, ℕ, IfOk};
 ghost use Rattle.journal_entries.specs.declared.entry.Entry.{Entry};
 ghost use Rattle.journal_entries.specs.Spelling.{spelling, IsEntry};
 ghost use Rattle.journal_entries.specs.Reading.{arrive_at, delete_at, entry_at};
 ghost use Rattle.journal_entries.specs.Fields.{Gives};
-ghost use Rattle.journal_entries.specs.Decoding.{Decodes, IsReadAs};
+ghost use Rattle.journal_entries.specs.Decoding.{IsReadAs};
+ghost use Rattle.journal_entries.specs.Faults.{IsFault};
 
 use crate::entry::Entry;
 use crate::error::CodecError;
@@ -49,10 +50,8 @@ pub fn decode(alloc: Global, body: &[u8]) -> Result<Entry, CodecError>
     ensures found { IfOk result (λ e. IsEntry e × (body.now ≡ spelling e)) }
     // What is spelled so is read, unless memory ran out.
     ensures only { (e : Entry) → IsEntry e → body.now ≡ spelling e → IsReadAs e result }
-    // Where a place is named, no entry is spelled.
-    ensures nothing { (at : ℕ) → result ≡ Err (CodecError.Form at) → (e : Entry) → IsEntry e → body.now ≢ spelling e }
-    // Which place is named.
-    ensures exact { Decodes body.now result }
+    // Where a place is named, no entry is spelled, and that is where the bytes are at fault.
+    ensures fault { (at : ℕ) → result ≡ Err (CodecError.Form at) → IsFault body.now at }
 {
     match entry_at(alloc, body) {
         Ok(entry) => Ok(entry),

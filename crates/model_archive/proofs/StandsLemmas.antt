@@ -9,9 +9,10 @@ use Rattle.journal_gates.specs.Records.{front}
 use Rattle.journal_gates.specs.Spelled.{Spells}
 use Rattle.journal_gates.proofs.SpellingLemmas.{spells_once, spelled_not_refused, refused_once}
 use Rattle.journal_entries.specs.Spelling.{spelling, IsEntry}
-use Rattle.journal_entries.specs.Reading.{IsFault}
+use Rattle.journal_entries.specs.Faults.{IsFault}
 use Rattle.journal_entries.specs.declared.entry.Entry.{Entry}
-use Rattle.journal_entries.proofs.EntryLemmas.{one_entry, entry_again}
+use Rattle.journal_entries.proofs.EntryLemmas.{one_entry}
+use Rattle.journal_entries.proofs.FaultLemmas.{one_fault as one_place}
 use Rattle.base_types.specs.declared.extent.Extent.{Extent}
 use Rattle.pages_area.specs.Runs.{IsTaken}
 use Rattle.pages_area.specs.Taken.{AreApart}
@@ -39,7 +40,7 @@ Fault before body gate at = ((offset : ℕ) × IsMisspelled body offset × (at �
 
 -- a spelling has no fault
 spelled_no_fault : (e : Entry) (at : ℕ) → IsEntry e → IsFault (spelling e) at → ⊥
-spelled_no_fault e at fits fault = let read = entry_again e fits in let fails = fault.2 in cc
+spelled_no_fault e at fits fault = fault.misspelled e fits refl
 
 -- an entry that loads has no fault
 loads_no_fault : (before : History) (e : Entry) (body : List ℕ) (gate at : ℕ) → IsLoadableEntry before e → spelling e ≡ body → Fault before body gate at → ⊥
@@ -134,8 +135,8 @@ meet (p ∷ a) (q ∷ b) x y s t same =
 -- one entry behind one history has one fault
 one_fault : (before : History) (body : List ℕ) (gate one other : ℕ) → Fault before body gate one → Fault before body gate other → one ≡ other
 one_fault before body gate one other (inl a) (inl b) =
-    let left : a.1.0 ≡ b.1.0 = let first = a.1.2 in let second = b.1.2 in cc in
-    omega (arith, a.1.1, b.1.1, a.2, b.2)
+    let same : a.0 ≡ b.0 = one_place body a.0 b.0 a.1 b.1 in
+    omega (arith, same, a.2, b.2)
 one_fault before body gate one other (inl a) (inr b) =
     let P : List ℕ → Type 0 = λ l. IsMisspelled l a.0 in absurd (spelled_no_fault b.0.entry a.0 b.0.ranges (subst P b.0.spelled a.1))
 one_fault before body gate one other (inr a) (inl b) =

@@ -8,7 +8,7 @@ use Rattle.journal_gates.specs.Spelled.{Spells}
 use Rattle.journal_gates.specs.Refused.{IsNotJournal}
 use Rattle.pages_area.specs.Live.{AreLive}
 use Rattle.journal_entries.specs.Spelling.{spelling, IsEntry}
-use Rattle.journal_entries.specs.Reading.{IsFault}
+use Rattle.journal_entries.specs.Faults.{IsFault}
 use Rattle.journal_entries.specs.declared.entry.Entry.{Entry}
 use Rattle.model_archive.specs.Histories.{History}
 use Rattle.model_archive.specs.Legal.{IsLoadable, IsLoadableEntry}
@@ -35,7 +35,7 @@ StandsIn world image = Stands world.history image
 abbrev pub EachStands : DiskState → History → Type 0
 EachStands d history = (image : Bytes) → MayLeave d.now image → Stands history image
 
--- a body that spells no entry: the offset of the first field that is cut short or not allowed, or of the first surplus byte
+-- a body that spells no entry: the offset behind the longest front with which an entry begins
 abbrev pub IsMisspelled : List ℕ → ℕ → Type 0
 IsMisspelled body offset = IsFault body offset
 

@@ -1,9 +1,9 @@
 use Rattle.std.proofs.Common.{append_assoc, refl}
-use Rattle.journal_entries.specs.PlanSpelling.{plan_spelling}
+use Rattle.journal_entries.specs.PlanBytes.{plan_bytes}
 use Rattle.journal_entries.proofs.plan_writing.put_front.Goals as goal
 
 pub returns : goal.returns
-unfolding plan_spelling
+unfolding plan_bytes
 returns c =
     rw (
       c.in_ok-extend_from_slice-5.ensures.items,

@@ -1,5 +1,5 @@
 use Rattle.std.proofs.Common.{◌≡◌, ◌++◌, length, take}
-use Rattle.journal_entries.specs.PlanSpelling.{segments_bytes}
+use Rattle.journal_entries.specs.PlanBytes.{segments_bytes}
 use Rattle.journal_entries.proofs.plan_writing.put_segments.Given as goal
 
 abbrev pub invariant-loop-cut : goal.invariant-loop-cut

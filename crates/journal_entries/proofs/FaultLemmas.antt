@@ -1,0 +1,307 @@
+-- Where reading an entry fails is where its bytes are at fault.
+use Rattle.std.specs.Prelude.{◌≡◌, ◌⊎◌, ℕ, zero, suc, ◌+◌, ◌-◌, ◌<◌, ◌≤◌, List, [], ◌∷◌, ◌++◌, length, take, drop, Result, Ok, Err, refl}
+use Rattle.std.specs.Int.{w32, w64, to_be_bytes}
+use Rattle.std.specs.List.{concat}
+use Rattle.std.proofs.Common.{sym, ap, subst, ◌∙◌, arith, inl, inr}
+use Rattle.std.proofs.lemmas.Bool.{cases_order}
+use Rattle.std.proofs.lemmas.List.{take_at, take-append-drop, length-append, length-drop}
+use Rattle.std.proofs.lemmas.Str.{IsUtf8-nil}
+use Rattle.base_types.specs.declared.ids.DocId.{DocId}
+use Rattle.base_types.specs.declared.fraction.Fraction.{Fraction}
+use Rattle.base_types.specs.declared.time.Time.{Time}
+use Rattle.base_commands.specs.declared.command.Kind.{Kind}
+use Rattle.base_commands.specs.declared.command.Kind.TheVariants.{Guarantee}
+use Rattle.journal_entries.specs.declared.entry.Entry.{Entry}
+use Rattle.journal_entries.specs.declared.entry.Entry.TheVariants.{Arrive, Delete, Planned}
+use Rattle.journal_entries.specs.declared.place.Layout.{Layout}
+use Rattle.journal_entries.specs.declared.place.Place.{Place}
+use Rattle.journal_entries.specs.declared.plan.PlanEntry.{PlanEntry}
+use Rattle.journal_entries.specs.PlanSpelling.{most_segments, layout_byte, kind_fields, segments_fields, plan_fields, IsWord}
+use Rattle.journal_entries.specs.PlanBytes.{kind_bytes, segments_bytes}
+use Rattle.journal_entries.specs.Spelling.{spelling, IsEntry}
+use Rattle.journal_entries.specs.Faults.{fields, IsBegunPlan, IsBegun, Begins, IsFault}
+use Rattle.base_types.specs.Reading.{◌>>=◌}
+use Rattle.journal_entries.specs.FieldReading.{time_at, end_at}
+use Rattle.journal_entries.specs.PlanReading.{number_in, layout_at, kind_at, fraction_at, key_at, segments_at, plan_at}
+use Rattle.journal_entries.specs.Reading.{change_at, text_at, arrive_at, delete_at, entry_at}
+use Rattle.base_types.proofs.Bytes.{IsBytes}
+use Rattle.base_types.proofs.Readings.{Within, Within-err}
+use Rattle.journal_entries.proofs.Steps.{err_is, no_fault, test_err}
+use Rattle.journal_entries.proofs.FieldLemmas.{text_within, end_within}
+use Rattle.journal_entries.proofs.SegmentLemmas.{increasing, rising, AreSegments, segments_field, segments_are}
+use Rattle.journal_entries.proofs.ChangeLemmas.{IsDoc, change_field}
+use Rattle.journal_entries.proofs.Stops.{InFront, none, more_in_front, IsStopped, Of, Then, renamed, made, after_any, closed}
+use Rattle.journal_entries.proofs.FieldStops.{time_0, time_front, number_front, layout_front, kind_front, fraction_fields, fraction_front, key_fields, word_1, key_front, AreBegun, OfSegments, no_segments, segments_stopped, change_fields, change_front}
+use Rattle.journal_entries.proofs.EntryLemmas.{entry_takes, entry_within, entry_left, entry_none}
+
+-- ---- an arrival and a deletion, from behind the tag
+
+text_fails : (bytes : List ℕ) (left : ℕ) → text_at bytes ≡ Err left → left ≡ length bytes
+text_fails bytes left e = (test_err (List ℕ) _ bytes left (length bytes) e).1
+
+end_fails : (bytes : List ℕ) (left : ℕ) → end_at bytes ≡ Err left → left ≡ length bytes
+end_fails [] left e = absurd (no_fault (Unit {0}) tt left e)
+end_fails (b ∷ bytes) left e = let h = err_is (Unit {0}) (length bytes + 1) left e in omega (arith, h)
+
+abbrev OfChange : List (List ℕ) → Type 0
+OfChange = Of change_fields (λ c. IsDoc c.0)
+
+of_whole : (c : DocId × Time) → IsDoc c.0 → (fs : List (List ℕ)) × OfChange fs × (concat fs ≡ to_be_bytes w32 c.0.0 ++ to_be_bytes w64 c.1.seconds)
+of_whole c fit = (change_fields c, (c, fit, refl), change_front.same c)
+
+arrive_stopped : IsStopped Entry (λ _. 0) arrive_at OfChange
+unfolding arrive_at
+arrive_stopped = closed (DocId × Time) (List ℕ) Entry change_at (λ c. to_be_bytes w32 c.0.0 ++ to_be_bytes w64 c.1.seconds) (λ c. IsDoc c.0) OfChange text_at (λ c text. Arrive c.0 c.1 text)
+    change_field change_front.stopped of_whole text_within text_fails
+
+delete_stopped : IsStopped Entry (λ _. 0) delete_at OfChange
+unfolding delete_at
+delete_stopped = closed (DocId × Time) (Unit {0}) Entry change_at (λ c. to_be_bytes w32 c.0.0 ++ to_be_bytes w64 c.1.seconds) (λ c. IsDoc c.0) OfChange end_at (λ c end. Delete c.0 c.1)
+    change_field change_front.stopped of_whole end_within end_fails
+
+-- ---- a plan, from behind the tag
+
+abbrev OfCount : Time → List (List ℕ) → Type 0
+OfCount horizon = Then (λ n. to_be_bytes w32 n ∷ []) (λ n. (1 ≤ n) × (n ≤ most_segments)) (λ n. OfSegments n 0 horizon)
+
+abbrev OfWord : Time → List (List ℕ) → Type 0
+OfWord horizon = Then key_fields IsWord (λ _. OfCount horizon)
+
+abbrev OfHorizon : List (List ℕ) → Type 0
+OfHorizon = Then (λ (t : Time). to_be_bytes w64 t.seconds ∷ []) (λ _. Unit {0}) OfWord
+
+abbrev OfFraction : List (List ℕ) → Type 0
+OfFraction = Then fraction_fields (λ _. Unit {0}) (λ _. OfHorizon)
+
+abbrev OfKind : List (List ℕ) → Type 0
+OfKind = Then kind_fields (λ _. Unit {0}) (λ _. OfFraction)
+
+abbrev OfLayout : List (List ℕ) → Type 0
+OfLayout = Then (λ (l : Layout). (layout_byte l ∷ []) ∷ []) (λ _. Unit {0}) (λ _. OfKind)
+
+-- some fields of each
+some_segments : (count : ℕ) (horizon : Time) → (fs : List (List ℕ)) × OfSegments count 0 horizon fs
+some_segments count horizon = ([], (([], []), no_segments count 0 horizon, refl))
+
+some_count : (horizon : Time) → (fs : List (List ℕ)) × OfCount horizon fs
+some_count horizon = let s = some_segments 1 horizon in (_, (1, (omega arith, omega arith), s.0, s.1, refl))
+
+some_word : (horizon : Time) → (fs : List (List ℕ)) × OfWord horizon fs
+some_word horizon = let s = some_count horizon in (_, (word_1.0, word_1.1, s.0, s.1, refl))
+
+some_horizon : (fs : List (List ℕ)) × OfHorizon fs
+some_horizon = let s = some_word time_0 in (_, (time_0, tt, s.0, s.1, refl))
+
+fraction_1 : Fraction
+fraction_1 = record { over = 1; under = 1; proper = omega arith; at_least_one = omega arith; in_range = omega arith }
+
+some_fraction : (fs : List (List ℕ)) × OfFraction fs
+some_fraction = let s = some_horizon in (_, (fraction_1, tt, s.0, s.1, refl))
+
+some_kind : (fs : List (List ℕ)) × OfKind fs
+some_kind = let s = some_fraction in (_, (Guarantee, tt, s.0, s.1, refl))
+
+-- what is read behind each
+abbrev read_segments : Layout → Kind → Fraction → Time → List ℕ → ℕ → List ℕ → Result PlanEntry ℕ
+read_segments layout kind fraction horizon word count bytes = segments_at count 0 horizon bytes >>= λ s. end_at s.1 >>= λ end.
+    Ok (record { word = word; layout = layout; kind = kind; fraction = fraction; horizon = horizon; cuts = s.0.0; places = s.0.1 })
+
+abbrev read_count : Layout → Kind → Fraction → Time → List ℕ → List ℕ → Result PlanEntry ℕ
+read_count layout kind fraction horizon word bytes = number_in 1 most_segments bytes >>= λ count. read_segments layout kind fraction horizon word count.0 count.1
+
+abbrev read_word : Layout → Kind → Fraction → Time → List ℕ → Result PlanEntry ℕ
+read_word layout kind fraction horizon bytes = key_at bytes >>= λ word. read_count layout kind fraction horizon word.0 word.1
+
+abbrev read_horizon : Layout → Kind → Fraction → List ℕ → Result PlanEntry ℕ
+read_horizon layout kind fraction bytes = time_at bytes >>= λ horizon. read_word layout kind fraction horizon.0 horizon.1
+
+abbrev read_fraction : Layout → Kind → List ℕ → Result PlanEntry ℕ
+read_fraction layout kind bytes = fraction_at bytes >>= λ fraction. read_horizon layout kind fraction.0 fraction.1
+
+abbrev read_kind : Layout → List ℕ → Result PlanEntry ℕ
+read_kind layout bytes = kind_at bytes >>= λ kind. read_fraction layout kind.0 kind.1
+
+are_begun : (count : ℕ) (horizon : Time) (s : List Time × List Place) → AreSegments count 0 horizon s → AreBegun count 0 horizon s
+are_begun count horizon s a = record { cuts = omega (arith, a.cuts); places = a.places ∙ sym a.cuts; ascend = a.ascend; digests = a.digests }
+
+segments_last : (layout : Layout) (kind : Kind) (fraction : Fraction) (horizon : Time) (word : List ℕ) (count : ℕ) → IsStopped PlanEntry (λ _. 0) (read_segments layout kind fraction horizon word count) (OfSegments count 0 horizon)
+segments_last layout kind fraction horizon word count = closed (List Time × List Place) (Unit {0}) PlanEntry (segments_at count 0 horizon) (λ s. segments_bytes s.0 s.1) (AreSegments count 0 horizon) (OfSegments count 0 horizon) end_at
+    (λ s end. record { word = word; layout = layout; kind = kind; fraction = fraction; horizon = horizon; cuts = s.0; places = s.1 })
+    (segments_field count 0 horizon) (segments_stopped count 0 horizon)
+    (λ s fit. (segments_fields s.0 s.1, (s, are_begun count horizon s fit, refl), segments_are s.0 s.1))
+    end_within end_fails
+
+count_last : (layout : Layout) (kind : Kind) (fraction : Fraction) (horizon : Time) (word : List ℕ) → IsStopped PlanEntry (λ _. 0) (read_count layout kind fraction horizon word) (OfCount horizon)
+count_last layout kind fraction horizon word = after_any ℕ PlanEntry (λ _. 0) (number_in 1 most_segments) (λ n. to_be_bytes w32 n) (λ n. to_be_bytes w32 n ∷ []) (λ n. (1 ≤ n) × (n ≤ most_segments))
+    (read_segments layout kind fraction horizon word) (λ n. OfSegments n 0 horizon) (number_front 1 most_segments (omega arith) (omega arith)) (segments_last layout kind fraction horizon word) (λ n. some_segments n horizon)
+
+word_last : (layout : Layout) (kind : Kind) (fraction : Fraction) (horizon : Time) → IsStopped PlanEntry (λ _. 0) (read_word layout kind fraction horizon) (OfWord horizon)
+word_last layout kind fraction horizon = after_any (List ℕ) PlanEntry (λ _. 0) key_at (λ word. length word ∷ word) key_fields IsWord
+    (read_count layout kind fraction horizon) (λ _. OfCount horizon) key_front (count_last layout kind fraction horizon) (λ _. some_count horizon)
+
+horizon_last : (layout : Layout) (kind : Kind) (fraction : Fraction) → IsStopped PlanEntry (λ _. 0) (read_horizon layout kind fraction) OfHorizon
+horizon_last layout kind fraction = after_any Time PlanEntry (λ _. 0) time_at (λ t. to_be_bytes w64 t.seconds) (λ t. to_be_bytes w64 t.seconds ∷ []) (λ _. Unit {0})
+    (read_word layout kind fraction) OfWord time_front (word_last layout kind fraction) some_word
+
+fraction_last : (layout : Layout) (kind : Kind) → IsStopped PlanEntry (λ _. 0) (read_fraction layout kind) OfFraction
+fraction_last layout kind = after_any Fraction PlanEntry (λ _. 0) fraction_at (λ f. to_be_bytes w32 f.over ++ to_be_bytes w32 f.under) fraction_fields (λ _. Unit {0})
+    (read_horizon layout kind) (λ _. OfHorizon) fraction_front (horizon_last layout kind) (λ _. some_horizon)
+
+kind_last : (layout : Layout) → IsStopped PlanEntry (λ _. 0) (read_kind layout) OfKind
+kind_last layout = after_any Kind PlanEntry (λ _. 0) kind_at kind_bytes kind_fields (λ _. Unit {0})
+    (read_fraction layout) (λ _. OfFraction) kind_front (fraction_last layout) (λ _. some_fraction)
+
+layout_last : IsStopped PlanEntry (λ _. 0) plan_at OfLayout
+unfolding plan_at
+layout_last = after_any Layout PlanEntry (λ _. 0) layout_at (λ l. layout_byte l ∷ []) (λ l. (layout_byte l ∷ []) ∷ []) (λ _. Unit {0})
+    read_kind (λ _. OfKind) layout_front kind_last (λ _. some_kind)
+
+-- the fields of a plan that is begun, behind its tag
+abbrev OfPlan : List (List ℕ) → Type 0
+OfPlan fs = (count : ℕ) × (p : PlanEntry) × IsBegunPlan count p × (fs ≡ drop 1 (plan_fields count p))
+
+plan_of : (fs : List (List ℕ)) → OfLayout fs → OfPlan fs
+plan_of fs l =
+    let k = l.3 in
+    let f = k.3 in
+    let h = f.3 in
+    let w = h.3 in
+    let c = w.3 in
+    let s = c.3 in
+    let p : PlanEntry = record { word = w.0; layout = l.0; kind = k.0; fraction = f.0; horizon = h.0; cuts = s.0.0; places = s.0.1 } in
+    let begun : IsBegunPlan c.0 p = record {
+      some = c.1.0;
+      most = c.1.1;
+      cuts = s.1.cuts;
+      places = s.1.places;
+      ascend = increasing 0 h.0 s.0.0 s.1.ascend;
+      word = w.1;
+      digests = s.1.digests;
+    } in
+    let behind_count = c.4 ∙ ap (λ (gs : List (List ℕ)). to_be_bytes w32 c.0 ∷ gs) s.2 in
+    let behind_word = w.4 ∙ ap (λ (gs : List (List ℕ)). key_fields w.0 ++ gs) behind_count in
+    let behind_horizon = h.4 ∙ ap (λ (gs : List (List ℕ)). to_be_bytes w64 h.0.seconds ∷ gs) behind_word in
+    let behind_fraction = f.4 ∙ ap (λ (gs : List (List ℕ)). fraction_fields f.0 ++ gs) behind_horizon in
+    let behind_kind = k.4 ∙ ap (λ (gs : List (List ℕ)). kind_fields k.0 ++ gs) behind_fraction in
+    (c.0, p, begun, l.4 ∙ ap (λ (gs : List (List ℕ)). (layout_byte l.0 ∷ []) ∷ gs) behind_kind)
+
+layout_of : (fs : List (List ℕ)) → OfPlan fs → OfLayout fs
+layout_of fs f =
+    let count = f.0 in
+    let p = f.1 in
+    let b = f.2 in
+    let begun : AreBegun count 0 p.horizon (p.cuts, p.places) = record { cuts = b.cuts; places = b.places; ascend = rising 0 p.horizon p.cuts (omega arith) b.ascend; digests = b.digests } in
+    let segments : OfSegments count 0 p.horizon (segments_fields p.cuts p.places) = ((p.cuts, p.places), begun, refl) in
+    let counted : OfCount p.horizon (to_be_bytes w32 count ∷ segments_fields p.cuts p.places) = (count, (b.some, b.most), _, segments, refl) in
+    let word : OfWord p.horizon (key_fields p.word ++ to_be_bytes w32 count ∷ segments_fields p.cuts p.places) = (p.word, b.word, _, counted, refl) in
+    let horizon : OfHorizon (to_be_bytes w64 p.horizon.seconds ∷ (key_fields p.word ++ to_be_bytes w32 count ∷ segments_fields p.cuts p.places)) = (p.horizon, tt, _, word, refl) in
+    let fraction : OfFraction (fraction_fields p.fraction ++ to_be_bytes w64 p.horizon.seconds ∷ (key_fields p.word ++ to_be_bytes w32 count ∷ segments_fields p.cuts p.places)) = (p.fraction, tt, _, horizon, refl) in
+    let kind : OfKind (kind_fields p.kind ++ (fraction_fields p.fraction ++ to_be_bytes w64 p.horizon.seconds ∷ (key_fields p.word ++ to_be_bytes w32 count ∷ segments_fields p.cuts p.places))) = (p.kind, tt, _, fraction, refl) in
+    (p.layout, tt, _, kind, f.3)
+
+plan_stopped : IsStopped PlanEntry (λ _. 0) plan_at OfPlan
+plan_stopped = renamed PlanEntry (λ _. 0) plan_at OfLayout OfPlan plan_of layout_of layout_last
+
+-- ---- an entry
+
+abbrev OfEntry : List (List ℕ) → Type 0
+OfEntry fs = (count : ℕ) × (e : Entry) × IsBegun count e × (fs ≡ fields count e)
+
+abbrev IsStopping : List ℕ → ℕ → Type 0
+IsStopping bytes left = (fs : List (List ℕ)) × OfEntry fs × InFront fs bytes left
+
+no_tag : (bytes : List ℕ) (left : ℕ) → left ≡ length bytes → IsStopping bytes left
+no_tag bytes left e = let fs = fields 0 (Delete (record { 0 = 0 }) time_0) in (fs, (0, Delete (record { 0 = 0 }) time_0, (omega arith, time_0.before_now), refl), none fs bytes left e)
+
+behind_tag : (tag left : ℕ) (fs : List (List ℕ)) (bytes : List ℕ) → OfEntry ((tag ∷ []) ∷ fs) → InFront fs bytes left → IsStopping (tag ∷ bytes) left
+behind_tag tag left fs bytes f front = ((tag ∷ []) ∷ fs, f, more_in_front ((tag ∷ []) ∷ []) fs (tag ∷ bytes) bytes left refl front)
+
+tail_fits : (b : ℕ) (bytes : List ℕ) → IsBytes (b ∷ bytes) → IsBytes bytes
+tail_fits b bytes fits i = fits (suc i)
+
+planned_stopped : IsStopped Entry (λ _. 0) (λ bytes. plan_at bytes >>= λ plan. Ok (Planned plan)) OfPlan
+planned_stopped = made PlanEntry Entry (λ _. 0) (λ _. 0) plan_at OfPlan (λ plan. Planned plan) (λ plan. omega arith) plan_stopped
+
+entry_stops : (bytes : List ℕ) (left : ℕ) → IsBytes bytes → entry_at bytes ≡ Err left → IsStopping bytes left
+unfolding entry_at
+entry_stops [] left fits e = no_tag [] left (sym (err_is Entry 0 left e))
+entry_stops (zero ∷ bytes) left fits e = let h = err_is Entry (length bytes + 1) left e in no_tag (0 ∷ bytes) left (omega (arith, h))
+entry_stops (suc zero ∷ bytes) left fits e =
+    let s = arrive_stopped.stops bytes left (tail_fits 1 bytes fits) e in
+    let c = s.1.0 in
+    behind_tag 1 left s.0 bytes (0, Arrive c.0 c.1 [], (s.1.1, c.1.before_now, omega arith, IsUtf8-nil), ap (λ (fs : List (List ℕ)). (1 ∷ []) ∷ fs) s.1.2) s.2
+entry_stops (suc (suc zero) ∷ bytes) left fits e =
+    let s = delete_stopped.stops bytes left (tail_fits 2 bytes fits) e in
+    let c = s.1.0 in
+    behind_tag 2 left s.0 bytes (0, Delete c.0 c.1, (s.1.1, c.1.before_now), ap (λ (fs : List (List ℕ)). (2 ∷ []) ∷ fs) s.1.2) s.2
+entry_stops (suc (suc (suc zero)) ∷ bytes) left fits e =
+    let s = planned_stopped.stops bytes left (tail_fits 3 bytes fits) e in
+    behind_tag 3 left s.0 bytes (s.1.0, Planned s.1.1, s.1.2, ap (λ (fs : List (List ℕ)). (3 ∷ []) ∷ fs) s.1.3) s.2
+entry_stops (suc (suc (suc (suc tag))) ∷ bytes) left fits e = let h = err_is Entry (length bytes + 1) left e in no_tag (suc (suc (suc (suc tag))) ∷ bytes) left (omega (arith, h))
+
+-- what is read behind the tag
+entry_passes_on : (count : ℕ) (e : Entry) (w : List ℕ) (whole more : List (List ℕ)) (after : List ℕ) → IsBegun count e → w ∷ (whole ++ more) ≡ fields count e → Within (λ _. 0) (length after) (entry_at (concat (w ∷ whole) ++ after))
+unfolding entry_at
+entry_passes_on count (Arrive doc at text) w whole more after begun is =
+    let tag : w ≡ 1 ∷ [] = cc in
+    let others : whole ++ more ≡ change_fields (doc, at) = cc in
+    subst (λ (xs : List ℕ). Within (λ _. 0) (length after) (entry_at ((xs ++ concat whole) ++ after))) (sym tag) (arrive_stopped.passes whole more after ((doc, at), begun.0, others))
+entry_passes_on count (Delete doc at) w whole more after begun is =
+    let tag : w ≡ 2 ∷ [] = cc in
+    let others : whole ++ more ≡ change_fields (doc, at) = cc in
+    subst (λ (xs : List ℕ). Within (λ _. 0) (length after) (entry_at ((xs ++ concat whole) ++ after))) (sym tag) (delete_stopped.passes whole more after ((doc, at), begun.0, others))
+entry_passes_on count (Planned plan) w whole more after begun is =
+    let tag : w ≡ 3 ∷ [] = cc in
+    let others : whole ++ more ≡ drop 1 (plan_fields count plan) = cc in
+    subst (λ (xs : List ℕ). Within (λ _. 0) (length after) (entry_at ((xs ++ concat whole) ++ after))) (sym tag) (planned_stopped.passes whole more after (count, plan, begun, others))
+
+entry_passes : (whole more : List (List ℕ)) (after : List ℕ) → OfEntry (whole ++ more) → Within (λ _. 0) (length after) (entry_at (concat whole ++ after))
+entry_passes [] more after f = entry_within after
+entry_passes (w ∷ whole) more after f = entry_passes_on f.0 f.1 w whole more after f.2 f.3
+
+-- ---- the fault
+
+-- bytes that begin an entry are read up to their end at least
+begun_is_read : (bytes : List ℕ) (left n : ℕ) → entry_at bytes ≡ Err left → n ≤ length bytes → Begins (take n bytes) → n ≤ length bytes - left
+begun_is_read bytes left n e le b =
+    let fs = fields b.count b.entry in
+    let whole = take b.whole fs in
+    let behind_it = drop n bytes in
+    let same : concat whole ++ behind_it ≡ bytes = ap (λ (xs : List ℕ). xs ++ behind_it) b.are ∙ take-append-drop n bytes in
+    let passes = entry_passes whole (drop b.whole fs) behind_it (b.count, b.entry, b.begun, take-append-drop b.whole fs) in
+    let few = Within-err (λ (_ : Entry). 0) (length behind_it) (entry_at (concat whole ++ behind_it)) left passes (ap entry_at same ∙ e) in
+    let less = entry_left bytes left e in
+    omega (arith, few, less, length-drop n bytes)
+
+-- where reading stops is the fault
+pub fault_at : (bytes : List ℕ) (left : ℕ) → IsBytes bytes → entry_at bytes ≡ Err left → IsFault bytes (length bytes - left)
+fault_at bytes left fits e =
+    let s = entry_stops bytes left fits e in
+    let f = s.2 in
+    let at = length bytes - left in
+    let long : length bytes ≡ length (concat f.whole) + left = ap length f.parts ∙ omega (arith, length-append (concat f.whole) f.rest, f.left_is) in
+    let taken : take (length f.whole) (fields s.1.0 s.1.1) ≡ f.whole = ap (take (length f.whole)) (sym s.1.3 ∙ sym f.split) ∙ take_at f.whole f.more (length f.whole) refl in
+    let in_front : take at bytes ≡ concat f.whole = ap (take at) f.parts ∙ take_at (concat f.whole) f.rest at (omega (arith, long)) in
+    record {
+      within = omega arith;
+      begins = record { entry = s.1.1; count = s.1.0; begun = s.1.2; whole = length f.whole; are = ap concat taken ∙ sym in_front };
+      longest = λ n lt le b. (let no = begun_is_read bytes left n e le b in omega arith);
+      misspelled = λ x ranges. entry_none bytes left x e ranges;
+    }
+
+-- bytes that spell nothing have a fault
+pub a_fault : (bytes : List ℕ) → IsBytes bytes → ((e : Entry) → IsEntry e → bytes ≡ spelling e → ⊥) → (at : ℕ) × IsFault bytes at
+a_fault bytes fits nothing = go (entry_at bytes) refl
+  where
+    go : (r : Result Entry ℕ) → entry_at bytes ≡ r → (at : ℕ) × IsFault bytes at
+    go (Ok e) is = let found = entry_takes bytes e fits is in absurd (nothing e found.0 found.1)
+    go (Err left) is = (length bytes - left, fault_at bytes left fits is)
+
+-- and one alone
+pub one_fault : (bytes : List ℕ) (a b : ℕ) → IsFault bytes a → IsFault bytes b → a ≡ b
+one_fault bytes a b f g = go (cases_order a b)
+  where
+    go : (a ≡ b) ⊎ ((a < b) ⊎ (b < a)) → a ≡ b
+    go (inl same) = same
+    go (inr (inl less)) = absurd (f.longest b less g.within g.begins)
+    go (inr (inr less)) = absurd (g.longest a less f.within f.begins)
