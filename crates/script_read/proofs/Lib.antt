@@ -1,5 +1,6 @@
 mod NumberLemmas
 mod WordLemmas
+mod MakingLemmas
 mod ValueLemmas
 mod ShareLemmas
 mod Calendar

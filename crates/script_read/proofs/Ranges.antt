@@ -1,30 +1,33 @@
 -- What lines name is in range.
-use Rattle.std.specs.Prelude.{◌≡◌, ℕ, ◌+◌, ◌<◌, ◌^◌, Bool, true, false, nat_lt, ◌&&◌, ◌==◌, not, if◌then◌else◌, List, [], ◌∷◌, length, take, drop, filter_map, Option, Some, None, IfSome, option_map, bytes_eq, codes, All, refl}
+use Prim.Native.String.{String}
+use Rattle.std.specs.Prelude.{◌≡◌, ℕ, ◌+◌, ◌<◌, ◌^◌, Bool, true, false, nat_lt, ◌&&◌, ◌==◌, if◌then◌else◌, List, [], ◌∷◌, ◌++◌, length, take, drop, filter_map, Option, Some, None, IfSome, option_map, option_and_then, unwrap_or, bytes_eq, codes, All, refl}
+use Rattle.std.specs.Bool.{then_some}
+use Rattle.std.specs.Option.{option_or}
 use Rattle.std.specs.List.{position_or_len}
 use Rattle.std.proofs.Common.{◌≤◌, ◌-◌, arith, length-take, ltb-true, subst, sym}
-use Rattle.std.proofs.lemmas.Bool.Decides.{nat_tests}
 use Rattle.std.proofs.lemmas.List.Elements.{All-nil, All-cons}
 use Rattle.base_types.specs.declared.ids.DocId.{DocId}
 use Rattle.base_types.specs.declared.time.Time.{Time}
+use Rattle.base_types.specs.declared.time.Span.{Span}
 use Rattle.base_commands.specs.declared.command.Command.{Command}
-use Rattle.base_commands.specs.declared.command.Command.TheVariants.{Arrive, Delete, Plan, Begin, Format, Propose, Find, Between, Show, Certificate, Verify, Top, Best, Approx, Rough, Share}
-use Rattle.base_commands.specs.declared.command.Item.TheVariants as items
+use Rattle.base_commands.specs.declared.command.Command.TheVariants.{Arrive, Delete, Between, Show}
 use Rattle.base_commands.specs.declared.text.Text.TheVariants.{Bytes, TooLong}
 use Rattle.base_commands.specs.Batches.{text_bytes}
 use Rattle.script_read.specs.declared.part.Part.{Part}
-use Rattle.script_read.specs.declared.part.Part.TheVariants as parts
+use Rattle.script_read.specs.declared.part.Part.TheVariants.{Batch}
 use Rattle.script_read.specs.declared.passing.Over.{Over}
 use Rattle.script_read.specs.Parts.{told, no_command, IsPartInRange}
 use Rattle.script_read.specs.declared.line.Meaning.{Meaning}
 use Rattle.script_read.specs.declared.line.Meaning.TheVariants.{Skipped, Alone, Arrival, Faulty}
 use Rattle.script_read.specs.declared.first.First.{First}
 use Rattle.script_read.specs.declared.first.First.TheVariants.{Whole, Broken, More, End}
-use Rattle.script_read.specs.Words.{word, after_word, is_blank, phrase}
+use Rattle.script_read.specs.Words.{word, after_word, is_blank}
 use Rattle.script_read.specs.Numbers.{value_of, are_digits, number}
-use Rattle.script_read.specs.Values.{document, time, text, fraction, tolerance, top_count, best_count, share_fraction, share_words, or_else, both, all_three, only_if}
+use Rattle.script_read.specs.Forms.{◌▸◌, end, rest, named}
+use Rattle.script_read.specs.Values.{document, time, expr, batch_count, span_of}
 use Rattle.script_read.specs.Items.{text_at, without_cr, short, text_end, piece_of, last_piece, open_line, closed_line, first, Pieces, Items}
 use Rattle.script_read.specs.Reading.{ReaderState, IsSmall, passed_item, long_piece, found_by, found}
-use Rattle.script_read.specs.Lines.{kind, window, version, planning, beginning, formatting, proposing, finding, spanning, certifying, verifying, top_rows, best_rows, approximating, rough_rows, sharing, change, question, report, command, arrival_by, arrival, alone, batch_of, batch_by, batch, is_skipped, meaning}
+use Rattle.script_read.specs.Lines.{changes, questions, reports, alone, arrival, is_skipped, meaning}
 
 number-below : (limit : ℕ) (word : List ℕ) → IfSome (number limit word) (λ n. n < limit)
 number-below limit word = go (are_digits word) (nat_lt (value_of word) limit) refl
@@ -51,191 +54,165 @@ IsFit (Alone item) = IsPartInRange item
 IsFit (Arrival doc at n) = (doc.0 < 2 ^ 32) × (n < 2 ^ 40)
 IsFit Faulty = Unit {0}
 
-arrival-fits : (words : List ℕ) → IsFit (arrival words)
-arrival-fits words = go (document (word words)) (time (word more)) (number (2 ^ 40) (word last)) (is_blank (after_word last)) (document-below (word words)) (number-below (2 ^ 40) (word last))
-  where
-    more : List ℕ
-    more = after_word words
+-- what a form gives fits, where all that it makes does
+module _ {B : Type 0} (Q : B → Type 0) where
+  each : {A : Type 0} (o : Option A) (k : A → Option B) → ((a : A) → IfSome (k a) Q) → IfSome (option_and_then k o) Q
+  each (Some a) k h = h a
+  each None k h = tt
 
-    last : List ℕ
-    last = after_word more
+  within : {A : Type 0} (P : A → Type 0) (o : Option A) (k : A → Option B) → IfSome o P → ((a : A) → P a → IfSome (k a) Q) → IfSome (option_and_then k o) Q
+  within P (Some a) k p h = h a p
+  within P None k p h = tt
 
-    go : (d : Option DocId) (t : Option Time) (s : Option ℕ) (b : Bool) → IfSome d IsInRange → IfSome s (λ n. n < 2 ^ 40) → IsFit (arrival_by d t s b)
-    go (Some d) (Some t) (Some s) true h k = (h, k)
-    go (Some d) (Some t) (Some s) false h k = tt
-    go (Some d) (Some t) None b h k = tt
-    go (Some d) None s b h k = tt
-    go None t s b h k = tt
+  ends : (b : Bool) (made : B) → Q made → IfSome (then_some b made) Q
+  ends true made h = h
+  ends false made h = tt
 
--- the meaning of any line fits: arrivals by their own lemma, the others where their commands do
+  rests : {A : Type 0} (make : A → B) (o : Option A) → ((a : A) → Q (make a)) → IfSome (option_map make o) Q
+  rests make (Some a) h = h a
+  rests make None h = tt
+
+  said : (b : Bool) (o : Option B) → IfSome o Q → IfSome (if b then o else None) Q
+  said true o h = h
+  said false o h = tt
+
+  either : (a b : Option B) → IfSome a Q → IfSome b Q → IfSome (option_or a b) Q
+  either (Some a) b h k = h
+  either None b h k = k
+
 abbrev Fits : Command → Type 0
 Fits c = IsPartInRange (told c)
 
-commands-fit : (o : Option Command) → IfSome o Fits → IsFit (alone o)
-commands-fit (Some c) h = h
-commands-fit None h = (tt, tt)
+-- a document and a time
+version : (make : DocId → Time → Command) → ((doc : DocId) (at : Time) → IsInRange doc → Fits (make doc at)) → (words : List ℕ) → IfSome ((document ▸ time ▸ end) make words) Fits
+version make h words = within Fits IsInRange (document (word words)) _ (document-below (word words)) λ d in_range. each Fits (time (word (after_word words))) _ λ t. ends Fits (is_blank (after_word (after_word words))) (make d t) (h d t in_range)
 
-or-fits : (a b : Option Command) → IfSome a Fits → IfSome b Fits → IfSome (or_else a b) Fits
-or-fits (Some a) b h k = h
-or-fits None b h k = k
+between : (o : Option Span) (e : Option (List ℕ)) → IfSome (option_and_then (λ (make : List ℕ → Command). option_map make e) (option_map (λ span expr. Between span expr) o)) Fits
+between (Some s) (Some e) = (tt, tt)
+between (Some s) None = tt
+between None e = tt
 
-only-fits : (b : Bool) (o : Option Command) → IfSome o Fits → IfSome (only_if b o) Fits
-only-fits true o h = h
-only-fits false o h = tt
+-- each row of a table
+abbrev AllFit : List (String × (List ℕ → Option Command)) → Type 0
+AllFit [] = Unit {0}
+AllFit ((n, form) ∷ table) = ((words : List ℕ) → IfSome (form words) Fits) × AllFit table
 
-map-fits : {A : Type 0} (f : A → Command) (o : Option A) → ((a : A) → Fits (f a)) → IfSome (option_map f o) Fits
-map-fits f (Some a) h = h a
-map-fits f None h = tt
-
-both-fit : {A B : Type 0} (f : A → B → Command) (a : Option A) (b : Option B) → ((x : A) (y : B) → Fits (f x y)) → IfSome (both f a b) Fits
-both-fit f (Some a) (Some b) h = h a b
-both-fit f (Some a) None h = tt
-both-fit f None b h = tt
-
-three-fit : {A B C : Type 0} (f : A → B → C → Command) (a : Option A) (b : Option B) (c : Option C) → ((x : A) (y : B) (z : C) → Fits (f x y z))
-    → IfSome (all_three f a b c) Fits
-three-fit f (Some a) b c h = both-fit (f a) b c (h a)
-three-fit f None b c h = tt
-
-by-name : (p : Bool) (a b : Option Command) → IfSome a Fits → IfSome b Fits → IfSome (if p then a else b) Fits
-by-name true a b h k = h
-by-name false a b h k = k
-
--- the document of a line that has one and a time
-version-fits : (f : DocId → Time → Command) → ((doc : DocId) (at : Time) → IsInRange doc → Fits (f doc at)) → (words : List ℕ)
-    → IfSome (option_map (λ (v : DocId × Time). f v.0 v.1) (version words)) Fits
-version-fits f holds words = go (is_blank (after_word (after_word words))) (document (word words)) (time (word (after_word words))) (document-below (word words))
+named-fits : (table : List (String × (List ℕ → Option Command))) → AllFit table → (name words : List ℕ) → IfSome (named table name words) Fits
+named-fits [] all name words = tt
+named-fits ((n, form) ∷ table) all name words = go (bytes_eq name (codes n)) (named-fits table all.1 name words)
   where
-    go : (b : Bool) (d : Option DocId) (t : Option Time) → IfSome d IsInRange
-        → IfSome (option_map (λ (v : DocId × Time). f v.0 v.1) (only_if b (both (λ doc at. (doc, at)) d t))) Fits
-    go true (Some d) (Some t) h = holds d t h
-    go true (Some d) None h = tt
-    go true None t h = tt
-    go false d t h = tt
+    go : (b : Bool) → IfSome (named table name words) Fits → IfSome (if b then form words else named table name words) Fits
+    go true others = all.0 words
+    go false others = others
 
-finding-fits : (words : List ℕ) → IfSome (finding words) Fits
-finding-fits words =
-    only-fits (not (is_blank (after_word words))) (both Find (time (word words)) (text (phrase (after_word words))))
-    (both-fit Find (time (word words)) (text (phrase (after_word words))) (λ t e. (tt, tt)))
+changes-fit : AllFit changes
+changes-fit = (
+  version Delete (λ d t h. (h, tt)),
+  (
+    λ words. search (either Fits, each Fits, said Fits, ends Fits) depth 16,
+    (
+      λ words. search (each Fits, said Fits, ends Fits) depth 8,
+      (λ words. search (said Fits, ends Fits), tt),
+    ),
+  ),
+)
 
-spanning-fits : (words : List ℕ) → IfSome (spanning words) Fits
-spanning-fits words =
-    let span = window (word words) (word (after_word words)) in
-    let expr = text (phrase (after_word (after_word words))) in
-    only-fits (not (is_blank (after_word (after_word words)))) (both Between span expr) (both-fit Between span expr (λ s e. (tt, tt)))
+questions-fit : AllFit questions
+questions-fit = (
+  λ words. search (each Fits, rests Fits),
+  (
+    λ words. each Fits (time (word words)) _ λ s. each Fits (time (word (after_word words))) _ λ t. between (span_of s t) (expr (after_word (after_word words))),
+    (
+      version Show (λ d t h. (h, tt)),
+      (
+        λ words. search (each Fits, said Fits, ends Fits) depth 8,
+        (
+          λ words. search (each Fits, ends Fits),
+          (λ words. search (ends Fits), tt),
+        ),
+      ),
+    ),
+  ),
+)
 
-beginning-fits : (words : List ℕ) → IfSome (beginning words) Fits
-beginning-fits words =
-    let bound = after_word (after_word words) in
-    let goes = bytes_eq (word (after_word words)) (codes "guarantee") && is_blank (after_word bound) in
-    only-fits goes (both Begin (text (word words)) (fraction (word bound))) (both-fit Begin (text (word words)) (fraction (word bound)) (λ w f. (tt, tt)))
+reports-fit : AllFit reports
+reports-fit = (
+  λ words. search (each Fits, rests Fits),
+  (
+    λ words. search (each Fits, rests Fits),
+    (
+      λ words. search (each Fits, ends Fits),
+      (
+        λ words. search (each Fits, rests Fits),
+        (λ words. search (each Fits, rests Fits), tt),
+      ),
+    ),
+  ),
+)
 
-formatting-fits : (words : List ℕ) → IfSome (formatting words) Fits
-formatting-fits words = let fits : Fits Format = (tt, tt) in only-fits (bytes_eq (word words) (codes "2") && is_blank (after_word words)) (Some Format) fits
+joined-fit : (table others : List (String × (List ℕ → Option Command))) → AllFit table → AllFit others → AllFit (table ++ others)
+joined-fit [] others h k = k
+joined-fit (row ∷ table) others h k = (h.0, joined-fit table others h.1 k)
 
-proposing-fits : (words : List ℕ) → IfSome (proposing words) Fits
-proposing-fits words =
-    let bound = after_word (after_word words) in
-    let goes = bytes_eq (word (after_word words)) (codes "guarantee") && is_blank (after_word bound) in
-    only-fits goes (both Propose (text (word words)) (fraction (word bound))) (both-fit Propose (text (word words)) (fraction (word bound)) (λ w f. (tt, tt)))
-
-certifying-fits : (words : List ℕ) → IfSome (certifying words) Fits
-certifying-fits words =
-    only-fits (not (is_blank words) && is_blank (after_word words)) (option_map Certificate (text (word words))) (map-fits Certificate (text (word words)) (λ w. (tt, tt)))
-
-planning-fits : (words : List ℕ) → IfSome (planning words) Fits
-planning-fits words =
-    let bound = after_word (after_word words) in
-    three-fit Plan (text (word words)) (kind (word (after_word words)) (after_word bound)) (fraction (word bound)) (λ w k f. (tt, tt))
-
-verifying-fits : (words : List ℕ) → IfSome (verifying words) Fits
-verifying-fits words = let fits : Fits Verify = (tt, tt) in only-fits (is_blank words) (Some Verify) fits
-
-top_rows-fits : (words : List ℕ) → IfSome (top_rows words) Fits
-top_rows-fits words =
-    let second = after_word words in
-    let more = after_word second in
-    only-fits (not (is_blank more)) (all_three Top (top_count (word words)) (time (word second)) (text (phrase more)))
-    (three-fit Top (top_count (word words)) (time (word second)) (text (phrase more)) (λ k t e. (tt, tt)))
-
-best_rows-fits : (words : List ℕ) → IfSome (best_rows words) Fits
-best_rows-fits words =
-    let second = after_word words in
-    let more = after_word second in
-    only-fits (not (is_blank more)) (all_three Best (best_count (word words)) (time (word second)) (text (phrase more)))
-    (three-fit Best (best_count (word words)) (time (word second)) (text (phrase more)) (λ k t e. (tt, tt)))
-
-approximating-fits : (words : List ℕ) → IfSome (approximating words) Fits
-approximating-fits words =
-    let bound = after_word words in
-    only-fits (is_blank (after_word bound)) (both Approx (text (word words)) (tolerance (word bound))) (both-fit Approx (text (word words)) (tolerance (word bound)) (λ w t. (tt, tt)))
-
-rough_rows-fits : (words : List ℕ) → IfSome (rough_rows words) Fits
-rough_rows-fits words =
-    let second = after_word words in
-    let more = after_word second in
-    only-fits (not (is_blank more)) (all_three Rough (tolerance (word words)) (time (word second)) (text (phrase more)))
-    (three-fit Rough (tolerance (word words)) (time (word second)) (text (phrase more)) (λ p t e. (tt, tt)))
-
-sharing-fits : (words : List ℕ) → IfSome (sharing words) Fits
-sharing-fits words = both-fit Share (share_fraction (word words)) (share_words (after_word words)) (λ f ws. (tt, tt))
-
-change-fits : (name words : List ℕ) → IfSome (change name words) Fits
-change-fits name words =
-    by-name (bytes_eq name (codes "delete")) _ _ (version-fits Delete (λ d t h. (h, tt)) words)
-    (by-name (bytes_eq name (codes "plan")) _ _ (planning-fits words)
-    (by-name (bytes_eq name (codes "begin")) _ _ (beginning-fits words)
-    (by-name (bytes_eq name (codes "format")) _ _ (formatting-fits words) tt)))
-
-question-fits : (name words : List ℕ) → IfSome (question name words) Fits
-question-fits name words =
-    by-name (bytes_eq name (codes "find")) _ _ (finding-fits words)
-    (by-name (bytes_eq name (codes "between")) _ _ (spanning-fits words)
-    (by-name (bytes_eq name (codes "show")) _ _ (version-fits Show (λ d t h. (h, tt)) words)
-    (by-name (bytes_eq name (codes "propose")) _ _ (proposing-fits words)
-    (by-name (bytes_eq name (codes "certificate")) _ _ (certifying-fits words)
-    (by-name (bytes_eq name (codes "verify")) _ _ (verifying-fits words) tt)))))
-
-report-fits : (name words : List ℕ) → IfSome (report name words) Fits
-report-fits name words =
-    by-name (bytes_eq name (codes "top")) _ _ (top_rows-fits words)
-    (by-name (bytes_eq name (codes "best")) _ _ (best_rows-fits words)
-    (by-name (bytes_eq name (codes "approx")) _ _ (approximating-fits words)
-    (by-name (bytes_eq name (codes "rough")) _ _ (rough_rows-fits words)
-    (by-name (bytes_eq name (codes "share")) _ _ (sharing-fits words) tt))))
-
-batch_of-fits : (count : ℕ) → count < 1001 → IsFit (batch_of count)
-batch_of-fits count few = go (count == 0) refl
+batch_count-within : (word : List ℕ) → IfSome (batch_count word) (λ n. (1 ≤ n) × (n ≤ 1000))
+batch_count-within word = go (number 1001 word) (number-below 1001 word)
   where
-    go : (b : Bool) → count == 0 ≡ b → IsFit (if b then Alone no_command else Alone (parts.Batch count))
-    go true e = (tt, tt)
-    go false e = let some : 1 ≤ count = grind (arith, nat_tests) in (some, omega (arith, few))
+    some : (n : ℕ) (b : Bool) → nat_lt 0 n ≡ b → n < 1001 → IfSome (then_some b n) (λ n. (1 ≤ n) × (n ≤ 1000))
+    some n true e few = (ltb-true 0 n e, omega (arith, few))
+    some n false e few = tt
 
-batch-fits : (words : List ℕ) → IsFit (batch words)
-batch-fits words = go (number 1001 (word words)) (is_blank (after_word words)) (number-below 1001 (word words))
+    go : (o : Option ℕ) → IfSome o (λ n. n < 1001) → IfSome (option_and_then (λ n. then_some (nat_lt 0 n) n) o) (λ n. (1 ≤ n) × (n ≤ 1000))
+    go (Some n) few = some n (nat_lt 0 n) refl few
+    go None few = tt
+
+alone-fits : (name words : List ℕ) → IsFit (Alone (unwrap_or (alone name words) no_command))
+alone-fits name words = go (bytes_eq name (codes "batch"))
   where
-    go : (n : Option ℕ) (b : Bool) → IfSome n (λ n. n < 1001) → IsFit (batch_by n b)
-    go (Some n) true h = batch_of-fits n h
-    go (Some n) false h = (tt, tt)
-    go None b h = (tt, tt)
+    command : Option Command
+    command = named (changes ++ questions ++ reports) name words
+
+    batch : Option Part
+    batch = (batch_count ▸ end) Batch words
+
+    batch-fits : IfSome batch IsPartInRange
+    batch-fits = within IsPartInRange (λ n. (1 ≤ n) × (n ≤ 1000)) (batch_count (word words)) _ (batch_count-within (word words)) λ n h. ends IsPartInRange (is_blank (after_word words)) (Batch n) h
+
+    answered : (o : Option Part) → IfSome o IsPartInRange → IsPartInRange (unwrap_or o no_command)
+    answered (Some part) h = h
+    answered None h = (tt, tt)
+
+    told-fits : (o : Option Command) → IfSome o Fits → IfSome (option_map told o) IsPartInRange
+    told-fits (Some c) h = h
+    told-fits None h = tt
+
+    all : IfSome command Fits
+    all = named-fits (changes ++ questions ++ reports) (joined-fit changes (questions ++ reports) changes-fit (joined-fit questions reports questions-fit reports-fit)) name words
+
+    go : (b : Bool) → IsPartInRange (unwrap_or (if b then batch else option_map told command) no_command)
+    go true = answered batch batch-fits
+    go false = answered (option_map told command) (told-fits command all)
+
+arrival-fits : (words : List ℕ) → IsFit (unwrap_or (arrival words) Faulty)
+arrival-fits words =
+    unwrapped (arrival words)
+    (within IsFit IsInRange (document (word words)) _ (document-below (word words)) λ d h. each IsFit (time (word (after_word words))) _ λ t.
+    within IsFit (λ n. n < 2 ^ 40) (number (2 ^ 40) (word last)) _ (number-below (2 ^ 40) (word last)) λ n k. let fits : IsFit (Arrival d t n) = (h, k) in ends IsFit (is_blank (after_word last)) (Arrival d t n) fits)
+  where
+    last : List ℕ
+    last = after_word (after_word words)
+
+    unwrapped : (o : Option Meaning) → IfSome o IsFit → IsFit (unwrap_or o Faulty)
+    unwrapped (Some m) h = h
+    unwrapped None h = tt
 
 pub meaning-fits : (line : List ℕ) → IsFit (meaning line)
 unfolding meaning
-meaning-fits line = go (is_skipped line) (bytes_eq (word line) (codes "arrive")) (bytes_eq (word line) (codes "batch"))
+meaning-fits line = go (is_skipped line) (bytes_eq (word line) (codes "arrive"))
   where
-    behind : List ℕ
-    behind = after_word line
-
-    all : IfSome (command (word line) behind) Fits
-    all = let name = word line in
-        or-fits (change name behind) (or_else (question name behind) (report name behind)) (change-fits name behind)
-        (or-fits (question name behind) (report name behind) (question-fits name behind) (report-fits name behind))
-
-    go : (s a b : Bool) → IsFit (if s then Skipped else (if a then arrival behind else (if b then batch behind else alone (command (word line) behind))))
-    go true a b = tt
-    go false true b = arrival-fits behind
-    go false false true = batch-fits behind
-    go false false false = commands-fit (command (word line) behind) all
+    go : (s a : Bool) → IsFit (if s then Skipped else (if a then unwrap_or (arrival (after_word line)) Faulty else Alone (unwrap_or (alone (word line) (after_word line)) no_command)))
+    go true a = tt
+    go false true = arrival-fits (after_word line)
+    go false false = alone-fits (word line) (after_word line)
 
 -- the part that bytes begin with is in range
 abbrev IsFitting : First → Type 0

@@ -1,9 +1,10 @@
 -- The words of a line, one after another.
 use Rattle.std.specs.Prelude.{◌≡◌, ℕ, zero, suc, ◌+◌, ◌-◌, ◌≤◌, true, false, List, [], ◌∷◌, ◌++◌, length, ◌==◌, nat_lt, option_and_then, Option, Some, None, option_map, refl}
+use Rattle.std.specs.Bool.{then_some}
 use Rattle.std.proofs.Common.{arith, ap, sym, ◌∙◌, append_assoc, append-nil, lt-ltb}
 use Rattle.std.proofs.lemmas.Bool.Decides.{nat_tests}
 use Rattle.script_read.specs.Words.{word, after_word, is_blank}
-use Rattle.script_read.specs.Values.{both, only_if, text, texts, share_words}
+use Rattle.script_read.specs.Values.{text, texts, share_words}
 
 -- the words so far, and those that are left
 abbrev pub joined_to : List (List ℕ) → Option (List (List ℕ)) → Option (List (List ℕ))
@@ -32,13 +33,13 @@ pub texts-more : (n : ℕ) (words : List (List ℕ)) (line w : List ℕ) → is_
 unfolding texts
 texts-more n words line w more is = rw (more, is) (go (texts n (after_word line)))
   where
-    go : (o : Option (List (List ℕ))) → joined_to words (both (λ v ws. v ∷ ws) (Some w) o) ≡ joined_to (words ++ w ∷ []) o
+    go : (o : Option (List (List ℕ))) → joined_to words (option_and_then (λ ws. Some (w ∷ ws)) o) ≡ joined_to (words ++ w ∷ []) o
     go (Some ws) = ap Some (sym (append_assoc words (w ∷ []) ws))
     go None = refl
 
 -- the words, where there are some
 abbrev some_words : Option (List (List ℕ)) → Option (List (List ℕ))
-some_words words = option_and_then (λ ws. only_if (nat_lt 0 (length ws)) (Some ws)) words
+some_words words = option_and_then (λ ws. then_some (nat_lt 0 (length ws)) ws) words
 
 -- the words of a line are those so far, where nothing is left; and where there are none, it has none
 words-of : (line : List ℕ) (words : List (List ℕ)) (rest : List ℕ) (n : ℕ) → is_blank rest ≡ true → joined_to words (texts n rest) ≡ texts 16 line → texts 16 line ≡ Some words
@@ -48,13 +49,13 @@ pub share-some : (line : List ℕ) (words : List (List ℕ)) (rest : List ℕ) (
     → Some words ≡ share_words line
 share-some line words rest n blank so_far some =
     let one : 1 ≤ length words = grind (arith, nat_tests) in
-    sym (ap some_words (words-of line words rest n blank so_far) ∙ ap (λ b. only_if b (Some words)) (lt-ltb 0 (length words) one))
+    sym (ap some_words (words-of line words rest n blank so_far) ∙ ap (λ b. then_some b words) (lt-ltb 0 (length words) one))
 
 pub share-none : (line : List ℕ) (words : List (List ℕ)) (rest : List ℕ) (n : ℕ) → is_blank rest ≡ true → joined_to words (texts n rest) ≡ texts 16 line → (length words == 0) ≡ true
     → None ≡ share_words line
 share-none line words rest n blank so_far none =
     let zero_is : length words ≡ 0 = grind (arith, nat_tests) in
-    sym (ap some_words (words-of line words rest n blank so_far) ∙ ap (λ k. only_if (nat_lt 0 k) (Some words)) zero_is)
+    sym (ap some_words (words-of line words rest n blank so_far) ∙ ap (λ k. then_some (nat_lt 0 k) words) zero_is)
 
 -- a line whose words are too many, or no text, has none
 pub share-not : (line : List ℕ) (o : Option (List (List ℕ))) → o ≡ texts 16 line → o ≡ None → None ≡ share_words line

@@ -1,5 +1,6 @@
 -- Dates as they are written in a script.
 use Rattle.std.specs.Prelude.{ℕ, zero, suc, ◌+◌, ◌-◌, ◌*◌, ◌%◌, ◌==◌, Bool, not, ◌&&◌, ◌||◌, nat_le, if◌then◌else◌, List, length, take, drop, slice_index, Option, Some, None}
+use Rattle.script_read.specs.Making.{◌>>=◌}
 use Rattle.script_read.specs.Numbers.{number}
 
 -- every fourth year, but of the centuries only every fourth
@@ -35,16 +36,10 @@ is_day y m d = nat_le 1970 y && nat_le 1 m && nat_le m 12 && nat_le 1 d && nat_l
 abbrev pub day_seconds : ℕ → ℕ → ℕ → Option ℕ
 day_seconds y m d = if is_day y m d then Some (86400 * day_number y m d) else None
 
-abbrev pub date_by : Option ℕ → Option ℕ → Option ℕ → Option ℕ
-date_by (Some y) (Some m) (Some d) = day_seconds y m d
-date_by (Some y) (Some m) None = None
-date_by (Some y) None d = None
-date_by None m d = None
-
 -- a date is four digits, a hyphen, two digits, a hyphen, two digits
 abbrev pub is_dated : List ℕ → Bool
 is_dated word = (length word == 10) && ((slice_index word 4 == 45) && (slice_index word 7 == 45))
 
 -- the second at which the day of a date begins
 abbrev pub date : List ℕ → Option ℕ
-date word = if is_dated word then date_by (number 10000 (take 4 word)) (number 100 (take 2 (drop 5 word))) (number 100 (drop 8 word)) else None
+date word = if is_dated word then (do y ← number 10000 (take 4 word); m ← number 100 (take 2 (drop 5 word)); d ← number 100 (drop 8 word); day_seconds y m d) else None

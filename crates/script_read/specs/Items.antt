@@ -56,8 +56,7 @@ piece_of ended (Arrival doc at n) used bytes =
 abbrev pub last_piece : Meaning → ℕ → First
 last_piece Skipped n = Whole None n
 last_piece (Alone item) n = Whole (Some item) n
-last_piece (Arrival doc at size) n = Broken 0
-last_piece Faulty n = Broken 0
+last_piece other n = Broken 0
 
 -- What bytes begin with in which no LF stands. A CR at their end may still go before an LF.
 abbrev pub open_line : (List ℕ → Meaning) → Bool → List ℕ → First
@@ -94,9 +93,7 @@ pub record Items (ended : Bool) (bytes : List ℕ) (items : List Part) (rest : L
 -- This is no whole piece.
 abbrev pub IsNoPiece : First → Type 0
 IsNoPiece (Whole p n) = ⊥
-IsNoPiece (Broken n) = Unit {0}
-IsNoPiece More = Unit {0}
-IsNoPiece End = Unit {0}
+IsNoPiece other = Unit {0}
 
 -- The bytes are these items, and then a rest that begins with no whole piece, not even a line that is skipped.
 abbrev pub Splits : Bool → List ℕ → List Part → List ℕ → Type 0

@@ -1,5 +1,7 @@
 pub mod Parts
 pub mod Words
+pub mod Making
+pub mod Forms
 pub mod Numbers
 pub mod Dates
 pub mod Values

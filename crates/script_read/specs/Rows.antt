@@ -12,14 +12,15 @@ use Rattle.base_commands.specs.declared.count.BestCount.{BestCount}
 use Rattle.base_commands.specs.declared.count.TopCount.{TopCount}
 use Rattle.base_commands.specs.declared.share.ShareFraction.{ShareFraction}
 use Rattle.base_commands.specs.declared.text.Text.TheVariants.{Bytes}
-use Rattle.base_commands.specs.declared.command.Command.TheVariants.{Arrive, Find, Verify, Begin, Format, Top, Best, Approx, Rough, Share}
+use Rattle.base_commands.specs.declared.command.Command.TheVariants.{Arrive, Plan, Find, Verify, Begin, Format, Top, Best, Approx, Rough, Share}
 use Rattle.script_read.specs.declared.part.Part.TheVariants as parts
 use Rattle.script_read.specs.Parts.{told, no_command}
 use Rattle.base_commands.specs.declared.command.Kind.TheVariants.{Guarantee, Uniform, Since}
 use Rattle.script_read.specs.declared.first.First.TheVariants.{Whole, Broken, More, End}
 use Rattle.script_read.specs.Dates.{date, day_number}
 use Rattle.script_read.specs.Values.{fraction, tolerance, top_count, best_count, share_fraction, texts}
-use Rattle.script_read.specs.Lines.{meaning, kind, spanning}
+use Rattle.script_read.specs.Forms.{named}
+use Rattle.script_read.specs.Lines.{planning, questions, meaning}
 use Rattle.script_read.specs.Items.{first, most_waiting}
 use Rattle.script_read.specs.Reading.{most_kept}
 
@@ -44,7 +45,10 @@ pub no_fractions : (fraction (codes "1/2") ≡ None) × (fraction (codes "1/0") 
 no_fractions = (refl, refl, refl, refl, refl)
 
 -- a span ends behind its start
-pub no_span : (spanning (codes " 41 30 v") ≡ None) × (spanning (codes " 35 35 v") ≡ None) × (spanning (codes " 15 35") ≡ None)
+pub no_span :
+    (named questions (codes "between") (codes " 41 30 v") ≡ None)
+    × (named questions (codes "between") (codes " 35 35 v") ≡ None)
+    × (named questions (codes "between") (codes " 15 35") ≡ None)
 unfolding is_utf8 chars encode
 no_span = (refl, refl, refl)
 
@@ -53,14 +57,6 @@ doc n = record { 0 = n }
 
 abbrev at : (n : ℕ) → nat_lt n (2 ^ 40) ≡ true → Time
 at n h = record { seconds = n; before_now = ltb-true n (2 ^ 40) h }
-
-pub kinds :
-    (kind (codes "guarantee") [] ≡ Some Guarantee)
-    × (kind (codes "space") (codes "  uniform ") ≡ Some Uniform)
-    × (kind (codes "space") (codes " since 30") ≡ Some (Since (at 30 refl)))
-    × (kind (codes "space") (codes " since") ≡ None)
-    × (kind (codes "guarantee") (codes " x") ≡ None)
-kinds = (refl, refl, refl, refl, refl)
 
 -- an arrival and its text
 abbrev arrival : List ℕ
@@ -170,6 +166,15 @@ pub changes_to_come :
     × (first true (codes "share 2/1") ≡ Whole (Some no_command) 9)
 unfolding meaning is_utf8 chars encode texts
 changes_to_come = (refl, refl, refl, refl, refl, refl)
+
+pub kinds :
+    (planning (codes " v guarantee 2/1") ≡ Some (Plan (codes "v") Guarantee (factor 2 1 refl refl refl)))
+    × (planning (codes " v space 2/1  uniform ") ≡ Some (Plan (codes "v") Uniform (factor 2 1 refl refl refl)))
+    × (planning (codes " v space 2/1 since 30") ≡ Some (Plan (codes "v") (Since (at 30 refl)) (factor 2 1 refl refl refl)))
+    × (planning (codes " v space 2/1 since") ≡ None)
+    × (planning (codes " v guarantee 2/1 x") ≡ None)
+unfolding is_utf8 chars encode
+kinds = (refl, refl, refl, refl, refl)
 
 -- what may wait for an item to be whole, and what a reader keeps
 pub most_bytes : (most_waiting ≡ 4198403) × (most_kept ≡ 4263939)

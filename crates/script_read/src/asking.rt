@@ -1,81 +1,102 @@
 //! The lines of commands that leave an archive as it is: what they say behind their names.
-ghost use Rattle.std.specs.Prelude.{◌≡◌, ◌≤◌, length, IfOk};
-ghost use Rattle.script_read.specs.Lines.{proposing, finding, spanning, showing, certifying, verifying, question};
+ghost use Rattle.std.specs.Prelude.{◌≡◌, ◌≤◌, ◌++◌, length, option_map, IfOk};
+ghost use Rattle.base_commands.specs.declared.command.Command.TheVariants.{Find, Between, Show, Propose, Certificate, Verify};
+ghost use Rattle.script_read.specs.Forms.{◌▸◌, ◌▹◌, end, rest, checked, named};
+ghost use Rattle.script_read.specs.Values.{document, time, text, expr, fraction, span_of};
+ghost use Rattle.script_read.specs.Lines.{questions, reports};
 
-use crate::changing::version;
-use crate::values::{fraction, text, time, window};
-use crate::words::{is_blank, is_named, next_word, phrase};
+use crate::reporting::report;
+use crate::values::{document, expr, fraction, span, text, time};
+use crate::words::{is_blank, is_named, next_word};
 use base_commands::Command;
 use std::alloc::{AllocError, Global};
 
 fn finding(alloc: Global, words: &[u8]) -> Result<Option<Command>, AllocError>
     requires { length words.now ≤ 4096 }
-    ensures { IfOk result (λ c. c ≡ finding words.now) }
+    ensures { IfOk result (λ c. c ≡ (time ▸ rest expr) Find words.now) }
 {
     let (at, more) = next_word(words);
-    if is_blank(more) {
+    let Some(at) = time(at) else {
         return Ok(None);
-    }
-    match (time(at), text(alloc, phrase(more))?) {
-        (Some(at), Some(expr)) => Ok(Some(Command::Find { at, expr })),
-        _ => Ok(None),
+    };
+    match expr(alloc, more)? {
+        Some(expr) => Ok(Some(Command::Find { at, expr })),
+        None => Ok(None),
     }
 }
 
 fn spanning(alloc: Global, words: &[u8]) -> Result<Option<Command>, AllocError>
     requires { length words.now ≤ 4096 }
-    ensures { IfOk result (λ c. c ≡ spanning words.now) }
+    ensures { IfOk result (λ c. c ≡ (time ▸ time ▸ checked (rest expr)) (λ from to. option_map (λ span expr. Between span expr) (span_of from to)) words.now) }
 {
     let (from, second) = next_word(words);
-    let (to, more) = next_word(second);
-    if is_blank(more) {
+    let Some(from) = time(from) else {
         return Ok(None);
-    }
-    match (window(from, to), text(alloc, phrase(more))?) {
-        (Some(span), Some(expr)) => Ok(Some(Command::Between { span, expr })),
-        _ => Ok(None),
+    };
+    let (to, more) = next_word(second);
+    let Some(to) = time(to) else {
+        return Ok(None);
+    };
+    let Some(span) = span(from, to) else {
+        return Ok(None);
+    };
+    match expr(alloc, more)? {
+        Some(expr) => Ok(Some(Command::Between { span, expr })),
+        None => Ok(None),
     }
 }
 
 fn showing(words: &[u8]) -> Option<Command>
-    ensures { result ≡ showing words.now }
+    ensures { result ≡ (document ▸ time ▸ end) Show words.now }
 {
-    let (doc, at) = version(words)?;
+    let (doc, more) = next_word(words);
+    let doc = document(doc)?;
+    let (at, rest) = next_word(more);
+    let at = time(at)?;
+    if !is_blank(rest) {
+        return None;
+    }
     Some(Command::Show { doc, at })
 }
 
 fn proposing(alloc: Global, words: &[u8]) -> Result<Option<Command>, AllocError>
     requires { length words.now ≤ 4096 }
-    ensures { IfOk result (λ c. c ≡ proposing words.now) }
+    ensures { IfOk result (λ c. c ≡ (text ▸ "guarantee" ▹ fraction ▸ end) Propose words.now) }
 {
     let (word, more) = next_word(words);
+    let Some(word) = text(alloc, word)? else {
+        return Ok(None);
+    };
     let (how, bound) = next_word(more);
-    let (factor, rest) = next_word(bound);
-    if !is_named(how, b"guarantee") || !is_blank(rest) {
+    if !is_named(how, b"guarantee") {
         return Ok(None);
     }
-    match (text(alloc, word)?, fraction(factor)) {
-        (Some(word), Some(fraction)) => Ok(Some(Command::Propose { word, fraction })),
-        _ => Ok(None),
+    let (factor, rest) = next_word(bound);
+    let Some(fraction) = fraction(factor) else {
+        return Ok(None);
+    };
+    if !is_blank(rest) {
+        return Ok(None);
     }
+    Ok(Some(Command::Propose { word, fraction }))
 }
 
 fn certifying(alloc: Global, words: &[u8]) -> Result<Option<Command>, AllocError>
     requires { length words.now ≤ 4096 }
-    ensures { IfOk result (λ c. c ≡ certifying words.now) }
+    ensures { IfOk result (λ c. c ≡ (text ▸ end) Certificate words.now) }
 {
     let (word, rest) = next_word(words);
-    if is_blank(words) || !is_blank(rest) {
+    let Some(word) = text(alloc, word)? else {
+        return Ok(None);
+    };
+    if !is_blank(rest) {
         return Ok(None);
     }
-    match text(alloc, word)? {
-        Some(word) => Ok(Some(Command::Certificate { word })),
-        None => Ok(None),
-    }
+    Ok(Some(Command::Certificate { word }))
 }
 
 fn verifying(words: &[u8]) -> Option<Command>
-    ensures { result ≡ verifying words.now }
+    ensures { result ≡ end Verify words.now }
 {
     if is_blank(words) {
         Some(Command::Verify)
@@ -86,13 +107,13 @@ fn verifying(words: &[u8]) -> Option<Command>
 
 /// The command of this name that leaves an archive as it is, with the words behind it. Costs their
 /// length.
-pub(crate) fn question(
+pub(crate) fn question_or_report(
     alloc: Global,
     name: &[u8],
     words: &[u8],
 ) -> Result<Option<Command>, AllocError>
     requires { length words.now ≤ 4096 }
-    ensures { IfOk result (λ c. c ≡ question name.now words.now) }
+    ensures { IfOk result (λ c. c ≡ named (questions ++ reports) name.now words.now) }
 {
     if is_named(name, b"find") {
         return finding(alloc, words);
@@ -112,5 +133,5 @@ pub(crate) fn question(
     if is_named(name, b"verify") {
         return Ok(verifying(words));
     }
-    Ok(None)
+    report(alloc, name, words)
 }

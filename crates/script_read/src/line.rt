@@ -1,14 +1,15 @@
 //! What a line says.
-ghost use Rattle.std.specs.Prelude.{◌≡◌, ◌<◌, ◌≤◌, length, IfOk};
-ghost use Rattle.script_read.specs.Lines.{arrival, batch, batch_of, command, is_skipped, meaning};
+ghost use Rattle.std.specs.Prelude.{◌≡◌, ◌≤◌, length, IfOk};
+ghost use Rattle.script_read.specs.declared.part.Part.TheVariants.{Batch};
+ghost use Rattle.script_read.specs.Forms.{◌▸◌, end};
+ghost use Rattle.script_read.specs.Values.{batch_count};
+ghost use Rattle.script_read.specs.Lines.{alone, arrival, is_skipped, meaning};
 
-use crate::asking::question;
-use crate::changing::change;
+use crate::changing::command;
 use crate::part::Part;
-use crate::reporting::report;
-use crate::values::{document, time};
+use crate::values::{batch_count, document, time};
 use crate::words::{is_blank, is_named, next_word, number_below};
-use base_commands::{Command, Item};
+use base_commands::Item;
 use base_types::{DocId, Time};
 use std::alloc::{AllocError, Global};
 
@@ -38,58 +39,44 @@ fn is_skipped(line: &[u8]) -> bool
     is_blank(line) || line[0] == b'#'
 }
 
-fn arrival(words: &[u8]) -> Meaning
+fn arrival(words: &[u8]) -> Option<Meaning>
     ensures { result ≡ arrival words.now }
 {
     let (doc, more) = next_word(words);
+    let doc = document(doc)?;
     let (at, last) = next_word(more);
+    let at = time(at)?;
     let (bytes, rest) = next_word(last);
-    match (
-        document(doc),
-        time(at),
-        number_below(1 << 40, bytes),
-        is_blank(rest),
-    ) {
-        (Some(doc), Some(at), Some(bytes), true) => Meaning::Arrival { doc, at, bytes },
-        _ => Meaning::Faulty,
+    let bytes = number_below(1 << 40, bytes)?;
+    if !is_blank(rest) {
+        return None;
     }
+    Some(Meaning::Arrival { doc, at, bytes })
 }
 
-/// What a line says that begins a batch, or would.
-fn batch(words: &[u8]) -> Meaning
-    ensures { result ≡ batch words.now }
+/// The line of a batch.
+fn batch(words: &[u8]) -> Option<Part>
+    ensures { result ≡ (batch_count ▸ end) Batch words.now }
 {
     let (count, rest) = next_word(words);
-    match (number_below(1001, count), is_blank(rest)) {
-        (Some(count), true) => batch_of(count),
-        _ => Meaning::Alone(Part::Item(Item::Line)),
+    let count = batch_count(count)?;
+    if !is_blank(rest) {
+        return None;
     }
+    Some(Part::Batch { count })
 }
 
-/// What a line says that would begin a batch of so many items.
-fn batch_of(count: u64) -> Meaning
-    requires { count < 1001 }
-    ensures { result ≡ batch_of count }
-{
-    if count == 0 {
-        return Meaning::Alone(Part::Item(Item::Line));
-    }
-    Meaning::Alone(Part::Batch {
-        count: count as u32,
-    })
-}
-
-/// The command of this name, but an arrival, with the words behind it. Costs their length.
-fn command(alloc: Global, name: &[u8], words: &[u8]) -> Result<Option<Command>, AllocError>
+/// What a line is by itself, by its name and the words behind it. Costs their length.
+fn alone(alloc: Global, name: &[u8], words: &[u8]) -> Result<Option<Part>, AllocError>
     requires { length words.now ≤ 4096 }
-    ensures { IfOk result (λ c. c ≡ command name.now words.now) }
+    ensures { IfOk result (λ p. p ≡ alone name.now words.now) }
 {
-    if let Some(command) = change(alloc, name, words)? {
-        return Ok(Some(command));
+    if is_named(name, b"batch") {
+        return Ok(batch(words));
     }
-    match question(alloc, name, words)? {
-        Some(command) => Ok(Some(command)),
-        None => report(alloc, name, words),
+    match command(alloc, name, words)? {
+        Some(command) => Ok(Some(Part::Item(Item::Command(command)))),
+        None => Ok(None),
     }
 }
 
@@ -104,13 +91,10 @@ pub(crate) fn meaning_of(alloc: Global, line: &[u8]) -> Result<Meaning, AllocErr
     }
     let (name, words) = next_word(line);
     if is_named(name, b"arrive") {
-        return Ok(arrival(words));
+        return Ok(arrival(words).unwrap_or(Meaning::Faulty));
     }
-    if is_named(name, b"batch") {
-        return Ok(batch(words));
-    }
-    match command(alloc, name, words)? {
-        Some(command) => Ok(Meaning::Alone(Part::Item(Item::Command(command)))),
+    match alone(alloc, name, words)? {
+        Some(part) => Ok(Meaning::Alone(part)),
         None => Ok(Meaning::Alone(Part::Item(Item::Line))),
     }
 }

@@ -1,85 +1,103 @@
 //! The lines of commands that report: the first rows, what is near, and how words would share a budget.
 ghost use Rattle.std.specs.Prelude.{◌≡◌, ◌≤◌, length, IfOk};
-ghost use Rattle.script_read.specs.Lines.{top_rows, best_rows, approximating, rough_rows, sharing, report};
+ghost use Rattle.base_commands.specs.declared.command.Command.TheVariants.{Top, Best, Approx, Rough, Share};
+ghost use Rattle.script_read.specs.Forms.{◌▸◌, end, rest, named};
+ghost use Rattle.script_read.specs.Values.{time, text, expr, tolerance, top_count, best_count, share_fraction, share_words};
+ghost use Rattle.script_read.specs.Lines.{reports};
 
 use crate::shares::{share_fraction, share_words};
-use crate::values::{best_count, text, time, tolerance, top_count};
-use crate::words::{is_blank, is_named, next_word, phrase};
+use crate::values::{best_count, expr, text, time, tolerance, top_count};
+use crate::words::{is_blank, is_named, next_word};
 use base_commands::Command;
 use std::alloc::{AllocError, Global};
 
 fn top_rows(alloc: Global, words: &[u8]) -> Result<Option<Command>, AllocError>
     requires { length words.now ≤ 4096 }
-    ensures { IfOk result (λ c. c ≡ top_rows words.now) }
+    ensures { IfOk result (λ c. c ≡ (top_count ▸ time ▸ rest expr) Top words.now) }
 {
     let (count, second) = next_word(words);
-    let (at, more) = next_word(second);
-    if is_blank(more) {
+    let Some(count) = top_count(count) else {
         return Ok(None);
-    }
-    match (top_count(count), time(at), text(alloc, phrase(more))?) {
-        (Some(count), Some(at), Some(expr)) => Ok(Some(Command::Top { count, at, expr })),
-        _ => Ok(None),
+    };
+    let (at, more) = next_word(second);
+    let Some(at) = time(at) else {
+        return Ok(None);
+    };
+    match expr(alloc, more)? {
+        Some(expr) => Ok(Some(Command::Top { count, at, expr })),
+        None => Ok(None),
     }
 }
 
 fn best_rows(alloc: Global, words: &[u8]) -> Result<Option<Command>, AllocError>
     requires { length words.now ≤ 4096 }
-    ensures { IfOk result (λ c. c ≡ best_rows words.now) }
+    ensures { IfOk result (λ c. c ≡ (best_count ▸ time ▸ rest expr) Best words.now) }
 {
     let (count, second) = next_word(words);
-    let (at, more) = next_word(second);
-    if is_blank(more) {
+    let Some(count) = best_count(count) else {
         return Ok(None);
-    }
-    match (best_count(count), time(at), text(alloc, phrase(more))?) {
-        (Some(count), Some(at), Some(expr)) => Ok(Some(Command::Best { count, at, expr })),
-        _ => Ok(None),
+    };
+    let (at, more) = next_word(second);
+    let Some(at) = time(at) else {
+        return Ok(None);
+    };
+    match expr(alloc, more)? {
+        Some(expr) => Ok(Some(Command::Best { count, at, expr })),
+        None => Ok(None),
     }
 }
 
 fn approximating(alloc: Global, words: &[u8]) -> Result<Option<Command>, AllocError>
     requires { length words.now ≤ 4096 }
-    ensures { IfOk result (λ c. c ≡ approximating words.now) }
+    ensures { IfOk result (λ c. c ≡ (text ▸ tolerance ▸ end) Approx words.now) }
 {
     let (word, bound) = next_word(words);
+    let Some(word) = text(alloc, word)? else {
+        return Ok(None);
+    };
     let (part, rest) = next_word(bound);
+    let Some(tolerance) = tolerance(part) else {
+        return Ok(None);
+    };
     if !is_blank(rest) {
         return Ok(None);
     }
-    match (text(alloc, word)?, tolerance(part)) {
-        (Some(word), Some(tolerance)) => Ok(Some(Command::Approx { word, tolerance })),
-        _ => Ok(None),
-    }
+    Ok(Some(Command::Approx { word, tolerance }))
 }
 
 fn rough_rows(alloc: Global, words: &[u8]) -> Result<Option<Command>, AllocError>
     requires { length words.now ≤ 4096 }
-    ensures { IfOk result (λ c. c ≡ rough_rows words.now) }
+    ensures { IfOk result (λ c. c ≡ (tolerance ▸ time ▸ rest expr) Rough words.now) }
 {
     let (part, second) = next_word(words);
-    let (at, more) = next_word(second);
-    if is_blank(more) {
+    let Some(tolerance) = tolerance(part) else {
         return Ok(None);
-    }
-    match (tolerance(part), time(at), text(alloc, phrase(more))?) {
-        (Some(tolerance), Some(at), Some(expr)) => Ok(Some(Command::Rough {
+    };
+    let (at, more) = next_word(second);
+    let Some(at) = time(at) else {
+        return Ok(None);
+    };
+    match expr(alloc, more)? {
+        Some(expr) => Ok(Some(Command::Rough {
             tolerance,
             at,
             expr,
         })),
-        _ => Ok(None),
+        None => Ok(None),
     }
 }
 
 fn sharing(alloc: Global, words: &[u8]) -> Result<Option<Command>, AllocError>
     requires { length words.now ≤ 4096 }
-    ensures { IfOk result (λ c. c ≡ sharing words.now) }
+    ensures { IfOk result (λ c. c ≡ (share_fraction ▸ rest share_words) Share words.now) }
 {
     let (factor, more) = next_word(words);
-    match (share_fraction(factor), share_words(alloc, more)?) {
-        (Some(fraction), Some(words)) => Ok(Some(Command::Share { fraction, words })),
-        _ => Ok(None),
+    let Some(fraction) = share_fraction(factor) else {
+        return Ok(None);
+    };
+    match share_words(alloc, more)? {
+        Some(words) => Ok(Some(Command::Share { fraction, words })),
+        None => Ok(None),
     }
 }
 
@@ -90,7 +108,7 @@ pub(crate) fn report(
     words: &[u8],
 ) -> Result<Option<Command>, AllocError>
     requires { length words.now ≤ 4096 }
-    ensures { IfOk result (λ c. c ≡ report name.now words.now) }
+    ensures { IfOk result (λ c. c ≡ named reports name.now words.now) }
 {
     if is_named(name, b"top") {
         return top_rows(alloc, words);

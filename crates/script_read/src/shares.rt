@@ -1,24 +1,17 @@
 //! What the line of a shared budget names: its factor, and its words.
 ghost use Rattle.std.specs.Prelude.{◌≡◌, ◌≤◌, length, IfOk};
-ghost use Rattle.script_read.specs.Values.{share_fraction_of, share_fraction, share_words};
+ghost use Rattle.script_read.specs.Values.{share_fraction, share_words};
 
 use crate::values::{fraction, text};
 use crate::words::{is_blank, next_word};
 use base_commands::{MOST_SHARE_WORDS, ShareFraction, ShareWords};
-use base_types::Fraction;
 use std::alloc::{AllocError, Global};
-
-fn within(fraction: Fraction) -> Option<ShareFraction>
-    ensures { result ≡ share_fraction_of fraction }
-{
-    ShareFraction::new(fraction)
-}
 
 /// The factor of a shared budget that a word names. Costs the word's length.
 pub(crate) fn share_fraction(word: &[u8]) -> Option<ShareFraction>
     ensures { result ≡ share_fraction word.now }
 {
-    within(fraction(word)?)
+    ShareFraction::new(fraction(word)?)
 }
 
 /// The words of a line, copied, where each is text and there are some, and not too many. Costs the
