@@ -126,7 +126,8 @@ pub record StandingRun (history : History) (status : Status) (old new : MachineS
   pub undamaged : (damage : Damage) → status ≡ Damaged damage → ⊥
 
 -- On any disk that a load takes: one run by what reads give. Where it ends at a damaged sublist, all items in front of one were carried out and their
--- replies shown, and this is the first damage of what is read for that one. At the end, just the bytes of Pages were read that its questions asked for.
+-- replies shown, and this is the first damage of what is read for that one. At the end, as many bytes of Pages were read as its last
+-- state says: each query asks for just the pages of the lists that are chosen for it.
 pub record ReadingRun (store : Store) (status : Status) (old new : MachineState) (pulls : List Pull) : Type 0 where
   pub headline : Headline StoreStep StandsBy store status old new pulls
   pub damaged : (damage : Damage) → status ≡ Damaged damage → (item : Item) × (rest : List Item) × (headline.ran.behind ≡ item ∷ rest) × Spoils (last_state store headline.ran.outcomes) item damage

@@ -84,8 +84,8 @@ pub fn run<M: Machine>(alloc: Global, words: &[String], machine: &mut M) -> Stat
     // The same by what reads give, whatever lies in Pages: from the history for which a load takes the bytes, one run in which changes and plans are
     // the abstract archive's, answers are made from the lists that are chosen, and verdicts from the bytes that are there. Each image left at any moment has the
     // journal of its state, and in each live place the bytes that reads give; so a plan whose sublists are held keeps them while it is live, whatever
-    // became of the others. Where the run ends at a damaged sublist, it is the first damage of what is read for the next item. At the end just those
-    // bytes of Pages were read that its questions asked for.
+    // became of the others. Where the run ends at a damaged sublist, it is the first damage of what is read for the next item. At the end as many
+    // bytes of Pages were read as the run says, in which each query asks for just the pages of the lists that are chosen for it.
     ensures by_reads { M.source_tells → M.sink_tells → M.disk_tells → AreWords (texts words.now) tasks.Script → (h : History) → LoadsAs h (M.disk machine.old).holds →
         (pulls : List Pull) × M.asked machine.old pulls machine.new
         × ReadingRun (store_of h (M.disk machine.old)) result (state_by M.source M.sink M.disk machine.old) (state_by M.source M.sink M.disk machine.new) pulls }
