@@ -1,8 +1,28 @@
-//! Queries and postings for the tests.
+//! Queries, postings and comparisons for the tests.
+ghost use Rattle.std.specs.Prelude.{◌≡◌, length};
+ghost use Rattle.query_lang.specs.Meaning.{words_of};
+
 use base_types::{DocId, Posting, Span};
+use query_eval::Part;
 use query_lang::Query;
 use std::alloc::Global;
+use std::fmt::Debug;
 use std::process::Abort;
+
+/// What is found is what is wanted.
+pub(crate) fn expect_same<T: PartialEq + Debug + Drop>(rt: &impl Abort, found: T, wanted: T) {
+    assert_eq!(rt; found, wanted);
+}
+
+/// The same in a row, which is told where it isn't so.
+pub(crate) fn expect_same_in<R: Debug + Drop, T: PartialEq + Debug + Drop>(
+    rt: &impl Abort,
+    row: R,
+    found: T,
+    wanted: T,
+) {
+    assert_eq!(rt; found, wanted, "in {row:?}");
+}
 
 /// The query that a text spells, which has to be short.
 pub(crate) fn read(rt: &impl Abort, alloc: Global, text: &str) -> Query {
@@ -20,16 +40,48 @@ pub(crate) fn posting(rt: &impl Abort, doc: u32, from: u64, to: u64, tf: u32) ->
     }
 }
 
-/// The list of these documents, starts, ends and frequencies.
-pub(crate) fn listed(
-    rt: &impl Abort,
-    alloc: Global,
-    rows: &[(u32, u64, u64, u32)],
-) -> Vec<Posting> {
+/// A posting by its document, start, end and frequency.
+pub(crate) type Plain = (u32, u64, u64, u32);
+
+/// The list of these postings.
+pub(crate) fn listed(rt: &impl Abort, alloc: Global, rows: &[Plain]) -> Vec<Posting> {
     let mut list = Vec::new(alloc);
     for (doc, from, to, tf) in rows {
         list.push(posting(rt, *doc, *from, *to, *tf))
             .expect(rt, "memory");
     }
     list
+}
+
+/// The lists of red and of blue.
+pub(crate) type RedAndBlue<'a> = (&'a [Plain], &'a [Plain]);
+
+/// The part that is all of a list.
+pub(crate) fn part(rt: &impl Abort, alloc: Global, rows: &[Plain]) -> Part {
+    Part {
+        list: listed(rt, alloc, rows),
+        read: 3,
+    }
+}
+
+/// The parts of the lists of a query's words, which are red and blue.
+pub(crate) fn parts_of(
+    rt: &impl Abort,
+    alloc: Global,
+    query: &Query,
+    lists: RedAndBlue<'_>,
+) -> Vec<Part>
+    ensures { length result.items ≡ length (words_of query.now) }
+{
+    let mut parts = Vec::new(alloc);
+    for word in query.words() {
+        let rows = if word.as_str() == "red" {
+            lists.0
+        } else {
+            lists.1
+        };
+        parts.push(part(rt, alloc, rows)).expect(rt, "memory");
+    }
+    assert!(rt; parts.len() == query.words().len());
+    parts
 }

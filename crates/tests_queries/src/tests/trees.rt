@@ -2,12 +2,12 @@
 ghost use Rattle.std.specs.Prelude.{◌≡◌, length};
 ghost use Rattle.query_lang.specs.Meaning.{words_of};
 
-use super::given::read;
+use super::given::{expect_same_in, read};
 use base_types::{DocId, Posting, Span, Time};
 use lists_postings::Life;
 use query_eval::{Part, answer_from, answer_over, docs_met};
 use query_lang::Query;
-use std::alloc::{AllocError, Global};
+use std::alloc::Global;
 use std::process::Abort;
 use std::string::String;
 
@@ -99,29 +99,32 @@ fn part_of(texts: &[String], place: usize) -> &str {
     }
 }
 
+/// Two texts in parentheses, with this between them.
+fn joined(rt: &impl Abort, alloc: Global, left: &str, between: &str, right: &str) -> String {
+    format!(in alloc; "({left}{between}{right})").expect(rt, "memory")
+}
+
+/// A part as a text, by the texts of the parts before it.
+fn node_text(rt: &impl Abort, alloc: Global, texts: &[String], node: Node) -> String {
+    match node {
+        Node::Word(word) => String::from_str(alloc, name(word)).expect(rt, "memory"),
+        Node::Not(a) => format!(in alloc; "not {}", part_of(texts, a)).expect(rt, "memory"),
+        Node::And(a, b) => {
+            let between = if a < b { " " } else { " and " };
+            joined(rt, alloc, part_of(texts, a), between, part_of(texts, b))
+        }
+        Node::Or(a, b) => joined(rt, alloc, part_of(texts, a), " or ", part_of(texts, b)),
+    }
+}
+
 /// The query as a text, with parentheses around whatever joins.
-fn text_of(alloc: Global, nodes: &[Node]) -> Result<String, AllocError> {
+fn text_of(rt: &impl Abort, alloc: Global, nodes: &[Node]) -> String {
     let mut texts = Vec::new(alloc);
     for node in nodes {
-        let text = match *node {
-            Node::Word(word) => String::from_str(alloc, name(word))?,
-            Node::Not(a) => format!(in alloc; "not {}", part_of(&texts, a))?,
-            Node::And(a, b) if a < b => {
-                format!(in alloc; "({} {})", part_of(&texts, a), part_of(&texts, b))?
-            }
-            Node::And(a, b) => {
-                format!(in alloc; "({} and {})", part_of(&texts, a), part_of(&texts, b))?
-            }
-            Node::Or(a, b) => {
-                format!(in alloc; "({} or {})", part_of(&texts, a), part_of(&texts, b))?
-            }
-        };
-        texts.push(text)?;
+        let text = node_text(rt, alloc, &texts, *node);
+        texts.push(text).expect(rt, "memory");
     }
-    match texts.pop() {
-        Some(text) => Ok(text),
-        None => Ok(String::new(alloc)),
-    }
+    texts.pop().expect(rt, "a part")
 }
 
 fn said_of(all: &[Said], place: usize) -> Said {
@@ -135,44 +138,50 @@ fn said_of(all: &[Said], place: usize) -> Said {
     }
 }
 
+/// What is said by both of two parts, where these match.
+fn both(matches: bool, a: Said, b: Said) -> Said {
+    Said {
+        matches,
+        even: a.even | b.even,
+        odd: a.odd | b.odd,
+    }
+}
+
+/// What a part says of a document that has each word so often, by what the parts before it say.
+fn node_says(all: &[Said], node: Node, often: [u64; 3]) -> Said {
+    match node {
+        Node::Word(word) => Said {
+            matches: count(often, word) > 0,
+            even: bit(word),
+            odd: 0,
+        },
+        Node::Not(a) => {
+            let a = said_of(all, a);
+            Said {
+                matches: !a.matches,
+                even: a.odd,
+                odd: a.even,
+            }
+        }
+        Node::And(a, b) => {
+            let (a, b) = (said_of(all, a), said_of(all, b));
+            both(a.matches && b.matches, a, b)
+        }
+        Node::Or(a, b) => {
+            let (a, b) = (said_of(all, a), said_of(all, b));
+            both(a.matches || b.matches, a, b)
+        }
+    }
+}
+
 /// What the query says of a document that has each word so often.
-fn says(alloc: Global, nodes: &[Node], often: [u64; 3]) -> Result<Said, AllocError> {
+fn says(rt: &impl Abort, alloc: Global, nodes: &[Node], often: [u64; 3]) -> Said {
     let mut all = Vec::new(alloc);
     for node in nodes {
-        let said = match *node {
-            Node::Word(word) => Said {
-                matches: count(often, word) > 0,
-                even: bit(word),
-                odd: 0,
-            },
-            Node::Not(a) => {
-                let a = said_of(&all, a);
-                Said {
-                    matches: !a.matches,
-                    even: a.odd,
-                    odd: a.even,
-                }
-            }
-            Node::And(a, b) => {
-                let (a, b) = (said_of(&all, a), said_of(&all, b));
-                Said {
-                    matches: a.matches && b.matches,
-                    even: a.even | b.even,
-                    odd: a.odd | b.odd,
-                }
-            }
-            Node::Or(a, b) => {
-                let (a, b) = (said_of(&all, a), said_of(&all, b));
-                Said {
-                    matches: a.matches || b.matches,
-                    even: a.even | b.even,
-                    odd: a.odd | b.odd,
-                }
-            }
-        };
-        all.push(said)?;
+        let said = node_says(&all, *node, often);
+        all.push(said).expect(rt, "memory");
     }
-    Ok(said_of(&all, nodes.len().saturating_sub(1)))
+    said_of(&all, nodes.len().saturating_sub(1))
 }
 
 fn bit(word: u32) -> u32 {
@@ -191,6 +200,20 @@ fn count(often: [u64; 3], word: u32) -> u64 {
         _ => green,
     }
 }
+
+/// The sum of how often those words occur that stand under an even number of `not`.
+fn summed(said: Said, often: [u64; 3]) -> u64 {
+    let mut score: u64 = 0;
+    for word in 0..3 {
+        if said.even & bit(word) != 0 {
+            score = score.saturating_add(count(often, word));
+        }
+    }
+    score
+}
+
+/// A document, a start, an end and a score.
+type SpanRow = (u32, u64, u64, u64);
 
 /// Lists and lives.
 #[derive(Drop)]
@@ -270,27 +293,34 @@ impl World {
     /// The score of a document at a second, where it is alive and matches.
     fn score(
         &self,
+        rt: &impl Abort,
         alloc: Global,
         nodes: &[Node],
         doc: u32,
         second: u64,
-    ) -> Result<Option<u64>, AllocError> {
+    ) -> Option<u64> {
         let often = [
             self.often("red", doc, second),
             self.often("blue", doc, second),
             self.often("green", doc, second),
         ];
-        let said = says(alloc, nodes, often)?;
-        if !said.matches || !self.is_alive(doc, second) {
-            return Ok(None);
+        let said = says(rt, alloc, nodes, often);
+        if said.matches && self.is_alive(doc, second) {
+            Some(summed(said, often))
+        } else {
+            None
         }
-        let mut score: u64 = 0;
-        for word in 0..3 {
-            if said.even & bit(word) != 0 {
-                score = score.saturating_add(count(often, word));
+    }
+
+    /// The documents that are alive at a second, in order.
+    fn alive(&self, rt: &impl Abort, alloc: Global, second: u64) -> Vec<DocId> {
+        let mut alive = Vec::new(alloc);
+        for doc in 0..DOCS {
+            if self.is_alive(doc, second) {
+                alive.push(DocId(doc)).expect(rt, "memory");
             }
         }
-        Ok(Some(score))
+        alive
     }
 
     /// The parts of the lists of a query's words.
@@ -309,49 +339,64 @@ impl World {
     /// The rows at a second, by a look at each document.
     fn looked_at(
         &self,
+        rt: &impl Abort,
         alloc: Global,
         nodes: &[Node],
         second: u64,
-    ) -> Result<Vec<(u32, u64)>, AllocError> {
+    ) -> Vec<(u32, u64)> {
         let mut rows = Vec::new(alloc);
         for below in 0..10u64 {
             let wanted = 9u64.saturating_sub(below);
             for doc in 0..DOCS {
-                if self.score(alloc, nodes, doc, second)? == Some(wanted) {
-                    rows.push((doc, wanted))?;
+                if self.score(rt, alloc, nodes, doc, second) == Some(wanted) {
+                    rows.push((doc, wanted)).expect(rt, "memory");
                 }
             }
         }
-        Ok(rows)
+        rows
+    }
+
+    /// Adds the rows of a document over a window, by a look at each second.
+    fn look_at_each(
+        &self,
+        rt: &impl Abort,
+        alloc: Global,
+        nodes: &[Node],
+        doc: u32,
+        span: Span,
+        rows: &mut Vec<SpanRow>,
+    ) {
+        let mut open: Option<(u64, u64)> = None;
+        for second in span.from..span.to {
+            let now = self.score(rt, alloc, nodes, doc, second);
+            if let Some((since, held)) = open {
+                if now != Some(held) {
+                    rows.push((doc, since, second, held)).expect(rt, "memory");
+                    open = None;
+                }
+            }
+            if let (Some(held), None) = (now, open) {
+                open = Some((second, held));
+            }
+        }
+        if let Some((since, held)) = open {
+            rows.push((doc, since, span.to, held)).expect(rt, "memory");
+        }
     }
 
     /// The rows over a window, by a look at each second of each document.
     fn looked_over(
         &self,
+        rt: &impl Abort,
         alloc: Global,
         nodes: &[Node],
         span: Span,
-    ) -> Result<Vec<(u32, u64, u64, u64)>, AllocError> {
+    ) -> Vec<SpanRow> {
         let mut rows = Vec::new(alloc);
         for doc in 0..DOCS {
-            let mut open: Option<(u64, u64)> = None;
-            for second in span.from..span.to {
-                let now = self.score(alloc, nodes, doc, second)?;
-                if let Some((since, held)) = open {
-                    if now != Some(held) {
-                        rows.push((doc, since, second, held))?;
-                        open = None;
-                    }
-                }
-                if let (Some(held), None) = (now, open) {
-                    open = Some((second, held));
-                }
-            }
-            if let Some((since, held)) = open {
-                rows.push((doc, since, span.to, held))?;
-            }
+            self.look_at_each(rt, alloc, nodes, doc, span, &mut rows);
         }
-        Ok(rows)
+        rows
     }
 }
 
@@ -367,7 +412,7 @@ impl Case {
     fn random(rt: &impl Abort, alloc: Global, numbers: &mut Numbers) -> Case {
         let nodes = random_query(rt, alloc, numbers);
         let world = World::random(rt, alloc, numbers);
-        let text = text_of(alloc, &nodes).expect(rt, "memory");
+        let text = text_of(rt, alloc, &nodes);
         Case { nodes, world, text }
     }
 }
@@ -384,15 +429,10 @@ fn answered_at(
     requires { length parts.now ≡ length (words_of query.now) }
 {
     let t = Time::new(second).expect(rt, "a time");
-    let mut alive = Vec::new(alloc);
-    for doc in 0..DOCS {
-        if world.is_alive(doc, second) {
-            alive.push(DocId(doc)).expect(rt, "memory");
-        }
-    }
+    let alive = world.alive(rt, alloc, second);
     let answer = answer_from(alloc, query, t, parts, &alive).expect(rt, "memory");
     let mut rows = Vec::new(alloc);
-    for row in answer.rows {
+    for row in &answer.rows {
         rows.push((row.doc.0, row.score)).expect(rt, "memory");
     }
     rows
@@ -400,13 +440,13 @@ fn answered_at(
 
 /// At each second the answer is that of a look at each document.
 fn expect_at_seconds(rt: &impl Abort, alloc: Global, case: &Case) {
-    let Case { nodes, world, text } = case;
-    let query = read(rt, alloc, text.as_str());
-    let parts = world.parts(rt, alloc, &query);
+    let text = case.text.as_str();
+    let query = read(rt, alloc, text);
+    let parts = case.world.parts(rt, alloc, &query);
     for second in 0..END {
-        let rows = answered_at(rt, alloc, &query, &parts, world, second);
-        let wanted = world.looked_at(alloc, nodes, second).expect(rt, "memory");
-        assert_eq!(rt; rows.as_slice(), wanted.as_slice(), "{text} at {second}");
+        let rows = answered_at(rt, alloc, &query, &parts, &case.world, second);
+        let wanted = case.world.looked_at(rt, alloc, &case.nodes, second);
+        expect_same_in(rt, (text, second), rows.as_slice(), wanted.as_slice());
     }
 }
 
@@ -427,12 +467,12 @@ fn answered_over(
     parts: &[Part],
     lives: &[Life],
     span: Span,
-) -> Vec<(u32, u64, u64, u64)>
+) -> Vec<SpanRow>
     requires { length parts.now ≡ length (words_of query.now) }
 {
     let answer = answer_over(alloc, query, span, parts, lives).expect(rt, "memory");
     let mut rows = Vec::new(alloc);
-    for row in answer.rows {
+    for row in &answer.rows {
         rows.push((row.doc.0, row.span.from, row.span.to, row.score))
             .expect(rt, "memory");
     }
@@ -457,30 +497,52 @@ fn lives_met(
     lives
 }
 
+/// In a window the answer by the lives of all documents is that of a look at each second.
+fn expect_in_window(
+    rt: &impl Abort,
+    alloc: Global,
+    case: &Case,
+    query: &Query,
+    parts: &[Part],
+    span: Span,
+)
+    requires { length parts.now ≡ length (words_of query.now) }
+{
+    let row = (case.text.as_str(), span.from, span.to);
+    let rows = answered_over(rt, alloc, query, parts, &case.world.lives, span);
+    let wanted = case.world.looked_over(rt, alloc, &case.nodes, span);
+    expect_same_in(rt, row, rows.as_slice(), wanted.as_slice());
+}
+
+/// The same by the lives of the documents with a posting there.
+fn expect_by_those_met(
+    rt: &impl Abort,
+    alloc: Global,
+    case: &Case,
+    query: &Query,
+    parts: &[Part],
+    span: Span,
+)
+    requires { length parts.now ≡ length (words_of query.now) }
+{
+    let row = (case.text.as_str(), span.from, span.to);
+    let lives = lives_met(rt, alloc, parts, &case.world, span);
+    let rows = answered_over(rt, alloc, query, parts, &lives, span);
+    let wanted = case.world.looked_over(rt, alloc, &case.nodes, span);
+    expect_same_in(rt, row, rows.as_slice(), wanted.as_slice());
+}
+
 /// In each window the answer is that of a look at each second, also by the lives of the documents with a
 /// posting there, where the query doesn't match without its words.
 fn expect_in_windows(rt: &impl Abort, alloc: Global, case: &Case) {
-    let Case { nodes, world, text } = case;
-    let query = read(rt, alloc, text.as_str());
-    let parts = world.parts(rt, alloc, &query);
+    let query = read(rt, alloc, case.text.as_str());
+    let parts = case.world.parts(rt, alloc, &query);
     for from in 0..END {
         for to in from.saturating_add(1)..END {
             let span = Span::new(from, to).expect(rt, "a window");
-            let rows = answered_over(rt, alloc, &query, &parts, &world.lives, span);
-            let wanted = world.looked_over(alloc, nodes, span).expect(rt, "memory");
-            assert_eq!(rt;
-                rows.as_slice(),
-                wanted.as_slice(),
-                "{text} in [{from}, {to})"
-            );
+            expect_in_window(rt, alloc, case, &query, &parts, span);
             if !query.matches_without_words() {
-                let lives = lives_met(rt, alloc, &parts, world, span);
-                let rows = answered_over(rt, alloc, &query, &parts, &lives, span);
-                assert_eq!(rt;
-                    rows.as_slice(),
-                    wanted.as_slice(),
-                    "{text} in [{from}, {to}) by those met"
-                );
+                expect_by_those_met(rt, alloc, case, &query, &parts, span);
             }
         }
     }
