@@ -2,6 +2,7 @@
 mod batches;
 mod command_lines;
 mod entries;
+mod given;
 mod in_words;
 mod plan_entries;
 mod samples;

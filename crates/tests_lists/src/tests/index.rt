@@ -7,9 +7,8 @@ ghost use Rattle.lists_index.specs.Loads.{Loads};
 use crate::tests::given::posting;
 use base_types::{DocId, Key, NOW, Posting, Span, Time};
 use lists_index::{Index, Loader};
-use std::alloc::{AllocError, Global};
+use std::alloc::Global;
 use std::process::Abort;
-use std::str;
 use text_words::NumberError;
 
 /// Whether a text is short enough to be measured.
@@ -65,43 +64,72 @@ fn time_at(place: usize) -> Time
 }
 
 /// The index of these changes, committed one after another.
-fn committed(
-    rt: &impl Abort,
-    alloc: Global,
-    rows: &[(u32, Option<&str>)],
-) -> Result<Index, AllocError>
+fn committed(rt: &impl Abort, alloc: Global, rows: &[(u32, Option<&str>)]) -> Index
     requires { length rows.now < 1000 }
 {
-    let mut index = Loader::new(alloc)?.finish(alloc)?;
+    let mut index = Loader::new(alloc)
+        .expect(rt, "memory")
+        .finish(alloc)
+        .expect(rt, "memory");
     for i in 0..rows.len() {
         let (doc, text) = rows[i];
         commit(rt, alloc, &mut index, DocId(doc), time_at(i), text);
     }
-    Ok(index)
+    index
 }
 
 /// The index of these changes, loaded.
-fn loaded(rt: &impl Abort, alloc: Global, rows: &[(u32, Option<&str>)]) -> Result<Index, AllocError>
+fn loaded(rt: &impl Abort, alloc: Global, rows: &[(u32, Option<&str>)]) -> Index
     requires { length rows.now < 1000 }
 {
-    let mut loader = Loader::new(alloc)?;
+    let mut loader = Loader::new(alloc).expect(rt, "memory");
     for i in 0..rows.len() {
         let (doc, text) = rows[i];
         add(rt, alloc, &mut loader, DocId(doc), time_at(i), text);
     }
-    loader.finish(alloc)
+    loader.finish(alloc).expect(rt, "memory")
 }
 
 fn key(rt: &impl Abort, alloc: Global, word: &str) -> Key {
-    Key::new(alloc, word)
-        .expect(rt, "memory")
-        .expect(rt, "a key")
+    let key = Key::new(alloc, word).expect(rt, "memory");
+    key.expect(rt, "a key")
+}
+
+/// The word's list is this, and no text has the word where it is empty.
+fn expect_word(rt: &impl Abort, alloc: Global, index: &Index, word: &str, wanted: &[Posting]) {
+    expect_list(rt, alloc, index, word, wanted);
+    let known = index.knows(&key(rt, alloc, word));
+    assert_eq!(rt; known, !wanted.is_empty(), "{word}");
+}
+
+/// The word's list is this.
+fn expect_list(rt: &impl Abort, alloc: Global, index: &Index, word: &str, wanted: &[Posting]) {
+    let list = index.list(alloc, &key(rt, alloc, word));
+    let list = list.expect(rt, "memory");
+    assert_eq!(rt; list.as_slice(), wanted, "{word}");
+}
+
+/// Words, and the list of each.
+type Lists<'a> = &'a [(&'a str, &'a [Posting])];
+
+/// The words' lists are these.
+fn expect_words(rt: &impl Abort, alloc: Global, index: &Index, lists: Lists<'_>) {
+    for (word, wanted) in lists {
+        expect_word(rt, alloc, index, word, wanted);
+    }
+}
+
+/// After these changes, committed or loaded, the words' lists are these.
+fn expect_lists(rt: &impl Abort, alloc: Global, rows: &[(u32, Option<&str>)], lists: Lists<'_>)
+    requires { length rows.now < 1000 }
+{
+    expect_words(rt, alloc, &committed(rt, alloc, rows), lists);
+    expect_words(rt, alloc, &loaded(rt, alloc, rows), lists);
 }
 
 // What is wanted is worked out by hand, here and below, from the changes at 10, 20, 30, .. seconds.
 #[test]
 fn a_word_comes_in_any_spelling_and_goes(rt: HostRuntime) {
-    let alloc = rt.alloc();
     let rows = [
         (7, Some("Die Straße")),
         (7, Some("STRASSE, Straße; strasse")),
@@ -113,26 +141,12 @@ fn a_word_comes_in_any_spelling_and_goes(rt: HostRuntime) {
         posting(7, 20, 30, 3),
         posting(7, 40, NOW, 1),
     ];
-    let strasse = key(&rt, alloc, "strasse");
-    let die = key(&rt, alloc, "die");
-    for index in [
-        committed(&rt, alloc, &rows).expect(&rt, "memory"),
-        loaded(&rt, alloc, &rows).expect(&rt, "memory"),
-    ] {
-        assert_eq!(rt;
-            index.list(alloc, &strasse).expect(&rt, "memory").as_slice(),
-            street.as_slice()
-        );
-        assert_eq!(rt;
-            index.list(alloc, &die).expect(&rt, "memory").as_slice(),
-            [posting(7, 10, 20, 1)].as_slice()
-        );
-    }
+    let lists = [("strasse", &street[..]), ("die", &street[..1])];
+    expect_lists(&rt, rt.alloc(), &rows, &lists);
 }
 
 #[test]
 fn a_word_stands_in_two_documents(rt: HostRuntime) {
-    let alloc = rt.alloc();
     let rows = [
         (9, Some("red blue")),
         (3, Some("blue")),
@@ -146,27 +160,12 @@ fn a_word_stands_in_two_documents(rt: HostRuntime) {
         posting(9, 10, 30, 1),
         posting(9, 30, 50, 2),
     ];
-    for index in [
-        committed(&rt, alloc, &rows).expect(&rt, "memory"),
-        loaded(&rt, alloc, &rows).expect(&rt, "memory"),
-    ] {
-        for (word, wanted) in [("red", red.as_slice()), ("blue", blue.as_slice())] {
-            let word = key(&rt, alloc, word);
-            assert_eq!(rt;
-                index.list(alloc, &word).expect(&rt, "memory").as_slice(),
-                wanted
-            );
-            assert!(rt; index.knows(&word));
-        }
-        let green = key(&rt, alloc, "green");
-        assert!(rt; index.list(alloc, &green).expect(&rt, "memory").is_empty());
-        assert!(rt; !index.knows(&green));
-    }
+    let lists = [("red", &red[..]), ("blue", &blue[..]), ("green", &[])];
+    expect_lists(&rt, rt.alloc(), &rows, &lists);
 }
 
 #[test]
 fn versions_with_a_word_as_often_make_one_posting(rt: HostRuntime) {
-    let alloc = rt.alloc();
     let rows = [
         (1, None),
         (1, Some("To be, or not to be")),
@@ -174,51 +173,35 @@ fn versions_with_a_word_as_often_make_one_posting(rt: HostRuntime) {
         (1, Some("be to to be")),
     ];
     let to = [posting(1, 20, NOW, 2)];
-    let or = [posting(1, 20, 40, 1)];
     let not = [posting(1, 20, 40, 1), posting(2, 30, NOW, 1)];
-    for index in [
-        committed(&rt, alloc, &rows).expect(&rt, "memory"),
-        loaded(&rt, alloc, &rows).expect(&rt, "memory"),
-    ] {
-        for (word, wanted) in [
-            ("to", to.as_slice()),
-            ("be", to.as_slice()),
-            ("or", or.as_slice()),
-            ("not", not.as_slice()),
-        ] {
-            let word = key(&rt, alloc, word);
-            assert_eq!(rt;
-                index.list(alloc, &word).expect(&rt, "memory").as_slice(),
-                wanted
-            );
-        }
-    }
+    let lists = [
+        ("to", &to[..]),
+        ("be", &to[..]),
+        ("or", &not[..1]),
+        ("not", &not[..]),
+    ];
+    expect_lists(&rt, rt.alloc(), &rows, &lists);
+}
+
+/// Prepares a change of document 1 and drops it.
+fn drop_change(rt: &impl Abort, alloc: Global, index: &mut Index, text: &str) {
+    assert!(rt; is_short(Some(text)));
+    let dropped = index.prepare(alloc, DocId(1), Some(text));
+    drop(dropped.expect(rt, "room"));
 }
 
 #[test]
 fn a_change_that_is_dropped_changes_no_answer(rt: HostRuntime) {
     let alloc = rt.alloc();
-    let mut index = committed(&rt, alloc, &[(1, Some("red"))]).expect(&rt, "memory");
-    let dropped = index.prepare(alloc, DocId(1), Some("blue red red"));
-    drop(dropped.expect(&rt, "room"));
-    let red = key(&rt, alloc, "red");
-    let blue = key(&rt, alloc, "blue");
-    assert!(rt; !index.knows(&blue));
-    assert_eq!(rt;
-        index.list(alloc, &red).expect(&rt, "memory").as_slice(),
-        [posting(1, 10, NOW, 1)].as_slice()
-    );
+    let mut index = committed(&rt, alloc, &[(1, Some("red"))]);
+    drop_change(&rt, alloc, &mut index, "blue red red");
+    let red = [posting(1, 10, NOW, 1)];
+    expect_words(&rt, alloc, &index, &[("blue", &[]), ("red", &red)]);
     commit(&rt, alloc, &mut index, DocId(1), time_at(1), Some("green"));
-    assert!(rt; !index.knows(&blue));
-    assert_eq!(rt;
-        index.list(alloc, &red).expect(&rt, "memory").as_slice(),
-        [posting(1, 10, 20, 1)].as_slice()
-    );
-    let green = key(&rt, alloc, "green");
-    assert_eq!(rt;
-        index.list(alloc, &green).expect(&rt, "memory").as_slice(),
-        [posting(1, 20, NOW, 1)].as_slice()
-    );
+    let red = [posting(1, 10, 20, 1)];
+    let green = [posting(1, 20, NOW, 1)];
+    let lists = [("blue", &[][..]), ("red", &red[..]), ("green", &green[..])];
+    expect_words(&rt, alloc, &index, &lists);
 }
 
 /// The part that the word's list has in a span is this, of a list so long.
@@ -226,15 +209,35 @@ fn expect_part(
     rt: &impl Abort,
     alloc: Global,
     index: &Index,
-    word: &Key,
+    word: &str,
     ends: (u64, u64),
     wanted: &[Posting],
     whole: u64,
 ) {
     let span = Span::new(ends.0, ends.1).expect(rt, "a span");
-    let part = index.part_in(alloc, word, span).expect(rt, "memory");
-    assert_eq!(rt; part.rows.as_slice(), wanted);
-    assert_eq!(rt; part.whole, whole);
+    let part = index.part_in(alloc, &key(rt, alloc, word), span);
+    let part = part.expect(rt, "memory");
+    assert_eq!(rt; part.rows.as_slice(), wanted, "{word} in {ends:?}");
+    assert_eq!(rt; part.whole, whole, "{word} in {ends:?}");
+}
+
+/// Documents 9 and 3 have red, the latter twice; it is gone from 9 for a while, and no one has green.
+fn expect_parts_of_red(rt: &impl Abort, alloc: Global, index: &Index) {
+    let all = [
+        posting(3, 20, NOW, 2),
+        posting(9, 10, 30, 1),
+        posting(9, 40, NOW, 1),
+    ];
+    for (ends, wanted) in [
+        ((5, 10), &all[..0]),
+        ((5, 11), &all[1..2]),
+        ((29, 40), &all[..2]),
+        ((30, 31), &all[..1]),
+        ((29, 41), &all[..]),
+    ] {
+        expect_part(rt, alloc, index, "red", ends, wanted, 3);
+    }
+    expect_part(rt, alloc, index, "green", (5, 100), &[], 0);
 }
 
 #[test]
@@ -246,67 +249,53 @@ fn a_span_has_a_part_of_a_list(rt: HostRuntime) {
         (9, None),
         (9, Some("red")),
     ];
-    let red = key(&rt, alloc, "red");
-    let green = key(&rt, alloc, "green");
-    let early = posting(9, 10, 30, 1);
-    let twice = posting(3, 20, NOW, 2);
-    let late = posting(9, 40, NOW, 1);
-    let all = [twice, early, late];
-    for index in [
-        committed(&rt, alloc, &rows).expect(&rt, "memory"),
-        loaded(&rt, alloc, &rows).expect(&rt, "memory"),
-    ] {
-        expect_part(&rt, alloc, &index, &red, (5, 10), &all[..0], 3);
-        expect_part(&rt, alloc, &index, &red, (5, 11), &all[1..2], 3);
-        expect_part(&rt, alloc, &index, &red, (29, 40), &all[..2], 3);
-        expect_part(&rt, alloc, &index, &red, (30, 31), &all[..1], 3);
-        expect_part(&rt, alloc, &index, &red, (29, 41), &all, 3);
-        expect_part(&rt, alloc, &index, &green, (5, 100), &all[..0], 0);
-    }
+    expect_parts_of_red(&rt, alloc, &committed(&rt, alloc, &rows));
+    expect_parts_of_red(&rt, alloc, &loaded(&rt, alloc, &rows));
 }
 
 const DIGITS: &[u8; 36] = b"0123456789abcdefghijklmnopqrstuvwxyz";
 
-/// So many distinct words, each of four letters or digits.
-fn distinct_words(alloc: Global, count: u32) -> Result<Vec<u8>, AllocError> {
+/// The text of so many distinct words, each of four letters or digits.
+fn distinct_words(rt: &impl Abort, alloc: Global, count: u32) -> String {
     let mut text = Vec::new(alloc);
     for n in 0..count {
         for place in [46656, 1296, 36, 1] {
-            text.push(DIGITS[(n / place % 36) as usize])?;
+            let digit = DIGITS[(n / place % 36) as usize];
+            text.push(digit).expect(rt, "memory");
         }
-        text.push(b' ')?;
+        text.push(b' ').expect(rt, "memory");
     }
-    Ok(text)
+    String::from_utf8(text).expect(rt, "a text")
 }
 
-/// Why a text of document 7 can't be prepared.
-fn refusal(rt: &impl Abort, alloc: Global, index: &mut Index, text: &str) -> Option<NumberError> {
+/// A text of document 7 can be prepared, or can't for this reason.
+fn expect_refusal(
+    rt: &impl Abort,
+    alloc: Global,
+    index: &mut Index,
+    text: &str,
+    wanted: Option<NumberError>,
+) {
     assert!(rt; is_short(Some(text)));
-    index.prepare(alloc, DocId(7), Some(text)).err()
+    let refusal = index.prepare(alloc, DocId(7), Some(text)).err();
+    assert_eq!(rt; refusal, wanted);
+}
+
+/// So many words have room in an index; the last of them is this.
+fn fill(rt: &impl Abort, alloc: Global, index: &mut Index, count: u32, last: &str) {
+    let text = distinct_words(rt, alloc, count);
+    commit(rt, alloc, index, DocId(7), time_at(0), Some(text.as_str()));
+    expect_list(rt, alloc, index, last, &[posting(7, 10, NOW, 1)]);
 }
 
 #[test]
 fn there_may_be_2_to_the_20_words_and_no_more(rt: HostRuntime) {
     let alloc = rt.alloc();
-    let most = distinct_words(alloc, 1 << 20).expect(&rt, "memory");
-    let more = distinct_words(alloc, (1 << 20) + 1).expect(&rt, "memory");
-    let most = str::from_utf8(&most).expect(&rt, "a text");
-    let more = str::from_utf8(&more).expect(&rt, "a text");
-    let mut index = committed(&rt, alloc, &[]).expect(&rt, "memory");
-    assert_eq!(rt;
-        refusal(&rt, alloc, &mut index, more),
-        Some(NumberError::Full)
-    );
-    let time = Time::new(10).expect(&rt, "a time");
-    commit(&rt, alloc, &mut index, DocId(7), time, Some(most));
-    let last = key(&rt, alloc, "mh33");
-    assert_eq!(rt;
-        index.list(alloc, &last).expect(&rt, "memory").as_slice(),
-        [posting(7, 10, NOW, 1)].as_slice()
-    );
-    assert_eq!(rt; refusal(&rt, alloc, &mut index, "MH33 0000"), None);
-    assert_eq!(rt;
-        refusal(&rt, alloc, &mut index, "mh33 mh34"),
-        Some(NumberError::Full)
-    );
+    let mut index = committed(&rt, alloc, &[]);
+    let more = distinct_words(&rt, alloc, (1 << 20) + 1);
+    let full = Some(NumberError::Full);
+    expect_refusal(&rt, alloc, &mut index, more.as_str(), full);
+    fill(&rt, alloc, &mut index, 1 << 20, "mh33");
+    expect_refusal(&rt, alloc, &mut index, "MH33 0000", None);
+    expect_refusal(&rt, alloc, &mut index, "mh33 mh34", Some(NumberError::Full));
 }

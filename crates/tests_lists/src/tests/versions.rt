@@ -1,7 +1,8 @@
 //! Which version is valid at a time, and what may come next.
 use base_types::{DocId, NOW, Span, TextPlace, Time};
+use lists_postings::Life;
 use lists_versions::{Directory, VersionRefusal};
-use std::alloc::AllocError;
+use std::alloc::Global;
 use std::process::Abort;
 
 fn time(rt: &impl Abort, seconds: u64) -> Time {
@@ -10,189 +11,196 @@ fn time(rt: &impl Abort, seconds: u64) -> Time {
 
 /// Adds a version whose text has so many bytes, or a tombstone, where that is allowed.
 fn change(
+    rt: &impl Abort,
     directory: &mut Directory,
     doc: DocId,
     at: Time,
     bytes: Option<u32>,
-) -> Result<Result<(), VersionRefusal>, AllocError> {
-    directory.reserve(doc)?;
+) -> Result<(), VersionRefusal> {
+    directory.reserve(doc).expect(rt, "memory");
     match bytes {
         Some(bytes) => {
             let allowed = directory.may_arrive(doc, at);
             if allowed.is_ok() {
                 directory.arrive(doc, at, TextPlace { at: 100, bytes });
             }
-            Ok(allowed)
+            allowed
         }
         None => {
             let allowed = directory.may_delete(doc, at);
             if allowed.is_ok() {
                 directory.delete(doc, at);
             }
-            Ok(allowed)
+            allowed
         }
     }
 }
 
-#[test]
-fn a_version_is_valid_from_its_time_until_the_next_ones(rt: HostRuntime) {
-    let mut directory = Directory::new(rt.alloc()).expect(&rt, "memory");
-    assert_eq!(rt; directory.last(), None);
-    for (doc, at, bytes) in [
-        (7, 10, Some(1)),
-        (7, 20, Some(2)),
-        (3, 20, Some(3)),
-        (7, 30, None),
-        (7, 50, Some(4)),
-        (7, 60, Some(5)),
-    ] {
-        let allowed = change(&mut directory, DocId(doc), time(&rt, at), bytes).expect(
-            &rt, "memory",
-        );
+/// The directory of changes, all of which are allowed: a document, a time, and a text's bytes, or a
+/// tombstone.
+fn changed(rt: &impl Abort, alloc: Global, changes: &[(u32, u64, Option<u32>)]) -> Directory {
+    let mut directory = Directory::new(alloc).expect(rt, "memory");
+    for (doc, at, bytes) in changes {
+        let allowed = change(rt, &mut directory, DocId(*doc), time(rt, *at), *bytes);
         assert_eq!(rt; allowed, Ok(()), "at {at}");
     }
+    directory
+}
+
+/// Document 7 has a text of so many bytes at that time, or none.
+fn expect_place(rt: &impl Abort, directory: &Directory, at: u64, bytes: Option<u32>) {
+    let time = time(rt, at);
+    let place = directory.place(DocId(7), time);
+    assert_eq!(rt; place.map(|text| text.bytes), bytes, "at {at}");
+    let alive = directory.alive_at(DocId(7), time);
+    assert_eq!(rt; alive, bytes.is_some(), "at {at}");
+}
+
+/// These documents are alive at that time.
+fn expect_alive(rt: &impl Abort, alloc: Global, directory: &Directory, at: u64, docs: &[DocId]) {
+    let alive = directory.alive(alloc, time(rt, at)).expect(rt, "memory");
+    assert_eq!(rt; alive.as_slice(), docs, "at {at}");
+}
+
+/// Changes of two documents, the last one at 60.
+const CHANGES: [(u32, u64, Option<u32>); 6] = [
+    (7, 10, Some(1)),
+    (7, 20, Some(2)),
+    (3, 20, Some(3)),
+    (7, 30, None),
+    (7, 50, Some(4)),
+    (7, 60, Some(5)),
+];
+
+/// Times, and how many bytes the text has that document 7 has then.
+const PLACES: [(u64, Option<u32>); 11] = [
+    (9, None),
+    (10, Some(1)),
+    (19, Some(1)),
+    (20, Some(2)),
+    (29, Some(2)),
+    (30, None),
+    (49, None),
+    (50, Some(4)),
+    (59, Some(4)),
+    (60, Some(5)),
+    (70, Some(5)),
+];
+
+#[test]
+fn a_version_is_valid_from_its_time_until_the_next_ones(rt: HostRuntime) {
+    let directory = changed(&rt, rt.alloc(), &CHANGES);
+    for (at, bytes) in &PLACES {
+        expect_place(&rt, &directory, *at, *bytes);
+    }
+    expect_alive(&rt, rt.alloc(), &directory, 25, &[DocId(3), DocId(7)]);
+    expect_alive(&rt, rt.alloc(), &directory, 30, &[DocId(3)]);
+}
+
+#[test]
+fn a_directory_counts_its_changes_and_documents(rt: HostRuntime) {
+    assert_eq!(rt; changed(&rt, rt.alloc(), &[]).last(), None);
+    let directory = changed(&rt, rt.alloc(), &CHANGES);
     assert_eq!(rt; directory.last(), Some(time(&rt, 60)));
     assert_eq!(rt; directory.len(), 6);
     assert_eq!(rt; directory.documents(), 2);
     assert_eq!(rt; directory.changes().len(), 6);
-    for (at, bytes) in [
-        (9, None),
-        (10, Some(1)),
-        (19, Some(1)),
-        (20, Some(2)),
-        (29, Some(2)),
-        (30, None),
-        (49, None),
-        (50, Some(4)),
-        (59, Some(4)),
-        (60, Some(5)),
-        (70, Some(5)),
-    ] {
-        let place = directory.place(DocId(7), time(&rt, at));
-        assert_eq!(rt; place.map(|text| text.bytes), bytes, "at {at}");
-        assert_eq!(rt;
-            directory.alive_at(DocId(7), time(&rt, at)),
-            bytes.is_some(),
-            "at {at}"
-        );
+}
+
+/// Changes in turn are answered so.
+fn expect_answers(
+    rt: &impl Abort,
+    directory: &mut Directory,
+    rows: &[(u32, u64, Option<u32>, Result<(), VersionRefusal>)],
+) {
+    for (doc, at, bytes, wanted) in rows {
+        let allowed = change(rt, directory, DocId(*doc), time(rt, *at), *bytes);
+        assert_eq!(rt; allowed, *wanted, "{doc} at {at}");
     }
-    assert_eq!(rt;
-        directory
-            .alive(rt.alloc(), time(&rt, 25))
-            .expect(&rt, "memory")
-            .as_slice(),
-        [DocId(3), DocId(7)].as_slice()
-    );
-    assert_eq!(rt;
-        directory
-            .alive(rt.alloc(), time(&rt, 30))
-            .expect(&rt, "memory")
-            .as_slice(),
-        [DocId(3)].as_slice()
-    );
 }
 
 #[test]
 fn refuses_in_order(rt: HostRuntime) {
     let mut directory = Directory::new(rt.alloc()).expect(&rt, "memory");
-    let at = time(&rt, 10);
-    assert_eq!(rt;
-        change(&mut directory, DocId(1), at, None).expect(&rt, "memory"),
-        Err(VersionRefusal::NoDocument)
-    );
-    assert_eq!(rt;
-        change(&mut directory, DocId(1), at, Some(1)).expect(&rt, "memory"),
-        Ok(())
-    );
-    assert_eq!(rt;
-        change(&mut directory, DocId(1), at, Some(2)).expect(&rt, "memory"),
-        Err(VersionRefusal::SameTime)
-    );
-    assert_eq!(rt;
-        change(&mut directory, DocId(1), at, None).expect(&rt, "memory"),
-        Err(VersionRefusal::SameTime)
-    );
-    let back = VersionRefusal::TimeBack { last: at };
-    assert_eq!(rt;
-        change(&mut directory, DocId(1), time(&rt, 9), Some(2)).expect(&rt, "memory"),
-        Err(back)
-    );
-    assert_eq!(rt;
-        change(&mut directory, DocId(2), time(&rt, 9), None).expect(&rt, "memory"),
-        Err(back)
-    );
-    let later = time(&rt, 11);
-    assert_eq!(rt;
-        change(&mut directory, DocId(1), later, None).expect(&rt, "memory"),
-        Ok(())
-    );
-    assert_eq!(rt;
-        change(&mut directory, DocId(1), later, None).expect(&rt, "memory"),
-        Err(VersionRefusal::NoDocument)
-    );
-    assert_eq!(rt;
-        change(&mut directory, DocId(1), later, Some(2)).expect(&rt, "memory"),
-        Err(VersionRefusal::SameTime)
-    );
+    let back = VersionRefusal::TimeBack {
+        last: time(&rt, 10),
+    };
+    let rows = [
+        (1, 10, None, Err(VersionRefusal::NoDocument)),
+        (1, 10, Some(1), Ok(())),
+        (1, 10, Some(2), Err(VersionRefusal::SameTime)),
+        (1, 10, None, Err(VersionRefusal::SameTime)),
+        (1, 9, Some(2), Err(back)),
+        (2, 9, None, Err(back)),
+        (1, 11, None, Ok(())),
+        (1, 11, None, Err(VersionRefusal::NoDocument)),
+        (1, 11, Some(2), Err(VersionRefusal::SameTime)),
+    ];
+    expect_answers(&rt, &mut directory, &rows);
+}
+
+/// Changes of two documents, of which one is deleted and comes again.
+const RETURNING: [(u32, u64, Option<u32>); 5] = [
+    (7, 10, Some(1)),
+    (7, 20, Some(2)),
+    (3, 20, Some(3)),
+    (7, 30, None),
+    (7, 35, Some(4)),
+];
+
+/// Spans, and the documents that are alive in them, each from a time until another one.
+const LIVES: [((u64, u64), &[(u32, u64, u64)]); 7] = [
+    ((0, NOW), &[(3, 20, NOW), (7, 10, 30), (7, 35, NOW)]),
+    ((20, 30), &[(3, 20, 30), (7, 20, 30)]),
+    ((30, 35), &[(3, 30, 35)]),
+    ((25, 26), &[(3, 25, 26), (7, 25, 26)]),
+    ((29, 36), &[(3, 29, 36), (7, 29, 30), (7, 35, 36)]),
+    ((NOW - 1, NOW), &[(3, NOW - 1, NOW), (7, NOW - 1, NOW)]),
+    ((0, 10), &[]),
+];
+
+/// Lives are these, in order.
+fn expect_told(rt: &impl Abort, lives: &[Life], wanted: &[(u32, u64, u64)]) {
+    assert_eq!(rt; lives.len(), wanted.len());
+    for (life, (doc, from, to)) in lives.iter().zip(wanted) {
+        assert_eq!(rt; life.doc.0, *doc);
+        assert_eq!(rt; life.span.from, *from);
+        assert_eq!(rt; life.span.to, *to);
+    }
+}
+
+/// Those of document 7 alone.
+fn of_seven(rt: &impl Abort, alloc: Global, lives: &[(u32, u64, u64)]) -> Vec<(u32, u64, u64)> {
+    let mut sevens = Vec::new(alloc);
+    for (doc, from, to) in lives {
+        if *doc == 7 {
+            sevens.push((7, *from, *to)).expect(rt, "memory");
+        }
+    }
+    sevens
+}
+
+/// The lives in a span are these; a document that never came has none, and one that is named twice has its
+/// own once.
+fn expect_lives(
+    rt: &impl Abort,
+    alloc: Global,
+    directory: &Directory,
+    (from, to): (u64, u64),
+    wanted: &[(u32, u64, u64)],
+) {
+    let span = Span::new(from, to).expect(rt, "a span");
+    let lives = directory.lives(alloc, span).expect(rt, "memory");
+    expect_told(rt, &lives, wanted);
+    let docs = [DocId(7), DocId(5), DocId(7)];
+    let lives = directory.lives_of(alloc, &docs, span).expect(rt, "memory");
+    expect_told(rt, &lives, &of_seven(rt, alloc, wanted));
 }
 
 #[test]
 fn lives_go_on_over_new_versions_and_end_where_a_document_is_deleted(rt: HostRuntime) {
-    let mut directory = Directory::new(rt.alloc()).expect(&rt, "memory");
-    for (doc, at, bytes) in [
-        (7, 10, Some(1)),
-        (7, 20, Some(2)),
-        (3, 20, Some(3)),
-        (7, 30, None),
-        (7, 35, Some(4)),
-    ] {
-        let allowed = change(&mut directory, DocId(doc), time(&rt, at), bytes).expect(
-            &rt, "memory",
-        );
-        assert_eq!(rt; allowed, Ok(()), "at {at}");
-    }
-    for (from, to, wanted) in [
-        (0, NOW, [(3, 20, NOW), (7, 10, 30), (7, 35, NOW)].as_slice()),
-        (20, 30, [(3, 20, 30), (7, 20, 30)].as_slice()),
-        (30, 35, [(3, 30, 35)].as_slice()),
-        (25, 26, [(3, 25, 26), (7, 25, 26)].as_slice()),
-        (29, 36, [(3, 29, 36), (7, 29, 30), (7, 35, 36)].as_slice()),
-        (
-            NOW - 1,
-            NOW,
-            [(3, NOW - 1, NOW), (7, NOW - 1, NOW)].as_slice(),
-        ),
-        (0, 10, [].as_slice()),
-    ] {
-        let span = Span::new(from, to).expect(&rt, "a span");
-        let mut lives = Vec::new(rt.alloc());
-        for life in directory.lives(rt.alloc(), span).expect(&rt, "memory") {
-            lives
-                .push((life.doc.0, life.span.from, life.span.to))
-                .expect(&rt, "memory");
-        }
-        assert_eq!(rt; lives.as_slice(), wanted, "in [{from}, {to})");
-        let mut sevens = Vec::new(rt.alloc());
-        for (doc, from, to) in wanted {
-            if *doc == 7 {
-                sevens.push((7, *from, *to)).expect(&rt, "memory");
-            }
-        }
-        // a document that never came has none, and one that is named twice has its own once
-        let docs = [DocId(7), DocId(5), DocId(7)];
-        let mut lives = Vec::new(rt.alloc());
-        for life in directory
-            .lives_of(rt.alloc(), &docs, span)
-            .expect(&rt, "memory")
-        {
-            lives
-                .push((life.doc.0, life.span.from, life.span.to))
-                .expect(&rt, "memory");
-        }
-        assert_eq!(rt;
-            lives.as_slice(),
-            sevens.as_slice(),
-            "of 7 in [{from}, {to})"
-        );
+    let directory = changed(&rt, rt.alloc(), &RETURNING);
+    for (ends, wanted) in &LIVES {
+        expect_lives(&rt, rt.alloc(), &directory, *ends, wanted);
     }
 }

@@ -5,7 +5,7 @@ use base_types::Extent;
 use machine_mem::{CallKind, Fault, MemMachine};
 use machine_model::{Area, Disk, Image};
 use pages_area::{PageCache, PageError};
-use std::alloc::{AllocError, Global};
+use std::alloc::Global;
 use std::process::Abort;
 
 /// A machine without input, with these bytes in Pages.
@@ -20,18 +20,17 @@ fn machine_with(rt: &impl Abort, alloc: Global, pages: Vec<u8>, faults: &[Fault]
 }
 
 /// Pages that hold 18 bytes of 7, 22 of 8 and 18 of 9 in the pages 0, 1 and 2.
-fn three_places(alloc: Global) -> Result<Vec<u8>, AllocError> {
-    let mut pages = vec![in alloc; 0; 8210]?;
+fn three_places(rt: &impl Abort, alloc: Global) -> Vec<u8> {
+    let mut pages = vec![in alloc; 0; 8210].expect(rt, "memory");
     pages[..18].fill(7);
     pages[4096..4118].fill(8);
     pages[8192..].fill(9);
-    Ok(pages)
+    pages
 }
 
 /// A machine that holds these, on which calls fail.
 fn machine_failing(rt: &impl Abort, alloc: Global, faults: &[Fault]) -> MemMachine {
-    let pages = three_places(alloc).expect(rt, "memory");
-    machine_with(rt, alloc, pages, faults)
+    machine_with(rt, alloc, three_places(rt, alloc), faults)
 }
 
 /// What asking for so many bytes from a page on gives.
@@ -84,20 +83,33 @@ const ASKED: [(u32, u64, u64); 9] = [
     (2, 0, 4195),
 ];
 
+/// Asks for so many bytes from a page on, which are those that Pages hold.
+fn expect_asked(
+    rt: &impl Abort,
+    alloc: Global,
+    cache: &mut PageCache,
+    machine: &mut MemMachine,
+    asked: (u32, u64, u64),
+    held: &[u8],
+) {
+    let (first, bytes, _) = asked;
+    let given = expect_read(rt, alloc, cache, machine, asked);
+    let start = first as usize * 4096;
+    let wanted = held.iter().skip(start).take(bytes as usize);
+    assert!(rt;
+        given.iter().eq(wanted),
+        "{bytes} bytes from page {first} on"
+    );
+}
+
 #[test]
 fn what_is_asked_for_again_is_read_once(rt: HostRuntime) {
     let alloc = rt.alloc();
-    let held = three_places(alloc).expect(&rt, "memory");
+    let held = three_places(&rt, alloc);
     let mut machine = machine_failing(&rt, alloc, &[]);
     let mut cache = PageCache::new(alloc).expect(&rt, "memory");
-    for (first, bytes, read) in ASKED {
-        let given = expect_read(&rt, alloc, &mut cache, &mut machine, (first, bytes, read));
-        let start = first as usize * 4096;
-        let wanted = held.iter().skip(start).take(bytes as usize);
-        assert!(rt;
-            given.iter().eq(wanted),
-            "{bytes} bytes from page {first} on"
-        );
+    for asked in &ASKED {
+        expect_asked(&rt, alloc, &mut cache, &mut machine, *asked, &held);
     }
     assert_eq!(rt; machine.read_of(Area::Journal), 0);
 }
@@ -131,7 +143,7 @@ fn a_page_that_was_not_read_is_not_kept(rt: HostRuntime) {
     assert_eq!(rt; failed, Err(PageError::Failed));
     assert_eq!(rt; cache.len(), 1);
     let again = expect_read(&rt, alloc, &mut cache, &mut machine, (0, 8210, 8210));
-    let wanted = three_places(alloc).expect(&rt, "memory");
+    let wanted = three_places(&rt, alloc);
     assert_eq!(rt; again.as_slice(), wanted.as_slice());
 }
 

@@ -51,17 +51,22 @@ fn expect_blocks(rt: &impl Abort, alloc: Global, flat: &[u8], digits: &str) {
     assert_eq!(rt; again.as_slice(), list.as_slice());
 }
 
-#[test]
-fn a_list_of_two_postings_in_both_layouts(rt: HostRuntime) {
-    let flat = both(&rt, rt.alloc());
-    let list = listed(&rt, rt.alloc(), &flat);
-    assert_eq!(rt; list.len(), 2);
-    for (posting, (doc, from, to)) in list.iter().zip(&[(1, 10, 40), (2, 20, 30)]) {
+/// A list has postings of frequency 1 with these documents, starts and ends.
+fn expect_postings(rt: &impl Abort, list: &[Posting], wanted: &[(u32, u64, u64)]) {
+    assert_eq!(rt; list.len(), wanted.len());
+    for (posting, (doc, from, to)) in list.iter().zip(wanted) {
         assert_eq!(rt; posting.doc.0, *doc);
         assert_eq!(rt; posting.tf, 1);
         assert_eq!(rt; posting.span.from, *from);
         assert_eq!(rt; posting.span.to, *to);
     }
+}
+
+#[test]
+fn a_list_of_two_postings_in_both_layouts(rt: HostRuntime) {
+    let flat = both(&rt, rt.alloc());
+    let list = listed(&rt, rt.alloc(), &flat);
+    expect_postings(&rt, &list, &[(1, 10, 40), (2, 20, 30)]);
     let digits = "020007000000010000000100000002010a1e0101140a";
     expect_blocks(&rt, rt.alloc(), &flat, digits);
 }
@@ -95,34 +100,50 @@ fn altered(rt: &impl Abort, alloc: Global, bytes: &[u8], at: usize, byte: u8) ->
     changed
 }
 
+/// Places in the flat bytes of both, a byte put there, and the posting that is named.
+const POSTING_FAULTS: [(usize, u8, u64); 5] = [
+    // Document 0 behind document 1.
+    (27, 0, 24),
+    // A frequency of 0.
+    (7, 0, 0),
+    // An end at the start, and one behind the end of time.
+    (23, 10, 0),
+    (42, 2, 24),
+    // The same document again, while the first posting lasts.
+    (27, 1, 24),
+];
+
+/// A list with another byte at a place names this posting.
+fn expect_fault(rt: &impl Abort, alloc: Global, list: &[u8], (at, byte, named): (usize, u8, u64)) {
+    let changed = altered(rt, alloc, list, at, byte);
+    let read = decode_list(alloc, &changed);
+    assert_eq!(rt; place(read), Some(named), "byte {at} as {byte}");
+}
+
 #[test]
 fn the_posting_at_fault_is_named(rt: HostRuntime) {
     let list = both(&rt, rt.alloc());
-    for (at, byte, named) in [
-        // Document 0 behind document 1.
-        (27, 0, 24),
-        // A frequency of 0.
-        (7, 0, 0),
-        // An end at the start, and one behind the end of time.
-        (23, 10, 0),
-        (42, 2, 24),
-        // The same document again, while the first posting lasts.
-        (27, 1, 24),
-    ] {
-        let changed = altered(&rt, rt.alloc(), &list, at, byte);
-        let read = decode_list(rt.alloc(), &changed);
-        assert_eq!(rt; place(read), Some(named), "byte {at} as {byte}");
+    for fault in &POSTING_FAULTS {
+        expect_fault(&rt, rt.alloc(), &list, *fault);
     }
+}
+
+/// So many bytes of a list name this posting, which is cut short.
+fn expect_cut_short(rt: &impl Abort, alloc: Global, list: &[u8], bytes: usize, named: u64) {
+    let mut short = Vec::from_slice(alloc, list).expect(rt, "memory");
+    short.truncate(bytes);
+    assert_eq!(rt;
+        place(decode_list(alloc, &short)),
+        Some(named),
+        "{bytes} bytes"
+    );
 }
 
 #[test]
 fn the_posting_that_is_cut_short_is_named(rt: HostRuntime) {
     let list = both(&rt, rt.alloc());
-    for (bytes, named) in [(47, 24), (1, 0)] {
-        let mut short = Vec::from_slice(rt.alloc(), &list).expect(&rt, "memory");
-        short.truncate(bytes);
-        assert_eq!(rt; place(decode_list(rt.alloc(), &short)), Some(named));
-    }
+    expect_cut_short(&rt, rt.alloc(), &list, 47, 24);
+    expect_cut_short(&rt, rt.alloc(), &list, 1, 0);
 }
 
 /// Bytes that are no blocks, and the place that is named.
@@ -167,12 +188,17 @@ const FAULTS: [(&str, u64); 25] = [
     ("00", 0),
 ];
 
+/// These bytes are no blocks, and this place is named.
+fn expect_place(rt: &impl Abort, alloc: Global, (digits, at): (&str, u64)) {
+    let bytes = bytes_of(rt, alloc, digits);
+    let read = decode_blocks(alloc, &bytes);
+    assert_eq!(rt; place(read), Some(at), "{digits}");
+}
+
 #[test]
 fn the_place_at_fault_in_blocks_is_named(rt: HostRuntime) {
-    for (digits, at) in FAULTS {
-        let bytes = bytes_of(&rt, rt.alloc(), digits);
-        let read = decode_blocks(rt.alloc(), &bytes);
-        assert_eq!(rt; place(read), Some(at), "{digits}");
+    for fault in &FAULTS {
+        expect_place(&rt, rt.alloc(), *fault);
     }
 }
 
@@ -209,18 +235,21 @@ fn expect_size(rt: &impl Abort, alloc: Global, list: &[Posting], bytes: usize)
     assert_eq!(rt; again.as_slice(), list);
 }
 
+/// Numbers of postings, and how many bytes these have in blocks.
+const SIZES: [(u32, usize); 6] = [
+    (0, 0),
+    (1, 18),
+    (127, 522),
+    (128, 526),
+    (129, 544),
+    (1000, 4112),
+];
+
 #[test]
 fn a_block_has_128_postings(rt: HostRuntime) {
-    for (count, bytes) in [
-        (0, 0),
-        (1, 18),
-        (127, 522),
-        (128, 526),
-        (129, 544),
-        (1000, 4112),
-    ] {
-        let list = long(&rt, rt.alloc(), count);
-        expect_size(&rt, rt.alloc(), &list, bytes);
+    for (count, bytes) in &SIZES {
+        let list = long(&rt, rt.alloc(), *count);
+        expect_size(&rt, rt.alloc(), &list, *bytes);
     }
 }
 
@@ -240,13 +269,18 @@ const STARTS: [(u64, usize); 12] = [
     (1_099_511_627_775, 23),
 ];
 
+/// A posting that begins there has so many bytes in blocks.
+fn expect_start(rt: &impl Abort, alloc: Global, from: u64, bytes: usize) {
+    let mut flat = Vec::new(alloc);
+    put_flat(rt, &mut flat, 1, from, from.saturating_add(1));
+    let list = listed(rt, alloc, &flat);
+    expect_size(rt, alloc, &list, bytes);
+}
+
 #[test]
 fn a_number_has_one_to_six_bytes(rt: HostRuntime) {
-    for (from, bytes) in STARTS {
-        let mut flat = Vec::new(rt.alloc());
-        put_flat(&rt, &mut flat, 1, from, from.saturating_add(1));
-        let list = listed(&rt, rt.alloc(), &flat);
-        expect_size(&rt, rt.alloc(), &list, bytes);
+    for (from, bytes) in &STARTS {
+        expect_start(&rt, rt.alloc(), *from, *bytes);
     }
 }
 
@@ -272,20 +306,28 @@ fn place_or_list(rt: &impl Abort, alloc: Global, altered: &[u8]) -> Option<u64> 
     }
 }
 
+/// How many of the altered bytes are a list's where these bits are turned in each byte in turn, and the sum
+/// of the places that the others have.
+fn lists_and_places(rt: &impl Abort, alloc: Global, blocks: &[u8], bit: u8) -> (u64, u64) {
+    let mut lists = 0u64;
+    let mut places = 0u64;
+    for (at, byte) in blocks.iter().enumerate() {
+        let other = altered(rt, alloc, blocks, at, *byte ^ bit);
+        match place_or_list(rt, alloc, &other) {
+            None => lists = lists.saturating_add(1),
+            Some(at) => places = places.saturating_add(at),
+        }
+    }
+    (lists, places)
+}
+
 #[test]
 fn an_altered_byte_is_refused_or_makes_another_list(rt: HostRuntime) {
     let blocks = three_blocks(&rt, rt.alloc());
-    for (bit, lists, places) in ALTERED {
-        let mut read = 0u64;
-        let mut named = 0u64;
-        for (at, byte) in blocks.iter().enumerate() {
-            let other = altered(&rt, rt.alloc(), &blocks, at, *byte ^ bit);
-            match place_or_list(&rt, rt.alloc(), &other) {
-                None => read = read.saturating_add(1),
-                Some(at) => named = named.saturating_add(at),
-            }
-        }
-        assert_eq!(rt; (read, named), (lists, places));
+    for (bit, wanted_lists, wanted_places) in &ALTERED {
+        let (lists, places) = lists_and_places(&rt, rt.alloc(), &blocks, *bit);
+        assert_eq!(rt; lists, *wanted_lists);
+        assert_eq!(rt; places, *wanted_places);
     }
 }
 
@@ -302,18 +344,24 @@ fn opened(rt: &impl Abort, alloc: Global) -> Frames {
     Frames::read(alloc, three_blocks(rt, alloc)).expect(rt, "blocks")
 }
 
+/// Of each of the three blocks: how many postings and bytes, the greatest frequency, the first document and
+/// the last.
+const HEADS: [(u8, u16, u32, u32, u32); 3] = [
+    (128, 511, 1, 0, 127),
+    (128, 511, 1, 128, 255),
+    (1, 3, 1, 256, 256),
+];
+
 #[test]
 fn blocks_have_heads(rt: HostRuntime) {
     let frames = opened(&rt, rt.alloc());
-    let wanted = [
-        (128, 511, 1, 0, 127),
-        (128, 511, 1, 128, 255),
-        (1, 3, 1, 256, 256),
-    ];
     assert_eq!(rt; frames.heads().len(), 3);
-    for (head, wanted) in frames.heads().iter().zip(&wanted) {
-        let told = (head.count, head.size, head.top, head.first.0, head.last.0);
-        assert_eq!(rt; told, *wanted);
+    for (head, (count, size, top, first, last)) in frames.heads().iter().zip(&HEADS) {
+        assert_eq!(rt; head.count, *count);
+        assert_eq!(rt; head.size, *size);
+        assert_eq!(rt; head.top, *top);
+        assert_eq!(rt; head.first.0, *first);
+        assert_eq!(rt; head.last.0, *last);
     }
 }
 
@@ -343,19 +391,29 @@ const BLOCK_FAULTS: [(usize, u8, Option<u64>, Option<u64>); 6] = [
     (541, 0, None, Some(541)),
 ];
 
+/// Three blocks with another byte at a place name a place by their headers, or by the second block.
+fn expect_block_fault(
+    rt: &impl Abort,
+    alloc: Global,
+    blocks: &[u8],
+    (at, byte, header, inner): (usize, u8, Option<u64>, Option<u64>),
+) {
+    let other = altered(rt, alloc, blocks, at, byte);
+    match Frames::read(alloc, other) {
+        Ok(frames) => {
+            assert_eq!(rt; header, None);
+            assert!(rt; frames.heads().len() == 3);
+            assert_eq!(rt; place(frames.open(alloc, 1)), inner);
+        }
+        Err(ListError::Form { at }) => assert_eq!(rt; header, Some(at)),
+        Err(ListError::Memory) => assert!(rt; false),
+    }
+}
+
 #[test]
 fn the_place_at_fault_is_counted_from_the_first_byte(rt: HostRuntime) {
     let blocks = three_blocks(&rt, rt.alloc());
-    for (at, byte, header, inner) in BLOCK_FAULTS {
-        let other = altered(&rt, rt.alloc(), &blocks, at, byte);
-        match Frames::read(rt.alloc(), other) {
-            Ok(frames) => {
-                assert_eq!(rt; header, None);
-                assert!(rt; frames.heads().len() == 3);
-                assert_eq!(rt; place(frames.open(rt.alloc(), 1)), inner);
-            }
-            Err(ListError::Form { at }) => assert_eq!(rt; header, Some(at)),
-            Err(ListError::Memory) => assert!(rt; false),
-        }
+    for fault in &BLOCK_FAULTS {
+        expect_block_fault(&rt, rt.alloc(), &blocks, *fault);
     }
 }

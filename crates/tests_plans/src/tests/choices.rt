@@ -29,57 +29,73 @@ fn chosen(
     choose(alloc, list, kind, factor, horizon)
 }
 
-/// Document 1 in `[10, 40)`, and document 2 in `[20, 30)`.
+/// Of document 1 in `[10, 40)` and document 2 in `[20, 30)` a plan with so many segments, this space and this
+/// cost is chosen.
+fn expect_choice(
+    rt: &impl Abort,
+    alloc: Global,
+    kind: Kind,
+    factor: (u32, u32),
+    (segments, space, cost): (usize, u64, Option<u128>),
+) {
+    let list = [posting(rt, 1, 10, 40), posting(rt, 2, 20, 30)];
+    let choice = chosen(rt, alloc, &list, kind, factor, 40).expect(rt, "a choice");
+    assert_eq!(rt; choice.cuts.len(), segments, "{kind:?} with {factor:?}");
+    assert_eq!(rt; choice.space, space, "{kind:?} with {factor:?}");
+    assert_eq!(rt; choice.cost, cost, "{kind:?} with {factor:?}");
+}
+
 #[test]
 fn plans_of_two_documents(rt: HostRuntime) {
     let alloc = rt.alloc();
-    let list = [posting(&rt, 1, 10, 40), posting(&rt, 2, 20, 30)];
-    for (kind, factor, segments, space, cost) in [
-        (Kind::Guarantee, (1, 1), 3usize, 4u64, None),
-        // 2 in each of 30 seconds
-        (Kind::Uniform, (1, 1), 1, 2, Some(60u128)),
-        // 1 in 10 seconds, and 2 in 20
-        (Kind::Uniform, (3, 2), 2, 3, Some(50)),
-        // 1 in 20 seconds, and 2 in 10
-        (Kind::Uniform, (2, 1), 3, 4, Some(40)),
-        // 2 in each of the last 10 seconds
-        (since(&rt, 30), (1, 1), 1, 2, Some(20)),
-    ] {
-        let choice = chosen(&rt, alloc, &list, kind, factor, 40).expect(&rt, "a choice");
-        assert_eq!(rt; choice.cuts.len(), segments, "{kind:?} with {factor:?}");
-        assert_eq!(rt; choice.space, space, "{kind:?} with {factor:?}");
-        assert_eq!(rt; choice.cost, cost, "{kind:?} with {factor:?}");
-    }
-    for (kind, factor) in [(Kind::Guarantee, (1, 1)), (Kind::Uniform, (2, 1))] {
-        let choice = chosen(&rt, alloc, &list, kind, factor, 40).expect(&rt, "a choice");
-        let cuts: Vec<u64> = choice
-            .cuts
-            .iter()
-            .map(|t| t.seconds)
-            .collect(alloc)
-            .expect(&rt, "memory");
-        assert_eq!(rt; cuts.as_slice(), [10, 20, 30].as_slice(), "{kind:?}");
+    expect_choice(&rt, alloc, Kind::Guarantee, (1, 1), (3, 4, None));
+    // 2 in each of 30 seconds
+    expect_choice(&rt, alloc, Kind::Uniform, (1, 1), (1, 2, Some(60)));
+    // 1 in 10 seconds, and 2 in 20
+    expect_choice(&rt, alloc, Kind::Uniform, (3, 2), (2, 3, Some(50)));
+    // 1 in 20 seconds, and 2 in 10
+    expect_choice(&rt, alloc, Kind::Uniform, (2, 1), (3, 4, Some(40)));
+    // 2 in each of the last 10 seconds
+    expect_choice(&rt, alloc, since(&rt, 30), (1, 1), (1, 2, Some(20)));
+}
+
+/// A plan of the same two documents cuts at 10, 20 and 30.
+fn expect_each_cut(rt: &impl Abort, alloc: Global, kind: Kind, factor: (u32, u32)) {
+    let list = [posting(rt, 1, 10, 40), posting(rt, 2, 20, 30)];
+    let choice = chosen(rt, alloc, &list, kind, factor, 40).expect(rt, "a choice");
+    assert_eq!(rt; choice.cuts.len(), 3);
+    for (cut, wanted) in choice.cuts.iter().zip(&[10, 20, 30]) {
+        assert_eq!(rt; cut.seconds, *wanted, "{kind:?}");
     }
 }
 
-/// One document with a posting in each second, and so one boundary too many for a guarantee.
+#[test]
+fn plans_that_cut_at_each_boundary(rt: HostRuntime) {
+    expect_each_cut(&rt, rt.alloc(), Kind::Guarantee, (1, 1));
+    expect_each_cut(&rt, rt.alloc(), Kind::Uniform, (2, 1));
+}
+
+/// One document with a posting in each second, so many.
+fn in_each_second(rt: &impl Abort, alloc: Global, seconds: u64) -> Vec<Posting> {
+    let mut list = Vec::new(alloc);
+    for at in 0..seconds {
+        let next = posting(rt, 1, at, at.saturating_add(1));
+        list.push(next).expect(rt, "memory");
+    }
+    list
+}
+
+/// So many seconds have one boundary too many for a guarantee.
+fn expect_too_wide(rt: &impl Abort, alloc: Global, seconds: u64) {
+    let list = in_each_second(rt, alloc, seconds);
+    let refused = chosen(rt, alloc, &list, Kind::Guarantee, (2, 1), seconds);
+    let boundaries = seconds.saturating_add(1);
+    assert_eq!(rt; refused.err(), Some(ChoiceError::TooWide { boundaries }));
+    let choice = chosen(rt, alloc, &list, Kind::Uniform, (2, 1), seconds);
+    assert_eq!(rt; choice.expect(rt, "a choice").space, seconds);
+}
+
 #[test]
 fn a_list_that_is_too_wide(rt: HostRuntime) {
-    let alloc = rt.alloc();
-    let mut list = Vec::new(alloc);
-    for seconds in [1_048_576u64] {
-        for at in 0..seconds {
-            list.push(posting(&rt, 1, at, at.saturating_add(1)))
-                .expect(&rt, "memory");
-        }
-        let refused = chosen(&rt, alloc, &list, Kind::Guarantee, (2, 1), seconds);
-        let wide = ChoiceError::TooWide {
-            boundaries: seconds.saturating_add(1),
-        };
-        assert_eq!(rt; refused.err(), Some(wide));
-        let choice = chosen(&rt, alloc, &list, Kind::Uniform, (2, 1), seconds).expect(
-            &rt, "a choice",
-        );
-        assert_eq!(rt; choice.space, seconds);
-    }
+    expect_too_wide(&rt, rt.alloc(), 1_048_576);
 }

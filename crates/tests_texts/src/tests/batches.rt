@@ -1,6 +1,8 @@
 //! A batch is one item, in whatever pieces it comes and whichever pulls fail.
 ghost use Rattle.std.specs.Prelude.{◌^◌, ◌<◌};
 
+use crate::tests::given::expect_same;
+use crate::tests::in_words::owned;
 use crate::tests::scripts::in_words;
 use base_commands::{BatchItem, BatchItems, Command, Text};
 use machine_model::{Failed, Source};
@@ -108,20 +110,30 @@ fn answer_in_words(
     }
 }
 
-/// The next answer that isn't a pull that failed.
+/// The next answer of a reader in words.
+fn next_in_words(
+    rt: &impl Abort,
+    alloc: Global,
+    reader: &mut Reader,
+    source: &mut Halting<'_>,
+) -> String {
+    answer_in_words(rt, alloc, &reader.next_item(alloc, source))
+}
+
+/// The next answer in words that isn't a pull that failed.
 fn next_answer(
     rt: &impl Abort,
     alloc: Global,
     reader: &mut Reader,
-    source: &mut Halting,
-) -> Result<Option<Item>, ScriptError> {
+    source: &mut Halting<'_>,
+) -> String {
     for _ in 0..100000 {
-        match reader.next_item(alloc, source) {
-            Err(ScriptError::Failed) => {}
-            answer => return answer,
+        let words = next_in_words(rt, alloc, reader, source);
+        if words.as_str() != "failed" {
+            return words;
         }
     }
-    Err(ScriptError::Failed)
+    owned(rt, alloc, "failed")
 }
 
 /// A reader answers this, call after call, of a script in pieces of that size; where a pull failed,
@@ -136,10 +148,12 @@ fn expect_answers(rt: &impl Abort, alloc: Global, script: &[u8], piece: usize, w
     let mut reader = Reader::new(alloc).expect(rt, "memory");
     for words in want {
         let answer = next_answer(rt, alloc, &mut reader, &mut source);
-        let answer = answer_in_words(rt, alloc, &answer);
-        assert_eq!(rt; answer.as_str(), *words);
+        expect_same(rt, answer.as_str(), *words);
     }
 }
+
+/// How many bytes a pull gives.
+const PIECES: [usize; 5] = [1, 2, 3, 7, 4096];
 
 /// Scripts, and their answers.
 const SCRIPTS: [(&str, &[&str]); 16] = [
@@ -211,9 +225,9 @@ const SCRIPTS: [(&str, &[&str]); 16] = [
 
 #[test]
 fn a_batch_is_one_item_in_any_pieces(rt: HostRuntime) {
-    for piece in [1, 2, 3, 7, 4096] {
-        for (script, want) in SCRIPTS {
-            expect_answers(&rt, rt.alloc(), script.as_bytes(), piece, want);
+    for piece in &PIECES {
+        for (script, want) in &SCRIPTS {
+            expect_answers(&rt, rt.alloc(), script.as_bytes(), *piece, want);
         }
     }
 }
@@ -231,9 +245,8 @@ fn nothing_is_pulled_while_a_batch_is_whole(rt: HostRuntime) {
     };
     let mut reader = Reader::new(rt.alloc()).expect(&rt, "memory");
     for words in ["batch 1; delete 1 5", "failed", "broken at 42"] {
-        let answer = reader.next_item(rt.alloc(), &mut source);
-        let answer = answer_in_words(&rt, rt.alloc(), &answer);
-        assert_eq!(&rt; answer.as_str(), words);
+        let answer = next_in_words(&rt, rt.alloc(), &mut reader, &mut source);
+        expect_same(&rt, answer.as_str(), words);
     }
 }
 
@@ -274,12 +287,17 @@ const TEXTS: [(&[usize], &str); 4] = [
     (&[16777217, 1], "batch too long 16777218"),
 ];
 
+/// A batch of texts of these lengths is this.
+fn expect_batch(rt: &impl Abort, alloc: Global, texts: &[usize], words: &str) {
+    let script = batch_of_texts(rt, alloc, texts);
+    let want = [words, "verify", "finished"];
+    expect_answers(rt, alloc, script.as_slice(), 65536, &want);
+}
+
 #[test]
 fn texts_of_a_batch_have_together_at_most_16_mib(rt: HostRuntime) {
-    for (texts, words) in TEXTS {
-        let script = batch_of_texts(&rt, rt.alloc(), texts);
-        let want = [words, "verify", "finished"];
-        expect_answers(&rt, rt.alloc(), script.as_slice(), 65536, &want);
+    for (texts, words) in &TEXTS {
+        expect_batch(&rt, rt.alloc(), texts, words);
     }
 }
 
@@ -296,25 +314,26 @@ fn batch_of_deletions(rt: &impl Abort, alloc: Global, count: usize, there: usize
     script
 }
 
+/// The batch of a thousand deletions.
+const THOUSAND: &str = "batch 1000; delete 7 20; delete 7 20; delete 7 20";
+
+/// How many deletions a batch has by its line, how many are there, and what is read.
+const DELETIONS: [(usize, usize, &[&str]); 4] = [
+    (1000, 1000, &[THOUSAND, "verify", "finished"]),
+    (1000, 999, &[THOUSAND, "finished"]),
+    (1000, 998, &["broken at 11994"]),
+    (1001, 1, &["line", "delete 7 20", "verify", "finished"]),
+];
+
+/// A batch of so many deletions, of which so many are there, and `verify` are read so.
+fn expect_deletions(rt: &impl Abort, alloc: Global, count: usize, there: usize, want: &[&str]) {
+    let script = batch_of_deletions(rt, alloc, count, there);
+    expect_answers(rt, alloc, script.as_slice(), 4096, want);
+}
+
 #[test]
 fn a_batch_has_at_most_1000_items(rt: HostRuntime) {
-    let deletions = "; delete 7 20; delete 7 20; delete 7 20";
-    let whole = format!(in rt.alloc(); "batch 1000{deletions}").expect(&rt, "memory");
-    let script = batch_of_deletions(&rt, rt.alloc(), 1000, 1000);
-    let want = [whole.as_str(), "verify", "finished"];
-    expect_answers(&rt, rt.alloc(), script.as_slice(), 4096, &want);
-    let script = batch_of_deletions(&rt, rt.alloc(), 1000, 999);
-    let want = [whole.as_str(), "finished"];
-    expect_answers(&rt, rt.alloc(), script.as_slice(), 4096, &want);
-    let script = batch_of_deletions(&rt, rt.alloc(), 1000, 998);
-    expect_answers(
-        &rt,
-        rt.alloc(),
-        script.as_slice(),
-        4096,
-        &["broken at 11994"],
-    );
-    let script = batch_of_deletions(&rt, rt.alloc(), 1001, 1);
-    let want = ["line", "delete 7 20", "verify", "finished"];
-    expect_answers(&rt, rt.alloc(), script.as_slice(), 4096, &want);
+    for (count, there, want) in &DELETIONS {
+        expect_deletions(&rt, rt.alloc(), *count, *there, want);
+    }
 }

@@ -1,4 +1,5 @@
 //! Words of a command line that ask for something, and words that do not.
+use crate::tests::given::{expect_same, expect_same_in};
 use run_words::{SampleNumbers, Task, WordsError, read_words};
 use std::alloc::Global;
 use std::process::Abort;
@@ -13,27 +14,23 @@ fn words_of(rt: &impl Abort, alloc: Global, line: &str) -> Vec<String> {
     words
 }
 
-/// The numbers of the sample that the words of a line ask for; None where they are refused.
-fn sample_in(rt: &impl Abort, alloc: Global, line: &str) -> Option<(u64, u32)> {
-    let words = words_of(rt, alloc, line);
-    match read_words(alloc, &words) {
-        Ok(Task::Generate(SampleNumbers { seed, count })) => Some((seed, count)),
-        Err(WordsError::Refused) => None,
-        other => {
-            assert!(rt; false, "{other:?}");
-            None
-        }
+/// What asks for the sample of these numbers; without them, what is refused.
+fn asked(sample: Option<(u64, u32)>) -> Result<Task, WordsError> {
+    match sample {
+        Some((seed, count)) => Ok(Task::Generate(SampleNumbers { seed, count })),
+        None => Err(WordsError::Refused),
     }
 }
 
 /// The words of a line ask for this sample, or are refused.
 fn expect_sample(rt: &impl Abort, alloc: Global, line: &str, sample: Option<(u64, u32)>) {
-    assert_eq!(rt; sample_in(rt, alloc, line), sample, "{line}");
+    let words = words_of(rt, alloc, line);
+    expect_same_in(rt, line, read_words(alloc, &words), asked(sample));
 }
 
 /// These words ask for the script.
 fn expect_script(rt: &impl Abort, alloc: Global, words: &[String]) {
-    assert_eq!(rt; read_words(alloc, words), Ok(Task::Script));
+    expect_same(rt, read_words(alloc, words), Ok(Task::Script));
 }
 
 #[test]

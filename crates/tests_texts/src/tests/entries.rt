@@ -1,4 +1,5 @@
 //! Entries as bytes, and bytes that spell none.
+use crate::tests::given::{expect_same, expect_same_in};
 use base_types::{DocId, Time};
 use journal_entries::{CodecError, Entry, decode, encode_arrival, encode_deletion};
 use std::alloc::Global;
@@ -17,7 +18,7 @@ fn an_arrival_has_eighteen_bytes(rt: HostRuntime) {
     let at = Time::new(10).expect(&rt, "a time");
     let doc = DocId(7);
     let spelled = encode_arrival(rt.alloc(), doc, at, "red a").expect(&rt, "memory");
-    assert_eq!(rt; spelled.as_slice(), ARRIVAL.as_slice());
+    expect_same(&rt, spelled.as_slice(), ARRIVAL.as_slice());
 }
 
 /// The document, the time and the text of an arrival.
@@ -40,19 +41,19 @@ fn deleted(entry: &Entry) -> Option<(DocId, Time)> {
 fn eighteen_bytes_spell_an_arrival(rt: HostRuntime) {
     let entry = decode(rt.alloc(), &ARRIVAL).expect(&rt, "an entry");
     let (doc, at, text) = arrived(&entry).expect(&rt, "an arrival");
-    assert_eq!(rt; doc.0, 7);
-    assert_eq!(rt; at.seconds(), 10);
-    assert_eq!(rt; text, "red a");
+    expect_same(&rt, doc.0, 7);
+    expect_same(&rt, at.seconds(), 10);
+    expect_same(&rt, text, "red a");
 }
 
 #[test]
 fn a_deletion_has_thirteen_bytes(rt: HostRuntime) {
     let entry = decode(rt.alloc(), &DELETION).expect(&rt, "an entry");
     let (doc, at) = deleted(&entry).expect(&rt, "a deletion");
-    assert_eq!(rt; doc.0, 7);
-    assert_eq!(rt; at.seconds(), 1_099_511_627_775);
+    expect_same(&rt, doc.0, 7);
+    expect_same(&rt, at.seconds(), 1_099_511_627_775);
     let spelled = encode_deletion(rt.alloc(), doc, at).expect(&rt, "memory");
-    assert_eq!(rt; spelled.as_slice(), DELETION.as_slice());
+    expect_same(&rt, spelled.as_slice(), DELETION.as_slice());
 }
 
 /// The place that bytes name which spell no entry.
@@ -80,7 +81,7 @@ fn expect_fault(rt: &impl Abort, alloc: Global, (place, byte, at): (usize, u8, u
     if let Some(old) = body.get_mut(place) {
         *old = byte;
     }
-    assert_eq!(rt; named(alloc, &body), Some(at), "byte {place} as {byte}");
+    expect_same_in(rt, (place, byte), named(alloc, &body), Some(at));
 }
 
 #[test]
@@ -90,15 +91,20 @@ fn the_first_wrong_field_is_named(rt: HostRuntime) {
     }
 }
 
+/// The place that so many bytes of the arrival name.
+fn cut_at(len: usize) -> u64 {
+    match len {
+        0 => 0,
+        1..=4 => 1,
+        _ => 5,
+    }
+}
+
 #[test]
 fn a_field_cut_short_is_named(rt: HostRuntime) {
     for len in 0..13 {
-        let at = match len {
-            0 => 0,
-            1..=4 => 1,
-            _ => 5,
-        };
-        assert_eq!(rt; named(rt.alloc(), &ARRIVAL[..len]), Some(at), "{len} bytes");
+        let place = named(rt.alloc(), &ARRIVAL[..len]);
+        expect_same_in(&rt, len, place, Some(cut_at(len)));
     }
     assert!(rt; decode(rt.alloc(), &ARRIVAL[..13]).is_ok(), "an empty text");
 }
@@ -111,14 +117,15 @@ fn long_arrival(rt: &impl Abort, alloc: Global, text_bytes: u32) -> Vec<u8> {
     body
 }
 
+/// An arrival with a text of so many bytes names this place, or is one.
+fn expect_long(rt: &impl Abort, alloc: Global, text_bytes: u32, at: Option<u64>) {
+    let body = long_arrival(rt, alloc, text_bytes);
+    let place = named(alloc, &body);
+    expect_same_in(rt, text_bytes, place, at);
+}
+
 #[test]
 fn a_text_has_at_most_four_mebibytes(rt: HostRuntime) {
-    for (text_bytes, at) in [(4_194_304, None), (4_194_305, Some(13))] {
-        let body = long_arrival(&rt, rt.alloc(), text_bytes);
-        assert_eq!(rt;
-            named(rt.alloc(), &body),
-            at,
-            "a text of {text_bytes} bytes"
-        );
-    }
+    expect_long(&rt, rt.alloc(), 4_194_304, None);
+    expect_long(&rt, rt.alloc(), 4_194_305, Some(13));
 }

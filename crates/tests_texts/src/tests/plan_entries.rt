@@ -1,5 +1,6 @@
 //! Stored plans as bytes, and bytes that spell none.
 use super::entries::named;
+use crate::tests::given::{expect_same, expect_same_in};
 use base_commands::Kind;
 use journal_entries::{Entry, Layout, Place, PlanEntry, decode, encode_plan};
 use std::alloc::Global;
@@ -44,24 +45,24 @@ fn plan_of(rt: &impl Abort, alloc: Global, body: &[u8]) -> Option<PlanEntry> {
         return None;
     };
     let spelled = encode_plan(alloc, &plan).expect(rt, "memory");
-    assert_eq!(rt; spelled.as_slice(), body);
+    expect_same(rt, spelled.as_slice(), body);
     Some(plan)
 }
 
 /// A place begins with this page, and has so many bytes and a digest with this last byte.
 fn expect_place(rt: &impl Abort, place: &Place, (first, bytes, last): (u32, u64, u8)) {
-    assert_eq!(rt; place.extent.first, first);
-    assert_eq!(rt; place.extent.bytes, bytes);
-    assert_eq!(rt; place.digest[31], last);
+    expect_same(rt, place.extent.first, first);
+    expect_same(rt, place.extent.bytes, bytes);
+    expect_same(rt, place.digest[31], last);
 }
 
 /// A plan has these places, and is cut at 10, 20 and 30.
 fn expect_segments(rt: &impl Abort, plan: &PlanEntry, places: &[(u32, u64, u8)]) {
-    assert_eq!(rt; plan.cuts.as_slice().len(), 3);
+    expect_same(rt, plan.cuts.as_slice().len(), 3);
     for (cut, second) in plan.cuts.as_slice().iter().zip(&[10, 20, 30]) {
-        assert_eq!(rt; cut.seconds(), *second);
+        expect_same(rt, cut.seconds(), *second);
     }
-    assert_eq!(rt; plan.places.as_slice().len(), places.len());
+    expect_same(rt, plan.places.as_slice().len(), places.len());
     for (place, wanted) in plan.places.as_slice().iter().zip(places) {
         expect_place(rt, place, *wanted);
     }
@@ -69,16 +70,16 @@ fn expect_segments(rt: &impl Abort, plan: &PlanEntry, places: &[(u32, u64, u8)])
 
 /// The word `v` is planned with this factor up to 40.
 fn expect_head(rt: &impl Abort, plan: &PlanEntry, (over, under): (u32, u32)) {
-    assert_eq!(rt; plan.word.as_str(), "v");
-    assert_eq!(rt; plan.fraction.over(), over);
-    assert_eq!(rt; plan.fraction.under(), under);
-    assert_eq!(rt; plan.horizon.seconds(), 40);
+    expect_same(rt, plan.word.as_str(), "v");
+    expect_same(rt, plan.fraction.over(), over);
+    expect_same(rt, plan.fraction.under(), under);
+    expect_same(rt, plan.horizon.seconds(), 40);
 }
 
 #[test]
 fn a_plan_in_blocks_has_a_hundred_and_eighty_one_bytes(rt: HostRuntime) {
     let body = joined(&rt, rt.alloc(), &IN_BLOCKS);
-    assert_eq!(rt; body.len(), 181);
+    expect_same(&rt, body.len(), 181);
     let plan = plan_of(&rt, rt.alloc(), &body).expect(&rt, "a plan");
     assert!(rt; plan.layout == Layout::Blocks && matches!(plan.kind, Kind::Guarantee));
     expect_head(&rt, &plan, (1, 1));
@@ -98,7 +99,7 @@ fn a_plan_of_an_archive_with_flat_lists_is_read(rt: HostRuntime) {
 #[test]
 fn a_plan_since_a_time_has_eight_bytes_more(rt: HostRuntime) {
     let body = joined(&rt, rt.alloc(), &FROM_A_TIME_ON);
-    assert_eq!(rt; body.len(), 85);
+    expect_same(&rt, body.len(), 85);
     let plan = plan_of(&rt, rt.alloc(), &body).expect(&rt, "a plan");
     assert!(rt; matches!(plan.kind, Kind::Since { at } if at.seconds() == 5));
     expect_head(&rt, &plan, (3, 2));
@@ -153,7 +154,7 @@ fn expect_fault(rt: &impl Abort, alloc: Global, body: &[u8], (place, byte, at): 
     if let Some(old) = changed.get_mut(place) {
         *old = byte;
     }
-    assert_eq!(rt; named(alloc, &changed), Some(at), "byte {place} as {byte}");
+    expect_same_in(rt, (place, byte), named(alloc, &changed), Some(at));
 }
 
 #[test]
@@ -184,7 +185,7 @@ fn last_field(len: usize) -> u64 {
 fn expect_cut_short(rt: &impl Abort, alloc: Global, body: &[u8], len: usize) {
     let mut short = Vec::from_slice(alloc, body).expect(rt, "memory");
     short.truncate(len);
-    assert_eq!(rt; named(alloc, &short), Some(last_field(len)), "{len} bytes");
+    expect_same_in(rt, len, named(alloc, &short), Some(last_field(len)));
 }
 
 #[test]
@@ -199,5 +200,5 @@ fn a_field_of_a_plan_that_is_cut_short_is_named(rt: HostRuntime) {
 fn a_byte_behind_a_plan_is_named(rt: HostRuntime) {
     let mut body = joined(&rt, rt.alloc(), &IN_BLOCKS);
     body.push(0).expect(&rt, "memory");
-    assert_eq!(rt; named(rt.alloc(), &body), Some(181));
+    expect_same(&rt, named(rt.alloc(), &body), Some(181));
 }

@@ -1,4 +1,5 @@
 //! A whole sample against a table that another program made, and the ends of samples.
+use crate::tests::given::expect_same;
 use crate::tests::in_words::command_in_words;
 use base_sample::{MOST_CHANGES, Sample};
 use std::alloc::Global;
@@ -70,7 +71,7 @@ const LINES: [&str; 44] = [
 fn expect_next(rt: &impl Abort, alloc: Global, sample: &mut Sample, line: &str) {
     let command = sample.next_command(alloc).expect(rt, "memory");
     let command = command.expect(rt, "one command more");
-    assert_eq!(rt; command_in_words(rt, alloc, &command).as_str(), line);
+    expect_same(rt, command_in_words(rt, alloc, &command).as_str(), line);
 }
 
 /// Whether a sample has one command more, which is taken.
@@ -97,6 +98,6 @@ fn the_longest_sample_ends(rt: HostRuntime) {
             given = given.saturating_add(1);
         }
     }
-    assert_eq!(rt; given, MOST_CHANGES + 19);
+    expect_same(&rt, given, MOST_CHANGES + 19);
     assert!(rt; !has_next(&rt, rt.alloc(), &mut sample));
 }

@@ -1,6 +1,7 @@
 //! A script in pieces of any size gives the same items.
 ghost use Rattle.std.specs.Prelude.{◌^◌, ◌<◌};
 
+use crate::tests::given::expect_same;
 use crate::tests::in_words::{command_in_words, owned};
 use machine_model::{Failed, Source};
 use script_items::{Item, Reader, ScriptError};
@@ -98,7 +99,7 @@ fn expect_answers(rt: &impl Abort, alloc: Global, script: &[u8], piece: usize, w
     let mut reader = Reader::new(alloc).expect(rt, "memory");
     for words in want {
         let answer = next_in_words(rt, alloc, &mut reader, &mut source);
-        assert_eq!(rt; answer.as_str(), *words);
+        expect_same(rt, answer.as_str(), *words);
     }
 }
 

@@ -1,6 +1,7 @@
 //! The words of texts, how often they occur, their numbers, and texts weighed by them.
 ghost use Rattle.std.specs.Prelude.{◌≡◌, ◌∷◌, [], IfOk};
 
+use crate::tests::given::{expect_same, expect_same_in};
 use base_types::{Key, WordId};
 use std::alloc::{AllocError, Global};
 use std::process::Abort;
@@ -31,7 +32,7 @@ fn shown(rt: &impl Abort, alloc: Global, text: &str) -> String {
 fn assert_terms(rt: &impl Abort, alloc: Global, rows: &[(&str, &str)]) {
     for (text, wanted) in rows {
         let found = shown(rt, alloc, text);
-        assert_eq!(rt; found.as_str(), *wanted, "in {text}");
+        expect_same_in(rt, text, found.as_str(), *wanted);
     }
 }
 
@@ -140,7 +141,7 @@ const OCCURRENCES: [(&str, &str, u32); 9] = [
 /// The word occurs so often in the text.
 fn expect_times(rt: &impl Abort, alloc: Global, (word, text, wanted): (&str, &str, u32)) {
     let found = times(rt, alloc, word, text);
-    assert_eq!(rt; found, wanted, "{word} in {text}");
+    expect_same_in(rt, (word, text), found, wanted);
 }
 
 #[test]
@@ -175,9 +176,9 @@ fn is_term(rt: &impl Abort, alloc: Global, text: &str) -> bool {
 fn expect_run(rt: &impl Abort, alloc: Global, (unit, times, found): (&str, usize, bool)) {
     let text = repeated(rt, alloc, unit, times);
     let alone = is_term(rt, alloc, text.as_str());
-    assert_eq!(rt; alone, found, "{unit} times {times}");
+    expect_same_in(rt, (unit, times), alone, found);
     let shown = shown(rt, alloc, text.as_str());
-    assert_eq!(rt; !shown.is_empty(), found, "{unit} times {times}");
+    expect_same_in(rt, (unit, times), !shown.is_empty(), found);
 }
 
 #[test]
@@ -205,7 +206,7 @@ fn expect_one_term(rt: &impl Abort, alloc: Global, (text, wanted): (&str, &str))
         Some(key) => key.as_str(),
         None => "",
     };
-    assert_eq!(rt; found, wanted, "in {text}");
+    expect_same_in(rt, text, found, wanted);
 }
 
 #[test]
@@ -260,7 +261,7 @@ fn expect_number(
     (text, wanted): (&str, Option<u32>),
 ) {
     let found = number(alloc, vocabulary, text).expect(rt, "room");
-    assert_eq!(rt; found.map(|id| id.number()), wanted, "{text}");
+    expect_same_in(rt, text, found.map(|id| id.number()), wanted);
 }
 
 /// The number of a word, where it has one.
@@ -273,7 +274,7 @@ fn expect_found(
 ) {
     let key = one_term(alloc, word).expect(rt, "memory");
     let key = key.expect(rt, "a term");
-    assert_eq!(rt; vocabulary.find(&key), wanted, "{word}");
+    expect_same_in(rt, word, vocabulary.find(&key), wanted);
 }
 
 #[test]
@@ -283,10 +284,10 @@ fn words_are_numbered_in_the_order_in_which_they_come(rt: HostRuntime) {
     for row in &NUMBERS {
         expect_number(&rt, alloc, &mut vocabulary, *row);
     }
-    assert_eq!(rt; vocabulary.len(), 3);
+    expect_same(&rt, vocabulary.len(), 3);
     let id = WordId::new(2).expect(&rt, "a number");
     assert!(rt; id.number() < vocabulary.len());
-    assert_eq!(rt; vocabulary.word(id).as_str(), "or");
+    expect_same(&rt, vocabulary.word(id).as_str(), "or");
     expect_found(&rt, alloc, &vocabulary, "OR", Some(id));
     expect_found(&rt, alloc, &vocabulary, "not", None);
 }
@@ -316,7 +317,7 @@ fn expect_weighed(rt: &impl Abort, alloc: Global, found: &Weighed, text: &str, w
     for (key, count) in &found.fresh {
         show(rt, alloc, &mut out, key.as_str(), *count);
     }
-    assert_eq!(rt; out.as_str(), wanted, "in {text}");
+    expect_same_in(rt, text, out.as_str(), wanted);
 }
 
 /// Asserts of each row that its first text is weighed as the second.
@@ -385,11 +386,11 @@ fn assert_own_numbers(rt: &impl Abort, alloc: Global, words: u32) {
     let found = vocabulary
         .weigh(alloc, &mut places, text.as_str())
         .expect(rt, "memory");
-    assert_eq!(rt; found.known.len(), words as usize);
+    expect_same(rt, found.known.len(), words as usize);
     assert!(rt; found.fresh.is_empty());
     for (place, (number, count)) in found.known.iter().enumerate() {
-        assert_eq!(rt; *number as usize, place);
-        assert_eq!(rt; *count, 2, "word {place}");
+        expect_same(rt, *number as usize, place);
+        expect_same_in(rt, place, *count, 2);
     }
 }
 

@@ -65,21 +65,32 @@ fn expect_found(
     assert_eq!(rt; gathered.read, read);
 }
 
-/// Stores the sublists in a layout, and asks for each window, with none of the pages kept.
+/// What is gathered for a window, with none of the pages kept, has these documents and postings, and takes
+/// so many bytes of Pages.
+fn expect_window(
+    rt: &impl Abort,
+    alloc: Global,
+    stored: &mut Stored,
+    (window, docs, read, in_blocks, flat): ((u64, u64), &[u32], u64, u64, u64),
+) {
+    let before = stored.machine.read_of(Area::Pages);
+    let mut sublists = no_sublists(rt, alloc);
+    expect_found(rt, alloc, &mut sublists, stored, (window, docs, read));
+    let bytes = match stored.layout {
+        Layout::Blocks => in_blocks,
+        Layout::Flat => flat,
+    };
+    let after = stored.machine.read_of(Area::Pages);
+    assert_eq!(rt; after.saturating_sub(before), bytes);
+}
+
+/// Stores the sublists in a layout, and asks for each window.
 fn expect_windows(rt: &impl Abort, alloc: Global, layout: Layout) {
     let cuts = cuts(rt);
     let mut stored = make_stored(rt, alloc, layout, &cuts);
-    let mut before = 0;
-    for (window, docs, read, in_blocks, flat) in WINDOWS {
-        let mut sublists = no_sublists(rt, alloc);
-        expect_found(rt, alloc, &mut sublists, &mut stored, (window, docs, read));
-        let bytes = match layout {
-            Layout::Blocks => in_blocks,
-            Layout::Flat => flat,
-        };
-        let after = stored.machine.read_of(Area::Pages);
-        assert_eq!(rt; after.saturating_sub(before), bytes);
-        before = after;
+    assert_eq!(rt; stored.machine.read_of(Area::Pages), 0);
+    for window in &WINDOWS {
+        expect_window(rt, alloc, &mut stored, *window);
     }
 }
 
@@ -104,8 +115,8 @@ fn the_lists_of_any_number_of_segments_are_joined(rt: HostRuntime) {
     let cuts = [10, 15, 20, 25, 30, 35, 38].map(|seconds| time(&rt, seconds));
     let mut stored = make_stored(&rt, alloc, Layout::Flat, &cuts);
     let mut sublists = no_sublists(&rt, alloc);
-    for row in JOINED {
-        expect_found(&rt, alloc, &mut sublists, &mut stored, row);
+    for row in &JOINED {
+        expect_found(&rt, alloc, &mut sublists, &mut stored, *row);
     }
 }
 
@@ -122,52 +133,101 @@ fn refused(
     gather_blocks(rt, alloc, &mut sublists, &mut machine, &places, window).err()
 }
 
-/// A posting of a document that doesn't belong to its segment.
-fn astray(rt: &impl Abort, doc: u32, from: u64, to: u64) -> Why {
-    let posting = posting(rt, doc, from, to);
-    Why::Astray { posting }
+/// The bytes of three places are refused for a window: a page is told, and why.
+fn expect_refused(
+    rt: &impl Abort,
+    alloc: Global,
+    pieces: &[&str],
+    window: (u64, u64),
+    (page, why): (u32, Why),
+) {
+    let refused = refused(rt, alloc, pieces, window);
+    assert_eq!(rt; refused, Some(FetchError::Damaged(Damage { page, why })));
 }
 
-/// A clash of the first document from 10 to 40 with another posting of it.
-fn clash(rt: &impl Abort, from: u64, to: u64) -> Why {
-    let one = posting(rt, 1, 10, 40);
-    let other = posting(rt, 1, from, to);
-    Why::Clash { one, other }
+/// The block of document 2 from 20 to 30.
+const SECOND: &str = "01000300000001000000020000000201140a";
+
+/// Document 1 from 10 to 50, from 10 to 30 and from 11 to 40, and with a frequency of 0.
+const LONGER: &str = "010003000000010000000100000001010a28";
+
+const SHORTER: &str = "010003000000010000000100000001010a14";
+
+const LATER: &str = "010003000000010000000100000001010b1d";
+
+const NO_FREQUENCY: &str = "010003000000010000000100000001000a1e";
+
+/// A posting of a document from one time to another doesn't belong to its segment.
+fn expect_astray(
+    rt: &impl Abort,
+    alloc: Global,
+    pieces: &[&str],
+    window: (u64, u64),
+    (page, doc, from, to): (u32, u32, u64, u64),
+) {
+    let posting = posting(rt, doc, from, to);
+    expect_refused(rt, alloc, pieces, window, (page, Why::Astray { posting }));
 }
 
 #[test]
-fn each_refusal_of_a_segment_names_its_place(rt: HostRuntime) {
+fn a_posting_that_is_astray_is_told(rt: HostRuntime) {
     let alloc = rt.alloc();
-    let second = "01000300000001000000020000000201140a";
-    let longer = "010003000000010000000100000001010a28";
-    let shorter = "010003000000010000000100000001010a14";
-    let no_frequency = "010003000000010000000100000001000a1e";
-    let later = "010003000000010000000100000001010b1d";
+    // one that begins behind its segment, and one that ends behind the horizon
+    let early = [SECOND, BOTH, FIRST];
+    expect_astray(&rt, alloc, &early, (10, 11), (0, 2, 20, 30));
+    let late = [FIRST, BOTH, LONGER];
+    expect_astray(&rt, alloc, &late, (35, 36), (2, 1, 10, 50));
+}
+
+#[test]
+fn bytes_that_spell_no_list_are_told(rt: HostRuntime) {
+    let alloc = rt.alloc();
+    // a frequency of 0 in the second segment
     let form = Why::Form;
-    let with_shorter = clash(&rt, 10, 30);
-    let with_later = clash(&rt, 11, 40);
-    for (pieces, window, page, why) in [
-        // A frequency of 0 in the second segment.
-        ([FIRST, no_frequency, FIRST], (20, 21), 1, form),
-        // A posting that begins behind its segment, and one that ends behind the horizon.
-        ([second, BOTH, FIRST], (10, 11), 0, astray(&rt, 2, 20, 30)),
-        ([FIRST, BOTH, longer], (35, 36), 2, astray(&rt, 1, 10, 50)),
-        // Two postings of a document from 10 on, in two segments.
-        ([FIRST, shorter, FIRST], (15, 25), 1, with_shorter),
-        // No posting in the first segment.
-        (["", BOTH, FIRST], (10, 11), 0, Why::Bare),
-        // Two clashes: the earlier one is told, although the other one is between the later two.
-        ([FIRST, shorter, later], (15, 35), 1, with_shorter),
-        ([FIRST, FIRST, later], (15, 35), 2, with_later),
-        // A clash in front of bytes that spell no list, and one behind such.
-        ([FIRST, shorter, no_frequency], (15, 35), 1, with_shorter),
-        ([no_frequency, shorter, later], (15, 35), 0, form),
-    ] {
-        assert_eq!(rt;
-            refused(&rt, alloc, &pieces, window),
-            Some(FetchError::Damaged(Damage { page, why }))
-        );
-    }
+    let second = [FIRST, NO_FREQUENCY, FIRST];
+    expect_refused(&rt, alloc, &second, (20, 21), (1, form));
+    // a clash behind such
+    let first = [NO_FREQUENCY, SHORTER, LATER];
+    expect_refused(&rt, alloc, &first, (15, 35), (0, form));
+}
+
+#[test]
+fn a_first_segment_without_a_posting_is_told(rt: HostRuntime) {
+    let alloc = rt.alloc();
+    let bare = ["", BOTH, FIRST];
+    expect_refused(&rt, alloc, &bare, (10, 11), (0, Why::Bare));
     // A later segment may have none.
     assert_eq!(rt; refused(&rt, alloc, &[FIRST, "", FIRST], (15, 25)), None);
+}
+
+/// The first document from 10 to 40 clashes with another posting of it.
+fn expect_clash(
+    rt: &impl Abort,
+    alloc: Global,
+    pieces: &[&str],
+    window: (u64, u64),
+    (page, from, to): (u32, u64, u64),
+) {
+    let one = posting(rt, 1, 10, 40);
+    let other = posting(rt, 1, from, to);
+    expect_refused(rt, alloc, pieces, window, (page, Why::Clash { one, other }));
+}
+
+/// Blocks of three places, of which two have postings of one document that overlap; a window, the page that
+/// is told, and where the second posting begins and ends.
+const CLASHES: [([&str; 3], (u64, u64), (u32, u64, u64)); 4] = [
+    // Two postings of a document from 10 on, in two segments.
+    ([FIRST, SHORTER, FIRST], (15, 25), (1, 10, 30)),
+    // Two clashes: the earlier one is told, although the other one is between the later two.
+    ([FIRST, SHORTER, LATER], (15, 35), (1, 10, 30)),
+    ([FIRST, FIRST, LATER], (15, 35), (2, 11, 40)),
+    // A clash in front of bytes that spell no list.
+    ([FIRST, SHORTER, NO_FREQUENCY], (15, 35), (1, 10, 30)),
+];
+
+#[test]
+fn the_first_clash_is_told(rt: HostRuntime) {
+    for (pieces, window, clash) in &CLASHES {
+        expect_clash(&rt, rt.alloc(), pieces, *window, *clash);
+    }
 }

@@ -232,12 +232,11 @@ pub(crate) fn places_of(rt: &impl Abort, alloc: Global, pieces: &[&str]) -> Vec<
     places
 }
 
-/// The first pages and bytes of places.
-pub(crate) fn extents_of(rt: &impl Abort, alloc: Global, places: &[Place]) -> Vec<(u32, u64)> {
-    let mut extents = Vec::new(alloc);
-    for place in places {
-        let extent = (place.extent.first, place.extent.bytes);
-        extents.push(extent).expect(rt, "memory");
+/// Places have these first pages and bytes.
+pub(crate) fn expect_extents(rt: &impl Abort, places: &[Place], wanted: &[(u32, u64)]) {
+    assert_eq!(rt; places.len(), wanted.len());
+    for (place, (first, bytes)) in places.iter().zip(wanted) {
+        assert_eq!(rt; place.extent.first, *first);
+        assert_eq!(rt; place.extent.bytes, *bytes);
     }
-    extents
 }

@@ -6,7 +6,7 @@ ghost use Rattle.pages_area.specs.CacheLaws.{LieIn};
 ghost use Rattle.pages_sublists.specs.Preparing.{extents};
 
 use super::given::{
-    BOTH, FIRST, bytes_of, cuts, docs_of, documents, extents_of, gather_between, gather_blocks,
+    BOTH, FIRST, bytes_of, cuts, docs_of, documents, expect_extents, gather_between, gather_blocks,
     machine_with, no_sublists, pages_of, places_of, time,
 };
 use base_types::{Extent, Posting};
@@ -144,8 +144,7 @@ fn pages_that_are_written_anew_are_read_anew(rt: HostRuntime) -> Result<(), Fail
         &documents(&rt, alloc, 3, 4),
         &between,
     )?;
-    let lie = extents_of(&rt, alloc, &late);
-    assert_eq!(rt; lie.as_slice(), [(0, 18), (1, 22), (2, 18)].as_slice());
+    expect_extents(&rt, &late, &[(0, 18), (1, 22), (2, 18)]);
     read_all(&rt, alloc, &mut sublists, &mut machine, &late, 3);
     assert_eq!(rt; machine.read_of(Area::Pages), 116);
     Ok(())

@@ -4,50 +4,68 @@ ghost use Rattle.base_types.specs.declared.extent.Extent.{Extent as PlainExtent}
 ghost use Rattle.pages_area.specs.Taken.{HasTaken};
 
 use super::given::{
-    BOTH, BOTH_DIGEST, FIRST, FIRST_DIGEST, bytes_of, extents_of, gather_blocks, machine_with,
+    BOTH, BOTH_DIGEST, FIRST, FIRST_DIGEST, bytes_of, expect_extents, gather_blocks, machine_with,
     no_sublists, pages_of, read_pages, store_all, time, two_documents,
 };
 use base_types::Extent;
-use journal_entries::Layout;
-use machine_mem::{CallKind, Fault};
+use journal_entries::{Layout, Place};
+use machine_mem::{CallKind, Fault, MemMachine};
 use machine_model::Failed;
 use pages_area::{LiveError, TakeError};
 use pages_sublists::{FetchError, Sublists};
 use std::alloc::Global;
 use std::process::Abort;
-use std::test::Fail;
+
+/// Pages have the bytes of these pieces, one page behind the other, and so many bytes in all.
+fn expect_pages(
+    rt: &impl Abort,
+    alloc: Global,
+    machine: &mut MemMachine,
+    pieces: &[&str],
+    bytes: usize,
+) {
+    let pages = read_pages(rt, alloc, machine);
+    let wanted = pages_of(rt, alloc, pieces);
+    assert_eq!(rt; pages.as_slice(), wanted.as_slice());
+    assert_eq!(rt; pages.len(), bytes);
+}
+
+/// A place has this digest.
+fn expect_digest(rt: &impl Abort, alloc: Global, place: &Place, digits: &str) {
+    let wanted = bytes_of(rt, alloc, digits);
+    assert_eq!(rt; place.digest.as_slice(), wanted.as_slice());
+}
 
 #[test]
 fn the_sublists_of_two_documents_lie_in_three_pages(rt: HostRuntime) {
     let alloc = rt.alloc();
     let mut machine = machine_with(&rt, alloc, &[], &[]);
     let places = store_all(&rt, alloc, &mut machine, Layout::Blocks).expect(&rt, "written");
-    let pages = read_pages(&rt, alloc, &mut machine);
-    assert_eq!(rt; pages.len(), 2 * 4096 + 18);
-    let wanted = pages_of(&rt, alloc, &[FIRST, BOTH, FIRST]);
-    assert_eq!(rt; pages.as_slice(), wanted.as_slice());
-    let extents = extents_of(&rt, alloc, &places);
-    assert_eq!(rt; extents.as_slice(), [(0, 18), (1, 22), (2, 18)].as_slice());
+    let pieces = [FIRST, BOTH, FIRST];
+    expect_pages(&rt, alloc, &mut machine, &pieces, 2 * 4096 + 18);
+    expect_extents(&rt, &places, &[(0, 18), (1, 22), (2, 18)]);
     let digests = [FIRST_DIGEST, BOTH_DIGEST, FIRST_DIGEST];
     for (place, digest) in places.iter().zip(&digests) {
-        let wanted = bytes_of(&rt, alloc, digest);
-        assert_eq!(rt; place.digest.as_slice(), wanted.as_slice());
+        expect_digest(&rt, alloc, place, digest);
     }
+}
+
+/// Where such a call fails, that is told.
+fn expect_failed(rt: &impl Abort, alloc: Global, call: CallKind, nth: u64) {
+    let fault = Fault {
+        call,
+        nth,
+        landed: 0,
+    };
+    let mut machine = machine_with(rt, alloc, &[], &[fault]);
+    let stored = store_all(rt, alloc, &mut machine, Layout::Blocks);
+    assert_eq!(rt; stored.err(), Some(Failed));
 }
 
 #[test]
 fn a_call_of_the_disk_that_fails_is_told(rt: HostRuntime) {
-    let alloc = rt.alloc();
-    for (call, nth) in [(CallKind::Write, 2), (CallKind::Sync, 1)] {
-        let faults = [Fault {
-            call,
-            nth,
-            landed: 0,
-        }];
-        let mut machine = machine_with(&rt, alloc, &[], &faults);
-        let stored = store_all(&rt, alloc, &mut machine, Layout::Blocks);
-        assert_eq!(rt; stored.err(), Some(Failed));
-    }
+    expect_failed(&rt, rt.alloc(), CallKind::Write, 2);
+    expect_failed(&rt, rt.alloc(), CallKind::Sync, 1);
 }
 
 #[test]
@@ -73,37 +91,30 @@ fn one_free_page(rt: &impl Abort, alloc: Global) -> Sublists
     Sublists::from_live(alloc, &[rest], 1 << 40).expect(rt, "a store with one free page")
 }
 
-/// Why two segments aren't prepared where one page alone is free, and the page of one segment that is
-/// prepared then.
-fn prepared_in_one_page(
-    rt: &impl Abort,
-    alloc: Global,
-    sublists: &mut Sublists,
-) -> Result<(TakeError, u32), Fail>
+/// Where one page alone is free, two segments aren't prepared, and then one is, in that page.
+fn expect_one_prepared(rt: &impl Abort, alloc: Global, sublists: &mut Sublists, page: u32)
     requires { (taken : List PlainExtent) × HasTaken sublists.old.pages taken }
 {
     let list = two_documents(rt, alloc);
     let cuts = [time(rt, 10), time(rt, 20)];
     let horizon = time(rt, 40);
     match sublists.prepare(alloc, Layout::Blocks, &list, &cuts, horizon) {
-        Ok(_) => Err("two pages are free")?,
+        Ok(_) => assert!(rt; false, "two pages are free"),
         Err(error) => {
+            assert_eq!(rt; error, TakeError::Full);
             let prepared = sublists
                 .prepare(alloc, Layout::Blocks, &list, &cuts[..1], horizon)
                 .expect(rt, "a page is free");
             let place = prepared.places().first().expect(rt, "a place");
-            Ok((error, place.extent.first))
+            assert_eq!(rt; place.extent.first, page);
         }
     }
 }
 
 #[test]
-fn no_page_stays_taken_where_one_segment_finds_none(rt: HostRuntime) -> Result<(), Fail> {
-    let last = (1 << 28) - 1;
+fn no_page_stays_taken_where_one_segment_finds_none(rt: HostRuntime) {
     let mut sublists = one_free_page(&rt, rt.alloc());
-    let prepared = prepared_in_one_page(&rt, rt.alloc(), &mut sublists)?;
-    assert_eq!(rt; prepared, (TakeError::Full, last));
-    Ok(())
+    expect_one_prepared(&rt, rt.alloc(), &mut sublists, (1 << 28) - 1);
 }
 
 #[test]

@@ -1,7 +1,9 @@
 //! Tables and partitions of two documents that overlap.
 use super::given::cut_at;
 use crate::tests::given::{OVERLAP, factor, listed, table_of};
-use plans_partitions::Partition;
+use plans_partitions::{Partition, Table};
+use std::alloc::Global;
+use std::process::Abort;
 
 #[test]
 fn a_table_counts_its_list(rt: HostRuntime) {
@@ -28,49 +30,65 @@ fn a_table_counts_its_list(rt: HostRuntime) {
     assert_eq!(rt; table_of(&rt, alloc, &list, 40).boundaries().len(), 4);
 }
 
+/// Cuts, and whether they are those of a partition.
+const CUTS: [(&[u64], bool); 6] = [
+    (&[], false),
+    (&[10], false),
+    (&[10, 10], false),
+    (&[20, 10], false),
+    (&[10, 30, 20], false),
+    (&[10, 20], true),
+];
+
+/// The cuts are those of a partition, or aren't.
+fn expect_valid(rt: &impl Abort, alloc: Global, cuts: &[u64], valid: bool) {
+    let partition = Partition::new(cuts.to_vec(alloc).expect(rt, "memory"));
+    assert_eq!(rt; partition.is_some(), valid, "{cuts:?}");
+}
+
 #[test]
 fn a_partition_ascends(rt: HostRuntime) {
-    let alloc = rt.alloc();
-    for (cuts, valid) in [
-        (&[][..], false),
-        (&[10], false),
-        (&[10, 10], false),
-        (&[20, 10], false),
-        (&[10, 30, 20], false),
-        (&[10, 20], true),
-    ] {
-        assert_eq!(rt;
-            Partition::new(cuts.to_vec(alloc).expect(&rt, "memory")).is_some(),
-            valid,
-            "{cuts:?}"
-        );
+    for (cuts, valid) in &CUTS {
+        expect_valid(&rt, rt.alloc(), cuts, *valid);
     }
+}
+
+/// Cuts, and where they fit two documents that overlap their space, and whether they keep 3/2 and 2/1.
+const FITTING: [(&[u64], Option<(u64, bool, bool)>); 7] = [
+    (&[10, 40], Some((2, false, true))),
+    (&[10, 30, 40], Some((3, false, true))),
+    (&[10, 20, 30, 40], Some((4, true, true))),
+    (&[10, 25, 40], None),
+    (&[20, 40], None),
+    (&[10, 30], None),
+    (&[10, 50], None),
+];
+
+/// The cuts' partition has these on the table.
+fn expect_fitting(
+    rt: &impl Abort,
+    alloc: Global,
+    table: &Table,
+    cuts: &[u64],
+    fitting: Option<(u64, bool, bool)>,
+) {
+    let partition = cut_at(rt, alloc, cuts);
+    let mut found = None;
+    if partition.fits(table) && partition.cuts().len() < 10 {
+        found = Some((
+            partition.space(table),
+            partition.admissible(table, factor(rt, 3, 2)),
+            partition.admissible(table, factor(rt, 2, 1)),
+        ));
+    }
+    assert_eq!(rt; found, fitting, "{cuts:?}");
 }
 
 #[test]
 fn a_partition_that_fits_has_a_space(rt: HostRuntime) {
     let alloc = rt.alloc();
     let table = table_of(&rt, alloc, &listed(&rt, alloc, OVERLAP), 40);
-    let (three_halves, two) = (factor(&rt, 3, 2), factor(&rt, 2, 1));
-    // the space where it fits, and whether it keeps 3/2 and 2/1
-    for (cuts, fitting) in [
-        (&[10, 40][..], Some((2, false, true))),
-        (&[10, 30, 40], Some((3, false, true))),
-        (&[10, 20, 30, 40], Some((4, true, true))),
-        (&[10, 25, 40], None),
-        (&[20, 40], None),
-        (&[10, 30], None),
-        (&[10, 50], None),
-    ] {
-        let partition = cut_at(&rt, alloc, cuts);
-        let mut found = None;
-        if partition.fits(&table) && partition.cuts().len() < 10 {
-            found = Some((
-                partition.space(&table),
-                partition.admissible(&table, three_halves),
-                partition.admissible(&table, two),
-            ));
-        }
-        assert_eq!(rt; found, fitting, "{cuts:?}");
+    for (cuts, fitting) in &FITTING {
+        expect_fitting(&rt, alloc, &table, cuts, *fitting);
     }
 }

@@ -1,0 +1,5 @@
+//! The tests, by what they try.
+mod approximations;
+mod asked;
+mod choices;
+mod given;

@@ -1,0 +1,4 @@
+//! The tests, by what they try.
+mod cases;
+mod given;
+mod streams;
