@@ -54,6 +54,7 @@ pub struct Archive {
 
 impl Model for Archive {
     ghost use Rattle.std.specs.Prelude.{◌+◌, ◌≤◌, IsTrue};
+    ghost use Rattle.journal_gates.specs.Records.{new_bytes};
     ghost use Rattle.model_archive.specs.Histories.{History};
     ghost use Rattle.archive_hand.specs.States.{ArchiveState, StandsFor};
     ghost use Rattle.lists_index.specs.Indexes.{state_of};
