@@ -145,12 +145,13 @@ fn turns_are_gathered(rt: HostRuntime) {
 /// The tails after each of that many documents, one after another and in reverse, has the word.
 fn many(rt: &impl Abort, alloc: Global, word: WordId, count: u32) -> Tails {
     let mut tails = Tails::new(alloc);
+    let none = weights(rt, alloc, word, 0);
     let once = weights(rt, alloc, word, 1);
     for i in 0..count {
         // even documents ascend, odd ones descend
         let even = i % 2 == 0;
         let doc = if even { i } else { count - i };
-        turn(rt, &mut tails, doc, 10, &[], &once);
+        turn(rt, &mut tails, doc, 10, &none, &once);
     }
     tails
 }
@@ -188,14 +189,15 @@ fn a_long_tail_stands_in_blocks(rt: HostRuntime) {
 fn a_tail_that_is_filled_in_order_stands_in_blocks(rt: HostRuntime) {
     let alloc = rt.alloc();
     let word = WordId::new(2).expect(&rt, "a word");
+    let none = weights(&rt, alloc, word, 0);
     let once = weights(&rt, alloc, word, 1);
     let mut tails = Tails::new(alloc);
     for doc in 0..1500 {
-        turn(&rt, &mut tails, doc, 10, &[], &once);
+        turn(&rt, &mut tails, doc, 10, &none, &once);
     }
     let later = Time::new(20).expect(&rt, "20");
     // no room is asked for where no word is gained
-    tails.turn(DocId(700), later, &once, &[]);
+    tails.turn(DocId(700), later, &once, &none);
     assert_eq!(rt; tails.len(word), 1500);
     expect_rows_in(&rt, alloc, &tails, word, (20, NOW), 1499);
 }
