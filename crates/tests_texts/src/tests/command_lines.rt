@@ -14,18 +14,22 @@ fn words_of(rt: &impl Abort, alloc: Global, line: &str) -> Vec<String> {
     words
 }
 
-/// What asks for the sample of these numbers; without them, what is refused.
-fn asked(sample: Option<(u64, u32)>) -> Result<Task, WordsError> {
-    match sample {
-        Some((seed, count)) => Ok(Task::Generate(SampleNumbers { seed, count })),
-        None => Err(WordsError::Refused),
+/// The numbers of the sample that the words of a line ask for; None where they are refused.
+fn sample_in(rt: &impl Abort, alloc: Global, line: &str) -> Option<(u64, u32)> {
+    let words = words_of(rt, alloc, line);
+    match read_words(alloc, &words) {
+        Ok(Task::Generate(SampleNumbers { seed, count })) => Some((seed, count)),
+        Err(WordsError::Refused) => None,
+        other => {
+            assert!(rt; false, "{other:?}");
+            None
+        }
     }
 }
 
 /// The words of a line ask for this sample, or are refused.
 fn expect_sample(rt: &impl Abort, alloc: Global, line: &str, sample: Option<(u64, u32)>) {
-    let words = words_of(rt, alloc, line);
-    expect_same_in(rt, line, read_words(alloc, &words), asked(sample));
+    expect_same_in(rt, line, sample_in(rt, alloc, line), sample);
 }
 
 /// These words ask for the script.
