@@ -197,7 +197,7 @@ fn a_tail_that_is_filled_in_order_stands_in_blocks(rt: HostRuntime) {
     }
     let later = Time::new(20).expect(&rt, "20");
     // no room is asked for where no word is gained
-    tails.turn(DocId(700), later, &once, &none);
+    tails.turn(DocId(700), later, &once, &[]);
     assert_eq!(rt; tails.len(word), 1500);
     expect_rows_in(&rt, alloc, &tails, word, (20, NOW), 1499);
 }
