@@ -1,17 +1,18 @@
 -- What is read is spelled so, and what is spelled so is read.
 use Rattle.std.specs.Prelude.{◌≡◌, ℕ, zero, suc, ◌^◌, ◌<◌, ◌≤◌, List, [], ◌∷◌, ◌++◌, length, Ok, Err, refl}
 use Rattle.std.proofs.Common.{sym, ap, subst, ◌∙◌, arith}
-use Rattle.std.specs.Int.{w32, w64, to_be_bytes}
+use Rattle.std.specs.Int.{w16, w32, w64, to_be_bytes}
 use Rattle.journal_entries.specs.declared.entry.Entry.{Entry}
-use Rattle.journal_entries.specs.declared.entry.Entry.TheVariants.{Arrive, Delete, Planned}
+use Rattle.journal_entries.specs.declared.entry.Entry.TheVariants.{Arrive, Delete, Planned, Format}
 use Rattle.journal_entries.specs.Spelling.{spelling, IsEntry}
 use Rattle.base_types.specs.Reading.{◌>>=◌}
 use Rattle.journal_entries.specs.FieldReading.{end_at}
-use Rattle.journal_entries.specs.Reading.{change_at, text_at, arrive_at, delete_at, entry_at}
-use Rattle.journal_entries.specs.PlanReading.{plan_at}
+use Rattle.journal_entries.specs.Reading.{change_at, text_at, arrive_at, delete_at, format_at, entry_at}
+use Rattle.journal_entries.specs.PlanReading.{named_at, if_within, plan_at}
 use Rattle.base_types.proofs.Readings.{bind_ok, ok_is, Within, Within-more, Within-next, Within-err}
 use Rattle.base_types.proofs.Bytes.{IsBytes}
 use Rattle.journal_entries.proofs.ChangeLemmas.{change_field}
+use Rattle.journal_entries.proofs.PlanFieldLemmas.{mark_field}
 use Rattle.journal_entries.proofs.FieldLemmas.{text_at-ok, text_takes, text_within, end_takes, end_within}
 use Rattle.journal_entries.proofs.PlanLemmas.{plan_takes, plan_again, plan_within, plan_short, plan_long}
 
@@ -42,6 +43,16 @@ planned_takes bytes e fits r =
     let p = bind_ok (plan_at bytes) _ e r in
     subst (λ (y : Entry). IsEntry y × (3 ∷ bytes ≡ spelling y)) (ok_is (Planned p.0) e p.2) (plan_takes bytes p.0 fits p.1)
 
+mark_takes : (bytes : List ℕ) (e : Entry) → IsBytes bytes → format_at bytes ≡ Ok e → IsEntry e × (5 ∷ bytes ≡ spelling e)
+unfolding format_at
+mark_takes bytes e fits r =
+    let n = bind_ok (named_at w16 (if_within 2 2) bytes) _ e r in
+    let t = bind_ok (end_at n.0.1) _ e n.2 in
+    let number = mark_field.takes bytes n.0 fits n.1 in
+    let two : n.0.0 ≡ 2 = omega (arith, number.1.0, number.1.1) in
+    let whole : bytes ≡ 0 ∷ 2 ∷ [] = number.0.parts ∙ (λ i. to_be_bytes w16 (two i) ++ end_takes n.0.1 t.0 t.1 i) in
+    subst (λ (y : Entry). IsEntry y × (5 ∷ bytes ≡ spelling y)) (ok_is Format e t.2) (tt, ap (λ (xs : List ℕ). 5 ∷ xs) whole)
+
 -- what is read is an entry, and is spelled so
 pub entry_takes : (bytes : List ℕ) (e : Entry) → IsBytes bytes → entry_at bytes ≡ Ok e → IsEntry e × (bytes ≡ spelling e)
 unfolding entry_at
@@ -50,23 +61,28 @@ entry_takes (zero ∷ bytes) e fits r = absurd cc
 entry_takes (suc zero ∷ bytes) e fits r = arrive_takes bytes e (IsBytes-rest 1 bytes fits) r
 entry_takes (suc (suc zero) ∷ bytes) e fits r = delete_takes bytes e (IsBytes-rest 2 bytes fits) r
 entry_takes (suc (suc (suc zero)) ∷ bytes) e fits r = planned_takes bytes e (IsBytes-rest 3 bytes fits) r
-entry_takes (suc (suc (suc (suc tag))) ∷ bytes) e fits r = absurd cc
+entry_takes (suc (suc (suc (suc zero))) ∷ bytes) e fits r = absurd cc
+entry_takes (suc (suc (suc (suc (suc zero)))) ∷ bytes) e fits r = mark_takes bytes e (IsBytes-rest 5 bytes fits) r
+entry_takes (suc (suc (suc (suc (suc (suc tag))))) ∷ bytes) e fits r = absurd cc
 
 -- what is spelled so is read
 pub entry_again : (e : Entry) → IsEntry e → entry_at (spelling e) ≡ Ok e
-unfolding entry_at arrive_at delete_at
+unfolding entry_at arrive_at delete_at format_at
 entry_again (Arrive doc at text) fits = rw (change_field.again (doc, at) text fits.0, text_at-ok text text refl fits.2 fits.3) refl
 entry_again (Delete doc at) fits = rw (change_field.again (doc, at) [] fits.0) refl
 entry_again (Planned plan) fits = let again = plan_again plan fits in rw (again.1, again.2) refl
+entry_again Format fits = refl
 
 pub entry_within : (bytes : List ℕ) → Within (λ _. 0) (length bytes) (entry_at bytes)
-unfolding entry_at arrive_at delete_at
+unfolding entry_at arrive_at delete_at format_at
 entry_within [] = omega arith
 entry_within (zero ∷ bytes) = omega arith
 entry_within (suc zero ∷ bytes) = Within-more (λ _. 0) (length bytes) (length (1 ∷ bytes)) _ (omega arith) (Within-next (λ x. length x.1) (λ _. 0) (length bytes) (change_at bytes) _ (change_field.within bytes) (λ c. Within-next (λ _. 0) (λ _. 0) (length c.1) (text_at c.1) _ (text_within c.1) (λ t. omega arith)))
 entry_within (suc (suc zero) ∷ bytes) = Within-more (λ _. 0) (length bytes) (length (2 ∷ bytes)) _ (omega arith) (Within-next (λ x. length x.1) (λ _. 0) (length bytes) (change_at bytes) _ (change_field.within bytes) (λ c. Within-next (λ _. 0) (λ _. 0) (length c.1) (end_at c.1) _ (end_within c.1) (λ t. omega arith)))
 entry_within (suc (suc (suc zero)) ∷ bytes) = Within-more (λ _. 0) (length bytes) (length (3 ∷ bytes)) _ (omega arith) (Within-next (λ _. 0) (λ _. 0) (length bytes) (plan_at bytes) _ (plan_within bytes) (λ plan. omega arith))
-entry_within (suc (suc (suc (suc tag))) ∷ bytes) = omega arith
+entry_within (suc (suc (suc (suc zero))) ∷ bytes) = omega arith
+entry_within (suc (suc (suc (suc (suc zero)))) ∷ bytes) = Within-more (λ _. 0) (length bytes) (length (5 ∷ bytes)) _ (omega arith) (Within-next (λ x. length x.1) (λ _. 0) (length bytes) (named_at w16 (if_within 2 2) bytes) _ (mark_field.within bytes) (λ n. Within-next (λ _. 0) (λ _. 0) (length n.1) (end_at n.1) _ (end_within n.1) (λ t. omega arith)))
+entry_within (suc (suc (suc (suc (suc (suc tag))))) ∷ bytes) = omega arith
 
 -- what is left at a fault is no more than there was
 pub entry_left : (bytes : List ℕ) (left : ℕ) → entry_at bytes ≡ Err left → left ≤ length bytes
@@ -86,13 +102,15 @@ one_entry a b p q same = entry_only (spelling a) a b (entry_again a p) q same
 
 -- ---- how long it is
 
-pub entry_long : (e : Entry) → IsEntry e → 13 ≤ length (spelling e)
+pub entry_long : (e : Entry) → IsEntry e → 3 ≤ length (spelling e)
 entry_long (Arrive doc at text) fits = omega arith
 entry_long (Delete doc at) fits = omega arith
 entry_long (Planned plan) fits = omega (arith, plan_long plan fits)
+entry_long Format fits = omega arith
 
 -- an entry's length fits a record of the journal
 pub entry_short : (e : Entry) → IsEntry e → length (spelling e) < 2 ^ 32
 entry_short (Arrive doc at text) fits = omega arith
 entry_short (Delete doc at) fits = omega arith
 entry_short (Planned plan) fits = plan_short plan fits
+entry_short Format fits = omega arith

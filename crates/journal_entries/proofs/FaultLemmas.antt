@@ -1,6 +1,6 @@
 -- Where reading an entry fails is where its bytes are at fault.
 use Rattle.std.specs.Prelude.{◌≡◌, ◌⊎◌, ℕ, zero, suc, ◌+◌, ◌-◌, ◌<◌, ◌≤◌, List, [], ◌∷◌, ◌++◌, length, take, drop, Result, Ok, Err, refl}
-use Rattle.std.specs.Int.{w32, w64, to_be_bytes}
+use Rattle.std.specs.Int.{w16, w32, w64, to_be_bytes}
 use Rattle.std.specs.List.{concat}
 use Rattle.std.proofs.Common.{sym, ap, subst, ◌∙◌, arith, inl, inr}
 use Rattle.std.proofs.lemmas.Bool.{cases_order}
@@ -12,7 +12,7 @@ use Rattle.base_types.specs.declared.time.Time.{Time}
 use Rattle.base_commands.specs.declared.command.Kind.{Kind}
 use Rattle.base_commands.specs.declared.command.Kind.TheVariants.{Guarantee}
 use Rattle.journal_entries.specs.declared.entry.Entry.{Entry}
-use Rattle.journal_entries.specs.declared.entry.Entry.TheVariants.{Arrive, Delete, Planned}
+use Rattle.journal_entries.specs.declared.entry.Entry.TheVariants.{Arrive, Delete, Planned, Format}
 use Rattle.journal_entries.specs.declared.place.Layout.{Layout}
 use Rattle.journal_entries.specs.declared.place.Place.{Place}
 use Rattle.journal_entries.specs.declared.plan.PlanEntry.{PlanEntry}
@@ -22,8 +22,8 @@ use Rattle.journal_entries.specs.Spelling.{spelling, IsEntry}
 use Rattle.journal_entries.specs.Faults.{fields, IsBegunPlan, IsBegun, Begins, IsFault}
 use Rattle.base_types.specs.Reading.{◌>>=◌}
 use Rattle.journal_entries.specs.FieldReading.{time_at, end_at}
-use Rattle.journal_entries.specs.PlanReading.{number_in, layout_at, kind_at, fraction_at, key_at, segments_at, plan_at}
-use Rattle.journal_entries.specs.Reading.{change_at, text_at, arrive_at, delete_at, entry_at}
+use Rattle.journal_entries.specs.PlanReading.{named_at, if_within, number_in, layout_at, kind_at, fraction_at, key_at, segments_at, plan_at}
+use Rattle.journal_entries.specs.Reading.{change_at, text_at, arrive_at, delete_at, format_at, entry_at}
 use Rattle.base_types.proofs.Bytes.{IsBytes}
 use Rattle.base_types.proofs.Readings.{Within, Within-err}
 use Rattle.journal_entries.proofs.Steps.{err_is, no_fault, test_err}
@@ -31,7 +31,7 @@ use Rattle.journal_entries.proofs.FieldLemmas.{text_within, end_within}
 use Rattle.journal_entries.proofs.SegmentLemmas.{increasing, rising, AreSegments, segments_field, segments_are}
 use Rattle.journal_entries.proofs.ChangeLemmas.{IsDoc, change_field}
 use Rattle.journal_entries.proofs.Stops.{InFront, none, more_in_front, IsStopped, Of, Then, renamed, made, after_any, closed}
-use Rattle.journal_entries.proofs.FieldStops.{time_0, time_front, number_front, layout_front, kind_front, fraction_fields, fraction_front, key_fields, word_1, key_front, AreBegun, OfSegments, no_segments, segments_stopped, change_fields, change_front}
+use Rattle.journal_entries.proofs.FieldStops.{time_0, time_front, number_front, mark_front, layout_front, kind_front, fraction_fields, fraction_front, key_fields, word_1, key_front, AreBegun, OfSegments, no_segments, segments_stopped, change_fields, change_front}
 use Rattle.journal_entries.proofs.EntryLemmas.{entry_takes, entry_within, entry_left, entry_none}
 
 -- ---- an arrival and a deletion, from behind the tag
@@ -58,6 +58,26 @@ delete_stopped : IsStopped Entry (λ _. 0) delete_at OfChange
 unfolding delete_at
 delete_stopped = closed (DocId × Time) (Unit {0}) Entry change_at (λ c. to_be_bytes w32 c.0.0 ++ to_be_bytes w64 c.1.seconds) (λ c. IsDoc c.0) OfChange end_at (λ c end. Delete c.0 c.1)
     change_field change_front.stopped of_whole end_within end_fails
+
+-- ---- the mark, from behind the tag
+
+abbrev OfMark : List (List ℕ) → Type 0
+OfMark fs = fs ≡ (0 ∷ 2 ∷ []) ∷ []
+
+abbrev OfNumber : List (List ℕ) → Type 0
+OfNumber = Of (λ n. to_be_bytes w16 n ∷ []) (λ n. (2 ≤ n) × (n ≤ 2))
+
+number_is : (fs : List (List ℕ)) → OfNumber fs → OfMark fs
+number_is fs f = let two : f.0 ≡ 2 = omega (arith, f.1.0, f.1.1) in f.2 ∙ ap (λ (n : ℕ). to_be_bytes w16 n ∷ []) two
+
+is_number : (fs : List (List ℕ)) → OfMark fs → OfNumber fs
+is_number fs f = (2, (omega arith, omega arith), f)
+
+mark_stopped : IsStopped Entry (λ _. 0) format_at OfMark
+unfolding format_at
+mark_stopped = renamed Entry (λ _. 0) format_at OfNumber OfMark number_is is_number
+    (closed ℕ (Unit {0}) Entry (named_at w16 (if_within 2 2)) (λ n. to_be_bytes w16 n) (λ n. (2 ≤ n) × (n ≤ 2)) OfNumber end_at (λ n end. Format)
+    mark_front.field mark_front.stopped (λ n fit. (to_be_bytes w16 n ∷ [], (n, fit, refl), mark_front.same n)) end_within end_fails)
 
 -- ---- a plan, from behind the tag
 
@@ -237,7 +257,11 @@ entry_stops (suc (suc zero) ∷ bytes) left fits e =
 entry_stops (suc (suc (suc zero)) ∷ bytes) left fits e =
     let s = planned_stopped.stops bytes left (tail_fits 3 bytes fits) e in
     behind_tag 3 left s.0 bytes (s.1.0, Planned s.1.1, s.1.2, ap (λ (fs : List (List ℕ)). (3 ∷ []) ∷ fs) s.1.3) s.2
-entry_stops (suc (suc (suc (suc tag))) ∷ bytes) left fits e = let h = err_is Entry (length bytes + 1) left e in no_tag (suc (suc (suc (suc tag))) ∷ bytes) left (omega (arith, h))
+entry_stops (suc (suc (suc (suc zero))) ∷ bytes) left fits e = let h = err_is Entry (length bytes + 1) left e in no_tag (4 ∷ bytes) left (omega (arith, h))
+entry_stops (suc (suc (suc (suc (suc zero)))) ∷ bytes) left fits e =
+    let s = mark_stopped.stops bytes left (tail_fits 5 bytes fits) e in
+    behind_tag 5 left s.0 bytes (0, Format, tt, ap (λ (fs : List (List ℕ)). (5 ∷ []) ∷ fs) s.1) s.2
+entry_stops (suc (suc (suc (suc (suc (suc tag))))) ∷ bytes) left fits e = let h = err_is Entry (length bytes + 1) left e in no_tag (suc (suc (suc (suc (suc (suc tag))))) ∷ bytes) left (omega (arith, h))
 
 -- what is read behind the tag
 entry_passes_on : (count : ℕ) (e : Entry) (w : List ℕ) (whole more : List (List ℕ)) (after : List ℕ) → IsBegun count e → w ∷ (whole ++ more) ≡ fields count e → Within (λ _. 0) (length after) (entry_at (concat (w ∷ whole) ++ after))
@@ -254,6 +278,10 @@ entry_passes_on count (Planned plan) w whole more after begun is =
     let tag : w ≡ 3 ∷ [] = cc in
     let others : whole ++ more ≡ drop 1 (plan_fields count plan) = cc in
     subst (λ (xs : List ℕ). Within (λ _. 0) (length after) (entry_at ((xs ++ concat whole) ++ after))) (sym tag) (planned_stopped.passes whole more after (count, plan, begun, others))
+entry_passes_on count Format w whole more after begun is =
+    let tag : w ≡ 5 ∷ [] = cc in
+    let others : whole ++ more ≡ (0 ∷ 2 ∷ []) ∷ [] = cc in
+    subst (λ (xs : List ℕ). Within (λ _. 0) (length after) (entry_at ((xs ++ concat whole) ++ after))) (sym tag) (mark_stopped.passes whole more after others)
 
 entry_passes : (whole more : List (List ℕ)) (after : List ℕ) → OfEntry (whole ++ more) → Within (λ _. 0) (length after) (entry_at (concat whole ++ after))
 entry_passes [] more after f = entry_within after

@@ -1,6 +1,6 @@
 -- The fields of an entry, and where reading each stops.
 use Rattle.std.specs.Prelude.{◌≡◌, ◌⊎◌, ℕ, zero, suc, ◌+◌, ◌^◌, ◌<◌, ◌≤◌, Bool, true, false, cond, nat_lt, nat_le, ◌&&◌, List, [], ◌∷◌, ◌++◌, length, take, drop, replicate, slice_index, Option, Result, Ok, Err, All, refl}
-use Rattle.std.specs.Int.{Width, w32, w64, byte_len, from_be_bytes, to_be_bytes}
+use Rattle.std.specs.Int.{Width, w16, w32, w64, byte_len, from_be_bytes, to_be_bytes}
 use Rattle.std.specs.List.{concat}
 use Rattle.std.specs.Str.{is_utf8}
 use Rattle.std.proofs.Common.{sym, ap, subst, ◌∙◌, arith, inl, inr}
@@ -28,7 +28,7 @@ use Rattle.journal_entries.specs.Reading.{change_at}
 use Rattle.base_types.proofs.Bytes.{IsBytes}
 use Rattle.base_types.proofs.Readings.{Within, Within-then}
 use Rattle.journal_entries.proofs.Steps.{good, err_is, no_fault, bind_err, made_err, test_err, guard_err, value_or-err, regroup}
-use Rattle.journal_entries.proofs.PlanFieldLemmas.{time_field, number_field, layout_field, kind_is, kind_field, under_field, fraction_field, key_field, length_field, extent_field, digest_field, place_bytes, place_field, IsCut, cut_field}
+use Rattle.journal_entries.proofs.PlanFieldLemmas.{time_field, number_field, mark_field, layout_field, kind_is, kind_field, under_field, fraction_field, key_field, length_field, extent_field, digest_field, place_bytes, place_field, IsCut, cut_field}
 use Rattle.journal_entries.proofs.SegmentLemmas.{Ascend}
 use Rattle.journal_entries.proofs.ChangeLemmas.{IsDoc, doc_field, change_field}
 use Rattle.journal_entries.proofs.Stops.{InFront, none, IsStopped, behind, Of, Then, NoFields, HasFields, renamed, same_reading, made, one_field, after_any, after_maybe, both_fields, nothing}
@@ -57,6 +57,9 @@ time_front = one_field Time time_at (λ t. to_be_bytes w64 t.seconds) (λ _. Uni
 pub number_front : (least most : ℕ) → least ≤ most → most < 2 ^ 32 → HasFields ℕ (number_in least most) (λ n. to_be_bytes w32 n) (λ n. to_be_bytes w32 n ∷ []) (λ n. (least ≤ n) × (n ≤ most))
 unfolding number_in
 number_front least most le lt = one_field ℕ (number_in least most) (λ n. to_be_bytes w32 n) (λ n. (least ≤ n) × (n ≤ most)) least (omega arith, le) (number_field least most lt) (named_fails ℕ w32 (if_within least most))
+
+pub mark_front : HasFields ℕ (named_at w16 (if_within 2 2)) (λ n. to_be_bytes w16 n) (λ n. to_be_bytes w16 n ∷ []) (λ n. (2 ≤ n) × (n ≤ 2))
+mark_front = one_field ℕ (named_at w16 (if_within 2 2)) (λ n. to_be_bytes w16 n) (λ n. (2 ≤ n) × (n ≤ 2)) 2 (omega arith, omega arith) mark_field (named_fails ℕ w16 (if_within 2 2))
 
 -- ---- layout and kind
 

@@ -1,6 +1,6 @@
 -- Each field of a plan is read as it is spelled.
 use Rattle.std.specs.Prelude.{◌≡◌, ℕ, zero, suc, ◌+◌, ◌^◌, ◌<◌, ◌≤◌, Bool, true, false, cond, nat_lt, nat_le, ◌&&◌, List, [], ◌∷◌, ◌++◌, length, take, drop, Some, None, Ok, Err, All, IsUtf8, refl}
-use Rattle.std.specs.Int.{w32, w64, to_be_bytes}
+use Rattle.std.specs.Int.{w16, w32, w64, to_be_bytes}
 use Rattle.std.specs.List.{concat}
 use Rattle.std.specs.Str.{is_utf8}
 use Rattle.std.proofs.Common.{sym, ap, subst, ◌∙◌, arith}
@@ -25,7 +25,7 @@ use Rattle.journal_entries.specs.FieldReading.{number_at, time_at}
 use Rattle.journal_entries.specs.PlanReading.{named_at, if_within, number_in, layout_at, kind_at, fraction_at, word_at, key_at, extent_at, digest_at, place_at, cut_at, segment_at}
 use Rattle.base_types.proofs.Readings.{bind_ok, ok_is, Within, Within-more, Within-then}
 use Rattle.journal_entries.proofs.Steps.{test_ok, guard_ok}
-use Rattle.base_types.proofs.Bytes.{IsBytes, IsBytes-take, IsBytes-drop, wide32, wide64}
+use Rattle.base_types.proofs.Bytes.{IsBytes, IsBytes-take, IsBytes-drop, wide16, wide32, wide64}
 use Rattle.journal_entries.proofs.FieldLemmas.{Takes, seconds-time_of}
 use Rattle.journal_entries.proofs.FieldCodec.{IsField, named, both}
 use Rattle.journal_entries.proofs.NumberLemmas.{fraction_of-is, fraction_of-some, extent_of-is, extent_of-some}
@@ -55,6 +55,12 @@ unfolding number_in
 number_field least most lt = named ℕ w32 (2 ^ 32) wide32 (if_within least most) (λ n. n) (λ n. (least ≤ n) × (n ≤ most))
     (λ n x below e. within_told least most n x e)
     (λ x fits. (omega (arith, fits.1), within_named least most x fits.0 fits.1))
+
+-- the number of the format that a mark has
+pub mark_field : IsField ℕ (named_at w16 (if_within 2 2)) (λ n. to_be_bytes w16 n) (λ n. (2 ≤ n) × (n ≤ 2))
+mark_field = named ℕ w16 (2 ^ 16) wide16 (if_within 2 2) (λ n. n) (λ n. (2 ≤ n) × (n ≤ 2))
+    (λ n x below e. within_told 2 2 n x e)
+    (λ x fits. (omega (arith, fits.1), within_named 2 2 x fits.0 fits.1))
 
 -- ---- layout and kind
 

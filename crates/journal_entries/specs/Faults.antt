@@ -4,7 +4,7 @@ use Rattle.std.specs.Int.{w32, w64, to_be_bytes}
 use Rattle.std.specs.List.{concat}
 use Rattle.std.specs.List.Sorted.{IsStrictlyIncreasing}
 use Rattle.journal_entries.specs.declared.entry.Entry.{Entry}
-use Rattle.journal_entries.specs.declared.entry.Entry.TheVariants.{Arrive, Delete, Planned}
+use Rattle.journal_entries.specs.declared.entry.Entry.TheVariants.{Arrive, Delete, Planned, Format}
 use Rattle.journal_entries.specs.declared.plan.PlanEntry.{PlanEntry}
 use Rattle.journal_entries.specs.PlanSpelling.{most_segments, plan_fields, IsWord, IsDigest, cut_seconds}
 use Rattle.journal_entries.specs.Spelling.{spelling, IsEntry}
@@ -15,6 +15,7 @@ abbrev pub fields : ℕ → Entry → List (List ℕ)
 fields count (Arrive doc at text) = (1 ∷ []) ∷ to_be_bytes w32 doc.0 ∷ to_be_bytes w64 at.seconds ∷ []
 fields count (Delete doc at) = (2 ∷ []) ∷ to_be_bytes w32 doc.0 ∷ to_be_bytes w64 at.seconds ∷ []
 fields count (Planned plan) = plan_fields count plan
+fields count Format = (5 ∷ []) ∷ (0 ∷ 2 ∷ []) ∷ []
 
 -- A plan of `count` segments of which the last ones may be missing: what it has is in its range.
 pub record IsBegunPlan (count : ℕ) (p : PlanEntry) : Type 0 where

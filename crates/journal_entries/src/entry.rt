@@ -24,4 +24,6 @@ pub enum Entry {
     },
     /// A plan of a word's list that is stored.
     Planned(PlanEntry),
+    /// The mark of a journal that may have batches.
+    Format,
 }

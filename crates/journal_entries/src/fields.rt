@@ -1,6 +1,6 @@
 //! The fields of an entry, read from the front of what is left of a body.
 ghost use Rattle.std.specs.Prelude.{◌≡◌, length};
-ghost use Rattle.std.specs.Int.{w32, w64};
+ghost use Rattle.std.specs.Int.{w16, w32, w64};
 ghost use Rattle.journal_entries.specs.declared.fields.FieldError.TheVariants.{Memory};
 ghost use Rattle.journal_entries.specs.Fields.{Gives};
 ghost use Rattle.journal_entries.specs.FieldReading.{number_at, doc_at, time_at, end_at};
@@ -46,6 +46,18 @@ pub fn fault(bytes: &[u8]) -> FieldError
     FieldError::Form {
         left: bytes.len() as u64,
     }
+}
+
+/// A number of 2 bytes, and the bytes behind it.
+pub fn u16_at(bytes: &[u8]) -> Result<(u16, &[u8]), FieldError>
+    ensures { Gives (λ x. (x.0, x.1.now)) result (number_at w16 bytes.now) }
+{
+    if bytes.len() < 2 {
+        return Err(fault(bytes));
+    }
+    let (front, rest) = bytes.split_at(2);
+    let number = u16::from_be_bytes([front[0], front[1]]);
+    Ok((number, rest))
 }
 
 /// A number of 4 bytes, and the bytes behind it.

@@ -4,7 +4,7 @@ ghost use Rattle.std.specs.List.{concat};
 ghost use Rattle.base_types.specs.declared.ids.DocId.{DocId};
 ghost use Rattle.base_types.specs.declared.time.Time.{Time};
 ghost use Rattle.journal_entries.specs.declared.entry.Entry.{Entry};
-ghost use Rattle.journal_entries.specs.declared.entry.Entry.TheVariants.{Arrive, Delete, Planned};
+ghost use Rattle.journal_entries.specs.declared.entry.Entry.TheVariants.{Arrive, Delete, Planned, Format};
 ghost use Rattle.journal_entries.specs.Spelling.{spelling, IsEntry};
 ghost use Rattle.journal_entries.specs.Faults.{fields, IsBegunPlan, IsFault};
 ghost use Rattle.journal_entries.specs.declared.plan.PlanEntry.{PlanEntry};
@@ -22,7 +22,7 @@ pub fn spelling_laws()
     ensures one_fault { (bytes : List ℕ) (a b : ℕ) → IsFault bytes a → IsFault bytes b → a ≡ b }
     ensures in_body { (bytes : List ℕ) (at : ℕ) → IsFault bytes at → at ≤ length bytes }
     // The journal's length of a record holds a spelling's.
-    ensures at_least { (e : Entry) → IsEntry e → 13 ≤ length (spelling e) }
+    ensures at_least { (e : Entry) → IsEntry e → 3 ≤ length (spelling e) }
     ensures at_most { (e : Entry) → IsEntry e → length (spelling e) < 2 ^ 32 }
 {}
 
@@ -31,6 +31,7 @@ pub fn field_laws()
     ensures arrived { (count : ℕ) (doc : DocId) (at : Time) (text : List ℕ) → spelling (Arrive doc at text) ≡ concat (fields count (Arrive doc at text)) ++ text }
     ensures deleted { (count : ℕ) (doc : DocId) (at : Time) → spelling (Delete doc at) ≡ concat (fields count (Delete doc at)) }
     ensures planned { (p : PlanEntry) → spelling (Planned p) ≡ concat (fields (length p.cuts) (Planned p)) }
+    ensures marked { (count : ℕ) → spelling Format ≡ concat (fields count Format) }
     // A plan of which no segment is missing is begun.
     ensures begun { (p : PlanEntry) → IsPlanEntry p → IsBegunPlan (length p.cuts) p }
 {}

@@ -30,4 +30,4 @@ pub use plan_writing::encode_plan;
 pub use reading::decode;
 pub use tags::MOST_SEGMENTS;
 pub use text::{MOST_TEXT_BYTES, VersionText};
-pub use writing::{encode_arrival, encode_deletion};
+pub use writing::{encode_arrival, encode_deletion, encode_format};

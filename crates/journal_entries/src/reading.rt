@@ -2,16 +2,16 @@
 ghost use Rattle.std.specs.Prelude.{◌≡◌, ℕ, IfOk};
 ghost use Rattle.journal_entries.specs.declared.entry.Entry.{Entry};
 ghost use Rattle.journal_entries.specs.Spelling.{spelling, IsEntry};
-ghost use Rattle.journal_entries.specs.Reading.{arrive_at, delete_at, entry_at};
+ghost use Rattle.journal_entries.specs.Reading.{arrive_at, delete_at, format_at, entry_at};
 ghost use Rattle.journal_entries.specs.Fields.{Gives};
 ghost use Rattle.journal_entries.specs.Decoding.{IsReadAs};
 ghost use Rattle.journal_entries.specs.Faults.{IsFault};
 
 use crate::entry::Entry;
 use crate::error::CodecError;
-use crate::fields::{FieldError, change_at, end_at, fault, text_at};
+use crate::fields::{FieldError, change_at, end_at, fault, text_at, u16_at};
 use crate::plan_reading::plan_at;
-use crate::tags::{ARRIVE, DELETE, PLANNED};
+use crate::tags::{ARRIVE, DELETE, FORMAT, FORMAT_NUMBER, PLANNED};
 use std::alloc::Global;
 
 #[tactic(auto, unfolding(crate::specs::Reading::arrive_at))]
@@ -32,6 +32,18 @@ fn delete_at(bytes: &[u8]) -> Result<Entry, FieldError>
     Ok(Entry::Delete { doc, at })
 }
 
+#[tactic(auto, unfolding(crate::specs::Reading::format_at))]
+fn format_at(bytes: &[u8]) -> Result<Entry, FieldError>
+    ensures { Gives (λ e. e) result (format_at bytes.now) }
+{
+    let (number, rest) = u16_at(bytes)?;
+    if number != FORMAT_NUMBER {
+        return Err(fault(bytes));
+    }
+    end_at(rest)?;
+    Ok(Entry::Format)
+}
+
 #[tactic(auto, unfolding(crate::specs::Reading::entry_at))]
 fn entry_at(alloc: Global, bytes: &[u8]) -> Result<Entry, FieldError>
     ensures { Gives (λ e. e) result (entry_at bytes.now) }
@@ -40,6 +52,7 @@ fn entry_at(alloc: Global, bytes: &[u8]) -> Result<Entry, FieldError>
         [ARRIVE, rest @ ..] => arrive_at(alloc, rest),
         [DELETE, rest @ ..] => delete_at(rest),
         [PLANNED, rest @ ..] => Ok(Entry::Planned(plan_at(alloc, rest)?)),
+        [FORMAT, rest @ ..] => format_at(rest),
         _ => Err(fault(bytes)),
     }
 }

@@ -15,6 +15,15 @@ pub const CHANGE_BYTES: usize = 13;
 /// one byte, the word, how many segments there are in 4 bytes, and the segments.
 pub const PLANNED: u8 = 3;
 
+/// The tag of the mark of a journal that may have batches. Behind it stands `FORMAT_NUMBER` in 2 bytes.
+pub const FORMAT: u8 = 5;
+
+/// The number of the format that has batches.
+pub const FORMAT_NUMBER: u16 = 2;
+
+/// The bytes of the mark.
+pub const FORMAT_BYTES: usize = 3;
+
 /// The byte of sublists that are flat.
 pub const FLAT: u8 = 1;
 

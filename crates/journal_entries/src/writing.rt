@@ -1,9 +1,9 @@
 //! Spelling an entry.
 ghost use Rattle.std.specs.Prelude.{◌≡◌, ◌<◌, ◌≤◌, ◌^◌, length, IfOk};
-ghost use Rattle.journal_entries.specs.declared.entry.Entry.TheVariants.{Arrive, Delete};
+ghost use Rattle.journal_entries.specs.declared.entry.Entry.TheVariants.{Arrive, Delete, Format};
 ghost use Rattle.journal_entries.specs.Spelling.{spelling, IsEntry};
 
-use crate::tags::{ARRIVE, CHANGE_BYTES, DELETE};
+use crate::tags::{ARRIVE, CHANGE_BYTES, DELETE, FORMAT, FORMAT_BYTES, FORMAT_NUMBER};
 use crate::text::MOST_TEXT_BYTES;
 use base_types::{DocId, Time};
 use std::alloc::{AllocError, Global};
@@ -39,5 +39,16 @@ pub fn encode_deletion(alloc: Global, doc: DocId, at: Time) -> Result<Vec<u8>, A
     out.push(DELETE)?;
     out.extend_from_slice(&doc.0.to_be_bytes())?;
     out.extend_from_slice(&at.seconds().to_be_bytes())?;
+    Ok(out)
+}
+
+/// The spelling of the mark, of 3 bytes. Constant cost.
+pub fn encode_format(alloc: Global) -> Result<Vec<u8>, AllocError>
+    ensures spelled { IfOk result (λ v. v.items ≡ spelling Format) }
+    ensures len { IfOk result (λ v. length v.items ≡ 3) }
+{
+    let mut out = Vec::with_capacity(alloc, FORMAT_BYTES)?;
+    out.push(FORMAT)?;
+    out.extend_from_slice(&FORMAT_NUMBER.to_be_bytes())?;
     Ok(out)
 }

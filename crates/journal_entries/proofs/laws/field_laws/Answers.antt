@@ -7,6 +7,9 @@ pub returns-clause-planned : goal.returns-clause-planned
 unfolding plan_spelling
 returns-clause-planned c = λ p. refl
 
+pub returns-clause-marked : goal.returns-clause-marked
+returns-clause-marked c = λ count. refl
+
 pub returns-clause-begun : goal.returns-clause-begun
 returns-clause-begun c = λ p fits. record {
   some = fits.well_cut.some;
