@@ -13,7 +13,7 @@ use Rattle.journal_gates.specs.Crash.{Appends, KeepsPages}
 use Rattle.journal_entries.specs.Spelling.{spelling}
 use Rattle.journal_entries.specs.declared.entry.Entry.{Entry}
 use Rattle.model_archive.specs.Histories.{History}
-use Rattle.model_archive.specs.Plans.{live_extents, IsChange}
+use Rattle.model_archive.specs.Plans.{live_extents, IsNoPlan}
 use Rattle.model_archive.proofs.HoldLemmas.{same_live}
 use Rattle.model_archive.specs.Stands.{bodies_of}
 use Rattle.model_archive.proofs.HistoryLemmas.{end_of-push}
@@ -81,7 +81,7 @@ pages_keep s old new same pages image allowed =
     let was = pages.images image new.now.beside (allowed_left new (moment old) image allowed) in
     same_as s.pages was.0.pages image.pages (live_extents s.history) was.2 (same was.0 was.1)
 
-pub leads_change : (s : Store) (e : Entry) (body : List ℕ) (old new : DiskState) (a b : ArchiveState) → AreInStepBy old a s → IsChange e → body ≡ spelling e → Appends (bodies_of s.history) body old new → KeepsPages old new
+pub leads_change : (s : Store) (e : Entry) (body : List ℕ) (old new : DiskState) (a b : ArchiveState) → AreInStepBy old a s → IsNoPlan e → body ≡ spelling e → Appends (bodies_of s.history) body old new → KeepsPages old new
     → LeadsBy s (with_entry s e s.pages b new) old new
 leads_change s e body old new a b in_step change same appends pages = record {
   goes_on = appends.goes_on;
@@ -107,7 +107,7 @@ pub adds_by : (r : Result ℕ ChangeError) (a b : ArchiveState) (old new : DiskS
 adds_by r a b old new s e x body words in_step next prepared more appends pages held step cached =
     (leads_change s e body old new a b in_step change next.spelled appends pages, go r more held step cached)
   where
-    change : IsChange e
+    change : IsNoPlan e
     change = (change_comes s.history e x in_step.stands.loadable next.legal.allowed next.makes).0
 
     go : (r : Result ℕ ChangeError) → IfOk r (λ n. IsMore a b x body words × (n ≡ b.length)) → OnOk r (new.holds.pages ≡ old.holds.pages) → OnOk r (IsInStep new b.end (bodies_of s.history ++ body ∷ [])) → (IsOk r → CacheStands new b)

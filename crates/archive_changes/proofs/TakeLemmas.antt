@@ -6,7 +6,7 @@ use Rattle.journal_entries.specs.declared.entry.Entry.{Entry}
 use Rattle.model_archive.specs.declared.refusal.Refusal.{Refusal}
 use Rattle.model_archive.specs.Steps as machine
 use Rattle.model_archive.specs.Steps.{Reply, Accepted, Refused}
-use Rattle.model_archive.specs.Plans.{IsChange}
+use Rattle.model_archive.specs.Plans.{IsNoPlan}
 use Rattle.archive_hand.specs.States.{ArchiveState, AreInStepBy, with_entry, with_reads}
 use Rattle.archive_changes.specs.Adding.{Adds}
 use Rattle.archive_hand.specs.Changing.{KeepsBy, LeadsBy}
@@ -29,7 +29,7 @@ unmade_by s item changes.Failed old new a b in_step refused failed memory = fail
 unmade_by s item changes.Memory old new a b in_step refused failed memory = rw (memory refl) (keeps_nowhere old a s in_step)
 
 -- an item that adds an entry, or is refused
-pub entry_by : (s : Store) (item : Item) (e : Entry) (refusal : Option Refusal) (r : Result ℕ ChangeError) (old new : DiskState) (a b : ArchiveState) → IsChange e
+pub entry_by : (s : Store) (item : Item) (e : Entry) (refusal : Option Refusal) (r : Result ℕ ChangeError) (old new : DiskState) (a b : ArchiveState) → IsNoPlan e
     → ((reply : Reply) (next : Store) → machine.Adds s.history e refusal reply next.history → Stocks s next → StoreStep s item reply next)
     → AreInStepBy old a s → Adds s.history e refusal r b → ((why : Refusal) → r ≡ Err (changes.Refused why) → (b ≡ a) × (new ≡ old)) → (r ≡ Err changes.Memory → new ≡ old)
     → LeadsBy s (with_entry s e s.pages b new) old new × OnOk r (AreInStepBy new b (with_entry s e s.pages b new)) → TakesBy s item (changed r) old new b

@@ -31,7 +31,7 @@ use Rattle.lists_index.specs.Words as index
 use Rattle.lists_index.specs.Indexing.{ComesLater}
 use Rattle.journal_entries.specs.declared.plan.PlanEntry.{PlanEntry}
 use Rattle.model_archive.specs.declared.refusal.Refusal.TheVariants.{Full}
-use Rattle.model_archive.specs.Plans.{IsChange}
+use Rattle.model_archive.specs.Plans.{IsNoPlan}
 use Rattle.model_archive.specs.Answers.{IsWordList}
 use Rattle.archive_entries.specs.Entries.{Makes, document_of, time_of, text_of}
 
@@ -142,12 +142,12 @@ loadable_rises h loads = allowed_rises h (come_allowed IsFitFor [] h loads)
 abbrev pub change_of : Entry → Change (List ℕ)
 change_of e = record { doc = document_of e; at = time_of e; held = text_of e }
 
-acts_are : (e : Entry) → IsChange e → acts e ≡ change_of e ∷ []
+acts_are : (e : Entry) → IsNoPlan e → acts e ≡ change_of e ∷ []
 acts_are (Arrive doc at text) change = refl
 acts_are (Delete doc at) change = refl
 acts_are (Planned plan) change = absurd change
 
-pub changes_more : (h : History) (e : Entry) → IsChange e → changes (h ++ e ∷ []) ≡ changes h ++ change_of e ∷ []
+pub changes_more : (h : History) (e : Entry) → IsNoPlan e → changes (h ++ e ∷ []) ≡ changes h ++ change_of e ∷ []
 changes_more h e change = changes-push h e ∙ ap (λ (l : List (Change (List ℕ))). changes h ++ l) (acts_are e change)
 
 -- a plan changes no document
@@ -164,13 +164,13 @@ keys_are (Planned plan ∷ h) = keys_are h
 pub words_are : (h : History) → vocabulary h ≡ index.words_in (changes h)
 words_are h = ap distinct (keys_are h)
 
-words_more : (h : History) (e : Entry) → IsChange e → vocabulary (h ++ e ∷ []) ≡ index.words_in (changes h ++ change_of e ∷ [])
+words_more : (h : History) (e : Entry) → IsNoPlan e → vocabulary (h ++ e ∷ []) ≡ index.words_in (changes h ++ change_of e ∷ [])
 words_more h e change = words_are (h ++ e ∷ []) ∙ ap index.words_in (changes_more h e change)
 
-pub words_full : (h : History) (e : Entry) → IsChange e → 2 ^ 20 < length (index.words_in (changes h ++ change_of e ∷ [])) → full_words h e ≡ Some (Full Words (limit_of Words))
+pub words_full : (h : History) (e : Entry) → IsNoPlan e → 2 ^ 20 < length (index.words_in (changes h ++ change_of e ∷ [])) → full_words h e ≡ Some (Full Words (limit_of Words))
 words_full h e change over = too_many_words h e (omega (arith, over, ap length (words_more h e change)))
 
-pub words_within : (h : History) (e : Entry) → IsChange e → length (index.words_in (changes h ++ change_of e ∷ [])) ≤ 2 ^ 20 → full_words h e ≡ None
+pub words_within : (h : History) (e : Entry) → IsNoPlan e → length (index.words_in (changes h ++ change_of e ∷ [])) ≤ 2 ^ 20 → full_words h e ≡ None
 words_within h e change within = words_fit h e (omega (arith, within, ap length (words_more h e change)))
 
 -- an entry that is legal comes later than its document's earlier changes
@@ -181,14 +181,14 @@ before_last c (d ∷ e ∷ cs) each =
     let rest = before_last c (e ∷ cs) each.1 in
     All-cons (λ x. x.at.seconds < c.at.seconds) d (e ∷ cs) (omega (arith, each.0, All-head (λ (x : Change (List ℕ)). x.at.seconds < c.at.seconds) e cs rest)) rest
 
-pub comes_later : (h : History) (e : Entry) → IsChange e → EachAllowed [] h → entry_refusal h e ≡ None → ComesLater (changes h) (change_of e)
+pub comes_later : (h : History) (e : Entry) → IsNoPlan e → EachAllowed [] h → entry_refusal h e ≡ None → ComesLater (changes h) (change_of e)
 comes_later h e change allowed next =
     let C : List (Change (List ℕ)) → Type 0 = λ l. EachNext (λ a b. a.at.seconds < b.at.seconds) l in
     let rises = allowed_rises (h ++ e ∷ []) (allowed_push [] h e allowed next) (document_of e) in
     before_last (change_of e) (changes_of (document_of e) (changes h))
     (subst C (ap (changes_of (document_of e)) (changes_more h e change) ∙ changes_of-same (document_of e) (changes h) (change_of e) (eq-eqb (document_of e).0 (document_of e).0 refl)) rises)
 
-pub makes_is_change : (e : Entry) (x : Change ℕ) → Makes e x → IsChange e
+pub makes_is_change : (e : Entry) (x : Change ℕ) → Makes e x → IsNoPlan e
 makes_is_change (Arrive doc at text) x makes = tt
 makes_is_change (Delete doc at) x makes = tt
 makes_is_change (Planned plan) x makes = absurd makes
@@ -211,7 +211,7 @@ takes_change P h e x text makes same allowed next take =
 
 -- the change of an entry that may come behind a history that loads
 pub change_comes : (h : History) (e : Entry) (x : Change ℕ) → IsLoadable h → entry_refusal h e ≡ None → Makes e x
-    → IsChange e × (changes (h ++ e ∷ []) ≡ changes h ++ record { doc = x.doc; at = x.at; held = text_of e } ∷ []) × ComesLater (changes h) (record { doc = x.doc; at = x.at; held = text_of e })
+    → IsNoPlan e × (changes (h ++ e ∷ []) ≡ changes h ++ record { doc = x.doc; at = x.at; held = text_of e } ∷ []) × ComesLater (changes h) (record { doc = x.doc; at = x.at; held = text_of e })
 change_comes h e x loads next makes =
     let change = makes_is_change e x makes in
     let is = makes_change e x (text_of e) makes refl in

@@ -27,7 +27,7 @@ use Rattle.model_archive.specs.declared.refusal.Refusal.{Refusal}
 use Rattle.model_archive.specs.declared.stored.StoredPlan.{StoredPlan}
 use Rattle.model_archive.specs.Histories.{History, changes, end_of, entry_refusal}
 use Rattle.model_archive.specs.Legal.{MayBePlanned}
-use Rattle.model_archive.specs.Plans.{IsChange}
+use Rattle.model_archive.specs.Plans.{IsNoPlan}
 use Rattle.model_archive.proofs.LiveLemmas.{EachAllowed}
 use Rattle.model_archive.proofs.StoringLemmas.{list_behind}
 use Rattle.archive_entries.specs.Texts.{nothing}
@@ -69,7 +69,7 @@ plans_push : (h : History) (e : Entry) (gate : ℕ) → end_of h ≡ gate + 1 �
 plans_push h e gate at = plans_after 16 gate h e (omega (arith, at))
 
 -- a change is timely, and no plan
-timely_change : (h : History) (gate : ℕ) (e : Entry) → IsChange e → IfTimely h e × (plans_in gate e ≡ [])
+timely_change : (h : History) (gate : ℕ) (e : Entry) → IsNoPlan e → IfTimely h e × (plans_in gate e ≡ [])
 timely_change h gate (Arrive doc at text) change = (tt, refl)
 timely_change h gate (Delete doc at) change = (tt, refl)
 timely_change h gate (Planned plan) change = absurd change

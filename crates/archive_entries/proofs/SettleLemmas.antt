@@ -23,7 +23,7 @@ use Rattle.model_archive.specs.Legal.{MayCome, EachMayCome, IsLoadable, IsLoadab
 use Rattle.lists_postings.proofs.Clipping.{one_list_of}
 use Rattle.model_archive.specs.Answers.{frequency_at}
 use Rattle.model_archive.specs.Planning.{IsListUpTo, last_second}
-use Rattle.model_archive.specs.Plans.{IsChange, with_plan, with_entry, live_after, live_plans}
+use Rattle.model_archive.specs.Plans.{IsNoPlan, with_plan, with_entry, live_after, live_plans}
 use Rattle.model_archive.specs.Stands.{bodies_of}
 use Rattle.model_archive.proofs.HistoryLemmas.{come-push, end_of-push, end_of_is}
 use Rattle.model_archive.proofs.LiveLemmas.{list_stays, list_was}
@@ -67,7 +67,7 @@ further : (whole before h : History) (e : Entry) → whole ≡ before ++ e ∷ h
 further whole before h e is = is ∙ sym (append_assoc before (e ∷ []) h)
 
 -- a change of a document may come as far as was asked of it
-change_may : (before : History) (e : Entry) → IsChange e → IsOpen before e → MayCome IsFitFor before e
+change_may : (before : History) (e : Entry) → IsNoPlan e → IsOpen before e → MayCome IsFitFor before e
 change_may before (Arrive doc at text) change opens = record { ranges = opens.ranges; allowed = opens.allowed; planned = tt }
 change_may before (Delete doc at) change opens = record { ranges = opens.ranges; allowed = opens.allowed; planned = tt }
 change_may before (Planned plan) change opens = absurd change

@@ -14,7 +14,7 @@ ghost use Rattle.journal_entries.specs.declared.plan.PlanEntry.{PlanEntry};
 ghost use Rattle.model_archive.specs.Answers.{IsWordList};
 ghost use Rattle.model_archive.specs.Histories.{History, changes, end_of, entry_refusal, vocabulary};
 ghost use Rattle.model_archive.specs.Legal.{IsLoadable};
-ghost use Rattle.model_archive.specs.Plans.{IsChange};
+ghost use Rattle.model_archive.specs.Plans.{IsNoPlan};
 ghost use Rattle.model_archive.specs.Stands.{bodies_of};
 ghost use Rattle.archive_entries.specs.Entries.{IsHeld, Makes, text_of};
 ghost use Rattle.archive_entries.specs.Places.{text_offset, ArePlaced};
@@ -38,6 +38,6 @@ pub fn changes_follow_entries()
     ensures words { (h : History) → vocabulary h ≡ index.words_in (changes h) }
     ensures list { (h : History) (word : List ℕ) (list : List Posting) → index.IsWordList (changes h) word list → IsWordList h word list }
     ensures change { (h : History) (e : Entry) (x : Change ℕ) → IsLoadable h → entry_refusal h e ≡ None → Makes e x →
-        IsChange e × (changes (h ++ e ∷ []) ≡ changes h ++ record { doc = x.doc; at = x.at; held = text_of e } ∷ []) × ComesLater (changes h) (record { doc = x.doc; at = x.at; held = text_of e }) }
+        IsNoPlan e × (changes (h ++ e ∷ []) ≡ changes h ++ record { doc = x.doc; at = x.at; held = text_of e } ∷ []) × ComesLater (changes h) (record { doc = x.doc; at = x.at; held = text_of e }) }
     ensures plan { (h : History) (plan : PlanEntry) → changes (h ++ entries.Planned plan ∷ []) ≡ changes h }
 {}

@@ -18,7 +18,7 @@ use Rattle.journal_entries.specs.declared.entry.Entry.{Entry}
 use Rattle.journal_entries.specs.declared.entry.Entry.TheVariants.{Planned}
 use Rattle.journal_entries.specs.declared.plan.PlanEntry.{PlanEntry}
 use Rattle.model_archive.specs.Histories.{History}
-use Rattle.model_archive.specs.Plans.{IsChange, live_extents}
+use Rattle.model_archive.specs.Plans.{IsNoPlan, live_extents}
 use Rattle.model_archive.specs.Stands.{bodies_of}
 use Rattle.model_archive.specs.declared.stored.StoredPlan.{StoredPlan}
 use Rattle.model_archive.proofs.HoldLemmas.{same_live}
@@ -116,9 +116,9 @@ pub one_entry : (h : History) (e f : Entry) → h ++ e ∷ [] ≡ h ++ f ∷ [] 
 one_entry [] e f same = cc
 one_entry (x ∷ h) e f same = one_entry h e f cc
 
-pub stocks_change : (s : Store) (e : Entry) (a : ArchiveState) (d : DiskState) → IsChange e → AreLive (live_extents s.history) (length s.pages) → Stocks s (with_entry s e s.pages a d)
+pub stocks_change : (s : Store) (e : Entry) (a : ArchiveState) (d : DiskState) → IsNoPlan e → AreLive (live_extents s.history) (length s.pages) → Stocks s (with_entry s e s.pages a d)
 stocks_change s e a d change live = record {
   same = all_same s.pages (live_extents s.history) live.0;
   apart = subst (λ (l : List StoredPlan). AreApart (extents_all l)) (sym (same_live s.history e change)) live.1;
-  held = λ plan same. absurd (subst IsChange (one_entry s.history e (Planned plan) same) change);
+  held = λ plan same. absurd (subst IsNoPlan (one_entry s.history e (Planned plan) same) change);
 }

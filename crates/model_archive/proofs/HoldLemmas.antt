@@ -14,14 +14,14 @@ use Rattle.pages_area.specs.Wrote as wrote
 use Rattle.pages_area.proofs.StayLemmas.{AreApartFrom, taken_right, apart_parts, apart_left}
 use Rattle.journal_entries.specs.declared.place.Place.{Place}
 use Rattle.journal_entries.specs.declared.entry.Entry.{Entry}
-use Rattle.journal_entries.specs.declared.entry.Entry.TheVariants.{Arrive, Delete, Planned}
+use Rattle.journal_entries.specs.declared.entry.Entry.TheVariants.{Arrive, Delete, Planned, Format}
 use Rattle.journal_entries.specs.declared.plan.PlanEntry.{PlanEntry}
 use Rattle.pages_sublists.specs.Preparing.{IsFor, extents, pieces_of}
 use Rattle.pages_sublists.specs.Segments.{seconds, next_cut, EachSegment, HoldsSublist}
 use Rattle.plans_kinds.specs.Plans.{Asks}
 use Rattle.model_archive.specs.declared.stored.StoredPlan.{StoredPlan}
 use Rattle.model_archive.specs.Histories.{History, entry_refusal, end_of}
-use Rattle.model_archive.specs.Plans.{IsChange, is_another, live_plans, live_extents, extents_of}
+use Rattle.model_archive.specs.Plans.{IsNoPlan, is_another, live_plans, live_extents, extents_of}
 use Rattle.model_archive.specs.Legal.{MayBePlanned, EachMayCome}
 use Rattle.model_archive.specs.Holding.{HoldsPlan, HoldsPlans}
 use Rattle.model_archive.proofs.LiveLemmas.{IsLater, later_push, list_later, live_planned, live_plans-push}
@@ -51,12 +51,13 @@ held_later Good h next pages later same each held =
       each = subst L (sym same) (plans_later Good h next pages (live_plans h) later (live_planned Good h each) held.each);
     }
 
-pub same_live : (h : History) (e : Entry) → IsChange e → live_plans (h ++ e ∷ []) ≡ live_plans h
+pub same_live : (h : History) (e : Entry) → IsNoPlan e → live_plans (h ++ e ∷ []) ≡ live_plans h
 same_live h (Arrive doc at text) change = live_plans-push h (Arrive doc at text)
 same_live h (Delete doc at) change = live_plans-push h (Delete doc at)
 same_live h (Planned plan) change = absurd change
+same_live h Format change = live_plans-push h Format
 
-pub held_push : (Good : Asks) (h : History) (e : Entry) (pages : List ℕ) → IsChange e → EachMayCome Good [] h → entry_refusal h e ≡ None → HoldsPlans h pages → HoldsPlans (h ++ e ∷ []) pages
+pub held_push : (Good : Asks) (h : History) (e : Entry) (pages : List ℕ) → IsNoPlan e → EachMayCome Good [] h → entry_refusal h e ≡ None → HoldsPlans h pages → HoldsPlans (h ++ e ∷ []) pages
 held_push Good h e pages change each allowed held = held_later Good h (h ++ e ∷ []) pages (later_push h e allowed) (same_live h e change) each held
 
 -- ---- writes elsewhere

@@ -18,7 +18,7 @@ use Rattle.lists_versions.proofs.Latest.{last_time-push}
 use Rattle.text_words.specs.Terms.{occurrences}
 use Rattle.journal_entries.specs.Spelling.{spelling}
 use Rattle.journal_entries.specs.declared.entry.Entry.{Entry}
-use Rattle.journal_entries.specs.declared.entry.Entry.TheVariants.{Arrive, Delete, Planned}
+use Rattle.journal_entries.specs.declared.entry.Entry.TheVariants.{Arrive, Delete, Planned, Format}
 use Rattle.journal_entries.specs.declared.plan.PlanEntry.{PlanEntry}
 use Rattle.plans_kinds.specs.Plans.{Asks}
 use Rattle.model_archive.specs.Refusals.{refusal_of}
@@ -71,15 +71,17 @@ with_change h next c is later = record {
       (ap (held_at doc t) is ∙ held_at-later doc t (changes h) c (omega (arith, early, later)));
 }
 
+without_change : (h next : History) → changes next ≡ changes h → IsLater h next
+without_change h next is = record {
+  last = omega (arith, ap (λ (cs : List (Change (List ℕ))). unwrap_or (option_map (λ (t : Time). t.seconds) (last_time cs)) 0) is);
+  same = λ word doc t early. ap (λ (cs : List (Change (List ℕ))). unwrap_or (option_map (occurrences word) (held_at doc t cs)) 0) is;
+}
+
 pub later_push : (h : History) (e : Entry) → entry_refusal h e ≡ None → IsLater h (h ++ e ∷ [])
 later_push h (Arrive doc at text) allowed = with_change h (h ++ Arrive doc at text ∷ []) (record { doc = doc; at = at; held = Some text }) (changes-push h (Arrive doc at text)) (arrival_later h doc at text allowed)
 later_push h (Delete doc at) allowed = with_change h (h ++ Delete doc at ∷ []) (record { doc = doc; at = at; held = None }) (changes-push h (Delete doc at)) (deletion_later h doc at allowed)
-later_push h (Planned plan) allowed =
-    let is : changes (h ++ Planned plan ∷ []) ≡ changes h = changes-push h (Planned plan) ∙ append-nil (changes h) in
-    record {
-      last = omega (arith, ap (λ (cs : List (Change (List ℕ))). unwrap_or (option_map (λ (t : Time). t.seconds) (last_time cs)) 0) is);
-      same = λ word doc t early. ap (λ (cs : List (Change (List ℕ))). unwrap_or (option_map (occurrences word) (held_at doc t cs)) 0) is;
-    }
+later_push h (Planned plan) allowed = without_change h (h ++ Planned plan ∷ []) (changes-push h (Planned plan) ∙ append-nil (changes h))
+later_push h Format allowed = without_change h (h ++ Format ∷ []) (changes-push h Format ∙ append-nil (changes h))
 
 -- nothing refuses these entries behind those before them
 abbrev pub EachAllowed : History → List Entry → Type 0
@@ -152,14 +154,16 @@ module _ (Good : Asks) where
     suits = may.suits;
   }
 
+  -- the same plans are live
+  with_same : (before : History) (live : List StoredPlan) (e : Entry) → MayCome Good before e → All (λ stored. MayBePlanned Good before stored.plan) live → All (λ stored. MayBePlanned Good (before ++ e ∷ []) stored.plan) live
+  with_same before live e may all = All-weaker (λ stored. MayBePlanned Good before stored.plan) (λ stored. MayBePlanned Good (before ++ e ∷ []) stored.plan)
+      (λ stored was. planned_later before (before ++ e ∷ []) stored.plan (later_push before e may.allowed) was) live all
+
   with_one : (before : History) (gate : ℕ) (live : List StoredPlan) (e : Entry) → MayCome Good before e → All (λ stored. MayBePlanned Good before stored.plan) live
       → All (λ stored. MayBePlanned Good (before ++ e ∷ []) stored.plan) (with_entry gate live e)
-  with_one before gate live (Arrive doc at text) may all =
-      All-weaker (λ stored. MayBePlanned Good before stored.plan) (λ stored. MayBePlanned Good (before ++ Arrive doc at text ∷ []) stored.plan)
-      (λ stored was. planned_later before (before ++ Arrive doc at text ∷ []) stored.plan (later_push before (Arrive doc at text) may.allowed) was) live all
-  with_one before gate live (Delete doc at) may all =
-      All-weaker (λ stored. MayBePlanned Good before stored.plan) (λ stored. MayBePlanned Good (before ++ Delete doc at ∷ []) stored.plan)
-      (λ stored was. planned_later before (before ++ Delete doc at ∷ []) stored.plan (later_push before (Delete doc at) may.allowed) was) live all
+  with_one before gate live (Arrive doc at text) may all = with_same before live (Arrive doc at text) may all
+  with_one before gate live (Delete doc at) may all = with_same before live (Delete doc at) may all
+  with_one before gate live Format may all = with_same before live Format may all
   with_one before gate live (Planned plan) may all =
       let next = before ++ Planned plan ∷ [] in
       let later = later_push before (Planned plan) may.allowed in

@@ -57,7 +57,7 @@ use Rattle.base_commands.specs.declared.command.Item.TheVariants as items
 use Rattle.base_commands.specs.declared.command.Kind.{Kind}
 use Rattle.base_commands.specs.declared.command.Kind.TheVariants.{Guarantee}
 use Rattle.base_commands.specs.declared.text.Text.TheVariants as texts
-use Rattle.model_archive.specs.Steps.{Reply, Accepted, Refused, Found, Spanned, Version, Proposed, Planned, Verified, Summary, Adds, Declines, IsRepliedBy, IsReplied, Finds, FindsBy, Spans, SpansBy, Proposes, ProposesPlan, Plans, StoresPlan, spelled_key, CarriesOut, Step, too_long, bad_text, full_journal, arrival_refusal, deletion_refusal}
+use Rattle.model_archive.specs.Steps.{Reply, Accepted, Refused, Found, Spanned, Version, Proposed, Planned, Verified, Summary, Adds, Declines, IsRepliedBy, IsReplied, Finds, FindsBy, Spans, SpansBy, Proposes, ProposesPlan, Plans, StoresPlan, spelled_key, CarriesOut, Step, too_long, bad_text, full_journal, arrival_refusal, deletion_refusal, mark_refusal}
 use Rattle.model_archive.specs.Runs.{Outcome, IsRun}
 use Rattle.model_archive.specs.Worlds.{World, world_of}
 use Rattle.model_archive.proofs.HistoryLemmas.{legal-push, loadable-push, entry_loads}
@@ -104,6 +104,9 @@ deletion_legal h doc at fits none =
     let one = none_found (entry_refusal h (entries.Delete doc at)) (full_journal h (entries.Delete doc at) ∷ []) none in
     record { ranges = (fits, at.before_now); allowed = one.0; planned = tt }
 
+pub mark_legal : (h : History) → mark_refusal h ≡ None → IsLegalEntry h entries.Format
+mark_legal h none = let one = none_found (entry_refusal h entries.Format) (full_journal h entries.Format ∷ []) none in record { ranges = tt; allowed = one.0; planned = tt }
+
 -- whether an entry is refused or not, there is an outcome
 pub adds_outcome : (h : History) (e : Entry) (refusal : Option Refusal) → (outcome : Outcome Reply History) × Adds h e refusal outcome.reply outcome.next
 adds_outcome h e None = (record { reply = Accepted (length (h ++ e ∷ [])); next = h ++ e ∷ [] }, (refl, refl))
@@ -122,6 +125,7 @@ modest word before (entries.Arrive doc at text ∷ h) legal =
 modest word before (entries.Delete doc at ∷ h) legal =
     All-cons (IsModest word) _ (changes h) (record { numbered = legal.0.ranges.0; few = omega arith }) (modest word (before ++ entries.Delete doc at ∷ []) h legal.1)
 modest word before (entries.Planned plan ∷ h) legal = modest word (before ++ entries.Planned plan ∷ []) h legal.1
+modest word before (entries.Format ∷ h) legal = modest word (before ++ entries.Format ∷ []) h legal.1
 
 frequency_few : (h : History) (word : List ℕ) (doc : DocId) (t : ℕ) → IsLoadable h → frequency_at h word doc t < 2 ^ 32
 frequency_few h word doc t legal =
@@ -233,6 +237,7 @@ each_command : (h : History) (c : Command) → IsLoadable h → (outcome : Outco
 each_command h (commands.Arrive doc at (texts.Bytes text)) loads = adds_outcome h (entries.Arrive doc at text) (arrival_refusal h doc at text)
 each_command h (commands.Arrive doc at (texts.TooLong bytes)) loads = declines_outcome h (refusals.TooLong most_text)
 each_command h (commands.Delete doc at) loads = adds_outcome h (entries.Delete doc at) (deletion_refusal h doc at)
+each_command h commands.Format loads = adds_outcome h entries.Format (mark_refusal h)
 each_command h (commands.Find at expr) loads =
     let found = each_finds h at expr loads in
     (record { reply = found.0; next = h }, (refl, found.1))
@@ -274,6 +279,7 @@ pub command_keeps : (P : History → Type 0) → ((h : History) (e : Entry) → 
 command_keeps P push h (commands.Arrive doc at (texts.Bytes text)) reply next is range step = adds_keep P push h (entries.Arrive doc at text) (arrival_refusal h doc at text) reply next is (arrival_legal h doc at text range) step
 command_keeps P push h (commands.Arrive doc at (texts.TooLong bytes)) reply next is range step = stays P h next is step.0
 command_keeps P push h (commands.Delete doc at) reply next is range step = adds_keep P push h (entries.Delete doc at) (deletion_refusal h doc at) reply next is (deletion_legal h doc at range) step
+command_keeps P push h commands.Format reply next is range step = adds_keep P push h entries.Format (mark_refusal h) reply next is (mark_legal h) step
 command_keeps P push h (commands.Find at expr) reply next is range step = stays P h next is step.0
 command_keeps P push h (commands.Show doc at) reply next is range step = stays P h next is step.0
 command_keeps P push h (commands.Plan word kind fraction) reply next is range step = plans_keep P push h word kind fraction reply next is step
@@ -389,6 +395,7 @@ one_command : (h : History) (c : Command) (reply other : Reply) (next then : His
 one_command h (commands.Arrive doc at (texts.Bytes text)) reply other next then free a b = one_adds h (entries.Arrive doc at text) (arrival_refusal h doc at text) reply other next then a b
 one_command h (commands.Arrive doc at (texts.TooLong bytes)) reply other next then free a b = one_declines h (refusals.TooLong most_text) reply other next then a b
 one_command h (commands.Delete doc at) reply other next then free a b = one_adds h (entries.Delete doc at) (deletion_refusal h doc at) reply other next then a b
+one_command h commands.Format reply other next then free a b = one_adds h entries.Format (mark_refusal h) reply other next then a b
 one_command h (commands.Find at expr) reply other next then free a b = one_stays h reply other next then a.0 b.0 (one_finds h at expr reply other a.1 b.1)
 one_command h (commands.Show doc at) reply other next then free a b = one_stays h reply other next then a.0 b.0 (a.1 ∙ sym b.1)
 one_command h (commands.Plan word kind fraction) reply other next then free a b = absurd (free tt)

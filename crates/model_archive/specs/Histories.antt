@@ -1,5 +1,5 @@
 -- The history of an archive: what it is, why a change of it is refused, and which texts are alive at a time.
-use Rattle.std.specs.Prelude.{ℕ, ◌+◌, nat_lt, List, [], ◌∷◌, ◌++◌, length, sum_by, Option, Some, None}
+use Rattle.std.specs.Prelude.{ℕ, ◌+◌, nat_lt, Bool, true, false, list_any, List, [], ◌∷◌, ◌++◌, length, sum_by, Option, Some, None}
 use Rattle.std.specs.List.{flat_map, filter_map}
 use Rattle.std.specs.Option.{option_map}
 use Rattle.base_types.specs.Limits.{limit_of}
@@ -14,7 +14,7 @@ use Rattle.lists_versions.specs.Refusals.{arrive_refusal, delete_refusal}
 use Rattle.lists_versions.specs.Tests.{first_of, when}
 use Rattle.journal_entries.specs.Spelling.{spelling}
 use Rattle.journal_entries.specs.declared.entry.Entry.{Entry}
-use Rattle.journal_entries.specs.declared.entry.Entry.TheVariants.{Arrive, Delete, Planned}
+use Rattle.journal_entries.specs.declared.entry.Entry.TheVariants.{Arrive, Delete, Planned, Format}
 use Rattle.model_archive.specs.declared.refusal.Refusal.{Refusal}
 use Rattle.model_archive.specs.declared.refusal.Refusal.TheVariants as refusals
 use Rattle.model_archive.specs.Refusals.{refusal_of}
@@ -28,6 +28,7 @@ abbrev pub acts : Entry → List (Change (List ℕ))
 acts (Arrive doc at text) = record { doc = doc; at = at; held = Some text } ∷ []
 acts (Delete doc at) = record { doc = doc; at = at; held = None } ∷ []
 acts (Planned plan) = []
+acts Format = []
 
 -- the changes of documents that a history makes
 abbrev pub changes : History → List (Change (List ℕ))
@@ -42,15 +43,26 @@ entry_keys other = []
 abbrev pub vocabulary : History → List (List ℕ)
 vocabulary history = distinct (flat_map entry_keys history)
 
+-- the entry is the mark of a journal that may have batches
+abbrev pub is_mark : Entry → Bool
+is_mark Format = true
+is_mark other = false
+
+-- one of a history's entries is the mark
+abbrev pub is_marked : History → Bool
+is_marked history = list_any is_mark history
+
 -- the refusal of an entry with which there would be more words than there may be
 abbrev pub full_words : History → Entry → Option Refusal
 full_words before entry = when (nat_lt (limit_of Words) (length (vocabulary (before ++ entry ∷ [])))) (refusals.Full Words (limit_of Words))
 
--- why an entry may not come after a history: for a change the first cause in order; for a plan there is none (what is asked of it is in Legal)
+-- why an entry may not come after a history: for a change the first cause in order; for the mark that there is one; for a plan there is no cause (what
+-- is asked of it is in Legal)
 abbrev pub entry_refusal : History → Entry → Option Refusal
 entry_refusal before (Arrive doc at text) = first_of (option_map refusal_of (arrive_refusal doc at (changes before)) ∷ full_words before (Arrive doc at text) ∷ [])
 entry_refusal before (Delete doc at) = option_map refusal_of (delete_refusal doc at (changes before))
 entry_refusal before (Planned plan) = None
+entry_refusal before Format = when (is_marked before) refusals.HasFormat
 
 -- the text of a document that is alive at a time
 abbrev pub text_at : History → DocId → ℕ → Option (List ℕ)

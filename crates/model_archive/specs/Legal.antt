@@ -19,10 +19,10 @@ pub record MayBePlanned (Good : Asks) (before : History) (plan : PlanEntry) : Ty
   pub some : 0 < length list
   pub suits : Good plan.kind list plan.fraction plan.cuts plan.horizon.seconds
 
--- where the entry is a plan, it may come; nothing is asked of a change here
+-- where the entry is a plan, it may come; nothing is asked of another here
 abbrev pub IfPlanned : Asks → History → Entry → Type 0
 IfPlanned Good before (Planned plan) = MayBePlanned Good before plan
-IfPlanned Good before change = Unit {0}
+IfPlanned Good before other = Unit {0}
 
 -- an entry may come after a history: its fields are in their ranges, nothing refuses it, and if it is a plan, it may come
 pub record MayCome (Good : Asks) (before : History) (entry : Entry) : Type 0 where

@@ -5,16 +5,15 @@ use Rattle.base_types.specs.declared.extent.Extent.{Extent}
 use Rattle.journal_gates.specs.Records.{first_gate, gate_bytes}
 use Rattle.journal_entries.specs.Spelling.{spelling}
 use Rattle.journal_entries.specs.declared.entry.Entry.{Entry}
-use Rattle.journal_entries.specs.declared.entry.Entry.TheVariants.{Arrive, Delete, Planned}
+use Rattle.journal_entries.specs.declared.entry.Entry.TheVariants.{Planned}
 use Rattle.journal_entries.specs.declared.plan.PlanEntry.{PlanEntry}
 use Rattle.model_archive.specs.declared.stored.StoredPlan.{StoredPlan}
 use Rattle.model_archive.specs.Histories.{History}
 
--- the entry is a change of a document, and no plan
-abbrev pub IsChange : Entry → Type 0
-IsChange (Arrive doc at text) = Unit {0}
-IsChange (Delete doc at) = Unit {0}
-IsChange (Planned plan) = ⊥
+-- the entry is no plan
+abbrev pub IsNoPlan : Entry → Type 0
+IsNoPlan (Planned plan) = ⊥
+IsNoPlan other = Unit {0}
 
 -- the plan is another word's
 abbrev pub is_another : List ℕ → StoredPlan → Bool
@@ -27,7 +26,7 @@ with_plan live stored = filter (is_another stored.plan.word) live ++ stored ∷ 
 -- the live plans after one entry more, whose gate lies at this place of the journal
 abbrev pub with_entry : ℕ → List StoredPlan → Entry → List StoredPlan
 with_entry gate live (Planned plan) = with_plan live (record { gate = gate; plan = plan })
-with_entry gate live change = live
+with_entry gate live other = live
 
 -- the live plans after more entries, of which the first has its gate at this place; an entry takes a gate, a length and its spelling
 abbrev pub live_after : ℕ → List StoredPlan → History → List StoredPlan

@@ -101,6 +101,10 @@ abbrev pub deletion_refusal : History → DocId → Time → Option Refusal
 deletion_refusal history doc at = let entry = entries.Delete doc at in
     first_of (entry_refusal history entry ∷ full_journal history entry ∷ [])
 
+-- why the mark is refused: the first cause in order
+abbrev pub mark_refusal : History → Option Refusal
+mark_refusal history = first_of (entry_refusal history entries.Format ∷ full_journal history entries.Format ∷ [])
+
 -- an entry that is accepted comes behind the history; one that is refused changes nothing
 abbrev pub Adds : History → Entry → Option Refusal → Reply → History → Type 0
 Adds old entry None reply new = (new ≡ old ++ entry ∷ []) × (reply ≡ Accepted (length new))
@@ -221,6 +225,7 @@ Arrives old doc at (texts.TooLong bytes) reply new = Declines old (refusals.TooL
 abbrev pub CarriesOut : History → Command → Reply → History → Type 0
 CarriesOut old (commands.Arrive doc at text) reply new = Arrives old doc at text reply new
 CarriesOut old (commands.Delete doc at) reply new = Adds old (entries.Delete doc at) (deletion_refusal old doc at) reply new
+CarriesOut old commands.Format reply new = Adds old entries.Format (mark_refusal old) reply new
 CarriesOut old (commands.Find at expr) reply new = (new ≡ old) × Finds old at expr reply
 CarriesOut old (commands.Show doc at) reply new = (new ≡ old) × (reply ≡ Version (text_at old doc at.seconds))
 CarriesOut old (commands.Plan word kind fraction) reply new = Plans old word kind fraction reply new
